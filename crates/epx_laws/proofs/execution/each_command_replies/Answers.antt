@@ -1,0 +1,5 @@
+use Rattle.epx_types.proofs.Executions.{length-replies}
+use Rattle.epx_laws.proofs.execution.each_command_replies.Goals as goal
+
+pub returns : goal.returns
+returns c = length-replies

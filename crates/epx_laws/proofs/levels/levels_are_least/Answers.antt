@@ -1,0 +1,5 @@
+use Rattle.epx_types.proofs.LevelLemmas.{IsLevel-least}
+use Rattle.epx_laws.proofs.levels.levels_are_least.Goals as goal
+
+pub returns : goal.returns
+returns c = IsLevel-least

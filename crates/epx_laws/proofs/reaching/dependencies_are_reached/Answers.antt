@@ -1,0 +1,5 @@
+use Rattle.epx_types.proofs.Reaching.{Reaches-dependency}
+use Rattle.epx_laws.proofs.reaching.dependencies_are_reached.Goals as goal
+
+pub returns : goal.returns
+returns c = Reaches-dependency

@@ -1,0 +1,30 @@
+-- Laws of what the lines of logs commit.
+use Rattle.std.specs.Prelude.{◌≡◌, ◌↔◌, List, Contains, Some}
+use Rattle.epx_types.specs.declared.id.Id.{Id}
+use Rattle.epx_types.specs.Instances.{Instance}
+use Rattle.epx_types.specs.PlacedLines.{Placed, HavePlacesOfTheirOwn}
+use Rattle.epx_types.specs.Agreement.{Agree, IsFirstDisagreement}
+use Rattle.epx_types.specs.CommittedMap.{IsCommittedBy, ids_of, instance_of}
+use Rattle.epx_types.specs.Ids.{IsRising}
+use Rattle.epx_laws.specs.AtMostOne.{AtMostOne}
+
+-- two committed maps of the same lines are equal
+abbrev pub CommittedMapIsOne : Type 0
+CommittedMapIsOne = (lines : List Placed) → AtMostOne (IsCommittedBy lines)
+
+-- lines that have a committed map agree
+abbrev pub CommittedLinesAgree : Type 0
+CommittedLinesAgree = (lines : List Placed) (m : List Instance) → IsCommittedBy lines m → Agree lines
+
+-- lines with a first disagreement do not agree
+abbrev pub DisagreementIsNoAgreement : Type 0
+DisagreementIsNoAgreement = (lines : List Placed) (id : Id) (first second : Placed) → IsFirstDisagreement lines id first second → ¬ Agree lines
+
+-- two first disagreements of lines with places of their own are equal
+abbrev pub FirstDisagreementIsOne : Type 0
+FirstDisagreementIsOne = (lines : List Placed) → HavePlacesOfTheirOwn lines → (id id' : Id) (first second first' second' : Placed) →
+    IsFirstDisagreement lines id first second → IsFirstDisagreement lines id' first' second' → (id ≡ id') × (first ≡ first') × (second ≡ second')
+
+-- the instance that a look-up finds is the one of that Id
+abbrev pub LookUpFindsInstance : Type 0
+LookUpFindsInstance = (m : List Instance) → IsRising (ids_of m) → (x : Id) (e : Instance) → (instance_of m x ≡ Some e) ↔ Contains m e × (e.id ≡ x)

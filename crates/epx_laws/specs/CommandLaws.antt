@@ -1,0 +1,34 @@
+-- Laws of what commands read and write.
+use Rattle.std.specs.Prelude.{◌≡◌, ◌↔◌, ◌<◌, length, take, ℕ, ℤ, List, [], Contains, AllPairs, Option}
+use Rattle.epx_types.specs.declared.op.Op.{Op}
+use Rattle.epx_types.specs.declared.reply.Reply.TheVariants.{Values, Abort}
+use Rattle.epx_types.specs.Keys.{KeyBelow, rising_keys}
+use Rattle.epx_types.specs.Contents.{Contents, AgreeOn}
+use Rattle.epx_types.specs.Commands.{command_on}
+use Rattle.epx_types.specs.CommandKeys.{touched_keys, written_keys}
+use Rattle.epx_types.specs.Writes.{writes_of, put_all}
+
+-- a command's writes, put into the contents, give the contents after it
+abbrev pub WritesGiveAfter : Type 0
+WritesGiveAfter = (ops : List Op) (c : Contents) → put_all (writes_of ops c) c ≡ (command_on ops c).after
+
+-- an aborted command leaves the contents as they were, and writes nothing
+abbrev pub AbortLeavesContents : Type 0
+AbortLeavesContents = (ops : List Op) (c : Contents) (j : ℕ) → (command_on ops c).reply ≡ Abort j → ((command_on ops c).after ≡ c) × (writes_of ops c ≡ [])
+
+-- an abort names the place of an operation, and those in front of it go through
+abbrev pub AbortNamesPlace : Type 0
+AbortNamesPlace = (ops : List Op) (c : Contents) (j : ℕ) → (command_on ops c).reply ≡ Abort j →
+    (j < length ops) × ((reads : List (Option ℤ)) × ((command_on (take j ops) c).reply ≡ Values reads))
+
+abbrev pub WritesNameWrittenKeys : Type 0
+WritesNameWrittenKeys = (ops : List Op) (c : Contents) (w : List ℕ × Option ℤ) → Contains (writes_of ops c) w → Contains (written_keys ops) w.0
+
+-- over contents that agree on the touched keys a command gives the same reply and the same writes
+abbrev pub TouchedKeysDecide : Type 0
+TouchedKeysDecide = (ops : List Op) (c d : Contents) → AgreeOn (touched_keys ops) c d →
+    ((command_on ops c).reply ≡ (command_on ops d).reply) × (writes_of ops c ≡ writes_of ops d)
+
+-- touched and written keys are those that the operations name, in rising order
+abbrev pub KeysRise : Type 0
+KeysRise = (ks : List (List ℕ)) → AllPairs KeyBelow (rising_keys ks) × ((k : List ℕ) → Contains (rising_keys ks) k ↔ Contains ks k)

@@ -1,0 +1,14 @@
+-- Laws of what is left of a committed map.
+use Rattle.std.specs.Prelude.{◌≡◌, ◌↔◌, [], List, Contains}
+use Rattle.epx_types.specs.declared.id.Id.{Id}
+use Rattle.epx_types.specs.Instances.{Instance}
+use Rattle.epx_types.specs.CommittedMap.{ids_of}
+use Rattle.epx_types.specs.Done.{remaining}
+
+-- where nothing is done the whole map is left
+abbrev pub NothingDoneLeavesAll : Type 0
+NothingDoneLeavesAll = (m : List Instance) → remaining [] m ≡ m
+
+-- what is left has the Ids that are not done
+abbrev pub LeftIsNotDone : Type 0
+LeftIsNotDone = (done : List Id) (m : List Instance) (x : Id) → Contains (ids_of (remaining done m)) x ↔ Contains (ids_of m) x × (¬ Contains done x)

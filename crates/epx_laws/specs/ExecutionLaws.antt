@@ -1,0 +1,21 @@
+-- Laws of commands executed one after another.
+use Rattle.std.specs.Prelude.{◌≡◌, List, [], ◌∷◌, ◌++◌, length}
+use Rattle.epx_types.specs.declared.op.Op.{Op}
+use Rattle.epx_types.specs.Contents.{Contents}
+use Rattle.epx_types.specs.Commands.{command_on}
+use Rattle.epx_types.specs.Execution.{execute}
+
+-- one command is executed by itself
+abbrev pub OneCommandExecutes : Type 0
+OneCommandExecutes = (ops : List Op) (c : Contents) →
+    ((execute (ops ∷ []) c).replies ≡ (command_on ops c).reply ∷ []) × ((execute (ops ∷ []) c).final ≡ (command_on ops c).after)
+
+-- each command has a reply
+abbrev pub EachCommandReplies : Type 0
+EachCommandReplies = (commands : List (List Op)) (c : Contents) → length (execute commands c).replies ≡ length commands
+
+-- to execute two lists one after the other is to execute both as one
+abbrev pub ExecutionGoesOn : Type 0
+ExecutionGoesOn = (first rest : List (List Op)) (c : Contents) →
+    ((execute (first ++ rest) c).replies ≡ (execute first c).replies ++ (execute rest (execute first c).final).replies)
+    × ((execute (first ++ rest) c).final ≡ (execute rest (execute first c).final).final)

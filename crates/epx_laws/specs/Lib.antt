@@ -1,0 +1,10 @@
+pub mod AtMostOne
+pub mod ReachingLaws
+pub mod OrderLaws
+pub mod CommandLaws
+pub mod AgreementLaws
+pub mod ExecutionLaws
+pub mod ConflictLaws
+pub mod LevelLaws
+pub mod PieceLaws
+pub mod DoneLaws

@@ -1,0 +1,71 @@
+-- Laws of reaching, of components and their leaders and depths, and of readiness.
+use Rattle.std.specs.Prelude.{◌≡◌, ◌↔◌, ℕ, ◌<◌, ◌≤◌, Bool, true, List, Contains}
+use Rattle.epx_types.specs.declared.id.Id.{Id}
+use Rattle.epx_types.specs.Instances.{Instance}
+use Rattle.epx_types.specs.Ids.{IsRising}
+use Rattle.epx_types.specs.CommittedMap.{ids_of, IsCommitted}
+use Rattle.epx_types.specs.Reaching.{DependsOn, Reaches}
+use Rattle.epx_types.specs.Readiness.{IsReady, WaitsFor, LacksNothing}
+use Rattle.epx_types.specs.Components.{InOneComponent, IsLeader}
+use Rattle.epx_types.specs.Depth.{IsDepth}
+use Rattle.epx_laws.specs.AtMostOne.{AtMostOne}
+
+-- committed instances alone depend on others, each on those that it lists
+pub record DependenciesAreListed : Type 0 where
+  pub committed : (m : List Instance) (x y : Id) → DependsOn m x y → IsCommitted m x
+  pub listed : (m : List Instance) → IsRising (ids_of m) → (e : Instance) → Contains m e → (y : Id) → DependsOn m e.id y ↔ Contains e.deps y
+
+abbrev pub ReachingIsReflexive : Type 0
+ReachingIsReflexive = (m : List Instance) (x : Id) → Reaches m x x
+
+abbrev pub ReachingIsTransitive : Type 0
+ReachingIsTransitive = (m : List Instance) (x y z : Id) → Reaches m x y → Reaches m y z → Reaches m x z
+
+abbrev pub DependenciesAreReached : Type 0
+DependenciesAreReached = (m : List Instance) (x y : Id) → DependsOn m x y → Reaches m x y
+
+-- a test that each dependency of an instance passes where the instance does
+abbrev pub PassesOn : List Instance → (Id → Bool) → Type 0
+PassesOn m p = (x y : Id) → DependsOn m x y → p x ≡ true → p y ≡ true
+
+-- nothing is reached but by dependencies: what passes on to these passes on to all that is reached
+abbrev pub ReachingIsLeast : Type 0
+ReachingIsLeast = (m : List Instance) (p : Id → Bool) → PassesOn m p → (x y : Id) → Reaches m x y → p x ≡ true → p y ≡ true
+
+-- being in one component is reflexive, symmetric and transitive
+pub record OneComponentIsEquivalence : Type 0 where
+  pub reflexive : (m : List Instance) (x : Id) → InOneComponent m x x
+  pub symmetric : (m : List Instance) (x y : Id) → InOneComponent m x y → InOneComponent m y x
+  pub transitive : (m : List Instance) (x y z : Id) → InOneComponent m x y → InOneComponent m y z → InOneComponent m x z
+
+-- members of one component have the same leader and the same depth, and are ready together
+pub record MembersAreAlike : Type 0 where
+  pub leader : (m : List Instance) (x y l : Id) → InOneComponent m x y → IsLeader m x l → IsLeader m y l
+  pub depth : (m : List Instance) (x y : Id) (k : ℕ) → InOneComponent m x y → IsDepth m x k → IsDepth m y k
+  pub ready : (m : List Instance) (x y : Id) → InOneComponent m x y → IsReady m x → IsReady m y
+
+abbrev pub LeaderIsOne : Type 0
+LeaderIsOne = (m : List Instance) (x : Id) → AtMostOne (IsLeader m x)
+
+abbrev pub DepthIsOne : Type 0
+DepthIsOne = (m : List Instance) (x : Id) → AtMostOne (IsDepth m x)
+
+-- what is reached one way alone lies lower
+abbrev pub DepthFalls : Type 0
+DepthFalls = (m : List Instance) (x y : Id) (j k : ℕ) → Reaches m x y → ¬ Reaches m y x → IsDepth m x j → IsDepth m y k → k < j
+
+-- depths are the least numbers that fall to each instance that is reached one way alone
+abbrev pub DepthIsLeast : Type 0
+DepthIsLeast = (m : List Instance) (f : Id → ℕ) → FallsOneWay m f → (x : Id) (k : ℕ) → IsDepth m x k → k ≤ f x
+
+-- an instance waits for at most one other
+abbrev pub MissingIsOne : Type 0
+MissingIsOne = (m : List Instance) (x : Id) → AtMostOne (WaitsFor m x)
+
+-- a committed instance is ready exactly where it waits for nothing
+abbrev pub ReadyWaitsForNothing : Type 0
+ReadyWaitsForNothing = (m : List Instance) (x : Id) → IsCommitted m x → (IsReady m x ↔ ((y : Id) → ¬ WaitsFor m x y))
+
+-- where each dependency is committed, each instance is ready
+abbrev pub AllReadyWhereNothingLacks : Type 0
+AllReadyWhereNothingLacks = (m : List Instance) → LacksNothing m → (x : Id) → IsCommitted m x → IsReady m x

@@ -1,0 +1,12 @@
+//! Laws of what is left of a committed map.
+ghost use Rattle.epx_laws.specs.DoneLaws.{NothingDoneLeavesAll, LeftIsNotDone};
+
+/// Where nothing is done the whole map is left.
+pub fn nothing_done_leaves_all()
+    ensures { NothingDoneLeavesAll }
+{}
+
+/// What is left has the Ids that are not done.
+pub fn left_is_not_done()
+    ensures { LeftIsNotDone }
+{}

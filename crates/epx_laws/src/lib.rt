@@ -1,0 +1,13 @@
+//! What shows that the definitions of `epx_types` mean what they should. Each function here has an
+//! empty body, and its contract is a law over the definitions.
+#![tactic(auto)]
+
+pub mod agreement;
+pub mod commands;
+pub mod conflicts;
+pub mod done;
+pub mod execution;
+pub mod levels;
+pub mod order;
+pub mod pieces;
+pub mod reaching;

@@ -1,0 +1,72 @@
+//! Laws of reaching, of components and of readiness.
+ghost use Rattle.epx_laws.specs.ReachingLaws.{DependenciesAreListed, ReachingIsReflexive, ReachingIsTransitive, DependenciesAreReached, ReachingIsLeast, OneComponentIsEquivalence, MembersAreAlike, LeaderIsOne, DepthIsOne, DepthFalls, DepthIsLeast, MissingIsOne, ReadyWaitsForNothing, AllReadyWhereNothingLacks};
+
+/// Committed instances alone depend on others, each on those that it lists.
+pub fn dependencies_are_listed()
+    ensures { DependenciesAreListed }
+{}
+
+/// Each instance reaches itself.
+pub fn reaching_is_reflexive()
+    ensures { ReachingIsReflexive }
+{}
+
+/// What is reached from a reached instance is reached.
+pub fn reaching_is_transitive()
+    ensures { ReachingIsTransitive }
+{}
+
+/// A committed instance reaches its dependencies.
+pub fn dependencies_are_reached()
+    ensures { DependenciesAreReached }
+{}
+
+/// Nothing is reached but by dependencies.
+pub fn reaching_is_least()
+    ensures { ReachingIsLeast }
+{}
+
+/// Being in one component is reflexive, symmetric and transitive.
+pub fn one_component_is_equivalence()
+    ensures { OneComponentIsEquivalence }
+{}
+
+/// Members of one component have the same leader and the same depth, and are ready together.
+pub fn members_are_alike()
+    ensures { MembersAreAlike }
+{}
+
+/// A component has one leader.
+pub fn leader_is_one()
+    ensures { LeaderIsOne }
+{}
+
+/// An instance has one depth.
+pub fn depth_is_one()
+    ensures { DepthIsOne }
+{}
+
+/// What is reached one way alone lies lower.
+pub fn depth_falls()
+    ensures { DepthFalls }
+{}
+
+/// Depths are the least numbers that fall along each one-way reach.
+pub fn depth_is_least()
+    ensures { DepthIsLeast }
+{}
+
+/// An instance waits for at most one other.
+pub fn missing_is_one()
+    ensures { MissingIsOne }
+{}
+
+/// A committed instance is ready exactly where it waits for nothing.
+pub fn ready_waits_for_nothing()
+    ensures { ReadyWaitsForNothing }
+{}
+
+/// Where each dependency is committed, each instance is ready.
+pub fn all_ready_where_nothing_lacks()
+    ensures { AllReadyWhereNothingLacks }
+{}

@@ -1,0 +1,54 @@
+-- Commands that do not conflict can be exchanged.
+use Rattle.std.proofs.Common.{◌≡◌, ◌⊎◌, ℕ, List, Contains, sym, ◌∙◌, inl, inr}
+use Rattle.std.specs.FinMap as contents
+use Rattle.epx_types.specs.declared.op.Op.{Op}
+use Rattle.epx_types.specs.Conflicts.{Conflict}
+use Rattle.epx_types.specs.Contents.{Contents, AgreeOn}
+use Rattle.epx_types.specs.Commands.{command_on}
+use Rattle.epx_types.specs.CommandKeys.{touched_keys, written_keys}
+use Rattle.epx_types.proofs.ContentsLemmas.{same_contents}
+use Rattle.epx_types.proofs.Commands.{written_or_kept, written_keys-touched, command_on-EndsAlike}
+
+-- conflict does not depend on which command is named first
+pub Conflict-turned : (a b : List Op) → Conflict a b → Conflict b a
+Conflict-turned a b (k, inl both) = (k, inr (both.1, both.0))
+Conflict-turned a b (k, inr both) = (k, inl (both.1, both.0))
+
+-- a key that a command does not write keeps what it had
+kept : (ops : List Op) (c : Contents) (q : List ℕ) → ¬ Contains (written_keys ops) q → contents.get (command_on ops c).after q ≡ contents.get c q
+kept ops c q not_written = elim (written_or_kept ops c q) [ inl written ↦ absurd (not_written written) | inr same ↦ same ]
+
+module _ (a b : List Op) (apart : ¬ Conflict a b) (c : Contents) where
+  -- what one touches the other leaves
+  touched_kept : AgreeOn (touched_keys b) (command_on a c).after c
+  touched_kept k touched = kept a c k (λ written. apart (k, inl (written, touched)))
+
+  -- the second replies as it does alone
+  pub reply-after_apart : (command_on b (command_on a c).after).reply ≡ (command_on b c).reply
+  reply-after_apart = (command_on-EndsAlike b (command_on a c).after c touched_kept).0
+
+  -- a key that the second writes has what the second leaves there alone, in either order
+  at_written : (q : List ℕ) → Contains (written_keys b) q → contents.get (command_on b (command_on a c).after).after q ≡ contents.get (command_on a (command_on b c).after).after q
+  at_written q written =
+      (command_on-EndsAlike b (command_on a c).after c touched_kept).1 q (written_keys-touched b q written)
+      ∙ sym (kept a (command_on b c).after q (λ other. apart (q, inr (written_keys-touched a q other, written))))
+
+-- either order leaves the same contents
+pub after-exchanged : (a b : List Op) → ¬ Conflict a b → (c : Contents) → (command_on b (command_on a c).after).after ≡ (command_on a (command_on b c).after).after
+after-exchanged a b apart c =
+    same_contents _ _ (λ q. by q (written_or_kept b (command_on a c).after q) (written_or_kept a (command_on b c).after q) (written_or_kept a c q) (written_or_kept b c q))
+  where
+    turned : ¬ Conflict b a
+    turned conflict = apart (Conflict-turned b a conflict)
+
+    by : (q : List ℕ)
+        → Contains (written_keys b) q ⊎ (contents.get (command_on b (command_on a c).after).after q ≡ contents.get (command_on a c).after q)
+        → Contains (written_keys a) q ⊎ (contents.get (command_on a (command_on b c).after).after q ≡ contents.get (command_on b c).after q)
+        → Contains (written_keys a) q ⊎ (contents.get (command_on a c).after q ≡ contents.get c q)
+        → Contains (written_keys b) q ⊎ (contents.get (command_on b c).after q ≡ contents.get c q)
+        → contents.get (command_on b (command_on a c).after).after q ≡ contents.get (command_on a (command_on b c).after).after q
+    by q (inl written) second first' second' = at_written a b apart c q written
+    by q (inr same) (inl written) first' second' = sym (at_written b a turned c q written)
+    by q (inr same) (inr same') (inl written) second' = sym (at_written b a turned c q written)
+    by q (inr same) (inr same') (inr kept_a) (inl written) = at_written a b apart c q written
+    by q (inr same) (inr same') (inr kept_a) (inr kept_b) = same ∙ kept_a ∙ sym kept_b ∙ sym same'

@@ -1,0 +1,213 @@
+-- What a command changes, and what its reply and its writes rest on.
+use Rattle.std.proofs.Common.{◌+◌, ◌<◌, length, take, arith, ◌≡◌, ◌⊎◌, ℕ, suc, ℤ, pos, ◌+ℤ◌, int_lt, Bool, true, false, List, [], ◌∷◌, ◌++◌, flat_map, Contains, Option, Some, None, unwrap_or, if◌then◌else◌, refl, sym, ap, ap₂, ◌∙◌, subst, inl, inr}
+use Rattle.std.specs.FinMap as contents
+use Rattle.std.proofs.lemmas.List.Elements.{Contains-append_left, Contains-append_right}
+use Rattle.epx_types.specs.declared.op.Op.{Op}
+use Rattle.epx_types.specs.declared.op.Op.TheVariants.{Get, Put, Del, Add, Is, Floor, Copy}
+use Rattle.epx_types.specs.declared.reply.Reply.{Reply}
+use Rattle.epx_types.specs.declared.reply.Reply.TheVariants.{Values, Abort}
+use Rattle.epx_types.specs.Contents.{Contents, assign, AgreeOn, amount_at}
+use Rattle.epx_types.specs.Operations.{fits_i64, same_value, operate}
+use Rattle.epx_types.specs.Commands.{Outcome, unless_aborted, operate_all, command_on}
+use Rattle.epx_types.specs.CommandKeys.{touched_by, written_by, touched_keys, written_keys}
+use Rattle.epx_types.specs.Writes.{writes_by, writes_of, put_all}
+use Rattle.epx_types.proofs.Membership.{Contains-nil, Contains-head, Contains-cons, Contains-from_map, map-agree}
+use Rattle.epx_types.proofs.KeyLists.{Contains-rising_keys, Contains-from_rising_keys, Contains-flat_map_within}
+use Rattle.epx_types.proofs.ContentsLemmas.{same_contents, get-assign_cases, get-assign_agree, get-put_all}
+
+-- ---- what is written
+
+-- keys that are not among those listed keep what they had, unless the operation aborts
+abbrev Keeps : List (List ℕ) → Contents → Option (Contents × List (Option ℤ)) → Type 0
+Keeps keys c None = Unit {0}
+Keeps keys c (Some r) = (q : List ℕ) → Contains keys q ⊎ (contents.get r.0 q ≡ contents.get c q)
+
+assign-Keeps : (c : Contents) (k : List ℕ) (v : Option ℤ) (q : List ℕ) → Contains (k ∷ []) q ⊎ (contents.get (assign c k v) q ≡ contents.get c q)
+assign-Keeps c k v q =
+    elim (get-assign_cases c k v q) [
+      | inl here ↦ inl (subst (Contains (k ∷ [])) (sym here.0) (Contains-head k []))
+      | inr other ↦ inr other.1
+    ]
+
+operate-Keeps : (op : Op) (c : Contents) → Keeps (written_by op) c (operate op c)
+operate-Keeps (Get k) c = λ q. inr refl
+operate-Keeps (Put k v) c = assign-Keeps c k (Some v)
+operate-Keeps (Del k) c = assign-Keeps c k None
+operate-Keeps (Add k n) c =
+    elim (fits_i64 (amount_at c k +ℤ n)) as (λ b. Keeps (k ∷ []) c (if b then Some (assign c k (Some (amount_at c k +ℤ n)), []) else None)) [
+      | true ↦ assign-Keeps c k (Some (amount_at c k +ℤ n))
+      | false ↦ tt
+    ]
+operate-Keeps (Is k v) c = elim (same_value (contents.get c k) v) as (λ b. Keeps [] c (if b then Some (c, []) else None)) [ true ↦ λ q. inr refl | false ↦ tt ]
+operate-Keeps (Floor k least) c = elim (int_lt (amount_at c k) least) as (λ b. Keeps [] c (if b then None else Some (c, []))) [ true ↦ tt | false ↦ λ q. inr refl ]
+operate-Keeps (Copy k j) c = assign-Keeps c j (contents.get c k)
+
+-- an abort gives back the contents before, and else keys that are not among those listed keep what they had
+abbrev Settles : List (List ℕ) → Contents → Contents → Reply → Contents → Type 0
+Settles keys before c (Values got) after = (q : List ℕ) → Contains keys q ⊎ (contents.get after q ≡ contents.get c q)
+Settles keys before c (Abort j) after = after ≡ before
+
+-- one operation more in front
+Settles-cons : (first rest : List (List ℕ)) (before c d : Contents) (reply : Reply) (after : Contents) → ((q : List ℕ) → Contains first q ⊎ (contents.get d q ≡ contents.get c q)) → Settles rest before d reply after → Settles (first ++ rest) before c reply after
+Settles-cons first rest before c d (Values got) after step on = λ q.
+    elim (on q) [
+      | inl later ↦ inl (Contains-append_right first rest q later)
+      | inr kept ↦ elim (step q) [ inl now ↦ inl (Contains-append_left first rest q now) | inr same ↦ inr (kept ∙ same) ]
+    ]
+Settles-cons first rest before c d (Abort j) after step on = on
+
+operate_all-Settles : (before : Contents) (j : ℕ) (ops : List Op) (c : Contents) (got : List (Option ℤ)) → Settles (flat_map written_by ops) before c (operate_all before j ops c got).reply (operate_all before j ops c got).after
+operate_all-Settles before j [] c got = λ q. inr refl
+operate_all-Settles before j (op ∷ ops) c got =
+    let end : Option (Contents × List (Option ℤ)) → Outcome = λ o. unless_aborted before j o (λ r. operate_all before (suc j) ops r.0 (got ++ r.1)) in
+    elim (operate op c) as (λ o. Keeps (written_by op) c o → Settles (flat_map written_by (op ∷ ops)) before c (end o).reply (end o).after) [
+      | None ↦ λ keeps. refl
+      | Some r ↦ λ keeps. Settles-cons (written_by op) (flat_map written_by ops) before c r.0 (end (Some r)).reply (end (Some r)).after keeps (operate_all-Settles before (suc j) ops r.0 (got ++ r.1))
+    ] (operate-Keeps op c)
+
+command_on-Settles : (ops : List Op) (c : Contents) → Settles (flat_map written_by ops) c c (command_on ops c).reply (command_on ops c).after
+command_on-Settles ops c = operate_all-Settles c 0 ops c []
+
+-- a key is written, or keeps what it had
+pub written_or_kept : (ops : List Op) (c : Contents) (q : List ℕ) → Contains (written_keys ops) q ⊎ (contents.get (command_on ops c).after q ≡ contents.get c q)
+written_or_kept ops c q = by (command_on ops c).reply (command_on ops c).after (command_on-Settles ops c) where
+  by : (reply : Reply) (after : Contents) → Settles (flat_map written_by ops) c c reply after → Contains (written_keys ops) q ⊎ (contents.get after q ≡ contents.get c q)
+  by (Values got) after settles = elim (settles q) [ inl written ↦ inl (Contains-rising_keys (flat_map written_by ops) q written) | inr kept ↦ inr kept ]
+  by (Abort j) after settles = inr (ap (λ d. contents.get d q) settles)
+
+-- an aborted command leaves the contents as they were
+pub after-abort : (ops : List Op) (c : Contents) (j : ℕ) → (command_on ops c).reply ≡ Abort j → (command_on ops c).after ≡ c
+after-abort ops c j e =
+    let P : Reply → Type 0 = λ r. Settles (flat_map written_by ops) c c r (command_on ops c).after in
+    subst P e (command_on-Settles ops c)
+
+-- and writes nothing
+pub writes_of-abort : (ops : List Op) (c : Contents) (j : ℕ) → (command_on ops c).reply ≡ Abort j → writes_of ops c ≡ []
+writes_of-abort ops c j e = ap (λ r. writes_by r ops (command_on ops c).after) e
+
+-- a command's writes, put into the contents, give the contents after it
+pub put_all-writes_of : (ops : List Op) (c : Contents) → put_all (writes_of ops c) c ≡ (command_on ops c).after
+put_all-writes_of ops c = by (command_on ops c).reply (command_on ops c).after (command_on-Settles ops c) where
+  by : (reply : Reply) (after : Contents) → Settles (flat_map written_by ops) c c reply after → put_all (writes_by reply ops after) c ≡ after
+  by (Abort j) after settles = sym settles
+  by (Values got) after settles =
+      same_contents _ _ (λ q. get-put_all (written_keys ops) after c q (elim (settles q) [
+        | inl written ↦ inl (Contains-rising_keys (flat_map written_by ops) q written)
+        | inr kept ↦ inr (sym kept)
+      ]))
+
+-- the writes name written keys
+pub writes_of-written : (ops : List Op) (c : Contents) (w : List ℕ × Option ℤ) → Contains (writes_of ops c) w → Contains (written_keys ops) w.0
+writes_of-written ops c w = by (command_on ops c).reply (command_on ops c).after where
+  by : (reply : Reply) (after : Contents) → Contains (writes_by reply ops after) w → Contains (written_keys ops) w.0
+  by (Abort j) after h = absurd (Contains-nil w h)
+  by (Values got) after h =
+      let from = Contains-from_map (λ k. (k, contents.get after k)) (written_keys ops) w h in
+      subst (Contains (written_keys ops)) (ap (λ p. p.0) from.2) from.1
+
+-- ---- where a command aborts
+
+-- the operations in front of the one that aborts go through
+operate_all-abort : (before : Contents) (j : ℕ) (ops : List Op) (c : Contents) (got : List (Option ℤ)) (k : ℕ) → (operate_all before j ops c got).reply ≡ Abort k → (i : ℕ) × (k ≡ j + i) × (i < length ops) × ((reads : List (Option ℤ)) × ((operate_all before j (take i ops) c got).reply ≡ Values reads))
+operate_all-abort before j [] c got k e = absurd (cc e)
+operate_all-abort before j (op ∷ ops) c got k e =
+    let end : Option (Contents × List (Option ℤ)) → Outcome = λ o. unless_aborted before j o (λ r. operate_all before (suc j) ops r.0 (got ++ r.1)) in
+    elim (operate op c) as (λ o. operate op c ≡ o → (end o).reply ≡ Abort k → (i : ℕ) × (k ≡ j + i) × (i < suc (length ops)) × ((reads : List (Option ℤ)) × ((operate_all before j (take i (op ∷ ops)) c got).reply ≡ Values reads))) [
+      | None ↦ λ is aborted. let place : j ≡ k = cc aborted in (0, omega arith, omega arith, (got, refl))
+      | Some r ↦ λ is aborted.
+          let rest = operate_all-abort before (suc j) ops r.0 (got ++ r.1) k aborted in
+          (suc rest.0, omega (arith, rest.1), omega (arith, rest.2), (rest.3.0, rw is rest.3.1))
+    ] refl e
+
+-- the place of an abort is that of an operation, and those in front of it go through
+pub reply-abort : (ops : List Op) (c : Contents) (j : ℕ) → (command_on ops c).reply ≡ Abort j → (j < length ops) × ((reads : List (Option ℤ)) × ((command_on (take j ops) c).reply ≡ Values reads))
+reply-abort ops c j e =
+    let at = operate_all-abort c 0 ops c [] j e in
+    let place : at.0 ≡ j = omega (arith, at.1) in
+    let P : ℕ → Type 0 = λ i. (i < length ops) × ((reads : List (Option ℤ)) × ((operate_all c 0 (take i ops) c []).reply ≡ Values reads)) in
+    subst P place (at.2, at.3)
+
+-- ---- what an answer rests on
+
+-- both abort, or both read the same and leave the same under each of the keys
+abbrev Alike : List (List ℕ) → Option (Contents × List (Option ℤ)) → Option (Contents × List (Option ℤ)) → Type 0
+Alike keys None None = Unit {0}
+Alike keys None (Some s) = ⊥
+Alike keys (Some r) None = ⊥
+Alike keys (Some r) (Some s) = (r.1 ≡ s.1) × AgreeOn keys r.0 s.0
+
+-- by one test, which goes on where it holds
+Alike-where : (keys : List (List ℕ)) (t u : Bool) (r s : Contents × List (Option ℤ)) → t ≡ u → Alike keys (Some r) (Some s) → Alike keys (if t then Some r else None) (if u then Some s else None)
+Alike-where keys true true r s e alike = alike
+Alike-where keys true false r s e alike = absurd (cc e)
+Alike-where keys false true r s e alike = absurd (cc e)
+Alike-where keys false false r s e alike = tt
+
+-- by one test, which aborts where it holds
+Alike-unless : (keys : List (List ℕ)) (t u : Bool) (r s : Contents × List (Option ℤ)) → t ≡ u → Alike keys (Some r) (Some s) → Alike keys (if t then None else Some r) (if u then None else Some s)
+Alike-unless keys true true r s e alike = tt
+Alike-unless keys true false r s e alike = absurd (cc e)
+Alike-unless keys false true r s e alike = absurd (cc e)
+Alike-unless keys false false r s e alike = alike
+
+-- over contents that have the same under the keys that it touches, an operation does alike
+operate-Alike : (keys : List (List ℕ)) (c d : Contents) → AgreeOn keys c d → (op : Op) → ((k : List ℕ) → Contains (touched_by op) k → Contains keys k) → Alike keys (operate op c) (operate op d)
+operate-Alike keys c d agree (Get k) within = (ap (λ v. v ∷ []) (agree k (within k (Contains-head k []))), agree)
+operate-Alike keys c d agree (Put k v) within = (refl, λ q h. get-assign_agree c d k (Some v) q (agree q h))
+operate-Alike keys c d agree (Del k) within = (refl, λ q h. get-assign_agree c d k None q (agree q h))
+operate-Alike keys c d agree (Add k n) within =
+    let same : amount_at c k +ℤ n ≡ amount_at d k +ℤ n = ap (λ v. unwrap_or v (pos 0) +ℤ n) (agree k (within k (Contains-head k []))) in
+    Alike-where keys (fits_i64 (amount_at c k +ℤ n)) (fits_i64 (amount_at d k +ℤ n)) (assign c k (Some (amount_at c k +ℤ n)), []) (assign d k (Some (amount_at d k +ℤ n)), []) (ap fits_i64 same)
+    (refl, λ q h. get-assign_agree c d k (Some (amount_at c k +ℤ n)) q (agree q h) ∙ ap (λ a. contents.get (assign d k (Some a)) q) same)
+operate-Alike keys c d agree (Is k v) within =
+    Alike-where keys (same_value (contents.get c k) v) (same_value (contents.get d k) v) (c, []) (d, []) (ap (λ w. same_value w v) (agree k (within k (Contains-head k [])))) (refl, agree)
+operate-Alike keys c d agree (Floor k least) within =
+    Alike-unless keys (int_lt (amount_at c k) least) (int_lt (amount_at d k) least) (c, []) (d, []) (ap (λ v. int_lt (unwrap_or v (pos 0)) least) (agree k (within k (Contains-head k [])))) (refl, agree)
+operate-Alike keys c d agree (Copy k j) within =
+    let same = agree k (within k (Contains-head k (j ∷ []))) in
+    (refl, λ q h. get-assign_agree c d j (contents.get c k) q (agree q h) ∙ ap (λ v. contents.get (assign d j v) q) same)
+
+-- the same reply, and the same left under each of the keys
+abbrev pub EndsAlike : List (List ℕ) → Outcome → Outcome → Type 0
+EndsAlike keys o p = (o.reply ≡ p.reply) × AgreeOn keys o.after p.after
+
+unless_aborted-EndsAlike : (keys : List (List ℕ)) (before before' : Contents) → AgreeOn keys before before' → (j : ℕ) (o p : Option (Contents × List (Option ℤ))) (proceed proceed' : Contents × List (Option ℤ) → Outcome) → Alike keys o p → ((r s : Contents × List (Option ℤ)) → Alike keys (Some r) (Some s) → EndsAlike keys (proceed r) (proceed' s)) → EndsAlike keys (unless_aborted before j o proceed) (unless_aborted before' j p proceed')
+unless_aborted-EndsAlike keys before before' began j None None proceed proceed' alike on = (refl, began)
+unless_aborted-EndsAlike keys before before' began j None (Some s) proceed proceed' alike on = absurd alike
+unless_aborted-EndsAlike keys before before' began j (Some r) None proceed proceed' alike on = absurd alike
+unless_aborted-EndsAlike keys before before' began j (Some r) (Some s) proceed proceed' alike on = on r s alike
+
+operate_all-EndsAlike : (keys : List (List ℕ)) (before before' : Contents) → AgreeOn keys before before' → (j : ℕ) (ops : List Op) (c d : Contents) (got got' : List (Option ℤ)) → ((k : List ℕ) → Contains (flat_map touched_by ops) k → Contains keys k) → AgreeOn keys c d → got ≡ got' → EndsAlike keys (operate_all before j ops c got) (operate_all before' j ops d got')
+operate_all-EndsAlike keys before before' began j [] c d got got' within agree read = (ap (λ v. Values v) read, agree)
+operate_all-EndsAlike keys before before' began j (op ∷ ops) c d got got' within agree read =
+    unless_aborted-EndsAlike keys before before' began j (operate op c) (operate op d) (λ r. operate_all before (suc j) ops r.0 (got ++ r.1)) (λ r. operate_all before' (suc j) ops r.0 (got' ++ r.1))
+    (operate-Alike keys c d agree op (λ k h. within k (Contains-append_left (touched_by op) (flat_map touched_by ops) k h)))
+    (λ r s alike. operate_all-EndsAlike keys before before' began (suc j) ops r.0 s.0 (got ++ r.1) (got' ++ s.1) (λ k h. within k (Contains-append_right (touched_by op) (flat_map touched_by ops) k h)) alike.1 (ap₂ (λ v w. v ++ w) read alike.0))
+
+-- a written key is touched
+pub written_keys-touched : (ops : List Op) (k : List ℕ) → Contains (written_keys ops) k → Contains (touched_keys ops) k
+written_keys-touched ops k h =
+    Contains-rising_keys (flat_map touched_by ops) k (Contains-flat_map_within written_by touched_by by ops k (Contains-from_rising_keys (flat_map written_by ops) k h))
+  where
+    by : (op : Op) (q : List ℕ) → Contains (written_by op) q → Contains (touched_by op) q
+    by (Get key) q h = absurd (Contains-nil q h)
+    by (Put key v) q h = h
+    by (Del key) q h = h
+    by (Add key n) q h = h
+    by (Is key v) q h = absurd (Contains-nil q h)
+    by (Floor key least) q h = absurd (Contains-nil q h)
+    by (Copy key j) q h = Contains-cons key (j ∷ []) q h
+
+-- over contents that agree on the touched keys a command leaves contents that agree there, gives the same reply
+pub command_on-EndsAlike : (ops : List Op) (c d : Contents) → AgreeOn (touched_keys ops) c d → EndsAlike (touched_keys ops) (command_on ops c) (command_on ops d)
+command_on-EndsAlike ops c d agree = operate_all-EndsAlike (touched_keys ops) c d agree 0 ops c d [] [] (Contains-rising_keys (flat_map touched_by ops)) agree refl
+
+-- and the same writes
+pub writes_of-alike : (ops : List Op) (c d : Contents) → AgreeOn (touched_keys ops) c d → writes_of ops c ≡ writes_of ops d
+writes_of-alike ops c d agree =
+    let alike = command_on-EndsAlike ops c d agree in
+    ap (λ r. writes_by r ops (command_on ops c).after) alike.0 ∙ by (command_on ops d).reply (command_on ops c).after (command_on ops d).after alike.1
+  where
+    by : (reply : Reply) (after after' : Contents) → AgreeOn (touched_keys ops) after after' → writes_by reply ops after ≡ writes_by reply ops after'
+    by (Abort j) after after' same = refl
+    by (Values got) after after' same = map-agree (λ k. (k, contents.get after k)) (λ k. (k, contents.get after' k)) (written_keys ops) (λ k h. ap (λ v. (k, v)) (same k (written_keys-touched ops k h)))

@@ -1,0 +1,45 @@
+-- The orders of Ids, places and ranks are total, and those of Ids and places tie equal values alone.
+use Rattle.std.proofs.Common.{◌≡◌, Ordering, Less, Equal, Greater, refl}
+use Rattle.std.specs.Ordering.{ordering_then}
+use Rattle.std.specs.Cmp.{IsTotalOrder, nat_cmp_total, on_total, then_total}
+use Rattle.std.specs.FinMap.{IsAntisymmetric, nat_cmp-IsAntisymmetric}
+use Rattle.epx_types.specs.Ids.{id_cmp}
+use Rattle.epx_types.specs.PlacedLines.{place_cmp}
+use Rattle.epx_types.specs.ExecutionOrder.{rank_cmp}
+
+-- both comparisons tie
+then_first : (r s : Ordering) → ordering_then r s ≡ Equal → r ≡ Equal
+then_first Less s e = cc e
+then_first Equal s e = refl
+then_first Greater s e = cc e
+
+then_second : (r s : Ordering) → ordering_then r s ≡ Equal → s ≡ Equal
+then_second Less s e = absurd (cc e)
+then_second Equal s e = e
+then_second Greater s e = absurd (cc e)
+
+-- Ids are in a total order
+pub id_cmp_total : IsTotalOrder id_cmp
+id_cmp_total = then_total (on_total (λ x. x.replica) nat_cmp_total) (on_total (λ x. x.number) nat_cmp_total)
+
+-- Ids that tie are equal
+pub id_cmp-IsAntisymmetric : IsAntisymmetric id_cmp
+id_cmp-IsAntisymmetric x y e =
+    let replica = nat_cmp-IsAntisymmetric x.replica y.replica (then_first _ _ e) in
+    let number = nat_cmp-IsAntisymmetric x.number y.number (then_second _ _ e) in
+    λ i. record { replica = replica i; number = number i }
+
+-- places are in a total order
+pub place_cmp_total : IsTotalOrder place_cmp
+place_cmp_total = then_total (on_total (λ p. p.log) nat_cmp_total) (on_total (λ p. p.line) nat_cmp_total)
+
+-- places that tie are equal
+pub place_cmp-IsAntisymmetric : IsAntisymmetric place_cmp
+place_cmp-IsAntisymmetric p q e =
+    let log = nat_cmp-IsAntisymmetric p.log q.log (then_first _ _ e) in
+    let line = nat_cmp-IsAntisymmetric p.line q.line (then_second _ _ e) in
+    λ i. record { log = log i; line = line i }
+
+-- ranks are in a total order
+pub rank_cmp_total : IsTotalOrder rank_cmp
+rank_cmp_total = then_total (on_total (λ r. r.depth) nat_cmp_total) (then_total (on_total (λ r. r.leader) id_cmp_total) (then_total (on_total (λ r. r.seq) nat_cmp_total) (on_total (λ r. r.id) id_cmp_total)))

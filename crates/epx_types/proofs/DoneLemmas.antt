@@ -1,0 +1,63 @@
+-- What is left of a committed map.
+use Rattle.std.proofs.Common.{◌≡◌, ◌⊎◌, ◌↔◌, true, false, not, List, [], ◌∷◌, filter, Contains, refl, sym, ap, subst, inl, inr}
+use Rattle.std.specs.Ordering.{eq_by_cmp}
+use Rattle.std.specs.Cmp.{eq_by_cmp_equiv, Equal-is}
+use Rattle.std.proofs.lemmas.Bool.{cases_Bool}
+use Rattle.std.proofs.lemmas.Map.Views.{Contains-from_any, list_any-from_Contains}
+use Rattle.epx_types.specs.declared.id.Id.{Id}
+use Rattle.epx_types.specs.Ids.{id_cmp}
+use Rattle.epx_types.specs.Instances.{Instance}
+use Rattle.epx_types.specs.CommittedMap.{ids_of}
+use Rattle.epx_types.specs.Done.{is_among, remaining}
+use Rattle.epx_types.proofs.Membership.{Contains-nil, Contains-head, Contains-cons, Contains-cons_cases}
+use Rattle.epx_types.proofs.Comparisons.{id_cmp_total, id_cmp-IsAntisymmetric}
+
+all_kept : {X : Type 0} (xs : List X) → filter (λ x. not false) xs ≡ xs
+all_kept [] = refl
+all_kept (x ∷ xs) = ap (λ rest. x ∷ rest) (all_kept xs)
+
+-- where nothing is done the whole map is left
+pub remaining-nil : (m : List Instance) → remaining [] m ≡ m
+remaining-nil [] = refl
+remaining-nil (e ∷ m) =
+    let deps = all_kept e.deps in
+    let rest = remaining-nil m in
+    λ i. record e { deps = deps i } ∷ rest i
+
+-- the test for what is done, with what it tells
+pub is_among_cases : (done : List Id) (x : Id) → (is_among done x ≡ true) × Contains done x ⊎ (is_among done x ≡ false) × (¬ Contains done x)
+is_among_cases done x =
+    elim (cases_Bool (is_among done x)) [
+      | inl found ↦ inl (found, Contains-from_any {eq = eq_by_cmp id_cmp} (λ y z e. id_cmp-IsAntisymmetric y z ((Equal-is (id_cmp y z)).0 e)) x done found)
+      | inr missed ↦ inr (missed, λ h. let found : is_among done x ≡ true = list_any-from_Contains {eq = eq_by_cmp id_cmp} (eq_by_cmp_equiv id_cmp_total) x done h in absurd (cc (found, missed)))
+    ]
+
+module _ (done : List Id) where
+  Contains-remaining : (m : List Instance) (x : Id) → Contains (ids_of m) x → ¬ Contains done x → Contains (ids_of (remaining done m)) x
+  Contains-remaining [] x h left = h
+  Contains-remaining (e ∷ m) x h left =
+      elim (is_among_cases done e.id) [
+        | inl among ↦ rw among.0 (elim (Contains-cons_cases e.id (ids_of m) x h) [
+          | inl same ↦ absurd (left (subst (Contains done) same among.1))
+          | inr rest ↦ Contains-remaining m x rest left
+        ])
+        | inr other ↦ rw other.0 (elim (Contains-cons_cases e.id (ids_of m) x h) [
+          | inl same ↦ subst (Contains (e.id ∷ ids_of (remaining done m))) same (Contains-head e.id (ids_of (remaining done m)))
+          | inr rest ↦ Contains-cons e.id (ids_of (remaining done m)) x (Contains-remaining m x rest left)
+        ])
+      ]
+
+  Contains-from_remaining : (m : List Instance) (x : Id) → Contains (ids_of (remaining done m)) x → Contains (ids_of m) x × (¬ Contains done x)
+  Contains-from_remaining [] x h = absurd (Contains-nil x h)
+  Contains-from_remaining (e ∷ m) x h =
+      elim (is_among_cases done e.id) [
+        | inl among ↦ let rest = Contains-from_remaining m x (rw among.0 at h) in (Contains-cons e.id (ids_of m) x rest.0, rest.1)
+        | inr other ↦ elim (Contains-cons_cases e.id (ids_of (remaining done m)) x (rw other.0 at h)) [
+          | inl same ↦ (subst (Contains (e.id ∷ ids_of m)) same (Contains-head e.id (ids_of m)), λ among. other.1 (subst (Contains done) (sym same) among))
+          | inr left ↦ let rest = Contains-from_remaining m x left in (Contains-cons e.id (ids_of m) x rest.0, rest.1)
+        ]
+      ]
+
+  -- what is left has the Ids that are not done
+  pub Contains-remaining_iff : (m : List Instance) (x : Id) → Contains (ids_of (remaining done m)) x ↔ Contains (ids_of m) x × (¬ Contains done x)
+  Contains-remaining_iff m x = (Contains-from_remaining m x, λ h. Contains-remaining m x h.0 h.1)

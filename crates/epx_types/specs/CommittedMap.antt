@@ -1,0 +1,27 @@
+-- The committed map: the instances that lines commit, each once, by rising Id.
+use Rattle.std.specs.Prelude.{◌≡◌, ℕ, List, map, Contains, Option, find, position}
+use Rattle.std.specs.Ordering.{is_eq}
+use Rattle.epx_types.specs.declared.id.Id.{Id}
+use Rattle.epx_types.specs.Ids.{id_cmp, IsRising}
+use Rattle.epx_types.specs.Instances.{Instance}
+use Rattle.epx_types.specs.PlacedLines.{Placed}
+
+abbrev pub ids_of : List Instance → List Id
+ids_of m = map (λ e. e.id) m
+
+abbrev pub instance_of : List Instance → Id → Option Instance
+instance_of m x = find (λ e. is_eq (id_cmp e.id x)) m
+
+-- its place among the committed instances, counted from 0
+abbrev pub position_of : List Instance → Id → Option ℕ
+position_of m x = position (λ e. is_eq (id_cmp e.id x)) m
+
+-- an instance that no line gives is not committed
+abbrev pub IsCommitted : List Instance → Id → Type 0
+IsCommitted m x = Contains (ids_of m) x
+
+-- what the lines commit, where they agree
+pub record IsCommittedBy (lines : List Placed) (m : List Instance) : Type 0 where
+  pub rising : IsRising (ids_of m)
+  pub given : (e : Instance) → Contains m e → (p : Placed) × Contains lines p × (p.instance ≡ e)
+  pub whole : (p : Placed) → Contains lines p → Contains m p.instance

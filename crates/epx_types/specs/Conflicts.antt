@@ -1,0 +1,15 @@
+-- Commands that conflict, by the text of their operations, and maps in which conflicting commands are related.
+use Rattle.std.specs.Prelude.{◌≢◌, ◌⊎◌, ℕ, List, Contains}
+use Rattle.epx_types.specs.declared.op.Op.{Op}
+use Rattle.epx_types.specs.Instances.{Instance}
+use Rattle.epx_types.specs.CommandKeys.{touched_keys, written_keys}
+use Rattle.epx_types.specs.Readiness.{IsReady}
+use Rattle.epx_types.specs.Reaching.{Reaches}
+
+-- one writes a key that the other touches
+abbrev pub Conflict : List Op → List Op → Type 0
+Conflict a b = (k : List ℕ) × ((Contains (written_keys a) k × Contains (touched_keys b) k) ⊎ (Contains (touched_keys a) k × Contains (written_keys b) k))
+
+-- of any two ready instances that conflict one reaches the other
+abbrev pub IsCovered : List Instance → Type 0
+IsCovered m = (d e : Instance) → Contains m d → Contains m e → d.id ≢ e.id → IsReady m d.id → IsReady m e.id → Conflict d.ops e.ops → Reaches m d.id e.id ⊎ Reaches m e.id d.id

@@ -1,0 +1,17 @@
+-- Commands executed one after another.
+use Rattle.std.specs.Prelude.{List, [], ◌∷◌}
+use Rattle.epx_types.specs.declared.op.Op.{Op}
+use Rattle.epx_types.specs.declared.reply.Reply.{Reply}
+use Rattle.epx_types.specs.Contents.{Contents}
+use Rattle.epx_types.specs.Commands.{command_on}
+
+pub record Execution : Type 0 where
+  pub replies : List Reply
+  pub final : Contents
+
+-- each command over what the one before it left; the replies in that order, and what the last left
+abbrev pub execute : List (List Op) → Contents → Execution
+execute [] c = record { replies = []; final = c }
+execute (ops ∷ rest) c =
+    let o = command_on ops c in
+    let e = execute rest o.after in record { replies = o.reply ∷ e.replies; final = e.final }

@@ -1,0 +1,59 @@
+-- Faults: the number, the exit status and the text of each.
+use Rattle.std.specs.Prelude.{ℕ, List, ◌++◌, codes, decimal}
+use Rattle.epx_types.specs.declared.fault.Why.{Why}
+use Rattle.epx_types.specs.declared.fault.Why.TheVariants.{TooLong, NotJson, NotObject, Replica, Number, Seq, Status, Deps, Ops}
+use Rattle.epx_types.specs.declared.fault.Fault.{Fault}
+use Rattle.epx_types.specs.declared.fault.Fault.TheVariants.{Memory, TooManyLogs, LogTooLong, BadLine, TooManyInstances, Disagree, Read, Write}
+use Rattle.epx_types.specs.declared.id.Id.{Id}
+use Rattle.epx_types.specs.declared.place.Place.{Place}
+
+abbrev pub out_of_memory : Fault
+out_of_memory = Memory
+
+abbrev pub fault_number : Fault → ℕ
+fault_number Memory = 1
+fault_number TooManyLogs = 2
+fault_number (LogTooLong log) = 3
+fault_number (BadLine place why) = 4
+fault_number TooManyInstances = 5
+fault_number (Disagree id first second) = 6
+fault_number (Read log) = 7
+fault_number Write = 8
+
+-- 3 for want of memory, 4 for a device that failed, and 1 for what the logs say
+abbrev pub fault_status : Fault → ℕ
+fault_status Memory = 3
+fault_status TooManyLogs = 1
+fault_status (LogTooLong log) = 1
+fault_status (BadLine place why) = 1
+fault_status TooManyInstances = 1
+fault_status (Disagree id first second) = 1
+fault_status (Read log) = 4
+fault_status Write = 4
+
+abbrev pub why_text : Why → List ℕ
+why_text TooLong = codes "TooLong"
+why_text NotJson = codes "NotJson"
+why_text NotObject = codes "NotObject"
+why_text Replica = codes "Replica"
+why_text Number = codes "Number"
+why_text Seq = codes "Seq"
+why_text Status = codes "Status"
+why_text Deps = codes "Deps"
+why_text Ops = codes "Ops"
+
+abbrev pub id_text : Id → List ℕ
+id_text x = decimal x.replica ++ codes "." ++ decimal x.number
+
+abbrev pub place_text : Place → List ℕ
+place_text p = codes "log " ++ decimal p.log ++ codes " line " ++ decimal p.line
+
+abbrev pub fault_text : Fault → List ℕ
+fault_text Memory = codes "epx: fault 1: out of memory"
+fault_text TooManyLogs = codes "epx: fault 2: more than 64 logs"
+fault_text (LogTooLong log) = codes "epx: fault 3: log " ++ decimal log ++ codes " is longer than 67108864 bytes"
+fault_text (BadLine place why) = codes "epx: fault 4: " ++ place_text place ++ codes ": " ++ why_text why
+fault_text TooManyInstances = codes "epx: fault 5: more than 65536 instances"
+fault_text (Disagree id first second) = codes "epx: fault 6: instance " ++ id_text id ++ codes " differs between " ++ place_text first ++ codes " and " ++ place_text second
+fault_text (Read log) = codes "epx: fault 7: log " ++ decimal log ++ codes " can not be read"
+fault_text Write = codes "epx: fault 8: the answer can not be written"

@@ -1,0 +1,28 @@
+-- The orders that the protocol allows.
+use Rattle.std.specs.Prelude.{◌≡◌, ◌≢◌, ℕ, ◌<◌, true, List, Contains, AllPairs, Some, slice_get}
+use Rattle.std.specs.Ordering.{nat_cmp, ordering_then, is_lt}
+use Rattle.epx_types.specs.declared.id.Id.{Id}
+use Rattle.epx_types.specs.Ids.{id_cmp}
+use Rattle.epx_types.specs.Instances.{Instance}
+use Rattle.epx_types.specs.Readiness.{IsReady}
+use Rattle.epx_types.specs.Reaching.{Reaches}
+use Rattle.epx_types.specs.Components.{InOneComponent}
+
+-- x stands in the list, and stands there before y
+abbrev pub Before : List Id → Id → Id → Type 0
+Before ids x y = (i j : ℕ) × (i < j) × (slice_get ids i ≡ Some x) × (slice_get ids j ≡ Some y)
+
+-- x has the lower sequence number, or the same one and the lower Id
+abbrev pub SequenceBefore : List Instance → Id → Id → Type 0
+SequenceBefore m x y = (d e : Instance) × Contains m d × (d.id ≡ x) × Contains m e × (e.id ≡ y) × (is_lt (ordering_then (nat_cmp d.seq e.seq) (id_cmp x y)) ≡ true)
+
+-- each instance of the set once and nothing else; what x reaches outside its component stands before it; members of one component stand by rising sequence number
+pub record IsLawfulFor (m : List Instance) (Member : Id → Type 0) (ids : List Id) : Type 0 where
+  pub once : AllPairs (λ x y. x ≢ y) ids
+  pub only : (x : Id) → Contains ids x → Member x
+  pub whole : (x : Id) → Member x → Contains ids x
+  pub after_reached : (x y : Id) → Contains ids x → Reaches m x y → ¬ Reaches m y x → Before ids y x
+  pub by_sequence : (x y : Id) → Contains ids x → Contains ids y → InOneComponent m x y → SequenceBefore m x y → Before ids x y
+
+abbrev pub IsLawful : List Instance → List Id → Type 0
+IsLawful m ids = IsLawfulFor m (IsReady m) ids

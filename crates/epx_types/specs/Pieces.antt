@@ -1,0 +1,25 @@
+-- How work is shared: plans, and the pieces into which a plan cuts items. Each piece has `cut` items, and the last one may have fewer.
+use Rattle.std.specs.Prelude.{ℕ, ◌≤◌, ◌+◌, ◌*◌, min}
+use Rattle.std.specs.Int.{div_ceil}
+
+-- a number of workers, and the number of items in a piece of work
+pub record Cutting : Type 0 where
+  pub workers : ℕ
+  pub cut : ℕ
+
+pub record IsWithinLimits (plan : Cutting) : Type 0 where
+  pub some_worker : 1 ≤ plan.workers
+  pub few_workers : plan.workers ≤ 64
+  pub some_item : 1 ≤ plan.cut
+  pub few_items : plan.cut ≤ 65536
+
+-- rounded up
+abbrev pub piece_count : ℕ → ℕ → ℕ
+piece_count cut items = div_ceil items cut
+
+abbrev pub piece_start : ℕ → ℕ → ℕ
+piece_start cut piece = piece * cut
+
+-- the item after the last one of the piece
+abbrev pub piece_end : ℕ → ℕ → ℕ → ℕ
+piece_end cut items piece = min ((piece + 1) * cut) items

@@ -1,0 +1,113 @@
+//! Keys of the store.
+ghost use Rattle.std.specs.Prelude.{◌≡◌, ◌≤◌, length, IfOk, IfSome, IfNone, IsSome, ◌↔◌, string_bytes};
+ghost use Rattle.epx_types.specs.Keys.{FitsKey};
+
+use crate::memory::Memory;
+use std::alloc::Global;
+use std::cmp::Ordering;
+use std::marker::Model;
+
+/// A key has at most this many bytes.
+pub const MAX_KEY_BYTES: usize = 64;
+
+/// A key of the store: a text of 1 to 64 bytes; ordered by bytes.
+#[derive(Debug, Drop)]
+pub struct Key {
+    text: String,
+}
+
+impl Model for Key {
+    ghost use Rattle.std.specs.Prelude.{List, ℕ, string_bytes};
+    ghost use Rattle.epx_types.specs.Keys.{FitsKey};
+
+    ghost Value = { List ℕ };
+
+    ghost view = { λ k. string_bytes k.text };
+
+    ghost invariant = { λ k. FitsKey (string_bytes k.text) };
+}
+
+impl Key {
+    /// None where the text is empty or longer than 64 bytes.
+    pub fn new(alloc: Global, text: &str) -> Result<Option<Key>, Memory>
+        ensures fits { IfOk result (λ o. IsSome o ↔ FitsKey text.now) }
+        ensures key { IfOk result (λ o. IfSome o (λ k. k ≡ text.now)) }
+    {
+        if text.is_empty() || text.len() > MAX_KEY_BYTES {
+            return Ok(None);
+        }
+        let text = String::from_str(alloc, text)?;
+        Ok(Some(Key { text }))
+    }
+
+    pub fn text(&self) -> &str
+        ensures text { result.now ≡ self.now }
+        ensures fits { FitsKey self.now }
+    {
+        self.text.as_str()
+    }
+
+    pub fn copy(&self) -> Result<Key, Memory>
+        ensures { IfOk result (λ k. k ≡ self.now) }
+    {
+        let text = self.text.clone()?;
+        Ok(Key { text })
+    }
+}
+
+impl PartialEq for Key {
+    ghost use Rattle.std.specs.Prelude.{ℕ};
+    ghost use Rattle.std.specs.Ordering.{nat_cmp, eq_by_cmp};
+    ghost use Rattle.std.specs.Cmp.Lexicographic.{slice_cmp};
+    ghost use Rattle.std.proofs.Common.{rules};
+    ghost use Rattle.std.specs.Cmp.Rules.{comparing};
+
+    ghost eq = { eq_by_cmp (slice_cmp nat_cmp) };
+
+    ghost laws = { Prim.search (comparing, rules) };
+
+    fn eq(&self, other: &Key) -> bool {
+        self.cmp(other).is_eq()
+    }
+}
+
+impl Eq for Key {
+    ghost use Rattle.std.proofs.Common.{rules};
+    ghost use Rattle.std.specs.Cmp.Rules.{comparing};
+
+    ghost laws = { Prim.search (comparing, rules) };
+}
+
+impl PartialOrd for Key {
+    ghost use Rattle.std.specs.Ordering.{nat_cmp, as_partial_cmp};
+    ghost use Rattle.std.specs.Cmp.Lexicographic.{slice_cmp};
+    ghost use Rattle.std.proofs.Common.{rules};
+    ghost use Rattle.std.specs.Cmp.Rules.{comparing};
+
+    ghost partial_cmp = { as_partial_cmp (slice_cmp nat_cmp) };
+
+    ghost laws = { Prim.search (comparing, rules) };
+
+    fn partial_cmp(&self, other: &Key) -> Option<Ordering> {
+        Some(self.cmp(other))
+    }
+}
+
+impl Ord for Key {
+    ghost use Rattle.std.specs.Ordering.{nat_cmp};
+    ghost use Rattle.std.specs.Cmp.Lexicographic.{slice_cmp};
+    ghost use Rattle.std.proofs.Common.{rules};
+    ghost use Rattle.std.specs.Cmp.Rules.{comparing};
+
+    ghost cmp = { slice_cmp nat_cmp };
+
+    ghost total = { Prim.search (comparing, rules) };
+
+    ghost matches_partial_cmp = { Prim.search (comparing, rules) };
+
+    ghost matches_eq = { Prim.search (comparing, rules) };
+
+    fn cmp(&self, other: &Key) -> Ordering {
+        self.text.as_bytes().cmp(&other.text.as_bytes())
+    }
+}

@@ -1,0 +1,28 @@
+//! The vocabulary of epx: instances and their Ids, keys and operations, commands and replies, places
+//! in logs, plans and faults. The definitions of the protocol, over which every crate above is
+//! proved, stand in `specs/`.
+#![tactic(auto)]
+
+pub mod command;
+pub mod entry;
+pub mod fault;
+pub mod id;
+pub mod key;
+pub mod memory;
+pub mod op;
+pub mod place;
+pub mod plan;
+pub mod reply;
+#[cfg(test)]
+mod tests;
+
+pub use command::Command;
+pub use entry::Entry;
+pub use fault::{Fault, Why};
+pub use id::Id;
+pub use key::Key;
+pub use memory::Memory;
+pub use op::Op;
+pub use place::Place;
+pub use plan::Plan;
+pub use reply::{Reply, Values};

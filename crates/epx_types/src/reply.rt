@@ -1,0 +1,40 @@
+//! Replies of commands.
+ghost use Rattle.std.specs.Prelude.{◌≡◌};
+
+use std::marker::Model;
+
+/// The values that a command's `get` operations read, in order; None for a key that was absent.
+#[derive(Debug, Drop)]
+pub struct Values {
+    items: Vec<Option<i64>>,
+}
+
+impl Model for Values {
+    ghost use Rattle.std.specs.Prelude.{List, ℤ, Option};
+
+    ghost Value = { List (Option ℤ) };
+
+    ghost view = { λ v. v.items.items };
+}
+
+impl Values {
+    pub fn new(items: Vec<Option<i64>>) -> Values
+        ensures { result ≡ items.items }
+    {
+        Values { items }
+    }
+
+    pub fn as_slice(&self) -> &[Option<i64>]
+        ensures { result.now ≡ self.now }
+    {
+        self.items.as_slice()
+    }
+}
+
+/// What a command answers.
+#[derive(Debug, Drop)]
+pub enum Reply {
+    Values(Values),
+    /// The place of the operation that aborted, counted from 0.
+    Abort(u64),
+}
