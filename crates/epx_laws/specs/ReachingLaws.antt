@@ -7,7 +7,7 @@ use Rattle.epx_types.specs.CommittedMap.{ids_of, IsCommitted}
 use Rattle.epx_types.specs.Reaching.{DependsOn, Reaches}
 use Rattle.epx_types.specs.Readiness.{IsReady, WaitsFor, LacksNothing}
 use Rattle.epx_types.specs.Components.{InOneComponent, IsLeader}
-use Rattle.epx_types.specs.Depth.{IsDepth}
+use Rattle.epx_types.specs.Depth.{IsDepth, FallsOneWay}
 use Rattle.epx_laws.specs.AtMostOne.{AtMostOne}
 
 -- committed instances alone depend on others, each on those that it lists

@@ -1,5 +1,5 @@
 -- What a command changes, and what its reply and its writes rest on.
-use Rattle.std.proofs.Common.{◌+◌, ◌<◌, length, take, arith, ◌≡◌, ◌⊎◌, ℕ, suc, ℤ, pos, ◌+ℤ◌, int_lt, Bool, true, false, List, [], ◌∷◌, ◌++◌, flat_map, Contains, Option, Some, None, unwrap_or, if◌then◌else◌, refl, sym, ap, ap₂, ◌∙◌, subst, inl, inr}
+use Rattle.std.proofs.Common.{◌+◌, ◌<◌, length, take, arith, ◌≡◌, ◌⊎◌, ◌≢◌, ℕ, suc, ℤ, pos, ◌+ℤ◌, int_lt, Bool, true, false, List, [], ◌∷◌, ◌++◌, map, flat_map, Contains, Option, Some, None, unwrap_or, if◌then◌else◌, refl, sym, ap, ap₂, ◌∙◌, subst, inl, inr}
 use Rattle.std.specs.FinMap as contents
 use Rattle.std.proofs.lemmas.List.Elements.{Contains-append_left, Contains-append_right}
 use Rattle.epx_types.specs.declared.op.Op.{Op}
@@ -10,9 +10,12 @@ use Rattle.epx_types.specs.Contents.{Contents, assign, AgreeOn, amount_at}
 use Rattle.epx_types.specs.Operations.{fits_i64, same_value, operate}
 use Rattle.epx_types.specs.Commands.{Outcome, unless_aborted, operate_all, command_on}
 use Rattle.epx_types.specs.CommandKeys.{touched_by, written_by, touched_keys, written_keys}
-use Rattle.epx_types.specs.Writes.{writes_by, writes_of, put_all}
+use Rattle.epx_types.specs.Keys.{KeyBelow}
+use Rattle.epx_types.specs.Writes.{Write, writes_by, writes_of, put_all, NoKeyTwice}
 use Rattle.epx_types.proofs.Membership.{Contains-nil, Contains-head, Contains-cons, Contains-from_map, map-agree}
-use Rattle.epx_types.proofs.KeyLists.{Contains-rising_keys, Contains-from_rising_keys, Contains-flat_map_within}
+use Rattle.epx_types.proofs.Places.{AllPairs-slice_get, AllPairs-from_slice_get, slice_get-from_map}
+use Rattle.epx_types.proofs.TotalOrders.{below_itself}
+use Rattle.epx_types.proofs.KeyLists.{key_cmp_total, AllPairs-rising_keys, Contains-rising_keys, Contains-from_rising_keys, Contains-flat_map_within}
 use Rattle.epx_types.proofs.ContentsLemmas.{same_contents, get-assign_cases, get-assign_agree, get-put_all}
 
 -- ---- what is written
@@ -104,6 +107,20 @@ writes_of-written ops c w = by (command_on ops c).reply (command_on ops c).after
   by (Values got) after h =
       let from = Contains-from_map (λ k. (k, contents.get after k)) (written_keys ops) w h in
       subst (Contains (written_keys ops)) (ap (λ p. p.0) from.2) from.1
+
+-- and each key once
+pub writes_of-apart : (ops : List Op) (c : Contents) → NoKeyTwice (writes_of ops c)
+writes_of-apart ops c = by (command_on ops c).reply (command_on ops c).after where
+  by : (reply : Reply) (after : Contents) → NoKeyTwice (writes_by reply ops after)
+  by (Abort j) after = λ i k d l h. absurd (omega arith)
+  by (Values got) after =
+      let write : List ℕ → Write = λ k. (k, contents.get after k) in
+      AllPairs-from_slice_get (λ v w. v.0 ≢ w.0) (map write (written_keys ops)) (λ i k v w l p q e.
+      let a = slice_get-from_map write (written_keys ops) i v p in
+      let b = slice_get-from_map write (written_keys ops) k w q in
+      let same : a.0 ≡ b.0 = ap (λ x. x.0) a.2 ∙ e ∙ sym (ap (λ x. x.0) b.2) in
+      let lower = AllPairs-slice_get KeyBelow (written_keys ops) (AllPairs-rising_keys (flat_map written_by ops)) i k a.0 b.0 l a.1 b.1 in
+      below_itself key_cmp_total a.0 (subst (KeyBelow a.0) (sym same) lower))
 
 -- ---- where a command aborts
 
