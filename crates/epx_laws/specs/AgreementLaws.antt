@@ -1,10 +1,10 @@
 -- Laws of what the lines of logs commit.
-use Rattle.std.specs.Prelude.{◌≡◌, ◌↔◌, List, Contains, Some}
+use Rattle.std.specs.Prelude.{◌≡◌, ◌↔◌, ℕ, List, Contains, Some, slice_get}
 use Rattle.epx_types.specs.declared.id.Id.{Id}
 use Rattle.epx_types.specs.Instances.{Instance}
 use Rattle.epx_types.specs.PlacedLines.{Placed, HavePlacesOfTheirOwn}
 use Rattle.epx_types.specs.Agreement.{Agree, IsFirstDisagreement}
-use Rattle.epx_types.specs.CommittedMap.{IsCommittedBy, ids_of, instance_of}
+use Rattle.epx_types.specs.CommittedMap.{ids_of, instance_of, position_of, IsCommittedBy}
 use Rattle.epx_types.specs.Ids.{IsRising}
 use Rattle.epx_laws.specs.AtMostOne.{AtMostOne}
 
@@ -28,3 +28,7 @@ FirstDisagreementIsOne = (lines : List Placed) → HavePlacesOfTheirOwn lines �
 -- the instance that a look-up finds is the one of that Id
 abbrev pub LookUpFindsInstance : Type 0
 LookUpFindsInstance = (m : List Instance) → IsRising (ids_of m) → (x : Id) (e : Instance) → (instance_of m x ≡ Some e) ↔ Contains m e × (e.id ≡ x)
+
+-- the position of an Id is the place at which its instance stands
+abbrev pub PositionIsWhereItStands : Type 0
+PositionIsWhereItStands = (m : List Instance) → IsRising (ids_of m) → (x : Id) (i : ℕ) → (position_of m x ≡ Some i) ↔ (e : Instance) × (slice_get m i ≡ Some e) × (e.id ≡ x)

@@ -6,7 +6,7 @@ use Rattle.epx_types.specs.Keys.{KeyBelow, rising_keys}
 use Rattle.epx_types.specs.Contents.{Contents, AgreeOn}
 use Rattle.epx_types.specs.Commands.{command_on}
 use Rattle.epx_types.specs.CommandKeys.{touched_keys, written_keys}
-use Rattle.epx_types.specs.Writes.{writes_of, put_all}
+use Rattle.epx_types.specs.Writes.{Write, writes_of, put_all, NoKeyTwice}
 
 -- a command's writes, put into the contents, give the contents after it
 abbrev pub WritesGiveAfter : Type 0
@@ -22,7 +22,11 @@ AbortNamesPlace = (ops : List Op) (c : Contents) (j : ℕ) → (command_on ops c
     (j < length ops) × ((reads : List (Option ℤ)) × ((command_on (take j ops) c).reply ≡ Values reads))
 
 abbrev pub WritesNameWrittenKeys : Type 0
-WritesNameWrittenKeys = (ops : List Op) (c : Contents) (w : List ℕ × Option ℤ) → Contains (writes_of ops c) w → Contains (written_keys ops) w.0
+WritesNameWrittenKeys = (ops : List Op) (c : Contents) (w : Write) → Contains (writes_of ops c) w → Contains (written_keys ops) w.0
+
+-- a command writes no key twice
+abbrev pub WritesAreApart : Type 0
+WritesAreApart = (ops : List Op) (c : Contents) → NoKeyTwice (writes_of ops c)
 
 -- over contents that agree on the touched keys a command gives the same reply and the same writes
 abbrev pub TouchedKeysDecide : Type 0

@@ -3,6 +3,7 @@ use Rattle.std.specs.Prelude.{◌≡◌, ◌↔◌, [], List, Contains}
 use Rattle.epx_types.specs.declared.id.Id.{Id}
 use Rattle.epx_types.specs.Instances.{Instance}
 use Rattle.epx_types.specs.CommittedMap.{ids_of}
+use Rattle.epx_types.specs.Reaching.{DependsOn}
 use Rattle.epx_types.specs.Done.{remaining}
 
 -- where nothing is done the whole map is left
@@ -12,3 +13,7 @@ NothingDoneLeavesAll = (m : List Instance) → remaining [] m ≡ m
 -- what is left has the Ids that are not done
 abbrev pub LeftIsNotDone : Type 0
 LeftIsNotDone = (done : List Id) (m : List Instance) (x : Id) → Contains (ids_of (remaining done m)) x ↔ Contains (ids_of m) x × (¬ Contains done x)
+
+-- what is left depends on what it depended on and is not done
+abbrev pub LeftDependsOnLeft : Type 0
+LeftDependsOnLeft = (done : List Id) (m : List Instance) (x y : Id) → DependsOn (remaining done m) x y ↔ DependsOn m x y × (¬ Contains done x) × (¬ Contains done y)

@@ -1,8 +1,10 @@
 -- Laws of execution orders.
-use Rattle.std.specs.Prelude.{◌≡◌, List, map, Contains}
+use Rattle.std.specs.Prelude.{◌≡◌, ◌≢◌, List, map, length, Contains, AllPairs}
+use Rattle.epx_types.specs.declared.id.Id.{Id}
 use Rattle.epx_types.specs.Instances.{Instance}
-use Rattle.epx_types.specs.ExecutionOrder.{Ranked, IsExecutionOrder}
-use Rattle.epx_types.specs.LawfulOrders.{IsLawful}
+use Rattle.epx_types.specs.Reaching.{Reaches}
+use Rattle.epx_types.specs.ExecutionOrder.{Ranked, IsExecutionOrder, component_count}
+use Rattle.epx_types.specs.LawfulOrders.{Before, IsLawful}
 use Rattle.epx_laws.specs.AtMostOne.{AtMostOne}
 
 abbrev pub ExecutionOrderIsOne : Type 0
@@ -15,3 +17,22 @@ ExecutionOrderIsLawful = (m : List Instance) (order : List Ranked) → IsExecuti
 abbrev pub LeadersStandInOrder : Type 0
 LeadersStandInOrder = (m : List Instance) (order : List Ranked) → IsExecutionOrder m order → (r : Ranked) → Contains order r →
     (l : Ranked) × Contains order l × (l.id ≡ r.leader) × (l.leader ≡ l.id)
+
+-- the leaders of an order: each once, each leads some instance, each leader is among them, and they are as many as the components
+pub record AreLeaders (order : List Ranked) (leaders : List Id) : Type 0 where
+  pub once : AllPairs (λ x y. x ≢ y) leaders
+  pub lead : (x : Id) → Contains leaders x → (r : Ranked) × Contains order r × (r.leader ≡ x)
+  pub whole : (r : Ranked) → Contains order r → Contains leaders r.leader
+  pub counted : length leaders ≡ component_count order
+
+abbrev pub ComponentsAreCounted : Type 0
+ComponentsAreCounted = (m : List Instance) (order : List Ranked) → IsExecutionOrder m order → (leaders : List Id) × AreLeaders order leaders
+
+-- x stands before y in this order too, where one reaches the other
+pub record StandsAlike (m : List Instance) (ids : List Id) (x y : Id) : Type 0 where
+  pub there : Reaches m x y → Before ids x y
+  pub back : Reaches m y x → Before ids x y
+
+-- of two instances of which one reaches the other, the same one stands first in all lawful orders
+abbrev pub RelatedStandAlike : Type 0
+RelatedStandAlike = (m : List Instance) (ids other : List Id) → IsLawful m ids → IsLawful m other → (x y : Id) → Before ids x y → StandsAlike m other x y

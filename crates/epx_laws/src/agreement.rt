@@ -1,5 +1,5 @@
 //! Laws of what the lines of logs commit.
-ghost use Rattle.epx_laws.specs.AgreementLaws.{CommittedMapIsOne, CommittedLinesAgree, DisagreementIsNoAgreement, FirstDisagreementIsOne, LookUpFindsInstance};
+ghost use Rattle.epx_laws.specs.AgreementLaws.{PositionIsWhereItStands, CommittedMapIsOne, CommittedLinesAgree, DisagreementIsNoAgreement, FirstDisagreementIsOne, LookUpFindsInstance};
 
 /// Lines have one committed map.
 pub fn committed_map_is_one()
@@ -24,4 +24,9 @@ pub fn first_disagreement_is_one()
 /// The instance that a look-up finds is the one of that Id.
 pub fn look_up_finds_instance()
     ensures { LookUpFindsInstance }
+{}
+
+/// The position of an Id is the place at which its instance stands.
+pub fn position_is_where_it_stands()
+    ensures { PositionIsWhereItStands }
 {}

@@ -1,5 +1,5 @@
 //! Laws of what commands read and write.
-ghost use Rattle.epx_laws.specs.CommandLaws.{WritesGiveAfter, AbortLeavesContents, AbortNamesPlace, WritesNameWrittenKeys, TouchedKeysDecide, KeysRise};
+ghost use Rattle.epx_laws.specs.CommandLaws.{WritesGiveAfter, AbortLeavesContents, AbortNamesPlace, WritesNameWrittenKeys, WritesAreApart, TouchedKeysDecide, KeysRise};
 
 /// A command's writes, put into the contents one after another, give the contents after it.
 pub fn writes_give_after()
@@ -19,6 +19,11 @@ pub fn abort_names_place()
 /// A command's writes name its written keys alone.
 pub fn writes_name_written_keys()
     ensures { WritesNameWrittenKeys }
+{}
+
+/// A command writes no key twice.
+pub fn writes_are_apart()
+    ensures { WritesAreApart }
 {}
 
 /// Over contents that agree on its touched keys a command gives the same reply and the same writes.

@@ -1,5 +1,5 @@
 //! Laws of execution orders.
-ghost use Rattle.epx_laws.specs.OrderLaws.{ExecutionOrderIsOne, ExecutionOrderIsLawful, LeadersStandInOrder};
+ghost use Rattle.epx_laws.specs.OrderLaws.{ComponentsAreCounted, RelatedStandAlike, ExecutionOrderIsOne, ExecutionOrderIsLawful, LeadersStandInOrder};
 
 /// A map has one execution order.
 pub fn execution_order_is_one()
@@ -14,4 +14,14 @@ pub fn execution_order_is_lawful()
 /// The leader of each instance of an execution order stands there, with itself as its leader.
 pub fn leaders_stand_in_order()
     ensures { LeadersStandInOrder }
+{}
+
+/// Of two instances of which one reaches the other, the same one stands first in all lawful orders.
+pub fn related_stand_alike()
+    ensures { RelatedStandAlike }
+{}
+
+/// The number of components of an execution order is that of its distinct leaders.
+pub fn components_are_counted()
+    ensures { ComponentsAreCounted }
 {}

@@ -8,12 +8,12 @@ use Rattle.epx_types.specs.PlacedLines.{place_cmp}
 use Rattle.epx_types.specs.ExecutionOrder.{rank_cmp}
 
 -- both comparisons tie
-then_first : (r s : Ordering) → ordering_then r s ≡ Equal → r ≡ Equal
+pub then_first : (r s : Ordering) → ordering_then r s ≡ Equal → r ≡ Equal
 then_first Less s e = cc e
 then_first Equal s e = refl
 then_first Greater s e = cc e
 
-then_second : (r s : Ordering) → ordering_then r s ≡ Equal → s ≡ Equal
+pub then_second : (r s : Ordering) → ordering_then r s ≡ Equal → s ≡ Equal
 then_second Less s e = absurd (cc e)
 then_second Equal s e = e
 then_second Greater s e = absurd (cc e)

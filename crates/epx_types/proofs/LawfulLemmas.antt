@@ -1,0 +1,128 @@
+-- Related instances stand alike in all lawful orders.
+use Rattle.std.proofs.Common.{◌≡◌, ◌≢◌, ◌⊎◌, ℕ, List, Contains, AllPairs, Some, slice_get, refl, sym, ap, ◌∙◌, inl, inr, arith}
+use Rattle.std.specs.Cmp.{IsTotalOrder, nat_cmp_total, on_total, then_total}
+use Rattle.std.specs.Ordering.{nat_cmp, ordering_then}
+use Rattle.std.specs.declared.cmp.Ordering.{Ordering}
+use Rattle.std.specs.FinMap.{IsAntisymmetric, nat_cmp-IsAntisymmetric}
+use Rattle.std.proofs.lemmas.Bool.{cases_lt}
+use Rattle.epx_types.specs.declared.id.Id.{Id}
+use Rattle.epx_types.specs.Ids.{id_cmp}
+use Rattle.epx_types.specs.Instances.{Instance}
+use Rattle.epx_types.specs.Reaching.{Reaches}
+use Rattle.epx_types.specs.Components.{InOneComponent}
+use Rattle.epx_types.specs.LawfulOrders.{Before, SequenceBefore, IsLawful}
+use Rattle.epx_types.proofs.Membership.{Contains-from_map}
+use Rattle.epx_types.proofs.Places.{Contains-slice_get, slice_get-from_Contains, AllPairs-slice_get}
+use Rattle.epx_types.proofs.TotalOrders.{below_cases}
+use Rattle.epx_types.proofs.Comparisons.{id_cmp_total, id_cmp-IsAntisymmetric, then_first, then_second}
+
+-- by sequence number, then by Id
+abbrev sequence_cmp : ℕ × Id → ℕ × Id → Ordering
+sequence_cmp a b = ordering_then (nat_cmp a.0 b.0) (id_cmp a.1 b.1)
+
+sequence_cmp_total : IsTotalOrder sequence_cmp
+sequence_cmp_total = then_total (on_total (λ (a : ℕ × Id). a.0) nat_cmp_total) (on_total (λ (a : ℕ × Id). a.1) id_cmp_total)
+
+sequence_cmp-IsAntisymmetric : IsAntisymmetric sequence_cmp
+sequence_cmp-IsAntisymmetric a b e =
+    let seq = nat_cmp-IsAntisymmetric a.0 b.0 (then_first _ _ e) in
+    let id = id_cmp-IsAntisymmetric a.1 b.1 (then_second _ _ e) in
+    λ i. (seq i, id i)
+
+module _ (ids : List Id) (once : AllPairs (λ x y. x ≢ y) ids) where
+  -- where each stands once, two places of one Id are one place
+  same_place : (i j : ℕ) (x : Id) → slice_get ids i ≡ Some x → slice_get ids j ≡ Some x → i ≡ j
+  same_place i j x p q =
+      elim (cases_lt i j) [
+        | inl l ↦ absurd (AllPairs-slice_get (λ v w. v ≢ w) ids once i j x x l p q refl)
+        | inr k ↦ elim (cases_lt j i) [
+          | inl l ↦ absurd (AllPairs-slice_get (λ v w. v ≢ w) ids once j i x x l q p refl)
+          | inr l ↦ omega arith
+        ]
+      ]
+
+  -- of two Ids one alone stands before the other
+  pub Before-not_both : (x y : Id) → Before ids x y → ¬ Before ids y x
+  Before-not_both x y (i, j, l, p, q) (k, n, l', p', q') =
+      let first = same_place i n x p q' in
+      let second = same_place j k y q p' in
+      omega arith
+
+-- of two different Ids of a list one stands before the other
+pub Before-cases : (ids : List Id) (x y : Id) → Contains ids x → Contains ids y → x ≢ y → Before ids x y ⊎ Before ids y x
+Before-cases ids x y in_x in_y differ =
+    let a = slice_get-from_Contains ids x in_x in
+    let b = slice_get-from_Contains ids y in_y in
+    elim (cases_lt a.0 b.0) [
+      | inl l ↦ inl (a.0, b.0, l, a.1, b.1)
+      | inr k ↦ elim (cases_lt b.0 a.0) [
+        | inl l ↦ inr (b.0, a.0, l, b.1, a.1)
+        | inr l ↦ absurd (differ (by a.0 b.0 (omega arith) a.1 b.1))
+      ]
+    ]
+  where
+    by : (i j : ℕ) → i ≡ j → slice_get ids i ≡ Some x → slice_get ids j ≡ Some y → x ≡ y
+    by i j e p q = let same : Some x ≡ Some y = sym p ∙ ap (slice_get ids) e ∙ q in cc
+
+-- an Id that stands before another is none of it
+Before-differ : (ids : List Id) → AllPairs (λ x y. x ≢ y) ids → (x y : Id) → Before ids x y → x ≢ y
+Before-differ ids once x y (i, j, l, p, q) = AllPairs-slice_get (λ v w. v ≢ w) ids once i j x y l p q
+
+Before-in_second : (ids : List Id) (x y : Id) → Before ids x y → Contains ids y
+Before-in_second ids x y (i, j, l, p, q) = Contains-slice_get ids j y q
+
+Before-in_first : (ids : List Id) (x y : Id) → Before ids x y → Contains ids x
+Before-in_first ids x y (i, j, l, p, q) = Contains-slice_get ids i x p
+
+module _ (m : List Instance) (ids : List Id) (lawful : IsLawful m ids) where
+  -- of two different members one has the lower sequence number, or the same one and the lower Id
+  SequenceBefore-cases : (x y : Id) → Contains ids x → Contains ids y → x ≢ y → SequenceBefore m x y ⊎ SequenceBefore m y x
+  SequenceBefore-cases x y in_x in_y differ =
+      let d = Contains-from_map (λ (e : Instance). e.id) m x (lawful.only x in_x).committed in
+      let e = Contains-from_map (λ (e : Instance). e.id) m y (lawful.only y in_y).committed in
+      elim (below_cases sequence_cmp_total sequence_cmp-IsAntisymmetric (d.0.seq, x) (e.0.seq, y)) [
+        | inl l ↦ inl (d.0, e.0, d.1, d.2, e.1, e.2, l)
+        | inr (inl same) ↦ absurd (differ (ap (λ (a : ℕ × Id). a.1) same))
+        | inr (inr l) ↦ inr (e.0, d.0, e.1, e.2, d.1, d.2, l)
+      ]
+
+-- what stands one way in one lawful order and is reached stands so in each
+module _ (m : List Instance) (ids other : List Id) (lawful : IsLawful m ids) (lawful' : IsLawful m other) (x y : Id) (before : Before ids x y) where
+  in_x : Contains ids x
+  in_x = Before-in_first ids x y before
+
+  in_y : Contains ids y
+  in_y = Before-in_second ids x y before
+
+  differ : x ≢ y
+  differ = Before-differ ids lawful.once x y before
+
+  in_other_x : Contains other x
+  in_other_x = lawful'.whole x (lawful.only x in_x)
+
+  in_other_y : Contains other y
+  in_other_y = lawful'.whole y (lawful.only y in_y)
+
+  -- members of one component stand alike
+  not_turned : InOneComponent m x y → ¬ Before other y x
+  not_turned one turned =
+      elim (SequenceBefore-cases m ids lawful x y in_x in_y differ) [
+        | inl lower ↦ Before-not_both other lawful'.once y x turned (lawful'.by_sequence x y in_other_x in_other_y one lower)
+        | inr lower ↦ Before-not_both ids lawful.once x y before (lawful.by_sequence y x in_y in_x (one.1, one.0) lower)
+      ]
+
+  -- where the first reaches the second
+  pub Before-alike_reaching : Reaches m x y → Before other x y
+  Before-alike_reaching there =
+      elim (Before-cases other x y in_other_x in_other_y differ) [
+        | inl so ↦ so
+        | inr turned ↦ absurd (Before-not_both ids lawful.once x y before (lawful.after_reached x y in_x there (λ back. not_turned (there, back) turned)))
+      ]
+
+  -- where the second reaches the first
+  pub Before-alike_reached : Reaches m y x → Before other x y
+  Before-alike_reached back =
+      elim (Before-cases other x y in_other_x in_other_y differ) [
+        | inl so ↦ so
+        | inr turned ↦ absurd (Before-not_both other lawful'.once y x turned (lawful'.after_reached y x in_other_y back (λ there. not_turned (there, back) turned)))
+      ]

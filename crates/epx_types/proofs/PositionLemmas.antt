@@ -1,0 +1,58 @@
+-- The place of an instance in the committed map.
+use Rattle.std.proofs.Common.{◌≡◌, inl, inr, ◌<◌, ℕ, zero, suc, Bool, true, false, List, [], ◌∷◌, length, get_or, position, Some, slice_get, nat_lt, is_eq, refl, sym, ap, ◌∙◌, subst, arith}
+use Rattle.std.specs.Cmp.{Equal-is, tied_itself}
+use Rattle.std.specs.List.{position_or_len}
+use Rattle.std.proofs.lemmas.Bool.{cases_Bool}
+use Rattle.std.proofs.lemmas.Bool.Decides.{nat_tests}
+use Rattle.std.proofs.lemmas.List.Quantifiers.{position-Some}
+use Rattle.std.proofs.lemmas.Option.{slice_get_within, slice_get-get_or}
+use Rattle.epx_types.specs.declared.id.Id.{Id}
+use Rattle.epx_types.specs.Ids.{id_cmp, Below, IsRising}
+use Rattle.epx_types.specs.Instances.{Instance}
+use Rattle.epx_types.specs.CommittedMap.{ids_of, position_of}
+use Rattle.epx_types.proofs.Places.{AllPairs-slice_get, slice_get-map}
+use Rattle.epx_types.proofs.Rising.{AllPairs-from_IsRising}
+use Rattle.epx_types.proofs.TotalOrders.{below_itself}
+use Rattle.epx_types.proofs.Comparisons.{id_cmp_total, id_cmp-IsAntisymmetric}
+
+-- the first place at which a test passes
+first_place : {X : Type 0} (p : X → Bool) (xs : List X) (i : ℕ) (x : X) → slice_get xs i ≡ Some x → p x ≡ true → ((k : ℕ) (y : X) → k < i → slice_get xs k ≡ Some y → p y ≡ false) → position_or_len p xs ≡ i
+first_place p [] i x at passes earlier = absurd (cc at)
+first_place p (y ∷ xs) zero x at passes earlier =
+    let same : y ≡ x = cc at in
+    let here : p y ≡ true = ap p same ∙ passes in
+    rw here refl
+first_place p (y ∷ xs) (suc i) x at passes earlier =
+    let not_here : p y ≡ false = earlier 0 y (omega arith) refl in
+    let rest = first_place p xs i x at passes (λ k z l e. earlier (suc k) z (omega arith) e) in
+    rw not_here (omega (arith, rest))
+
+position_first : {X : Type 0} (p : X → Bool) (xs : List X) (i : ℕ) (x : X) → slice_get xs i ≡ Some x → p x ≡ true → ((k : ℕ) (y : X) → k < i → slice_get xs k ≡ Some y → p y ≡ false) → position p xs ≡ Some i
+position_first p xs i x at passes earlier =
+    let within : i < length xs = slice_get_within xs i x at in
+    let test : nat_lt i (length xs) ≡ true = grind (arith, nat_tests) in
+    rw (first_place p xs i x at passes earlier) (rw test refl)
+
+-- a place that is found is where the instance of that Id stands
+pub position_of-stands : (m : List Instance) (x : Id) (i : ℕ) → position_of m x ≡ Some i → (e : Instance) × (slice_get m i ≡ Some e) × (e.id ≡ x)
+position_of-stands m x i found =
+    let none : Instance = record { id = x; seq = 0; deps = []; ops = [] } in
+    let at = position-Some (λ (e : Instance). is_eq (id_cmp e.id x)) m i none found in
+    (get_or m i none, slice_get-get_or m i none at.0, id_cmp-IsAntisymmetric (get_or m i none).id x ((Equal-is (id_cmp (get_or m i none).id x)).0 at.1))
+
+-- and where it stands is the place that is found
+pub position_of-found : (m : List Instance) → IsRising (ids_of m) → (x : Id) (i : ℕ) (e : Instance) → slice_get m i ≡ Some e → e.id ≡ x → position_of m x ≡ Some i
+position_of-found m rising x i e at is =
+    position_first (λ (d : Instance). is_eq (id_cmp d.id x)) m i e at (tied e.id is) (λ k d l before. not_yet d (AllPairs-slice_get Below (ids_of m) (AllPairs-from_IsRising (ids_of m) rising) k i d.id e.id l (slice_get-map (λ (c : Instance). c.id) m k d before) (slice_get-map (λ (c : Instance). c.id) m i e at)))
+  where
+    tied : (y : Id) → y ≡ x → is_eq (id_cmp y x) ≡ true
+    tied y same = ap (λ z. is_eq (id_cmp z x)) same ∙ ap is_eq (tied_itself id_cmp_total x)
+
+    not_yet : (d : Instance) → Below d.id e.id → is_eq (id_cmp d.id x) ≡ false
+    not_yet d below =
+        elim (cases_Bool (is_eq (id_cmp d.id x))) [
+          | inl here ↦
+              let same : d.id ≡ e.id = id_cmp-IsAntisymmetric d.id x ((Equal-is (id_cmp d.id x)).0 here) ∙ sym is in
+              absurd (below_itself id_cmp_total d.id (subst (Below d.id) (sym same) below))
+          | inr other ↦ other
+        ]
