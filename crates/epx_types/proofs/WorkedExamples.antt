@@ -84,6 +84,15 @@ absence_is_not_0 = (simp at_empty, simp at_empty)
 a_value_is_not_absence : Gives (Is a None ∷ []) five (Abort 0) []
 a_value_is_not_absence = (simp (at_insert, at_empty), simp (at_insert, at_empty))
 
+a_value_is_itself : Gives (Is a (Some (pos 5)) ∷ []) five (Values []) []
+a_value_is_itself = (simp (at_insert, at_empty), simp (at_insert, at_empty))
+
+a_value_is_no_lower_one : Gives (Is a (Some (pos 4)) ∷ []) five (Abort 0) []
+a_value_is_no_lower_one = (simp (at_insert, at_empty), simp (at_insert, at_empty))
+
+a_value_is_no_greater_one : Gives (Is a (Some (pos 6)) ∷ []) five (Abort 0) []
+a_value_is_no_greater_one = (simp (at_insert, at_empty), simp (at_insert, at_empty))
+
 a_floor_is_reached_by_its_own_value : Gives (Floor a (pos 5) ∷ []) five (Values []) []
 a_floor_is_reached_by_its_own_value = (simp (at_insert, at_empty), simp (at_insert, at_empty))
 

@@ -63,13 +63,15 @@ impl Entry {
     }
 
     pub fn deps(&self) -> &[Id]
-        ensures { result.now ≡ self.now.deps }
+        ensures deps { result.now ≡ self.now.deps }
+        ensures fits { IsWellFormed self.now }
     {
         self.deps.as_slice()
     }
 
     pub fn ops(&self) -> &[Op]
-        ensures { result.now ≡ self.now.ops }
+        ensures ops { result.now ≡ self.now.ops }
+        ensures fits { IsWellFormed self.now }
     {
         self.ops.as_slice()
     }

@@ -1,0 +1,25 @@
+//! Times the layers of epx. With no word it only names the words that it takes, so that what it
+//! prints is the same on every run; `lines`, `merge` and `apply` print the least of nine times, in
+//! microseconds.
+#![tactic(auto)]
+
+mod apply;
+mod lines;
+mod merge;
+
+use epx_types::Memory;
+use std::env;
+
+fn main(rt: HostRuntime) -> Result<(), Memory> {
+    let Ok(mut words) = env::args(&rt) else {
+        return Err(Memory);
+    };
+    let _name = words.next();
+    let word = words.next();
+    match word.as_deref() {
+        Some("lines") => lines::measure(&rt),
+        Some("merge") => merge::measure(&rt),
+        Some("apply") => apply::measure(&rt),
+        _ => println!(rt; "words: lines, merge, apply").map_err(|_| Memory),
+    }
+}

@@ -1,0 +1,132 @@
+-- Elements of a parsed array, one after another, beside what the definitions read of them.
+use Rattle.std.proofs.Common.{◌≡◌, ℕ, suc, ◌+◌, ◌<◌, ◌≤◌, List, [], ◌∷◌, ◌++◌, length, get_or, drop, map, filter, fold, Option, Some, None, option_map, option_and_then, refl, sym, ap, ◌∙◌, arith}
+use Rattle.std.proofs.lemmas.Bool.Decides.{nat_tests}
+use Rattle.std.proofs.lemmas.List.{drop_more}
+use Rattle.serde_json.specs.Data.{Data}
+use Rattle.serde_json.specs.Find.{as_array}
+use Rattle.serde_json.specs.View.{view, items_view}
+use Rattle.serde_json.specs.declared.value.Value.{Value}
+use Rattle.epx_types.specs.declared.id.Id.{Id}
+use Rattle.epx_types.specs.declared.op.Op.{Op}
+use Rattle.epx_lines.specs.Elements.{list_of, every, at_most}
+use Rattle.std.specs.BTreeSet.{insert_key}
+use Rattle.epx_types.specs.Ids.{id_cmp}
+use Rattle.epx_lines.specs.DependencyList.{is_other, rising_others, id_of, id_of_pair, deps_of}
+use Rattle.epx_lines.specs.OperationList.{op_of, op_of_list, ops_of}
+
+-- ---- an array's elements are those of the vector
+
+pub list_of-items_view : (vs : List Value) → list_of (items_view vs) ≡ map view vs
+list_of-items_view [] = refl
+list_of-items_view (v ∷ vs) = ap (λ ds. view v ∷ ds) (list_of-items_view vs)
+
+length-list_of : (vs : List Value) → length (list_of (items_view vs)) ≡ length vs
+length-list_of [] = refl
+length-list_of (v ∷ vs) = ap suc (length-list_of vs)
+
+-- ---- lists of the wrong length are no pair and no operation
+
+no_pair : (vs : List Value) → length vs < 2 → id_of_pair (list_of (items_view vs)) ≡ None
+no_pair [] l = refl
+no_pair (a ∷ []) l = refl
+no_pair (a ∷ b ∷ vs) l = absurd (omega arith)
+
+no_pair_of_more : (vs : List Value) → 3 ≤ length vs → id_of_pair (list_of (items_view vs)) ≡ None
+no_pair_of_more [] l = absurd (omega arith)
+no_pair_of_more (a ∷ []) l = absurd (omega arith)
+no_pair_of_more (a ∷ b ∷ []) l = absurd (omega arith)
+no_pair_of_more (a ∷ b ∷ c ∷ vs) l = refl
+
+pub id_of_short : (d : Data) (vs : List Value) → Some (items_view vs) ≡ as_array d → length vs < 2 → None ≡ id_of d
+unfolding id_of
+id_of_short d vs e l = rw (← e) (sym (no_pair vs l))
+
+pub id_of_long : (d : Data) (vs : List Value) → Some (items_view vs) ≡ as_array d → 3 ≤ length vs → None ≡ id_of d
+unfolding id_of
+id_of_long d vs e l = rw (← e) (sym (no_pair_of_more vs l))
+
+no_op : (vs : List Value) → length vs < 2 → op_of_list (list_of (items_view vs)) ≡ None
+no_op [] l = refl
+no_op (a ∷ []) l = refl
+no_op (a ∷ b ∷ vs) l = absurd (omega arith)
+
+no_op_of_more : (vs : List Value) → 4 ≤ length vs → op_of_list (list_of (items_view vs)) ≡ None
+no_op_of_more [] l = absurd (omega arith)
+no_op_of_more (a ∷ []) l = absurd (omega arith)
+no_op_of_more (a ∷ b ∷ []) l = absurd (omega arith)
+no_op_of_more (a ∷ b ∷ c ∷ []) l = absurd (omega arith)
+no_op_of_more (a ∷ b ∷ c ∷ e ∷ vs) l = refl
+
+pub op_of_short : (d : Data) (vs : List Value) → Some (items_view vs) ≡ as_array d → length vs < 2 → None ≡ op_of d
+unfolding op_of
+op_of_short d vs e l = rw (← e) (sym (no_op vs l))
+
+pub op_of_long : (d : Data) (vs : List Value) → Some (items_view vs) ≡ as_array d → 4 ≤ length vs → None ≡ op_of d
+unfolding op_of
+op_of_long d vs e l = rw (← e) (sym (no_op_of_more vs l))
+
+-- ---- arrays with too many elements, and the others
+
+pub at_most-within : {A : Type 0} (n : ℕ) (xs : List A) → length xs ≤ n → at_most n xs ≡ Some xs
+at_most-within n xs l = grind (arith, nat_tests)
+
+at_most-past : {A : Type 0} (n : ℕ) (xs : List A) → n < length xs → at_most n xs ≡ None
+at_most-past n xs l = grind (arith, nat_tests)
+
+every-list_of : {B : Type 0} (f : Data → Option B) (vs : List Value) → every f (list_of (items_view vs)) ≡ every (λ v. f (view v)) vs
+every-list_of f [] = refl
+every-list_of f (v ∷ vs) = ap (λ o. option_and_then (λ y. option_map (λ ys. y ∷ ys) o) (f (view v))) (every-list_of f vs)
+
+some_elements : {B : Type 0} (f : Data → Option B) (n : ℕ) (vs : List Value) → length vs ≤ n → option_and_then (every f) (at_most n (list_of (items_view vs))) ≡ every (λ v. f (view v)) vs
+some_elements f n vs l = ap (option_and_then (every f)) (at_most-within n _ (omega (arith, length-list_of vs))) ∙ every-list_of f vs
+
+too_many : {B : Type 0} (f : Data → Option B) (n : ℕ) (vs : List Value) → n < length vs → option_and_then (every f) (at_most n (list_of (items_view vs))) ≡ None
+too_many f n vs l = ap (option_and_then (every f)) (at_most-past n _ (omega (arith, length-list_of vs)))
+
+pub deps_of_many : (self : Id) (d : Data) (vs : List Value) → Some (items_view vs) ≡ as_array d → 256 < length vs → None ≡ deps_of self d
+unfolding deps_of
+deps_of_many self d vs e l = rw (← e, too_many id_of 256 vs l)
+
+pub ops_of_many : (d : Data) (vs : List Value) → Some (items_view vs) ≡ as_array d → 64 < length vs → None ≡ ops_of d
+unfolding ops_of
+ops_of_many d vs e l = rw (← e, too_many op_of 64 vs l)
+
+pub ops_of_some : (d : Data) (vs : List Value) → Some (items_view vs) ≡ as_array d → length vs ≤ 64 → ops_of d ≡ every (λ v. op_of (view v)) vs
+unfolding ops_of
+ops_of_some d vs e l = rw (← e) (some_elements op_of 64 vs l)
+
+pub deps_of_some : (self : Id) (d : Data) (vs : List Value) → Some (items_view vs) ≡ as_array d → length vs ≤ 256 → deps_of self d ≡ option_map (rising_others self) (every (λ v. id_of (view v)) vs)
+unfolding deps_of
+deps_of_some self d vs e l = rw (← e) (ap (option_map (rising_others self)) (some_elements id_of 256 vs l))
+
+same_option : {A : Type 0} (o : Option A) → o ≡ option_map (λ x. x) o
+same_option None = refl
+same_option (Some x) = refl
+
+-- the Ids found so far, with the others among these each put at its place, unless it is there
+abbrev pub with_others : Id → List Id → List Id → List Id
+with_others self found ids = fold (insert_key id_cmp) found (filter (is_other self) ids)
+
+-- before the first element
+pub ops_begin : (d : Data) (vs items : List Value) (ops : List Op) → Some (items_view vs) ≡ as_array d → length vs ≤ 64 → items ≡ vs → ops ≡ [] → ops_of d ≡ option_map (λ more. ops ++ more) (every (λ v. op_of (view v)) (drop 0 items))
+ops_begin d vs items ops e l same none = rw (same, none) (ops_of_some d vs e l ∙ same_option _)
+
+pub deps_begin : (self : Id) (d : Data) (vs items : List Value) (found : List Id) → Some (items_view vs) ≡ as_array d → length vs ≤ 256 → items ≡ vs → found ≡ [] → deps_of self d ≡ option_map (with_others self found) (every (λ v. id_of (view v)) (drop 0 items))
+deps_begin self d vs items found e l same none = rw (same, none) (deps_of_some self d vs e l)
+
+-- ---- a loop over the elements: `ahead` takes what the rest gives, `later` what it gives without its head
+
+module _ {A B C : Type 0} (f : A → Option B) where
+  heads : (o : Option (List B)) (y : B) (ahead later : List B → C) → ((ys : List B) → ahead (y ∷ ys) ≡ later ys) → option_map ahead (option_map (λ ys. y ∷ ys) o) ≡ option_map later o
+  heads None y ahead later same = refl
+  heads (Some ys) y ahead later same = ap Some (same ys)
+
+  -- the next element gives y
+  pub every-more : (xs : List A) (i : ℕ) (x : A) (y : B) (ahead later : List B → C) → i < length xs → x ≡ get_or xs i x → f x ≡ Some y → ((ys : List B) → ahead (y ∷ ys) ≡ later ys)
+      → option_map ahead (every f (drop i xs)) ≡ option_map later (every f (drop (i + 1) xs))
+  every-more xs i x y ahead later l here gives same =
+      rw (drop_more xs i x l, ← here, gives) (heads (every f (drop (i + 1) xs)) y ahead later same)
+
+-- the next element gives nothing
+pub every-stop : {A B : Type 0} (f : A → Option B) (xs : List A) (i : ℕ) (x : A) → i < length xs → x ≡ get_or xs i x → f x ≡ None → every f (drop i xs) ≡ None
+every-stop f xs i x l here gives = rw (drop_more xs i x l, ← here, gives)

@@ -1,0 +1,11 @@
+pub mod Elements
+pub mod FirstLine
+pub mod LineLaw
+pub mod JsonTexts
+pub mod WellFormed
+pub mod WrittenParts
+pub mod WrittenLengths
+pub mod WrittenLines
+pub mod NoFloat
+pub mod OnLiterals
+pub mod WorkedLines

@@ -1,0 +1,5 @@
+use Rattle.epx_lines.proofs.LineLaw.{lines_are_one}
+use Rattle.epx_lines.proofs.laws.lines_are_one.Goals as goal
+
+pub returns : goal.returns
+returns c = lines_are_one

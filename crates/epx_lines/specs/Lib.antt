@@ -1,0 +1,8 @@
+pub mod Lines
+pub mod Elements
+pub mod DependencyList
+pub mod OperationList
+pub mod Meaning
+pub mod Faults
+pub mod Text
+pub mod WrittenParts

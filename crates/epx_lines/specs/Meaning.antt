@@ -1,0 +1,82 @@
+-- What a line of a log means: nothing, an instance, or the first fault.
+use Rattle.std.specs.Prelude.{ℕ, ◌^◌, ◌==◌, ◌||◌, Bool, true, false, nat_lt, List, length, codes, Option, Some, None, is_some, Result, Ok, Err, option_and_then, if◌then◌else◌}
+use Rattle.std.specs.List.{list_all}
+use Rattle.std.specs.Str.{is_utf8, bytes_eq}
+use Rattle.serde_json.specs.Data.{Data}
+use Rattle.serde_json.specs.Read.{read}
+use Rattle.serde_json.specs.Find.{get, as_object, as_str}
+use Rattle.epx_types.specs.declared.id.Id.{Id}
+use Rattle.epx_types.specs.declared.fault.Why.{Why}
+use Rattle.epx_types.specs.declared.fault.Why.TheVariants.{TooLong, NotJson, NotObject, Replica, Number, Seq, Status, Deps, Ops}
+use Rattle.epx_types.specs.Instances.{Instance}
+use Rattle.epx_lines.specs.declared.Line.{Line}
+use Rattle.epx_lines.specs.declared.Line.TheVariants.{Blank, Entry}
+use Rattle.epx_lines.specs.Elements.{whole}
+use Rattle.epx_lines.specs.DependencyList.{deps_of}
+use Rattle.epx_lines.specs.OperationList.{ops_of}
+
+-- ---- bytes
+
+-- a line that is not blank may have this many
+abbrev pub max_line_bytes : ℕ
+max_line_bytes = 65536
+
+-- a space, a tab or a carriage return
+abbrev pub is_space : ℕ → Bool
+is_space b = (b == 32) || (b == 9) || (b == 13)
+
+-- nothing but these
+abbrev pub is_blank : List ℕ → Bool
+is_blank bytes = list_all is_space bytes
+
+-- the value of a JSON text (RFC 8259)
+abbrev pub json_of : List ℕ → Option Data
+json_of bytes = if is_utf8 bytes then read bytes else None
+
+-- ---- an object
+
+-- what f gives for the member of this name, if it is there
+abbrev pub at_member : {A : Type 0} → List ℕ → (Data → Option A) → Data → Option A
+at_member name f d = option_and_then f (get name d)
+
+-- the text `committed`
+abbrev pub is_committed : Option (List ℕ) → Bool
+is_committed None = false
+is_committed (Some text) = bytes_eq text (codes "committed")
+
+-- absent, or the text `committed`
+abbrev pub status_is_allowed : Option Data → Bool
+status_is_allowed None = true
+status_is_allowed (Some d) = is_committed (as_str d)
+
+-- next of the value, if there is one, and else the fault
+abbrev pub need : {A B : Type 0} → Why → Option A → (A → Result B Why) → Result B Why
+need why None next = Err why
+need why (Some x) next = next x
+
+-- the instance of an object, or its first fault
+unfoldable pub instance_of : Data → Result Instance Why
+instance_of d =
+    need Replica (at_member (codes "r") (whole 256) d) (λ r.
+    need Number (at_member (codes "i") (whole (2 ^ 64)) d) (λ i.
+    need Seq (at_member (codes "seq") (whole (2 ^ 64)) d) (λ seq.
+    if status_is_allowed (get (codes "status") d) then
+    (let id : Id = record { replica = r; number = i } in
+    need Deps (at_member (codes "deps") (deps_of id) d) (λ deps.
+    need Ops (at_member (codes "ops") ops_of d) (λ ops.
+    Ok (record { id = id; seq = seq; deps = deps; ops = ops }))))
+    else Err Status)))
+
+-- ---- the line
+
+abbrev pub entry_line : Result Instance Why → Result Line Why
+entry_line (Ok e) = Ok (Entry e)
+entry_line (Err why) = Err why
+
+abbrev pub meaning_of_value : Data → Result Line Why
+meaning_of_value d = if is_some (as_object d) then entry_line (instance_of d) else Err NotObject
+
+abbrev pub meaning_of : List ℕ → Result Line Why
+meaning_of bytes =
+    if is_blank bytes then Ok Blank else
+    (if nat_lt max_line_bytes (length bytes) then Err TooLong else need NotJson (json_of bytes) meaning_of_value)

@@ -1,0 +1,65 @@
+//! Dependencies of a line.
+ghost use Rattle.std.specs.Prelude.{◌≡◌, ◌^◌, IfOk, option_map};
+ghost use Rattle.serde_json.specs.View.{view};
+ghost use Rattle.epx_lines.specs.Elements.{whole};
+ghost use Rattle.epx_lines.specs.DependencyList.{id_of, deps_of};
+
+use epx_types::entry::MAX_DEPS;
+use epx_types::{Id, Memory};
+use serde_json::Value;
+use std::alloc::Global;
+use std::collections::BTreeSet;
+
+/// The number of a replica.
+#[tactic(auto, unfolding(crate::specs::Elements::whole))]
+pub fn read_replica(value: &Value) -> Option<u8>
+    ensures { result ≡ whole 256 (view value.now) }
+{
+    let number = value.as_u64()?;
+    u8::try_from(number).ok()
+}
+
+/// A whole number of 64 bits.
+#[tactic(auto, unfolding(crate::specs::Elements::whole))]
+pub fn read_number(value: &Value) -> Option<u64>
+    ensures { result ≡ whole (2 ^ 64) (view value.now) }
+{
+    value.as_u64()
+}
+
+#[tactic(auto, unfolding(crate::specs::DependencyList::id_of))]
+fn read_id(value: &Value) -> Option<Id>
+    ensures { result ≡ id_of (view value.now) }
+{
+    let parts = value.as_array()?;
+    let [replica, number] = parts.as_slice() else {
+        return None;
+    };
+    Some(Id {
+        replica: read_replica(replica)?,
+        number: read_number(number)?,
+    })
+}
+
+/// The rising list of the instances that are named, without the instance itself.
+#[tactic(auto, unfolding(crate::specs::DependencyList::deps_of))]
+pub fn read_deps(alloc: Global, id: Id, value: &Value) -> Result<Option<Vec<Id>>, Memory>
+    ensures { IfOk result (λ o. option_map (λ v. v.items) o ≡ deps_of id (view value.now)) }
+{
+    let Some(named) = value.as_array() else {
+        return Ok(None);
+    };
+    if named.len() > MAX_DEPS {
+        return Ok(None);
+    }
+    let mut others = BTreeSet::new(alloc);
+    for dep in named {
+        let Some(dep) = read_id(dep) else {
+            return Ok(None);
+        };
+        if dep != id {
+            others.insert(dep)?;
+        }
+    }
+    Ok(Some(others.into_iter().collect(alloc)?))
+}

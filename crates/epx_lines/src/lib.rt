@@ -1,0 +1,47 @@
+//! Lines of logs: cut, read and written. What a line means, and how an entry is written as one, is
+//! defined in `specs/`.
+#![tactic(auto)]
+
+mod cut;
+mod deps;
+mod laws;
+mod ops;
+mod read;
+#[cfg(test)]
+mod tests;
+mod write;
+
+pub use cut::cut_lines;
+use epx_types::{Entry, Memory, Why};
+pub use laws::{lines_are_one, lines_make_up_the_bytes};
+pub use read::read_line;
+pub use write::write_line;
+
+/// What a line of a log means.
+#[derive(Debug, Drop)]
+pub enum Line {
+    /// Nothing: spaces, tabs and carriage returns alone, or no byte.
+    Blank,
+    /// A committed instance.
+    Entry(Entry),
+}
+
+/// Why a line was not read.
+#[derive(Clone, Copy, Debug, PartialEq, Eq)]
+pub enum LineFault {
+    /// A growth was refused.
+    Memory,
+    /// The line is not blank and means no instance; the first reason, in the order of `Why`.
+    Bad(Why),
+}
+
+impl From<Memory> for LineFault {
+    ghost use Rattle.std.specs.Prelude.{◌≡◌};
+    ghost use Rattle.epx_lines.specs.declared.LineFault.TheVariants as fault;
+
+    ghost from_gives = { λ _ f. f ≡ fault.Memory };
+
+    fn from(_memory: Memory) -> LineFault {
+        LineFault::Memory
+    }
+}

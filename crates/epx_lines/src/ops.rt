@@ -1,0 +1,118 @@
+//! Operations of a line.
+ghost use Rattle.std.specs.Prelude.{◌≡◌, IfOk, option_map};
+ghost use Rattle.serde_json.specs.View.{view};
+ghost use Rattle.epx_lines.specs.OperationList.{key_of, value_or_null, op_with_key, op_with_value, op_of, ops_of};
+ghost use Rattle.epx_lines.specs.Elements.{signed};
+
+use epx_types::entry::MAX_OPS;
+use epx_types::{Key, Memory, Op};
+use serde_json::Value;
+use std::alloc::Global;
+
+#[tactic(auto, unfolding(crate::specs::OperationList::key_of))]
+fn read_key(alloc: Global, value: &Value) -> Result<Option<Key>, Memory>
+    ensures { IfOk result (λ o. o ≡ key_of (view value.now)) }
+{
+    let Some(text) = value.as_str() else {
+        return Ok(None);
+    };
+    Ok(Key::new(alloc, text)?)
+}
+
+/// A value of 64 bits, or null for absence.
+#[tactic(auto, unfolding(crate::specs::OperationList::value_or_null))]
+fn read_value_or_null(value: &Value) -> Option<Option<i64>>
+    ensures { result ≡ value_or_null (view value.now) }
+{
+    if value.is_null() {
+        return Some(None);
+    }
+    Some(Some(value.as_i64()?))
+}
+
+#[tactic(auto, unfolding(crate::specs::OperationList::op_with_key))]
+fn op_named(name: &str, key: Key) -> Option<Op>
+    ensures { result ≡ op_with_key name.now key }
+{
+    if name == "get" {
+        Some(Op::Get { key })
+    } else if name == "del" {
+        Some(Op::Del { key })
+    } else {
+        None
+    }
+}
+
+#[tactic(auto, unfolding(crate::specs::OperationList::op_with_value))]
+fn op_named_with(alloc: Global, name: &str, key: Key, value: &Value) -> Result<Option<Op>, Memory>
+    ensures { IfOk result (λ o. o ≡ op_with_value name.now key (view value.now)) }
+{
+    if name == "copy" {
+        return Ok(read_key(alloc, value)?.map(|target| Op::Copy {
+            source: key,
+            target,
+        }));
+    }
+    if name == "is" {
+        return Ok(read_value_or_null(value).map(|value| Op::Is { key, value }));
+    }
+    let Some(number) = value.as_i64() else {
+        return Ok(None);
+    };
+    if name == "put" {
+        Ok(Some(Op::Put { key, value: number }))
+    } else if name == "add" {
+        Ok(Some(Op::Add {
+            key,
+            amount: number,
+        }))
+    } else if name == "floor" {
+        Ok(Some(Op::Floor { key, least: number }))
+    } else {
+        Ok(None)
+    }
+}
+
+#[tactic(auto, unfolding(crate::specs::OperationList::op_of))]
+fn read_op(alloc: Global, value: &Value) -> Result<Option<Op>, Memory>
+    ensures { IfOk result (λ o. o ≡ op_of (view value.now)) }
+{
+    let Some(parts) = value.as_array() else {
+        return Ok(None);
+    };
+    let [name, key, more @ ..] = parts.as_slice() else {
+        return Ok(None);
+    };
+    let Some(name) = name.as_str() else {
+        return Ok(None);
+    };
+    let Some(key) = read_key(alloc, key)? else {
+        return Ok(None);
+    };
+    match more {
+        [] => Ok(op_named(name, key)),
+        [value] => op_named_with(alloc, name, key, value),
+        _ => Ok(None),
+    }
+}
+
+/// The operations of a command, in order.
+#[tactic(auto, unfolding(crate::specs::OperationList::ops_of))]
+pub fn read_ops(alloc: Global, value: &Value) -> Result<Option<Vec<Op>>, Memory>
+    ensures { IfOk result (λ o. option_map (λ v. v.items) o ≡ ops_of (view value.now)) }
+{
+    let Some(written) = value.as_array() else {
+        return Ok(None);
+    };
+    if written.len() > MAX_OPS {
+        return Ok(None);
+    }
+    let mut ops = Vec::with_capacity(alloc, written.len())?;
+    for op in written {
+        let Some(op) = read_op(alloc, op)? else {
+            return Ok(None);
+        };
+        ops.push(op)?;
+    }
+    Ok(Some(ops))
+}

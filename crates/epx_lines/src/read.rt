@@ -1,0 +1,124 @@
+//! Reading a line.
+ghost use Rattle.std.specs.Prelude.{◌≡◌, Ok, IfOk, IfErr, codes, option_map};
+ghost use Rattle.serde_json.specs.Find.{get};
+ghost use Rattle.serde_json.specs.View.{view};
+ghost use Rattle.epx_lines.specs.Meaning.{is_blank, json_of, at_member, status_is_allowed, instance_of, meaning_of};
+ghost use Rattle.epx_lines.specs.DependencyList.{deps_of};
+ghost use Rattle.epx_lines.specs.OperationList.{ops_of};
+ghost use Rattle.epx_lines.specs.Faults.{IsFaultOf};
+
+use crate::deps::{read_deps, read_number, read_replica};
+use crate::ops::read_ops;
+use crate::{Line, LineFault};
+use epx_types::{Entry, Id, Memory, Op, Why};
+use serde_json::Value;
+use std::alloc::Global;
+
+/// A line that is not blank may have this many bytes, without its line feed.
+pub const MAX_LINE_BYTES: usize = 65_536;
+
+fn is_blank_line(bytes: &[u8]) -> bool
+    ensures { result ≡ is_blank bytes.now }
+{
+    bytes.iter().all(|b| matches!(*b, b' ' | b'\t' | b'\r'))
+}
+
+fn has_allowed_status(object: &Value) -> bool
+    ensures { result ≡ status_is_allowed (get (codes "status") (view object.now)) }
+{
+    let Some(status) = object.get("status") else {
+        return true;
+    };
+    match status.as_str() {
+        Some(text) => text == "committed",
+        None => false,
+    }
+}
+
+fn member_deps(alloc: Global, id: Id, object: &Value) -> Result<Option<Vec<Id>>, Memory>
+    ensures { IfOk result
+        (λ o. option_map (λ v. v.items) o
+        ≡ at_member (codes "deps") (deps_of id) (view object.now)) }
+{
+    match object.get("deps") {
+        Some(value) => read_deps(alloc, id, value),
+        None => Ok(None),
+    }
+}
+
+fn member_ops(alloc: Global, object: &Value) -> Result<Option<Vec<Op>>, Memory>
+    ensures { IfOk result
+        (λ o. option_map (λ v. v.items) o
+        ≡ at_member (codes "ops") ops_of (view object.now)) }
+{
+    match object.get("ops") {
+        Some(value) => read_ops(alloc, value),
+        None => Ok(None),
+    }
+}
+
+#[tactic(auto, unfolding(crate::specs::Meaning::instance_of))]
+fn read_instance(alloc: Global, value: &Value) -> Result<Entry, LineFault>
+    ensures ok { IfOk result (λ e. instance_of (view value.now) ≡ Ok e) }
+    ensures bad { IfErr result (λ f. IsFaultOf f (instance_of (view value.now))) }
+{
+    let replica = value
+        .get("r")
+        .and_then(read_replica)
+        .ok_or(LineFault::Bad(Why::Replica))?;
+    let number = value
+        .get("i")
+        .and_then(read_number)
+        .ok_or(LineFault::Bad(Why::Number))?;
+    let seq = value
+        .get("seq")
+        .and_then(read_number)
+        .ok_or(LineFault::Bad(Why::Seq))?;
+    if !has_allowed_status(value) {
+        return Err(LineFault::Bad(Why::Status));
+    }
+    let id = Id { replica, number };
+    let Some(deps) = member_deps(alloc, id, value)? else {
+        return Err(LineFault::Bad(Why::Deps));
+    };
+    let Some(ops) = member_ops(alloc, value)? else {
+        return Err(LineFault::Bad(Why::Ops));
+    };
+    Ok(Entry::new(id, seq, deps, ops).unwrap())
+}
+
+/// The value of a JSON text, if it is one.
+fn read_json(alloc: Global, bytes: &[u8]) -> Result<Option<Value>, Memory>
+    ensures { IfOk result (λ o. option_map view o ≡ json_of bytes.now) }
+{
+    match Value::from_slice(alloc, bytes) {
+        Ok(value) => Ok(Some(value)),
+        Err(error) => {
+            if error.is_memory() {
+                return Err(Memory);
+            }
+            Ok(None)
+        }
+    }
+}
+
+/// What one line means, without its line feed. Members that have no part in an instance may hold
+/// anything. `Memory` comes only where a growth was refused.
+pub fn read_line(alloc: Global, bytes: &[u8]) -> Result<Line, LineFault>
+    ensures ok { IfOk result (λ l. meaning_of bytes.now ≡ Ok l) }
+    ensures bad { IfErr result (λ f. IsFaultOf f (meaning_of bytes.now)) }
+{
+    if is_blank_line(bytes) {
+        return Ok(Line::Blank);
+    }
+    if bytes.len() > MAX_LINE_BYTES {
+        return Err(LineFault::Bad(Why::TooLong));
+    }
+    let Some(value) = read_json(alloc, bytes)? else {
+        return Err(LineFault::Bad(Why::NotJson));
+    };
+    if !value.is_object() {
+        return Err(LineFault::Bad(Why::NotObject));
+    }
+    Ok(Line::Entry(read_instance(alloc, &value)?))
+}

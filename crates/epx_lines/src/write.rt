@@ -1,0 +1,112 @@
+//! Writing a line.
+ghost use Rattle.std.specs.Prelude.{◌≡◌, ◌≤◌, length, map, All, Ok, IfOk, OnOk, IfSome, string_bytes};
+ghost use Rattle.serde_json.specs.Data.{number};
+ghost use Rattle.serde_json.specs.Find.{of_integer};
+ghost use Rattle.serde_json.specs.View.{view};
+ghost use Rattle.epx_lines.specs.Text.{data_of_id, data_of_value, data_of_op, object_with, object_of, line_text};
+ghost use Rattle.epx_lines.specs.WrittenParts.{FitsId, FitsValue, FitsOp, FitNumbers, FitsEntry};
+ghost use Rattle.epx_lines.specs.Meaning.{max_line_bytes, meaning_of};
+ghost use Rattle.epx_lines.specs.declared.Line.TheVariants as line;
+
+use epx_types::{Entry, Id, Memory, Op};
+use serde_json::{Value, json};
+use std::alloc::{AllocError, Global};
+
+fn id_value(alloc: Global, replica: u8, number: u64) -> Result<Value, AllocError>
+    ensures data { IfOk result
+        (λ v. view v ≡ data_of_id (record { replica = replica; number = number })) }
+    ensures fits { OnOk result (FitsId (record { replica = replica; number = number })) }
+{
+    json!(in alloc; [replica, number])
+}
+
+fn number_value(value: &i64) -> Value
+    ensures data { view result ≡ number (of_integer value.now) }
+    ensures fits { FitsValue value.now }
+{
+    let number = *value;
+    Value::from(number)
+}
+
+fn value_or_null(value: Option<i64>) -> Value
+    ensures data { view result ≡ data_of_value value }
+    ensures fits { IfSome value FitsValue }
+{
+    match value {
+        Some(value) => number_value(&value),
+        None => Value::Null,
+    }
+}
+
+#[tactic(auto, unfolding(crate::specs::Text::data_of_op))]
+fn op_value(alloc: Global, op: &Op) -> Result<Value, AllocError>
+    ensures data { IfOk result (λ v. view v ≡ data_of_op op.now) }
+    ensures fits { OnOk result (FitsOp op.now) }
+{
+    match op {
+        Op::Get { key } => json!(in alloc; ["get", key.text()]),
+        Op::Put { key, value } => json!(in alloc; ["put", key.text(), number_value(value)]),
+        Op::Del { key } => json!(in alloc; ["del", key.text()]),
+        Op::Add { key, amount } => json!(in alloc; ["add", key.text(), number_value(amount)]),
+        Op::Is { key, value } => json!(in alloc; ["is", key.text(), value_or_null(*value)]),
+        Op::Floor { key, least } => json!(in alloc; ["floor", key.text(), number_value(least)]),
+        Op::Copy { source, target } => json!(in alloc; ["copy", source.text(), target.text()]),
+    }
+}
+
+fn id_values(alloc: Global, ids: &[Id]) -> Result<Vec<Value>, AllocError>
+    ensures data { IfOk result (λ v. map view v.items ≡ map data_of_id ids.now) }
+    ensures fit { OnOk result (All FitsId ids.now) }
+{
+    let mut values = Vec::with_capacity(alloc, ids.len())?;
+    for id in ids {
+        values.push(id_value(alloc, id.replica, id.number)?)?;
+    }
+    Ok(values)
+}
+
+fn op_values(alloc: Global, ops: &[Op]) -> Result<Vec<Value>, AllocError>
+    ensures data { IfOk result (λ v. map view v.items ≡ map data_of_op ops.now) }
+    ensures fit { OnOk result (All FitsOp ops.now) }
+{
+    let mut values = Vec::with_capacity(alloc, ops.len())?;
+    for op in ops {
+        values.push(op_value(alloc, op)?)?;
+    }
+    Ok(values)
+}
+
+fn object_value(
+    alloc: Global,
+    replica: u8,
+    number: u64,
+    seq: u64,
+    deps: Value,
+    ops: Value,
+) -> Result<Value, AllocError>
+    ensures data { IfOk result
+        (λ v. view v ≡ object_with replica number seq (view deps) (view ops)) }
+    ensures fit { OnOk result (FitNumbers replica number seq) }
+{
+    json!(in alloc; {"deps": deps, "i": number, "ops": ops, "r": replica, "seq": seq})
+}
+
+fn entry_value(alloc: Global, entry: &Entry) -> Result<Value, AllocError>
+    ensures data { IfOk result (λ v. view v ≡ object_of entry.now) }
+    ensures fits { OnOk result (FitsEntry entry.now) }
+{
+    let Id { replica, number } = entry.id();
+    let deps = Value::Array(id_values(alloc, entry.deps())?);
+    let ops = Value::Array(op_values(alloc, entry.ops())?);
+    object_value(alloc, replica, number, entry.seq(), deps, ops)
+}
+
+/// The line of an entry, without a line feed: a JSON object (RFC 8259) in compact form.
+pub fn write_line(alloc: Global, entry: &Entry) -> Result<String, Memory>
+    ensures text { IfOk result (λ s. string_bytes s ≡ line_text entry.now) }
+    ensures means { IfOk result (λ s. meaning_of (string_bytes s) ≡ Ok (line.Entry entry.now)) }
+    ensures short { IfOk result (λ s. length (string_bytes s) ≤ max_line_bytes) }
+{
+    let value = entry_value(alloc, entry)?;
+    Ok(value.to_string(alloc)?)
+}

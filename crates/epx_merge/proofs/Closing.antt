@@ -1,0 +1,141 @@
+-- What a ledger tells of its lines, once its keys are sorted.
+use Rattle.std.proofs.Common.{◌≡◌, inl, inr, List, [], ◌∷◌, Contains, Some, None, slice_get, IsPermutation, refl, sym, subst, ◌∙◌}
+use Rattle.std.specs.List.{IsDistinct}
+use Rattle.std.specs.List.Sorted.{IsSorted}
+use Rattle.std.proofs.lemmas.List.Sorted.{IsPermutation-sym, Contains-permutation}
+use Rattle.epx_types.specs.declared.id.Id.{Id}
+use Rattle.epx_types.specs.Ids.{id_cmp, UpTo, IsRising}
+use Rattle.epx_types.specs.PlacedLines.{Placed}
+use Rattle.epx_types.specs.Agreement.{Agree, Differ}
+use Rattle.epx_types.specs.CommittedMap.{ids_of, IsCommittedBy}
+use Rattle.epx_types.proofs.Membership.{Contains-nil, Contains-head, Contains-cons, Contains-map, Contains-from_map}
+use Rattle.epx_types.proofs.Waiting.{Contains-Id_cases}
+use Rattle.epx_merge.specs.declared.ledger.Clash.{Clash}
+use Rattle.epx_merge.specs.Refusals.{AreNamedBy, IsDisagreementAt}
+use Rattle.epx_merge.specs.Ledgers.{Noted, Names, IsLedgerOf}
+use Rattle.epx_merge.specs.Keyed.{instances_of, StandUnderTheirNames, IsKeyed}
+use Rattle.epx_merge.specs.LineOrder.{InPlaceOrder}
+use Rattle.epx_merge.proofs.FirstWhere.{IsFirstWhere-contains, IsFirstWhere-holds, IsFirstWhere-earliest}
+use Rattle.epx_merge.proofs.Noting.{keys, key_of_entry}
+use Rattle.epx_merge.proofs.NotedKeys.{same_id}
+use Rattle.epx_merge.proofs.SortedKeys.{rising_from_sorted, first_is_least}
+
+-- each line stands under the name of its instance
+keys-named : (firsts : List (Id × Placed)) → StandUnderTheirNames firsts → keys firsts ≡ ids_of (instances_of firsts)
+keys-named [] named = refl
+keys-named (e ∷ es) named =
+    let first : e.0 ≡ e.1.instance.id = sym (named e.0 e.1 (Contains-head e es)) in
+    let rest = keys-named es (λ x p h. named x p (Contains-cons e es (x, p) h)) in
+    λ i. first i ∷ rest i
+
+-- the same lines, sorted
+pub IsKeyed-sorted : (before firsts : List (Id × Placed)) → StandUnderTheirNames before → IsPermutation before firsts → IsSorted id_cmp (keys firsts) → IsDistinct same_id (keys firsts) → IsKeyed firsts
+IsKeyed-sorted before firsts named moved sorted distinct = record {
+  named = keys-named firsts (λ x p h. named x p (Contains-permutation firsts before (x, p) (IsPermutation-sym before firsts moved) h));
+  rising = rising_from_sorted (keys firsts) sorted distinct;
+}
+
+module _ (lines : List Placed) (noted : Noted) (ledger : IsLedgerOf lines noted) where
+  -- the first line of each noted instance
+  first_named : (x : Id) (p : Placed) → Contains noted.firsts (x, p) → p.instance.id ≡ x
+  first_named x p h = IsFirstWhere-holds (Names x) lines p (ledger.firsts x p h)
+
+  first_line : (x : Id) (p : Placed) → Contains noted.firsts (x, p) → Contains lines p
+  first_line x p h = IsFirstWhere-contains (Names x) lines p (ledger.firsts x p h)
+
+  first_of : (p : Placed) → Contains lines p → (f : Placed) × Contains noted.firsts (p.instance.id, f)
+  first_of p h =
+      let at = Contains-from_map (λ (e : Id × Placed). e.0) noted.firsts p.instance.id (ledger.whole p h) in
+      (at.0.1, subst (λ (x : Id). Contains noted.firsts (x, at.0.1)) at.2 at.1)
+
+  -- without clashes the lines agree
+  pub Agree-from_ledger : ((x : Id) → ¬ Contains (keys noted.clashes) x) → Agree lines
+  Agree-from_ledger none p q in_p in_q same =
+      let f = first_of p in_p in
+      sym (ledger.alike p.instance.id f.0 f.1 (none p.instance.id) p in_p refl) ∙ ledger.alike p.instance.id f.0 f.1 (none p.instance.id) q in_q (sym same)
+
+  -- two lines that differ are of an instance that has a clash
+  clash_of : (p q : Placed) → Contains lines p → Contains lines q → Differ p q → Contains (keys noted.clashes) p.instance.id
+  clash_of p q in_p in_q differ =
+      elim (Contains-Id_cases (keys noted.clashes) p.instance.id) [
+        | inl has ↦ has
+        | inr none ↦
+            let f = first_of p in_p in
+            absurd (differ.1 (sym (ledger.alike p.instance.id f.0 f.1 none p in_p refl) ∙ ledger.alike p.instance.id f.0 f.1 none q in_q (sym differ.0)))
+      ]
+
+  module _ (firsts : List (Id × Placed)) (moved : IsPermutation noted.firsts firsts) (sorted : IsSorted id_cmp (keys firsts)) (distinct : IsDistinct same_id (keys firsts)) where
+    back : (x : Id) (p : Placed) → Contains firsts (x, p) → Contains noted.firsts (x, p)
+    back x p h = Contains-permutation firsts noted.firsts (x, p) (IsPermutation-sym noted.firsts firsts moved) h
+
+    there : (x : Id) (p : Placed) → Contains noted.firsts (x, p) → Contains firsts (x, p)
+    there x p h = Contains-permutation noted.firsts firsts (x, p) moved h
+
+    keyed : IsKeyed firsts
+    keyed = IsKeyed-sorted noted.firsts firsts first_named moved sorted distinct
+
+    -- the keys are the distinct instances of the lines
+    pub AreNamedBy-sorted : AreNamedBy lines (keys firsts)
+    AreNamedBy-sorted = record {
+      rising = rising_from_sorted (keys firsts) sorted distinct;
+      whole = λ p h. let f = first_of p h in key_of_entry firsts p.instance.id f.0 (there p.instance.id f.0 f.1);
+      named = λ x h.
+          let e = Contains-from_map (λ (d : Id × Placed). d.0) firsts x h in
+          let old = back e.0.0 e.0.1 e.1 in
+          (e.0.1, first_line e.0.0 e.0.1 old, first_named e.0.0 e.0.1 old ∙ e.2);
+    }
+
+    -- where the lines agree, their first lines are what they commit
+    pub IsCommittedBy-sorted : Agree lines → IsCommittedBy lines (instances_of firsts)
+    IsCommittedBy-sorted agree = record {
+      rising = subst IsRising keyed.named keyed.rising;
+      given = λ e h.
+          let d = Contains-from_map (λ (f : Id × Placed). f.1.instance) firsts e h in
+          (d.0.1, first_line d.0.0 d.0.1 (back d.0.0 d.0.1 d.1), d.2);
+      whole = λ p h.
+          let f = first_of p h in
+          let same = agree f.0 p (first_line p.instance.id f.0 f.1) h (first_named p.instance.id f.0 f.1) in
+          subst (Contains (instances_of firsts)) same (Contains-map (λ (d : Id × Placed). d.1.instance) firsts (p.instance.id, f.0) (there p.instance.id f.0 f.1));
+    }
+
+  -- the least clash is the first disagreement
+  pub IsDisagreementAt-least : InPlaceOrder lines → (x : Id) (clash : Clash) → Contains noted.clashes (x, clash) → ((y : Id) → Contains (keys noted.clashes) y → UpTo x y) → IsDisagreementAt lines x clash.first clash.second
+  IsDisagreementAt-least order x clash has least =
+      let h = ledger.clashes x clash has in (
+        h.first,
+        h.second,
+        record {
+          has_first = IsFirstWhere-contains (Names x) lines h.first h.opens;
+          has_second = IsFirstWhere-contains (Differ h.first) lines h.second h.differs;
+          named = IsFirstWhere-holds (Names x) lines h.first h.opens;
+          differ = IsFirstWhere-holds (Differ h.first) lines h.second h.differs;
+          least = λ p q in_p in_q other. least p.instance.id (clash_of p q in_p in_q other);
+          opens = λ p in_p named. IsFirstWhere-earliest (Names x) lines order h.first h.opens p in_p named;
+          follows = λ q in_q other. IsFirstWhere-earliest (Differ h.first) lines order h.second h.differs q in_q other;
+        },
+        h.first_place,
+        h.second_place,
+      )
+
+  -- the same, after a sort
+  IsDisagreementAt-sorted : InPlaceOrder lines → (x : Id) (clash : Clash) (rest : List (Id × Clash)) → IsPermutation noted.clashes ((x, clash) ∷ rest) → IsSorted id_cmp (keys ((x, clash) ∷ rest)) → IsDisagreementAt lines x clash.first clash.second
+  IsDisagreementAt-sorted order x clash rest moved sorted =
+      let clashes : List (Id × Clash) = (x, clash) ∷ rest in
+      IsDisagreementAt-least order x clash (Contains-permutation clashes noted.clashes (x, clash) (IsPermutation-sym noted.clashes clashes moved) (Contains-head (x, clash) rest)) (λ y h.
+      let at = Contains-from_map (λ (d : Id × Clash). d.0) noted.clashes y h in
+      let among = Contains-map (λ (d : Id × Clash). d.0) clashes at.0 (Contains-permutation noted.clashes clashes at.0 moved at.1) in
+      first_is_least x (keys rest) sorted y (subst (Contains (keys clashes)) at.2 among))
+
+  -- the same, where it stands first in the list
+  pub first_clash : InPlaceOrder lines → (clashes : List (Id × Clash)) (x : Id) (clash : Clash) → slice_get clashes 0 ≡ Some (x, clash) → IsPermutation noted.clashes clashes → IsSorted id_cmp (keys clashes) → IsDisagreementAt lines x clash.first clash.second
+  first_clash order [] x clash at moved sorted = absurd (cc at)
+  first_clash order (e ∷ rest) x clash at moved sorted =
+      let first : ◌≡◌ {A = Id × Clash} e (x, clash) = cc at in
+      IsDisagreementAt-sorted order x clash rest
+      (subst (λ (d : Id × Clash). IsPermutation noted.clashes (d ∷ rest)) first moved) (subst (λ (d : Id × Clash). IsSorted id_cmp (keys (d ∷ rest))) first sorted)
+
+-- a list without a first element holds no key, nor did it before a sort
+pub no_clashes : (before clashes : List (Id × Clash)) → slice_get clashes 0 ≡ None → IsPermutation before clashes → (x : Id) → ¬ Contains (keys before) x
+no_clashes before [] none moved x h =
+    let e = Contains-from_map (λ (d : Id × Clash). d.0) before x h in Contains-nil e.0 (Contains-permutation before [] e.0 moved e.1)
+no_clashes before (e ∷ rest) none moved x h = absurd (cc none)

@@ -1,0 +1,146 @@
+-- The lines of logs stand in the order of their places.
+use Rattle.std.proofs.Common.{◌≡◌, ◌⊎◌, inl, inr, ℕ, suc, ◌<◌, ◌≤◌, List, [], ◌∷◌, ◌++◌, flat_map, Contains, Result, Ok, Err, sym, ap, subst, subst₂, ◌∙◌, arith}
+use Rattle.std.proofs.lemmas.Bool.Decides.{nat_tests}
+use Rattle.std.proofs.lemmas.List.Elements.{Contains-append_cases}
+use Rattle.epx_types.specs.declared.place.Place.{Place}
+use Rattle.epx_types.specs.declared.fault.Why.{Why}
+use Rattle.epx_types.specs.PlacedLines.{Placed, Earlier, HavePlacesOfTheirOwn}
+use Rattle.epx_types.proofs.Comparisons.{place_cmp_total}
+use Rattle.epx_types.proofs.Membership.{Contains-nil, Contains-head, Contains-cons, Contains-cons_cases}
+use Rattle.epx_types.proofs.TotalOrders.{below_itself}
+use Rattle.epx_lines.specs.Lines.{lines_of}
+use Rattle.epx_lines.specs.declared.Line.{Line}
+use Rattle.epx_lines.specs.declared.Line.TheVariants.{Blank, Entry}
+use Rattle.epx_merge.specs.LogLines.{MeaningAt, meaning_at, meanings_in, meanings_from, meanings_of, placed_at, placed_of, Spoilt, spoilt_at, spoilt_of}
+use Rattle.epx_merge.specs.LineOrder.{InOrderOf, InPlaceOrder}
+use Rattle.epx_merge.specs.Refusals.{IsFirstSpoilt}
+
+earlier_log : (p q : Place) → p.log < q.log → Earlier p q
+earlier_log p q h = grind (arith, nat_tests)
+
+earlier_line : (p q : Place) → p.log ≡ q.log → p.line < q.line → Earlier p q
+earlier_line p q e h = grind (arith, nat_tests)
+
+-- ---- two lists in order, of which all of the first stand before all of the second
+
+InOrderOf-append : {X : Type 0} (at : X → Place) (xs ys : List X) → InOrderOf at xs → InOrderOf at ys → ((x y : X) → Contains xs x → Contains ys y → Earlier (at x) (at y)) → InOrderOf at (xs ++ ys)
+InOrderOf-append at [] ys a b before = b
+InOrderOf-append at (x ∷ xs) ys a b before = (
+  (λ y h. elim (Contains-append_cases xs ys y h) [
+    | inl c ↦ a.0 y c
+    | inr c ↦ before x y (Contains-head x xs) c
+  ]),
+  InOrderOf-append at xs ys a.1 b (λ z y hz hy. before z y (Contains-cons x xs z hz) hy),
+)
+
+-- ---- what each line gives at its own place
+
+module _ {Y : Type 0} (place : Y → Place) (given : MeaningAt → List Y) (at_line : (l : MeaningAt) (y : Y) → Contains (given l) y → place y ≡ l.place) (one : (l : MeaningAt) → InOrderOf place (given l)) where
+  given_by : (lines : List MeaningAt) (y : Y) → Contains (flat_map given lines) y → (l : MeaningAt) × Contains lines l × (place y ≡ l.place)
+  given_by [] y h = absurd (Contains-nil y h)
+  given_by (l ∷ lines) y h =
+      elim (Contains-append_cases (given l) (flat_map given lines) y h) [
+        | inl here ↦ (l, Contains-head l lines, at_line l y here)
+        | inr later ↦ let r = given_by lines y later in (r.0, Contains-cons l lines r.0 r.1, r.2)
+      ]
+
+  InOrderOf-flat_map : (lines : List MeaningAt) → InOrderOf (λ l. l.place) lines → InOrderOf place (flat_map given lines)
+  InOrderOf-flat_map [] h = tt
+  InOrderOf-flat_map (l ∷ lines) h =
+      InOrderOf-append place (given l) (flat_map given lines) (one l) (InOrderOf-flat_map lines h.1) (λ x y hx hy.
+      let later = given_by lines y hy in
+      subst₂ Earlier (sym (at_line l x hx)) (sym later.2) (h.0 later.0 later.1))
+
+-- ---- all lines
+
+in_log : (log n : ℕ) (ls : List (List ℕ)) (x : MeaningAt) → Contains (meanings_in log n ls) x → (x.place.log ≡ log) × (n ≤ x.place.line)
+in_log log n [] x h = absurd (Contains-nil x h)
+in_log log n (l ∷ ls) x h =
+    elim (Contains-cons_cases (meaning_at (record { log = log; line = n }) l) (meanings_in log (suc n) ls) x h) [
+      | inl e ↦ (ap (λ (m : MeaningAt). m.place.log) (sym e), omega (arith, ap (λ (m : MeaningAt). m.place.line) e))
+      | inr rest ↦ let r = in_log log (suc n) ls x rest in (r.0, omega (arith, r.1))
+    ]
+
+lines_in_order : (log n : ℕ) (ls : List (List ℕ)) → InOrderOf (λ l. l.place) (meanings_in log n ls)
+lines_in_order log n [] = tt
+lines_in_order log n (l ∷ ls) = (
+  (λ y h. let later = in_log log (suc n) ls y h in earlier_line (record { log = log; line = n }) y.place (sym later.0) (omega (arith, later.1))),
+  lines_in_order log (suc n) ls,
+)
+
+from_log : (n : ℕ) (logs : List (List ℕ)) (x : MeaningAt) → Contains (meanings_from n logs) x → n ≤ x.place.log
+from_log n [] x h = absurd (Contains-nil x h)
+from_log n (log ∷ logs) x h =
+    elim (Contains-append_cases (meanings_in n 1 (lines_of log)) (meanings_from (suc n) logs) x h) [
+      | inl a ↦ omega (arith, (in_log n 1 (lines_of log) x a).0)
+      | inr b ↦ omega (arith, from_log (suc n) logs x b)
+    ]
+
+logs_in_order : (n : ℕ) (logs : List (List ℕ)) → InOrderOf (λ l. l.place) (meanings_from n logs)
+logs_in_order n [] = tt
+logs_in_order n (log ∷ logs) =
+    InOrderOf-append (λ (l : MeaningAt). l.place) (meanings_in n 1 (lines_of log)) (meanings_from (suc n) logs) (lines_in_order n 1 (lines_of log)) (logs_in_order (suc n) logs)
+    (λ x y hx hy. earlier_log x.place y.place (omega (arith, (in_log n 1 (lines_of log) x hx).0, from_log (suc n) logs y hy)))
+
+-- ---- the lines that give an instance
+
+placed_there : (place : Place) (r : Result Line Why) (p : Placed) → Contains (placed_at place r) p → p.place ≡ place
+placed_there place (Ok Blank) p h = absurd (Contains-nil p h)
+placed_there place (Ok (Entry e)) p h =
+    elim (Contains-cons_cases (record { place = place; instance = e }) [] p h) [
+      | inl same ↦ ap (λ (l : Placed). l.place) (sym same)
+      | inr none ↦ absurd (Contains-nil p none)
+    ]
+placed_there place (Err why) p h = absurd (Contains-nil p h)
+
+placed_one : (place : Place) (r : Result Line Why) → InOrderOf (λ (p : Placed). p.place) (placed_at place r)
+placed_one place (Ok Blank) = tt
+placed_one place (Ok (Entry e)) = ((λ y h. absurd (Contains-nil y h)), tt)
+placed_one place (Err why) = tt
+
+pub placed_in_order : (logs : List (List ℕ)) → InPlaceOrder (placed_of logs)
+placed_in_order logs =
+    InOrderOf-flat_map (λ (p : Placed). p.place) (λ l. placed_at l.place l.meaning) (λ l. placed_there l.place l.meaning) (λ l. placed_one l.place l.meaning) (meanings_of logs) (logs_in_order 0 logs)
+
+own_places : (lines : List Placed) → InPlaceOrder lines → HavePlacesOfTheirOwn lines
+own_places [] order p q in_p in_q same = absurd (Contains-nil p in_p)
+own_places (x ∷ lines) order p q in_p in_q same =
+    elim (Contains-cons_cases x lines p in_p) [
+      | inl is_p ↦ elim (Contains-cons_cases x lines q in_q) [
+        | inl is_q ↦ sym is_p ∙ is_q
+        | inr rest ↦ absurd (below_itself place_cmp_total q.place (subst (λ (at : Place). Earlier at q.place) (ap (λ (l : Placed). l.place) is_p ∙ same) (order.0 q rest)))
+      ]
+      | inr rest_p ↦ elim (Contains-cons_cases x lines q in_q) [
+        | inl is_q ↦ absurd (below_itself place_cmp_total p.place (subst (λ (at : Place). Earlier at p.place) (ap (λ (l : Placed). l.place) is_q ∙ sym same) (order.0 p rest_p)))
+        | inr rest_q ↦ own_places lines order.1 p q rest_p rest_q same
+      ]
+    ]
+
+-- no two of them stand at one place
+pub placed_apart : (logs : List (List ℕ)) → HavePlacesOfTheirOwn (placed_of logs)
+placed_apart logs = own_places (placed_of logs) (placed_in_order logs)
+
+-- ---- the lines that have a fault
+
+spoilt_there : (place : Place) (r : Result Line Why) (x : Spoilt) → Contains (spoilt_at place r) x → x.place ≡ place
+spoilt_there place (Ok l) x h = absurd (Contains-nil x h)
+spoilt_there place (Err why) x h =
+    elim (Contains-cons_cases (record { place = place; why = why }) [] x h) [
+      | inl same ↦ ap (λ (s : Spoilt). s.place) (sym same)
+      | inr none ↦ absurd (Contains-nil x none)
+    ]
+
+spoilt_one : (place : Place) (r : Result Line Why) → InOrderOf (λ (x : Spoilt). x.place) (spoilt_at place r)
+spoilt_one place (Ok l) = tt
+spoilt_one place (Err why) = ((λ y h. absurd (Contains-nil y h)), tt)
+
+-- the first of them stands before all others
+pub first_spoilt_least : (logs : List (List ℕ)) (place : Place) (why : Why) → IsFirstSpoilt (spoilt_of logs) place why → (x : Spoilt) → Contains (spoilt_of logs) x → (place ≡ x.place) ⊎ Earlier place x.place
+first_spoilt_least logs place why f x h =
+    let first : Spoilt = record { place = place; why = why } in
+    let all = InOrderOf-flat_map (λ (s : Spoilt). s.place) (λ l. spoilt_at l.place l.meaning) (λ l. spoilt_there l.place l.meaning) (λ l. spoilt_one l.place l.meaning) (meanings_of logs) (logs_in_order 0 logs) in
+    let order : InOrderOf (λ (s : Spoilt). s.place) (first ∷ f.0) = subst (InOrderOf (λ (s : Spoilt). s.place)) f.1 all in
+    elim (Contains-cons_cases first f.0 x (subst (λ (l : List Spoilt). Contains l x) f.1 h)) [
+      | inl e ↦ inl (ap (λ (s : Spoilt). s.place) e)
+      | inr rest ↦ inr (order.0 x rest)
+    ]

@@ -1,0 +1,68 @@
+-- Lines read one after another: what they give, and the first that has a fault.
+use Rattle.std.proofs.Common.{◌≡◌, ℕ, suc, ◌+◌, ◌<◌, List, [], ◌∷◌, ◌++◌, map, length, get_or, drop, refl, sym, ap, subst, ◌∙◌, add-one, arith}
+use Rattle.std.proofs.Math.Seq.{drop-cons}
+use Rattle.std.proofs.lemmas.Grind.{flat_map-append}
+use Rattle.epx_types.specs.declared.fault.Fault.{Fault}
+use Rattle.epx_types.specs.declared.fault.Fault.TheVariants.{Memory, TooManyLogs, LogTooLong, BadLine, TooManyInstances, Disagree, Read, Write}
+use Rattle.epx_lines.specs.Lines.{lines_of}
+use Rattle.epx_merge.specs.LogLines.{MeaningAt, meaning_at, meanings_in, meanings_from, placed_at, placed_among, Spoilt, spoilt_at, spoilt_among}
+use Rattle.epx_merge.specs.Ledgers.{Noted, Notes}
+use Rattle.epx_merge.specs.Steps.{IsReadFault}
+use Rattle.epx_merge.proofs.Noting.{Notes-nil, Notes-append}
+
+pub placed_among-append : (xs ys : List MeaningAt) → placed_among (xs ++ ys) ≡ placed_among xs ++ placed_among ys
+placed_among-append xs ys = flat_map-append (λ (l : MeaningAt). placed_at l.place l.meaning) xs ys
+
+pub spoilt_among-append : (xs ys : List MeaningAt) → spoilt_among (xs ++ ys) ≡ spoilt_among xs ++ spoilt_among ys
+spoilt_among-append xs ys = flat_map-append (λ (l : MeaningAt). spoilt_at l.place l.meaning) xs ys
+
+-- lines after a bad one leave the first fault
+fault_before : (xs ys : List Spoilt) (f : Fault) → IsReadFault xs f → IsReadFault (xs ++ ys) f
+fault_before xs ys Memory h = h
+fault_before xs ys TooManyLogs h = h
+fault_before xs ys (LogTooLong log) h = h
+fault_before xs ys (BadLine place why) h = (h.0 ++ ys, ap (λ l. l ++ ys) h.1)
+fault_before xs ys TooManyInstances h = h
+fault_before xs ys (Disagree id first second) h = h
+fault_before xs ys (Read log) h = h
+fault_before xs ys Write h = h
+
+-- the lines read so far have no fault and are noted
+pub record Reads (lines : List MeaningAt) (old new : Noted) : Type 0 where
+  pub clean : spoilt_among lines ≡ []
+  pub noted : Notes (placed_among lines) old new
+
+pub Reads-nil : (noted : Noted) → Reads [] noted noted
+Reads-nil noted = record { clean = refl; noted = Notes-nil noted }
+
+pub Reads-append : (xs ys : List MeaningAt) (a b c : Noted) → Reads xs a b → spoilt_among ys ≡ [] → Notes (placed_among ys) b c → Reads (xs ++ ys) a c
+Reads-append xs ys a b c first clean noted = record {
+  clean = spoilt_among-append xs ys ∙ ap (λ l. l ++ spoilt_among ys) first.clean ∙ clean;
+  noted = subst (λ l. Notes l a c) (sym (placed_among-append xs ys)) (Notes-append (placed_among xs) (placed_among ys) a b c first.noted noted);
+}
+
+-- a fault after clean lines, whatever follows
+pub fault_after : (xs ys zs all : List MeaningAt) (f : Fault) → spoilt_among xs ≡ [] → IsReadFault (spoilt_among ys) f → xs ++ (ys ++ zs) ≡ all → IsReadFault (spoilt_among all) f
+fault_after xs ys zs all f clean h is =
+    let whole = spoilt_among-append xs (ys ++ zs) ∙ ap (λ l. l ++ spoilt_among (ys ++ zs)) clean ∙ spoilt_among-append ys zs in
+    let P : List Spoilt → Type 0 = λ l. IsReadFault l f in
+    subst P (ap spoilt_among is) (subst P (sym whole) (fault_before (spoilt_among ys) (spoilt_among zs) f h))
+
+-- ---- what is left
+
+-- the lines from a place on begin with the line at that place
+pub lines_from : {B : Type 0} (bytes : B → List ℕ) (items : List B) (log i : ℕ) (b : B) → i < length items
+    → meanings_in log (i + 1) (map bytes (drop i items)) ≡ meaning_at (record { log = log; line = i + 1 }) (bytes (get_or items i b)) ∷ meanings_in log (i + 1 + 1) (map bytes (drop (i + 1) items))
+lines_from bytes items log i b within =
+    let more : suc (i + 1) ≡ i + 1 + 1 = omega arith in
+    ap (λ rest. meanings_in log (i + 1) (map bytes rest)) (drop-cons items i b within)
+    ∙ ap (λ n. meaning_at (record { log = log; line = i + 1 }) (bytes (get_or items i b)) ∷ meanings_in log n (map bytes (drop (suc i) items))) more
+    ∙ ap (λ k. meaning_at (record { log = log; line = i + 1 }) (bytes (get_or items i b)) ∷ meanings_in log (i + 1 + 1) (map bytes (drop k items))) (sym (add-one i))
+
+-- the logs from a place on begin with the log at that place
+pub logs_from : {V : Type 0} (bytes : V → List ℕ) (logs : List V) (n : ℕ) (log : V) → n < length logs → log ≡ get_or logs n log
+    → meanings_from n (map bytes (drop n logs)) ≡ meanings_in n 1 (lines_of (bytes log)) ++ meanings_from (n + 1) (map bytes (drop (n + 1) logs))
+logs_from bytes logs n log within is =
+    ap (λ rest. meanings_from n (map bytes rest)) (drop-cons logs n log within)
+    ∙ ap (λ v. meanings_in n 1 (lines_of (bytes v)) ++ meanings_from (suc n) (map bytes (drop (suc n) logs))) (sym is)
+    ∙ ap (λ k. meanings_in n 1 (lines_of (bytes log)) ++ meanings_from k (map bytes (drop k logs))) (sym (add-one n))

@@ -1,0 +1,5 @@
+use Rattle.epx_merge.proofs.OneRefusal.{refusal_unique}
+use Rattle.epx_merge.proofs.laws.refusal_is_one.Goals as goal
+
+pub returns : goal.returns
+returns c = refusal_unique

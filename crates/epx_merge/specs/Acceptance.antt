@@ -1,0 +1,13 @@
+-- Logs that are accepted, and what they commit.
+use Rattle.std.specs.Prelude.{ℕ, List}
+use Rattle.epx_types.specs.Instances.{Instance}
+use Rattle.epx_types.specs.Agreement.{Agree}
+use Rattle.epx_types.specs.CommittedMap.{IsCommittedBy}
+use Rattle.epx_merge.specs.LogLines.{placed_of}
+use Rattle.epx_merge.specs.Refusals.{IsWhole, IsSmall}
+
+pub record IsAccepted (logs : List (List ℕ)) (m : List Instance) : Type 0 where
+  pub whole : IsWhole logs
+  pub small : IsSmall (placed_of logs)
+  pub agree : Agree (placed_of logs)
+  pub committed : IsCommittedBy (placed_of logs) m

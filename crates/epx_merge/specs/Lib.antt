@@ -1,0 +1,9 @@
+pub mod Limits
+pub mod LogLines
+pub mod Refusals
+pub mod Acceptance
+pub mod LogLaws
+pub mod Ledgers
+pub mod Keyed
+pub mod Steps
+pub mod LineOrder

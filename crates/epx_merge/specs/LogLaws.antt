@@ -1,0 +1,35 @@
+-- Laws of refusals and of accepted logs.
+use Rattle.std.specs.Prelude.{◌≡◌, ◌≢◌, ◌⊎◌, ℕ, List, Contains}
+use Rattle.epx_types.specs.declared.fault.Fault.{Fault}
+use Rattle.epx_types.specs.declared.fault.Fault.TheVariants.{Memory}
+use Rattle.epx_types.specs.declared.fault.Why.{Why}
+use Rattle.epx_types.specs.declared.place.Place.{Place}
+use Rattle.epx_types.specs.Instances.{Instance}
+use Rattle.epx_types.specs.PlacedLines.{Earlier, HavePlacesOfTheirOwn}
+use Rattle.epx_merge.specs.LogLines.{placed_of, Spoilt, spoilt_of}
+use Rattle.epx_merge.specs.Refusals.{IsFirstSpoilt, IsRefusal}
+use Rattle.epx_merge.specs.Acceptance.{IsAccepted}
+
+-- logs that are accepted are not refused, want of memory aside
+abbrev pub AcceptedIsNotRefused : Type 0
+AcceptedIsNotRefused = (logs : List (List ℕ)) (m : List Instance) (f : Fault) → IsAccepted logs m → f ≢ Memory → ¬ IsRefusal logs f
+
+-- logs have one refusal, want of memory aside
+abbrev pub RefusalIsOne : Type 0
+RefusalIsOne = (logs : List (List ℕ)) (f g : Fault) → f ≢ Memory → g ≢ Memory → IsRefusal logs f → IsRefusal logs g → f ≡ g
+
+-- what accepted logs commit is one map
+abbrev pub AcceptedMapIsOne : Type 0
+AcceptedMapIsOne = (logs : List (List ℕ)) (m n : List Instance) → IsAccepted logs m → IsAccepted logs n → m ≡ n
+
+-- every list of logs is accepted or refused
+abbrev pub LogsHaveAnAnswer : Type 0
+LogsHaveAnAnswer = (logs : List (List ℕ)) → ((m : List Instance) × IsAccepted logs m) ⊎ ((f : Fault) × (f ≢ Memory) × IsRefusal logs f)
+
+-- no two lines of logs stand at one place
+abbrev pub LinesHavePlacesOfTheirOwn : Type 0
+LinesHavePlacesOfTheirOwn = (logs : List (List ℕ)) → HavePlacesOfTheirOwn (placed_of logs)
+
+-- the bad line that is named stands before all others
+abbrev pub NamedBadLineIsLeast : Type 0
+NamedBadLineIsLeast = (logs : List (List ℕ)) (place : Place) (why : Why) → IsFirstSpoilt (spoilt_of logs) place why → (x : Spoilt) → Contains (spoilt_of logs) x → (place ≡ x.place) ⊎ Earlier place x.place

@@ -1,0 +1,60 @@
+-- The lines of logs: what each means at its place, those that give an instance, and those that have a fault.
+use Rattle.std.specs.Prelude.{ℕ, suc, List, [], ◌∷◌, ◌++◌, flat_map, Result, Ok, Err}
+use Rattle.epx_types.specs.declared.place.Place.{Place}
+use Rattle.epx_types.specs.declared.fault.Why.{Why}
+use Rattle.epx_types.specs.PlacedLines.{Placed}
+use Rattle.epx_lines.specs.Lines.{lines_of}
+use Rattle.epx_lines.specs.Meaning.{meaning_of}
+use Rattle.epx_lines.specs.declared.Line.{Line}
+use Rattle.epx_lines.specs.declared.Line.TheVariants.{Blank, Entry}
+
+-- a line, by what it means
+pub record MeaningAt : Type 0 where
+  pub place : Place
+  pub meaning : Result Line Why
+
+abbrev pub meaning_at : Place → List ℕ → MeaningAt
+meaning_at place bytes = record { place = place; meaning = meaning_of bytes }
+
+-- the lines of one log, the first of which has this number
+abbrev pub meanings_in : ℕ → ℕ → List (List ℕ) → List MeaningAt
+meanings_in log n [] = []
+meanings_in log n (l ∷ ls) = meaning_at (record { log = log; line = n }) l ∷ meanings_in log (suc n) ls
+
+-- the lines of logs, the first of which has this number. In each log lines are numbered from 1
+abbrev pub meanings_from : ℕ → List (List ℕ) → List MeaningAt
+meanings_from n [] = []
+meanings_from n (log ∷ logs) = meanings_in n 1 (lines_of log) ++ meanings_from (suc n) logs
+
+-- the lines of all logs, by log and then by line
+abbrev pub meanings_of : List (List ℕ) → List MeaningAt
+meanings_of logs = meanings_from 0 logs
+
+-- ---- the lines that give an instance
+
+abbrev pub placed_at : Place → Result Line Why → List Placed
+placed_at p (Ok Blank) = []
+placed_at p (Ok (Entry e)) = record { place = p; instance = e } ∷ []
+placed_at p (Err why) = []
+
+abbrev pub placed_among : List MeaningAt → List Placed
+placed_among lines = flat_map (λ l. placed_at l.place l.meaning) lines
+
+abbrev pub placed_of : List (List ℕ) → List Placed
+placed_of logs = placed_among (meanings_of logs)
+
+-- ---- the lines that have a fault
+
+pub record Spoilt : Type 0 where
+  pub place : Place
+  pub why : Why
+
+abbrev pub spoilt_at : Place → Result Line Why → List Spoilt
+spoilt_at p (Ok l) = []
+spoilt_at p (Err why) = record { place = p; why = why } ∷ []
+
+abbrev pub spoilt_among : List MeaningAt → List Spoilt
+spoilt_among lines = flat_map (λ l. spoilt_at l.place l.meaning) lines
+
+abbrev pub spoilt_of : List (List ℕ) → List Spoilt
+spoilt_of logs = spoilt_among (meanings_of logs)

@@ -1,0 +1,68 @@
+-- Refusals of logs, in their order.
+use Rattle.std.specs.Prelude.{◌≡◌, ℕ, ◌<◌, ◌≤◌, List, [], ◌∷◌, length, Contains, slice_get, Some}
+use Rattle.epx_types.specs.declared.id.Id.{Id}
+use Rattle.epx_types.specs.declared.place.Place.{Place}
+use Rattle.epx_types.specs.declared.fault.Fault.{Fault}
+use Rattle.epx_types.specs.declared.fault.Fault.TheVariants.{Memory, TooManyLogs, LogTooLong, BadLine, TooManyInstances, Disagree, Read, Write}
+use Rattle.epx_types.specs.declared.fault.Why.{Why}
+use Rattle.epx_types.specs.Ids.{IsRising}
+use Rattle.epx_types.specs.PlacedLines.{Placed}
+use Rattle.epx_types.specs.Agreement.{IsFirstDisagreement}
+use Rattle.epx_merge.specs.Limits.{max_logs, max_log_bytes, max_instances}
+use Rattle.epx_merge.specs.LogLines.{placed_of, Spoilt, spoilt_of}
+
+-- ---- the least log that is too long
+
+pub record IsFirstTooLong (logs : List (List ℕ)) (log : ℕ) : Type 0 where
+  pub long : (bytes : List ℕ) × (slice_get logs log ≡ Some bytes) × (max_log_bytes < length bytes)
+  pub first : (k : ℕ) (bytes : List ℕ) → k < log → slice_get logs k ≡ Some bytes → length bytes ≤ max_log_bytes
+
+abbrev pub NoneTooLong : List (List ℕ) → Type 0
+NoneTooLong logs = (k : ℕ) (bytes : List ℕ) → slice_get logs k ≡ Some bytes → length bytes ≤ max_log_bytes
+
+-- not too many logs, and none too long
+abbrev pub Fits : List (List ℕ) → Type 0
+Fits logs = (length logs ≤ max_logs) × NoneTooLong logs
+
+-- ---- the least bad line
+
+-- bad lines stand by log and then by line, so the first of them is the least
+abbrev pub IsFirstSpoilt : List Spoilt → Place → Why → Type 0
+IsFirstSpoilt lines place why = (rest : List Spoilt) × (lines ≡ record { place = place; why = why } ∷ rest)
+
+-- they fit, and no line is bad
+abbrev pub IsWhole : List (List ℕ) → Type 0
+IsWhole logs = Fits logs × (spoilt_of logs ≡ [])
+
+-- ---- too many instances
+
+-- the distinct instances of the lines
+pub record AreNamedBy (lines : List Placed) (ids : List Id) : Type 0 where
+  pub rising : IsRising ids
+  pub whole : (p : Placed) → Contains lines p → Contains ids p.instance.id
+  pub named : (x : Id) → Contains ids x → (p : Placed) × Contains lines p × (p.instance.id ≡ x)
+
+abbrev pub IsSmall : List Placed → Type 0
+IsSmall lines = (ids : List Id) × AreNamedBy lines ids × (length ids ≤ max_instances)
+
+abbrev pub IsLarge : List Placed → Type 0
+IsLarge lines = (ids : List Id) × AreNamedBy lines ids × (max_instances < length ids)
+
+-- ---- the first disagreement
+
+-- the least instance with two lines that differ, its first place, and the first later place that differs from that one
+abbrev pub IsDisagreementAt : List Placed → Id → Place → Place → Type 0
+IsDisagreementAt lines id first second = (p q : Placed) × IsFirstDisagreement lines id p q × (p.place ≡ first) × (q.place ≡ second)
+
+-- ---- all of them
+
+-- the refusal is the first that applies. Want of memory may stand in place of any answer; devices have faults of their own
+abbrev pub IsRefusal : List (List ℕ) → Fault → Type 0
+IsRefusal logs Memory = Unit {0}
+IsRefusal logs TooManyLogs = max_logs < length logs
+IsRefusal logs (LogTooLong log) = (length logs ≤ max_logs) × IsFirstTooLong logs log
+IsRefusal logs (BadLine place why) = Fits logs × IsFirstSpoilt (spoilt_of logs) place why
+IsRefusal logs TooManyInstances = IsWhole logs × IsLarge (placed_of logs)
+IsRefusal logs (Disagree id first second) = IsWhole logs × IsSmall (placed_of logs) × IsDisagreementAt (placed_of logs) id first second
+IsRefusal logs (Read log) = ⊥
+IsRefusal logs Write = ⊥

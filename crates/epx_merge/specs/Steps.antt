@@ -1,0 +1,37 @@
+-- What each step of reading logs finds, or why it goes no further.
+use Rattle.std.specs.Prelude.{List}
+use Rattle.epx_types.specs.declared.fault.Fault.{Fault}
+use Rattle.epx_types.specs.declared.fault.Fault.TheVariants.{Memory, TooManyLogs, LogTooLong, BadLine, TooManyInstances, Disagree, Read, Write}
+use Rattle.epx_types.specs.Instances.{Instance}
+use Rattle.epx_types.specs.PlacedLines.{Placed}
+use Rattle.epx_types.specs.Agreement.{Agree}
+use Rattle.epx_types.specs.CommittedMap.{IsCommittedBy}
+use Rattle.epx_merge.specs.LogLines.{Spoilt}
+use Rattle.epx_merge.specs.Refusals.{IsFirstSpoilt, IsSmall, IsLarge, IsDisagreementAt}
+
+-- the first bad line; want of memory says nothing of the lines
+abbrev pub IsReadFault : List Spoilt → Fault → Type 0
+IsReadFault lines Memory = Unit {0}
+IsReadFault lines (BadLine place why) = IsFirstSpoilt lines place why
+IsReadFault lines TooManyLogs = ⊥
+IsReadFault lines (LogTooLong log) = ⊥
+IsReadFault lines TooManyInstances = ⊥
+IsReadFault lines (Disagree id first second) = ⊥
+IsReadFault lines (Read log) = ⊥
+IsReadFault lines Write = ⊥
+
+pub record IsMerged (lines : List Placed) (m : List Instance) : Type 0 where
+  pub small : IsSmall lines
+  pub agree : Agree lines
+  pub committed : IsCommittedBy lines m
+
+-- too many instances, or the first disagreement
+abbrev pub IsMergeFault : List Placed → Fault → Type 0
+IsMergeFault lines Memory = Unit {0}
+IsMergeFault lines TooManyInstances = IsLarge lines
+IsMergeFault lines (Disagree id first second) = IsSmall lines × IsDisagreementAt lines id first second
+IsMergeFault lines TooManyLogs = ⊥
+IsMergeFault lines (LogTooLong log) = ⊥
+IsMergeFault lines (BadLine place why) = ⊥
+IsMergeFault lines (Read log) = ⊥
+IsMergeFault lines Write = ⊥

@@ -1,0 +1,102 @@
+//! The first line of each instance, and where the lines of one instance differ.
+ghost use Rattle.std.specs.Prelude.{◌≡◌, List, [], ◌∷◌, OnOk, MatchResult};
+ghost use Rattle.epx_types.specs.PlacedLines.{Placed};
+ghost use Rattle.epx_merge.specs.Ledgers.{IsLedgerOf, Notes};
+ghost use Rattle.epx_merge.specs.LineOrder.{InPlaceOrder};
+ghost use Rattle.epx_merge.specs.Steps.{IsMerged, IsMergeFault};
+
+use crate::limits::MAX_INSTANCES;
+use crate::merged::Merged;
+use crate::placed::PlacedEntry;
+use crate::same::same_entry;
+use epx_types::{Fault, Id, Memory, Place};
+use indexmap::IndexMap;
+use std::alloc::Global;
+use std::marker::Model;
+
+/// The first line of an instance, and the first that differs from it.
+#[derive(Clone, Copy, Debug)]
+pub(crate) struct Clash {
+    pub(crate) first: Place,
+    pub(crate) second: Place,
+}
+
+/// Notes lines one by one, and keeps one entry an instance.
+#[derive(Debug, Drop)]
+pub(crate) struct Ledger {
+    firsts: IndexMap<Id, PlacedEntry>,
+    clashes: IndexMap<Id, Clash>,
+}
+
+impl Model for Ledger {
+    ghost use Rattle.epx_merge.specs.Ledgers.{Noted};
+    ghost use Rattle.epx_merge.specs.Keyed.{StandUnderTheirNames};
+
+    ghost Value = { Noted };
+
+    ghost view = { λ l. record { firsts = l.firsts.entries; clashes = l.clashes.entries } };
+
+    ghost invariant = { λ l. StandUnderTheirNames l.firsts.entries };
+}
+
+impl Ledger {
+    pub(crate) fn new(alloc: Global) -> Ledger
+        ensures { IsLedgerOf [] result }
+    {
+        Ledger {
+            firsts: IndexMap::new(alloc),
+            clashes: IndexMap::new(alloc),
+        }
+    }
+
+    /// Notes one line more; the lines must come by log and then by line.
+    pub(crate) fn note(&mut self, line: PlacedEntry) -> Result<(), Memory>
+        ensures { OnOk result (Notes (line ∷ []) self.old self.new) }
+    {
+        let id = line.id();
+        let Some(first) = self.firsts.get(&id) else {
+            self.firsts.insert(id, line)?;
+            return Ok(());
+        };
+        if same_entry(first.entry(), line.entry()) {
+            return Ok(());
+        }
+        if self.clashes.contains_key(&id) {
+            return Ok(());
+        }
+        let clash = Clash {
+            first: first.place(),
+            second: line.place(),
+        };
+        self.clashes.insert(id, clash)?;
+        Ok(())
+    }
+
+    /// The map that the noted lines commit, or why they commit none.
+    pub(crate) fn close(self) -> Result<Merged, Fault>
+        ensures { (lines : List Placed) → InPlaceOrder lines → IsLedgerOf lines self
+            → MatchResult result (IsMerged lines) (IsMergeFault lines) }
+    {
+        let Ledger {
+            mut firsts,
+            mut clashes,
+        } = self;
+        let Ok(()) = firsts.sort_keys() else {
+            return Err(Fault::Memory);
+        };
+        let Ok(()) = clashes.sort_keys() else {
+            return Err(Fault::Memory);
+        };
+        if firsts.len() > MAX_INSTANCES {
+            return Err(Fault::TooManyInstances);
+        }
+        match clashes.first() {
+            Some((id, clash)) => Err(Fault::Disagree {
+                id: *id,
+                first: clash.first,
+                second: clash.second,
+            }),
+            None => Ok(Merged::new(firsts)),
+        }
+    }
+}

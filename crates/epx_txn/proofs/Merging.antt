@@ -1,0 +1,19 @@
+-- The writes of several effects in turn.
+use Rattle.std.proofs.Common.{◌≡◌, ℕ, ◌+◌, ◌<◌, ◌∙◌, sym, ap, List, length, get_or, drop, flat_map}
+use Rattle.epx_types.specs.Contents.{Contents}
+use Rattle.epx_types.specs.Writes.{Write, put_all}
+use Rattle.epx_types.proofs.GatheredWrites.{put_all-append}
+use Rattle.epx_txn.proofs.Remaining.{left_at}
+use Rattle.epx_txn.specs.declared.effect.Effect.{Effect}
+
+-- the writes of all effects, one after another
+abbrev pub writes_in : List Effect → List Write
+writes_in effects = flat_map (λ e. e.writes) effects
+
+-- one more effect is put in
+pub after_effect : (effects : List Effect) (i : ℕ) (e : Effect) (before after all : Contents) → i < length effects → e ≡ get_or effects i e → after ≡ put_all e.writes before → put_all (writes_in (drop i effects)) before ≡ all → put_all (writes_in (drop (i + 1) effects)) after ≡ all
+after_effect effects i e before after all within here put so_far =
+    ap (put_all (writes_in (drop (i + 1) effects))) put
+    ∙ sym (put_all-append e.writes (writes_in (drop (i + 1) effects)) before)
+    ∙ ap (λ es. put_all (writes_in es) before) (sym (left_at effects i e within here))
+    ∙ so_far

@@ -1,0 +1,5 @@
+use Rattle.epx_txn.proofs.EvaluationSteps.{IsDoneUpTo}
+use Rattle.epx_txn.proofs.evaluation.eval.Given as goal
+
+abbrev pub invariant-loop-place : goal.invariant-loop-place
+invariant-loop-place l = IsDoneUpTo l.ops l.store l.place l.draft l.got.items

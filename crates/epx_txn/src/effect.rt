@@ -1,0 +1,42 @@
+//! What a command does.
+ghost use Rattle.std.specs.Prelude.{◌≡◌};
+
+use epx_types::{Key, Reply};
+use std::marker::Model;
+
+/// Keys with the value that each holds afterwards, or None where it is absent. Contracts see it as
+/// a list.
+#[derive(Debug, Drop)]
+pub struct Writes {
+    items: Vec<(Key, Option<i64>)>,
+}
+
+impl Model for Writes {
+    ghost use Rattle.std.specs.Prelude.{List};
+    ghost use Rattle.epx_types.specs.Writes.{Write};
+
+    ghost Value = { List Write };
+
+    ghost view = { λ w. w.items.items };
+}
+
+impl Writes {
+    pub fn new(items: Vec<(Key, Option<i64>)>) -> Writes
+        ensures { result ≡ items.items }
+    {
+        Writes { items }
+    }
+
+    pub fn as_slice(&self) -> &[(Key, Option<i64>)]
+        ensures { result.now ≡ self.now }
+    {
+        self.items.as_slice()
+    }
+}
+
+/// The reply of a command, and what it writes.
+#[derive(Debug, Drop)]
+pub struct Effect {
+    pub reply: Reply,
+    pub writes: Writes,
+}

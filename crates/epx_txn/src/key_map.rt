@@ -1,0 +1,110 @@
+//! Values under keys.
+ghost use Rattle.std.specs.Prelude.{◌≡◌, IfOk, OnOk, OnErr, map};
+ghost use Rattle.std.specs.FinMap as contents;
+ghost use Rattle.epx_types.specs.Keys.{key_cmp};
+
+use epx_types::{Key, Memory};
+use std::alloc::Global;
+use std::collections::BTreeMap;
+use std::marker::Model;
+
+/// Values under keys, in the order of the keys. Contracts see it as one finite map.
+#[derive(Debug, Drop)]
+pub(crate) struct KeyMap<V> {
+    alloc: Global,
+    map: BTreeMap<Key, V>,
+}
+
+impl<V> Model for KeyMap<V> {
+    ghost use Rattle.std.specs.FinMap as contents;
+    ghost use Rattle.std.specs.Coded.{coded_list, coded_ℕ};
+    ghost use Rattle.epx_types.specs.Keys.{key_cmp};
+
+    ghost Value = { contents.FinMap key_cmp V };
+
+    ghost coded = { contents.code (coded_list coded_ℕ) V.code };
+
+    ghost view = { λ m. contents.from_entries m.map.entries };
+}
+
+impl<V: Copy> KeyMap<V> {
+    pub(crate) fn new(alloc: Global) -> KeyMap<V>
+        ensures { result ≡ contents.empty }
+    {
+        KeyMap {
+            alloc,
+            map: BTreeMap::new(alloc),
+        }
+    }
+
+    pub(crate) fn get(&self, key: &Key) -> Option<V>
+        ensures { result ≡ contents.get self.now key.now }
+    {
+        self.map.get(key).copied()
+    }
+
+    pub(crate) fn len(&self) -> usize
+        ensures { result ≡ contents.len self.now }
+    {
+        self.map.len()
+    }
+
+    pub(crate) fn insert(&mut self, key: Key, value: V) -> Result<(), Memory>
+        ensures ok { OnOk result (self.new ≡ contents.insert self.old key value) }
+        ensures err { OnErr result (self.new ≡ self.old) }
+    {
+        self.map.insert(key, value)?;
+        Ok(())
+    }
+
+    /// As `insert`, with a key that is lent and is copied only where it is new.
+    pub(crate) fn set(&mut self, key: &Key, value: V) -> Result<(), Memory>
+        ensures ok { OnOk result (self.new ≡ contents.insert self.old key.now value) }
+        ensures err { OnErr result (self.new ≡ self.old) }
+    {
+        if let Some(held) = self.map.get_mut(key) {
+            *held = value;
+            return Ok(());
+        }
+        self.insert(key.copy()?, value)
+    }
+
+    pub(crate) fn remove(&mut self, key: &Key)
+        ensures { self.new ≡ contents.remove self.old key.now }
+    {
+        let _ = self.map.remove(key);
+    }
+
+    pub(crate) fn copy(&self) -> Result<KeyMap<V>, Memory>
+        ensures { IfOk result (λ m. m ≡ self.now) }
+    {
+        let mut made = KeyMap::new(self.alloc);
+        for (key, value) in &self.map {
+            made.insert(key.copy()?, *value)?;
+        }
+        Ok(made)
+    }
+
+    /// The keys with their values, by rising key.
+    pub(crate) fn pairs(&self) -> Result<Vec<(&Key, V)>, Memory>
+        ensures { IfOk result (λ v. map (λ p. (p.0.now, p.1)) v.items ≡ contents.entries self.now) }
+    {
+        let mut pairs = Vec::new(self.alloc);
+        for (key, value) in &self.map {
+            pairs.push((key, *value))?;
+        }
+        Ok(pairs)
+    }
+
+    /// The same, with the keys moved out.
+    pub(crate) fn into_pairs(self) -> Result<Vec<(Key, V)>, Memory>
+        ensures { IfOk result (λ v. v.items ≡ contents.entries self) }
+    {
+        let KeyMap { alloc, map } = self;
+        let mut pairs = Vec::new(alloc);
+        for (key, value) in map {
+            pairs.push((key, value))?;
+        }
+        Ok(pairs)
+    }
+}
