@@ -8,4 +8,3 @@ pub mod ConflictLaws
 pub mod LevelLaws
 pub mod PieceLaws
 pub mod DoneLaws
-pub mod OrderingLaws

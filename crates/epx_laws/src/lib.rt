@@ -9,6 +9,5 @@ pub mod done;
 pub mod execution;
 pub mod levels;
 pub mod order;
-pub mod orders;
 pub mod pieces;
 pub mod reaching;

@@ -1,2 +1,0 @@
-pub mod KnownBytes
-pub mod Transferring

@@ -1,5 +1,0 @@
-pub mod Devices
-pub mod MemorySink
-pub mod WatchedDevices
-pub mod Fuses
-pub mod Transfers
