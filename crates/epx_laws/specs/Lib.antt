@@ -8,3 +8,4 @@ pub mod ConflictLaws
 pub mod LevelLaws
 pub mod PieceLaws
 pub mod DoneLaws
+pub mod OrderingLaws

@@ -9,5 +9,6 @@ pub mod done;
 pub mod execution;
 pub mod levels;
 pub mod order;
+pub mod orders;
 pub mod pieces;
 pub mod reaching;

@@ -80,21 +80,42 @@ fn no_logs_commit_nothing(rt: HostRuntime) -> Result<(), Fail> {
 
 #[test]
 fn dependency_sets_agree(rt: HostRuntime) -> Result<(), Fail> {
+    let first = "{\"r\":2,\"i\":0,\"seq\":2,\"deps\":[[1,0],[0,0]],\"ops\":[]}\n";
+    let second = "{\"r\":2,\"i\":0,\"seq\":2,\"deps\":[[0,0],[1,0],[1,0]],\"ops\":[]}\n";
+    let merged = read(&rt, rt.alloc(), &[first, second])?.expect(&rt, "a map");
+    assert_eq!(rt; merged.len(), 1);
+    let entry = merged.get(id(2, 0)).ok_or("an entry")?;
+    assert_eq!(rt; entry.deps(), [id(0, 0), id(1, 0)].as_slice());
+    assert_eq!(rt; merged.position(id(0, 0)), None);
+    Ok(())
+}
+
+#[test]
+fn instances_stand_by_rising_id(rt: HostRuntime) -> Result<(), Fail> {
     let merged = read(&rt, rt.alloc(), &[A, LESS_TURNED, LESS])?.expect(&rt, "a map");
     assert_eq!(rt; merged.len(), 2);
     assert_eq!(rt; merged.position(id(0, 9)), Some(0));
     assert_eq!(rt; merged.position(id(1, 7)), Some(1));
     assert_eq!(rt; merged.position(id(1, 8)), None);
     if 0 < merged.len() {
-        let entry = merged.entry_at(0);
-        assert_eq!(rt; entry.deps(), [id(1, 1), id(2, 2)].as_slice());
+        assert_eq!(rt; merged.entry_at(0).id(), id(0, 9));
     }
     Ok(())
 }
 
 #[test]
 fn first_disagreement_by_id(rt: HostRuntime) -> Result<(), Fail> {
-    // the greater instance differs first
+    let first =
+        "{\"r\":0,\"i\":5,\"seq\":1,\"deps\":[],\"ops\":[]}\n{\"r\":0,\"i\":2,\"seq\":1,\"deps\":[],\"ops\":[]}\n";
+    let second =
+        "{\"r\":0,\"i\":5,\"seq\":2,\"deps\":[],\"ops\":[]}\n{\"r\":0,\"i\":2,\"seq\":1,\"deps\":[],\"ops\":[[\"get\",\"a\"]]}\n";
+    let fault = read(&rt, rt.alloc(), &[first, second])?.err();
+    assert_eq!(rt; fault, disagree(id(0, 2), place(0, 2), place(1, 2)));
+    Ok(())
+}
+
+#[test]
+fn the_least_instance_is_named_where_a_greater_differs_first(rt: HostRuntime) -> Result<(), Fail> {
     let fault = read(&rt, rt.alloc(), &[A, B, LESS, LESS_OTHER])?.err();
     assert_eq!(rt; fault, disagree(id(0, 9), place(2, 1), place(3, 1)));
     Ok(())
@@ -120,8 +141,12 @@ fn disagreement_inside_one_log(rt: HostRuntime) -> Result<(), Fail> {
 
 #[test]
 fn bad_line_before_disagreement(rt: HostRuntime) -> Result<(), Fail> {
-    let fault = read(&rt, rt.alloc(), &[A, B, "\n{\"r\":0}"])?.err();
-    assert_eq!(rt; fault, bad_line(place(2, 2), Why::Number));
+    let first =
+        "{\"r\":0,\"i\":0,\"seq\":1,\"deps\":[],\"ops\":[]}\n{\"r\":0,\"i\":0,\"seq\":2,\"deps\":[],\"ops\":[]}\n";
+    let second =
+        "{\"r\":1,\"i\":0,\"seq\":1,\"deps\":[],\"ops\":[]}\n{\"r\":1,\"i\":1,\"seq\":1,\"deps\":[],\"ops\":[]}\n{\"r\":0}";
+    let fault = read(&rt, rt.alloc(), &[first, second])?.err();
+    assert_eq!(rt; fault, bad_line(place(1, 3), Why::Number));
     Ok(())
 }
 

@@ -1,0 +1,101 @@
+//! A sink in memory that fails once a set number of bytes have passed.
+ghost use Rattle.std.specs.Prelude.{◌≡◌, ◌≤◌, ◌↔◌, false, true, [], ◌++◌, Some, IfOk, OnOk, OnErr, IsErr, length, take};
+ghost use Rattle.std.specs.Io.{WritesAtMost};
+ghost use Rattle.std.specs.Io.KnownBytes.{Keeps, WriteAppends};
+ghost use Rattle.epx_tool.specs.Devices.{TakesSome, failed_after};
+ghost use Rattle.epx_tool.specs.Fuses.{IsBlown, passing, after_failure, after_passing};
+
+use crate::device::{DeviceFault, Sink};
+use crate::fuse::{burnt, passing};
+use std::alloc::Global;
+use std::marker::Model;
+
+/// Keeps what it takes, and fails each call once so many bytes have passed. A growth that is refused
+/// fails the call too, and takes nothing.
+#[derive(Drop)]
+pub struct FuseSink {
+    bytes: Vec<u8>,
+    at_once: usize,
+    fuse: Option<usize>,
+    failed: bool,
+}
+
+impl Model for FuseSink {
+    ghost use Rattle.std.specs.Prelude.{◌≤◌};
+    ghost use Rattle.epx_tool.specs.Fuses.{Fused};
+
+    ghost Value = { Fused };
+
+    ghost view = { λ s. record { bytes = s.bytes.items; at_once = s.at_once; fuse = s.fuse; failed = s.failed } };
+
+    ghost invariant = { λ s. 1 ≤ s.at_once };
+}
+
+impl FuseSink {
+    /// At most `at_once` bytes pass in a call, and at most `fuse` in all.
+    pub fn new(alloc: Global, at_once: usize, fuse: Option<usize>) -> FuseSink
+        requires { 1 ≤ at_once }
+        ensures { result ≡ record { bytes = []; at_once = at_once; fuse = fuse; failed = false } }
+    {
+        FuseSink {
+            bytes: Vec::new(alloc),
+            at_once,
+            fuse,
+            failed: false,
+        }
+    }
+
+    /// What it has taken.
+    pub fn bytes(&self) -> &[u8]
+        ensures { result.now ≡ self.now.bytes }
+    {
+        &self.bytes
+    }
+}
+
+impl Sink for FuseSink {
+    ghost contents = { λ s. Some s.bytes };
+
+    ghost is_flushed = { λ _. true };
+
+    ghost has_failed = { λ s. s.failed };
+
+    fn write_some(&mut self, part: &[u8]) -> Result<usize, DeviceFault>
+        ensures bound { WritesAtMost result part.now }
+        ensures some { TakesSome result part.now }
+        ensures bytes { WriteAppends (Some self.old.bytes) (Some self.new.bytes) result part.now }
+        ensures failures { self.new.failed ≡ failed_after self.old.failed result }
+
+        ensures blown { IsBlown self.old → IsErr result }
+        ensures err { OnErr result (self.new ≡ after_failure self.old) }
+        ensures count { IfOk result (λ n. n ≡ passing self.old (length part.now)) }
+        ensures ok { IfOk result (λ n. self.new ≡ after_passing self.old n (self.old.bytes ++ take n part.now)) }
+    {
+        let count = passing(part.len(), self.at_once, self.fuse);
+        if self.fuse == Some(0) || self.bytes.extend_from_slice(&part[..count]).is_err() {
+            self.failed = true;
+            return Err(DeviceFault);
+        }
+        self.fuse = burnt(self.fuse, count);
+        Ok(count)
+    }
+
+    fn flush(&mut self) -> Result<(), DeviceFault>
+        ensures bytes { Keeps (Some self.old.bytes) (Some self.new.bytes) }
+        ensures failures { self.new.failed ≡ failed_after self.old.failed result }
+
+        ensures blown { IsErr result ↔ IsBlown self.old }
+        ensures err { OnErr result (self.new ≡ after_failure self.old) }
+        ensures ok { OnOk result (self.new ≡ self.old) }
+    {
+        if self.fuse == Some(0) {
+            self.failed = true;
+            return Err(DeviceFault);
+        }
+        Ok(())
+    }
+
+    fn failed(&self) -> bool {
+        self.failed
+    }
+}

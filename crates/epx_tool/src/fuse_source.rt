@@ -1,0 +1,76 @@
+//! A source over memory that fails once a set number of bytes have passed.
+ghost use Rattle.std.specs.Prelude.{◌≡◌, ◌≤◌, ◌↔◌, false, Some, IfOk, OnErr, IsErr, length, min, drop};
+ghost use Rattle.std.specs.Io.{ReadsAtMost};
+ghost use Rattle.std.specs.Io.KnownBytes.{ReadConsumes};
+ghost use Rattle.epx_tool.specs.Devices.{failed_after};
+ghost use Rattle.epx_tool.specs.Fuses.{IsBlown, passing, after_failure, after_passing};
+
+use crate::device::{DeviceFault, Source};
+use crate::fuse::{burnt, passing};
+use std::marker::Model;
+
+/// Gives the bytes of a slice, and fails each call once so many have passed.
+#[derive(Drop)]
+pub struct FuseSource<'a> {
+    bytes: &'a [u8],
+    at_once: usize,
+    fuse: Option<usize>,
+    failed: bool,
+}
+
+impl<'a> Model for FuseSource<'a> {
+    ghost use Rattle.std.specs.Prelude.{◌≤◌};
+    ghost use Rattle.epx_tool.specs.Fuses.{Fused};
+
+    ghost Value = { Fused };
+
+    ghost view = { λ s. record { bytes = s.bytes.now; at_once = s.at_once; fuse = s.fuse; failed = s.failed } };
+
+    ghost invariant = { λ s. 1 ≤ s.at_once };
+}
+
+impl<'a> FuseSource<'a> {
+    /// At most `at_once` bytes pass in a call, and at most `fuse` in all.
+    pub fn new(bytes: &'a [u8], at_once: usize, fuse: Option<usize>) -> FuseSource<'a>
+        requires { 1 ≤ at_once }
+        ensures { result ≡ record { bytes = bytes.now; at_once = at_once; fuse = fuse; failed = false } }
+    {
+        FuseSource {
+            bytes,
+            at_once,
+            fuse,
+            failed: false,
+        }
+    }
+}
+
+impl Source for FuseSource<'_> {
+    ghost remaining = { λ s. Some s.bytes };
+
+    ghost has_failed = { λ s. s.failed };
+
+    fn read_some(&mut self, part: &mut [u8]) -> Result<usize, DeviceFault>
+        ensures bound { ReadsAtMost result part.new }
+        ensures bytes { ReadConsumes (Some self.old.bytes) (Some self.new.bytes) result part.new }
+        ensures failures { self.new.failed ≡ failed_after self.old.failed result }
+
+        ensures blown { IsErr result ↔ IsBlown self.old }
+        ensures err { OnErr result (self.new ≡ after_failure self.old) }
+        ensures count { IfOk result (λ n. n ≡ min (passing self.old (length part.new)) (length self.old.bytes)) }
+        ensures ok { IfOk result (λ n. self.new ≡ after_passing self.old n (drop n self.old.bytes)) }
+    {
+        if self.fuse == Some(0) {
+            self.failed = true;
+            return Err(DeviceFault);
+        }
+        let count = passing(part.len().min(self.bytes.len()), self.at_once, self.fuse);
+        part[..count].copy_from_slice(&self.bytes[..count]);
+        self.bytes = &self.bytes[count..];
+        self.fuse = burnt(self.fuse, count);
+        Ok(count)
+    }
+
+    fn failed(&self) -> bool {
+        self.failed
+    }
+}

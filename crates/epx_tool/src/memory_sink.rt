@@ -1,0 +1,77 @@
+//! A sink in memory, whose bytes are known.
+ghost use Rattle.std.specs.Prelude.{◌≡◌, false, true, [], Some, IfOk, IsOk, OnOk, length};
+ghost use Rattle.std.specs.Io.{WritesAtMost};
+ghost use Rattle.std.specs.Io.KnownBytes.{Keeps, WriteAppends};
+ghost use Rattle.epx_tool.specs.Devices.{TakesSome, failed_after};
+
+use crate::device::{DeviceFault, Sink};
+use std::alloc::Global;
+use std::marker::Model;
+
+/// Keeps what it takes. A growth that is refused fails the call, and takes nothing.
+#[derive(Drop)]
+pub struct MemorySink {
+    bytes: Vec<u8>,
+    failed: bool,
+}
+
+impl Model for MemorySink {
+    ghost use Rattle.epx_tool.specs.MemorySink.{Taken};
+
+    ghost Value = { Taken };
+
+    ghost view = { λ s. record { bytes = s.bytes.items; failed = s.failed } };
+}
+
+impl MemorySink {
+    pub fn new(alloc: Global) -> MemorySink
+        ensures { result ≡ record { bytes = []; failed = false } }
+    {
+        MemorySink {
+            bytes: Vec::new(alloc),
+            failed: false,
+        }
+    }
+
+    /// What it has taken.
+    pub fn bytes(&self) -> &[u8]
+        ensures { result.now ≡ self.now.bytes }
+    {
+        &self.bytes
+    }
+}
+
+impl Sink for MemorySink {
+    ghost contents = { λ s. Some s.bytes };
+
+    ghost is_flushed = { λ _. true };
+
+    ghost has_failed = { λ s. s.failed };
+
+    fn write_some(&mut self, part: &[u8]) -> Result<usize, DeviceFault>
+        ensures bound { WritesAtMost result part.now }
+        ensures some { TakesSome result part.now }
+        ensures bytes { WriteAppends (Some self.old.bytes) (Some self.new.bytes) result part.now }
+        ensures whole { IfOk result (λ n. n ≡ length part.now) }
+        ensures failures { self.new.failed ≡ failed_after self.old.failed result }
+    {
+        if self.bytes.extend_from_slice(part).is_err() {
+            self.failed = true;
+            return Err(DeviceFault);
+        }
+        Ok(part.len())
+    }
+
+    fn flush(&mut self) -> Result<(), DeviceFault>
+        ensures ok { IsOk result }
+        ensures unchanged { self.new ≡ self.old }
+        ensures bytes { Keeps (Some self.old.bytes) (Some self.new.bytes) }
+        ensures failures { self.new.failed ≡ failed_after self.old.failed result }
+    {
+        Ok(())
+    }
+
+    fn failed(&self) -> bool {
+        self.failed
+    }
+}

@@ -1,0 +1,49 @@
+//! A source over memory, whose bytes are known.
+ghost use Rattle.std.specs.Prelude.{◌≡◌, false, List, ℕ, Some, Ok, length, min};
+ghost use Rattle.std.specs.Io.{ReadsAtMost};
+ghost use Rattle.std.specs.Io.KnownBytes.{ReadConsumes};
+ghost use Rattle.epx_tool.specs.Devices.{failed_after};
+
+use crate::device::{DeviceFault, Source};
+use std::marker::Model;
+
+/// Gives the bytes of a slice, as many at once as there is room for. It never fails.
+#[derive(Drop)]
+pub struct MemorySource<'a> {
+    bytes: &'a [u8],
+}
+
+impl<'a> Model for MemorySource<'a> {
+    ghost Value = { List ℕ };
+
+    ghost view = { λ s. s.bytes.now };
+}
+
+impl<'a> MemorySource<'a> {
+    pub fn new(bytes: &'a [u8]) -> MemorySource<'a>
+        ensures { result ≡ bytes.now }
+    {
+        MemorySource { bytes }
+    }
+}
+
+impl Source for MemorySource<'_> {
+    ghost remaining = { λ s. Some s };
+
+    ghost has_failed = { λ _. false };
+
+    fn read_some(&mut self, part: &mut [u8]) -> Result<usize, DeviceFault>
+        ensures bound { ReadsAtMost result part.new }
+        ensures bytes { ReadConsumes (Some self.old) (Some self.new) result part.new }
+        ensures whole { result ≡ Ok (min (length part.new) (length self.old)) }
+    {
+        let count = part.len().min(self.bytes.len());
+        part[..count].copy_from_slice(&self.bytes[..count]);
+        self.bytes = &self.bytes[count..];
+        Ok(count)
+    }
+
+    fn failed(&self) -> bool {
+        false
+    }
+}

@@ -1,0 +1,52 @@
+//! A source over std's readers.
+ghost use Rattle.std.specs.Prelude.{◌≡◌, false};
+
+use crate::device::{DeviceFault, Source};
+use std::io::Read;
+use std::marker::Model;
+
+/// Reads from any reader. A read that was interrupted counts as an error too.
+#[derive(Drop)]
+pub struct StdSource<R> {
+    reader: R,
+    failed: bool,
+}
+
+impl<R> Model for StdSource<R> {
+    ghost use Rattle.epx_tool.specs.WatchedDevices.{WatchedReader};
+
+    ghost Value = { WatchedReader R };
+
+    ghost view = { λ s. record { reader = s.reader; failed = s.failed } };
+}
+
+impl<R: Read> StdSource<R> {
+    pub fn new(reader: R) -> StdSource<R>
+        ensures { result ≡ record { reader = reader; failed = false } }
+    {
+        StdSource {
+            reader,
+            failed: false,
+        }
+    }
+}
+
+impl<R: Read> Source for StdSource<R> {
+    ghost remaining = { λ s. R.remaining s.reader };
+
+    ghost has_failed = { λ s. s.failed };
+
+    fn read_some(&mut self, part: &mut [u8]) -> Result<usize, DeviceFault> {
+        match self.reader.read(part) {
+            Ok(count) => Ok(count),
+            Err(_) => {
+                self.failed = true;
+                Err(DeviceFault)
+            }
+        }
+    }
+
+    fn failed(&self) -> bool {
+        self.failed
+    }
+}

@@ -1,0 +1,66 @@
+//! Reading a whole log, and writing a whole text.
+ghost use Rattle.std.specs.Prelude.{◌≡◌, ◌≤◌, ◌↔◌, ◌+◌, true, false, length, IfOk, OnOk, IfErr, IfSome, IsErr, IsErrOf};
+ghost use Rattle.std.specs.Io.KnownBytes.{Appends, IsAtEnd};
+ghost use Rattle.epx_tool.specs.Transfers.{IsReadingFault, ConsumesUpTo, ConsumesExactly, AppendsPrefix};
+
+use crate::device::{Sink, Source};
+use epx_types::{Fault, Memory};
+use std::alloc::Global;
+
+/// A log has at most this many bytes.
+pub const MAX_LOG_BYTES: usize = 67_108_864;
+
+/// So many bytes are asked for at once.
+const PART_BYTES: usize = 65_536;
+
+/// All bytes of the source. It stops at the first byte past the limit, and takes no further one.
+pub fn read_log<R: Source>(alloc: Global, log: usize, source: &mut R) -> Result<Vec<u8>, Fault>
+    requires { R.has_failed source.old ≡ false }
+
+    ensures bytes { IfOk result (λ bytes. IfSome (R.remaining source.old) (λ all. bytes.items ≡ all)) }
+    ensures end { OnOk result (IsAtEnd (R.remaining source.new)) }
+    ensures fits { IfOk result (λ bytes. length bytes.items ≤ MAX_LOG_BYTES) }
+
+    ensures faults { IfErr result (IsReadingFault log) }
+    ensures failed { IsErrOf result (Fault.Read log) ↔ (R.has_failed source.new ≡ true) }
+    ensures too_long { IsErrOf result (Fault.LogTooLong log) → ConsumesExactly (R.remaining source.old) (R.remaining source.new) (MAX_LOG_BYTES + 1) }
+    ensures no_further { ConsumesUpTo (R.remaining source.old) (R.remaining source.new) (MAX_LOG_BYTES + 1) }
+{
+    let mut bytes = Vec::new(alloc);
+    let mut part = [0; PART_BYTES];
+    while bytes.len() <= MAX_LOG_BYTES {
+        let room = PART_BYTES.min(MAX_LOG_BYTES + 1 - bytes.len());
+        match source.read_some(&mut part[..room]) {
+            Ok(0) => return Ok(bytes),
+            Ok(count) => bytes
+                .extend_from_slice(&part[..count])
+                .map_err(Memory::from)?,
+            Err(_) => return Err(Fault::Read { log }),
+        }
+    }
+    Err(Fault::LogTooLong { log })
+}
+
+/// Adds the bytes to the sink and flushes it.
+pub fn write_out<W: Sink>(bytes: &[u8], sink: &mut W) -> Result<(), Fault>
+    requires { W.has_failed sink.old ≡ false }
+
+    ensures bytes { OnOk result (Appends (W.contents sink.old) (W.contents sink.new) bytes.now) }
+    ensures flushed { OnOk result (W.is_flushed sink.new ≡ true) }
+
+    ensures faults { IfErr result (λ fault. fault ≡ Fault.Write) }
+    ensures failed { IsErr result ↔ (W.has_failed sink.new ≡ true) }
+    ensures prefix { AppendsPrefix (W.contents sink.old) (W.contents sink.new) bytes.now }
+{
+    let mut taken = 0;
+    while taken < bytes.len() {
+        match sink.write_some(&bytes[taken..]) {
+            Ok(count) => taken += count,
+            Err(_) => return Err(Fault::Write),
+        }
+    }
+    match sink.flush() {
+        Ok(()) => Ok(()),
+        Err(_) => Err(Fault::Write),
+    }
+}
