@@ -12,6 +12,7 @@ pub mod Agreement
 pub mod CommittedMap
 pub mod Reaching
 pub mod Readiness
+pub mod WaitingLists
 pub mod Components
 pub mod Depth
 pub mod ExecutionOrder

@@ -61,7 +61,8 @@ impl Plan {
         ensures pieces { result ≡ piece_count self.now.cut items }
         ensures fits { IsWithinLimits self.now }
     {
-        items.div_ceil(self.cut)
+        let Plan { cut, .. } = *self;
+        items.div_ceil(cut)
     }
 
     /// The first item of a piece, and the item after its last.
@@ -70,9 +71,10 @@ impl Plan {
         ensures start { result.0 ≡ piece_start self.now.cut piece }
         ensures end { result.1 ≡ piece_end self.now.cut items piece }
     {
-        let start = piece * self.cut;
-        let end = if items - start > self.cut {
-            start + self.cut
+        let Plan { cut, .. } = *self;
+        let start = piece * cut;
+        let end = if items - start > cut {
+            start + cut
         } else {
             items
         };
