@@ -3,6 +3,8 @@ use Rattle.std.specs.Prelude.{◌≡◌, ◌≢◌, List, map, length, Contains,
 use Rattle.epx_types.specs.declared.id.Id.{Id}
 use Rattle.epx_types.specs.Instances.{Instance}
 use Rattle.epx_types.specs.Reaching.{Reaches}
+use Rattle.epx_types.specs.Readiness.{IsReady}
+use Rattle.epx_types.specs.Conflicts.{Conflict, IsCovered}
 use Rattle.epx_types.specs.ExecutionOrder.{Ranked, IsExecutionOrder, component_count}
 use Rattle.epx_types.specs.LawfulOrders.{Before, IsLawful}
 use Rattle.epx_laws.specs.AtMostOne.{AtMostOne}
@@ -36,3 +38,21 @@ pub record StandsAlike (m : List Instance) (ids : List Id) (x y : Id) : Type 0 w
 -- of two instances of which one reaches the other, the same one stands first in all lawful orders
 abbrev pub RelatedStandAlike : Type 0
 RelatedStandAlike = (m : List Instance) (ids other : List Id) → IsLawful m ids → IsLawful m other → (x y : Id) → Before ids x y → StandsAlike m other x y
+
+-- lawful orders of one map hold the same instances
+abbrev pub LawfulOrdersHoldTheSame : Type 0
+LawfulOrdersHoldTheSame = (m : List Instance) (ids other : List Id) → IsLawful m ids → IsLawful m other → (x : Id) → Contains ids x → Contains other x
+
+-- d and e are ready instances that conflict
+pub record AreReadyAndConflict (m : List Instance) (d e : Instance) : Type 0 where
+  pub first : Contains m d
+  pub second : Contains m e
+  pub apart : d.id ≢ e.id
+  pub first_ready : IsReady m d.id
+  pub second_ready : IsReady m e.id
+  pub conflict : Conflict d.ops e.ops
+
+-- of two instances of a covered map that conflict, the same one stands first in all lawful orders
+abbrev pub ConflictsStandAlike : Type 0
+ConflictsStandAlike = (m : List Instance) → IsCovered m → (ids other : List Id) → IsLawful m ids → IsLawful m other →
+    (d e : Instance) → AreReadyAndConflict m d e → Before ids d.id e.id → Before other d.id e.id

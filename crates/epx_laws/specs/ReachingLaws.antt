@@ -6,6 +6,7 @@ use Rattle.epx_types.specs.Ids.{IsRising}
 use Rattle.epx_types.specs.CommittedMap.{ids_of, IsCommitted}
 use Rattle.epx_types.specs.Reaching.{DependsOn, Reaches}
 use Rattle.epx_types.specs.Readiness.{IsReady, WaitsFor, LacksNothing}
+use Rattle.epx_types.specs.WaitingLists.{IsWaitingList}
 use Rattle.epx_types.specs.Components.{InOneComponent, IsLeader}
 use Rattle.epx_types.specs.Depth.{IsDepth, FallsOneWay}
 use Rattle.epx_laws.specs.AtMostOne.{AtMostOne}
@@ -61,6 +62,10 @@ DepthIsLeast = (m : List Instance) (f : Id → ℕ) → FallsOneWay m f → (x :
 -- an instance waits for at most one other
 abbrev pub MissingIsOne : Type 0
 MissingIsOne = (m : List Instance) (x : Id) → AtMostOne (WaitsFor m x)
+
+-- a map has one waiting list
+abbrev pub WaitingListIsOne : Type 0
+WaitingListIsOne = (m : List Instance) → AtMostOne (IsWaitingList m)
 
 -- a committed instance is ready exactly where it waits for nothing
 abbrev pub ReadyWaitsForNothing : Type 0

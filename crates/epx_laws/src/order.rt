@@ -1,5 +1,5 @@
 //! Laws of execution orders.
-ghost use Rattle.epx_laws.specs.OrderLaws.{ComponentsAreCounted, RelatedStandAlike, ExecutionOrderIsOne, ExecutionOrderIsLawful, LeadersStandInOrder};
+ghost use Rattle.epx_laws.specs.OrderLaws.{ComponentsAreCounted, RelatedStandAlike, LawfulOrdersHoldTheSame, ConflictsStandAlike, ExecutionOrderIsOne, ExecutionOrderIsLawful, LeadersStandInOrder};
 
 /// A map has one execution order.
 pub fn execution_order_is_one()
@@ -19,6 +19,16 @@ pub fn leaders_stand_in_order()
 /// Of two instances of which one reaches the other, the same one stands first in all lawful orders.
 pub fn related_stand_alike()
     ensures { RelatedStandAlike }
+{}
+
+/// Lawful orders of one map hold the same instances.
+pub fn lawful_orders_hold_the_same()
+    ensures { LawfulOrdersHoldTheSame }
+{}
+
+/// Of two instances of a covered map that conflict, the same one stands first in all lawful orders.
+pub fn conflicts_stand_alike()
+    ensures { ConflictsStandAlike }
 {}
 
 /// The number of components of an execution order is that of its distinct leaders.

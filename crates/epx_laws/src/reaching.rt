@@ -1,5 +1,5 @@
 //! Laws of reaching, of components and of readiness.
-ghost use Rattle.epx_laws.specs.ReachingLaws.{DependenciesAreListed, ReachingIsReflexive, ReachingIsTransitive, DependenciesAreReached, ReachingIsLeast, OneComponentIsEquivalence, MembersAreAlike, LeaderIsOne, DepthIsOne, DepthFalls, DepthIsLeast, MissingIsOne, ReadyWaitsForNothing, AllReadyWhereNothingLacks};
+ghost use Rattle.epx_laws.specs.ReachingLaws.{DependenciesAreListed, ReachingIsReflexive, ReachingIsTransitive, DependenciesAreReached, ReachingIsLeast, OneComponentIsEquivalence, MembersAreAlike, LeaderIsOne, DepthIsOne, DepthFalls, DepthIsLeast, MissingIsOne, WaitingListIsOne, ReadyWaitsForNothing, AllReadyWhereNothingLacks};
 
 /// Committed instances alone depend on others, each on those that it lists.
 pub fn dependencies_are_listed()
@@ -59,6 +59,11 @@ pub fn depth_is_least()
 /// An instance waits for at most one other.
 pub fn missing_is_one()
     ensures { MissingIsOne }
+{}
+
+/// A map has one waiting list.
+pub fn waiting_list_is_one()
+    ensures { WaitingListIsOne }
 {}
 
 /// A committed instance is ready exactly where it waits for nothing.

@@ -127,6 +127,8 @@ fn the_second_line_is_the_first_that_differs(rt: HostRuntime) -> Result<(), Fail
     assert_eq!(rt; read(&rt, rt.alloc(), &[A, A, B])?.err(), wanted);
     assert_eq!(rt; read(&rt, rt.alloc(), &[A, A, B, A])?.err(), wanted);
     assert_eq!(rt; read(&rt, rt.alloc(), &[A, A, B, B])?.err(), wanted);
+    let sooner = disagree(id(1, 7), place(0, 1), place(1, 1));
+    assert_eq!(rt; read(&rt, rt.alloc(), &[A, B, A])?.err(), sooner);
     Ok(())
 }
 
@@ -152,11 +154,12 @@ fn bad_line_before_disagreement(rt: HostRuntime) -> Result<(), Fail> {
 
 #[test]
 fn line_ends(rt: HostRuntime) -> Result<(), Fail> {
-    let good =
-        "\r\n  \t\n{\"r\":0,\"i\":0,\"seq\":1,\"deps\":[],\"ops\":[]}\r\n{\"r\":0,\"i\":1,\"seq\":1,\"deps\":[],\"ops\":[]}";
+    let good = "\r\n  \t\n{\"r\":0,\"i\":0,\"seq\":1,\"deps\":[],\"ops\":[[\"put\",\"a\",5],[\"get\",\"a\"]]}\r\n{\"r\":0,\"i\":1,\"seq\":1,\"deps\":[],\"ops\":[]}";
     let merged = read(&rt, rt.alloc(), &[good])?.expect(&rt, "a map");
     assert_eq!(rt; merged.len(), 2);
-    let bad = "\r\n  \t\n{\"r\":0,\"i\":0,\"seq\":1,\"deps\":[],\"ops\":[]}\r\n[]";
+    assert_eq!(rt; merged.get(id(0, 0)).map(|entry| entry.ops().len()), Some(2));
+    let bad =
+        "\r\n  \t\n{\"r\":0,\"i\":0,\"seq\":1,\"deps\":[],\"ops\":[[\"put\",\"a\",5],[\"get\",\"a\"]]}\r\n[]";
     let fault = read(&rt, rt.alloc(), &[bad])?.err();
     assert_eq!(rt; fault, bad_line(place(0, 4), Why::NotObject));
     Ok(())
@@ -164,7 +167,8 @@ fn line_ends(rt: HostRuntime) -> Result<(), Fail> {
 
 #[test]
 fn truncated_line(rt: HostRuntime) -> Result<(), Fail> {
-    let text = "{\"r\":0,\"i\":0,\"seq\":1,\"deps\":[],\"ops\":[]}\n{\"r\":0,\"i\":";
+    let text =
+        "{\"r\":0,\"i\":0,\"seq\":1,\"deps\":[],\"ops\":[[\"put\",\"a\",5],[\"get\",\"a\"]]}\n{\"r\":0,\"i\":";
     let fault = read(&rt, rt.alloc(), &[text])?.err();
     assert_eq!(rt; fault, bad_line(place(0, 2), Why::NotJson));
     Ok(())

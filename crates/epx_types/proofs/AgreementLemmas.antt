@@ -9,8 +9,8 @@ use Rattle.epx_types.specs.PlacedLines.{Placed, HavePlacesOfTheirOwn}
 use Rattle.epx_types.specs.Agreement.{Differ, Agree, IsFirstDisagreement}
 use Rattle.epx_types.specs.CommittedMap.{ids_of, instance_of, IsCommittedBy}
 use Rattle.epx_types.proofs.Membership.{Contains-nil, Contains-head, Contains-cons, Contains-cons_cases}
-use Rattle.epx_types.proofs.Places.{slice_get-map, AllPairs-slice_get, AllPairs-from_slice_get, AllPairs-same}
-use Rattle.epx_types.proofs.Rising.{AllPairs-from_IsRising}
+use Rattle.epx_types.proofs.Places.{AllPairs-same}
+use Rattle.epx_types.proofs.Rising.{AllPairs-from_rising_ids}
 use Rattle.epx_types.proofs.TotalOrders.{below_itself, below_trans, same_from_neither, same_rising}
 use Rattle.epx_types.proofs.Comparisons.{id_cmp_total, id_cmp-IsAntisymmetric, place_cmp_total, place_cmp-IsAntisymmetric}
 use Rattle.epx_types.proofs.Reaching.{UpTo-both}
@@ -18,9 +18,7 @@ use Rattle.epx_types.proofs.Reaching.{UpTo-both}
 -- ---- the committed map
 
 rising_instances : (m : List Instance) → IsRising (ids_of m) → AllPairs (λ d e. Below d.id e.id) m
-rising_instances m h =
-    AllPairs-from_slice_get (λ d e. Below d.id e.id) m (λ i j d e l p q.
-    AllPairs-slice_get Below (ids_of m) (AllPairs-from_IsRising (ids_of m) h) i j d.id e.id l (slice_get-map (λ (c : Instance). c.id) m i d p) (slice_get-map (λ (c : Instance). c.id) m j e q))
+rising_instances = AllPairs-from_rising_ids (λ e. e.id)
 
 IsCommittedBy-contains : (lines : List Placed) (m n : List Instance) → IsCommittedBy lines m → IsCommittedBy lines n → (e : Instance) → Contains m e → Contains n e
 IsCommittedBy-contains lines m n p q e h =

@@ -1,0 +1,22 @@
+-- A map fixes its waiting list.
+use Rattle.std.proofs.Common.{◌≡◌, List, Contains, subst}
+use Rattle.epx_types.specs.declared.id.Id.{Id}
+use Rattle.epx_types.specs.Instances.{Instance}
+use Rattle.epx_types.specs.Ids.{Below}
+use Rattle.epx_types.specs.Readiness.{WaitsFor}
+use Rattle.epx_types.specs.WaitingLists.{Waiting, IsWaitingList}
+use Rattle.epx_types.proofs.Rising.{AllPairs-from_rising_ids}
+use Rattle.epx_types.proofs.TotalOrders.{below_itself, below_trans, same_rising}
+use Rattle.epx_types.proofs.Comparisons.{id_cmp_total}
+
+module _ (m : List Instance) where
+  -- what one waiting list has stands in each
+  IsWaitingList-contains : (ws vs : List Waiting) → IsWaitingList m ws → IsWaitingList m vs → (w : Waiting) → Contains ws w → Contains vs w
+  IsWaitingList-contains ws vs p q w h = q.whole w.id w.missing (p.waits w h)
+
+  -- two waiting lists of one map are equal
+  pub IsWaitingList-unique : (ws vs : List Waiting) → IsWaitingList m ws → IsWaitingList m vs → ws ≡ vs
+  IsWaitingList-unique ws vs p q =
+      same_rising (λ a b. Below a.id b.id) (λ w. below_itself id_cmp_total w.id) (λ a b c. below_trans id_cmp_total a.id b.id c.id)
+      ws vs (AllPairs-from_rising_ids (λ w. w.id) ws p.rising) (AllPairs-from_rising_ids (λ w. w.id) vs q.rising)
+      (IsWaitingList-contains ws vs p q) (IsWaitingList-contains vs ws q p)
