@@ -5,7 +5,7 @@ mod NotedKeys
 mod SortedKeys
 mod Closing
 pub mod PlaceOrder
-mod ReadLines
+pub mod ReadLines
 mod Lookups
 mod Answered
 pub mod OneRefusal

@@ -1,4 +1,9 @@
 pub mod Devices
+pub mod ReportLines
+pub mod Report
+pub mod Answer
+pub mod FirstPath
+pub mod Independent
 pub mod MemorySink
 pub mod WatchedDevices
 pub mod Fuses

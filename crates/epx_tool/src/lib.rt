@@ -2,18 +2,22 @@
 //! a whole log and writing a whole text.
 #![tactic(auto)]
 
+mod answers;
 mod device;
 mod fuse;
 mod fuse_sink;
 mod fuse_source;
+mod independent;
 mod memory_sink;
 mod memory_source;
+mod report;
 mod std_sink;
 mod std_source;
 #[cfg(test)]
 mod tests;
 mod transfer;
 
+pub use answers::answer;
 pub use device::{DeviceFault, Sink, Source};
 pub use fuse_sink::FuseSink;
 pub use fuse_source::FuseSource;

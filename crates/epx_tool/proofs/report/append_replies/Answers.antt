@@ -1,0 +1,8 @@
+use Rattle.std.proofs.Common.{inl, inr}
+use Rattle.epx_tool.specs.ReportLines.{reply_line}
+use Rattle.epx_tool.proofs.Pairs.{printed_to_end}
+use Rattle.epx_tool.proofs.report.append_replies.Goals as goal
+
+-- one of the two lists has come to its end
+pub returns : goal.returns
+returns c = printed_to_end reply_line _ _ _ _ c.loop-id.invariant (elim c.in-None.ensures.steps [ inl a ↦ inl a.1.0 | inr b ↦ inr b.1.0 ])

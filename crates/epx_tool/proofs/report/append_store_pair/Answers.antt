@@ -1,0 +1,7 @@
+use Rattle.std.proofs.Common.{ap, ◌∙◌}
+use Rattle.serde_json.specs.Written.{has_float}
+use Rattle.epx_tool.proofs.ReportNumbers.{no_float-store}
+use Rattle.epx_tool.proofs.report.append_store_pair.Goals as goal
+
+pub append_line-requires : goal.append_line-requires
+append_line-requires c = ap has_float c.in_ok-value.ensures ∙ no_float-store c.args.key.now c.args.value.now

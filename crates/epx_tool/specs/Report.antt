@@ -1,0 +1,34 @@
+-- The report of a run, as bytes.
+use Rattle.std.specs.Prelude.{◌≡◌, ℕ, List, [], ◌++◌, map, length, flat_map, zip, Option, Some, None}
+use Rattle.std.specs.FinMap as contents
+use Rattle.epx_types.specs.declared.op.Op.{Op}
+use Rattle.epx_types.specs.Instances.{Instance}
+use Rattle.epx_types.specs.CommittedMap.{instance_of}
+use Rattle.epx_types.specs.Execution.{execute, Execution}
+use Rattle.epx_types.specs.ExecutionOrder.{Ranked, IsExecutionOrder, ranked_ids, component_count}
+use Rattle.epx_types.specs.WaitingLists.{Waiting, IsWaitingList}
+use Rattle.epx_tool.specs.ReportLines.{header_line, reply_line, waiting_line, store_line}
+
+abbrev pub ops_of : Option Instance → List Op
+ops_of None = []
+ops_of (Some e) = e.ops
+
+-- the commands of the instances of an order
+abbrev pub commands_of : List Instance → List Ranked → List (List Op)
+commands_of m order = map (λ r. ops_of (instance_of m r.id)) order
+
+-- the header, the replies in execution order, the instances that wait, and the store by byte order of its keys
+abbrev pub report_text : List Ranked → List Waiting → Execution → List ℕ
+report_text order waiting run =
+    header_line (length order) (length waiting) (component_count order)
+    ++ (flat_map reply_line (zip (ranked_ids order) run.replies)
+    ++ (flat_map waiting_line waiting
+    ++ flat_map store_line (contents.entries run.final)))
+
+-- one thread executes the ready commands one after another in the execution order, from the empty store
+pub record IsReport (m : List Instance) (text : List ℕ) : Type 0 where
+  pub order : List Ranked
+  pub waiting : List Waiting
+  pub ordered : IsExecutionOrder m order
+  pub listed : IsWaitingList m waiting
+  pub printed : text ≡ report_text order waiting (execute (commands_of m order) contents.empty)
