@@ -7,3 +7,4 @@ mod FirstDependents
 mod Positions
 mod AcceptedLogs
 mod IndependentReports
+mod SourcesRead

@@ -4,6 +4,7 @@ pub mod Report
 pub mod Answer
 pub mod FirstPath
 pub mod Independent
+pub mod Runs
 pub mod MemorySink
 pub mod WatchedDevices
 pub mod Fuses

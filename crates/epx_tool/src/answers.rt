@@ -1,11 +1,10 @@
 //! The answer to logs.
-ghost use Rattle.std.specs.Prelude.{◌⊎◌, ◌≤◌, length, map, IfOk, MatchResult, Ok, Err};
+ghost use Rattle.std.specs.Prelude.{◌≤◌, length, map, IfOk, MatchResult, Ok, Err};
 ghost use Rattle.epx_merge.specs.Limits.{max_instances};
-ghost use Rattle.epx_merge.specs.Refusals.{IsRefusal};
 ghost use Rattle.epx_types.specs.CommittedMap.{ids_of};
 ghost use Rattle.epx_types.specs.Ids.{IsRising};
 ghost use Rattle.epx_tool.specs.Answer.{IsAnswer};
-ghost use Rattle.epx_tool.specs.FirstPath.{IsDependencyRefusal, LackDependencies};
+ghost use Rattle.epx_tool.specs.FirstPath.{IsRefusalSoFar, LackDependencies};
 ghost use Rattle.epx_tool.specs.Independent.{AreIndependent};
 ghost use Rattle.epx_tool.specs.Report.{IsReport};
 
@@ -49,7 +48,7 @@ pub fn answer<R: Threads + Sync>(
     ensures answer { let bytes = map (λ log. log.items) logs.now in LackDependencies bytes →
         MatchResult result (λ text. IsAnswer bytes (Ok text.items)) (λ fault. IsAnswer bytes (Err fault)) }
     ensures others { let bytes = map (λ log. log.items) logs.now in
-        MatchResult result (λ text. IsAnswer bytes (Ok text.items)) (λ fault. IsRefusal bytes fault ⊎ IsDependencyRefusal bytes fault) }
+        MatchResult result (λ text. IsAnswer bytes (Ok text.items)) (IsRefusalSoFar bytes) }
 {
     let merged = match read_logs(rt, alloc, logs, plan) {
         Ok(merged) => merged,

@@ -11,6 +11,7 @@ mod independent;
 mod memory_sink;
 mod memory_source;
 mod report;
+mod runs;
 mod std_sink;
 mod std_source;
 #[cfg(test)]
@@ -23,6 +24,7 @@ pub use fuse_sink::FuseSink;
 pub use fuse_source::FuseSource;
 pub use memory_sink::MemorySink;
 pub use memory_source::MemorySource;
+pub use runs::run;
 pub use std_sink::StdSink;
 pub use std_source::StdSource;
 pub use transfer::{MAX_LOG_BYTES, read_log, write_out};

@@ -1,0 +1,29 @@
+-- A run: logs are read from sources, and the answer to them is written to a sink.
+use Rattle.std.specs.Prelude.{◌≡◌, ℕ, ◌<◌, ◌≤◌, List, map, length, slice_get, Option, Some, Ok, Err}
+use Rattle.epx_types.specs.declared.fault.Fault.{Fault}
+use Rattle.epx_types.specs.declared.fault.Fault.TheVariants.{Memory, TooManyLogs, LogTooLong, BadLine, TooManyInstances, Disagree, Read, Write}
+use Rattle.epx_merge.specs.Limits.{max_logs, max_log_bytes}
+use Rattle.epx_merge.specs.Refusals.{IsFirstTooLong}
+use Rattle.epx_tool.specs.Answer.{IsAnswer}
+
+-- these are the bytes that the sources will give, in order
+abbrev pub AreBytesOf : {S : Type 0} → (S → Option (List ℕ)) → List S → List (List ℕ) → Type 0
+AreBytesOf remaining sources logs = map remaining sources ≡ map Some logs
+
+-- no log before this one is too long
+abbrev pub NoneTooLongBefore : List (List ℕ) → ℕ → Type 0
+NoneTooLongBefore logs log = (k : ℕ) (bytes : List ℕ) → k < log → slice_get logs k ≡ Some bytes → length bytes ≤ max_log_bytes
+
+-- the faults of reading the logs: too many of them, or the first that is too long or can not be read
+abbrev pub IsReadingRefusal : List (List ℕ) → Fault → Type 0
+IsReadingRefusal logs Memory = Unit {0}
+IsReadingRefusal logs TooManyLogs = max_logs < length logs
+IsReadingRefusal logs (LogTooLong log) = (length logs ≤ max_logs) × IsFirstTooLong logs log
+IsReadingRefusal logs (Read log) = (length logs ≤ max_logs) × NoneTooLongBefore logs log
+IsReadingRefusal logs _ = ⊥
+
+-- the faults of a run: where no device failed, the refusal of the logs, where Is says what that is
+abbrev pub IsRunFault : (List (List ℕ) → Fault → Type 0) → List (List ℕ) → Fault → Type 0
+IsRunFault Is logs (Read log) = (length logs ≤ max_logs) × NoneTooLongBefore logs log
+IsRunFault Is logs Write = (text : List ℕ) × IsAnswer logs (Ok text)
+IsRunFault Is logs fault = Is logs fault

@@ -1,0 +1,77 @@
+//! A run: logs are read from sources, and the answer to them is written to a sink.
+ghost use Rattle.std.specs.Prelude.{◌≡◌, ◌≢◌, ◌↔◌, true, false, map, All, Some, slice_get, Ok, IfOk, OnOk, IfErr, IsErrOf};
+ghost use Rattle.std.specs.Io.KnownBytes.{Appends, Keeps};
+ghost use Rattle.epx_merge.specs.Refusals.{IsRefusal};
+ghost use Rattle.epx_tool.specs.Answer.{IsAnswer};
+ghost use Rattle.epx_tool.specs.FirstPath.{LackDependencies, IsRefusalSoFar};
+ghost use Rattle.epx_tool.specs.Runs.{AreBytesOf, IsReadingRefusal, IsRunFault};
+ghost use Rattle.epx_tool.specs.Transfers.{AppendsPrefix};
+
+use crate::answers::answer;
+use crate::device::{Sink, Source};
+use crate::transfer::{read_log, write_out};
+use epx_merge::MAX_LOGS;
+use epx_types::{Fault, Plan};
+use std::alloc::Global;
+use std::thread::Threads;
+
+/// The bytes of all sources, read in order.
+fn read_sources<S: Source>(alloc: Global, sources: &mut [S]) -> Result<Vec<Vec<u8>>, Fault>
+    requires { All (λ s. S.has_failed s ≡ false) sources.old }
+    ensures bytes { IfOk result (λ v. (logs : _) → AreBytesOf S.remaining sources.old logs → map (λ log. log.items) v.items ≡ logs) }
+    ensures refusal { IfErr result (λ fault. (logs : _) → AreBytesOf S.remaining sources.old logs → IsReadingRefusal logs fault) }
+    ensures nothing_written { ¬ IsErrOf result Fault.Write }
+    ensures failed { (log : _) (source : _) → slice_get sources.new log ≡ Some source → IsErrOf result (Fault.Read log) ↔ (S.has_failed source ≡ true) }
+{
+    if sources.len() > MAX_LOGS {
+        return Err(Fault::TooManyLogs);
+    }
+    let mut logs = Vec::new(alloc);
+    for log in 0..sources.len() {
+        let bytes = match read_log(alloc, log, &mut sources[log]) {
+            Ok(bytes) => bytes,
+            Err(fault) => return Err(fault),
+        };
+        let Ok(()) = logs.push(bytes) else {
+            return Err(Fault::Memory);
+        };
+    }
+    Ok(logs)
+}
+
+/// Reads the logs from the sources in order, and writes the answer to them to the sink, whole or not
+/// at all; a sink that fails has taken a prefix. As yet logs with dependencies are refused, as `answer`
+/// says.
+pub fn run<T: Threads + Sync, S: Source, W: Sink>(
+    rt: &T,
+    alloc: Global,
+    sources: &mut [S],
+    plan: Plan,
+    sink: &mut W,
+) -> Result<(), Fault>
+    requires sources { All (λ s. S.has_failed s ≡ false) sources.old }
+    requires sink { W.has_failed sink.old ≡ false }
+
+    ensures report { OnOk result ((logs : _) → AreBytesOf S.remaining sources.old logs →
+        (text : _) × IsAnswer logs (Ok text) × Appends (W.contents sink.old) (W.contents sink.new) text) }
+    ensures flushed { OnOk result (W.is_flushed sink.new ≡ true) }
+
+    ensures refusal { IfErr result (λ fault. (logs : _) → AreBytesOf S.remaining sources.old logs → LackDependencies logs → IsRunFault IsRefusal logs fault) }
+    ensures others { IfErr result (λ fault. (logs : _) → AreBytesOf S.remaining sources.old logs → IsRunFault IsRefusalSoFar logs fault) }
+    ensures nothing { IfErr result (λ fault. fault ≢ Fault.Write → Keeps (W.contents sink.old) (W.contents sink.new)) }
+    ensures prefix { IsErrOf result Fault.Write → (logs : _) → AreBytesOf S.remaining sources.old logs →
+        (text : _) × IsAnswer logs (Ok text) × AppendsPrefix (W.contents sink.old) (W.contents sink.new) text }
+
+    ensures read { (log : _) (source : _) → slice_get sources.new log ≡ Some source → IsErrOf result (Fault.Read log) ↔ (S.has_failed source ≡ true) }
+    ensures written { IsErrOf result Fault.Write ↔ (W.has_failed sink.new ≡ true) }
+{
+    let logs = match read_sources(alloc, sources) {
+        Ok(logs) => logs,
+        Err(fault) => return Err(fault),
+    };
+    let text = match answer(rt, alloc, &logs, plan) {
+        Ok(text) => text,
+        Err(fault) => return Err(fault),
+    };
+    write_out(&text, sink)
+}
