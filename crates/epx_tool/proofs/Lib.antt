@@ -1,10 +1,9 @@
-pub mod KnownBytes
-pub mod Transferring
 mod ReportNumbers
 mod Pairs
-mod IndependentOrder
-mod FirstDependents
 mod Positions
+mod FirstDependents
+mod IndependentOrder
 mod AcceptedLogs
 mod IndependentReports
 mod SourcesRead
+mod OneAnswer

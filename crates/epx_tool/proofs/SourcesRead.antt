@@ -9,7 +9,7 @@ use Rattle.epx_types.specs.declared.fault.Fault.{Fault}
 use Rattle.epx_types.specs.declared.fault.Fault.TheVariants.{Memory, TooManyLogs, LogTooLong, BadLine, TooManyInstances, Disagree, Read, Write}
 use Rattle.epx_types.proofs.Places.{slice_get-map, slice_get-from_map}
 use Rattle.epx_merge.specs.Limits.{max_logs, max_log_bytes}
-use Rattle.epx_tool.specs.Transfers.{IsReadingFault, ConsumesExactly}
+use Rattle.epx_devices.specs.Transfers.{IsReadingFault, ConsumesExactly}
 use Rattle.epx_tool.specs.Runs.{AreBytesOf, NoneTooLongBefore, IsReadingRefusal}
 
 -- the first n sources are read, and gave these bytes

@@ -1,11 +1,7 @@
-pub mod Devices
 pub mod ReportLines
 pub mod Report
 pub mod Answer
+pub mod AnswerLaws
 pub mod FirstPath
 pub mod Independent
 pub mod Runs
-pub mod MemorySink
-pub mod WatchedDevices
-pub mod Fuses
-pub mod Transfers

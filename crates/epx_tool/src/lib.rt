@@ -1,30 +1,13 @@
-//! Devices: where logs come from and where the report goes, and the two transfers over them, reading
-//! a whole log and writing a whole text.
+//! From bytes to the report: the answer to logs, as text, and runs over devices.
 #![tactic(auto)]
 
 mod answers;
-mod device;
-mod fuse;
-mod fuse_sink;
-mod fuse_source;
 mod independent;
-mod memory_sink;
-mod memory_source;
+pub mod laws;
 mod report;
 mod runs;
-mod std_sink;
-mod std_source;
 #[cfg(test)]
 mod tests;
-mod transfer;
 
 pub use answers::answer;
-pub use device::{DeviceFault, Sink, Source};
-pub use fuse_sink::FuseSink;
-pub use fuse_source::FuseSource;
-pub use memory_sink::MemorySink;
-pub use memory_source::MemorySource;
 pub use runs::run;
-pub use std_sink::StdSink;
-pub use std_source::StdSource;
-pub use transfer::{MAX_LOG_BYTES, read_log, write_out};

@@ -5,11 +5,10 @@ ghost use Rattle.epx_merge.specs.Refusals.{IsRefusal};
 ghost use Rattle.epx_tool.specs.Answer.{IsAnswer};
 ghost use Rattle.epx_tool.specs.FirstPath.{LackDependencies, IsRefusalSoFar};
 ghost use Rattle.epx_tool.specs.Runs.{AreBytesOf, IsReadingRefusal, IsRunFault};
-ghost use Rattle.epx_tool.specs.Transfers.{AppendsPrefix};
+ghost use Rattle.epx_devices.specs.Transfers.{AppendsPrefix};
 
 use crate::answers::answer;
-use crate::device::{Sink, Source};
-use crate::transfer::{read_log, write_out};
+use epx_devices::{Sink, Source, read_log, write_out};
 use epx_merge::MAX_LOGS;
 use epx_types::{Fault, Plan};
 use std::alloc::Global;

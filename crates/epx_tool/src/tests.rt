@@ -1,152 +1,62 @@
-//! Whole transfers over each kind of device, and devices that fail at each byte.
-use crate::{
-    DeviceFault, FuseSink, FuseSource, MemorySink, MemorySource, Sink, Source, StdSink, StdSource,
-    read_log, write_out,
-};
-use epx_types::Fault;
-use std::io::{self, Error, ErrorKind, Read, Write};
+//! Runs and answers over memory. The worked rows are in a crate of their own.
+use super::*;
+use epx_devices::{FuseSink, FuseSource, MemorySink, MemorySource};
+use epx_types::{Fault, Place, Plan, Why};
+use std::process::Abort;
 use std::test::Fail;
+use std::thread::Threads;
 
-const TEXT: &str = "{\"r\":0,\"i\":1,\"seq\":5}\n";
+const LOG: &str =
+    "{\"r\":0,\"i\":0,\"seq\":1,\"deps\":[],\"ops\":[[\"put\",\"a\",5],[\"get\",\"a\"]]}";
+
+const REPORT: &str = "[\"executed\",1,\"waiting\",0,\"components\",1]\n[\"reply\",0,0,\"ok\",[5]]\n[\"store\",\"a\",5]\n";
+
+fn plan(rt: &impl Abort) -> Plan {
+    Plan::new(4, 256).expect(rt, "a plan")
+}
 
 #[test]
-fn what_is_written_is_read_again(rt: HostRuntime) -> Result<(), Fail> {
+fn answer_is_the_report(rt: HostRuntime) -> Result<(), Fail> {
+    let alloc = rt.alloc();
+    let mut logs = Vec::new(alloc);
+    logs.push(Vec::from_slice(alloc, LOG.as_bytes())?)?;
+    let text = answer(&rt, alloc, &logs, plan(&rt)).expect(&rt, "a report");
+    assert_eq!(rt; text.as_slice(), REPORT.as_bytes());
+    Ok(())
+}
+
+#[test]
+fn run_writes_the_report(rt: HostRuntime) -> Result<(), Fail> {
+    let mut sources = [MemorySource::new(LOG.as_bytes())];
     let mut sink = MemorySink::new(rt.alloc());
-    assert_eq!(rt; write_out(TEXT.as_bytes(), &mut sink), Ok(()));
-    assert!(rt; !sink.failed());
-    let mut source = MemorySource::new(sink.bytes());
-    let bytes = read_log(rt.alloc(), 0, &mut source)?;
-    assert_eq!(rt; bytes.as_slice(), TEXT.as_bytes());
-    assert!(rt; !source.failed());
+    assert_eq!(rt; run(&rt, rt.alloc(), &mut sources, plan(&rt), &mut sink), Ok(()));
+    assert_eq!(rt; sink.bytes(), REPORT.as_bytes());
     Ok(())
 }
 
 #[test]
-fn one_byte_a_call_is_enough(rt: HostRuntime) -> Result<(), Fail> {
-    let mut sink = FuseSink::new(rt.alloc(), 1, None);
-    assert_eq!(rt; write_out(TEXT.as_bytes(), &mut sink), Ok(()));
-    let mut source = FuseSource::new(sink.bytes(), 1, None);
-    let bytes = read_log(rt.alloc(), 0, &mut source)?;
-    assert_eq!(rt; bytes.as_slice(), TEXT.as_bytes());
+fn dependencies_are_refused_as_yet(rt: HostRuntime) -> Result<(), Fail> {
+    let alloc = rt.alloc();
+    let mut logs = Vec::new(alloc);
+    let text = "{\"r\":0,\"i\":0,\"seq\":1,\"deps\":[],\"ops\":[]}\n\n{\"r\":0,\"i\":1,\"seq\":1,\"deps\":[[0,0]],\"ops\":[]}";
+    logs.push(Vec::from_slice(alloc, text.as_bytes())?)?;
+    let refused = answer(&rt, alloc, &logs, plan(&rt)).err();
+    let place = Place { log: 0, line: 3 };
+    let why = Why::Deps;
+    assert_eq!(rt; refused, Some(Fault::BadLine { place, why }));
     Ok(())
 }
 
 #[test]
-fn a_source_that_fails_after_any_byte_can_not_be_read(rt: HostRuntime) -> Result<(), Fail> {
-    let length = TEXT.len();
-    for at_once in 1..4 {
-        for fuse in 0..length + 1 {
-            let mut source = FuseSource::new(TEXT.as_bytes(), at_once, Some(fuse));
-            let refused = read_log(rt.alloc(), 5, &mut source).err();
-            assert_eq!(rt; refused, Some(Fault::Read { log: 5 }), "after {fuse} bytes");
-            assert!(rt; source.failed());
-        }
-        let mut whole = FuseSource::new(TEXT.as_bytes(), at_once, Some(length + 1));
-        let bytes = read_log(rt.alloc(), 5, &mut whole)?;
-        assert_eq!(rt; bytes.as_slice(), TEXT.as_bytes());
-    }
+fn a_source_that_fails_comes_before_a_later_one(rt: HostRuntime) -> Result<(), Fail> {
+    let mut sources = [
+        FuseSource::new(LOG.as_bytes(), 7, None),
+        FuseSource::new(LOG.as_bytes(), 7, Some(20)),
+        FuseSource::new(LOG.as_bytes(), 7, Some(0)),
+    ];
+    let mut sink = FuseSink::new(rt.alloc(), 7, None);
+    let refused = run(&rt, rt.alloc(), &mut sources, plan(&rt), &mut sink);
+    assert_eq!(rt; refused, Err(Fault::Read { log: 1 }));
+    assert!(rt; sink.bytes().is_empty());
     Ok(())
-}
-
-#[test]
-fn a_sink_that_fails_after_any_byte_holds_a_prefix(rt: HostRuntime) {
-    let length = TEXT.len();
-    for at_once in 1..4 {
-        for fuse in 0..length + 1 {
-            let mut sink = FuseSink::new(rt.alloc(), at_once, Some(fuse));
-            let written = write_out(TEXT.as_bytes(), &mut sink);
-            assert_eq!(rt; written, Err(Fault::Write), "after {fuse} bytes");
-            assert!(rt; sink.failed());
-            assert_eq!(rt; sink.bytes(), &TEXT.as_bytes()[..fuse]);
-        }
-        let mut whole = FuseSink::new(rt.alloc(), at_once, Some(length + 1));
-        assert_eq!(rt; write_out(TEXT.as_bytes(), &mut whole), Ok(()));
-        assert_eq!(rt; whole.bytes(), TEXT.as_bytes());
-    }
-}
-
-#[test]
-fn each_call_on_a_blown_fuse_fails(rt: HostRuntime) {
-    let mut source = FuseSource::new(TEXT.as_bytes(), 1, Some(0));
-    for _ in 0..3 {
-        assert_eq!(rt; source.read_some(&mut [0; 8]), Err(DeviceFault));
-    }
-    let mut sink = FuseSink::new(rt.alloc(), 1, Some(0));
-    for _ in 0..3 {
-        assert_eq!(rt; sink.write_some(TEXT.as_bytes()), Err(DeviceFault));
-        assert_eq!(rt; sink.flush(), Err(DeviceFault));
-    }
-}
-
-#[test]
-fn the_first_of_two_sources_fails(rt: HostRuntime) -> Result<(), Fail> {
-    let mut first = FuseSource::new(TEXT.as_bytes(), 4, Some(0));
-    let mut second = FuseSource::new(TEXT.as_bytes(), 4, None);
-    let refused = read_log(rt.alloc(), 0, &mut first).err();
-    assert_eq!(rt; refused, Some(Fault::Read { log: 0 }));
-    let bytes = read_log(rt.alloc(), 1, &mut second)?;
-    assert_eq!(rt; bytes.as_slice(), TEXT.as_bytes());
-    assert!(rt; first.failed() && !second.failed());
-    Ok(())
-}
-
-#[test]
-fn a_log_has_at_most_67108864_bytes(rt: HostRuntime) -> Result<(), Fail> {
-    let mut longest = StdSource::new(io::repeat(10).take(67_108_864));
-    let bytes = read_log(rt.alloc(), 3, &mut longest)?;
-    assert_eq!(rt; bytes.len(), 67_108_864);
-    let mut longer = StdSource::new(io::repeat(10).take(67_108_865));
-    let refused = read_log(rt.alloc(), 3, &mut longer).err();
-    assert_eq!(rt; refused, Some(Fault::LogTooLong { log: 3 }));
-    let mut endless = StdSource::new(io::repeat(10));
-    let refused = read_log(rt.alloc(), 4, &mut endless).err();
-    assert_eq!(rt; refused, Some(Fault::LogTooLong { log: 4 }));
-    Ok(())
-}
-
-#[test]
-fn std_readers_and_writers_carry_the_same_bytes(rt: HostRuntime) -> Result<(), Fail> {
-    let mut written = Vec::new(rt.alloc());
-    let mut sink = StdSink::new(&mut written);
-    assert_eq!(rt; write_out(TEXT.as_bytes(), &mut sink), Ok(()));
-    assert_eq!(rt; written.as_slice(), TEXT.as_bytes());
-    let mut source = StdSource::new(TEXT.as_bytes());
-    let bytes = read_log(rt.alloc(), 0, &mut source)?;
-    assert_eq!(rt; bytes.as_slice(), TEXT.as_bytes());
-    Ok(())
-}
-
-/// Fails each read, and takes nothing of what is written.
-#[derive(Drop)]
-struct Broken;
-
-impl Read for Broken {
-    fn read(&mut self, _part: &mut [u8]) -> io::Result<usize> {
-        Err(Error::from(ErrorKind::Other))
-    }
-}
-
-impl Write for Broken {
-    fn write(&mut self, _part: &[u8]) -> io::Result<usize> {
-        Ok(0)
-    }
-
-    fn flush(&mut self) -> io::Result<()> {
-        Err(Error::from(ErrorKind::Other))
-    }
-}
-
-#[test]
-fn std_devices_tell_of_failures(rt: HostRuntime) {
-    let mut source = StdSource::new(Broken);
-    let refused = read_log(rt.alloc(), 2, &mut source).err();
-    assert_eq!(rt; refused, Some(Fault::Read { log: 2 }));
-    let mut takes_nothing = StdSink::new(Broken);
-    assert_eq!(rt;
-        write_out(TEXT.as_bytes(), &mut takes_nothing),
-        Err(Fault::Write)
-    );
-    let mut only_flushed = StdSink::new(Broken);
-    assert_eq!(rt; write_out(&[], &mut only_flushed), Err(Fault::Write));
-    assert!(rt; source.failed() && takes_nothing.failed() && only_flushed.failed());
 }

@@ -1,7 +1,7 @@
 use Rattle.std.proofs.Common.{◌≡◌, ◌≤◌, ◌+◌, ◌++◌, length, take, arith, false}
 use Rattle.std.proofs.lemmas.Grind.{common_steps}
-use Rattle.epx_tool.proofs.Transferring.{read-further}
-use Rattle.epx_tool.proofs.transfer.read_log.Goals as goal
+use Rattle.epx_devices.proofs.Transferring.{read-further}
+use Rattle.epx_devices.proofs.transfer.read_log.Goals as goal
 
 pub returns-in_err-map_err-in-Ok-clause-no_further :
     goal.returns-in_err-map_err-in-Ok-clause-no_further

@@ -1,7 +1,7 @@
 //! Reading a whole log, and writing a whole text.
 ghost use Rattle.std.specs.Prelude.{◌≡◌, ◌≤◌, ◌↔◌, ◌+◌, true, false, length, IfOk, OnOk, IfErr, IfSome, IsErr, IsErrOf};
 ghost use Rattle.std.specs.Io.KnownBytes.{Appends, IsAtEnd};
-ghost use Rattle.epx_tool.specs.Transfers.{IsReadingFault, ConsumesUpTo, ConsumesExactly, AppendsPrefix};
+ghost use Rattle.epx_devices.specs.Transfers.{IsReadingFault, ConsumesUpTo, ConsumesExactly, AppendsPrefix};
 
 use crate::device::{Sink, Source};
 use epx_types::{Fault, Memory};

@@ -2,7 +2,7 @@
 ghost use Rattle.std.specs.Prelude.{◌≡◌, ℕ, Bool, true, List, Option, None, OnOk, IsErr};
 ghost use Rattle.std.specs.Io.{ReadsAtMost, WritesAtMost};
 ghost use Rattle.std.specs.Io.KnownBytes.{Keeps, ReadConsumes, WriteAppends};
-ghost use Rattle.epx_tool.specs.Devices.{TakesSome, failed_after};
+ghost use Rattle.epx_devices.specs.Devices.{TakesSome, failed_after};
 
 /// A call on a device failed.
 #[derive(Clone, Copy, Debug, PartialEq, Eq)]

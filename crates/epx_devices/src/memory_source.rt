@@ -2,7 +2,7 @@
 ghost use Rattle.std.specs.Prelude.{◌≡◌, false, List, ℕ, Some, Ok, length, min};
 ghost use Rattle.std.specs.Io.{ReadsAtMost};
 ghost use Rattle.std.specs.Io.KnownBytes.{ReadConsumes};
-ghost use Rattle.epx_tool.specs.Devices.{failed_after};
+ghost use Rattle.epx_devices.specs.Devices.{failed_after};
 
 use crate::device::{DeviceFault, Source};
 use std::marker::Model;

@@ -15,7 +15,7 @@ pub struct StdSink<W> {
 }
 
 impl<W> Model for StdSink<W> {
-    ghost use Rattle.epx_tool.specs.WatchedDevices.{WatchedWriter};
+    ghost use Rattle.epx_devices.specs.WatchedDevices.{WatchedWriter};
 
     ghost Value = { WatchedWriter W };
 

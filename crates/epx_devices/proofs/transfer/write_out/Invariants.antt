@@ -1,6 +1,6 @@
 use Rattle.std.proofs.Common.{◌-◌, length}
-use Rattle.epx_tool.proofs.Transferring.{IsWritten}
-use Rattle.epx_tool.proofs.transfer.write_out.Given as goal
+use Rattle.epx_devices.proofs.Transferring.{IsWritten}
+use Rattle.epx_devices.proofs.transfer.write_out.Given as goal
 
 abbrev pub invariant-loop-taken : goal.invariant-loop-taken
 invariant-loop-taken g l = IsWritten g.W.Sink.contents g.W.Sink.has_failed l.fn.sink l.sink l.bytes l.taken

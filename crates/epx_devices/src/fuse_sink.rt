@@ -2,8 +2,8 @@
 ghost use Rattle.std.specs.Prelude.{◌≡◌, ◌≤◌, ◌↔◌, false, true, [], ◌++◌, Some, IfOk, OnOk, OnErr, IsErr, length, take};
 ghost use Rattle.std.specs.Io.{WritesAtMost};
 ghost use Rattle.std.specs.Io.KnownBytes.{Keeps, WriteAppends};
-ghost use Rattle.epx_tool.specs.Devices.{TakesSome, failed_after};
-ghost use Rattle.epx_tool.specs.Fuses.{IsBlown, passing, after_failure, after_passing};
+ghost use Rattle.epx_devices.specs.Devices.{TakesSome, failed_after};
+ghost use Rattle.epx_devices.specs.Fuses.{IsBlown, passing, after_failure, after_passing};
 
 use crate::device::{DeviceFault, Sink};
 use crate::fuse::{burnt, passing};
@@ -22,7 +22,7 @@ pub struct FuseSink {
 
 impl Model for FuseSink {
     ghost use Rattle.std.specs.Prelude.{◌≤◌};
-    ghost use Rattle.epx_tool.specs.Fuses.{Fused};
+    ghost use Rattle.epx_devices.specs.Fuses.{Fused};
 
     ghost Value = { Fused };
 

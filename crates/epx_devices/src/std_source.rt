@@ -13,7 +13,7 @@ pub struct StdSource<R> {
 }
 
 impl<R> Model for StdSource<R> {
-    ghost use Rattle.epx_tool.specs.WatchedDevices.{WatchedReader};
+    ghost use Rattle.epx_devices.specs.WatchedDevices.{WatchedReader};
 
     ghost Value = { WatchedReader R };
 

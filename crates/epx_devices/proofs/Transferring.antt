@@ -1,7 +1,7 @@
 -- What the two transfers keep from call to call.
 use Rattle.std.proofs.Common.{◌≡◌, ℕ, ◌+◌, ◌-◌, ◌≤◌, Bool, false, List, ◌++◌, length, take, drop, Option, arith}
 use Rattle.std.proofs.lemmas.Grind.{common_steps}
-use Rattle.epx_tool.proofs.KnownBytes.{appends-then, consumes-then, take-more}
+use Rattle.epx_devices.proofs.KnownBytes.{appends-then, consumes-then, take-more}
 use Rattle.std.specs.Io.KnownBytes.{Appends, Consumes}
 
 -- these bytes have come, and no call has failed

@@ -1,7 +1,7 @@
 use Rattle.std.proofs.Common.{◌≡◌, arith, false}
 use Rattle.std.proofs.lemmas.Grind.{common_steps}
-use Rattle.epx_tool.proofs.Transferring.{written-further}
-use Rattle.epx_tool.proofs.transfer.write_out.Goals as goal
+use Rattle.epx_devices.proofs.Transferring.{written-further}
+use Rattle.epx_devices.proofs.transfer.write_out.Goals as goal
 
 pub loop-taken-preserved : goal.loop-taken-preserved
 loop-taken-preserved g c =

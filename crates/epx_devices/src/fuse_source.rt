@@ -2,8 +2,8 @@
 ghost use Rattle.std.specs.Prelude.{◌≡◌, ◌≤◌, ◌↔◌, false, Some, IfOk, OnErr, IsErr, length, min, drop};
 ghost use Rattle.std.specs.Io.{ReadsAtMost};
 ghost use Rattle.std.specs.Io.KnownBytes.{ReadConsumes};
-ghost use Rattle.epx_tool.specs.Devices.{failed_after};
-ghost use Rattle.epx_tool.specs.Fuses.{IsBlown, passing, after_failure, after_passing};
+ghost use Rattle.epx_devices.specs.Devices.{failed_after};
+ghost use Rattle.epx_devices.specs.Fuses.{IsBlown, passing, after_failure, after_passing};
 
 use crate::device::{DeviceFault, Source};
 use crate::fuse::{burnt, passing};
@@ -20,7 +20,7 @@ pub struct FuseSource<'a> {
 
 impl<'a> Model for FuseSource<'a> {
     ghost use Rattle.std.specs.Prelude.{◌≤◌};
-    ghost use Rattle.epx_tool.specs.Fuses.{Fused};
+    ghost use Rattle.epx_devices.specs.Fuses.{Fused};
 
     ghost Value = { Fused };
 

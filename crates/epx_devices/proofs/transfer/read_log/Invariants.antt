@@ -1,6 +1,6 @@
 use Rattle.std.proofs.Common.{◌-◌, length}
-use Rattle.epx_tool.proofs.Transferring.{IsRead}
-use Rattle.epx_tool.proofs.transfer.read_log.Given as goal
+use Rattle.epx_devices.proofs.Transferring.{IsRead}
+use Rattle.epx_devices.proofs.transfer.read_log.Given as goal
 
 abbrev pub invariant-loop-part : goal.invariant-loop-part
 invariant-loop-part g l = IsRead g.R.Source.remaining g.R.Source.has_failed l.fn.source l.source l.bytes.items

@@ -2,7 +2,7 @@
 ghost use Rattle.std.specs.Prelude.{◌≡◌, false, true, [], Some, IfOk, IsOk, OnOk, length};
 ghost use Rattle.std.specs.Io.{WritesAtMost};
 ghost use Rattle.std.specs.Io.KnownBytes.{Keeps, WriteAppends};
-ghost use Rattle.epx_tool.specs.Devices.{TakesSome, failed_after};
+ghost use Rattle.epx_devices.specs.Devices.{TakesSome, failed_after};
 
 use crate::device::{DeviceFault, Sink};
 use std::alloc::Global;
@@ -16,7 +16,7 @@ pub struct MemorySink {
 }
 
 impl Model for MemorySink {
-    ghost use Rattle.epx_tool.specs.MemorySink.{Taken};
+    ghost use Rattle.epx_devices.specs.MemorySink.{Taken};
 
     ghost Value = { Taken };
 

@@ -1,6 +1,6 @@
 //! What the fuse of a failing device lets pass.
 ghost use Rattle.std.specs.Prelude.{◌≡◌, ◌-◌, option_map};
-ghost use Rattle.epx_tool.specs.Fuses.{passing_of};
+ghost use Rattle.epx_devices.specs.Fuses.{passing_of};
 
 /// How many of so many bytes pass in one call.
 pub(crate) fn passing(wanted: usize, at_once: usize, fuse: Option<usize>) -> usize

@@ -1,0 +1,5 @@
+pub mod Devices
+pub mod MemorySink
+pub mod WatchedDevices
+pub mod Fuses
+pub mod Transfers

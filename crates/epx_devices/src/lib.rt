@@ -1,0 +1,24 @@
+//! Devices: where logs come from and where the report goes, and the two transfers over them, reading
+//! a whole log and writing a whole text.
+#![tactic(auto)]
+
+mod device;
+mod fuse;
+mod fuse_sink;
+mod fuse_source;
+mod memory_sink;
+mod memory_source;
+mod std_sink;
+mod std_source;
+#[cfg(test)]
+mod tests;
+mod transfer;
+
+pub use device::{DeviceFault, Sink, Source};
+pub use fuse_sink::FuseSink;
+pub use fuse_source::FuseSource;
+pub use memory_sink::MemorySink;
+pub use memory_source::MemorySource;
+pub use std_sink::StdSink;
+pub use std_source::StdSource;
+pub use transfer::{MAX_LOG_BYTES, read_log, write_out};

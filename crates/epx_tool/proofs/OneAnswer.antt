@@ -1,0 +1,26 @@
+-- Logs fix their answer.
+use Rattle.std.proofs.Common.{◌≡◌, ◌≢◌, ℕ, List, Result, Ok, Err, sym, ap, ap₂, ◌∙◌, subst}
+use Rattle.std.specs.FinMap as contents
+use Rattle.epx_types.specs.declared.fault.Fault.{Fault}
+use Rattle.epx_types.specs.declared.fault.Fault.TheVariants.{Memory}
+use Rattle.epx_types.specs.Instances.{Instance}
+use Rattle.epx_types.specs.Execution.{execute}
+use Rattle.epx_types.proofs.ExecutionOrders.{IsExecutionOrder-unique}
+use Rattle.epx_types.proofs.ListedWaiting.{IsWaitingList-unique}
+use Rattle.epx_merge.proofs.OneRefusal.{accepted_unique, accepted_not_refused, refusal_unique}
+use Rattle.epx_tool.specs.Report.{IsReport, report_text, commands_of}
+use Rattle.epx_tool.specs.Answer.{IsAnswer}
+
+pub IsReport-unique : (m : List Instance) (text other : List ℕ) → IsReport m text → IsReport m other → text ≡ other
+IsReport-unique m text other p q =
+    let order = IsExecutionOrder-unique m p.order q.order p.ordered q.ordered in
+    let waiting = IsWaitingList-unique m p.waiting q.waiting p.listed q.listed in
+    p.printed ∙ ap₂ (λ o w. report_text o w (execute (commands_of m o) contents.empty)) order waiting ∙ sym q.printed
+
+pub IsAnswer-unique : (logs : List (List ℕ)) (a b : Result (List ℕ) Fault) → a ≢ Err Memory → b ≢ Err Memory → IsAnswer logs a → IsAnswer logs b → a ≡ b
+IsAnswer-unique logs (Ok text) (Ok other) s t p q =
+    let same = accepted_unique logs p.0 q.0 p.1 q.1 in
+    ap Ok (IsReport-unique q.0 text other (subst (λ m. IsReport m text) same p.2) q.2)
+IsAnswer-unique logs (Ok text) (Err fault) s t p q = absurd (t (ap Err (accepted_not_refused logs p.0 fault p.1 q)))
+IsAnswer-unique logs (Err fault) (Ok text) s t p q = absurd (s (ap Err (accepted_not_refused logs q.0 fault q.1 p)))
+IsAnswer-unique logs (Err fault) (Err other) s t p q = ap Err (refusal_unique logs fault other (λ e. s (ap Err e)) (λ e. t (ap Err e)) p q)

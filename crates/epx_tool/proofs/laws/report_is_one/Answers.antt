@@ -1,0 +1,5 @@
+use Rattle.epx_tool.proofs.OneAnswer.{IsReport-unique}
+use Rattle.epx_tool.proofs.laws.report_is_one.Goals as goal
+
+pub returns : goal.returns
+returns c = IsReport-unique
