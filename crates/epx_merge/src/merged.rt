@@ -1,6 +1,7 @@
 //! The committed map.
 ghost use Rattle.std.specs.Prelude.{◌≡◌, ◌==◌, ◌<◌, length, option_copied, slice_get, Some};
-ghost use Rattle.epx_types.specs.CommittedMap.{instance_of, position_of};
+ghost use Rattle.epx_types.specs.CommittedMap.{ids_of, instance_of, position_of};
+ghost use Rattle.epx_types.specs.Ids.{IsRising};
 ghost use Rattle.epx_merge.specs.Keyed.{IsKeyed, instances_of};
 
 use crate::placed::PlacedEntry;
@@ -36,7 +37,8 @@ impl Merged {
 
     /// How many instances are committed.
     pub fn len(&self) -> usize
-        ensures { result ≡ length self.now }
+        ensures len { result ≡ length self.now }
+        ensures rising { IsRising (ids_of self.now) }
     {
         self.lines.len()
     }

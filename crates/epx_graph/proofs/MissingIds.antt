@@ -1,0 +1,163 @@
+-- The missing instances of a map, gathered, sorted and each kept once.
+use Rattle.std.proofs.Common.{◌≡◌, ◌↔◌, inl, inr, ℕ, ◌+◌, ◌<◌, true, false, not, cond, List, [], ◌∷◌, ◌++◌, length, take, get_or, flat_map, position, Option, Some, None, is_some, slice_get, Contains, nat_lt, Less, refl, sym, ap, subst, ◌∙◌, append-nil, arith}
+use Rattle.std.specs.List.{position_or_len, AllByRecursion, dedup}
+use Rattle.std.specs.List.Sorted.{IsSorted, IsPermutation, IsStrictlySortedBy}
+use Rattle.std.specs.List.Retain.{IsFiltered, DiffersFromLast}
+use Rattle.std.specs.Ordering.{is_eq, is_lt, eq_by_cmp}
+use Rattle.std.specs.Cmp.{Equal-is, IsEquivalence, tied_itself, eq_by_cmp_equiv}
+use Rattle.std.proofs.lemmas.Bool.{cases_lt}
+use Rattle.std.proofs.lemmas.Bool.Decides.{nat_tests}
+use Rattle.std.proofs.lemmas.List.{take_more, map_push}
+use Rattle.std.proofs.lemmas.List.Concat.{flat_map-append}
+use Rattle.std.proofs.lemmas.List.Elements.{All-contains, filter_passes, filter_more, Contains-append_left, Contains-append_right, Contains-append_cases}
+use Rattle.std.proofs.lemmas.List.Filters.{dedup_is}
+use Rattle.std.proofs.lemmas.List.Kept.{IsStrictlySortedBy-dedup, Contains-dedup, Contains-from_dedup}
+use Rattle.std.proofs.lemmas.List.Sorted.{Contains-permutation, IsPermutation-sym}
+use Rattle.std.proofs.lemmas.List.Sums.{fails_before_first}
+use Rattle.std.proofs.lemmas.Option.{slice_get_within, get_or_from_slice_get}
+use Rattle.epx_types.specs.declared.id.Id.{Id}
+use Rattle.epx_types.specs.contracts.id.IdPartialEq.TheImpl as id_eq
+use Rattle.epx_types.specs.Ids.{id_cmp, BelowAll, IsRising}
+use Rattle.epx_types.specs.Instances.{Instance}
+use Rattle.epx_types.specs.CommittedMap.{ids_of, position_of, IsCommitted}
+use Rattle.epx_types.proofs.Comparisons.{id_cmp_total, id_cmp-IsAntisymmetric}
+use Rattle.epx_types.proofs.Membership.{Contains-nil, Contains-head, Contains-cons, Contains-cons_cases, Contains-filter, Contains-from_filter, Contains-from_map}
+use Rattle.epx_types.proofs.Places.{Contains-slice_get}
+use Rattle.epx_types.proofs.PositionLemmas.{position_of-stands}
+use Rattle.epx_types.proofs.DependencyLemmas.{IsCommitted-from_Contains}
+use Rattle.epx_graph.specs.GraphOf.{IsMissing}
+use Rattle.epx_graph.specs.Nodes.{lacking, all_lacking, AreMissingIds}
+
+-- ---- an Id without a position is not committed
+
+pub no_position : (m : List Instance) (x : Id) → position_of m x ≡ None → ¬ IsCommitted m x
+no_position m x none h =
+    let p = λ (e : Instance). is_eq (id_cmp e.id x) in
+    let from = Contains-from_map (λ (e : Instance). e.id) m x h in
+    let e = from.0 in
+    let k = from.1.0 in
+    let passes : p (get_or m k e) ≡ true = ap p from.1.2 ∙ ap (λ y. is_eq (id_cmp y x)) from.2 ∙ ap is_eq (tied_itself id_cmp_total x) in
+    elim (cases_lt (position_or_len p m) (length m)) [
+      | inl l ↦
+          let test : nat_lt (position_or_len p m) (length m) ≡ true = grind (arith, nat_tests) in
+          let some : position p m ≡ Some (position_or_len p m) = rw test refl in
+          absurd (cc (none, some))
+      | inr past ↦
+          let fails = fails_before_first p m k e (omega (arith, from.1.1)) in
+          absurd (cc (passes, fails))
+    ]
+
+pub some_position : (m : List Instance) (x : Id) (i : ℕ) → position_of m x ≡ Some i → IsCommitted m x
+some_position m x i some =
+    let at = position_of-stands m x i some in
+    subst (IsCommitted m) at.2 (IsCommitted-from_Contains m at.0 (Contains-slice_get m i at.0 at.1))
+
+lacks-from_missing : (m : List Instance) (x : Id) → ¬ IsCommitted m x → not (is_some (position_of m x)) ≡ true
+lacks-from_missing m x missing = by (position_of m x) refl where
+  by : (o : Option ℕ) → position_of m x ≡ o → not (is_some o) ≡ true
+  by None e = refl
+  by (Some i) e = absurd (missing (some_position m x i e))
+
+missing-from_lacks : (m : List Instance) (x : Id) → not (is_some (position_of m x)) ≡ true → ¬ IsCommitted m x
+missing-from_lacks m x passes = by (position_of m x) refl passes where
+  by : (o : Option ℕ) → position_of m x ≡ o → not (is_some o) ≡ true → ¬ IsCommitted m x
+  by None e p = no_position m x e
+  by (Some i) e p = absurd (cc p)
+
+-- ---- what is gathered
+
+Contains-flat_map : {X Y : Type 0} (f : X → List Y) (xs : List X) (x : X) (y : Y) → Contains xs x → Contains (f x) y → Contains (flat_map f xs) y
+Contains-flat_map f [] x y h k = absurd (Contains-nil x h)
+Contains-flat_map {X} {Y} f (z ∷ xs) x y h k =
+    elim (Contains-cons_cases z xs x h) [
+      | inl e ↦ Contains-append_left (f z) (flat_map f xs) y (let P : X → Type 0 = λ w. Contains (f w) y in subst P (sym e) k)
+      | inr rest ↦ Contains-append_right (f z) (flat_map f xs) y (Contains-flat_map f xs x y rest k)
+    ]
+
+Contains-from_flat_map : {X Y : Type 0} (f : X → List Y) (xs : List X) (y : Y) → Contains (flat_map f xs) y → (x : X) × Contains xs x × Contains (f x) y
+Contains-from_flat_map f [] y h = absurd (Contains-nil y h)
+Contains-from_flat_map f (z ∷ xs) y h =
+    elim (Contains-append_cases (f z) (flat_map f xs) y h) [
+      | inl here ↦ (z, Contains-head z xs, here)
+      | inr rest ↦ let from = Contains-from_flat_map f xs y rest in (from.0, Contains-cons z xs from.0 from.1, from.2)
+    ]
+
+Contains-all_lacking : (m : List Instance) (x : Id) → Contains (all_lacking m m) x ↔ IsMissing m x
+Contains-all_lacking m x = (there, back) where
+  there : Contains (all_lacking m m) x → IsMissing m x
+  there h =
+      let from = Contains-from_flat_map (λ (e : Instance). lacking m e.deps) m x h in
+      let listed = Contains-from_filter (λ (y : Id). not (is_some (position_of m y))) from.0.deps x from.2 in
+      let passes = All-contains (λ (y : Id). not (is_some (position_of m y)) ≡ true) (lacking m from.0.deps) x (filter_passes (λ (y : Id). not (is_some (position_of m y))) from.0.deps) from.2 in
+      ((from.0.id, (from.0, from.1, refl, listed)), missing-from_lacks m x passes)
+
+  back : IsMissing m x → Contains (all_lacking m m) x
+  back h =
+      let d = h.0.1 in
+      Contains-flat_map (λ (e : Instance). lacking m e.deps) m d.0 x d.1 (Contains-filter (λ (y : Id). not (is_some (position_of m y))) d.0.deps x d.3 (lacks-from_missing m x h.1))
+
+-- one Id more
+pub lacking_skip : (m : List Instance) (xs : List Id) (i : ℕ) (d : Id) → i < length xs → is_some (position_of m (get_or xs i d)) ≡ true → lacking m (take (i + 1) xs) ≡ lacking m (take i xs)
+lacking_skip m xs i d l some =
+    let p = λ (y : Id). not (is_some (position_of m y)) in
+    filter_more p xs i d l ∙ ap (λ b. lacking m (take i xs) ++ cond (not b) (get_or xs i d ∷ []) []) some ∙ append-nil (lacking m (take i xs))
+
+pub lacking_take : (m : List Instance) (xs : List Id) (i : ℕ) (d : Id) → i < length xs → is_some (position_of m (get_or xs i d)) ≡ false → lacking m (take (i + 1) xs) ≡ lacking m (take i xs) ++ get_or xs i d ∷ []
+lacking_take m xs i d l none =
+    let p = λ (y : Id). not (is_some (position_of m y)) in
+    filter_more p xs i d l ∙ ap (λ b. lacking m (take i xs) ++ cond (not b) (get_or xs i d ∷ []) []) none
+
+-- one instance more
+pub all_lacking_more : (m : List Instance) (i : ℕ) (e : Instance) → slice_get m i ≡ Some e → all_lacking m (take (i + 1) m) ≡ all_lacking m (take i m) ++ lacking m e.deps
+all_lacking_more m i e at =
+    let f = λ (d : Instance). lacking m d.deps in
+    let same : get_or m i e ≡ e = get_or_from_slice_get m i e e at in
+    ap (all_lacking m) (take_more m i e (slice_get_within m i e at)) ∙ flat_map-append f (take i m) (get_or m i e ∷ []) ∙ ap (λ l. all_lacking m (take i m) ++ l) (append-nil (f (get_or m i e)) ∙ ap f same)
+
+-- ---- sorted, and each once
+
+rising_from_strict : (xs : List Id) → IsStrictlySortedBy id_cmp xs → IsRising xs
+unfolding IsStrictlySortedBy
+rising_from_strict [] h = tt
+rising_from_strict (x ∷ xs) h = (below_all xs h.0, rising_from_strict xs h.1) where
+  below_all : (ys : List Id) → AllByRecursion (λ y. id_cmp x y ≡ Less) ys → BelowAll x ys
+  below_all [] k = tt
+  below_all (y ∷ ys) k = (ap is_lt k.0, below_all ys k.1)
+
+ids_tie : (x y : Id) → id_eq.eq-value.it x y ≡ eq_by_cmp id_cmp x y
+ids_tie x y = grind (arith, nat_tests)
+
+pub missing_kept : (m : List Instance) (gathered sorted ids : List Id) → gathered ≡ all_lacking m m → IsPermutation gathered sorted → IsSorted id_cmp sorted → IsFiltered (DiffersFromLast id_eq.eq-value.it) [] sorted ids → AreMissingIds m ids
+missing_kept m gathered sorted ids is moved sorts filtered =
+    let E = id_eq.eq-value.it in
+    let kept : ids ≡ dedup E sorted = dedup_is E sorted ids filtered in
+    record {
+      rising = subst IsRising (sym kept) (rising_from_strict (dedup E sorted) (IsStrictlySortedBy-dedup id_cmp_total {E = E} ids_tie sorted sorts));
+      exact = λ x. (
+        λ h. (Contains-all_lacking m x).0 (subst (λ (l : List Id). Contains l x) is (Contains-permutation sorted gathered x (IsPermutation-sym gathered sorted moved) (Contains-from_dedup E sorted x (subst (λ (l : List Id). Contains l x) kept h)))),
+        λ h. subst (λ (l : List Id). Contains l x) (sym kept) (keeps sorted x (Contains-permutation gathered sorted x moved (subst (λ (l : List Id). Contains l x) (sym is) ((Contains-all_lacking m x).1 h)))),
+      );
+    }
+  where
+    same : (x y : Id) → id_eq.eq-value.it x y ≡ true → x ≡ y
+    same x y t = id_cmp-IsAntisymmetric x y ((Equal-is (id_cmp x y)).0 (sym (ids_tie x y) ∙ t))
+
+    equal : IsEquivalence id_eq.eq-value.it
+    equal =
+        let by_cmp = eq_by_cmp_equiv id_cmp_total in
+        record {
+          refl = λ x. ids_tie x x ∙ by_cmp.refl x;
+          symm = λ x y. ids_tie x y ∙ by_cmp.symm x y ∙ sym (ids_tie y x);
+          congr = λ x y z t. ids_tie x z ∙ by_cmp.congr x y z (sym (ids_tie x y) ∙ t) ∙ sym (ids_tie y z);
+        }
+
+    keeps : (xs : List Id) (x : Id) → Contains xs x → Contains (dedup id_eq.eq-value.it xs) x
+    keeps xs x h = Contains-dedup {E = id_eq.eq-value.it} equal same xs x h
+
+-- ---- committed Ids
+
+-- one instance more
+pub ids_more : (m : List Instance) (i : ℕ) (e : Instance) → slice_get m i ≡ Some e → ids_of (take (i + 1) m) ≡ ids_of (take i m) ++ e.id ∷ []
+ids_more m i e at =
+    let same : get_or m i e ≡ e = get_or_from_slice_get m i e e at in
+    ap ids_of (take_more m i e (slice_get_within m i e at)) ∙ map_push (λ (d : Instance). d.id) (take i m) (get_or m i e) ∙ ap (λ (d : Instance). ids_of (take i m) ++ d.id ∷ []) same

@@ -1,0 +1,5 @@
+use Rattle.epx_graph.proofs.OneGraph.{graph_is_one}
+use Rattle.epx_graph.proofs.laws.graph_is_one.Goals as goal
+
+pub returns : goal.returns
+returns c = graph_is_one

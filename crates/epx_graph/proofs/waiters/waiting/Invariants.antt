@@ -1,0 +1,5 @@
+use Rattle.epx_graph.specs.Waiters.{AreWaiters}
+use Rattle.epx_graph.proofs.waiters.waiting.Given as goal
+
+abbrev pub invariant-loop-node : goal.invariant-loop-node
+invariant-loop-node l = AreWaiters l.graph l.mark-items l.node l.waiters.items

@@ -1,0 +1,9 @@
+-- Laws of the graphs of committed maps.
+use Rattle.std.specs.Prelude.{◌≡◌, List}
+use Rattle.epx_types.specs.Instances.{Instance}
+use Rattle.epx_graph.specs.Graphs.{DependencyGraph}
+use Rattle.epx_graph.specs.GraphOf.{IsGraphOf}
+
+-- a map has at most one graph
+abbrev pub GraphIsOne : Type 0
+GraphIsOne = (m : List Instance) (g h : DependencyGraph) → IsGraphOf m g → IsGraphOf m h → g ≡ h

@@ -1,0 +1,18 @@
+-- The graph of a committed map.
+use Rattle.std.specs.Prelude.{◌≡◌, ◌↔◌, ℕ, List, Contains, Some, slice_get}
+use Rattle.epx_types.specs.declared.id.Id.{Id}
+use Rattle.epx_types.specs.Instances.{Instance}
+use Rattle.epx_types.specs.CommittedMap.{ids_of, IsCommitted}
+use Rattle.epx_types.specs.Reaching.{DependsOn}
+use Rattle.epx_graph.specs.Graphs.{DependencyGraph, edges_of, committed_ids, missing_ids, IsGraph}
+
+-- a dependency of a committed instance that is not committed itself
+abbrev pub IsMissing : List Instance → Id → Type 0
+IsMissing m y = ((x : Id) × DependsOn m x y) × ¬ IsCommitted m y
+
+-- first the committed instances, then the missing ones; an edge exactly where one instance depends on the other
+pub record IsGraphOf (m : List Instance) (g : DependencyGraph) : Type 0 where
+  pub graph : IsGraph g
+  pub committed : committed_ids g ≡ ids_of m
+  pub missing : (x : Id) → Contains (missing_ids g) x ↔ IsMissing m x
+  pub edges : (k j : ℕ) (x y : Id) → slice_get g.ids k ≡ Some x → slice_get g.ids j ≡ Some y → Contains (edges_of g k) j ↔ DependsOn m x y

@@ -1,0 +1,20 @@
+-- The least missing node that a node reaches.
+use Rattle.std.specs.Prelude.{◌≡◌, ℕ, ◌<◌, ◌≤◌, List, length, Option, Some, None, slice_index_or}
+use Rattle.epx_graph.specs.Graphs.{DependencyGraph, edges_of}
+use Rattle.epx_graph.specs.NodePaths.{NodeReaches}
+
+-- s is the least of the missing nodes that k reaches
+pub record IsLeastMissing (g : DependencyGraph) (k s : ℕ) : Type 0 where
+  pub missing : g.committed ≤ s
+  pub reached : NodeReaches (edges_of g) k s
+  pub least : (z : ℕ) → g.committed ≤ z → NodeReaches (edges_of g) k z → s ≤ z
+
+-- the mark of a node, if it has one
+abbrev pub mark_of : List (Option ℕ) → ℕ → Option ℕ
+mark_of marks k = slice_index_or marks k None
+
+-- each committed node is marked by the least missing node that it reaches, and has no mark where it reaches none
+pub record AreMarksOf (g : DependencyGraph) (marks : List (Option ℕ)) : Type 0 where
+  pub nodes : length marks ≡ g.committed
+  pub marked : (k s : ℕ) → mark_of marks k ≡ Some s → IsLeastMissing g k s
+  pub unmarked : (k s : ℕ) → k < g.committed → mark_of marks k ≡ None → g.committed ≤ s → s < length g.ids → ¬ NodeReaches (edges_of g) k s

@@ -1,0 +1,10 @@
+pub mod Graphs
+pub mod GraphOf
+pub mod NodePaths
+pub mod GraphLaws
+pub mod LeastMissing
+pub mod Rows
+pub mod Nodes
+pub mod Filling
+pub mod Searches
+pub mod Waiters

@@ -1,0 +1,110 @@
+//! The graph of dependencies.
+ghost use Rattle.std.specs.Prelude.{◌≡◌, ◌==◌, ◌↔◌, ◌<◌, length, Contains, IfOk, IsTrue, MatchOption, Some, slice_get};
+ghost use Rattle.epx_graph.specs.Graphs.{edges_of, graph_over, IsGraph};
+ghost use Rattle.epx_graph.specs.Rows.{AreTurned};
+
+use crate::find::find;
+use crate::rows::Rows;
+use epx_types::{Id, Memory};
+use std::alloc::Global;
+use std::marker::Model;
+
+/// The instances of a committed map and those that they depend on, as nodes with numbers: first the
+/// committed ones in order of Id, and then the missing ones in order of Id.
+///
+/// It takes one word an edge. No call on it takes memory.
+#[derive(Debug, Drop)]
+pub struct Graph {
+    ids: Vec<Id>,
+    /// The edges of each committed node.
+    rows: Rows,
+}
+
+impl Model for Graph {
+    ghost use Rattle.epx_graph.specs.Graphs.{DependencyGraph, graph_over, IsGraph};
+
+    ghost Value = { DependencyGraph };
+
+    ghost view = { λ g. graph_over g.ids.items g.rows };
+
+    ghost invariant = { λ g. IsGraph (graph_over g.ids.items g.rows) };
+}
+
+impl Graph {
+    pub(crate) fn new(ids: Vec<Id>, rows: Rows) -> Graph
+        requires { IsGraph (graph_over ids.items rows) }
+        ensures { result ≡ graph_over ids.items rows }
+    {
+        Graph { ids, rows }
+    }
+
+    /// How many nodes there are.
+    pub fn len(&self) -> usize
+        ensures len { result ≡ length self.now.ids }
+        ensures fits { IsGraph self.now }
+    {
+        self.ids.len()
+    }
+
+    pub fn is_empty(&self) -> bool
+        ensures { result ≡ (length self.now.ids == 0) }
+    {
+        self.ids.is_empty()
+    }
+
+    /// How many nodes are committed: those with the numbers below this one.
+    pub fn committed_len(&self) -> usize
+        ensures { result ≡ self.now.committed }
+    {
+        self.rows.len()
+    }
+
+    /// The node of an instance, if it has one, in logarithmic time.
+    pub fn node(&self, id: Id) -> Option<usize>
+        ensures { MatchOption result (¬ Contains self.now.ids id) (λ node. slice_get self.now.ids node ≡ Some id) }
+    {
+        let (committed, missing) = self.ids.split_at(self.committed_len());
+        if let Some(place) = find(committed, id) {
+            return Some(place);
+        }
+        match find(missing, id) {
+            Some(place) => Some(committed.len() + place),
+            None => None,
+        }
+    }
+
+    /// The instance that a node stands for.
+    pub fn id(&self, node: usize) -> Id
+        requires { node < length self.now.ids }
+        ensures { slice_get self.now.ids node ≡ Some result }
+    {
+        self.ids[node]
+    }
+
+    pub fn is_committed(&self, node: usize) -> bool
+        requires { node < length self.now.ids }
+        ensures { IsTrue result ↔ (node < self.now.committed) }
+    {
+        node < self.committed_len()
+    }
+
+    /// The nodes of the dependencies of a committed node, by rising number; none of a missing one.
+    pub fn edges(&self, node: usize) -> &[usize]
+        requires { node < length self.now.ids }
+        ensures edges { result.now ≡ edges_of self.now node }
+        ensures fits { IsGraph self.now }
+    {
+        if self.is_committed(node) {
+            return self.rows.row(node);
+        }
+        &[]
+    }
+
+    /// For each node those with an edge to it.
+    pub(crate) fn sources(&self, alloc: Global) -> Result<Rows, Memory>
+        ensures nodes { IfOk result (λ sources. length sources ≡ length self.now.ids) }
+        ensures turned { IfOk result (AreTurned self.now.edges) }
+    {
+        self.rows.turned(alloc, self.len())
+    }
+}

@@ -1,0 +1,7 @@
+//! What shows that the graph of a map means what it should: each function's contract is a law.
+ghost use Rattle.epx_graph.specs.GraphLaws.{GraphIsOne};
+
+/// A map has at most one graph.
+pub fn graph_is_one()
+    ensures { GraphIsOne }
+{}

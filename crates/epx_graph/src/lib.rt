@@ -1,0 +1,18 @@
+//! The graph of dependencies of a committed map, and the instances that wait.
+#![tactic(auto)]
+
+mod building;
+mod find;
+mod graph;
+pub mod laws;
+mod missing;
+mod rows;
+mod search;
+#[cfg(test)]
+mod tests;
+mod turned;
+mod waiters;
+
+pub use building::build;
+pub use graph::Graph;
+pub use waiters::{Waiter, waiting};

@@ -1,0 +1,83 @@
+//! Lists of numbers, one after another in one vector.
+ghost use Rattle.std.specs.Prelude.{◌≡◌, ◌<◌, ◌≤◌, ◌++◌, ◌∷◌, [], length, slice_index, slice_range, IfOk};
+ghost use Rattle.epx_graph.specs.Rows.{row_of};
+
+use epx_types::Memory;
+use std::alloc::Global;
+use std::marker::Model;
+
+/// Rows of numbers, at one word a number and one a row.
+#[derive(Debug, Drop)]
+pub(crate) struct Rows {
+    /// Where each row ends.
+    pub(crate) ends: Vec<usize>,
+    pub(crate) numbers: Vec<usize>,
+}
+
+impl Model for Rows {
+    ghost use Rattle.std.specs.Prelude.{ℕ, List, length};
+    ghost use Rattle.epx_graph.specs.Rows.{rows_from, AreEnds};
+
+    ghost Value = { List (List ℕ) };
+
+    ghost view = { λ r. rows_from 0 r.ends.items r.numbers.items };
+
+    ghost invariant = { λ r. AreEnds 0 r.ends.items (length r.numbers.items) };
+}
+
+/// Where a row begins and ends.
+fn bounds(ends: &[usize], place: usize) -> (usize, usize)
+    requires { place < length ends.now }
+    ensures { result ≡ (slice_index (0 ∷ ends.now) place, slice_index ends.now place) }
+{
+    if place == 0 {
+        return (0, ends[0]);
+    }
+    (ends[place - 1], ends[place])
+}
+
+fn part(numbers: &[usize], start: usize, end: usize) -> &[usize]
+    requires start { start ≤ end }
+    requires end { end ≤ length numbers.now }
+    ensures { result.now ≡ slice_range numbers.now start end }
+{
+    &numbers[start..end]
+}
+
+impl Rows {
+    pub(crate) fn new(alloc: Global) -> Rows
+        ensures { result ≡ [] }
+    {
+        Rows {
+            ends: Vec::new(alloc),
+            numbers: Vec::new(alloc),
+        }
+    }
+
+    pub(crate) fn len(&self) -> usize
+        ensures { result ≡ length self.now }
+    {
+        self.ends.len()
+    }
+
+    pub(crate) fn row(&self, place: usize) -> &[usize]
+        requires { place < length self.now }
+        ensures { result.now ≡ row_of self.now place }
+    {
+        let (start, end) = bounds(&self.ends, place);
+        part(&self.numbers, start, end)
+    }
+
+    /// With one row more.
+    pub(crate) fn push_row(self, row: &[usize]) -> Result<Rows, Memory>
+        ensures { IfOk result (λ rows. rows ≡ self ++ row.now ∷ []) }
+    {
+        let Rows {
+            mut ends,
+            mut numbers,
+        } = self;
+        numbers.extend_from_slice(row)?;
+        ends.push(numbers.len())?;
+        Ok(Rows { ends, numbers })
+    }
+}

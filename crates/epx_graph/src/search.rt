@@ -1,0 +1,88 @@
+//! The least missing node that each committed node reaches.
+ghost use Rattle.std.specs.Prelude.{◌≡◌, ◌+◌, ◌<◌, ◌≤◌, [], None, length, replicate, All, IfOk, OnOk};
+ghost use Rattle.epx_graph.specs.Graphs.{DependencyGraph, IsGraph};
+ghost use Rattle.epx_graph.specs.LeastMissing.{AreMarksOf};
+ghost use Rattle.epx_graph.specs.Rows.{AreTurned};
+ghost use Rattle.epx_graph.specs.Searches.{Visits, Begins};
+
+use crate::graph::Graph;
+use crate::rows::Rows;
+use epx_types::Memory;
+use std::alloc::Global;
+use std::marker::Model;
+
+/// A search back along the edges, from missing nodes in rising order.
+#[derive(Drop)]
+struct Search {
+    /// The least missing node that each committed node was found to reach.
+    marks: Vec<Option<usize>>,
+    /// Nodes to which edges lead that were not looked at yet.
+    stack: Vec<usize>,
+}
+
+impl Model for Search {
+    ghost use Rattle.epx_graph.specs.Searches.{Searched};
+
+    ghost Value = { Searched };
+
+    ghost view = { λ s. record { marks = s.marks.items; stack = s.stack.items } };
+}
+
+impl Search {
+    fn new(alloc: Global, committed: usize) -> Result<Search, Memory>
+        ensures { IfOk result (λ search. search ≡ record { marks = replicate committed None; stack = [] }) }
+    {
+        Ok(Search {
+            marks: vec![in alloc; None; committed]?,
+            stack: Vec::new(alloc),
+        })
+    }
+
+    /// Marks those of the nodes that have no mark, and puts them on the stack.
+    fn visit(&mut self, nodes: &[usize], root: usize) -> Result<(), Memory>
+        requires { All (λ k. k < length self.old.marks) nodes.now }
+        ensures { OnOk result (Visits nodes.now root self.old self.new) }
+    {
+        for node in nodes {
+            if self.marks[*node].is_some() {
+                continue;
+            }
+            self.marks[*node] = Some(root);
+            self.stack.push(*node)?;
+        }
+        Ok(())
+    }
+
+    /// Marks the nodes that reach the root and have no mark yet.
+    fn spread(&mut self, sources: &Rows, root: usize) -> Result<(), Memory>
+        requires root { root < length sources.now }
+        requires sources { All (λ row. All (λ k. k < length self.old.marks) row) sources.now }
+        requires nodes { length self.old.marks ≤ length sources.now }
+        requires empty { self.old.stack ≡ [] }
+        ensures len { OnOk result (length self.new.marks ≡ length self.old.marks) }
+        ensures empty { OnOk result (self.new.stack ≡ []) }
+        ensures search { OnOk result ((g : DependencyGraph) → IsGraph g → AreTurned g.edges sources.now → g.committed ≤ root
+            → Begins g root self.old.marks → Begins g (root + 1) self.new.marks) }
+    {
+        self.stack.push(root)?;
+        while let Some(node) = self.stack.pop() {
+            self.visit(sources.row(node), root)?;
+        }
+        Ok(())
+    }
+}
+
+/// The least missing node that each committed node reaches, if it reaches one, in time that is linear
+/// in nodes and edges.
+pub(crate) fn least_missing(alloc: Global, graph: &Graph) -> Result<Vec<Option<usize>>, Memory>
+    ensures marks { IfOk result (λ marks. AreMarksOf graph.now marks.items) }
+    ensures fits { OnOk result (IsGraph graph.now) }
+{
+    let sources = graph.sources(alloc)?;
+    let mut search = Search::new(alloc, graph.committed_len())?;
+    for root in graph.committed_len()..graph.len() {
+        search.spread(&sources, root)?;
+    }
+    let Search { marks, stack: _ } = search;
+    Ok(marks)
+}
