@@ -1,5 +1,5 @@
 //! Logs from their instances, and what the answer to them is, as text.
-use epx_tool::answer;
+use epx_tool::{Ask, answer, view};
 use epx_types::{Fault, Plan};
 use std::alloc::{AllocError, Global};
 use std::process::Abort;
@@ -39,6 +39,26 @@ pub(crate) fn plan(rt: &impl Abort) -> Plan {
     Plan::new(4, 256).expect(rt, "a plan")
 }
 
+fn bytes_of(alloc: Global, logs: &[&str]) -> Result<Vec<Vec<u8>>, AllocError> {
+    let mut bytes = Vec::new(alloc);
+    for log in logs {
+        bytes.push(Vec::from_slice(alloc, log.as_bytes())?)?;
+    }
+    Ok(bytes)
+}
+
+fn told(
+    rt: &impl Abort,
+    alloc: Global,
+    answer: Result<Vec<u8>, Fault>,
+) -> Result<String, Fail> {
+    match answer {
+        Ok(report) => Ok(String::from_utf8(report).expect(rt, "text")),
+        Err(Fault::Memory) => Err(Fail::from("want of memory")),
+        Err(fault) => Ok(fault.text(alloc)?),
+    }
+}
+
 /// The report of the logs, or the text of their fault.
 pub(crate) fn answered<R: Abort + Threads + Sync>(
     rt: &R,
@@ -46,13 +66,16 @@ pub(crate) fn answered<R: Abort + Threads + Sync>(
     logs: &[&str],
     plan: Plan,
 ) -> Result<String, Fail> {
-    let mut bytes: Vec<Vec<u8>> = Vec::new(alloc);
-    for log in logs {
-        bytes.push(Vec::from_slice(alloc, log.as_bytes())?)?;
-    }
-    match answer(rt, alloc, &bytes, plan) {
-        Ok(report) => Ok(String::from_utf8(report).expect(rt, "text")),
-        Err(Fault::Memory) => Err(Fail::from("want of memory")),
-        Err(fault) => Ok(fault.text(alloc)?),
-    }
+    let answer = answer(rt, alloc, &bytes_of(alloc, logs)?, plan);
+    told(rt, alloc, answer)
+}
+
+/// The execution order of the logs, or the text of their fault.
+pub(crate) fn ordered<R: Abort + Threads + Sync>(
+    rt: &R,
+    alloc: Global,
+    logs: &[&str],
+) -> Result<String, Fail> {
+    let answer = view(rt, alloc, Ask::Order, &bytes_of(alloc, logs)?, plan(rt));
+    told(rt, alloc, answer)
 }

@@ -9,6 +9,10 @@ mod executing;
 #[cfg(test)]
 mod given;
 #[cfg(test)]
+mod ordering;
+#[cfg(test)]
 mod reading;
 #[cfg(test)]
 mod refusing;
+#[cfg(test)]
+mod waiting;

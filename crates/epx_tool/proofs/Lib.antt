@@ -1,9 +1,8 @@
 mod ReportNumbers
 mod Pairs
-mod Positions
-mod FirstDependents
-mod IndependentOrder
-mod AcceptedLogs
-mod IndependentReports
 mod SourcesRead
 mod OneAnswer
+mod OrderedInstances
+mod AcceptedLogs
+mod Reports
+mod OrderLines

@@ -1,7 +1,7 @@
 pub mod ReportLines
 pub mod Report
+pub mod OrderText
+pub mod Views
 pub mod Answer
 pub mod AnswerLaws
-pub mod FirstPath
-pub mod Independent
 pub mod Runs

@@ -1,10 +1,11 @@
 -- A run: logs are read from sources, and the answer to them is written to a sink.
-use Rattle.std.specs.Prelude.{◌≡◌, ℕ, ◌<◌, ◌≤◌, List, map, length, slice_get, Option, Some, Ok, Err}
+use Rattle.std.specs.Prelude.{◌≡◌, ℕ, ◌<◌, ◌≤◌, List, map, length, slice_get, Option, Some, Ok}
 use Rattle.epx_types.specs.declared.fault.Fault.{Fault}
 use Rattle.epx_types.specs.declared.fault.Fault.TheVariants.{Memory, TooManyLogs, LogTooLong, BadLine, TooManyInstances, Disagree, Read, Write}
+use Rattle.epx_types.specs.Instances.{Instance}
 use Rattle.epx_merge.specs.Limits.{max_logs, max_log_bytes}
-use Rattle.epx_merge.specs.Refusals.{IsFirstTooLong}
-use Rattle.epx_tool.specs.Answer.{IsAnswer}
+use Rattle.epx_merge.specs.Refusals.{IsFirstTooLong, IsRefusal}
+use Rattle.epx_tool.specs.Answer.{Answers}
 
 -- these are the bytes that the sources will give, in order
 abbrev pub AreBytesOf : {S : Type 0} → (S → Option (List ℕ)) → List S → List (List ℕ) → Type 0
@@ -22,8 +23,8 @@ IsReadingRefusal logs (LogTooLong log) = (length logs ≤ max_logs) × IsFirstTo
 IsReadingRefusal logs (Read log) = (length logs ≤ max_logs) × NoneTooLongBefore logs log
 IsReadingRefusal logs _ = ⊥
 
--- the faults of a run: where no device failed, the refusal of the logs, where Is says what that is
-abbrev pub IsRunFault : (List (List ℕ) → Fault → Type 0) → List (List ℕ) → Fault → Type 0
+-- the faults of a run whose text is to be Is: the refusal of the logs, or that of a device
+abbrev pub IsRunFault : (List Instance → List ℕ → Type 0) → List (List ℕ) → Fault → Type 0
 IsRunFault Is logs (Read log) = (length logs ≤ max_logs) × NoneTooLongBefore logs log
-IsRunFault Is logs Write = (text : List ℕ) × IsAnswer logs (Ok text)
-IsRunFault Is logs fault = Is logs fault
+IsRunFault Is logs Write = (text : List ℕ) × Answers Is logs (Ok text)
+IsRunFault Is logs fault = IsRefusal logs fault

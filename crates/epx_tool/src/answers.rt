@@ -1,64 +1,104 @@
 //! The answer to logs.
-ghost use Rattle.std.specs.Prelude.{◌≤◌, length, map, IfOk, MatchResult, Ok, Err};
+ghost use Rattle.std.specs.Prelude.{◌≡◌, ◌≤◌, length, map, IfOk, MatchResult, Ok, Err};
+ghost use Rattle.epx_types.specs.CommittedMap.{instance_of};
 ghost use Rattle.epx_merge.specs.Limits.{max_instances};
-ghost use Rattle.epx_types.specs.CommittedMap.{ids_of};
-ghost use Rattle.epx_types.specs.Ids.{IsRising};
-ghost use Rattle.epx_tool.specs.Answer.{IsAnswer};
-ghost use Rattle.epx_tool.specs.FirstPath.{IsRefusalSoFar, LackDependencies};
-ghost use Rattle.epx_tool.specs.Independent.{AreIndependent};
-ghost use Rattle.epx_tool.specs.Report.{IsReport};
+ghost use Rattle.epx_tool.specs.Answer.{Answers, IsAnswer};
+ghost use Rattle.epx_tool.specs.OrderText.{IsOrderText};
+ghost use Rattle.epx_tool.specs.Report.{ops_of, IsReport};
+ghost use Rattle.epx_tool.specs.Views.{IsViewed};
 
-use crate::independent::{commands, dependent_among, ids};
-use crate::report::report;
+use crate::ask::Ask;
+use crate::report::{order_report, report};
 use epx_apply::run_order;
+use epx_graph::{build, waiting};
 use epx_merge::{Merged, read_logs};
+use epx_order::order;
 use epx_txn::Store;
-use epx_types::{Fault, Memory, Plan, Why};
+use epx_types::{Command, Fault, Id, Memory, Plan};
 use std::alloc::Global;
 use std::thread::Threads;
 
-/// The report of instances without dependencies.
+/// The commands of these instances.
+fn commands<'a>(alloc: Global, merged: &'a Merged, ids: &[Id]) -> Result<Vec<Command<'a>>, Memory>
+    ensures { IfOk result (λ commands. map (λ c. c.ops.now) commands.items ≡ map (λ x. ops_of (instance_of merged.now x)) ids.now) }
+{
+    let mut commands = Vec::with_capacity(alloc, ids.len())?;
+    for id in ids {
+        let ops = match merged.get(*id) {
+            Some(entry) => entry.ops(),
+            None => &[],
+        };
+        commands.push(Command { id: *id, ops })?;
+    }
+    Ok(commands)
+}
+
+/// The report of a committed map.
 fn report_of<R: Threads + Sync>(
     rt: &R,
     alloc: Global,
     merged: &Merged,
     plan: Plan,
 ) -> Result<Vec<u8>, Memory>
-    requires independent { AreIndependent merged.now }
-    requires rising { IsRising (ids_of merged.now) }
     requires few { length merged.now ≤ max_instances }
     ensures { IfOk result (λ text. IsReport merged.now text.items) }
 {
-    let ids = ids(alloc, merged)?;
-    let commands = commands(alloc, merged)?;
+    let graph = build(alloc, merged)?;
+    let order = order(rt, alloc, merged, &graph)?;
+    let waiters = waiting(alloc, &graph)?;
+    let commands = commands(alloc, merged, order.ids())?;
     let mut store = Store::new(alloc);
     let replies = run_order(rt, alloc, &mut store, &commands, plan)?;
-    report(alloc, &ids, ids.len(), &replies, &store)
+    report(alloc, &order, &waiters, &replies, &store)
 }
 
-/// The report of logs whose instances have no dependencies, or the first refusal. Logs with
-/// dependencies that would be accepted are refused as yet, at the first line that has some. The answer
-/// is the same for every plan.
+/// The execution order of a committed map, as text.
+fn order_of<R: Threads + Sync>(
+    rt: &R,
+    alloc: Global,
+    merged: &Merged,
+) -> Result<Vec<u8>, Memory>
+    ensures { IfOk result (λ text. IsOrderText merged.now text.items) }
+{
+    let graph = build(alloc, merged)?;
+    let order = order(rt, alloc, merged, &graph)?;
+    let waiters = waiting(alloc, &graph)?;
+    order_report(alloc, &order, &waiters)
+}
+
+/// The report of the logs, or their first refusal. The answer is the same for every plan.
 pub fn answer<R: Threads + Sync>(
     rt: &R,
     alloc: Global,
     logs: &[Vec<u8>],
     plan: Plan,
 ) -> Result<Vec<u8>, Fault>
-    ensures answer { let bytes = map (λ log. log.items) logs.now in LackDependencies bytes →
+    ensures { let bytes = map (λ log. log.items) logs.now in
         MatchResult result (λ text. IsAnswer bytes (Ok text.items)) (λ fault. IsAnswer bytes (Err fault)) }
-    ensures others { let bytes = map (λ log. log.items) logs.now in
-        MatchResult result (λ text. IsAnswer bytes (Ok text.items)) (IsRefusalSoFar bytes) }
 {
     let merged = match read_logs(rt, alloc, logs, plan) {
         Ok(merged) => merged,
         Err(fault) => return Err(fault),
     };
-    if let Some(place) = dependent_among(alloc, logs, &merged)? {
-        return Err(Fault::BadLine {
-            place,
-            why: Why::Deps,
-        });
-    }
     Ok(report_of(rt, alloc, &merged, plan)?)
+}
+
+/// As `answer`, with the text that is asked for in place of the report.
+pub fn view<R: Threads + Sync>(
+    rt: &R,
+    alloc: Global,
+    ask: Ask,
+    logs: &[Vec<u8>],
+    plan: Plan,
+) -> Result<Vec<u8>, Fault>
+    ensures { let bytes = map (λ log. log.items) logs.now in
+        MatchResult result (λ text. Answers (IsViewed ask) bytes (Ok text.items)) (λ fault. Answers (IsViewed ask) bytes (Err fault)) }
+{
+    let merged = match read_logs(rt, alloc, logs, plan) {
+        Ok(merged) => merged,
+        Err(fault) => return Err(fault),
+    };
+    match ask {
+        Ask::Order => Ok(order_of(rt, alloc, &merged)?),
+    }
 }

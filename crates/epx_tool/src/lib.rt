@@ -2,12 +2,13 @@
 #![tactic(auto)]
 
 mod answers;
-mod independent;
+mod ask;
 pub mod laws;
 mod report;
 mod runs;
 #[cfg(test)]
 mod tests;
 
-pub use answers::answer;
-pub use runs::run;
+pub use answers::{answer, view};
+pub use ask::Ask;
+pub use runs::{run, show};

@@ -6,8 +6,12 @@ ghost use Rattle.serde_json.specs.Find.{of_integer};
 ghost use Rattle.serde_json.specs.View.{view};
 ghost use Rattle.serde_json.specs.Written.{compact_text, has_float};
 ghost use Rattle.epx_lines.specs.Text.{data_of_value};
-ghost use Rattle.epx_tool.specs.ReportLines.{line_feed, array_of, line_of, header_data, header_line, reply_data, reply_line, store_data, store_line};
+ghost use Rattle.epx_tool.specs.ReportLines.{line_feed, array_of, line_of, header_data, header_line, reply_data, reply_line, store_data, store_line, waiting_data, waiting_line};
+ghost use Rattle.epx_tool.specs.OrderText.{order_data, order_line, order_text};
+ghost use Rattle.epx_types.specs.ExecutionOrder.{component_count, ranked_ids};
 
+use epx_graph::Waiter;
+use epx_order::OrderList;
 use epx_txn::Store;
 use epx_types::{Id, Key, Memory, Reply};
 use serde_json::{Value, json};
@@ -15,7 +19,7 @@ use std::alloc::{AllocError, Global};
 
 const LINE_FEED: u8 = 10;
 
-/// Text that grows line by line.
+/// Text that grows by a line.
 fn append_line(alloc: Global, text: &mut Vec<u8>, value: &Value) -> Result<(), AllocError>
     requires { has_float (view value.now) ≡ false }
     ensures { OnOk result (text.new.items ≡ text.old.items ++ (compact_text (view value.now) ++ line_feed ∷ [])) }
@@ -82,6 +86,19 @@ fn store_value(alloc: Global, key: &Key, value: &i64) -> Result<Value, AllocErro
     json!(in alloc; ["store", key.text(), integer_value(value)])
 }
 
+fn waiting_value(alloc: Global, waiter: Waiter) -> Result<Value, AllocError>
+    ensures { IfOk result (λ v. view v ≡ array_of (waiting_data waiter)) }
+{
+    let Waiter { id, missing } = waiter;
+    json!(in alloc; ["waiting", id.replica, id.number, missing.replica, missing.number])
+}
+
+fn order_value(alloc: Global, id: Id, depth: usize, leader: Id) -> Result<Value, AllocError>
+    ensures { IfOk result (λ v. view v ≡ array_of (order_data id depth leader)) }
+{
+    json!(in alloc; ["order", id.replica, id.number, depth, leader.replica, leader.number])
+}
+
 fn append_header(
     alloc: Global,
     text: &mut Vec<u8>,
@@ -114,6 +131,26 @@ fn append_store_pair(
     append_line(alloc, text, &value)
 }
 
+fn append_waiter(alloc: Global, text: &mut Vec<u8>, waiter: Waiter) -> Result<(), AllocError>
+    ensures { OnOk result (text.new.items ≡ text.old.items ++ waiting_line waiter) }
+{
+    let value = waiting_value(alloc, waiter)?;
+    append_line(alloc, text, &value)
+}
+
+fn append_ranked(
+    alloc: Global,
+    text: &mut Vec<u8>,
+    id: Id,
+    depth: usize,
+    leader: Id,
+) -> Result<(), AllocError>
+    ensures { OnOk result (text.new.items ≡ text.old.items ++ line_of (order_data id depth leader)) }
+{
+    let value = order_value(alloc, id, depth, leader)?;
+    append_line(alloc, text, &value)
+}
+
 fn append_replies(
     alloc: Global,
     text: &mut Vec<u8>,
@@ -137,20 +174,60 @@ fn append_store(alloc: Global, text: &mut Vec<u8>, store: &Store) -> Result<(), 
     Ok(())
 }
 
-/// The header, the replies in execution order, and the store by byte order of its keys.
+fn append_waiting(
+    alloc: Global,
+    text: &mut Vec<u8>,
+    waiters: &[Waiter],
+) -> Result<(), AllocError>
+    ensures { OnOk result (text.new.items ≡ text.old.items ++ flat_map waiting_line waiters.now) }
+{
+    for waiter in waiters {
+        append_waiter(alloc, text, *waiter)?;
+    }
+    Ok(())
+}
+
+fn append_order(alloc: Global, text: &mut Vec<u8>, order: &OrderList) -> Result<(), AllocError>
+    ensures { OnOk result (text.new.items ≡ text.old.items ++ flat_map order_line order.now) }
+{
+    for (place, id) in order.ids().iter().enumerate() {
+        let leader = order.component_of(place);
+        append_ranked(alloc, text, *id, order.depth_of(place), leader)?;
+    }
+    Ok(())
+}
+
+/// The header, the replies in execution order, the instances that wait, and the store by byte order
+/// of its keys.
 pub(crate) fn report(
     alloc: Global,
-    ids: &[Id],
-    components: usize,
+    order: &OrderList,
+    waiters: &[Waiter],
     replies: &[Reply],
     store: &Store,
 ) -> Result<Vec<u8>, Memory>
-    ensures { IfOk result (λ text. text.items ≡ header_line (length ids.now) 0 components
-        ++ (flat_map reply_line (zip ids.now replies.now) ++ flat_map store_line (contents.entries store.now))) }
+    ensures { IfOk result (λ text. text.items ≡ header_line (length order.now) (length waiters.now) (component_count order.now)
+        ++ (flat_map reply_line (zip (ranked_ids order.now) replies.now) ++ (flat_map waiting_line waiters.now ++ flat_map store_line (contents.entries store.now)))) }
 {
     let mut text = Vec::new(alloc);
-    append_header(alloc, &mut text, ids.len(), 0, components)?;
-    append_replies(alloc, &mut text, ids, replies)?;
+    append_header(alloc, &mut text, order.len(), waiters.len(), order.component_count())?;
+    append_replies(alloc, &mut text, order.ids(), replies)?;
+    append_waiting(alloc, &mut text, waiters)?;
     append_store(alloc, &mut text, store)?;
+    Ok(text)
+}
+
+/// The header, the instances in execution order with depth and leader, and the instances that wait.
+pub(crate) fn order_report(
+    alloc: Global,
+    order: &OrderList,
+    waiters: &[Waiter],
+) -> Result<Vec<u8>, Memory>
+    ensures { IfOk result (λ text. text.items ≡ order_text order.now waiters.now) }
+{
+    let mut text = Vec::new(alloc);
+    append_header(alloc, &mut text, order.len(), waiters.len(), order.component_count())?;
+    append_order(alloc, &mut text, order)?;
+    append_waiting(alloc, &mut text, waiters)?;
     Ok(text)
 }

@@ -1,13 +1,14 @@
 //! A run: logs are read from sources, and the answer to them is written to a sink.
 ghost use Rattle.std.specs.Prelude.{◌≡◌, ◌≢◌, ◌↔◌, true, false, map, All, Some, slice_get, Ok, IfOk, OnOk, IfErr, IsErrOf};
 ghost use Rattle.std.specs.Io.KnownBytes.{Appends, Keeps};
-ghost use Rattle.epx_merge.specs.Refusals.{IsRefusal};
-ghost use Rattle.epx_tool.specs.Answer.{IsAnswer};
-ghost use Rattle.epx_tool.specs.FirstPath.{LackDependencies, IsRefusalSoFar};
+ghost use Rattle.epx_tool.specs.Answer.{Answers};
+ghost use Rattle.epx_tool.specs.Report.{IsReport};
+ghost use Rattle.epx_tool.specs.Views.{IsViewed};
 ghost use Rattle.epx_tool.specs.Runs.{AreBytesOf, IsReadingRefusal, IsRunFault};
 ghost use Rattle.epx_devices.specs.Transfers.{AppendsPrefix};
 
-use crate::answers::answer;
+use crate::answers::{answer, view};
+use crate::ask::Ask;
 use epx_devices::{Sink, Source, read_log, write_out};
 use epx_merge::MAX_LOGS;
 use epx_types::{Fault, Plan};
@@ -39,8 +40,7 @@ fn read_sources<S: Source>(alloc: Global, sources: &mut [S]) -> Result<Vec<Vec<u
 }
 
 /// Reads the logs from the sources in order, and writes the answer to them to the sink, whole or not
-/// at all; a sink that fails has taken a prefix. As yet logs with dependencies are refused, as `answer`
-/// says.
+/// at all; a sink that fails has taken a prefix.
 pub fn run<T: Threads + Sync, S: Source, W: Sink>(
     rt: &T,
     alloc: Global,
@@ -51,15 +51,14 @@ pub fn run<T: Threads + Sync, S: Source, W: Sink>(
     requires sources { All (λ s. S.has_failed s ≡ false) sources.old }
     requires sink { W.has_failed sink.old ≡ false }
 
-    ensures report { OnOk result ((logs : _) → AreBytesOf S.remaining sources.old logs →
-        (text : _) × IsAnswer logs (Ok text) × Appends (W.contents sink.old) (W.contents sink.new) text) }
+    ensures text { OnOk result ((logs : _) → AreBytesOf S.remaining sources.old logs →
+        (text : _) × Answers IsReport logs (Ok text) × Appends (W.contents sink.old) (W.contents sink.new) text) }
     ensures flushed { OnOk result (W.is_flushed sink.new ≡ true) }
 
-    ensures refusal { IfErr result (λ fault. (logs : _) → AreBytesOf S.remaining sources.old logs → LackDependencies logs → IsRunFault IsRefusal logs fault) }
-    ensures others { IfErr result (λ fault. (logs : _) → AreBytesOf S.remaining sources.old logs → IsRunFault IsRefusalSoFar logs fault) }
+    ensures refusal { IfErr result (λ fault. (logs : _) → AreBytesOf S.remaining sources.old logs → IsRunFault IsReport logs fault) }
     ensures nothing { IfErr result (λ fault. fault ≢ Fault.Write → Keeps (W.contents sink.old) (W.contents sink.new)) }
     ensures prefix { IsErrOf result Fault.Write → (logs : _) → AreBytesOf S.remaining sources.old logs →
-        (text : _) × IsAnswer logs (Ok text) × AppendsPrefix (W.contents sink.old) (W.contents sink.new) text }
+        (text : _) × Answers IsReport logs (Ok text) × AppendsPrefix (W.contents sink.old) (W.contents sink.new) text }
 
     ensures read { (log : _) (source : _) → slice_get sources.new log ≡ Some source → IsErrOf result (Fault.Read log) ↔ (S.has_failed source ≡ true) }
     ensures written { IsErrOf result Fault.Write ↔ (W.has_failed sink.new ≡ true) }
@@ -69,6 +68,41 @@ pub fn run<T: Threads + Sync, S: Source, W: Sink>(
         Err(fault) => return Err(fault),
     };
     let text = match answer(rt, alloc, &logs, plan) {
+        Ok(text) => text,
+        Err(fault) => return Err(fault),
+    };
+    write_out(&text, sink)
+}
+
+/// As `run`, with the text that is asked for in place of the report.
+pub fn show<T: Threads + Sync, S: Source, W: Sink>(
+    rt: &T,
+    alloc: Global,
+    ask: Ask,
+    sources: &mut [S],
+    plan: Plan,
+    sink: &mut W,
+) -> Result<(), Fault>
+    requires sources { All (λ s. S.has_failed s ≡ false) sources.old }
+    requires sink { W.has_failed sink.old ≡ false }
+
+    ensures text { OnOk result ((logs : _) → AreBytesOf S.remaining sources.old logs →
+        (text : _) × Answers (IsViewed ask) logs (Ok text) × Appends (W.contents sink.old) (W.contents sink.new) text) }
+    ensures flushed { OnOk result (W.is_flushed sink.new ≡ true) }
+
+    ensures refusal { IfErr result (λ fault. (logs : _) → AreBytesOf S.remaining sources.old logs → IsRunFault (IsViewed ask) logs fault) }
+    ensures nothing { IfErr result (λ fault. fault ≢ Fault.Write → Keeps (W.contents sink.old) (W.contents sink.new)) }
+    ensures prefix { IsErrOf result Fault.Write → (logs : _) → AreBytesOf S.remaining sources.old logs →
+        (text : _) × Answers (IsViewed ask) logs (Ok text) × AppendsPrefix (W.contents sink.old) (W.contents sink.new) text }
+
+    ensures read { (log : _) (source : _) → slice_get sources.new log ≡ Some source → IsErrOf result (Fault.Read log) ↔ (S.has_failed source ≡ true) }
+    ensures written { IsErrOf result Fault.Write ↔ (W.has_failed sink.new ≡ true) }
+{
+    let logs = match read_sources(alloc, sources) {
+        Ok(logs) => logs,
+        Err(fault) => return Err(fault),
+    };
+    let text = match view(rt, alloc, ask, &logs, plan) {
         Ok(text) => text,
         Err(fault) => return Err(fault),
     };

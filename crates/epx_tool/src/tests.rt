@@ -1,7 +1,7 @@
 //! Runs and answers over memory. The worked rows are in a crate of their own.
 use super::*;
 use epx_devices::{FuseSink, FuseSource, MemorySink, MemorySource};
-use epx_types::{Fault, Place, Plan, Why};
+use epx_types::{Fault, Plan};
 use std::process::Abort;
 use std::test::Fail;
 use std::thread::Threads;
@@ -34,16 +34,27 @@ fn run_writes_the_report(rt: HostRuntime) -> Result<(), Fail> {
     Ok(())
 }
 
+const RING: &str = "{\"r\":0,\"i\":1,\"seq\":2,\"deps\":[[1,1]],\"ops\":[]}\n{\"r\":1,\"i\":1,\"seq\":1,\"deps\":[[0,1]],\"ops\":[]}\n{\"r\":2,\"i\":1,\"seq\":1,\"deps\":[[2,0]],\"ops\":[]}\n";
+
+const RING_ORDER: &str = "[\"executed\",2,\"waiting\",1,\"components\",1]\n[\"order\",1,1,0,0,1]\n[\"order\",0,1,0,0,1]\n[\"waiting\",2,1,2,0]\n";
+
 #[test]
-fn dependencies_are_refused_as_yet(rt: HostRuntime) -> Result<(), Fail> {
+fn view_is_the_order(rt: HostRuntime) -> Result<(), Fail> {
     let alloc = rt.alloc();
     let mut logs = Vec::new(alloc);
-    let text = "{\"r\":0,\"i\":0,\"seq\":1,\"deps\":[],\"ops\":[]}\n\n{\"r\":0,\"i\":1,\"seq\":1,\"deps\":[[0,0]],\"ops\":[]}";
-    logs.push(Vec::from_slice(alloc, text.as_bytes())?)?;
-    let refused = answer(&rt, alloc, &logs, plan(&rt)).err();
-    let place = Place { log: 0, line: 3 };
-    let why = Why::Deps;
-    assert_eq!(rt; refused, Some(Fault::BadLine { place, why }));
+    logs.push(Vec::from_slice(alloc, RING.as_bytes())?)?;
+    let text = view(&rt, alloc, Ask::Order, &logs, plan(&rt)).expect(&rt, "an order");
+    assert_eq!(rt; text.as_slice(), RING_ORDER.as_bytes());
+    Ok(())
+}
+
+#[test]
+fn show_writes_the_order(rt: HostRuntime) -> Result<(), Fail> {
+    let mut sources = [MemorySource::new(RING.as_bytes())];
+    let mut sink = MemorySink::new(rt.alloc());
+    let shown = show(&rt, rt.alloc(), Ask::Order, &mut sources, plan(&rt), &mut sink);
+    assert_eq!(rt; shown, Ok(()));
+    assert_eq!(rt; sink.bytes(), RING_ORDER.as_bytes());
     Ok(())
 }
 

@@ -1,0 +1,85 @@
+-- The marks of the components that reach a missing node, in the order in which they were finished.
+use Rattle.std.proofs.Common.{◌≡◌, ◌≢◌, ℕ, ◌+◌, ◌<◌, ◌≤◌, ◌↔◌, ◌⊎◌, inl, inr, Bool, true, false, List, [], ◌∷◌, length, get_or, set, sym, subst, ◌∙◌, ap, arith, Contains, IsTrue}
+use Rattle.std.proofs.lemmas.Bool.{cases_lt}
+use Rattle.std.proofs.lemmas.List.{get_or_default}
+use Rattle.std.proofs.lemmas.List.Elements.{Contains-get_or}
+use Rattle.epx_graph.specs.NodePaths.{IsNodePath}
+use Rattle.epx_order.specs.MissingNodes.{ReachesMissing}
+use Rattle.epx_order.specs.Partitions.{Parts, IsPartition, component_of, node_at, mark_for}
+use Rattle.epx_order.specs.Targets.{LeadsToMarked}
+use Rattle.epx_order.proofs.NodePathLemmas.{reaches_edge, reaches_on}
+use Rattle.epx_order.proofs.PartitionLemmas.{node_below, set_for}
+
+-- the marks after the first n nodes of the order
+pub record AreMarks (edges : ℕ → List ℕ) (committed : ℕ) (p : Parts) (marks : List Bool) (n : ℕ) : Type 0 where
+  pub reason : (k : ℕ) → k < length p.component → IsTrue (mark_for p marks k) → ReachesMissing edges committed k
+  pub itself : (q : ℕ) → q < n → committed ≤ node_at p q → IsTrue (mark_for p marks (node_at p q))
+  pub edge : (q j : ℕ) → q < n → Contains (edges (node_at p q)) j → IsTrue (mark_for p marks j) → IsTrue (mark_for p marks (node_at p q))
+
+-- what an edge to a marked component shows
+pub marks_found : (edges : ℕ → List ℕ) (committed : ℕ) (p : Parts) (marks : List Bool) (n k : ℕ) → IsPartition edges p → AreMarks edges committed p marks n → LeadsToMarked p.component marks (edges k) → ReachesMissing edges committed k
+marks_found edges committed p marks n k is m f =
+    let h = Contains-get_or (edges k) f.0 0 f.1 in
+    let on = m.reason (get_or (edges k) f.0 0) (is.within k _ h) f.2 in
+    (on.0, on.1, reaches_on edges k (get_or (edges k) f.0 0) on.0 (reaches_edge edges k _ h) on.2)
+
+pub marks_set : (edges : ℕ → List ℕ) (committed : ℕ) (p : Parts) (marks : List Bool) (n : ℕ) → IsPartition edges p → n < length p.order → component_of p (node_at p n) < length marks → ReachesMissing edges committed (node_at p n) → AreMarks edges committed p marks n → AreMarks edges committed p (set marks (component_of p (node_at p n)) true) (n + 1)
+marks_set edges committed p marks n is l in' why old =
+    let b = node_at p n in
+    let own = component_of p b in
+    let new = set marks own true in
+    let at : (j : ℕ) → ((component_of p j ≡ own) × (mark_for p new j ≡ true)) ⊎ ((component_of p j ≢ own) × (mark_for p new j ≡ mark_for p marks j)) = set_for false p marks b true in' in
+    let more : (j : ℕ) → IsTrue (mark_for p marks j) → IsTrue (mark_for p new j) = λ j h. elim (at j) [ inl here ↦ here.1 | inr there ↦ there.1 ∙ h ] in
+    let now : (q : ℕ) → n ≤ q → q < n + 1 → IsTrue (mark_for p new (node_at p q)) = λ q le lt.
+    let same : q ≡ n = omega arith in
+    elim (at (node_at p q)) [ inl here ↦ here.1 | inr there ↦ absurd (there.0 (ap (λ x. component_of p (node_at p x)) same)) ] in
+    record {
+      reason = λ k lk h. elim (at k) [
+        | inl here ↦ (why.0, why.1, reaches_on edges k b why.0 (is.joined k b lk (node_below edges p is n l) here.0) why.2)
+        | inr there ↦ old.reason k lk (sym there.1 ∙ h)
+      ];
+      itself = λ q lq le. elim (cases_lt q n) [ inl past ↦ more _ (old.itself q past le) | inr here ↦ now q here lq ];
+      edge = λ q j lq h marked. elim (cases_lt q n) [
+        | inl past ↦
+            let before : component_of p (node_at p q) ≤ own = is.sorted q n (omega arith) l in
+            let down : component_of p j ≤ component_of p (node_at p q) = is.falls (node_at p q) j h in
+            elim (at (node_at p q)) [
+              | inl same ↦ same.1
+              | inr other ↦ elim (at j) [
+                | inl here ↦ absurd (other.0 (omega (arith, here.0)))
+                | inr there ↦ more _ (old.edge q j past h (sym there.1 ∙ marked))
+              ]
+            ]
+        | inr here ↦ now q here lq
+      ];
+    }
+
+pub marks_skip : (edges : ℕ → List ℕ) (committed : ℕ) (p : Parts) (marks : List Bool) (n : ℕ) → ¬ (committed ≤ node_at p n) → ¬ LeadsToMarked p.component marks (edges (node_at p n)) → AreMarks edges committed p marks n → AreMarks edges committed p marks (n + 1)
+marks_skip edges committed p marks n early none old = record {
+  reason = old.reason;
+  itself = λ q lq le. elim (cases_lt q n) [
+    | inl past ↦ old.itself q past le
+    | inr here ↦ let same : q ≡ n = omega arith in absurd (early (omega (arith, le, ap (node_at p) same)))
+  ];
+  edge = λ q j lq h marked. elim (cases_lt q n) [
+    | inl past ↦ old.edge q j past h marked
+    | inr here ↦
+        let same : q ≡ n = omega arith in
+        let found : Contains (edges (node_at p n)) j = subst (λ x. Contains (edges (node_at p x)) j) same h in
+        let at : get_or (edges (node_at p n)) found.0 0 ≡ j = get_or_default (edges (node_at p n)) found.0 0 j found.1 ∙ found.2 in
+        absurd (none (found.0, found.1, rw at marked))
+  ];
+}
+
+path_marked : (edges : ℕ → List ℕ) (committed : ℕ) (p : Parts) (marks : List Bool) → IsPartition edges p → AreMarks edges committed p marks (length p.order) → (k j : ℕ) (cs : List ℕ) → k < length p.component → committed ≤ j → IsNodePath edges k cs j → IsTrue (mark_for p marks k)
+path_marked edges committed p marks is m k j [] l le h =
+    let q = is.listed k l in
+    let at : node_at p q.0 ≡ k = get_or_default p.order q.0 0 k q.1 ∙ q.2 in
+    (rw at at (m.itself q.0 q.1)) (omega arith)
+path_marked edges committed p marks is m k j (c ∷ cs) l le h =
+    let q = is.listed k l in
+    let at : node_at p q.0 ≡ k = get_or_default p.order q.0 0 k q.1 ∙ q.2 in
+    (rw at at (m.edge q.0 c q.1)) h.0 (path_marked edges committed p marks is m c j cs (is.within k c h.0) le h.1)
+
+pub marks_all : (edges : ℕ → List ℕ) (committed : ℕ) (p : Parts) (marks : List Bool) → IsPartition edges p → AreMarks edges committed p marks (length p.order) → (k : ℕ) → k < length p.component → IsTrue (mark_for p marks k) ↔ ReachesMissing edges committed k
+marks_all edges committed p marks is m k l = (m.reason k l, λ r. path_marked edges committed p marks is m k r.0 r.2.0 l r.1 r.2.1)

@@ -1,0 +1,109 @@
+//! The instances in execution order.
+ghost use Rattle.std.specs.Prelude.{◌≡◌, ◌==◌, ◌<◌, length, slice_get, Some, IfOk};
+ghost use Rattle.epx_types.specs.ExecutionOrder.{Ranked, ranked_ids, component_count};
+ghost use Rattle.epx_order.specs.Ranks.{ranked_all};
+
+use crate::rank::Rank;
+use epx_types::{Id, Memory};
+use std::alloc::Global;
+use std::marker::Model;
+
+/// The ready instances in the order in which they are executed, each with its component's leader
+/// and depth.
+///
+/// It takes eight words an instance. No call on it takes memory.
+#[derive(Debug, Drop)]
+pub struct OrderList {
+    ranks: Vec<Rank>,
+    /// The names in the ranks, side by side for `ids`.
+    ids: Vec<Id>,
+}
+
+impl Model for OrderList {
+    ghost use Rattle.std.specs.Prelude.{◌≡◌, List};
+    ghost use Rattle.epx_types.specs.ExecutionOrder.{Ranked, ranked_ids};
+    ghost use Rattle.epx_order.specs.Ranks.{ranked_all};
+
+    ghost Value = { List Ranked };
+
+    ghost view = { λ o. ranked_all o.ranks.items };
+
+    ghost invariant = { λ o. o.ids.items ≡ ranked_ids (ranked_all o.ranks.items) };
+}
+
+impl OrderList {
+    pub(crate) fn new(alloc: Global, ranks: Vec<Rank>) -> Result<OrderList, Memory>
+        ensures { IfOk result (λ order. order ≡ ranked_all ranks.items) }
+    {
+        let ids = ids_of(alloc, &ranks)?;
+        Ok(OrderList { ranks, ids })
+    }
+
+    /// How many instances are ready.
+    pub fn len(&self) -> usize
+        ensures { result ≡ length self.now }
+    {
+        self.ranks.len()
+    }
+
+    pub fn is_empty(&self) -> bool
+        ensures { result ≡ (length self.now == 0) }
+    {
+        self.ranks.is_empty()
+    }
+
+    /// The instances, in execution order.
+    pub fn ids(&self) -> &[Id]
+        ensures { result.now ≡ ranked_ids self.now }
+    {
+        &self.ids
+    }
+
+    /// How many components the instances make up, in linear time.
+    pub fn component_count(&self) -> usize
+        ensures { result ≡ component_count self.now }
+    {
+        count_leaders(&self.ranks)
+    }
+
+    /// The leader of the component of the instance at a place, which is its least member.
+    pub fn component_of(&self, place: usize) -> Id
+        requires { place < length self.now }
+        ensures { (r : Ranked) × (slice_get self.now place ≡ Some r) × (r.leader ≡ result) }
+    {
+        self.ranks[place].leader
+    }
+
+    /// The depth of the component of the instance at a place: how many components follow one
+    /// another down from it, at most.
+    pub fn depth_of(&self, place: usize) -> usize
+        requires { place < length self.now }
+        ensures { (r : Ranked) × (slice_get self.now place ≡ Some r) × (r.depth ≡ result) }
+    {
+        self.ranks[place].depth
+    }
+}
+
+/// The instances that have these ranks.
+fn ids_of(alloc: Global, ranks: &[Rank]) -> Result<Vec<Id>, Memory>
+    ensures { IfOk result (λ ids. ids.items ≡ ranked_ids (ranked_all ranks.now)) }
+{
+    let mut ids = Vec::with_capacity(alloc, ranks.len())?;
+    for rank in ranks {
+        ids.push(rank.id)?;
+    }
+    Ok(ids)
+}
+
+/// How many instances lead their components.
+fn count_leaders(ranks: &[Rank]) -> usize
+    ensures { result ≡ component_count (ranked_all ranks.now) }
+{
+    let mut count = 0;
+    for rank in ranks {
+        if rank.id == rank.leader {
+            count += 1;
+        }
+    }
+    count
+}

@@ -1,0 +1,35 @@
+//! The execution order.
+ghost use Rattle.std.specs.Prelude.{IfOk};
+ghost use Rattle.epx_types.specs.ExecutionOrder.{ranked_ids, IsExecutionOrder};
+ghost use Rattle.epx_types.specs.LawfulOrders.{IsLawful};
+ghost use Rattle.epx_graph.specs.GraphOf.{IsGraphOf};
+
+use crate::order_list::OrderList;
+use crate::ready::ready_ranks;
+use epx_graph::Graph;
+use epx_merge::Merged;
+use epx_types::Memory;
+use rayon::prelude::*;
+use std::alloc::Global;
+use std::thread::Threads;
+
+/// The order in which the ready instances of a committed map are executed, in time n log n in the
+/// instances and linear in their dependencies.
+///
+/// A component stands after each that it reaches: components go by rising depth, and those of one
+/// depth by their least members. Inside a component instances go by rising sequence number, and a
+/// tie goes by Id.
+pub fn order<R: Threads + Sync>(
+    rt: &R,
+    alloc: Global,
+    merged: &Merged,
+    graph: &Graph,
+) -> Result<OrderList, Memory>
+    requires { IsGraphOf merged.now graph.now }
+    ensures order { IfOk result (λ order. IsExecutionOrder merged.now order) }
+    ensures lawful { IfOk result (λ order. IsLawful merged.now (ranked_ids order)) }
+{
+    let mut ranks = ready_ranks(alloc, merged, graph)?;
+    par_sort(rt, alloc, &mut ranks)?;
+    OrderList::new(alloc, ranks)
+}

@@ -1,0 +1,10 @@
+-- What can be asked of logs beside their report.
+use Rattle.std.specs.Prelude.{ℕ, List}
+use Rattle.epx_types.specs.Instances.{Instance}
+use Rattle.epx_tool.specs.declared.ask.Ask.{Ask}
+use Rattle.epx_tool.specs.declared.ask.Ask.TheVariants.{Order}
+use Rattle.epx_tool.specs.OrderText.{IsOrderText}
+
+-- the text that answers a committed map
+abbrev pub IsViewed : Ask → List Instance → List ℕ → Type 0
+IsViewed Order = IsOrderText

@@ -1,0 +1,8 @@
+//! What can be asked of logs beside their report.
+
+/// Which text is wanted.
+#[derive(Clone, Copy, Debug, PartialEq, Eq)]
+pub enum Ask {
+    /// The execution order, with the depth and the leader of each instance.
+    Order,
+}
