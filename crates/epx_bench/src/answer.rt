@@ -103,8 +103,9 @@ fn compare<R: Threads + Sync + Clock + Print>(
         }
     }
     let [read, built, found, ordered, waited, whole] = least;
-    println!(rt; "{shape:?} {count}: read {read} build {built} components {found} order {ordered} waiting {waited} answer {whole}")
-        .map_err(|_| Memory)
+    println!(rt;
+        "{shape:?} {count}: read {read} build {built} components {found} order {ordered} waiting {waited} answer {whole}"
+    ).map_err(|_| Memory)
 }
 
 pub fn measure<R: Threads + Sync + Clock + AllocGlobal + Print>(rt: &R) -> Result<(), Memory> {

@@ -154,10 +154,14 @@ fn bad_line_before_disagreement(rt: HostRuntime) -> Result<(), Fail> {
 
 #[test]
 fn line_ends(rt: HostRuntime) -> Result<(), Fail> {
-    let good = "\r\n  \t\n{\"r\":0,\"i\":0,\"seq\":1,\"deps\":[],\"ops\":[[\"put\",\"a\",5],[\"get\",\"a\"]]}\r\n{\"r\":0,\"i\":1,\"seq\":1,\"deps\":[],\"ops\":[]}";
+    let good =
+        "\r\n  \t\n{\"r\":0,\"i\":0,\"seq\":1,\"deps\":[],\"ops\":[[\"put\",\"a\",5],[\"get\",\"a\"]]}\r\n{\"r\":0,\"i\":1,\"seq\":1,\"deps\":[],\"ops\":[]}";
     let merged = read(&rt, rt.alloc(), &[good])?.expect(&rt, "a map");
     assert_eq!(rt; merged.len(), 2);
-    assert_eq!(rt; merged.get(id(0, 0)).map(|entry| entry.ops().len()), Some(2));
+    assert_eq!(rt;
+        merged.get(id(0, 0)).map(|entry| entry.ops().len()),
+        Some(2)
+    );
     let bad =
         "\r\n  \t\n{\"r\":0,\"i\":0,\"seq\":1,\"deps\":[],\"ops\":[[\"put\",\"a\",5],[\"get\",\"a\"]]}\r\n[]";
     let fault = read(&rt, rt.alloc(), &[bad])?.err();

@@ -19,5 +19,5 @@ mod starts;
 mod tests;
 
 pub use component_map::{ComponentMap, components};
-pub use sorting::order;
 pub use order_list::OrderList;
+pub use sorting::order;

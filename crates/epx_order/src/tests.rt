@@ -16,16 +16,12 @@ fn id(replica: u8, number: u64) -> Id {
 }
 
 /// Adds the line of an instance with these dependencies, as JSON.
-fn push_line(
-    alloc: Global,
-    log: &mut Vec<u8>,
-    of: Id,
-    seq: u64,
-    deps: &str,
-) -> Result<(), Memory> {
+fn push_line(alloc: Global, log: &mut Vec<u8>, of: Id, seq: u64, deps: &str) -> Result<(), Memory> {
     let replica = of.replica;
     let number = of.number;
-    let line = format!(in alloc; "{{\"r\":{replica},\"i\":{number},\"seq\":{seq},\"deps\":[{deps}],\"ops\":[]}}\n")?;
+    let line = format!(in alloc;
+        "{{\"r\":{replica},\"i\":{number},\"seq\":{seq},\"deps\":[{deps}],\"ops\":[]}}\n"
+    )?;
     log.extend_from_slice(line.as_bytes())?;
     Ok(())
 }
@@ -87,10 +83,7 @@ fn chain<R: Abort + Threads + Sync>(
 }
 
 /// Instances 0.0 to 0.65535, each of which depends on the one before.
-fn chain_down<R: Abort + Threads + Sync>(
-    rt: &R,
-    alloc: Global,
-) -> Result<(Merged, Graph), Fail> {
+fn chain_down<R: Abort + Threads + Sync>(rt: &R, alloc: Global) -> Result<(Merged, Graph), Fail> {
     let mut log = Vec::new(alloc);
     push_line(alloc, &mut log, id(0, 0), 1, "")?;
     for number in 1..MANY {
@@ -142,10 +135,7 @@ fn no_nodes(rt: HostRuntime) -> Result<(), Fail> {
 fn nodes_without_edges(rt: HostRuntime) -> Result<(), Fail> {
     let alloc = rt.alloc();
     let graph = graph(&rt, alloc, &[&[], &[], &[]])?;
-    assert_eq!(rt;
-        leaders(alloc, &graph)?.as_slice(),
-        [0, 1, 2].as_slice()
-    );
+    assert_eq!(rt; leaders(alloc, &graph)?.as_slice(), [0, 1, 2].as_slice());
     let want = [
         standing(0, 0, false),
         standing(1, 0, false),

@@ -13,8 +13,14 @@ fn least_whole_path(rt: HostRuntime) -> Result<(), Fail> {
 #[test]
 fn no_logs(rt: HostRuntime) -> Result<(), Fail> {
     let none: [&str; 0] = [];
-    assert_eq!(rt; answered(&rt, rt.alloc(), &none, plan(&rt))?.as_str(), NOTHING);
-    assert_eq!(rt; answered(&rt, rt.alloc(), &[""], plan(&rt))?.as_str(), NOTHING);
+    assert_eq!(rt;
+        answered(&rt, rt.alloc(), &none, plan(&rt))?.as_str(),
+        NOTHING
+    );
+    assert_eq!(rt;
+        answered(&rt, rt.alloc(), &[""], plan(&rt))?.as_str(),
+        NOTHING
+    );
     Ok(())
 }
 
@@ -23,7 +29,10 @@ fn sum_outside_i64_aborts(rt: HostRuntime) -> Result<(), Fail> {
     let ops = r#"[["put","a",9223372036854775807],["get","a"],["add","a",1]]"#;
     let log = log(rt.alloc(), &[(0, 0, 1, "[]", ops)])?;
     let report = "[\"executed\",1,\"waiting\",0,\"components\",1]\n[\"reply\",0,0,\"abort\",2]\n";
-    assert_eq!(rt; answered(&rt, rt.alloc(), &[log.as_str()], plan(&rt))?.as_str(), report);
+    assert_eq!(rt;
+        answered(&rt, rt.alloc(), &[log.as_str()], plan(&rt))?.as_str(),
+        report
+    );
     Ok(())
 }
 
@@ -32,19 +41,26 @@ fn floor(rt: HostRuntime) -> Result<(), Fail> {
     let ops = r#"[["put","a",5],["floor","a",5],["add","a",-5],["floor","a",1]]"#;
     let log = log(rt.alloc(), &[(0, 0, 1, "[]", ops)])?;
     let report = "[\"executed\",1,\"waiting\",0,\"components\",1]\n[\"reply\",0,0,\"abort\",3]\n";
-    assert_eq!(rt; answered(&rt, rt.alloc(), &[log.as_str()], plan(&rt))?.as_str(), report);
+    assert_eq!(rt;
+        answered(&rt, rt.alloc(), &[log.as_str()], plan(&rt))?.as_str(),
+        report
+    );
     Ok(())
 }
 
 #[test]
 fn all_operations_together(rt: HostRuntime) -> Result<(), Fail> {
-    let ops = r#"[["put","b",3],["is","a",null],["copy","a","b"],["get","b"],["del","a"],["put","c",1],["copy","c","c"],["get","c"]]"#;
+    let ops =
+        r#"[["put","b",3],["is","a",null],["copy","a","b"],["get","b"],["del","a"],["put","c",1],["copy","c","c"],["get","c"]]"#;
     let log = log(rt.alloc(), &[(0, 0, 1, "[]", ops)])?;
     let report = r#"["executed",1,"waiting",0,"components",1]
 ["reply",0,0,"ok",[null,1]]
 ["store","c",1]
 "#;
-    assert_eq!(rt; answered(&rt, rt.alloc(), &[log.as_str()], plan(&rt))?.as_str(), report);
+    assert_eq!(rt;
+        answered(&rt, rt.alloc(), &[log.as_str()], plan(&rt))?.as_str(),
+        report
+    );
     Ok(())
 }
 
@@ -64,30 +80,31 @@ fn unrelated_by_least_member(rt: HostRuntime) -> Result<(), Fail> {
 "#;
     for (workers, cut) in [(1, 1), (2, 65_536), (64, 1)] {
         let plan = Plan::new(workers, cut).expect(&rt, "a plan");
-        assert_eq!(rt; answered(&rt, rt.alloc(), &[log.as_str()], plan)?.as_str(), report);
+        assert_eq!(rt;
+            answered(&rt, rt.alloc(), &[log.as_str()], plan)?.as_str(),
+            report
+        );
     }
     Ok(())
 }
 
 #[test]
 fn store_by_byte_order(rt: HostRuntime) -> Result<(), Fail> {
-    let mut ops = String::from_str(rt.alloc(), "[")?;
-    let mut report = String::from_str(
-        rt.alloc(),
-        "[\"executed\",1,\"waiting\",0,\"components\",1]\n[\"reply\",0,0,\"ok\",[]]\n",
-    )?;
-    for (index, letter) in ('a'..='z').enumerate() {
-        let line = format!(in rt.alloc(); "[\"store\",\"{letter}\",{}]\n", index + 1)?;
-        report.push_str(line.as_str())?;
-    }
-    for (index, letter) in ('a'..='z').rev().enumerate() {
-        let comma = if index == 0 { "" } else { "," };
-        let put = format!(in rt.alloc(); "{comma}[\"put\",\"{letter}\",{}]", 26 - index)?;
-        ops.push_str(put.as_str())?;
-    }
-    ops.push_str("]")?;
-    let log = log(rt.alloc(), &[(0, 0, 1, "[]", ops.as_str())])?;
-    let answer = answered(&rt, rt.alloc(), &[log.as_str()], plan(&rt))?;
-    assert_eq!(rt; answer.as_str(), report.as_str());
+    let ops =
+        r#"[["put","z",26],["put","b",2],["put","é",0],["put","ab",12],["put","B",20],["put","a",1]]"#;
+    let log = log(rt.alloc(), &[(0, 0, 1, "[]", ops)])?;
+    let report = r#"["executed",1,"waiting",0,"components",1]
+["reply",0,0,"ok",[]]
+["store","B",20]
+["store","a",1]
+["store","ab",12]
+["store","b",2]
+["store","z",26]
+["store","é",0]
+"#;
+    assert_eq!(rt;
+        answered(&rt, rt.alloc(), &[log.as_str()], plan(&rt))?.as_str(),
+        report
+    );
     Ok(())
 }

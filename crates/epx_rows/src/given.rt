@@ -47,11 +47,7 @@ fn bytes_of(alloc: Global, logs: &[&str]) -> Result<Vec<Vec<u8>>, AllocError> {
     Ok(bytes)
 }
 
-fn told(
-    rt: &impl Abort,
-    alloc: Global,
-    answer: Result<Vec<u8>, Fault>,
-) -> Result<String, Fail> {
+fn told(rt: &impl Abort, alloc: Global, answer: Result<Vec<u8>, Fault>) -> Result<String, Fail> {
     match answer {
         Ok(report) => Ok(String::from_utf8(report).expect(rt, "text")),
         Err(Fault::Memory) => Err(Fail::from("want of memory")),

@@ -69,7 +69,10 @@ fn reached_through_another_member(rt: HostRuntime) -> Result<(), Fail> {
 ["reply",1,1,"ok",[1]]
 ["store","k",1]
 "#;
-    assert_eq!(rt; answered(&rt, rt.alloc(), &[log.as_str()], plan(&rt))?.as_str(), report);
+    assert_eq!(rt;
+        answered(&rt, rt.alloc(), &[log.as_str()], plan(&rt))?.as_str(),
+        report
+    );
     let order = r#"["executed",3,"waiting",0,"components",2]
 ["order",2,1,0,2,1]
 ["order",0,1,1,0,1]
@@ -85,7 +88,10 @@ fn absence(rt: HostRuntime) -> Result<(), Fail> {
     let report = report(
         &rt,
         rt.alloc(),
-        &[(0, 0, 1, "[]", r#"[["put","b",3]]"#), (0, 1, 2, "[[0,0]]", ops)],
+        &[
+            (0, 0, 1, "[]", r#"[["put","b",3]]"#),
+            (0, 1, 2, "[[0,0]]", ops),
+        ],
     )?;
     let wanted = r#"["executed",2,"waiting",0,"components",2]
 ["reply",0,0,"ok",[]]
@@ -147,7 +153,13 @@ fn any_plan(rt: HostRuntime) -> Result<(), Fail> {
             (1, 2, 2, "[[0,0]]", get),
             (1, 3, 2, "[[0,0]]", get),
             (1, 4, 2, "[[0,0]]", get),
-            (2, 0, 3, "[[1,0],[1,1],[1,2],[1,3],[1,4]]", r#"[["put","k",2]]"#),
+            (
+                2,
+                0,
+                3,
+                "[[1,0],[1,1],[1,2],[1,3],[1,4]]",
+                r#"[["put","k",2]]"#,
+            ),
         ],
     )?;
     let report = r#"["executed",7,"waiting",0,"components",7]
@@ -163,7 +175,10 @@ fn any_plan(rt: HostRuntime) -> Result<(), Fail> {
     for workers in [1, 2, 64] {
         for cut in [1, 65_536] {
             let plan = Plan::new(workers, cut).expect(&rt, "a plan");
-            assert_eq!(rt; answered(&rt, rt.alloc(), &[log.as_str()], plan)?.as_str(), report);
+            assert_eq!(rt;
+                answered(&rt, rt.alloc(), &[log.as_str()], plan)?.as_str(),
+                report
+            );
         }
     }
     Ok(())

@@ -14,10 +14,16 @@ fn line_ends(rt: HostRuntime) -> Result<(), Fail> {
 ["reply",0,1,"ok",[]]
 ["store","a",5]
 "#;
-    assert_eq!(rt; answered(&rt, rt.alloc(), &[good.as_str()], plan(&rt))?.as_str(), report);
+    assert_eq!(rt;
+        answered(&rt, rt.alloc(), &[good.as_str()], plan(&rt))?.as_str(),
+        report
+    );
     let bad = format!(in rt.alloc(); "\r\n  \t\n{LEAST}\r\n[]")?;
     let fault = "epx: fault 4: log 0 line 4: NotObject";
-    assert_eq!(rt; answered(&rt, rt.alloc(), &[bad.as_str()], plan(&rt))?.as_str(), fault);
+    assert_eq!(rt;
+        answered(&rt, rt.alloc(), &[bad.as_str()], plan(&rt))?.as_str(),
+        fault
+    );
     Ok(())
 }
 
@@ -25,7 +31,10 @@ fn line_ends(rt: HostRuntime) -> Result<(), Fail> {
 fn truncated_line(rt: HostRuntime) -> Result<(), Fail> {
     let log = format!(in rt.alloc(); "{LEAST}\n{{\"r\":0,\"i\":")?;
     let fault = "epx: fault 4: log 0 line 2: NotJson";
-    assert_eq!(rt; answered(&rt, rt.alloc(), &[log.as_str()], plan(&rt))?.as_str(), fault);
+    assert_eq!(rt;
+        answered(&rt, rt.alloc(), &[log.as_str()], plan(&rt))?.as_str(),
+        fault
+    );
     Ok(())
 }
 
@@ -40,7 +49,10 @@ fn whole_numbers(rt: HostRuntime) -> Result<(), Fail> {
         let log = format!(in rt.alloc();
             "{{\"r\":0,\"i\":0,\"seq\":{seq},\"deps\":[],\"ops\":[[\"put\",\"a\",5],[\"get\",\"a\"]]}}"
         )?;
-        assert_eq!(rt; answered(&rt, rt.alloc(), &[log.as_str()], plan(&rt))?.as_str(), wanted);
+        assert_eq!(rt;
+            answered(&rt, rt.alloc(), &[log.as_str()], plan(&rt))?.as_str(),
+            wanted
+        );
     }
     Ok(())
 }
@@ -62,7 +74,10 @@ fn line_length(rt: HostRuntime) -> Result<(), Fail> {
         ("", 65_537, NOTHING),
     ] {
         let line = spaced(rt.alloc(), text, bytes)?;
-        assert_eq!(rt; answered(&rt, rt.alloc(), &[line.as_str()], plan(&rt))?.as_str(), wanted);
+        assert_eq!(rt;
+            answered(&rt, rt.alloc(), &[line.as_str()], plan(&rt))?.as_str(),
+            wanted
+        );
     }
     Ok(())
 }
@@ -79,7 +94,10 @@ fn keys(rt: HostRuntime) -> Result<(), Fail> {
     let fault = "epx: fault 4: log 0 line 1: Ops";
     for (letters, wanted) in [
         (0, fault),
-        (64, "[\"executed\",1,\"waiting\",0,\"components\",1]\n[\"reply\",0,0,\"ok\",[null]]\n"),
+        (
+            64,
+            "[\"executed\",1,\"waiting\",0,\"components\",1]\n[\"reply\",0,0,\"ok\",[null]]\n",
+        ),
         (65, fault),
     ] {
         let mut op = String::from_str(rt.alloc(), "[\"get\",\"")?;
@@ -89,8 +107,12 @@ fn keys(rt: HostRuntime) -> Result<(), Fail> {
         op.push_str("\"]")?;
         assert_eq!(rt; answered_op(&rt, rt.alloc(), op.as_str())?.as_str(), wanted);
     }
-    let report = "[\"executed\",1,\"waiting\",0,\"components\",1]\n[\"reply\",0,0,\"ok\",[]]\n[\"store\",\"é\\\"\",1]\n";
-    assert_eq!(rt; answered_op(&rt, rt.alloc(), r#"["put","é\"",1]"#)?.as_str(), report);
+    let report =
+        "[\"executed\",1,\"waiting\",0,\"components\",1]\n[\"reply\",0,0,\"ok\",[]]\n[\"store\",\"é\\\"\",1]\n";
+    assert_eq!(rt;
+        answered_op(&rt, rt.alloc(), r#"["put","é\"",1]"#)?.as_str(),
+        report
+    );
     Ok(())
 }
 

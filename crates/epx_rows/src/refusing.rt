@@ -7,10 +7,16 @@ fn agreement_inside_one_log(rt: HostRuntime) -> Result<(), Fail> {
     let alloc = rt.alloc();
     let same = log(alloc, &[(0, 1, 1, "[]", "[]"), (0, 1, 1, "[]", "[]")])?;
     let report = "[\"executed\",1,\"waiting\",0,\"components\",1]\n[\"reply\",0,1,\"ok\",[]]\n";
-    assert_eq!(rt; answered(&rt, alloc, &[same.as_str()], plan(&rt))?.as_str(), report);
+    assert_eq!(rt;
+        answered(&rt, alloc, &[same.as_str()], plan(&rt))?.as_str(),
+        report
+    );
     let other = log(alloc, &[(0, 1, 1, "[]", "[]"), (0, 1, 2, "[]", "[]")])?;
     let fault = "epx: fault 6: instance 0.1 differs between log 0 line 1 and log 0 line 2";
-    assert_eq!(rt; answered(&rt, alloc, &[other.as_str()], plan(&rt))?.as_str(), fault);
+    assert_eq!(rt;
+        answered(&rt, alloc, &[other.as_str()], plan(&rt))?.as_str(),
+        fault
+    );
     Ok(())
 }
 
@@ -44,8 +50,14 @@ fn bad_line_before_disagreement(rt: HostRuntime) -> Result<(), Fail> {
 fn too_many_logs(rt: HostRuntime) -> Result<(), Fail> {
     let logs = [""; 65];
     let fault = "epx: fault 2: more than 64 logs";
-    assert_eq!(rt; answered(&rt, rt.alloc(), &logs, plan(&rt))?.as_str(), fault);
-    assert_eq!(rt; answered(&rt, rt.alloc(), &logs[1..], plan(&rt))?.as_str(), NOTHING);
+    assert_eq!(rt;
+        answered(&rt, rt.alloc(), &logs, plan(&rt))?.as_str(),
+        fault
+    );
+    assert_eq!(rt;
+        answered(&rt, rt.alloc(), &logs[1..], plan(&rt))?.as_str(),
+        NOTHING
+    );
     Ok(())
 }
 
@@ -63,7 +75,10 @@ fn as_many_instances_as_are_allowed(rt: HostRuntime) -> Result<(), Fail> {
     let log = many(rt.alloc(), 65_536)?;
     let report = answered(&rt, rt.alloc(), &[log.as_str()], plan(&rt))?;
     let first = report.lines().next();
-    assert_eq!(rt; first, Some("[\"executed\",65536,\"waiting\",0,\"components\",65536]"));
+    assert_eq!(rt;
+        first,
+        Some("[\"executed\",65536,\"waiting\",0,\"components\",65536]")
+    );
     assert_eq!(rt; report.lines().count(), 65_537);
     Ok(())
 }
@@ -72,6 +87,9 @@ fn as_many_instances_as_are_allowed(rt: HostRuntime) -> Result<(), Fail> {
 fn too_many_instances(rt: HostRuntime) -> Result<(), Fail> {
     let log = many(rt.alloc(), 65_537)?;
     let fault = "epx: fault 5: more than 65536 instances";
-    assert_eq!(rt; answered(&rt, rt.alloc(), &[log.as_str()], plan(&rt))?.as_str(), fault);
+    assert_eq!(rt;
+        answered(&rt, rt.alloc(), &[log.as_str()], plan(&rt))?.as_str(),
+        fault
+    );
     Ok(())
 }

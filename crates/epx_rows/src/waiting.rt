@@ -17,7 +17,10 @@ fn waiting_spreads_through_a_component(rt: HostRuntime) -> Result<(), Fail> {
 ["waiting",1,1,2,9]
 ["waiting",2,1,2,9]
 "#;
-    assert_eq!(rt; answered(&rt, rt.alloc(), &[log.as_str()], plan(&rt))?.as_str(), report);
+    assert_eq!(rt;
+        answered(&rt, rt.alloc(), &[log.as_str()], plan(&rt))?.as_str(),
+        report
+    );
     Ok(())
 }
 
@@ -31,7 +34,10 @@ fn least_missing(rt: HostRuntime) -> Result<(), Fail> {
 ["waiting",2,0,0,8]
 ["waiting",2,1,0,8]
 "#;
-    assert_eq!(rt; answered(&rt, rt.alloc(), &[log.as_str()], plan(&rt))?.as_str(), report);
+    assert_eq!(rt;
+        answered(&rt, rt.alloc(), &[log.as_str()], plan(&rt))?.as_str(),
+        report
+    );
     Ok(())
 }
 
@@ -43,7 +49,10 @@ fn dependency_sets_agree(rt: HostRuntime) -> Result<(), Fail> {
 ["waiting",2,0,0,0]
 "#;
     let logs = [first.as_str(), second.as_str()];
-    assert_eq!(rt; answered(&rt, rt.alloc(), &logs, plan(&rt))?.as_str(), report);
+    assert_eq!(rt;
+        answered(&rt, rt.alloc(), &logs, plan(&rt))?.as_str(),
+        report
+    );
     Ok(())
 }
 
@@ -59,7 +68,10 @@ fn too_many_dependencies(rt: HostRuntime) -> Result<(), Fail> {
         }
         deps.push_str("]")?;
         let log = log(rt.alloc(), &[(0, 0, 1, deps.as_str(), "[]")])?;
-        assert_eq!(rt; answered(&rt, rt.alloc(), &[log.as_str()], plan(&rt))?.as_str(), wanted);
+        assert_eq!(rt;
+            answered(&rt, rt.alloc(), &[log.as_str()], plan(&rt))?.as_str(),
+            wanted
+        );
     }
     Ok(())
 }

@@ -22,9 +22,9 @@ named_are_committed lines m ids committed named =
     (AllPairs-from_IsRising ids named.rising) (AllPairs-from_IsRising (ids_of m) committed.rising)
     (λ x h. let p = named.named x h in subst (Contains (ids_of m)) p.2 (Contains-map (λ (e : Instance). e.id) m p.0.instance (committed.whole p.0 p.1)))
     (λ x h.
-      let e = Contains-from_map (λ (e : Instance). e.id) m x h in
-      let p = committed.given e.0 e.1 in
-      subst (Contains ids) (ap (λ (e : Instance). e.id) p.2 ∙ e.2) (named.whole p.0 p.1))
+    let e = Contains-from_map (λ (e : Instance). e.id) m x h in
+    let p = committed.given e.0 e.1 in
+    subst (Contains ids) (ap (λ (e : Instance). e.id) p.2 ∙ e.2) (named.whole p.0 p.1))
 
 pub accepted_are_few : (logs : List (List ℕ)) (m : List Instance) → IsAccepted logs m → length m ≤ max_instances
 accepted_are_few logs m accepted =

@@ -23,5 +23,5 @@ pub printed_one_more : (order : List Ranked) (k : ℕ) (r : Ranked) (text new li
 printed_one_more order k r text new line whole there is sofar grown =
     let rest = flat_map order_line (drop (k + 1) order) in
     let next : drop k order ≡ r ∷ drop (k + 1) order =
-        drop-cons order k r (slice_get_within order k r there) ∙ ap (λ s. s ∷ drop (suc k) order) (get_or_from_slice_get order k r r there) ∙ ap (λ n. r ∷ drop n order) (sym (add-one k)) in
+    drop-cons order k r (slice_get_within order k r there) ∙ ap (λ s. s ∷ drop (suc k) order) (get_or_from_slice_get order k r r there) ∙ ap (λ n. r ∷ drop n order) (sym (add-one k)) in
     ap (λ t. t ++ rest) (grown ∙ ap (λ l. text ++ l) is) ∙ append_assoc text (order_line r) rest ∙ ap (λ o. text ++ flat_map order_line o) (sym next) ∙ sofar

@@ -32,7 +32,7 @@ pub few_commands : (m : List Instance) (order : List Ranked) → IsExecutionOrde
     → {C : Type 0} (ops : C → List Op) (commands : List C) → map ops commands ≡ commands_by_id m ids → length commands ≤ 2 ^ 40
 few_commands m order ordered few ids is ops commands e =
     let many : length commands ≡ length order =
-        sym (length-map commands ops) ∙ ap length e ∙ length-map ids (λ x. ops_of (instance_of m x)) ∙ ap length is ∙ length-map order (λ (r : Ranked). r.id) in
+    sym (length-map commands ops) ∙ ap length e ∙ length-map ids (λ x. ops_of (instance_of m x)) ∙ ap length is ∙ length-map order (λ (r : Ranked). r.id) in
     omega (arith, many, few, ordered_are_few m order ordered)
 
 -- what is printed

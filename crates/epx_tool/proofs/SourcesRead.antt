@@ -68,10 +68,10 @@ module _ {S : Type 0} (remaining : S → Option (List ℕ)) (has_failed : S → 
       rest = λ k d m. get_or-set_other now n k later d (λ e. omega (arith, m, e)) ∙ h.rest k d (omega (arith, m));
       whole = All-set (λ s. has_failed s ≡ false) now n later whole h.whole;
       known = λ logs e.
-        let b = bytes_at first logs e n (get_or now n d) (next_source l d) in
-        let same : bytes ≡ b.0 = subst (λ o. IfSome o (λ all. bytes ≡ all)) b.2 gives in
-        let more = take_more logs n b.0 (slice_get_within logs n b.0 b.1) in
-        ap₂ (λ r x. r ++ x ∷ []) (h.known logs e) (same ∙ sym (get_or_from_slice_get logs n b.0 b.0 b.1)) ∙ sym more;
+          let b = bytes_at first logs e n (get_or now n d) (next_source l d) in
+          let same : bytes ≡ b.0 = subst (λ o. IfSome o (λ all. bytes ≡ all)) b.2 gives in
+          let more = take_more logs n b.0 (slice_get_within logs n b.0 b.1) in
+          ap₂ (λ r x. r ++ x ∷ []) (h.known logs e) (same ∙ sym (get_or_from_slice_get logs n b.0 b.0 b.1)) ∙ sym more;
       short = All-push (λ bytes. length bytes ≤ max_log_bytes) read bytes h.short few;
     }
 
@@ -111,9 +111,9 @@ module _ {S : Type 0} (remaining : S → Option (List ℕ)) (has_failed : S → 
 
     pub none_named : {T : Type 0} (r : Result T Fault) → ((k : ℕ) → ¬ IsErrOf r (Read k)) → (k : ℕ) (s : S) → slice_get now k ≡ Some s → IsErrOf r (Read k) ↔ (has_failed s ≡ true)
     none_named r not_read k s there = let well = none_failed k s there in (
-        λ is. absurd (not_read k is),
-        λ bad. absurd (cc (well, bad)),
-      )
+      λ is. absurd (not_read k is),
+      λ bad. absurd (cc (well, bad)),
+    )
 
     -- the source that failed is the one that is named
     pub one_failed : {T V : Type 0} → n < length first → (later : S) (f : Fault) → IsReadingFault n f → IsErrOf {T = T} (Err f) (Read n) ↔ (has_failed later ≡ true)
@@ -129,7 +129,7 @@ module _ {S : Type 0} (remaining : S → Option (List ℕ)) (has_failed : S → 
               )
           | inr other ↦
               let well : has_failed s ≡ false = subst (λ t. has_failed t ≡ false) (sym (get_or-set_other now n k later s other) ∙ stands)
-                (h.whole k s (omega (arith, slice_get_within (set now n later) k s there, length-set now n later))) in (
+              (h.whole k s (omega (arith, slice_get_within (set now n later) k s there, length-set now n later))) in (
                 λ is. absurd (other (subst (IsReadingFault n) (ap fault_in is) of_log)),
                 λ bad. absurd (cc (well, bad)),
               )

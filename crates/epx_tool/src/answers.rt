@@ -53,11 +53,7 @@ fn report_of<R: Threads + Sync>(
 }
 
 /// The execution order of a committed map, as text.
-fn order_of<R: Threads + Sync>(
-    rt: &R,
-    alloc: Global,
-    merged: &Merged,
-) -> Result<Vec<u8>, Memory>
+fn order_of<R: Threads + Sync>(rt: &R, alloc: Global, merged: &Merged) -> Result<Vec<u8>, Memory>
     ensures { IfOk result (λ text. IsOrderText merged.now text.items) }
 {
     let graph = build(alloc, merged)?;

@@ -174,11 +174,7 @@ fn append_store(alloc: Global, text: &mut Vec<u8>, store: &Store) -> Result<(), 
     Ok(())
 }
 
-fn append_waiting(
-    alloc: Global,
-    text: &mut Vec<u8>,
-    waiters: &[Waiter],
-) -> Result<(), AllocError>
+fn append_waiting(alloc: Global, text: &mut Vec<u8>, waiters: &[Waiter]) -> Result<(), AllocError>
     ensures { OnOk result (text.new.items ≡ text.old.items ++ flat_map waiting_line waiters.now) }
 {
     for waiter in waiters {
@@ -210,7 +206,13 @@ pub(crate) fn report(
         ++ (flat_map reply_line (zip (ranked_ids order.now) replies.now) ++ (flat_map waiting_line waiters.now ++ flat_map store_line (contents.entries store.now)))) }
 {
     let mut text = Vec::new(alloc);
-    append_header(alloc, &mut text, order.len(), waiters.len(), order.component_count())?;
+    append_header(
+        alloc,
+        &mut text,
+        order.len(),
+        waiters.len(),
+        order.component_count(),
+    )?;
     append_replies(alloc, &mut text, order.ids(), replies)?;
     append_waiting(alloc, &mut text, waiters)?;
     append_store(alloc, &mut text, store)?;
@@ -226,7 +228,13 @@ pub(crate) fn order_report(
     ensures { IfOk result (λ text. text.items ≡ order_text order.now waiters.now) }
 {
     let mut text = Vec::new(alloc);
-    append_header(alloc, &mut text, order.len(), waiters.len(), order.component_count())?;
+    append_header(
+        alloc,
+        &mut text,
+        order.len(),
+        waiters.len(),
+        order.component_count(),
+    )?;
     append_order(alloc, &mut text, order)?;
     append_waiting(alloc, &mut text, waiters)?;
     Ok(text)

@@ -9,7 +9,8 @@ use std::thread::Threads;
 const LOG: &str =
     "{\"r\":0,\"i\":0,\"seq\":1,\"deps\":[],\"ops\":[[\"put\",\"a\",5],[\"get\",\"a\"]]}";
 
-const REPORT: &str = "[\"executed\",1,\"waiting\",0,\"components\",1]\n[\"reply\",0,0,\"ok\",[5]]\n[\"store\",\"a\",5]\n";
+const REPORT: &str =
+    "[\"executed\",1,\"waiting\",0,\"components\",1]\n[\"reply\",0,0,\"ok\",[5]]\n[\"store\",\"a\",5]\n";
 
 fn plan(rt: &impl Abort) -> Plan {
     Plan::new(4, 256).expect(rt, "a plan")
@@ -29,14 +30,19 @@ fn answer_is_the_report(rt: HostRuntime) -> Result<(), Fail> {
 fn run_writes_the_report(rt: HostRuntime) -> Result<(), Fail> {
     let mut sources = [MemorySource::new(LOG.as_bytes())];
     let mut sink = MemorySink::new(rt.alloc());
-    assert_eq!(rt; run(&rt, rt.alloc(), &mut sources, plan(&rt), &mut sink), Ok(()));
+    assert_eq!(rt;
+        run(&rt, rt.alloc(), &mut sources, plan(&rt), &mut sink),
+        Ok(())
+    );
     assert_eq!(rt; sink.bytes(), REPORT.as_bytes());
     Ok(())
 }
 
-const RING: &str = "{\"r\":0,\"i\":1,\"seq\":2,\"deps\":[[1,1]],\"ops\":[]}\n{\"r\":1,\"i\":1,\"seq\":1,\"deps\":[[0,1]],\"ops\":[]}\n{\"r\":2,\"i\":1,\"seq\":1,\"deps\":[[2,0]],\"ops\":[]}\n";
+const RING: &str =
+    "{\"r\":0,\"i\":1,\"seq\":2,\"deps\":[[1,1]],\"ops\":[]}\n{\"r\":1,\"i\":1,\"seq\":1,\"deps\":[[0,1]],\"ops\":[]}\n{\"r\":2,\"i\":1,\"seq\":1,\"deps\":[[2,0]],\"ops\":[]}\n";
 
-const RING_ORDER: &str = "[\"executed\",2,\"waiting\",1,\"components\",1]\n[\"order\",1,1,0,0,1]\n[\"order\",0,1,0,0,1]\n[\"waiting\",2,1,2,0]\n";
+const RING_ORDER: &str =
+    "[\"executed\",2,\"waiting\",1,\"components\",1]\n[\"order\",1,1,0,0,1]\n[\"order\",0,1,0,0,1]\n[\"waiting\",2,1,2,0]\n";
 
 #[test]
 fn view_is_the_order(rt: HostRuntime) -> Result<(), Fail> {
@@ -52,7 +58,14 @@ fn view_is_the_order(rt: HostRuntime) -> Result<(), Fail> {
 fn show_writes_the_order(rt: HostRuntime) -> Result<(), Fail> {
     let mut sources = [MemorySource::new(RING.as_bytes())];
     let mut sink = MemorySink::new(rt.alloc());
-    let shown = show(&rt, rt.alloc(), Ask::Order, &mut sources, plan(&rt), &mut sink);
+    let shown = show(
+        &rt,
+        rt.alloc(),
+        Ask::Order,
+        &mut sources,
+        plan(&rt),
+        &mut sink,
+    );
     assert_eq!(rt; shown, Ok(()));
     assert_eq!(rt; sink.bytes(), RING_ORDER.as_bytes());
     Ok(())

@@ -18,7 +18,7 @@ loop-log-preserved g c =
     let has_failed = g.S.Source.has_failed in
     let well = read_well remaining has_failed (has_failed c.read_log.new.source) c.in-Ok.bytes c.loop-log.log c.in-Ok.ensures.failed in
     let more = read_one_more remaining has_failed _ _ _ _ c.loop-log.invariant c.loop-log-test.true c.index-sources-log.result c.read_log.new.source well
-      c.in-Ok.bytes.items c.in-Ok.ensures.bytes c.in-Ok.ensures.fits in
+    c.in-Ok.bytes.items c.in-Ok.ensures.bytes c.in-Ok.ensures.fits in
     let grown = ap (map (λ log. log.items)) c.in-Ok-push.ensures.items ∙ map-append (λ log. log.items) c.loop-log.logs.items _ in
     subst (HaveBeenRead remaining has_failed _ _ _) (sym grown) more
 
