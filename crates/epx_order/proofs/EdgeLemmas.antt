@@ -1,5 +1,5 @@
 -- What a graph keeps, said of its nodes and edges.
-use Rattle.std.proofs.Common.{ℕ, ◌<◌, List, length, get_or, arith, Contains}
+use Rattle.std.proofs.Common.{ℕ, ◌<◌, length, get_or, arith, Contains}
 use Rattle.std.proofs.lemmas.List.Elements.{Contains-get_or}
 use Rattle.epx_graph.specs.Graphs.{DependencyGraph, edges_of, IsGraph}
 use Rattle.epx_graph.proofs.GraphNodes.{edge_from_committed, edge_within}

@@ -1,5 +1,5 @@
 -- A stable sort of the ranks of the ready instances is the execution order.
-use Rattle.std.proofs.Common.{◌≡◌, ◌≢◌, ◌&&◌, ℕ, zero, suc, ◌<◌, List, [], ◌∷◌, Bool, true, false, not, cond, map, filter, get_or, slice_get, Some, Contains, AllPairs, Ordering, Less, Equal, Greater, is_lt, nat_cmp, refl, sym, ap, ap₂, ◌∙◌, subst, subst₂, arith, IsPermutation, IsSorted}
+use Rattle.std.proofs.Common.{◌≡◌, ◌≢◌, ◌&&◌, ℕ, zero, suc, ◌<◌, List, [], ◌∷◌, Bool, true, false, not, cond, map, filter, slice_get, Some, Contains, AllPairs, Less, Equal, Greater, is_lt, nat_cmp, refl, sym, ap, ap₂, ◌∙◌, subst, subst₂, arith, IsPermutation}
 use Rattle.std.specs.Ordering.{ordering_reverse, ordering_then}
 use Rattle.std.specs.Cmp.{tied_itself}
 use Rattle.std.specs.List.Sorted.{IsSortedBy, IsStableBy, ties}
@@ -7,7 +7,6 @@ use Rattle.std.proofs.lemmas.Bool.{false≢true}
 use Rattle.std.proofs.lemmas.List.Kept.{AllPairs-filter}
 use Rattle.std.proofs.lemmas.List.Sorted.{ranks_by, sorted_far, Contains-permutation, IsPermutation-sym}
 use Rattle.std.proofs.lemmas.Option.{slice_get_within, get_or_from_slice_get}
-use Rattle.epx_types.specs.declared.id.Id.{Id}
 use Rattle.epx_types.specs.ExecutionOrder.{Ranked, rank_cmp, RanksBelow, IsRanked, IsExecutionOrder}
 use Rattle.epx_types.specs.Ids.{id_cmp}
 use Rattle.epx_types.specs.Instances.{Instance}

@@ -1,4 +1,7 @@
 //! Small graphs with their components and orders worked out by hand, and large ones that no recursion would bear.
+ghost use Rattle.std.specs.Prelude.{IfOk};
+ghost use Rattle.epx_graph.specs.GraphOf.{IsGraphOf};
+
 use super::*;
 use crate::standings::{Standing, Standings};
 use epx_graph::{Graph, build};
@@ -9,7 +12,7 @@ use std::process::Abort;
 use std::test::Fail;
 use std::thread::Threads;
 
-const MANY: u64 = 65_536;
+const MANY: u64 = 16_384;
 
 fn id(replica: u8, number: u64) -> Id {
     Id { replica, number }
@@ -31,7 +34,9 @@ fn read<R: Abort + Threads + Sync>(
     rt: &R,
     alloc: Global,
     log: Vec<u8>,
-) -> Result<(Merged, Graph), Fail> {
+) -> Result<(Merged, Graph), Fail>
+    ensures { IfOk result (λ found. IsGraphOf found.0 found.1) }
+{
     let mut logs = Vec::new(alloc);
     logs.push(log)?;
     let plan = Plan::new(4, 256).expect(rt, "a plan");
@@ -67,23 +72,27 @@ fn graph<R: Abort + Threads + Sync>(
     Ok(graph)
 }
 
-/// Instances 0.0 to 0.65535, each of which depends on the next, and the last on 0.`end`.
+/// Instances 0.0 to 0.16383, each of which depends on the next, and the last on 0.`end`.
 fn chain<R: Abort + Threads + Sync>(
     rt: &R,
     alloc: Global,
     end: u64,
-) -> Result<(Merged, Graph), Fail> {
+) -> Result<(Merged, Graph), Fail>
+    ensures { IfOk result (λ found. IsGraphOf found.0 found.1) }
+{
     let mut log = Vec::new(alloc);
     for number in 0..MANY {
-        let next = if number == 65_535 { end } else { number + 1 };
+        let next = if number == 16_383 { end } else { number + 1 };
         let deps = format!(in alloc; "[0,{next}]")?;
         push_line(alloc, &mut log, id(0, number), 1, &deps)?;
     }
     read(rt, alloc, log)
 }
 
-/// Instances 0.0 to 0.65535, each of which depends on the one before.
-fn chain_down<R: Abort + Threads + Sync>(rt: &R, alloc: Global) -> Result<(Merged, Graph), Fail> {
+/// Instances 0.0 to 0.16383, each of which depends on the one before.
+fn chain_down<R: Abort + Threads + Sync>(rt: &R, alloc: Global) -> Result<(Merged, Graph), Fail>
+    ensures { IfOk result (λ found. IsGraphOf found.0 found.1) }
+{
     let mut log = Vec::new(alloc);
     push_line(alloc, &mut log, id(0, 0), 1, "")?;
     for number in 1..MANY {
@@ -242,7 +251,7 @@ fn least_node_leads(rt: HostRuntime) -> Result<(), Fail> {
 fn long_chain(rt: HostRuntime) -> Result<(), Fail> {
     let alloc = rt.alloc();
     let (merged, graph) = chain(&rt, alloc, MANY)?;
-    let mut depth = 65_536usize;
+    let mut depth = 16_384usize;
     for (node, found) in standings(alloc, &graph)?.iter().enumerate() {
         assert_eq!(rt; *found, standing(node, depth, true));
         depth = depth.saturating_sub(1);
@@ -259,7 +268,7 @@ fn long_chain_from_its_end(rt: HostRuntime) -> Result<(), Fail> {
         assert_eq!(rt; *found, standing(node, node, false));
     }
     let order = order(&rt, alloc, &merged, &graph)?;
-    assert_eq!(rt; order.component_count(), 65_536);
+    assert_eq!(rt; order.component_count(), 16_384);
     let mut number = 0;
     for (place, found) in rows(alloc, &order)?.iter().enumerate() {
         let here = id(0, number);
@@ -275,12 +284,12 @@ fn long_ring(rt: HostRuntime) -> Result<(), Fail> {
     let alloc = rt.alloc();
     let (merged, graph) = chain(&rt, alloc, 0)?;
     let found = standings(alloc, &graph)?;
-    assert_eq!(rt; found.len(), 65_536);
+    assert_eq!(rt; found.len(), 16_384);
     for found in found.iter() {
         assert_eq!(rt; *found, standing(0, 0, false));
     }
     let leaders = leaders(alloc, &graph)?;
-    assert_eq!(rt; leaders.len(), 65_536);
+    assert_eq!(rt; leaders.len(), 16_384);
     assert!(rt; leaders.iter().all(|leader| *leader == 0));
     let order = order(&rt, alloc, &merged, &graph)?;
     assert_eq!(rt; order.component_count(), 1);

@@ -1,8 +1,5 @@
-use Rattle.std.proofs.Common.{Some, sym, ap, ◌∙◌, subst, ℕ}
+use Rattle.std.proofs.Common.{Some, sym, ap, ◌∙◌}
 use Rattle.std.proofs.lemmas.Bool.{false≢true}
-use Rattle.epx_types.specs.declared.id.Id.{Id}
-use Rattle.epx_types.specs.ExecutionOrder.{IsRanked}
-use Rattle.epx_order.specs.Ranks.{ranked}
 use Rattle.epx_order.proofs.NodeRanks.{node_of_place, rank_from_node}
 use Rattle.epx_order.proofs.ReadyNodes.{node_from_ready}
 use Rattle.epx_order.proofs.ready.rank_of.Goals as goal
