@@ -1,8 +1,9 @@
 //! Times the layers of epx. With no word it only names the words that it takes, so that what it
-//! prints is the same on every run; `lines`, `merge` and `apply` print the least of nine times, in
-//! microseconds.
+//! prints is the same on every run; `lines`, `merge`, `apply` and `answer` print the least of several
+//! times, in microseconds.
 #![tactic(auto)]
 
+mod answer;
 mod apply;
 mod lines;
 mod merge;
@@ -20,6 +21,7 @@ fn main(rt: HostRuntime) -> Result<(), Memory> {
         Some("lines") => lines::measure(&rt),
         Some("merge") => merge::measure(&rt),
         Some("apply") => apply::measure(&rt),
-        _ => println!(rt; "words: lines, merge, apply").map_err(|_| Memory),
+        Some("answer") => answer::measure(&rt),
+        _ => println!(rt; "words: lines, merge, apply, answer").map_err(|_| Memory),
     }
 }

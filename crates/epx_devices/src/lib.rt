@@ -8,6 +8,7 @@ mod fuse_sink;
 mod fuse_source;
 mod memory_sink;
 mod memory_source;
+mod path_source;
 mod std_sink;
 mod std_source;
 #[cfg(test)]
@@ -19,6 +20,7 @@ pub use fuse_sink::FuseSink;
 pub use fuse_source::FuseSource;
 pub use memory_sink::MemorySink;
 pub use memory_source::MemorySource;
+pub use path_source::PathSource;
 pub use std_sink::StdSink;
 pub use std_source::StdSource;
 pub use transfer::{MAX_LOG_BYTES, read_log, write_out};

@@ -1,0 +1,117 @@
+//! Whole answers, and the layers that make them, over logs of four shapes.
+use epx_graph::{build, waiting};
+use epx_merge::read_logs;
+use epx_order::{components, order};
+use epx_tool::answer;
+use epx_types::{Memory, Plan};
+use std::alloc::{AllocGlobal, Global};
+use std::io::Print;
+use std::rt::Clock;
+use std::thread::Threads;
+use std::time::Instant;
+
+/// What each instance depends on.
+#[derive(Clone, Copy, Debug)]
+enum Shape {
+    Independent,
+    /// On the one before it.
+    Chain,
+    /// On the one before it, and the first on the last.
+    Ring,
+    /// On the 256 before it.
+    Wide,
+}
+
+/// The numbers of the dependencies: from the first to before the last.
+fn range(shape: Shape, number: u64, count: u64) -> (u64, u64) {
+    match shape {
+        Shape::Independent => (0, 0),
+        Shape::Chain => (number.saturating_sub(1), number),
+        Shape::Ring if number == 0 => (count.saturating_sub(1), count),
+        Shape::Ring => (number.saturating_sub(1), number),
+        Shape::Wide => (number.saturating_sub(256), number),
+    }
+}
+
+fn push_line(
+    alloc: Global,
+    log: &mut Vec<u8>,
+    shape: Shape,
+    number: u64,
+    count: u64,
+) -> Result<(), Memory> {
+    let head = format!(in alloc; "{{\"r\":0,\"i\":{number},\"seq\":1,\"deps\":[")?;
+    log.extend_from_slice(head.as_bytes())?;
+    let (first, end) = range(shape, number, count);
+    for dependency in first..end {
+        let comma = if dependency == first { "" } else { "," };
+        let text = format!(in alloc; "{comma}[0,{dependency}]")?;
+        log.extend_from_slice(text.as_bytes())?;
+    }
+    let (one, other) = (number % 9_973, number % 7_919);
+    let tail = format!(in alloc;
+        "],\"ops\":[[\"get\",\"key{one}\"],[\"add\",\"key{other}\",1]]}}\n"
+    )?;
+    log.extend_from_slice(tail.as_bytes())?;
+    Ok(())
+}
+
+/// Logs of so many instances, each log within the limit.
+fn logs(alloc: Global, shape: Shape, count: u64) -> Result<Vec<Vec<u8>>, Memory> {
+    let mut logs = Vec::new(alloc);
+    let mut log = Vec::new(alloc);
+    for number in 0..count {
+        push_line(alloc, &mut log, shape, number, count)?;
+        if log.len() > 60_000_000 {
+            logs.push(log)?;
+            log = Vec::new(alloc);
+        }
+    }
+    logs.push(log)?;
+    Ok(logs)
+}
+
+/// Prints the least times of the layers, in microseconds.
+fn compare<R: Threads + Sync + Clock + Print>(
+    rt: &R,
+    alloc: Global,
+    shape: Shape,
+    count: u64,
+) -> Result<(), Memory> {
+    let Some(plan) = Plan::new(4, 256) else {
+        return Err(Memory);
+    };
+    let logs = logs(alloc, shape, count)?;
+    let mut least = [u128::MAX; 6];
+    for _ in 0..3 {
+        let mut marks = [0; 7];
+        let start = Instant::now(rt).map_err(|_| Memory)?;
+        let merged = read_logs(rt, alloc, &logs, plan).map_err(|_| Memory)?;
+        marks[1] = start.elapsed(rt).map_err(|_| Memory)?.as_micros();
+        let graph = build(alloc, &merged)?;
+        marks[2] = start.elapsed(rt).map_err(|_| Memory)?.as_micros();
+        let _map = components(alloc, &graph)?;
+        marks[3] = start.elapsed(rt).map_err(|_| Memory)?.as_micros();
+        let _order = order(rt, alloc, &merged, &graph)?;
+        marks[4] = start.elapsed(rt).map_err(|_| Memory)?.as_micros();
+        let _waiters = waiting(alloc, &graph)?;
+        marks[5] = start.elapsed(rt).map_err(|_| Memory)?.as_micros();
+        let _text = answer(rt, alloc, &logs, plan).map_err(|_| Memory)?;
+        marks[6] = start.elapsed(rt).map_err(|_| Memory)?.as_micros();
+        for step in 0..6 {
+            least[step] = least[step].min(marks[step + 1].saturating_sub(marks[step]));
+        }
+    }
+    let [read, built, found, ordered, waited, whole] = least;
+    println!(rt;
+        "{shape:?} {count}: read {read} build {built} components {found} order {ordered} waiting {waited} answer {whole}"
+    ).map_err(|_| Memory)
+}
+
+pub fn measure<R: Threads + Sync + Clock + AllocGlobal + Print>(rt: &R) -> Result<(), Memory> {
+    for shape in [Shape::Independent, Shape::Chain, Shape::Ring, Shape::Wide] {
+        compare(rt, rt.alloc(), shape, 16_384)?;
+        compare(rt, rt.alloc(), shape, 65_536)?;
+    }
+    Ok(())
+}

@@ -1,0 +1,157 @@
+//! Rows on sources and sinks, through whole runs. With an allocation refused, as the test runner can,
+//! a run may end with want of memory, and then the sink is empty; or, where the growth of the sink
+//! itself was refused, as a failed write, and then it holds a prefix.
+ghost use Rattle.std.specs.Prelude.{◌≡◌, false};
+
+use crate::given::{LEAST, LEAST_REPORT, plan};
+use epx_devices::{FuseSink, FuseSource, MemorySink, MemorySource, Sink};
+use epx_tool::run;
+use epx_types::Fault;
+use std::alloc::{AllocError, Global};
+use std::process::Abort;
+use std::test::Fail;
+use std::thread::Threads;
+
+/// A run from one source to a sink.
+fn run_one<R: Abort + Threads + Sync, W: Sink>(
+    rt: &R,
+    alloc: Global,
+    source: FuseSource,
+    sink: &mut W,
+) -> Result<(), Fault>
+    requires source { source.failed ≡ false }
+    requires sink { W.has_failed sink.old ≡ false }
+{
+    let mut sources = [source];
+    run(rt, alloc, &mut sources, plan(rt), sink)
+}
+
+/// A source of these bytes that does not fail.
+fn whole(bytes: &[u8]) -> FuseSource<'_>
+    ensures { result.failed ≡ false }
+{
+    FuseSource::new(bytes, 65_536, None)
+}
+
+#[test]
+fn run_writes_what_it_answers(rt: HostRuntime) -> Result<(), Fail> {
+    let mut sink = MemorySink::new(rt.alloc());
+    let mut sources = [MemorySource::new(LEAST.as_bytes())];
+    match run(&rt, rt.alloc(), &mut sources, plan(&rt), &mut sink) {
+        Ok(()) => assert_eq!(rt; sink.bytes(), LEAST_REPORT.as_bytes()),
+        Err(Fault::Memory) => assert!(rt; sink.bytes().is_empty()),
+        Err(fault) => {
+            assert_eq!(rt; fault, Fault::Write);
+            assert!(rt; LEAST_REPORT.as_bytes().starts_with(sink.bytes()));
+            return Err(Fail::from("the sink could not grow"));
+        }
+    }
+    Ok(())
+}
+
+#[test]
+fn prefix_of_the_report(rt: HostRuntime) -> Result<(), Fail> {
+    let source = whole(LEAST.as_bytes());
+    let mut sink = FuseSink::new(rt.alloc(), 64, Some(10));
+    let refused = run_one(&rt, rt.alloc(), source, &mut sink);
+    assert_eq!(rt; refused, Err(Fault::Write));
+    assert_eq!(rt; sink.bytes(), b"[\"executed".as_slice());
+    Ok(())
+}
+
+/// One byte more than a log may have.
+fn too_long(alloc: Global) -> Result<Vec<u8>, AllocError> {
+    vec![in alloc; b' '; 67_108_865]
+}
+
+#[test]
+fn failing_devices(rt: HostRuntime) -> Result<(), Fail> {
+    let long = too_long(rt.alloc())?;
+    let mut sources = [
+        FuseSource::new(LEAST.as_bytes(), 64, Some(20)),
+        whole(&long),
+    ];
+    let mut sink = MemorySink::new(rt.alloc());
+    let refused = run(&rt, rt.alloc(), &mut sources, plan(&rt), &mut sink);
+    assert_eq!(rt; refused, Err(Fault::Read { log: 0 }));
+    assert!(rt; sink.bytes().is_empty());
+    Ok(())
+}
+
+#[test]
+fn a_log_that_is_too_long(rt: HostRuntime) -> Result<(), Fail> {
+    let long = too_long(rt.alloc())?;
+    let mut sink = MemorySink::new(rt.alloc());
+    let refused = run_one(&rt, rt.alloc(), whole(&long), &mut sink);
+    assert_eq!(rt; refused, Err(Fault::LogTooLong { log: 0 }));
+    assert!(rt; sink.bytes().is_empty());
+    Ok(())
+}
+
+#[test]
+fn a_truncated_log_writes_nothing(rt: HostRuntime) -> Result<(), Fail> {
+    let source = whole(b"{\"r\":0,\"i\":");
+    let mut sink = MemorySink::new(rt.alloc());
+    let refused = run_one(&rt, rt.alloc(), source, &mut sink);
+    let Err(Fault::BadLine { .. }) = refused else {
+        return Err(Fail::from("a truncated line must be refused"));
+    };
+    assert!(rt; sink.bytes().is_empty());
+    Ok(())
+}
+
+/// The run fails where the source does, after this many bytes, and writes nothing.
+fn fails_with_its_source<R: Abort + Threads + Sync>(
+    rt: &R,
+    alloc: Global,
+    bytes: usize,
+) -> Result<(), Fail> {
+    let source = FuseSource::new(LEAST.as_bytes(), 64, Some(bytes));
+    let mut sink = MemorySink::new(alloc);
+    let refused = run_one(rt, alloc, source, &mut sink);
+    assert_eq!(rt; refused, Err(Fault::Read { log: 0 }), "after {bytes} bytes");
+    assert!(rt; sink.bytes().is_empty());
+    Ok(())
+}
+
+#[test]
+fn a_source_that_fails_after_any_byte(rt: HostRuntime) -> Result<(), Fail> {
+    for bytes in 0..LEAST.len() + 1 {
+        fails_with_its_source(&rt, rt.alloc(), bytes)?;
+    }
+    Ok(())
+}
+
+/// The run fails where the sink does, after this many bytes, which are a prefix of the report.
+fn fails_with_its_sink<R: Abort + Threads + Sync>(
+    rt: &R,
+    alloc: Global,
+    bytes: usize,
+) -> Result<(), Fail> {
+    let source = whole(LEAST.as_bytes());
+    let mut sink = FuseSink::new(alloc, 64, Some(bytes));
+    let refused = run_one(rt, alloc, source, &mut sink);
+    assert_eq!(rt; refused, Err(Fault::Write), "after {bytes} bytes");
+    assert_eq!(rt; sink.bytes().len(), bytes);
+    assert!(rt; LEAST_REPORT.as_bytes().starts_with(sink.bytes()));
+    Ok(())
+}
+
+#[test]
+fn a_sink_that_fails_after_any_byte(rt: HostRuntime) -> Result<(), Fail> {
+    assert_eq!(rt; LEAST_REPORT.len(), 81);
+    for bytes in 0..82 {
+        fails_with_its_sink(&rt, rt.alloc(), bytes)?;
+    }
+    Ok(())
+}
+
+#[test]
+fn one_byte_a_call(rt: HostRuntime) -> Result<(), Fail> {
+    let source = FuseSource::new(LEAST.as_bytes(), 1, None);
+    let mut sink = FuseSink::new(rt.alloc(), 1, None);
+    let done = run_one(&rt, rt.alloc(), source, &mut sink);
+    assert_eq!(rt; done, Ok(()));
+    assert_eq!(rt; sink.bytes(), LEAST_REPORT.as_bytes());
+    Ok(())
+}

@@ -1,0 +1,18 @@
+//! The worked rows: logs with the reports or faults that they must give. Tests alone, so that no
+//! library is proved again for them.
+#![tactic(auto)]
+
+#[cfg(test)]
+mod devices;
+#[cfg(test)]
+mod executing;
+#[cfg(test)]
+mod given;
+#[cfg(test)]
+mod ordering;
+#[cfg(test)]
+mod reading;
+#[cfg(test)]
+mod refusing;
+#[cfg(test)]
+mod waiting;

@@ -1,0 +1,87 @@
+//! Rows on logs that agree, and on those that are refused as a whole.
+use crate::given::{NOTHING, add_line, answered, gives, log_of, logs_give};
+use std::alloc::{AllocError, Global};
+use std::test::Fail;
+
+#[test]
+fn agreement_inside_one_log(rt: HostRuntime) -> Result<(), Fail> {
+    let report = r#"["executed",1,"waiting",0,"components",1]
+["reply",0,1,"ok",[]]
+"#;
+    let instances = [(0, 1, 1, "[]", "[]"), (0, 1, 1, "[]", "[]")];
+    gives(&rt, rt.alloc(), &instances, report)
+}
+
+#[test]
+fn disagreement_inside_one_log(rt: HostRuntime) -> Result<(), Fail> {
+    let fault = "epx: fault 6: instance 0.1 differs between log 0 line 1 and log 0 line 2";
+    let instances = [(0, 1, 1, "[]", "[]"), (0, 1, 2, "[]", "[]")];
+    gives(&rt, rt.alloc(), &instances, fault)
+}
+
+#[test]
+fn first_disagreement_by_id(rt: HostRuntime) -> Result<(), Fail> {
+    let alloc = rt.alloc();
+    let first = log_of(alloc, &[(0, 5, 1, "[]", "[]"), (0, 2, 1, "[]", "[]")])?;
+    let second = log_of(
+        alloc,
+        &[(0, 5, 2, "[]", "[]"), (0, 2, 1, "[]", r#"[["get","a"]]"#)],
+    )?;
+    let fault = "epx: fault 6: instance 0.2 differs between log 0 line 2 and log 1 line 2";
+    logs_give(&rt, alloc, &[first, second], fault)
+}
+
+#[test]
+fn bad_line_before_disagreement(rt: HostRuntime) -> Result<(), Fail> {
+    let alloc = rt.alloc();
+    let first = log_of(alloc, &[(0, 0, 1, "[]", "[]"), (0, 0, 2, "[]", "[]")])?;
+    let mut second = log_of(alloc, &[(1, 0, 1, "[]", "[]"), (1, 1, 1, "[]", "[]")])?;
+    second.extend_from_slice(b"{\"r\":0}\n")?;
+    let fault = "epx: fault 4: log 1 line 3: Number";
+    logs_give(&rt, alloc, &[first, second], fault)
+}
+
+/// This many empty logs.
+fn empty_logs(alloc: Global, count: usize) -> Result<Vec<Vec<u8>>, AllocError> {
+    let mut logs = Vec::new(alloc);
+    for _ in 0..count {
+        logs.push(Vec::new(alloc))?;
+    }
+    Ok(logs)
+}
+
+#[test]
+fn as_many_logs_as_are_allowed(rt: HostRuntime) -> Result<(), Fail> {
+    logs_give(&rt, rt.alloc(), &empty_logs(rt.alloc(), 64)?, NOTHING)
+}
+
+#[test]
+fn too_many_logs(rt: HostRuntime) -> Result<(), Fail> {
+    let fault = "epx: fault 2: more than 64 logs";
+    logs_give(&rt, rt.alloc(), &empty_logs(rt.alloc(), 65)?, fault)
+}
+
+/// A log of this many instances without operations.
+fn many(alloc: Global, count: u64) -> Result<Vec<u8>, AllocError> {
+    let mut log = Vec::new(alloc);
+    for number in 0..count {
+        add_line(alloc, &mut log, (0, number, 1, "[]", "[]"))?;
+    }
+    Ok(log)
+}
+
+#[test]
+fn as_many_instances_as_are_allowed(rt: HostRuntime) -> Result<(), Fail> {
+    let log = many(rt.alloc(), 65_536)?;
+    let report = answered(&rt, rt.alloc(), &[log])?;
+    let header = "[\"executed\",65536,\"waiting\",0,\"components\",65536]";
+    assert_eq!(rt; report.lines().next(), Some(header));
+    assert_eq!(rt; report.lines().count(), 65_537);
+    Ok(())
+}
+
+#[test]
+fn too_many_instances(rt: HostRuntime) -> Result<(), Fail> {
+    let fault = "epx: fault 5: more than 65536 instances";
+    logs_give(&rt, rt.alloc(), &[many(rt.alloc(), 65_537)?], fault)
+}
