@@ -71,6 +71,42 @@ fn logs(alloc: Global, shape: Shape, count: u64) -> Result<Vec<Vec<u8>>, Memory>
     Ok(logs)
 }
 
+/// The microseconds since the start.
+fn passed(rt: &impl Clock, start: &Instant) -> Result<u128, Memory> {
+    match start.elapsed(rt) {
+        Ok(time) => Ok(time.as_micros()),
+        Err(_) => Err(Memory),
+    }
+}
+
+/// When each layer was done, from the start, in microseconds.
+fn marks<R: Threads + Sync + Clock>(
+    rt: &R,
+    alloc: Global,
+    logs: &[Vec<u8>],
+    plan: Plan,
+) -> Result<[u128; 7], Memory> {
+    let Ok(start) = Instant::now(rt) else {
+        return Err(Memory);
+    };
+    let Ok(merged) = read_logs(rt, alloc, logs, plan) else {
+        return Err(Memory);
+    };
+    let read = passed(rt, &start)?;
+    let graph = build(alloc, &merged)?;
+    let built = passed(rt, &start)?;
+    let _map = components(alloc, &graph)?;
+    let found = passed(rt, &start)?;
+    let _order = order(rt, alloc, &merged, &graph)?;
+    let ordered = passed(rt, &start)?;
+    let _waiters = waiting(alloc, &graph)?;
+    let waited = passed(rt, &start)?;
+    let Ok(_text) = answer(rt, alloc, logs, plan) else {
+        return Err(Memory);
+    };
+    Ok([0, read, built, found, ordered, waited, passed(rt, &start)?])
+}
+
 /// Prints the least times of the layers, in microseconds.
 fn compare<R: Threads + Sync + Clock + Print>(
     rt: &R,
@@ -83,21 +119,8 @@ fn compare<R: Threads + Sync + Clock + Print>(
     };
     let logs = logs(alloc, shape, count)?;
     let mut least = [u128::MAX; 6];
-    for _ in 0..3 {
-        let mut marks = [0; 7];
-        let start = Instant::now(rt).map_err(|_| Memory)?;
-        let merged = read_logs(rt, alloc, &logs, plan).map_err(|_| Memory)?;
-        marks[1] = start.elapsed(rt).map_err(|_| Memory)?.as_micros();
-        let graph = build(alloc, &merged)?;
-        marks[2] = start.elapsed(rt).map_err(|_| Memory)?.as_micros();
-        let _map = components(alloc, &graph)?;
-        marks[3] = start.elapsed(rt).map_err(|_| Memory)?.as_micros();
-        let _order = order(rt, alloc, &merged, &graph)?;
-        marks[4] = start.elapsed(rt).map_err(|_| Memory)?.as_micros();
-        let _waiters = waiting(alloc, &graph)?;
-        marks[5] = start.elapsed(rt).map_err(|_| Memory)?.as_micros();
-        let _text = answer(rt, alloc, &logs, plan).map_err(|_| Memory)?;
-        marks[6] = start.elapsed(rt).map_err(|_| Memory)?.as_micros();
+    for _ in 0..5 {
+        let marks = marks(rt, alloc, &logs, plan)?;
         for step in 0..6 {
             least[step] = least[step].min(marks[step + 1].saturating_sub(marks[step]));
         }

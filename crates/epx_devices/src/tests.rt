@@ -1,10 +1,13 @@
 //! Whole transfers over each kind of device, and devices that fail at each byte.
 use crate::{
-    DeviceFault, FuseSink, FuseSource, MemorySink, MemorySource, Sink, Source, StdSink, StdSource,
-    read_log, write_out,
+    DeviceFault, FuseSink, FuseSource, MemorySink, MemorySource, PathSource, Sink, Source, StdSink,
+    StdSource, read_log, write_out,
 };
 use epx_types::Fault;
+use std::alloc::Global;
 use std::io::{self, Error, ErrorKind, Read, Write};
+use std::process::Abort;
+use std::rt::Files;
 use std::test::Fail;
 
 const TEXT: &str = "{\"r\":0,\"i\":1,\"seq\":5}\n";
@@ -149,4 +152,32 @@ fn std_devices_tell_of_failures(rt: HostRuntime) {
     let mut only_flushed = StdSink::new(Broken);
     assert_eq!(rt; write_out(&[], &mut only_flushed), Err(Fault::Write));
     assert!(rt; source.failed() && takes_nothing.failed() && only_flushed.failed());
+}
+
+/// The file can not be read, and the source tells so.
+fn can_not_be_read(rt: &(impl Abort + Files), alloc: Global, path: &str) {
+    let mut source = PathSource::new(rt, path);
+    assert!(rt; !source.failed());
+    let refused = read_log(alloc, 7, &mut source).err();
+    assert_eq!(rt; refused, Some(Fault::Read { log: 7 }), "{path}");
+    assert!(rt; source.failed());
+}
+
+#[test]
+fn a_path_that_leads_nowhere_can_not_be_read(rt: HostRuntime) {
+    can_not_be_read(&rt, rt.alloc(), "no such folder/no such log.jsonl");
+    can_not_be_read(&rt, rt.alloc(), "");
+}
+
+#[test]
+fn a_folder_can_not_be_read(rt: HostRuntime) {
+    can_not_be_read(&rt, rt.alloc(), ".");
+}
+
+#[test]
+fn a_file_is_read_to_its_end(rt: HostRuntime) -> Result<(), Fail> {
+    let mut source = PathSource::new(&rt, "/dev/null");
+    let bytes = read_log(rt.alloc(), 0, &mut source)?;
+    assert!(rt; bytes.is_empty() && !source.failed());
+    Ok(())
 }

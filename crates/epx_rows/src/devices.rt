@@ -1,6 +1,4 @@
-//! Rows on sources and sinks, through whole runs. With an allocation refused, as the test runner can,
-//! a run may end with want of memory, and then the sink is empty; or, where the growth of the sink
-//! itself was refused, as a failed write, and then it holds a prefix.
+//! Rows on sources and sinks, through whole runs.
 ghost use Rattle.std.specs.Prelude.{◌≡◌, false};
 
 use crate::given::{LEAST, LEAST_REPORT, plan};
@@ -35,15 +33,26 @@ fn whole(bytes: &[u8]) -> FuseSource<'_>
 
 #[test]
 fn run_writes_what_it_answers(rt: HostRuntime) -> Result<(), Fail> {
-    let mut sink = MemorySink::new(rt.alloc());
     let mut sources = [MemorySource::new(LEAST.as_bytes())];
-    match run(&rt, rt.alloc(), &mut sources, plan(&rt), &mut sink) {
+    let mut sink = MemorySink::new(rt.alloc());
+    let done = run(&rt, rt.alloc(), &mut sources, plan(&rt), &mut sink);
+    assert_eq!(rt; done, Ok(()));
+    assert_eq!(rt; sink.bytes(), LEAST_REPORT.as_bytes());
+    Ok(())
+}
+
+/// For a test runner that refuses an allocation: the run ends with want of memory and an empty sink,
+/// or it writes the whole report; where the sink itself could not grow, it holds a prefix.
+#[test]
+fn a_refused_allocation(rt: HostRuntime) -> Result<(), Fail> {
+    let mut sink = MemorySink::new(rt.alloc());
+    let done = run_one(&rt, rt.alloc(), whole(LEAST.as_bytes()), &mut sink);
+    match done {
         Ok(()) => assert_eq!(rt; sink.bytes(), LEAST_REPORT.as_bytes()),
         Err(Fault::Memory) => assert!(rt; sink.bytes().is_empty()),
         Err(fault) => {
             assert_eq!(rt; fault, Fault::Write);
             assert!(rt; LEAST_REPORT.as_bytes().starts_with(sink.bytes()));
-            return Err(Fail::from("the sink could not grow"));
         }
     }
     Ok(())
