@@ -1,9 +1,11 @@
 //! Whole answers, and the layers that make them, over logs of four shapes.
+use epx_apply::run_order;
 use epx_graph::{build, waiting};
-use epx_merge::read_logs;
+use epx_merge::{Merged, read_logs};
 use epx_order::{components, order};
 use epx_tool::answer;
-use epx_types::{Memory, Plan};
+use epx_txn::Store;
+use epx_types::{Command, Memory, Plan};
 use std::alloc::{AllocGlobal, Global};
 use std::io::Print;
 use std::rt::Clock;
@@ -79,13 +81,45 @@ fn passed(rt: &impl Clock, start: &Instant) -> Result<u128, Memory> {
     }
 }
 
+/// The commands of all instances, by rising Id: the order plays no part in what applying them costs.
+fn commands<'a>(alloc: Global, merged: &'a Merged) -> Result<Vec<Command<'a>>, Memory> {
+    let mut commands = Vec::with_capacity(alloc, merged.len())?;
+    for position in 0..merged.len() {
+        let entry = merged.entry_at(position);
+        commands.push(Command {
+            id: entry.id(),
+            ops: entry.ops(),
+        })?;
+    }
+    Ok(commands)
+}
+
+/// The time of applying the commands.
+fn applying<R: Threads + Sync + Clock>(
+    rt: &R,
+    alloc: Global,
+    merged: &Merged,
+    plan: Plan,
+) -> Result<u128, Memory> {
+    let commands = commands(alloc, merged)?;
+    if commands.len() > 65_536 {
+        return Err(Memory);
+    }
+    let Ok(start) = Instant::now(rt) else {
+        return Err(Memory);
+    };
+    let mut store = Store::new(alloc);
+    let _replies = run_order(rt, alloc, &mut store, &commands, plan)?;
+    passed(rt, &start)
+}
+
 /// When each layer was done, from the start, in microseconds.
 fn marks<R: Threads + Sync + Clock>(
     rt: &R,
     alloc: Global,
     logs: &[Vec<u8>],
     plan: Plan,
-) -> Result<[u128; 7], Memory> {
+) -> Result<[u128; 8], Memory> {
     let Ok(start) = Instant::now(rt) else {
         return Err(Memory);
     };
@@ -104,7 +138,9 @@ fn marks<R: Threads + Sync + Clock>(
     let Ok(_text) = answer(rt, alloc, logs, plan) else {
         return Err(Memory);
     };
-    Ok([0, read, built, found, ordered, waited, passed(rt, &start)?])
+    let answered = passed(rt, &start)?;
+    let applied = answered.saturating_add(applying(rt, alloc, &merged, plan)?);
+    Ok([0, read, built, found, ordered, waited, answered, applied])
 }
 
 /// Prints the least times of the layers, in microseconds.
@@ -118,16 +154,16 @@ fn compare<R: Threads + Sync + Clock + Print>(
         return Err(Memory);
     };
     let logs = logs(alloc, shape, count)?;
-    let mut least = [u128::MAX; 6];
+    let mut least = [u128::MAX; 7];
     for _ in 0..5 {
         let marks = marks(rt, alloc, &logs, plan)?;
-        for step in 0..6 {
+        for step in 0..7 {
             least[step] = least[step].min(marks[step + 1].saturating_sub(marks[step]));
         }
     }
-    let [read, built, found, ordered, waited, whole] = least;
+    let [read, built, found, ordered, waited, whole, applied] = least;
     println!(rt;
-        "{shape:?} {count}: read {read} build {built} components {found} order {ordered} waiting {waited} answer {whole}"
+        "{shape:?} {count}: read {read} build {built} components {found} order {ordered} waiting {waited} apply {applied} answer {whole}"
     ).map_err(|_| Memory)
 }
 

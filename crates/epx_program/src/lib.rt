@@ -1,0 +1,8 @@
+//! What the program `epx` does, apart from being a program: so that each way to call it can be one.
+#![tactic(auto)]
+
+mod ending;
+mod start;
+mod work;
+
+pub use start::start;
