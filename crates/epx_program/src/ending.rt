@@ -1,10 +1,13 @@
 //! How the program ends.
-use epx_devices::{StdSink, write_out};
+ghost use Rattle.std.specs.Prelude.{◌≡◌, false};
+
+use epx_tool::{Sink, write_out};
 use epx_types::Fault;
+use std::io::Eprint;
 use std::process::ExitCode;
 
 /// The fault's line on standard error, and its status.
-pub(crate) fn end(rt: &HostRuntime, done: Result<(), Fault>) -> ExitCode {
+pub(crate) fn end(rt: &impl Eprint, done: Result<(), Fault>) -> ExitCode {
     match done {
         Ok(()) => ExitCode::SUCCESS,
         Err(fault) => {
@@ -16,9 +19,16 @@ pub(crate) fn end(rt: &HostRuntime, done: Result<(), Fault>) -> ExitCode {
 }
 
 /// A text that was asked for on standard output, and any other on standard error.
-pub(crate) fn end_with_text(rt: &HostRuntime, text: &str, status: u8) -> ExitCode {
+pub(crate) fn end_with_text<R: Eprint, W: Sink>(
+    rt: &R,
+    text: &str,
+    status: u8,
+    output: &mut W,
+) -> ExitCode
+    requires { W.has_failed output.old ≡ false }
+{
     if status == 0 {
-        return end(rt, write_out(text.as_bytes(), &mut StdSink::new(rt.stdout())));
+        return end(rt, write_out(text.as_bytes(), output));
     }
     let _told = eprint!(rt; "{text}");
     ExitCode::from(status)

@@ -2,7 +2,7 @@
 #![tactic(auto)]
 
 mod ending;
-mod start;
+mod program;
 mod work;
 
-pub use start::start;
+pub use program::start;

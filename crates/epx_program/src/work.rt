@@ -1,45 +1,67 @@
 //! The work itself: sources by the paths, and the answer that the task asks for.
-ghost use Rattle.std.specs.Prelude.{◌≡◌, false, All};
+ghost use Rattle.std.specs.Prelude.{◌≡◌, false, All, IfOk};
 
-use epx_devices::{PathSource, Source, StdSink, StdSource};
-use epx_tool::{Ask, Task, run, show};
+use epx_tool::{Ask, PathSource, Sink, Source, Task, run, show};
 use epx_types::{Fault, Plan};
-use std::alloc::Global;
+use std::alloc::{AllocError, Global};
+use std::rt::Files;
+use std::thread::Threads;
 
-/// Writes what the task asks for to standard output.
-fn answer<S: Source>(
-    rt: &HostRuntime,
+/// Writes what the task asks for.
+fn answer<R: Threads + Sync, S: Source, W: Sink>(
+    rt: &R,
     alloc: Global,
     task: Task,
     plan: Plan,
     sources: &mut [S],
+    output: &mut W,
 ) -> Result<(), Fault>
-    requires { All (λ s. S.has_failed s ≡ false) sources.old }
+    requires sources { All (λ s. S.has_failed s ≡ false) sources.old }
+    requires output { W.has_failed output.old ≡ false }
 {
-    let mut sink = StdSink::new(rt.stdout());
     match task {
-        Task::Run => run(rt, alloc, sources, plan, &mut sink),
-        Task::Order => show(rt, alloc, Ask::Order, sources, plan, &mut sink),
+        Task::Run => run(rt, alloc, sources, plan, output),
+        Task::Order => show(rt, alloc, Ask::Order, sources, plan, output),
     }
 }
 
-/// Reads the logs at the paths, or standard input where no paths are meant, and answers them.
-pub(crate) fn work(
-    rt: &HostRuntime,
+/// A source for each path. Nothing is opened yet.
+fn sources_at<'a, R: Files>(
+    rt: &'a R,
+    alloc: Global,
+    paths: &'a [String],
+) -> Result<Vec<PathSource<'a, R>>, AllocError>
+    ensures { IfOk result (λ sources. All (λ s. s.failed ≡ false) sources.items) }
+{
+    let mut sources = Vec::with_capacity(alloc, paths.len())?;
+    for path in paths {
+        sources.push(PathSource::new(rt, path.as_str()))?;
+    }
+    Ok(sources)
+}
+
+/// Reads the logs at the paths, or the input where no paths are meant, and answers them.
+pub(crate) fn work<R: Files + Threads + Sync, I: Source + Drop, W: Sink>(
+    rt: &R,
     alloc: Global,
     task: Task,
     plan: Plan,
     paths: Option<Vec<String>>,
-) -> Result<(), Fault> {
+    input: I,
+    output: &mut W,
+) -> Result<(), Fault>
+    requires input { I.has_failed input ≡ false }
+    requires output { W.has_failed output.old ≡ false }
+{
     let Some(paths) = paths else {
-        let mut sources = [StdSource::new(rt.stdin())];
-        return answer(rt, alloc, task, plan, &mut sources);
-    };
-    let mut sources = Vec::new(alloc);
-    for path in &paths {
-        let Ok(()) = sources.push(PathSource::new(rt, path.as_str())) else {
+        let mut sources = Vec::new(alloc);
+        let Ok(()) = sources.push(input) else {
             return Err(Fault::Memory);
         };
-    }
-    answer(rt, alloc, task, plan, &mut sources)
+        return answer(rt, alloc, task, plan, &mut sources, output);
+    };
+    let Ok(mut sources) = sources_at(rt, alloc, &paths) else {
+        return Err(Fault::Memory);
+    };
+    answer(rt, alloc, task, plan, &mut sources, output)
 }

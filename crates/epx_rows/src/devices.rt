@@ -2,8 +2,7 @@
 ghost use Rattle.std.specs.Prelude.{◌≡◌, false};
 
 use crate::given::{LEAST, LEAST_REPORT, plan};
-use epx_devices::{FuseSink, FuseSource, MemorySink, MemorySource, Sink};
-use epx_tool::run;
+use epx_tool::{FuseSink, FuseSource, MemorySink, MemorySource, Sink, run};
 use epx_types::Fault;
 use std::alloc::{AllocError, Global};
 use std::process::Abort;

@@ -5,3 +5,12 @@ pub mod Views
 pub mod Answer
 pub mod AnswerLaws
 pub mod Runs
+pub use Rattle.epx_devices.specs.Devices
+pub use Rattle.epx_devices.specs.MemorySink
+pub use Rattle.epx_devices.specs.WatchedDevices
+pub use Rattle.epx_devices.specs.Fuses
+pub use Rattle.epx_devices.specs.Transfers
+pub use Rattle.epx_words.specs.App
+pub use Rattle.epx_words.specs.Given
+pub use Rattle.epx_words.specs.Asked
+pub use Rattle.epx_words.specs.Endings

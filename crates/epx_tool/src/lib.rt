@@ -1,4 +1,5 @@
-//! From bytes to the report: the answer to logs, as text, and runs over devices.
+//! From bytes to the report: the answer to logs, as text, runs over devices, and the program's words.
+//! Devices and words are crates of their own below; whoever uses epx finds them here.
 #![tactic(auto)]
 
 mod answers;
@@ -11,4 +12,9 @@ mod tests;
 
 pub use answers::{answer, view};
 pub use ask::Ask;
+pub use epx_devices::{
+    DeviceFault, FuseSink, FuseSource, MemorySink, MemorySource, PathSource, Sink, Source, StdSink,
+    StdSource, read_log, write_out,
+};
+pub use epx_words::{Task, Words, read_words};
 pub use runs::{run, show};

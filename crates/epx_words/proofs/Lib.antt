@@ -1,0 +1,9 @@
+mod Building
+mod NoKinds
+mod SoundRows
+mod SoundWalk
+mod SoundUses
+mod NamedTasks
+mod NoFault
+mod NumbersRead
+mod Refusals

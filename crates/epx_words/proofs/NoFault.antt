@@ -1,0 +1,72 @@
+-- Words in which clap finds no fault name a task, with both numbers in their ranges.
+use Rattle.std.proofs.Common.{◌≡◌, Bool, true, false, codes, List, [], Option, Some, None, refl, sym, subst, inl, inr, is_some}
+use Rattle.std.specs.List.{AllByRecursion}
+use Rattle.clap.specs.Faults.{check_fault, defaults_fault, entered_fault, fault_of, is_simple_and_free, level_fault, settle_fault, walk_fault}
+use Rattle.clap.specs.Simple.{App, Shape, argument_words, built, built_leaf, entered, inherited, is_simple, marked_built, names_of, subcommand_of, with_leaf_noted}
+use Rattle.clap.specs.Walk.{Row, Text, finished, nothing_held, rows_after, settled, stop_after, walk, walk_from}
+use Rattle.clap.proofs.OnLiterals.{clap_on_literals}
+use Rattle.epx_words.specs.App.{epx_app, work_app}
+use Rattle.epx_words.specs.Given.{GivesWork, IsTaskName}
+use Rattle.epx_words.proofs.NoKinds.{none_after, none_first}
+use Rattle.epx_words.proofs.NamedTasks.{IsKnownName, StopsAtTask, walk_task}
+use Rattle.epx_words.proofs.SoundUses.{HasNumbers, leaf_keeps, level_sound, numbers_there}
+
+pub epx_is_simple : is_simple epx_app ≡ true
+unfolding clap_on_literals
+epx_is_simple = refl
+
+pub epx_is_free : is_simple_and_free epx_app ≡ true
+unfolding clap_on_literals
+epx_is_free = refl
+
+abbrev app : App
+app = built epx_app
+
+-- a task as clap builds it
+abbrev leaf : Text → Shape
+leaf name = built_leaf (inherited (with_leaf_noted (marked_built epx_app.top)) (work_app name).top)
+
+numbers_of : (name : Text) (rest : List Text) → level_fault (leaf name) [] nothing_held rest false [] ≡ [] → HasNumbers (rows_after (leaf name).rules [] rest)
+numbers_of name rest none =
+    numbers_there (settled (leaf name).rules (walk (leaf name).rules [] nothing_held rest).held).rows (level_sound (leaf name) (leaf_keeps false) rest none)
+
+run_works : (rest : List Text) → entered_fault app (Some (codes "run", rest)) ≡ [] → GivesWork (entered app (Some (codes "run", rest)))
+run_works rest none =
+    let numbers = numbers_of (codes "run") rest none in
+    (inl refl, numbers.workers, numbers.cut)
+
+order_works : (rest : List Text) → entered_fault app (Some (codes "order", rest)) ≡ [] → GivesWork (entered app (Some (codes "order", rest)))
+order_works rest none =
+    let numbers = numbers_of (codes "order") rest none in
+    (inr refl, numbers.workers, numbers.cut)
+
+task_works : (name : Text) (rest : List Text) → IsTaskName name → entered_fault app (Some (name, rest)) ≡ [] → GivesWork (entered app (Some (name, rest)))
+task_works name rest (inl is) none =
+    subst (λ n. GivesWork (entered app (Some (n, rest)))) (sym is) (run_works rest (subst (λ n. entered_fault app (Some (n, rest)) ≡ []) is none))
+task_works name rest (inr is) none =
+    subst (λ n. GivesWork (entered app (Some (n, rest)))) (sym is) (order_works rest (subst (λ n. entered_fault app (Some (n, rest)) ≡ []) is none))
+
+stop_works : (stop : Option (Text × List Text)) → StopsAtTask stop → is_some (entered app stop) ≡ true → entered_fault app stop ≡ [] → GivesWork (entered app stop)
+stop_works None task there none = cc
+stop_works (Some p) task there none = task_works p.0 p.1 task none
+
+known : AllByRecursion (λ (l : Text × List Text). IsKnownName l.0) (names_of app)
+known = (inl (inl refl), (inl (inr refl), (inr refl, tt)))
+
+subcommand_there : (rows : List Row) (there : Bool) → check_fault app.top rows there ≡ [] → there ≡ true
+subcommand_there rows true none = refl
+subcommand_there rows false none = cc
+
+pub gives_work : (words : List Text) → fault_of epx_app words ≡ [] → GivesWork (subcommand_of epx_app words)
+gives_work words none =
+    let given = argument_words epx_app words in
+    let stop = stop_after app.top.rules (names_of app) given in
+    let end = (walk app.top.rules (names_of app) nothing_held given).held in
+    let walked = walk_fault app.top (names_of app) (walk_from nothing_held) given in
+    let below = entered_fault app stop in
+    let settles = settle_fault app.top.rules app.top.args_override_self end in
+    let defaults = defaults_fault (settled app.top.rules end).rows app.top.rules in
+    let past_walk = none_after walked _ none in
+    let last = none_after defaults _ (none_after settles _ (none_after below _ past_walk)) in
+    stop_works stop (walk_task app.top (names_of app) refl known (walk_from nothing_held) given (none_first walked _ none) tt)
+    (subcommand_there (finished app.top.rules end) (is_some (entered app stop)) last) (none_first below _ past_walk)

@@ -1,0 +1,33 @@
+-- The program as clap knows it: two subcommands, each with two numbers and any number of logs.
+use Rattle.std.specs.Prelude.{ℕ, true, Some, [], ◌∷◌, codes}
+use Rattle.clap.specs.Simple.{on_top}
+use Rattle.clap.specs.Words.{App, Rule, Text, new_app, new_rule, with_rule, with_subcommand}
+use Rattle.clap.specs.declared.builder.action.ArgAction.TheVariants.{Append, Set}
+use Rattle.clap.specs.declared.builder.value_parser.ValueParser.TheVariants.{Unsigned}
+
+-- an option for a whole number from 1 to `most`
+abbrev pub number_rule : Text → Text → ℕ → Rule
+number_rule name default most = record (new_rule name) {
+  long = Some name;
+  action = Some Set;
+  defaults = default ∷ [];
+  value_names = 1;
+  parser = Some (Unsigned 1 most);
+}
+
+-- the logs
+abbrev pub logs_rule : Rule
+logs_rule = record (new_rule (codes "logs")) { action = Some Append; value_names = 1 }
+
+-- a subcommand
+abbrev pub work_app : Text → App
+work_app name = with_rule (with_rule (with_rule (new_app name) (number_rule (codes "workers") (codes "4") 64))
+    (number_rule (codes "cut") (codes "256") 65536)) logs_rule
+
+-- the program without its subcommands
+abbrev pub epx_start : App
+epx_start = on_top (λ shape. record shape { has_version = true; subcommand_required = true }) (new_app (codes "epx"))
+
+-- the program
+abbrev pub epx_app : App
+epx_app = with_subcommand (with_subcommand epx_start (work_app (codes "run")).top) (work_app (codes "order")).top

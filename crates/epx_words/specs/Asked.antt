@@ -1,0 +1,46 @@
+-- What words come to, by cases.
+use Rattle.std.specs.Prelude.{◌≡◌, ⊤, ℕ, List, Option, Some, codes, map, option_map, string_bytes}
+use Rattle.clap.specs.Words.{Text}
+use Rattle.epx_types.specs.Pieces.{Cutting}
+use Rattle.epx_words.specs.declared.asked.Task.{Task}
+use Rattle.epx_words.specs.declared.asked.Task.TheVariants as task
+use Rattle.epx_words.specs.declared.asked.Words.{Words}
+use Rattle.epx_words.specs.declared.asked.Words.TheVariants as words
+use Rattle.epx_words.specs.Given.{Given, IsCutOf, IsWorkersOf, logs_in, name_in, rows_in}
+
+-- the subcommand of a task
+abbrev pub task_name : Task → Text
+task_name task.Run = codes "run"
+task_name task.Order = codes "order"
+
+-- the words ask for work, and this holds of the task, the plan and the paths
+abbrev pub IfWork : (Task → Cutting → Option (List Text) → Type 0) → Words → Type 0
+IfWork P (words.Work task plan paths) = P task plan (option_map (λ list. map string_bytes list.items) paths)
+IfWork P (words.Text text status) = ⊤
+
+-- the words ask for work
+abbrev pub AsksWork : Words → Type 0
+AsksWork (words.Work task plan paths) = ⊤
+AsksWork (words.Text text status) = ⊥
+
+-- the words come to a text, and this holds of the status
+abbrev pub IfText : (ℕ → Type 0) → Words → Type 0
+IfText P (words.Work task plan paths) = ⊤
+IfText P (words.Text text status) = P status
+
+-- the work that a subcommand asks for by its rows
+pub record Fits (given : Given) (asked : Task) (cutting : Cutting) (logs : Option (List Text)) : Type 0 where
+  pub task : name_in given ≡ Some (task_name asked)
+  pub workers : IsWorkersOf (rows_in given) cutting.workers
+  pub cut : IsCutOf (rows_in given) cutting.cut
+  pub paths : logs ≡ Some (logs_in (rows_in given))
+
+-- the words ask for that work
+abbrev pub IsWorkOf : Given → Words → Type 0
+IsWorkOf given (words.Work task plan paths) = Fits given task plan (option_map (λ list. map string_bytes list.items) paths)
+IsWorkOf given (words.Text text status) = ⊥
+
+-- the words come to a text with this status
+abbrev pub IsText : ℕ → Words → Type 0
+IsText n (words.Work task plan paths) = ⊥
+IsText n (words.Text text status) = status ≡ n

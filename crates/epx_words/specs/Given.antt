@@ -1,0 +1,48 @@
+-- What the rows of a subcommand give: two numbers and the logs.
+use Rattle.std.specs.Prelude.{◌≡◌, ◌⊎◌, ℕ, List, [], Option, Some, None, codes, option_map, unwrap_or}
+use Rattle.std.specs.Option.{option_map_or}
+use Rattle.std.specs.Str.Parse.{IsNumeral, digits_value, without_leading_plus}
+use Rattle.clap.specs.Words.{IsUnsignedIn, Row, Text, all_of, one_of}
+
+-- the subcommand that words name, with its rows
+abbrev pub Given : Type 0
+Given = Option (Text × List Row)
+
+abbrev pub name_in : Given → Option Text
+name_in = option_map (λ p. p.0)
+
+-- no rows where there is no subcommand
+abbrev pub rows_in : Given → List Row
+rows_in given = option_map_or (λ p. p.1) given []
+
+-- the text is decimal digits, after a plus or not, and n is what they mean
+abbrev pub IsNumberOf : Option Text → ℕ → Type 0
+IsNumberOf None n = ⊥
+IsNumberOf (Some text) n = IsNumeral 10 (without_leading_plus text) × (n ≡ digits_value 10 (without_leading_plus text))
+
+-- so many workers are given
+abbrev pub IsWorkersOf : List Row → ℕ → Type 0
+IsWorkersOf rows n = IsNumberOf (one_of (codes "workers") rows) n
+
+-- so many items to a piece of work are given
+abbrev pub IsCutOf : List Row → ℕ → Type 0
+IsCutOf rows n = IsNumberOf (one_of (codes "cut") rows) n
+
+-- the values of the logs, in their order
+abbrev pub logs_in : List Row → List Text
+logs_in rows = unwrap_or (all_of (codes "logs") rows) []
+
+-- the text is a number from 1 to `most`
+abbrev pub IsNumberUpTo : ℕ → Option Text → Type 0
+IsNumberUpTo most None = ⊥
+IsNumberUpTo most (Some text) = IsUnsignedIn 1 most text
+
+-- the name of a subcommand that asks for work
+abbrev pub IsTaskName : Text → Type 0
+IsTaskName name = (name ≡ codes "run") ⊎ (name ≡ codes "order")
+
+-- a subcommand that asks for work, with numbers in their ranges
+abbrev pub GivesWork : Given → Type 0
+GivesWork None = ⊥
+GivesWork (Some p) =
+    IsTaskName p.0 × IsNumberUpTo 64 (one_of (codes "workers") p.1) × IsNumberUpTo 65536 (one_of (codes "cut") p.1)

@@ -1,0 +1,4 @@
+pub mod App
+pub mod Given
+pub mod Asked
+pub mod Endings

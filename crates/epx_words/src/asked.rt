@@ -1,0 +1,29 @@
+//! What words ask.
+
+use epx_types::Plan;
+
+/// What is wanted of the logs.
+#[derive(Clone, Copy, Debug, PartialEq, Eq)]
+pub enum Task {
+    /// The report.
+    Run,
+    /// The execution order.
+    Order,
+}
+
+/// What words come to.
+#[derive(Debug, Drop)]
+pub enum Words {
+    /// Work over the logs at these paths. Without paths the one log is standard input.
+    Work {
+        task: Task,
+        plan: Plan,
+        paths: Option<Vec<String>>,
+    },
+    /// A text to print: what was asked for, or why the words are refused. The status is that with
+    /// which the program then ends.
+    Text {
+        text: String,
+        status: u8,
+    },
+}

@@ -1,0 +1,112 @@
+//! The program as clap knows it.
+ghost use Rattle.std.specs.Prelude.{◌≡◌, IfOk, codes};
+ghost use Rattle.clap.specs.Words.{app_of, rule_of};
+ghost use Rattle.epx_words.specs.App.{epx_app, number_rule, work_app};
+
+use clap::builder::ValueParser;
+use clap::{Arg, ArgAction, Command};
+use epx_types::plan::{MAX_CUT, MAX_WORKERS};
+use std::alloc::{AllocError, Global};
+
+const VERSION: &str = "0.1.0";
+
+const ABOUT: &str = "Executes the committed instances of EPaxos from their logs";
+
+const LONG_ABOUT: &str =
+    "Executes the committed instances of EPaxos from their logs, which one replica
+wrote or several. What comes out is lines of JSON: the report, or the execution
+order.
+
+Both subcommands take --workers N, 1 to 64 and 4 by default, and --cut M, 1 to
+65536 and 256 by default. With no words at all epx prints the report of one log,
+which it reads from standard input.";
+
+const RUN_ABOUT: &str = "Prints the report: replies, what must wait, the final store";
+
+const RUN_LONG_ABOUT: &str =
+    "Executes what the logs commit, and prints the report as lines of JSON: how many
+instances are executed and how many wait, the reply of each executed one in
+execution order, each instance that must wait with the missing one that it waits
+for, and the final store.";
+
+const ORDER_ABOUT: &str = "Prints the execution order";
+
+const ORDER_LONG_ABOUT: &str =
+    "Prints the execution order of what the logs commit, and executes nothing: lines
+of JSON, with how many instances are ready and how many wait, each ready one in
+execution order with its depth and leader, and each instance that must wait with
+the missing one that it waits for.";
+
+const EXAMPLE: &str = "Example:
+  epx run examples/replicas/*.jsonl";
+
+const LOGS_AND_EXAMPLE: &str = "A log has one committed instance a line, as a JSON object:
+
+  {\"r\":0,\"i\":0,\"seq\":1,\"deps\":[],\"ops\":[[\"put\",\"a\",5],[\"get\",\"a\"]]}
+
+This is the instance 0 of replica 0, with sequence number 1 and no dependencies,
+which writes 5 to the key a and reads it.
+
+Example:
+  epx run examples/replicas/*.jsonl";
+
+/// An option whose value is a number from 1 to `most`.
+fn number_option<'a>(
+    alloc: Global,
+    name: &'a str,
+    value: &'a str,
+    default: &'a str,
+    most: usize,
+) -> Arg<'a>
+    ensures { rule_of result ≡ number_rule name.entry.now default.entry.now most }
+{
+    Arg::new(alloc, name)
+        .long(name)
+        .value_name(value)
+        .action(ArgAction::Set)
+        .default_value(default)
+        .value_parser(ValueParser::unsigned(1, most as u64))
+}
+
+/// A subcommand that works over logs. Both have the same options and the same positional.
+fn subcommand<'a>(alloc: Global, name: &'a str) -> Result<Command<'a>, AllocError>
+    ensures { IfOk result (λ c. app_of c ≡ work_app name.entry.now) }
+{
+    let workers = number_option(alloc, "workers", "N", "4", MAX_WORKERS).help(
+        "Workers that share the work, 1 to 64",
+    );
+    let cut = number_option(alloc, "cut", "M", "256", MAX_CUT).help(
+        "Items in a piece of work, 1 to 65536",
+    );
+    let logs = Arg::new(alloc, "logs")
+        .value_name("LOG")
+        .action(ArgAction::Append)
+        .help("The logs to read, in any order");
+    Command::new(alloc, name)
+        .after_help(EXAMPLE)
+        .after_long_help(LOGS_AND_EXAMPLE)
+        .arg(workers)?
+        .arg(cut)?
+        .arg(logs)
+}
+
+/// The whole program.
+pub(crate) fn command<'a>(alloc: Global) -> Result<Command<'a>, AllocError>
+    ensures { IfOk result (λ c. app_of c ≡ epx_app) }
+{
+    let run = subcommand(alloc, "run")?
+        .about(RUN_ABOUT)
+        .long_about(RUN_LONG_ABOUT);
+    let order = subcommand(alloc, "order")?
+        .about(ORDER_ABOUT)
+        .long_about(ORDER_LONG_ABOUT);
+    Command::new(alloc, "epx")
+        .version(VERSION)
+        .about(ABOUT)
+        .long_about(LONG_ABOUT)
+        .after_help(EXAMPLE)
+        .after_long_help(LOGS_AND_EXAMPLE)
+        .subcommand_required(true)
+        .subcommand(run)?
+        .subcommand(order)
+}

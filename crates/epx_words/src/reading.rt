@@ -1,0 +1,131 @@
+//! Words read.
+ghost use Rattle.std.specs.Prelude.{◌≡◌, ◌≤◌, ◌≢◌, ◌↔◌, [], None, Some, IfOk, MatchResult, codes, length, map, false, string_bytes, true};
+ghost use Rattle.clap.specs.Words.{fault_of, found_of, kind_of, one_of, rows_of, subcommand_of, subcommand_rows_of, takes};
+ghost use Rattle.epx_words.specs.App.{epx_app};
+ghost use Rattle.epx_words.specs.Asked.{AsksWork, IfText, IfWork, IsText, IsWorkOf, task_name};
+ghost use Rattle.epx_words.specs.Endings.{EndsAs, ending};
+ghost use Rattle.epx_words.specs.Given.{IsCutOf, IsNumberUpTo, IsTaskName, IsWorkersOf, GivesWork, logs_in, name_in, rows_in};
+
+use crate::asked::{Task, Words};
+use crate::commands::command;
+use clap::error::ErrorKind;
+use clap::{ArgMatches, Error};
+use epx_types::{Memory, Plan};
+use std::alloc::{AllocError, Global};
+
+/// Texts that outlive the words.
+fn copies(alloc: Global, texts: &[&str]) -> Result<Vec<String>, AllocError>
+    ensures { IfOk result (λ copies. map string_bytes copies.items ≡ map (λ t. t.now) texts.now) }
+{
+    let mut copies = Vec::with_capacity(alloc, texts.len())?;
+    for text in texts {
+        copies.push(String::from_str(alloc, text)?)?;
+    }
+    Ok(copies)
+}
+
+/// The paths of the logs, in their order.
+fn paths_of(alloc: Global, matches: &ArgMatches<'_>) -> Result<Vec<String>, AllocError>
+    ensures { IfOk result (λ paths. map string_bytes paths.items ≡ logs_in (rows_of (found_of matches.now))) }
+{
+    match matches.get_strs("logs") {
+        Some(logs) => copies(alloc, logs),
+        None => Ok(Vec::new(alloc)),
+    }
+}
+
+/// The plan of the two numbers, which passed their ranges.
+fn plan_of(matches: &ArgMatches<'_>) -> Plan
+    requires workers { IsNumberUpTo 64 (one_of (codes "workers") (rows_of (found_of matches.now))) }
+    requires cut { IsNumberUpTo 65536 (one_of (codes "cut") (rows_of (found_of matches.now))) }
+    ensures workers { IsWorkersOf (rows_of (found_of matches.now)) result.workers }
+    ensures cut { IsCutOf (rows_of (found_of matches.now)) result.cut }
+{
+    let workers = matches.get_one::<usize>("workers").unwrap();
+    let cut = matches.get_one::<usize>("cut").unwrap();
+    Plan::new(workers, cut).unwrap()
+}
+
+/// The task of a subcommand.
+fn task_of(name: &str) -> Task
+    requires { IsTaskName name.now }
+    ensures { task_name result ≡ name.now }
+{
+    if name == "order" {
+        Task::Order
+    } else {
+        Task::Run
+    }
+}
+
+/// Work over the logs that the words name.
+fn work_of(alloc: Global, matches: &ArgMatches<'_>) -> Result<Words, AllocError>
+    requires { GivesWork (subcommand_rows_of matches.now) }
+    ensures { IfOk result (IsWorkOf (subcommand_rows_of matches.now)) }
+{
+    let Some((name, given)) = matches.subcommand() else {
+        unreachable!();
+    };
+    Ok(Words::Work {
+        task: task_of(name),
+        plan: plan_of(given),
+        paths: Some(paths_of(alloc, given)?),
+    })
+}
+
+/// With which status the program ends after a text of this kind.
+fn status_of(kind: ErrorKind) -> u8
+    ensures { result ≡ ending kind }
+{
+    match kind {
+        ErrorKind::DisplayHelp | ErrorKind::DisplayVersion => 0,
+        _ => 2,
+    }
+}
+
+/// The text for words that give no work.
+fn text_of(alloc: Global, error: &Error) -> Result<Words, Memory>
+    ensures kind { IfOk result (λ _. kind_of error.now ≢ ErrorKind.OutOfMemory) }
+    ensures status { IfOk result (IsText (ending (kind_of error.now))) }
+{
+    if error.kind() == ErrorKind::OutOfMemory {
+        return Err(Memory);
+    }
+    Ok(Words::Text {
+        text: format!(in alloc; "{error}")?,
+        status: status_of(error.kind()),
+    })
+}
+
+/// What the words come to. The first is the program's name. Words that ask for work are those in
+/// which clap finds no fault.
+pub fn read_words(alloc: Global, words: &[&str]) -> Result<Words, Memory>
+    ensures bare { length words.now ≤ 1
+        → IfOk result (λ asked. asked ≡ Words.Work Task.Run (record { workers = 4; cut = 256 }) None) }
+    ensures task { let given = subcommand_of epx_app (map (λ w. w.now) words.now) in
+        2 ≤ length words.now → IfOk result (IfWork (λ task plan paths. name_in given ≡ Some (task_name task))) }
+    ensures workers { let given = subcommand_of epx_app (map (λ w. w.now) words.now) in
+        2 ≤ length words.now → IfOk result (IfWork (λ task plan paths. IsWorkersOf (rows_in given) plan.workers)) }
+    ensures cut { let given = subcommand_of epx_app (map (λ w. w.now) words.now) in
+        2 ≤ length words.now → IfOk result (IfWork (λ task plan paths. IsCutOf (rows_in given) plan.cut)) }
+    ensures paths { let given = subcommand_of epx_app (map (λ w. w.now) words.now) in
+        2 ≤ length words.now → IfOk result (IfWork (λ task plan paths. paths ≡ Some (logs_in (rows_in given)))) }
+    ensures taken { 2 ≤ length words.now → IfOk result (λ asked.
+        AsksWork asked ↔ (fault_of epx_app (map (λ w. w.now) words.now) ≡ [])) }
+    ensures refused { 2 ≤ length words.now → IfOk result (IfText (λ status.
+        takes epx_app (map (λ w. w.now) words.now) ≡ false)) }
+    ensures status { 2 ≤ length words.now → IfOk result (IfText (λ status.
+        EndsAs (fault_of epx_app (map (λ w. w.now) words.now)) status)) }
+{
+    if words.len() <= 1 {
+        return Ok(Words::Work {
+            task: Task::Run,
+            plan: Plan::new(4, 256).unwrap(),
+            paths: None,
+        });
+    }
+    match command(alloc)?.try_get_matches_from(words) {
+        Ok(matches) => Ok(work_of(alloc, &matches)?),
+        Err(error) => text_of(alloc, &error),
+    }
+}
