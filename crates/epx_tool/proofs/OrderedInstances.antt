@@ -1,5 +1,5 @@
 -- An execution order has no more instances than its map.
-use Rattle.std.proofs.Common.{◌≡◌, ◌≢◌, ◌≤◌, true, List, map, length, Contains, AllPairs, refl, sym, ap, ◌∙◌, arith}
+use Rattle.std.proofs.Common.{◌≡◌, ◌≢◌, ◌≤◌, List, length, Contains, AllPairs, sym, ap, ◌∙◌, arith}
 use Rattle.std.specs.Bool.{Decides}
 use Rattle.std.specs.Ordering.{is_eq, eq_by_cmp}
 use Rattle.std.specs.Cmp.{Equal-is, tied_itself}
@@ -11,7 +11,6 @@ use Rattle.epx_types.specs.Ids.{id_cmp}
 use Rattle.epx_types.specs.Instances.{Instance}
 use Rattle.epx_types.specs.CommittedMap.{ids_of}
 use Rattle.epx_types.specs.ExecutionOrder.{Ranked, IsExecutionOrder, ranked_ids}
-use Rattle.epx_types.proofs.Membership.{Contains-from_map, Contains-map}
 use Rattle.epx_types.proofs.Comparisons.{id_cmp_total, id_cmp-IsAntisymmetric}
 use Rattle.epx_types.proofs.ExecutionOrders.{IsExecutionOrder-IsLawful}
 

@@ -1,4 +1,4 @@
-use Rattle.std.proofs.Common.{map, ap, ◌∙◌, sym, true, subst}
+use Rattle.std.proofs.Common.{map, ap, ◌∙◌, sym, subst}
 use Rattle.std.proofs.lemmas.List.{map-append}
 use Rattle.epx_tool.proofs.SourcesRead.{HaveBeenRead, read_well, read_one_more, reading_refusal, none_failed, one_failed}
 use Rattle.epx_tool.proofs.runs.read_sources.Goals as goal
