@@ -2,7 +2,5 @@
 #![tactic(auto)]
 
 pub mod run;
-#[cfg(test)]
-mod tests;
 
 pub use run::run_order;

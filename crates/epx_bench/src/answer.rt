@@ -1,6 +1,10 @@
 //! Whole answers, and the layers that make them, over logs of four shapes.
+ghost use Rattle.epx_graph.specs.GraphOf.{IsGraphOf};
+ghost use Rattle.std.specs.Prelude.{IfOk};
+
+use crate::clock::{now, passed};
 use epx_apply::run_order;
-use epx_graph::{build, waiting};
+use epx_graph::{Graph, build, waiting};
 use epx_merge::{Merged, read_logs};
 use epx_order::{components, order};
 use epx_tool::answer;
@@ -10,7 +14,6 @@ use std::alloc::{AllocGlobal, Global};
 use std::io::Print;
 use std::rt::Clock;
 use std::thread::Threads;
-use std::time::Instant;
 
 /// What each instance depends on.
 #[derive(Clone, Copy, Debug)]
@@ -26,13 +29,15 @@ enum Shape {
 
 /// The numbers of the dependencies: from the first to before the last.
 fn range(shape: Shape, number: u64, count: u64) -> (u64, u64) {
-    match shape {
-        Shape::Independent => (0, 0),
-        Shape::Chain => (number.saturating_sub(1), number),
-        Shape::Ring if number == 0 => (count.saturating_sub(1), count),
-        Shape::Ring => (number.saturating_sub(1), number),
-        Shape::Wide => (number.saturating_sub(256), number),
+    let reach = match shape {
+        Shape::Independent => 0,
+        Shape::Chain | Shape::Ring => 1,
+        Shape::Wide => 256,
+    };
+    if number == 0 && matches!(shape, Shape::Ring) {
+        return (count.saturating_sub(1), count);
     }
+    (number.saturating_sub(reach), number)
 }
 
 fn push_line(
@@ -73,14 +78,6 @@ fn logs(alloc: Global, shape: Shape, count: u64) -> Result<Vec<Vec<u8>>, Memory>
     Ok(logs)
 }
 
-/// The microseconds since the start.
-fn passed(rt: &impl Clock, start: &Instant) -> Result<u128, Memory> {
-    match start.elapsed(rt) {
-        Ok(time) => Ok(time.as_micros()),
-        Err(_) => Err(Memory),
-    }
-}
-
 /// The commands of all instances, by rising Id: the order plays no part in what applying them costs.
 fn commands<'a>(alloc: Global, merged: &'a Merged) -> Result<Vec<Command<'a>>, Memory> {
     let mut commands = Vec::with_capacity(alloc, merged.len())?;
@@ -94,6 +91,71 @@ fn commands<'a>(alloc: Global, merged: &'a Merged) -> Result<Vec<Command<'a>>, M
     Ok(commands)
 }
 
+/// The committed map of the logs, and the time of reading them.
+fn reading<R: Threads + Sync + Clock>(
+    rt: &R,
+    alloc: Global,
+    logs: &[Vec<u8>],
+    plan: Plan,
+) -> Result<(Merged, u128), Memory> {
+    let start = now(rt)?;
+    let Ok(merged) = read_logs(rt, alloc, logs, plan) else {
+        return Err(Memory);
+    };
+    Ok((merged, passed(rt, &start)?))
+}
+
+/// The graph of the map, and the time of building it.
+fn building(rt: &impl Clock, alloc: Global, merged: &Merged) -> Result<(Graph, u128), Memory>
+    ensures { IfOk result (λ built. IsGraphOf merged.now built.0) }
+{
+    let start = now(rt)?;
+    let graph = build(alloc, merged)?;
+    Ok((graph, passed(rt, &start)?))
+}
+
+/// The time of finding the components.
+fn finding(rt: &impl Clock, alloc: Global, graph: &Graph) -> Result<u128, Memory> {
+    let start = now(rt)?;
+    let _map = components(alloc, graph)?;
+    passed(rt, &start)
+}
+
+/// The time of sorting the order, with its components.
+fn ordering<R: Threads + Sync + Clock>(
+    rt: &R,
+    alloc: Global,
+    merged: &Merged,
+    graph: &Graph,
+) -> Result<u128, Memory>
+    requires { IsGraphOf merged.now graph.now }
+{
+    let start = now(rt)?;
+    let _order = order(rt, alloc, merged, graph)?;
+    passed(rt, &start)
+}
+
+/// The time of the waiting list.
+fn listing(rt: &impl Clock, alloc: Global, graph: &Graph) -> Result<u128, Memory> {
+    let start = now(rt)?;
+    let _waiters = waiting(alloc, graph)?;
+    passed(rt, &start)
+}
+
+/// The time of the whole answer.
+fn answering<R: Threads + Sync + Clock>(
+    rt: &R,
+    alloc: Global,
+    logs: &[Vec<u8>],
+    plan: Plan,
+) -> Result<u128, Memory> {
+    let start = now(rt)?;
+    let Ok(_text) = answer(rt, alloc, logs, plan) else {
+        return Err(Memory);
+    };
+    passed(rt, &start)
+}
+
 /// The time of applying the commands.
 fn applying<R: Threads + Sync + Clock>(
     rt: &R,
@@ -105,42 +167,36 @@ fn applying<R: Threads + Sync + Clock>(
     if commands.len() > 65_536 {
         return Err(Memory);
     }
-    let Ok(start) = Instant::now(rt) else {
-        return Err(Memory);
-    };
+    let start = now(rt)?;
     let mut store = Store::new(alloc);
     let _replies = run_order(rt, alloc, &mut store, &commands, plan)?;
     passed(rt, &start)
 }
 
-/// When each layer was done, from the start, in microseconds.
-fn marks<R: Threads + Sync + Clock>(
+/// The times of the layers over the map: building the graph, its components, the order and the waiting list.
+fn layers<R: Threads + Sync + Clock>(
+    rt: &R,
+    alloc: Global,
+    merged: &Merged,
+) -> Result<[u128; 4], Memory> {
+    let (graph, built) = building(rt, alloc, merged)?;
+    let found = finding(rt, alloc, &graph)?;
+    let ordered = ordering(rt, alloc, merged, &graph)?;
+    Ok([built, found, ordered, listing(rt, alloc, &graph)?])
+}
+
+/// What each layer takes, and the whole answer, in microseconds.
+fn times<R: Threads + Sync + Clock>(
     rt: &R,
     alloc: Global,
     logs: &[Vec<u8>],
     plan: Plan,
-) -> Result<[u128; 8], Memory> {
-    let Ok(start) = Instant::now(rt) else {
-        return Err(Memory);
-    };
-    let Ok(merged) = read_logs(rt, alloc, logs, plan) else {
-        return Err(Memory);
-    };
-    let read = passed(rt, &start)?;
-    let graph = build(alloc, &merged)?;
-    let built = passed(rt, &start)?;
-    let _map = components(alloc, &graph)?;
-    let found = passed(rt, &start)?;
-    let _order = order(rt, alloc, &merged, &graph)?;
-    let ordered = passed(rt, &start)?;
-    let _waiters = waiting(alloc, &graph)?;
-    let waited = passed(rt, &start)?;
-    let Ok(_text) = answer(rt, alloc, logs, plan) else {
-        return Err(Memory);
-    };
-    let answered = passed(rt, &start)?;
-    let applied = answered.saturating_add(applying(rt, alloc, &merged, plan)?);
-    Ok([0, read, built, found, ordered, waited, answered, applied])
+) -> Result<[u128; 7], Memory> {
+    let (merged, read) = reading(rt, alloc, logs, plan)?;
+    let [built, found, ordered, waited] = layers(rt, alloc, &merged)?;
+    let applied = applying(rt, alloc, &merged, plan)?;
+    let whole = answering(rt, alloc, logs, plan)?;
+    Ok([read, built, found, ordered, waited, whole, applied])
 }
 
 /// Prints the least times of the layers, in microseconds.
@@ -156,9 +212,9 @@ fn compare<R: Threads + Sync + Clock + Print>(
     let logs = logs(alloc, shape, count)?;
     let mut least = [u128::MAX; 7];
     for _ in 0..5 {
-        let marks = marks(rt, alloc, &logs, plan)?;
-        for step in 0..7 {
-            least[step] = least[step].min(marks[step + 1].saturating_sub(marks[step]));
+        let times = times(rt, alloc, &logs, plan)?;
+        for layer in 0..7 {
+            least[layer] = least[layer].min(times[layer]);
         }
     }
     let [read, built, found, ordered, waited, whole, applied] = least;

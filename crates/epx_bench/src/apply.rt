@@ -1,4 +1,5 @@
 //! Commands of two operations over 10,000 keys.
+use crate::clock::{now, passed};
 use epx_apply::run_order;
 use epx_txn::Store;
 use epx_types::{Command, Id, Key, Memory, Op, Plan};
@@ -6,7 +7,6 @@ use std::alloc::{AllocGlobal, Global};
 use std::io::Print;
 use std::rt::Clock;
 use std::thread::Threads;
-use std::time::Instant;
 
 const KEYS: u64 = 10_000;
 
@@ -60,13 +60,9 @@ fn time_once<R: Threads + Sync + Clock>(
         return Err(Memory);
     }
     let mut store = opening(alloc)?;
-    let start = Instant::now(rt).map_err(|_| Memory)?;
-    let replies = run_order(rt, alloc, &mut store, commands, plan)?;
-    let time = start.elapsed(rt).map_err(|_| Memory)?;
-    if replies.len() != commands.len() {
-        return Err(Memory);
-    }
-    Ok(time.as_micros())
+    let start = now(rt)?;
+    let _replies = run_order(rt, alloc, &mut store, commands, plan)?;
+    passed(rt, &start)
 }
 
 /// The least time of applying so many commands.

@@ -1,11 +1,11 @@
 //! Cutting, parsing and reading of 65,536 lines.
+use crate::clock::{now, passed};
 use epx_lines::{cut_lines, read_line};
 use epx_types::Memory;
 use serde_json::Value;
 use std::alloc::{AllocGlobal, Global};
 use std::io::Print;
 use std::rt::Clock;
-use std::time::Instant;
 
 const LINE: &str = r#"{"r":0,"i":0,"seq":1,"deps":[],"ops":[["put","a",5],["get","a"]]}"#;
 
@@ -20,40 +20,45 @@ fn log(alloc: Global) -> Result<Vec<u8>, Memory> {
     Ok(log)
 }
 
-fn parse_all(alloc: Global, lines: &[&[u8]]) -> bool {
-    let mut good = true;
-    for line in lines {
-        good &= Value::from_slice(alloc, line).is_ok();
-    }
-    good
+/// The time of cutting the log into lines.
+fn cutting(rt: &impl Clock, alloc: Global, log: &[u8]) -> Result<u128, Memory> {
+    let start = now(rt)?;
+    let _lines = cut_lines(alloc, log)?;
+    passed(rt, &start)
 }
 
-fn read_all(alloc: Global, lines: &[&[u8]]) -> bool {
-    let mut good = true;
+/// The time of parsing the lines as JSON alone.
+fn parsing(rt: &impl Clock, alloc: Global, lines: &[&[u8]]) -> Result<u128, Memory> {
+    let start = now(rt)?;
     for line in lines {
-        good &= read_line(alloc, line).is_ok();
+        if Value::from_slice(alloc, line).is_err() {
+            return Err(Memory);
+        }
     }
-    good
+    passed(rt, &start)
+}
+
+/// The time of reading the lines.
+fn reading(rt: &impl Clock, alloc: Global, lines: &[&[u8]]) -> Result<u128, Memory> {
+    let start = now(rt)?;
+    for line in lines {
+        if read_line(alloc, line).is_err() {
+            return Err(Memory);
+        }
+    }
+    passed(rt, &start)
 }
 
 /// Prints the least times of cutting the lines, of parsing them as JSON alone, and of reading them.
 pub fn measure<R: Clock + AllocGlobal + Print>(rt: &R) -> Result<(), Memory> {
     let alloc = rt.alloc();
     let log = log(alloc)?;
-    let (mut cutting, mut parsing, mut reading) = (u128::MAX, u128::MAX, u128::MAX);
+    let lines = cut_lines(alloc, &log)?;
+    let (mut cut, mut parsed, mut read) = (u128::MAX, u128::MAX, u128::MAX);
     for _ in 0..9 {
-        let start = Instant::now(rt).map_err(|_| Memory)?;
-        let lines = cut_lines(alloc, &log)?;
-        cutting = cutting.min(start.elapsed(rt).map_err(|_| Memory)?.as_micros());
-        let start = Instant::now(rt).map_err(|_| Memory)?;
-        let parsed = parse_all(alloc, &lines);
-        parsing = parsing.min(start.elapsed(rt).map_err(|_| Memory)?.as_micros());
-        let start = Instant::now(rt).map_err(|_| Memory)?;
-        let read = read_all(alloc, &lines);
-        reading = reading.min(start.elapsed(rt).map_err(|_| Memory)?.as_micros());
-        if !parsed || !read {
-            return Err(Memory);
-        }
+        cut = cut.min(cutting(rt, alloc, &log)?);
+        parsed = parsed.min(parsing(rt, alloc, &lines)?);
+        read = read.min(reading(rt, alloc, &lines)?);
     }
-    println!(rt; "cut {cutting} parse {parsing} read {reading}").map_err(|_| Memory)
+    println!(rt; "cut {cut} parse {parsed} read {read}").map_err(|_| Memory)
 }

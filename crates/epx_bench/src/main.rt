@@ -5,6 +5,7 @@
 
 mod answer;
 mod apply;
+mod clock;
 mod lines;
 mod merge;
 

@@ -1,4 +1,5 @@
 //! Reading of 65,536 instances, in one log and in each of sixteen.
+use crate::clock::{now, passed};
 use epx_lines::{cut_lines, read_line};
 use epx_merge::read_logs;
 use epx_types::{Memory, Plan};
@@ -6,17 +7,24 @@ use std::alloc::{AllocGlobal, Global};
 use std::io::Print;
 use std::rt::Clock;
 use std::thread::Threads;
-use std::time::Instant;
 
 const INSTANCES: u64 = 65_536;
+
+/// The line of an instance after its number.
+const REST: &str = r#","seq":1,"deps":[],"ops":[["put","a",5],["get","a"]]}"#;
+
+fn push_line(alloc: Global, log: &mut Vec<u8>, number: u64) -> Result<(), Memory> {
+    let head = format!(in alloc; "{{\"r\":0,\"i\":{number}")?;
+    log.extend_from_slice(head.as_bytes())?;
+    log.extend_from_slice(REST.as_bytes())?;
+    log.push(b'\n')?;
+    Ok(())
+}
 
 fn log(alloc: Global) -> Result<Vec<u8>, Memory> {
     let mut log = Vec::new(alloc);
     for number in 0..INSTANCES {
-        let line = format!(in alloc;
-            "{{\"r\":0,\"i\":{number},\"seq\":1,\"deps\":[],\"ops\":[[\"put\",\"a\",5],[\"get\",\"a\"]]}}\n"
-        )?;
-        log.extend_from_slice(line.as_bytes())?;
+        push_line(alloc, &mut log, number)?;
     }
     Ok(log)
 }
@@ -31,6 +39,38 @@ fn read_lines(alloc: Global, logs: &[Vec<u8>]) -> Result<bool, Memory> {
     Ok(good)
 }
 
+/// The time of cutting and reading the lines one by one.
+fn reading_lines(rt: &impl Clock, alloc: Global, logs: &[Vec<u8>]) -> Result<u128, Memory> {
+    let start = now(rt)?;
+    if !read_lines(alloc, logs)? {
+        return Err(Memory);
+    }
+    passed(rt, &start)
+}
+
+/// The time of reading the logs.
+fn reading_logs<R: Threads + Sync + Clock>(
+    rt: &R,
+    alloc: Global,
+    logs: &[Vec<u8>],
+    plan: Plan,
+) -> Result<u128, Memory> {
+    let start = now(rt)?;
+    let Ok(_merged) = read_logs(rt, alloc, logs, plan) else {
+        return Err(Memory);
+    };
+    passed(rt, &start)
+}
+
+/// So many equal logs.
+fn logs(alloc: Global, count: usize) -> Result<Vec<Vec<u8>>, Memory> {
+    let mut logs = Vec::new(alloc);
+    for _ in 0..count {
+        logs.push(log(alloc)?)?;
+    }
+    Ok(logs)
+}
+
 /// Prints the least times of reading the lines of so many equal logs, and of reading the logs.
 fn compare<R: Threads + Sync + Clock + Print>(
     rt: &R,
@@ -40,21 +80,11 @@ fn compare<R: Threads + Sync + Clock + Print>(
     let Some(plan) = Plan::new(4, 256) else {
         return Err(Memory);
     };
-    let mut logs = Vec::new(alloc);
-    for _ in 0..count {
-        logs.push(log(alloc)?)?;
-    }
+    let logs = logs(alloc, count)?;
     let (mut lines, mut whole) = (u128::MAX, u128::MAX);
     for _ in 0..9 {
-        let start = Instant::now(rt).map_err(|_| Memory)?;
-        let good = read_lines(alloc, &logs)?;
-        lines = lines.min(start.elapsed(rt).map_err(|_| Memory)?.as_micros());
-        let start = Instant::now(rt).map_err(|_| Memory)?;
-        let merged = read_logs(rt, alloc, &logs, plan).map_err(|_| Memory)?;
-        whole = whole.min(start.elapsed(rt).map_err(|_| Memory)?.as_micros());
-        if !good || merged.is_empty() {
-            return Err(Memory);
-        }
+        lines = lines.min(reading_lines(rt, alloc, &logs)?);
+        whole = whole.min(reading_logs(rt, alloc, &logs, plan)?);
     }
     println!(rt; "logs {count} lines {lines} read_logs {whole}").map_err(|_| Memory)
 }

@@ -11,8 +11,6 @@ mod memory_source;
 mod path_source;
 mod std_sink;
 mod std_source;
-#[cfg(test)]
-mod tests;
 mod transfer;
 
 pub use device::{DeviceFault, Sink, Source};

@@ -8,8 +8,6 @@ pub mod laws;
 mod missing;
 mod rows;
 mod search;
-#[cfg(test)]
-mod tests;
 mod turned;
 mod waiters;
 

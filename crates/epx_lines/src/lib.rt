@@ -7,8 +7,6 @@ mod deps;
 mod laws;
 mod ops;
 mod read;
-#[cfg(test)]
-mod tests;
 mod write;
 
 pub use cut::cut_lines;

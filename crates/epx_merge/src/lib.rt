@@ -8,8 +8,6 @@ mod merged;
 mod placed;
 mod reading;
 mod same;
-#[cfg(test)]
-mod tests;
 
 pub use limits::{MAX_INSTANCES, MAX_LOG_BYTES, MAX_LOGS};
 pub use merged::Merged;

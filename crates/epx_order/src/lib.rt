@@ -15,8 +15,6 @@ mod search;
 mod sorting;
 mod standings;
 mod starts;
-#[cfg(test)]
-mod tests;
 
 pub use component_map::{ComponentMap, components};
 pub use order_list::OrderList;

@@ -4,16 +4,15 @@ ghost use Rattle.std.specs.Prelude.{◌≡◌, false};
 use epx_tool::{Sink, write_out};
 use epx_types::Fault;
 use std::io::Eprint;
-use std::process::ExitCode;
 
 /// The fault's line on standard error, and its status.
-pub(crate) fn end(rt: &impl Eprint, done: Result<(), Fault>) -> ExitCode {
+pub(crate) fn end(rt: &impl Eprint, done: Result<(), Fault>) -> u8 {
     match done {
-        Ok(()) => ExitCode::SUCCESS,
+        Ok(()) => 0,
         Err(fault) => {
             // Where standard error takes nothing, the status still tells.
             let _told = eprintln!(rt; "{fault}");
-            ExitCode::from(fault.status())
+            fault.status()
         }
     }
 }
@@ -24,12 +23,12 @@ pub(crate) fn end_with_text<R: Eprint, W: Sink>(
     text: &str,
     status: u8,
     output: &mut W,
-) -> ExitCode
+) -> u8
     requires { W.has_failed output.old ≡ false }
 {
     if status == 0 {
         return end(rt, write_out(text.as_bytes(), output));
     }
     let _told = eprint!(rt; "{text}");
-    ExitCode::from(status)
+    status
 }

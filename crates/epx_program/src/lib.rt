@@ -5,4 +5,4 @@ mod ending;
 mod program;
 mod work;
 
-pub use program::start;
+pub use program::{act, start};

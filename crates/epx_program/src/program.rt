@@ -33,8 +33,8 @@ fn words<R: Env + AllocGlobal>(rt: &R, alloc: Global) -> Result<Words, Memory> {
     read_words(alloc, &words)
 }
 
-/// Does what the words say.
-fn act<R, I, W>(rt: &R, words: Words, input: I, output: &mut W) -> ExitCode
+/// Does what the words say, and answers the status that the program is to end with.
+pub fn act<R, I, W>(rt: &R, words: Words, input: I, output: &mut W) -> u8
 where
     R: AllocGlobal + Eprint + Files + Threads + Sync,
     I: Source + Drop,
@@ -59,8 +59,9 @@ where
     I: Read + Drop,
     O: Write + Drop,
 {
-    match words(rt, rt.alloc()) {
+    let status = match words(rt, rt.alloc()) {
         Ok(words) => act(rt, words, StdSource::new(input), &mut StdSink::new(output)),
         Err(Memory) => end(rt, Err(Fault::Memory)),
-    }
+    };
+    ExitCode::from(status)
 }

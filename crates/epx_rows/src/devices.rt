@@ -1,10 +1,11 @@
 //! Rows on sources and sinks, through whole runs.
 ghost use Rattle.std.specs.Prelude.{◌≡◌, false};
 
-use crate::given::{LEAST, LEAST_REPORT, plan};
-use epx_tool::{FuseSink, FuseSource, MemorySink, MemorySource, Sink, run};
+use crate::given::{LEAST, LEAST_REPORT, NOTHING, plan};
+use epx_tool::{Ask, FuseSink, FuseSource, MemorySink, MemorySource, Sink, StdSource, run, show};
 use epx_types::Fault;
 use std::alloc::{AllocError, Global};
+use std::io::{self, Read};
 use std::process::Abort;
 use std::test::Fail;
 use std::thread::Threads;
@@ -37,6 +38,18 @@ fn run_writes_what_it_answers(rt: HostRuntime) -> Result<(), Fail> {
     let done = run(&rt, rt.alloc(), &mut sources, plan(&rt), &mut sink);
     assert_eq!(rt; done, Ok(()));
     assert_eq!(rt; sink.bytes(), LEAST_REPORT.as_bytes());
+    Ok(())
+}
+
+#[test]
+fn show_writes_the_order(rt: HostRuntime) -> Result<(), Fail> {
+    let mut sources = [whole(LEAST.as_bytes())];
+    let mut sink = MemorySink::new(rt.alloc());
+    let plan = plan(&rt);
+    let done = show(&rt, rt.alloc(), Ask::Order, &mut sources, plan, &mut sink);
+    assert_eq!(rt; done, Ok(()));
+    let order = "[\"executed\",1,\"waiting\",0,\"components\",1]\n[\"order\",0,0,0,0,0]\n";
+    assert_eq!(rt; sink.bytes(), order.as_bytes());
     Ok(())
 }
 
@@ -82,6 +95,20 @@ fn failing_devices(rt: HostRuntime) -> Result<(), Fail> {
     let mut sink = MemorySink::new(rt.alloc());
     let refused = run(&rt, rt.alloc(), &mut sources, plan(&rt), &mut sink);
     assert_eq!(rt; refused, Err(Fault::Read { log: 0 }));
+    assert!(rt; sink.bytes().is_empty());
+    Ok(())
+}
+
+#[test]
+fn the_first_source_that_fails_is_named(rt: HostRuntime) -> Result<(), Fail> {
+    let mut sources = [
+        whole(LEAST.as_bytes()),
+        FuseSource::new(LEAST.as_bytes(), 7, Some(20)),
+        FuseSource::new(LEAST.as_bytes(), 7, Some(0)),
+    ];
+    let mut sink = MemorySink::new(rt.alloc());
+    let refused = run(&rt, rt.alloc(), &mut sources, plan(&rt), &mut sink);
+    assert_eq!(rt; refused, Err(Fault::Read { log: 1 }));
     assert!(rt; sink.bytes().is_empty());
     Ok(())
 }
@@ -162,4 +189,22 @@ fn one_byte_a_call(rt: HostRuntime) -> Result<(), Fail> {
     assert_eq!(rt; done, Ok(()));
     assert_eq!(rt; sink.bytes(), LEAST_REPORT.as_bytes());
     Ok(())
+}
+
+/// A run over one source of so many spaces.
+fn run_spaces<R: Abort + Threads + Sync>(rt: &R, alloc: Global, count: u64) -> Result<(), Fault> {
+    let mut sources = [StdSource::new(io::repeat(b' ').take(count))];
+    let mut sink = MemorySink::new(alloc);
+    let done = run(rt, alloc, &mut sources, plan(rt), &mut sink);
+    let wanted = if done.is_ok() { NOTHING } else { "" };
+    assert_eq!(rt; sink.bytes(), wanted.as_bytes());
+    done
+}
+
+#[test]
+fn a_log_has_at_most_67108864_bytes(rt: HostRuntime) {
+    let too_long = Err(Fault::LogTooLong { log: 0 });
+    assert_eq!(rt; run_spaces(&rt, rt.alloc(), 67_108_864), Ok(()));
+    assert_eq!(rt; run_spaces(&rt, rt.alloc(), 67_108_865), too_long);
+    assert_eq!(rt; run_spaces(&rt, rt.alloc(), u64::MAX), too_long);
 }

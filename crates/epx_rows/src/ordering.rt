@@ -61,6 +61,25 @@ fn reached_through_another_member(rt: HostRuntime) -> Result<(), Fail> {
 }
 
 #[test]
+fn an_order_ends_with_what_waits(rt: HostRuntime) -> Result<(), Fail> {
+    let log = log_of(
+        rt.alloc(),
+        &[
+            (0, 1, 2, "[[1,1]]", "[]"),
+            (1, 1, 1, "[[0,1]]", "[]"),
+            (2, 1, 1, "[[2,0]]", "[]"),
+        ],
+    )?;
+    let order = r#"["executed",2,"waiting",1,"components",1]
+["order",1,1,0,0,1]
+["order",0,1,0,0,1]
+["waiting",2,1,2,0]
+"#;
+    assert_eq!(rt; ordered(&rt, rt.alloc(), &[log])?.as_str(), order);
+    Ok(())
+}
+
+#[test]
 fn absence(rt: HostRuntime) -> Result<(), Fail> {
     let ops = r#"[["is","a",null],["copy","a","b"],["get","b"]]"#;
     let instances = [
@@ -187,4 +206,31 @@ fn a_long_ring(rt: HostRuntime) -> Result<(), Fail> {
         first,
         last,
     )
+}
+
+#[test]
+fn a_long_chain_that_waits(rt: HostRuntime) -> Result<(), Fail> {
+    let first = "[\"executed\",0,\"waiting\",65536,\"components\",0]";
+    let last = "[\"waiting\",0,65535,9,9]";
+    let log = chain(rt.alloc(), "[[9,9]]")?;
+    orders_from_to(&rt, rt.alloc(), log, first, last)
+}
+
+/// A log of instances, each of which depends on the one after it, but for the last.
+fn chain_to_the_end(alloc: Global) -> Result<Vec<u8>, AllocError> {
+    let mut log = Vec::new(alloc);
+    for number in 1..MANY {
+        let deps = format!(in alloc; "[[0,{number}]]")?;
+        add_line(alloc, &mut log, (0, number - 1, 1, deps.as_str(), "[]"))?;
+    }
+    add_line(alloc, &mut log, (0, 65_535, 1, "[]", "[]"))?;
+    Ok(log)
+}
+
+// From 0.0 the search goes down the whole chain before it finishes a node.
+#[test]
+fn a_long_chain_from_its_start(rt: HostRuntime) -> Result<(), Fail> {
+    let first = "[\"executed\",65536,\"waiting\",0,\"components\",65536]";
+    let last = "[\"order\",0,0,65535,0,0]";
+    orders_from_to(&rt, rt.alloc(), chain_to_the_end(rt.alloc())?, first, last)
 }

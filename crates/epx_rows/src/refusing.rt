@@ -85,3 +85,40 @@ fn too_many_instances(rt: HostRuntime) -> Result<(), Fail> {
     let fault = "epx: fault 5: more than 65536 instances";
     logs_give(&rt, rt.alloc(), &[many(rt.alloc(), 65_537)?], fault)
 }
+
+#[test]
+fn a_bad_line_comes_before_too_many_instances(rt: HostRuntime) -> Result<(), Fail> {
+    let mut log = many(rt.alloc(), 65_537)?;
+    log.extend_from_slice(b"{}")?;
+    let fault = "epx: fault 4: log 0 line 65538: Replica";
+    logs_give(&rt, rt.alloc(), &[log], fault)
+}
+
+#[test]
+fn a_long_log_is_refused_before_lines_are_read(rt: HostRuntime) -> Result<(), Fail> {
+    let bad = Vec::from_slice(rt.alloc(), b"{")?;
+    let long = vec![in rt.alloc(); b' '; 67_108_865]?;
+    let fault = "epx: fault 3: log 1 is longer than 67108864 bytes";
+    logs_give(&rt, rt.alloc(), &[bad, long], fault)
+}
+
+/// This many logs, each with this many lines of one instance.
+fn alike(alloc: Global, logs: usize, lines: usize) -> Result<Vec<Vec<u8>>, AllocError> {
+    let mut made = Vec::new(alloc);
+    for _ in 0..logs {
+        let mut log = Vec::new(alloc);
+        for _ in 0..lines {
+            add_line(alloc, &mut log, (1, 7, 1, "[]", "[]"))?;
+        }
+        made.push(log)?;
+    }
+    Ok(made)
+}
+
+#[test]
+fn one_instance_in_every_line_of_64_logs(rt: HostRuntime) -> Result<(), Fail> {
+    let report = r#"["executed",1,"waiting",0,"components",1]
+["reply",1,7,"ok",[]]
+"#;
+    logs_give(&rt, rt.alloc(), &alike(rt.alloc(), 64, 1000)?, report)
+}

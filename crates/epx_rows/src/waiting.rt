@@ -1,6 +1,6 @@
 //! Rows on instances that wait.
-use crate::given::{gives, log_of, logs_give};
-use std::alloc::Global;
+use crate::given::{add_line, answered, gives, log_of, logs_give};
+use std::alloc::{AllocError, Global};
 use std::process::Abort;
 use std::test::Fail;
 use std::thread::Threads;
@@ -63,4 +63,33 @@ fn too_many_dependencies(rt: HostRuntime) -> Result<(), Fail> {
     let fault = "epx: fault 4: log 0 line 1: Deps";
     dependencies_give(&rt, rt.alloc(), 256, waits)?;
     dependencies_give(&rt, rt.alloc(), 257, fault)
+}
+
+/// The dependencies of instance 0.`number` of 600: the 255 that follow it, around the end, and one that
+/// is missing: 5.5 for the last of them, and 9.9 for the others.
+fn fan(alloc: Global, number: u64) -> Result<String, AllocError> {
+    let mut deps = String::from_str(alloc, if number == 599 { "[[5,5]" } else { "[[9,9]" })?;
+    for other in 0..255u64 {
+        let target = (number % 600 + 1 + other) % 600;
+        deps.push_str(&format!(in alloc; ",[0,{target}]")?)?;
+    }
+    deps.push(']')?;
+    Ok(deps)
+}
+
+#[test]
+fn a_fan_waits_on_the_lesser_of_two(rt: HostRuntime) -> Result<(), Fail> {
+    let mut log = Vec::new(rt.alloc());
+    for number in 0..600u64 {
+        let deps = fan(rt.alloc(), number)?;
+        add_line(rt.alloc(), &mut log, (0, number, 1, deps.as_str(), "[]"))?;
+    }
+    let report = answered(&rt, rt.alloc(), &[log])?;
+    assert_eq!(rt; report.lines().count(), 601);
+    let waits = report
+        .lines()
+        .filter(|line| line.ends_with(",5,5]"))
+        .count();
+    assert_eq!(rt; waits, 600);
+    Ok(())
 }

@@ -7,8 +7,6 @@ mod ask;
 pub mod laws;
 mod report;
 mod runs;
-#[cfg(test)]
-mod tests;
 
 pub use answers::{answer, view};
 pub use ask::Ask;

@@ -5,4 +5,3 @@ pub mod Drafts
 pub mod EvaluationSteps
 pub mod Merging
 pub mod LentKeys
-pub mod TwoWrites

@@ -8,8 +8,6 @@ mod key_map;
 pub mod keys;
 pub mod merge;
 pub mod store;
-#[cfg(test)]
-mod tests;
 
 pub use effect::{Effect, Writes};
 pub use evaluation::eval;

@@ -13,8 +13,6 @@ pub mod op;
 pub mod place;
 pub mod plan;
 pub mod reply;
-#[cfg(test)]
-mod tests;
 
 pub use command::Command;
 pub use entry::Entry;

@@ -5,8 +5,6 @@
 mod asked;
 mod commands;
 mod reading;
-#[cfg(test)]
-mod tests;
 
 pub use asked::{Task, Words};
 pub use reading::read_words;

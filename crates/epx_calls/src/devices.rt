@@ -1,0 +1,198 @@
+//! Whole transfers over each kind of device, and devices that fail at each byte.
+ghost use Rattle.std.specs.Prelude.{◌≡◌, ◌≤◌, false};
+
+use epx_devices::{
+    DeviceFault, FuseSink, FuseSource, MemorySink, MemorySource, PathSource, Sink, Source, StdSink,
+    StdSource, read_log, write_out,
+};
+use epx_types::Fault;
+use std::alloc::Global;
+use std::io::{self, Error, ErrorKind, Read, Write};
+use std::process::Abort;
+use std::rt::Files;
+use std::test::Fail;
+
+const TEXT: &str = "{\"r\":0,\"i\":1,\"seq\":5}\n";
+
+/// The source, as log 5, gives this text whole.
+fn gives<S: Source>(rt: &impl Abort, alloc: Global, source: &mut S) -> Result<(), Fail>
+    requires { S.has_failed source.old ≡ false }
+{
+    let bytes = read_log(alloc, 5, source)?;
+    assert_eq!(rt; bytes.as_slice(), TEXT.as_bytes());
+    assert!(rt; !source.failed());
+    Ok(())
+}
+
+/// The source can not be read as log 5.
+fn fails<S: Source>(rt: &impl Abort, alloc: Global, source: &mut S)
+    requires { S.has_failed source.old ≡ false }
+{
+    assert_eq!(rt;
+        read_log(alloc, 5, source).err(),
+        Some(Fault::Read { log: 5 })
+    );
+    assert!(rt; source.failed());
+}
+
+#[test]
+fn what_is_written_is_read_again(rt: HostRuntime) -> Result<(), Fail> {
+    let mut sink = MemorySink::new(rt.alloc());
+    assert_eq!(rt; write_out(TEXT.as_bytes(), &mut sink), Ok(()));
+    assert!(rt; !sink.failed());
+    gives(&rt, rt.alloc(), &mut MemorySource::new(sink.bytes()))
+}
+
+#[test]
+fn one_byte_a_call_is_enough(rt: HostRuntime) -> Result<(), Fail> {
+    let mut sink = FuseSink::new(rt.alloc(), 1, None);
+    assert_eq!(rt; write_out(TEXT.as_bytes(), &mut sink), Ok(()));
+    gives(&rt, rt.alloc(), &mut FuseSource::new(sink.bytes(), 1, None))
+}
+
+/// A source that gives so many bytes a call fails after each number of bytes.
+fn fails_after_any_byte(rt: &impl Abort, alloc: Global, at_once: usize) -> Result<(), Fail>
+    requires { 1 ≤ at_once }
+{
+    let text = TEXT.as_bytes();
+    for fuse in 0..text.len() + 1 {
+        fails(rt, alloc, &mut FuseSource::new(text, at_once, Some(fuse)));
+    }
+    let enough = text.len() + 1;
+    gives(rt, alloc, &mut FuseSource::new(text, at_once, Some(enough)))
+}
+
+#[test]
+fn a_source_that_fails_after_any_byte_can_not_be_read(rt: HostRuntime) -> Result<(), Fail> {
+    fails_after_any_byte(&rt, rt.alloc(), 1)?;
+    fails_after_any_byte(&rt, rt.alloc(), 2)?;
+    fails_after_any_byte(&rt, rt.alloc(), 3)
+}
+
+/// A sink that takes so many bytes a call, and so many in all, ends so with these bytes.
+fn takes(
+    rt: &impl Abort,
+    alloc: Global,
+    at_once: usize,
+    fuse: usize,
+    wanted: Result<(), Fault>,
+    held: &[u8],
+)
+    requires { 1 ≤ at_once }
+{
+    let mut sink = FuseSink::new(alloc, at_once, Some(fuse));
+    let written = write_out(TEXT.as_bytes(), &mut sink);
+    assert_eq!(rt; written, wanted, "after {fuse} bytes");
+    assert_eq!(rt; sink.failed(), written.is_err());
+    assert_eq!(rt; sink.bytes(), held);
+}
+
+/// The same for each number of bytes in all.
+fn takes_up_to_any_byte(rt: &impl Abort, alloc: Global, at_once: usize)
+    requires { 1 ≤ at_once }
+{
+    let text = TEXT.as_bytes();
+    for fuse in 0..text.len() + 1 {
+        takes(rt, alloc, at_once, fuse, Err(Fault::Write), &text[..fuse]);
+    }
+    takes(rt, alloc, at_once, text.len() + 1, Ok(()), text);
+}
+
+#[test]
+fn a_sink_that_fails_after_any_byte_holds_a_prefix(rt: HostRuntime) {
+    takes_up_to_any_byte(&rt, rt.alloc(), 1);
+    takes_up_to_any_byte(&rt, rt.alloc(), 2);
+    takes_up_to_any_byte(&rt, rt.alloc(), 3);
+}
+
+#[test]
+fn each_read_on_a_blown_fuse_fails(rt: HostRuntime) {
+    let mut source = FuseSource::new(TEXT.as_bytes(), 1, Some(0));
+    for _ in 0..3 {
+        assert_eq!(rt; source.read_some(&mut [0; 8]), Err(DeviceFault));
+    }
+}
+
+#[test]
+fn each_write_on_a_blown_fuse_fails(rt: HostRuntime) {
+    let mut sink = FuseSink::new(rt.alloc(), 1, Some(0));
+    for _ in 0..3 {
+        assert_eq!(rt; sink.write_some(TEXT.as_bytes()), Err(DeviceFault));
+        assert_eq!(rt; sink.flush(), Err(DeviceFault));
+    }
+}
+
+#[test]
+fn one_source_fails_and_another_does_not(rt: HostRuntime) -> Result<(), Fail> {
+    let mut first = FuseSource::new(TEXT.as_bytes(), 4, Some(0));
+    let mut second = FuseSource::new(TEXT.as_bytes(), 4, None);
+    fails(&rt, rt.alloc(), &mut first);
+    gives(&rt, rt.alloc(), &mut second)
+}
+
+#[test]
+fn std_readers_and_writers_carry_the_same_bytes(rt: HostRuntime) -> Result<(), Fail> {
+    let mut written = Vec::new(rt.alloc());
+    let mut sink = StdSink::new(&mut written);
+    assert_eq!(rt; write_out(TEXT.as_bytes(), &mut sink), Ok(()));
+    assert_eq!(rt; written.as_slice(), TEXT.as_bytes());
+    gives(&rt, rt.alloc(), &mut StdSource::new(TEXT.as_bytes()))
+}
+
+/// Fails each read, and takes nothing of what is written.
+#[derive(Drop)]
+struct Broken;
+
+impl Read for Broken {
+    fn read(&mut self, _part: &mut [u8]) -> io::Result<usize> {
+        Err(Error::from(ErrorKind::Other))
+    }
+}
+
+impl Write for Broken {
+    fn write(&mut self, _part: &[u8]) -> io::Result<usize> {
+        Ok(0)
+    }
+
+    fn flush(&mut self) -> io::Result<()> {
+        Err(Error::from(ErrorKind::Other))
+    }
+}
+
+/// The bytes can not be written to a broken sink, which tells so.
+fn is_broken_for(rt: &impl Abort, bytes: &[u8]) {
+    let mut sink = StdSink::new(Broken);
+    assert_eq!(rt; write_out(bytes, &mut sink), Err(Fault::Write));
+    assert!(rt; sink.failed());
+}
+
+#[test]
+fn std_devices_tell_of_failures(rt: HostRuntime) {
+    fails(&rt, rt.alloc(), &mut StdSource::new(Broken));
+    is_broken_for(&rt, TEXT.as_bytes());
+    is_broken_for(&rt, &[]);
+}
+
+/// The file can not be read, and the source tells so.
+fn can_not_be_read(rt: &(impl Abort + Files), alloc: Global, path: &str) {
+    fails(rt, alloc, &mut PathSource::new(rt, path));
+}
+
+#[test]
+fn a_path_that_leads_nowhere_can_not_be_read(rt: HostRuntime) {
+    can_not_be_read(&rt, rt.alloc(), "no such folder/no such log.jsonl");
+    can_not_be_read(&rt, rt.alloc(), "");
+}
+
+#[test]
+fn a_folder_can_not_be_read(rt: HostRuntime) {
+    can_not_be_read(&rt, rt.alloc(), ".");
+}
+
+#[test]
+fn a_file_is_read_to_its_end(rt: HostRuntime) -> Result<(), Fail> {
+    let mut source = PathSource::new(&rt, "/dev/null");
+    let bytes = read_log(rt.alloc(), 0, &mut source)?;
+    assert!(rt; bytes.is_empty() && !source.failed());
+    Ok(())
+}

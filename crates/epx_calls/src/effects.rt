@@ -1,0 +1,243 @@
+//! The store, and what a command does to it.
+ghost use Rattle.std.specs.Prelude.{◌≡◌, [], ◌∷◌, IfOk};
+
+use crate::given::key;
+use epx_txn::{Effect, Store, Writes, eval, merge_effects, touched, written};
+use epx_types::{Key, Memory, Op, Reply, Values};
+use std::alloc::Global;
+use std::process::Abort;
+use std::test::Fail;
+use std::thread::Threads;
+
+/// The store holds these pairs and no other, in this order.
+pub(crate) fn is_stored(
+    rt: &impl Abort,
+    store: &Store,
+    wanted: &[(&str, i64)],
+) -> Result<(), Memory> {
+    let pairs = store.pairs()?;
+    assert_eq!(rt; store.len(), wanted.len() as u128);
+    assert_eq!(rt; pairs.len(), wanted.len());
+    for (pair, (text, value)) in pairs.iter().zip(wanted) {
+        assert_eq!(rt; pair.0.text(), *text);
+        assert_eq!(rt; pair.1, *value);
+    }
+    Ok(())
+}
+
+/// Puts a value, which is then there; on want of memory the store must be as it was.
+fn put(rt: &impl Abort, store: &mut Store, key: Key, value: i64) -> Result<(), Memory> {
+    let opening = store.copy()?;
+    let text = key.copy()?;
+    match store.put(key, value) {
+        Ok(()) => assert_eq!(rt; store.get(&text), Some(value)),
+        Err(Memory) => {
+            is_same(rt, store, &opening)?;
+            return Err(Memory);
+        }
+    }
+    Ok(())
+}
+
+fn is_same(rt: &impl Abort, store: &Store, other: &Store) -> Result<(), Memory> {
+    assert_eq!(rt; store.len(), other.len());
+    for (key, value) in other.pairs()? {
+        assert_eq!(rt; store.get(key), Some(value));
+    }
+    Ok(())
+}
+
+/// A store into which these pairs were put one after another.
+pub(crate) fn stored(
+    rt: &impl Abort,
+    alloc: Global,
+    pairs: &[(&str, i64)],
+) -> Result<Store, Memory> {
+    let mut store = Store::new(alloc);
+    for (text, value) in pairs {
+        put(rt, &mut store, key(rt, alloc, text)?, *value)?;
+    }
+    Ok(store)
+}
+
+/// The store that holds 5 under a.
+fn five(rt: &impl Abort, alloc: Global) -> Result<Store, Memory> {
+    stored(rt, alloc, &[("a", 5)])
+}
+
+#[test]
+fn store_holds_what_was_put(rt: HostRuntime) -> Result<(), Fail> {
+    let alloc = rt.alloc();
+    is_stored(&rt, &Store::new(alloc), &[])?;
+    let store = five(&rt, alloc)?;
+    assert_eq!(rt; store.get(&key(&rt, alloc, "b")?), None);
+    is_stored(&rt, &store, &[("a", 5)])?;
+    is_stored(&rt, &store.copy()?, &[("a", 5)])?;
+    Ok(())
+}
+
+#[test]
+fn pairs_stand_in_byte_order(rt: HostRuntime) -> Result<(), Fail> {
+    let put = [("b", 2), ("é", 4), ("a", 1), ("ba", 3), ("B", 0), ("b", 7)];
+    let wanted = [("B", 0), ("a", 1), ("b", 7), ("ba", 3), ("é", 4)];
+    is_stored(&rt, &stored(&rt, rt.alloc(), &put)?, &wanted)?;
+    Ok(())
+}
+
+/// What a command answers.
+#[derive(Clone, Copy, Debug)]
+pub(crate) enum Wanted<'a> {
+    Values(&'a [Option<i64>]),
+    Abort(u64),
+}
+
+pub(crate) fn is_reply(rt: &impl Abort, reply: &Reply, wanted: Wanted) {
+    match (reply, wanted) {
+        (Reply::Values(values), Wanted::Values(list)) => assert_eq!(rt; values.as_slice(), list),
+        (Reply::Abort(place), Wanted::Abort(at)) => assert_eq!(rt; *place, at),
+        _ => panic!(rt; "an abort for values, or values for an abort"),
+    }
+}
+
+fn are_writes(rt: &impl Abort, made: &[(Key, Option<i64>)], wanted: &[(&str, Option<i64>)]) {
+    assert_eq!(rt; made.len(), wanted.len());
+    for (write, (text, value)) in made.iter().zip(wanted) {
+        assert_eq!(rt; write.0.text(), *text);
+        assert_eq!(rt; write.1, *value);
+    }
+}
+
+/// Over the store that holds 5 under a the operations have this effect, and leave the store as it is.
+fn have_effect(
+    rt: &impl Abort,
+    alloc: Global,
+    ops: &[Op],
+    reply: Wanted,
+    writes: &[(&str, Option<i64>)],
+) -> Result<(), Memory> {
+    let store = five(rt, alloc)?;
+    let effect = eval(alloc, &store, ops)?;
+    is_reply(rt, &effect.reply, reply);
+    are_writes(rt, effect.writes.as_slice(), writes);
+    is_stored(rt, &store, &[("a", 5)])
+}
+
+/// The operation, and then reading a, have this effect.
+fn have_effect_on_a(
+    rt: &impl Abort,
+    alloc: Global,
+    op: Op,
+    value: Option<i64>,
+) -> Result<(), Memory> {
+    let get = Op::Get {
+        key: key(rt, alloc, "a")?,
+    };
+    let reply = Wanted::Values(&[value]);
+    have_effect(rt, alloc, &[op, get], reply, &[("a", value)])
+}
+
+#[test]
+fn command_reads_its_own_writes(rt: HostRuntime) -> Result<(), Fail> {
+    let key = key(&rt, rt.alloc(), "a")?;
+    let add = Op::Add { key, amount: 1 };
+    have_effect_on_a(&rt, rt.alloc(), add, Some(6))?;
+    Ok(())
+}
+
+#[test]
+fn command_reads_its_own_removals(rt: HostRuntime) -> Result<(), Fail> {
+    let key = key(&rt, rt.alloc(), "a")?;
+    have_effect_on_a(&rt, rt.alloc(), Op::Del { key }, None)?;
+    Ok(())
+}
+
+/// A put of b, and a test of a that fails.
+fn put_and_fail(rt: &impl Abort, alloc: Global) -> Result<[Op; 2], Memory> {
+    let put = Op::Put {
+        key: key(rt, alloc, "b")?,
+        value: 1,
+    };
+    let is = Op::Is {
+        key: key(rt, alloc, "a")?,
+        value: Some(4),
+    };
+    Ok([put, is])
+}
+
+#[test]
+fn abort_writes_nothing(rt: HostRuntime) -> Result<(), Fail> {
+    let ops = put_and_fail(&rt, rt.alloc())?;
+    have_effect(&rt, rt.alloc(), &ops, Wanted::Abort(1), &[])?;
+    Ok(())
+}
+
+/// The effect of a command with one write.
+fn one_write(alloc: Global, key: Key, value: Option<i64>) -> Result<Effect, Memory>
+    ensures { IfOk result (λ e. e.writes ≡ (key, value) ∷ []) }
+{
+    Ok(Effect {
+        reply: Reply::Values(Values::new(Vec::new(alloc))),
+        writes: Writes::new(vec![in alloc; (key, value)]?),
+    })
+}
+
+/// The store that holds 5 under a, after removing a key and putting 7 under another.
+fn moved<R: Threads + Sync + Abort>(
+    rt: &R,
+    alloc: Global,
+    removed: Key,
+    put: Key,
+) -> Result<Store, Memory> {
+    assert!(rt; removed != put);
+    let effects = [
+        one_write(alloc, removed, None)?,
+        one_write(alloc, put, Some(7))?,
+    ];
+    merge_effects(rt, alloc, five(rt, alloc)?, &effects)
+}
+
+#[test]
+fn all_writes_are_merged(rt: HostRuntime) -> Result<(), Fail> {
+    let alloc = rt.alloc();
+    let store = moved(&rt, alloc, key(&rt, alloc, "a")?, key(&rt, alloc, "b")?)?;
+    is_stored(&rt, &store, &[("b", 7)])?;
+    let store = merge_effects(&rt, alloc, store, &[])?;
+    is_stored(&rt, &store, &[("b", 7)])?;
+    Ok(())
+}
+
+/// These are the keys.
+fn are_keys(rt: &impl Abort, keys: &[&Key], wanted: &[&str]) {
+    assert_eq!(rt; keys.len(), wanted.len());
+    for (key, text) in keys.iter().zip(wanted) {
+        assert_eq!(rt; key.text(), *text);
+    }
+}
+
+/// The operations touch and write these keys.
+fn touch_and_write(
+    rt: &impl Abort,
+    alloc: Global,
+    ops: &[Op],
+    touch: &[&str],
+    write: &[&str],
+) -> Result<(), Memory> {
+    are_keys(rt, touched(alloc, ops)?.as_slice(), touch);
+    are_keys(rt, written(alloc, ops)?.as_slice(), write);
+    Ok(())
+}
+
+#[test]
+fn keys_rise_and_stand_once(rt: HostRuntime) -> Result<(), Fail> {
+    let alloc = rt.alloc();
+    let copy = Op::Copy {
+        source: key(&rt, alloc, "a")?,
+        target: key(&rt, alloc, "b")?,
+    };
+    let get = Op::Get {
+        key: key(&rt, alloc, "a")?,
+    };
+    touch_and_write(&rt, alloc, &[copy, get], &["a", "b"], &["b"])?;
+    touch_and_write(&rt, alloc, &[], &[], &[])?;
+    Ok(())
+}

@@ -1,0 +1,62 @@
+//! Keys, Ids and logs for the tests.
+use epx_merge::{Merged, read_logs};
+use epx_types::{Fault, Id, Key, Memory, Plan};
+use std::alloc::{AllocError, Global};
+use std::process::Abort;
+use std::test::Fail;
+use std::thread::Threads;
+
+/// The line of an instance without dependencies that puts a key and gets it.
+pub(crate) const PUT_AND_GET: &str =
+    r#"{"r":0,"i":0,"seq":1,"deps":[],"ops":[["put","a",5],["get","a"]]}"#;
+
+/// An Id in few letters.
+pub(crate) fn id(replica: u8, number: u64) -> Id {
+    Id { replica, number }
+}
+
+pub(crate) fn key(rt: &impl Abort, alloc: Global, text: &str) -> Result<Key, Memory> {
+    Ok(Key::new(alloc, text)?.expect(rt, "a key"))
+}
+
+/// The plan that the program takes by default.
+pub(crate) fn plan(rt: &impl Abort) -> Plan {
+    Plan::new(4, 256).expect(rt, "a plan")
+}
+
+/// Adds the line of an instance without operations, with these dependencies as JSON.
+pub(crate) fn push_line(
+    alloc: Global,
+    log: &mut Vec<u8>,
+    of: Id,
+    seq: u64,
+    deps: &str,
+) -> Result<(), AllocError> {
+    let Id { replica, number } = of;
+    let line = format!(in alloc;
+        "{{\"r\":{replica},\"i\":{number},\"seq\":{seq},\"deps\":[{deps}],\"ops\":[]}}\n"
+    )?;
+    log.extend_from_slice(line.as_bytes())
+}
+
+/// Logs of these texts.
+pub(crate) fn logs_of(alloc: Global, texts: &[&str]) -> Result<Vec<Vec<u8>>, AllocError> {
+    let mut logs = Vec::new(alloc);
+    for text in texts {
+        logs.push(Vec::from_slice(alloc, text.as_bytes())?)?;
+    }
+    Ok(logs)
+}
+
+/// What the logs commit; they must be accepted.
+pub(crate) fn merged_of<R: Abort + Threads + Sync>(
+    rt: &R,
+    alloc: Global,
+    logs: &[Vec<u8>],
+) -> Result<Merged, Fail> {
+    match read_logs(rt, alloc, logs, plan(rt)) {
+        Ok(merged) => Ok(merged),
+        Err(Fault::Memory) => Err(Fail::from("want of memory")),
+        Err(_) => Err(Fail::from("the logs are refused")),
+    }
+}

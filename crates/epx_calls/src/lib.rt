@@ -1,0 +1,26 @@
+//! Single calls of each crate, with values worked out by hand: whether the clauses say what is meant,
+//! texts that no clause says, and that each call that wants memory succeeds where there is some. Tests
+//! alone, so that no library is proved again for them. With an allocation refused a test may end with
+//! want of memory, and what was lent is then as it was; it must not end in another way.
+#![tactic(auto)]
+
+#[cfg(test)]
+mod applying;
+#[cfg(test)]
+mod devices;
+#[cfg(test)]
+mod effects;
+#[cfg(test)]
+mod given;
+#[cfg(test)]
+mod graphs;
+#[cfg(test)]
+mod lines;
+#[cfg(test)]
+mod merging;
+#[cfg(test)]
+mod orders;
+#[cfg(test)]
+mod vocabulary;
+#[cfg(test)]
+mod words;

@@ -1,0 +1,227 @@
+//! Small graphs with their components and orders worked out by hand.
+ghost use Rattle.epx_graph.specs.GraphOf.{IsGraphOf};
+ghost use Rattle.std.specs.Prelude.{IfOk};
+
+use crate::given::{id, merged_of, push_line};
+use epx_graph::{Graph, build};
+use epx_merge::Merged;
+use epx_order::{OrderList, components, order};
+use epx_types::{Id, Memory};
+use std::alloc::Global;
+use std::process::Abort;
+use std::test::Fail;
+use std::thread::Threads;
+
+/// The map of a log and its graph.
+fn read<R: Abort + Threads + Sync>(
+    rt: &R,
+    alloc: Global,
+    log: Vec<u8>,
+) -> Result<(Merged, Graph), Fail>
+    ensures { IfOk result (λ found. IsGraphOf found.0 found.1) }
+{
+    let mut logs = Vec::new(alloc);
+    logs.push(log)?;
+    let merged = merged_of(rt, alloc, &logs)?;
+    let graph = build(alloc, &merged)?;
+    Ok((merged, graph))
+}
+
+/// What an order says of the instance at a place.
+#[derive(Clone, Copy, Debug, PartialEq, Eq)]
+struct Row {
+    id: Id,
+    leader: Id,
+    depth: usize,
+}
+
+/// The row of an instance of replica 0.
+fn row_of(number: u64, leader: u64, depth: usize) -> Row {
+    Row {
+        id: id(0, number),
+        leader: id(0, leader),
+        depth,
+    }
+}
+
+/// What an order says, place by place.
+fn rows(alloc: Global, order: &OrderList) -> Result<Vec<Row>, Memory> {
+    let mut rows = Vec::new(alloc);
+    for (place, of) in order.ids().iter().enumerate() {
+        if place < order.len() {
+            rows.push(Row {
+                id: *of,
+                leader: order.component_of(place),
+                depth: order.depth_of(place),
+            })?;
+        }
+    }
+    Ok(rows)
+}
+
+/// The leader of each node.
+fn leaders(alloc: Global, graph: &Graph) -> Result<Vec<usize>, Memory> {
+    let map = components(alloc, graph)?;
+    let mut leaders = Vec::new(alloc);
+    for node in 0..map.len() {
+        leaders.push(map.leader_of(node))?;
+    }
+    Ok(leaders)
+}
+
+/// The log has nodes with these leaders, and so many components in an order of these rows.
+fn log_stands<R: Abort + Threads + Sync>(
+    rt: &R,
+    alloc: Global,
+    log: Vec<u8>,
+    lead: &[usize],
+    count: usize,
+    wanted: &[Row],
+) -> Result<(), Fail> {
+    let (merged, graph) = read(rt, alloc, log)?;
+    assert_eq!(rt; leaders(alloc, &graph)?.as_slice(), lead);
+    let order = order(rt, alloc, &merged, &graph)?;
+    assert_eq!(rt; order.len(), wanted.len());
+    assert_eq!(rt; order.is_empty(), wanted.is_empty());
+    assert_eq!(rt; order.component_count(), count);
+    assert_eq!(rt; rows(alloc, &order)?.as_slice(), wanted);
+    Ok(())
+}
+
+/// Dependencies on instances of replica 0, as JSON.
+fn deps_of(alloc: Global, numbers: &[u64]) -> Result<String, Memory> {
+    let mut deps = String::new(alloc);
+    for number in numbers {
+        if !deps.is_empty() {
+            deps.push_str(",")?;
+        }
+        deps.push_str(&format!(in alloc; "[0,{number}]")?)?;
+    }
+    Ok(deps)
+}
+
+/// The same of instances 0.0, 0.1 and so on, by the numbers of those that each depends on.
+fn stand<R: Abort + Threads + Sync>(
+    rt: &R,
+    alloc: Global,
+    edges: &[&[u64]],
+    lead: &[usize],
+    count: usize,
+    wanted: &[Row],
+) -> Result<(), Fail> {
+    let mut log = Vec::new(alloc);
+    let mut number = 0;
+    for targets in edges {
+        let deps = deps_of(alloc, targets)?;
+        push_line(alloc, &mut log, id(0, number), 1, deps.as_str())?;
+        number = u64::saturating_add(number, 1);
+    }
+    log_stands(rt, alloc, log, lead, count, wanted)
+}
+
+#[test]
+fn no_nodes(rt: HostRuntime) -> Result<(), Fail> {
+    stand(&rt, rt.alloc(), &[], &[], 0, &[])
+}
+
+#[test]
+fn nodes_without_edges(rt: HostRuntime) -> Result<(), Fail> {
+    let wanted = [row_of(0, 0, 0), row_of(1, 1, 0), row_of(2, 2, 0)];
+    stand(&rt, rt.alloc(), &[&[], &[], &[]], &[0, 1, 2], 3, &wanted)
+}
+
+#[test]
+fn one_way_edge_joins_nothing(rt: HostRuntime) -> Result<(), Fail> {
+    let wanted = [row_of(2, 2, 0), row_of(0, 0, 1), row_of(1, 0, 1)];
+    stand(
+        &rt,
+        rt.alloc(),
+        &[&[1], &[0, 2], &[]],
+        &[0, 0, 2],
+        2,
+        &wanted,
+    )
+}
+
+// 0, 1 and 2 are a ring with an edge to 3; 3 and 4 lead to each other; 5 leads nowhere.
+#[test]
+fn ring_over_a_pair(rt: HostRuntime) -> Result<(), Fail> {
+    let edges: [&[u64]; 6] = [&[1], &[2, 3], &[0], &[4], &[3], &[]];
+    let wanted = [
+        row_of(3, 3, 0),
+        row_of(4, 3, 0),
+        row_of(5, 5, 0),
+        row_of(0, 0, 1),
+        row_of(1, 0, 1),
+        row_of(2, 0, 1),
+    ];
+    stand(&rt, rt.alloc(), &edges, &[0, 0, 0, 3, 3, 5], 3, &wanted)
+}
+
+// 0, 1 and 2 are a ring with an edge to 3; 3 and 4 lead to each other, and 4 to the missing 6; 5 leads to 0 and 3.
+#[test]
+fn ring_of_seven_nodes_that_waits(rt: HostRuntime) -> Result<(), Fail> {
+    let edges: [&[u64]; 6] = [&[1], &[2, 3], &[0], &[4], &[3, 6], &[0, 3]];
+    stand(&rt, rt.alloc(), &edges, &[0, 0, 0, 3, 3, 5, 6], 0, &[])
+}
+
+// 3 waits for the missing 5, and 4 for 3; 0 and 1 lead to each other and 2 to both: they wait for none.
+#[test]
+fn only_some_wait(rt: HostRuntime) -> Result<(), Fail> {
+    let edges: [&[u64]; 5] = [&[1], &[0], &[1, 0], &[5, 0], &[3]];
+    let wanted = [row_of(0, 0, 0), row_of(1, 0, 0), row_of(2, 2, 1)];
+    stand(&rt, rt.alloc(), &edges, &[0, 0, 2, 3, 4, 5], 2, &wanted)
+}
+
+// Two rings that a long way back joins: 0 to 1 to 2 to 3 and back to 0, with 2 and 3 a ring of their own.
+#[test]
+fn way_back_joins_groups(rt: HostRuntime) -> Result<(), Fail> {
+    let edges: [&[u64]; 4] = [&[1], &[2], &[3], &[2, 0]];
+    let wanted = [
+        row_of(0, 0, 0),
+        row_of(1, 0, 0),
+        row_of(2, 0, 0),
+        row_of(3, 0, 0),
+    ];
+    stand(&rt, rt.alloc(), &edges, &[0, 0, 0, 0], 1, &wanted)
+}
+
+// The greater number is found first, and the least leads.
+#[test]
+fn least_node_leads(rt: HostRuntime) -> Result<(), Fail> {
+    let edges: [&[u64]; 4] = [&[3], &[2], &[3, 1], &[1]];
+    let wanted = [
+        row_of(1, 1, 0),
+        row_of(2, 1, 0),
+        row_of(3, 1, 0),
+        row_of(0, 0, 1),
+    ];
+    stand(&rt, rt.alloc(), &edges, &[0, 1, 1, 1], 2, &wanted)
+}
+
+#[test]
+fn reached_through_another_member(rt: HostRuntime) -> Result<(), Fail> {
+    let mut log = Vec::new(rt.alloc());
+    push_line(rt.alloc(), &mut log, id(0, 1), 1, "[1,1]")?;
+    push_line(rt.alloc(), &mut log, id(1, 1), 2, "[0,1],[2,1]")?;
+    push_line(rt.alloc(), &mut log, id(2, 1), 3, "")?;
+    let (first, second, third) = (id(0, 1), id(1, 1), id(2, 1));
+    let wanted = [
+        Row {
+            id: third,
+            leader: third,
+            depth: 0,
+        },
+        Row {
+            id: first,
+            leader: first,
+            depth: 1,
+        },
+        Row {
+            id: second,
+            leader: first,
+            depth: 1,
+        },
+    ];
+    log_stands(&rt, rt.alloc(), log, &[0, 0, 2], 2, &wanted)
+}

@@ -1,0 +1,262 @@
+//! Ids, keys, entries, plans and faults: orders, limits and printed texts.
+use crate::given::id;
+use epx_types::{Entry, Fault, Id, Key, Memory, Op, Place, Plan, Reply, Values, Why};
+use std::alloc::Global;
+use std::process::Abort;
+use std::test::Fail;
+
+/// The fault has this number, ends with this status and prints this text.
+fn tells(
+    rt: &impl Abort,
+    alloc: Global,
+    fault: Fault,
+    number: u8,
+    status: u8,
+    text: &str,
+) -> Result<(), Fail> {
+    assert_eq!(rt; fault.number(), number);
+    assert_eq!(rt; fault.status(), status);
+    assert_eq!(rt; fault.text(alloc)?.as_str(), text);
+    Ok(())
+}
+
+const FIRST: Place = Place { log: 0, line: 12 };
+
+const SECOND: Place = Place { log: 63, line: 1 };
+
+#[test]
+fn faults_of_memory_and_devices(rt: HostRuntime) -> Result<(), Fail> {
+    let alloc = rt.alloc();
+    let memory = Fault::from(Memory);
+    tells(&rt, alloc, memory, 1, 3, "epx: fault 1: out of memory")?;
+    let read = Fault::Read { log: 0 };
+    tells(
+        &rt,
+        alloc,
+        read,
+        7,
+        4,
+        "epx: fault 7: log 0 can not be read",
+    )?;
+    let text = "epx: fault 8: the answer can not be written";
+    tells(&rt, alloc, Fault::Write, 8, 4, text)
+}
+
+#[test]
+fn faults_of_too_much(rt: HostRuntime) -> Result<(), Fail> {
+    let alloc = rt.alloc();
+    let text = "epx: fault 2: more than 64 logs";
+    tells(&rt, alloc, Fault::TooManyLogs, 2, 1, text)?;
+    let text = "epx: fault 3: log 7 is longer than 67108864 bytes";
+    tells(&rt, alloc, Fault::LogTooLong { log: 7 }, 3, 1, text)?;
+    let text = "epx: fault 5: more than 65536 instances";
+    tells(&rt, alloc, Fault::TooManyInstances, 5, 1, text)
+}
+
+#[test]
+fn fault_of_a_bad_line(rt: HostRuntime) -> Result<(), Fail> {
+    let fault = Fault::BadLine {
+        place: FIRST,
+        why: Why::NotJson,
+    };
+    let text = "epx: fault 4: log 0 line 12: NotJson";
+    tells(&rt, rt.alloc(), fault, 4, 1, text)
+}
+
+#[test]
+fn fault_of_a_disagreement(rt: HostRuntime) -> Result<(), Fail> {
+    let fault = Fault::Disagree {
+        id: id(3, u64::MAX),
+        first: FIRST,
+        second: SECOND,
+    };
+    let text =
+        "epx: fault 6: instance 3.18446744073709551615 differs between log 0 line 12 and log 63 line 1";
+    tells(&rt, rt.alloc(), fault, 6, 1, text)
+}
+
+/// The fault of a line prints this name.
+fn prints(rt: &impl Abort, alloc: Global, why: Why, name: &str) -> Result<(), Fail> {
+    assert_eq!(rt; why.to_string(alloc)?.as_str(), name);
+    Ok(())
+}
+
+#[test]
+fn each_line_fault_prints_its_name(rt: HostRuntime) -> Result<(), Fail> {
+    let alloc = rt.alloc();
+    prints(&rt, alloc, Why::TooLong, "TooLong")?;
+    prints(&rt, alloc, Why::NotJson, "NotJson")?;
+    prints(&rt, alloc, Why::NotObject, "NotObject")?;
+    prints(&rt, alloc, Why::Replica, "Replica")?;
+    prints(&rt, alloc, Why::Number, "Number")?;
+    prints(&rt, alloc, Why::Seq, "Seq")?;
+    prints(&rt, alloc, Why::Status, "Status")?;
+    prints(&rt, alloc, Why::Deps, "Deps")?;
+    prints(&rt, alloc, Why::Ops, "Ops")
+}
+
+/// Whether the text is a key, and then has it as its text and as that of its copy.
+fn is_key(rt: &impl Abort, alloc: Global, text: &str, wanted: bool) -> Result<(), Fail> {
+    let made = Key::new(alloc, text)?;
+    assert_eq!(rt; made.is_some(), wanted, "{text}");
+    if let Some(key) = made {
+        assert_eq!(rt; key.text(), text);
+        assert_eq!(rt; key.copy()?, key);
+    }
+    Ok(())
+}
+
+#[test]
+fn a_key_has_1_to_64_bytes(rt: HostRuntime) -> Result<(), Fail> {
+    let sixty_four = "abcdefghabcdefghabcdefghabcdefghabcdefghabcdefghabcdefghabcdefgh";
+    let sixty_five = "abcdefghabcdefghabcdefghabcdefghabcdefghabcdefghabcdefghabcdefghi";
+    is_key(&rt, rt.alloc(), "a", true)?;
+    is_key(&rt, rt.alloc(), "", false)?;
+    is_key(&rt, rt.alloc(), sixty_four, true)?;
+    is_key(&rt, rt.alloc(), sixty_five, false)
+}
+
+/// The first text is the lesser key.
+fn is_below(rt: &impl Abort, alloc: Global, low: &str, high: &str) -> Result<(), Fail> {
+    let below = Key::new(alloc, low)?.ok_or("a key")?;
+    let above = Key::new(alloc, high)?.ok_or("a key")?;
+    assert!(rt; below < above && below != above, "{low} and {high}");
+    Ok(())
+}
+
+#[test]
+fn keys_are_ordered_by_bytes(rt: HostRuntime) -> Result<(), Fail> {
+    is_below(&rt, rt.alloc(), "B", "a")?;
+    is_below(&rt, rt.alloc(), "a", "aa")?;
+    is_below(&rt, rt.alloc(), "aa", "b")?;
+    is_below(&rt, rt.alloc(), "z", "é")
+}
+
+#[test]
+fn ids_are_ordered_by_replica_then_number(rt: HostRuntime) {
+    assert!(rt; id(0, 9) < id(1, 0) && id(1, 0) < id(1, 1));
+    assert!(rt; id(1, 1) == id(1, 1));
+}
+
+#[test]
+fn places_are_ordered_by_log_then_line(rt: HostRuntime) {
+    assert!(rt; FIRST < SECOND && SECOND < Place { log: 63, line: 2 });
+}
+
+fn is_plan(rt: &impl Abort, workers: usize, cut: usize, wanted: bool) {
+    assert_eq!(rt;
+        Plan::new(workers, cut).is_some(),
+        wanted,
+        "{workers}, {cut}"
+    );
+}
+
+#[test]
+fn a_plan_keeps_its_limits(rt: HostRuntime) {
+    is_plan(&rt, 1, 1, true);
+    is_plan(&rt, 64, 65_536, true);
+    is_plan(&rt, 0, 1, false);
+    is_plan(&rt, 65, 1, false);
+    is_plan(&rt, 1, 0, false);
+    is_plan(&rt, 1, 65_537, false);
+}
+
+/// The plan cuts so many items into so many pieces, of which the last is this.
+fn cuts(rt: &impl Abort, plan: Plan, items: usize, pieces: usize, last: (usize, usize)) {
+    let made = plan.pieces(items);
+    assert_eq!(rt; made, pieces);
+    if 0 < made {
+        assert_eq!(rt; plan.range(made - 1, items), last);
+    }
+}
+
+#[test]
+fn a_plan_cuts_items_into_pieces(rt: HostRuntime) -> Result<(), Fail> {
+    let plan = Plan::new(2, 3).ok_or("a plan")?;
+    assert!(rt; plan.workers() == 2 && plan.cut() == 3);
+    cuts(&rt, plan, 0, 0, (0, 0));
+    cuts(&rt, plan, 2, 1, (0, 2));
+    cuts(&rt, plan, 6, 2, (3, 6));
+    cuts(&rt, plan, 7, 3, (6, 7));
+    Ok(())
+}
+
+/// Whether instance 1.2 may depend on these two.
+fn may_depend(rt: &impl Abort, alloc: Global, deps: [Id; 2], wanted: bool) -> Result<(), Fail> {
+    let deps = Vec::from_slice(alloc, &deps)?;
+    let entry = Entry::new(id(1, 2), 5, deps, Vec::new(alloc));
+    assert_eq!(rt; entry.is_some(), wanted);
+    Ok(())
+}
+
+#[test]
+fn an_entry_needs_rising_dependencies_without_itself(rt: HostRuntime) -> Result<(), Fail> {
+    may_depend(&rt, rt.alloc(), [id(0, 9), id(1, 3)], true)?;
+    may_depend(&rt, rt.alloc(), [id(1, 3), id(0, 9)], false)?;
+    may_depend(&rt, rt.alloc(), [id(0, 9), id(0, 9)], false)?;
+    may_depend(&rt, rt.alloc(), [id(0, 9), id(1, 2)], false)
+}
+
+/// Whether an entry may have so many dependencies.
+fn may_have_deps(rt: &impl Abort, alloc: Global, count: u64, wanted: bool) -> Result<(), Fail> {
+    let mut deps = Vec::new(alloc);
+    for number in 0..count {
+        deps.push(id(0, number))?;
+    }
+    let entry = Entry::new(id(1, 0), 5, deps, Vec::new(alloc));
+    assert_eq!(rt; entry.is_some(), wanted, "{count}");
+    Ok(())
+}
+
+/// Whether an entry may have so many operations.
+fn may_have_ops(rt: &impl Abort, alloc: Global, count: usize, wanted: bool) -> Result<(), Fail> {
+    let mut ops = Vec::new(alloc);
+    for _ in 0..count {
+        let key = Key::new(alloc, "a")?.ok_or("a key")?;
+        ops.push(Op::Get { key })?;
+    }
+    let entry = Entry::new(id(1, 0), 5, Vec::new(alloc), ops);
+    assert_eq!(rt; entry.is_some(), wanted, "{count}");
+    Ok(())
+}
+
+#[test]
+fn an_entry_has_at_most_256_dependencies_and_64_operations(rt: HostRuntime) -> Result<(), Fail> {
+    may_have_deps(&rt, rt.alloc(), 256, true)?;
+    may_have_deps(&rt, rt.alloc(), 257, false)?;
+    may_have_ops(&rt, rt.alloc(), 64, true)?;
+    may_have_ops(&rt, rt.alloc(), 65, false)
+}
+
+/// An entry has the parts that it was made of.
+fn keeps_its_parts(rt: &impl Abort, alloc: Global, ops: Vec<Op>) -> Result<(), Fail> {
+    let count = ops.len();
+    let deps = vec![in alloc; id(0, 1)]?;
+    let entry = Entry::new(id(2, 7), 3, deps, ops).ok_or("an entry")?;
+    assert!(rt; entry.id() == id(2, 7) && entry.seq() == 3);
+    assert_eq!(rt; entry.deps(), [id(0, 1)].as_slice());
+    assert_eq!(rt; entry.ops().len(), count);
+    Ok(())
+}
+
+#[test]
+fn an_entry_holds_what_it_was_made_of(rt: HostRuntime) -> Result<(), Fail> {
+    let key = Key::new(rt.alloc(), "k")?.ok_or("a key")?;
+    keeps_its_parts(&rt, rt.alloc(), vec![in rt.alloc(); Op::Del { key }]?)
+}
+
+/// The reply of these values.
+fn replied(alloc: Global, values: &[Option<i64>]) -> Result<Reply, Memory> {
+    let values = Values::new(Vec::from_slice(alloc, values)?);
+    Ok(Reply::Values(values))
+}
+
+#[test]
+fn replies_are_compared_by_their_values(rt: HostRuntime) -> Result<(), Fail> {
+    let read = replied(rt.alloc(), &[Some(5), None])?;
+    assert!(rt; read == replied(rt.alloc(), &[Some(5), None])?);
+    assert!(rt; read != replied(rt.alloc(), &[None, Some(5)])?);
+    assert!(rt; read != Reply::Abort(0));
+    assert!(rt; Reply::Abort(1) != Reply::Abort(2));
+    Ok(())
+}
