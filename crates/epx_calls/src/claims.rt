@@ -1,0 +1,236 @@
+//! Draws whose order is known, and maps whose workers wait for one another.
+ghost use Rattle.std.specs.Prelude.{◌≡◌, ◌<◌, ◌≤◌, ◌*◌, ℕ, Some, length, slice_get, IfOk};
+
+use epx_claims::{Claims, FreeGate, Gate, claimed_map};
+use epx_types::{Memory, Plan};
+use std::alloc::Global;
+use std::process::Abort;
+use std::sync::atomic::{AtomicBool, AtomicU64, Ordering};
+use std::test::Fail;
+use std::thread::Threads;
+
+const MOST_LOADS: u32 = 100_000_000;
+
+/// One number waits in the gate until all were entered. It gives up after so many loads.
+#[derive(Drop)]
+struct WaitingGate {
+    waiter: usize,
+    all: u64,
+    entered: AtomicU64,
+    gave_up: AtomicBool,
+}
+
+impl WaitingGate {
+    fn new(waiter: usize, all: u64) -> WaitingGate {
+        WaitingGate {
+            waiter,
+            all,
+            entered: AtomicU64::new(0),
+            gave_up: AtomicBool::new(false),
+        }
+    }
+}
+
+impl Gate for WaitingGate {
+    fn enter(&self, piece: usize) {
+        let mark = [1, 10, 100, 1000].get(piece).copied().unwrap_or(0);
+        self.entered.fetch_add(mark, Ordering::SeqCst);
+        if piece != self.waiter {
+            return;
+        }
+        for _ in 0..MOST_LOADS {
+            if self.entered.load(Ordering::SeqCst) == self.all {
+                return;
+            }
+        }
+        self.gave_up.store(true, Ordering::SeqCst);
+    }
+}
+
+/// An error of the caller's own.
+#[derive(Debug, PartialEq, Drop)]
+enum Trouble {
+    NoMemory,
+    At(usize),
+}
+
+impl From<Memory> for Trouble {
+    fn from(_memory: Memory) -> Trouble {
+        Trouble::NoMemory
+    }
+}
+
+fn ten_times(i: usize) -> Result<usize, Memory>
+    requires { i < 100 }
+    ensures { IfOk result (λ x. x ≡ 10 * i) }
+{
+    Ok(10 * i)
+}
+
+/// A caller whose contract names each answer.
+fn tens<R: Threads + Sync, G: Gate + Sync>(
+    rt: &R,
+    alloc: Global,
+    n: usize,
+    plan: Plan,
+    gate: &G,
+) -> Result<Vec<usize>, Memory>
+    requires { n ≤ 100 }
+    ensures { IfOk result (λ v. (i : ℕ) → i < n → slice_get v.items i ≡ Some (10 * i)) }
+{
+    claimed_map(rt, alloc, n, plan, gate, |i| ten_times(i))
+}
+
+/// Maps the numbers to their tens, while one of them waits until each was entered once.
+fn maps_while_one_waits<R: Threads + Sync + Abort>(
+    rt: &R,
+    alloc: Global,
+    workers: usize,
+    wanted: &[usize],
+    waiter: usize,
+    all: u64,
+) -> Result<(), Fail>
+    requires { length wanted.now ≤ 100 }
+{
+    let plan = Plan::new(workers, 1).ok_or("a plan")?;
+    let gate = WaitingGate::new(waiter, all);
+    let answers = tens(rt, alloc, wanted.len(), plan, &gate)?;
+    assert!(rt; answers.as_slice() == wanted);
+    assert!(rt; gate.entered.load(Ordering::SeqCst) == all);
+    assert!(rt; !gate.gave_up.load(Ordering::SeqCst));
+    Ok(())
+}
+
+/// Maps the numbers below n to the numbers after them, or to an error at one of them.
+fn maps_to_the_next<R: Threads + Sync + Abort>(
+    rt: &R,
+    alloc: Global,
+    workers: usize,
+    n: usize,
+    bad: usize,
+    wanted: Result<&[usize], Trouble>,
+) -> Result<(), Fail>
+    requires { n ≤ 100 }
+{
+    let plan = Plan::new(workers, 1).ok_or("a plan")?;
+    let answer = claimed_map(
+        rt,
+        alloc,
+        n,
+        plan,
+        &FreeGate,
+        |i| -> Result<usize, Trouble>
+            requires { i < 100 }
+        {
+            if i == bad {
+                Err(Trouble::At(i))
+            } else {
+                Ok(i + 1)
+            }
+        },
+    );
+    match (&answer, &wanted) {
+        (Ok(values), Ok(wanted)) => assert!(rt; values.as_slice() == *wanted),
+        (Err(trouble), Err(wanted)) => assert!(rt; trouble == wanted),
+        _ => panic!(rt; "another kind of answer"),
+    }
+    Ok(())
+}
+
+#[test]
+fn two_seats_draw_three_pieces(rt: HostRuntime) -> Result<(), Fail> {
+    let (claims, mut a) = Claims::new(rt.alloc(), 3, 2)?;
+    let mut b = claims.split(&mut a);
+    assert!(rt; a.share() == 1 && b.share() == 1);
+    assert!(rt; claims.claim(&mut a) == Some(0));
+    assert!(rt; claims.claim(&mut b) == Some(1));
+    assert!(rt; claims.claim(&mut b) == Some(2));
+    assert!(rt; claims.claim(&mut a).is_none());
+    assert!(rt; claims.claim(&mut b).is_none());
+    assert!(rt; claims.claim(&mut a).is_none());
+    claims.join(&mut a, b);
+    assert!(rt; a.share() == 2 && a.ended());
+    let drawn = claims.close(a);
+    assert!(rt; drawn == 3);
+    Ok(())
+}
+
+#[test]
+fn no_piece_ends_the_first_draw(rt: HostRuntime) -> Result<(), Fail> {
+    let (claims, mut seat) = Claims::new(rt.alloc(), 0, 1)?;
+    assert!(rt; claims.claim(&mut seat).is_none());
+    let drawn = claims.close(seat);
+    assert!(rt; drawn == 0);
+    Ok(())
+}
+
+#[test]
+fn a_deal_may_close_early(rt: HostRuntime) -> Result<(), Fail> {
+    let (claims, mut seat) = Claims::new(rt.alloc(), 5, 1)?;
+    assert!(rt; claims.claim(&mut seat) == Some(0));
+    assert!(rt; claims.claim(&mut seat) == Some(1));
+    assert!(rt; !seat.ended());
+    let drawn = claims.close(seat);
+    assert!(rt; drawn == 2);
+    Ok(())
+}
+
+#[test]
+fn nothing_at_all(rt: HostRuntime) -> Result<(), Fail> {
+    maps_to_the_next(&rt, rt.alloc(), 2, 0, 9, Ok(&[]))
+}
+
+#[test]
+fn one_worker_over_five_numbers(rt: HostRuntime) -> Result<(), Fail> {
+    maps_to_the_next(&rt, rt.alloc(), 1, 5, 9, Ok(&[1, 2, 3, 4, 5]))
+}
+
+#[test]
+fn two_workers_over_five_numbers(rt: HostRuntime) -> Result<(), Fail> {
+    maps_to_the_next(&rt, rt.alloc(), 2, 5, 9, Ok(&[1, 2, 3, 4, 5]))
+}
+
+#[test]
+fn sixty_four_workers_over_five_numbers(rt: HostRuntime) -> Result<(), Fail> {
+    maps_to_the_next(&rt, rt.alloc(), 64, 5, 9, Ok(&[1, 2, 3, 4, 5]))
+}
+
+#[test]
+fn the_callers_error_from_one_worker(rt: HostRuntime) -> Result<(), Fail> {
+    maps_to_the_next(&rt, rt.alloc(), 1, 5, 3, Err(Trouble::At(3)))
+}
+
+#[test]
+fn the_callers_error_from_many_workers(rt: HostRuntime) -> Result<(), Fail> {
+    maps_to_the_next(&rt, rt.alloc(), 64, 5, 3, Err(Trouble::At(3)))
+}
+
+#[test]
+fn one_worker_passes_the_gate_for_each_number(rt: HostRuntime) -> Result<(), Fail> {
+    maps_while_one_waits(&rt, rt.alloc(), 1, &[0, 10, 20, 30], 3, 1111)
+}
+
+#[test]
+fn threads_really_run(rt: HostRuntime) -> Result<(), Fail> {
+    maps_while_one_waits(&rt, rt.alloc(), 2, &[0, 10], 0, 11)
+}
+
+#[test]
+fn others_are_drawn_while_the_first_waits(rt: HostRuntime) -> Result<(), Fail> {
+    maps_while_one_waits(&rt, rt.alloc(), 2, &[0, 10, 20, 30], 0, 1111)
+}
+
+#[test]
+fn others_are_drawn_while_the_second_waits(rt: HostRuntime) -> Result<(), Fail> {
+    maps_while_one_waits(&rt, rt.alloc(), 2, &[0, 10, 20, 30], 1, 1111)
+}
+
+#[test]
+fn others_are_drawn_while_the_third_waits(rt: HostRuntime) -> Result<(), Fail> {
+    maps_while_one_waits(&rt, rt.alloc(), 2, &[0, 10, 20, 30], 2, 1111)
+}
+
+#[test]
+fn others_are_drawn_while_the_last_waits(rt: HostRuntime) -> Result<(), Fail> {
+    maps_while_one_waits(&rt, rt.alloc(), 2, &[0, 10, 20, 30], 3, 1111)
+}

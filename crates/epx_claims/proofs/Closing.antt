@@ -1,0 +1,63 @@
+-- The seat that has every share has drawn all that was dealt.
+use Rattle.std.proofs.Common.{◌≡◌, ℕ, eqb, min, true, List, [], ◌∷◌, ◌++◌, length, get_or, sym, refl, ap, ◌∙◌, subst, arith}
+use mathlib.Core.Option.{some, some-injective, some-ne-none}
+use lib.ListN.{get_elem?}
+use Rattle.atomic_table.specs.Table.{State, Final, Seen}
+use Rattle.epx_claims.specs.declared.hand.Hand.{Hand}
+use Rattle.epx_claims.specs.declared.hand.Terms.{Terms}
+use Rattle.epx_claims.specs.declared.hand.View.{View}
+use Rattle.epx_claims.specs.Count.{total, one_if, times, once_below}
+use Rattle.epx_claims.specs.Deal.{Deal}
+use Rattle.epx_claims.specs.Rule.{IsDealt}
+use Rattle.epx_claims.proofs.Moving.{drawn_in_all, picked}
+use Rattle.epx_claims.proofs.Numbers.{positive_from_count}
+use Rattle.epx_claims.proofs.Sums.{others, picked_sum}
+
+-- hands without a share are none
+no_hands : (hs : List Hand) → total (λ h. h.share) hs ≡ 0 → total (λ h. one_if (eqb h.share 0)) hs ≡ 0 → hs ≡ []
+no_hands [] none full = refl
+no_hands (h ∷ hs) none full = let p = positive_from_count h.share (omega arith) in absurd (omega arith)
+
+-- what the close of a deal answers: how many pieces stand in the list, each once; where the seat has ended, all
+pub record IsAllDrawn (pieces workers answer : ℕ) (h : Hand) : Type 0 where
+  pub length : answer ≡ length h.drawn
+  pub each_once : (x : ℕ) → times x h.drawn ≡ once_below x answer
+  pub all : h.ended ≡ true → answer ≡ pieces
+  pub deal : (word : ℕ) × (answer ≡ min word pieces) × Deal pieces workers word (h ∷ [])
+
+-- an index of a list of one
+at_zero : (xs : List ℕ) (x : ℕ) → get_elem? xs 0 ≡ some x → get_or xs 0 0 ≡ x
+at_zero [] x e = absurd (some-ne-none x (sym e))
+at_zero (y ∷ ys) x e = some-injective y x e
+
+closed_with : (terms : Terms) (id word : ℕ) (v : View) (h : Hand) (ws : List ℕ) (xs : List (Unit {0})) → v.hands ≡ h ∷ [] → h.share ≡ terms.workers → get_elem? ws 0 ≡ some word
+    → Final (Seen (IsDealt terms) id v) ws xs → IsAllDrawn terms.pieces terms.workers (min word terms.pieces) h
+closed_with terms id word v h ws xs is every found final =
+    let s : State (Unit {0}) View = final.0 in
+    let r : IsDealt terms s = final.1.0 in
+    let c : get_or s.words 0 0 ≡ word = ap (λ (z : List ℕ). get_or z 0 0) final.2 ∙ at_zero ws word found in
+    let hs : List Hand = others s.views id in
+    let beside : Deal terms.pieces terms.workers word (h ∷ hs) = subst (λ (p : ℕ × List Hand). Deal terms.pieces terms.workers p.0 (p.1 ++ hs)) (λ i. (c i, is i)) (picked terms (get_or s.words 0 0) s.views id v final.1.1 r.deal) in
+    let shares = beside.all_shares in
+    let full = beside.no_empty_share in
+    let alone : hs ≡ [] = no_hands hs (omega arith) (omega arith) in
+    let d : Deal terms.pieces terms.workers word (h ∷ []) = subst (λ (z : List Hand). Deal terms.pieces terms.workers word (h ∷ z)) alone beside in
+    record {
+      length =
+          let a = picked_sum (λ k. length k.drawn) s.views id v final.1.1 in
+          let b : drawn_in_all v.hands ≡ drawn_in_all (h ∷ []) = ap drawn_in_all is in
+          let e : drawn_in_all hs ≡ 0 = ap drawn_in_all alone in
+          let l = r.lengths in
+          omega arith;
+      each_once = λ x. let e = d.each_once x in omega arith;
+      all = λ ended. let one : one_if h.ended ≡ 1 = ap one_if ended in let g = d.all_dealt (omega arith) in omega arith;
+      deal = (word, refl, d);
+    }
+
+-- the same, at a number of pieces and an answer that are known
+pub closes : (terms : Terms) (id word pieces answer : ℕ) (v : View) (h : Hand) (ws : List ℕ) (xs : List (Unit {0})) → v.hands ≡ h ∷ [] → h.share ≡ terms.workers → get_elem? ws 0 ≡ some word
+    → terms.pieces ≡ pieces → answer ≡ min word pieces → Final (Seen (IsDealt terms) id v) ws xs → IsAllDrawn pieces terms.workers answer h
+closes terms id word pieces answer v h ws xs is every found same answer_is final =
+    let all = closed_with terms id word v h ws xs is every found final in
+    let same_answer : min word terms.pieces ≡ answer = ap (min word) same ∙ sym answer_is in
+    subst (λ (p : ℕ × ℕ). IsAllDrawn p.0 terms.workers p.1 h) (λ i. (same i, same_answer i)) all

@@ -1,0 +1,107 @@
+-- Deals, as lists of hands: what each step does to them, and what they tell of one hand.
+use Rattle.std.proofs.Common.{◌≡◌, ℕ, ◌+◌, ◌-◌, ◌/◌, ◌<◌, ◌≤◌, eqb, Bool, true, false, cond, ◌||◌, List, [], ◌∷◌, get_or, sym, ap, ◌∙◌, arith}
+use Rattle.std.specs.List.{All}
+use Rattle.epx_claims.specs.declared.hand.Hand.{Hand}
+use Rattle.epx_claims.specs.Count.{total, one_if, times, once_below}
+use Rattle.epx_claims.specs.Deal.{Deal}
+use Rattle.epx_claims.specs.Rule.{with_piece, at_end, halved, merged}
+use Rattle.epx_claims.proofs.Sums.{total-le}
+use Rattle.epx_claims.proofs.Numbers.{once_more, once_full, total-append, times_at, below_from_once, below_min, positive_from_count, count_of_positive}
+
+-- one of two has ended
+either_ended : (a b : Bool) → one_if (a || b) ≤ one_if a + one_if b
+either_ended true b = omega arith
+either_ended false b = omega arith
+
+-- the stops of two
+both_stops : (a b : Bool) (x y : ℕ) → cond a x 0 + cond b y 0 ≤ cond (a || b) (x + y) 0
+both_stops true true x y = omega arith
+both_stops true false x y = omega arith
+both_stops false true x y = omega arith
+both_stops false false x y = omega arith
+
+stops_fit : (h : Hand) → cond h.ended h.share 0 ≤ h.share
+stops_fit h = elim h.ended as (λ b. cond b h.share 0 ≤ h.share) [ true ↦ omega arith | false ↦ omega arith ]
+
+module _ (n w c : ℕ) where
+  -- a deal is told by sums, so another list with the same sums shows it too
+  pub same_sums : (xs ys : List Hand) → ((f : Hand → ℕ) → total f xs ≡ total f ys) → Deal n w c xs → Deal n w c ys
+  same_sums xs ys same d = record {
+    each_once = λ x. sym (same (λ h. times x h.drawn)) ∙ d.each_once x;
+    no_empty_share = sym (same (λ h. one_if (eqb h.share 0))) ∙ d.no_empty_share;
+    all_shares = sym (same (λ h. h.share)) ∙ d.all_shares;
+    all_dealt = λ some_ended. let e = same (λ h. one_if h.ended) in d.all_dealt (omega arith);
+    few_stops = let e = same (λ h. cond h.ended h.share 0) in let g = d.few_stops in omega arith;
+  }
+
+  -- the next piece is dealt
+  pub deals_piece : (h : Hand) (hs : List Hand) → c < n → Deal n w c (h ∷ hs) → Deal n w (c + 1) (with_piece c h ∷ hs)
+  deals_piece h hs left d = record {
+    each_once = λ x. let p = total-append (λ y. one_if (eqb y x)) h.drawn (c ∷ []) in let g = d.each_once x in let m = once_more x c n left in omega arith;
+    no_empty_share = d.no_empty_share;
+    all_shares = d.all_shares;
+    all_dealt = λ some_ended. let g = d.all_dealt some_ended in omega arith;
+    few_stops = omega arith;
+  }
+
+  -- a hand ends
+  pub deals_stop : (h : Hand) (hs : List Hand) → h.ended ≡ false → n ≤ c → Deal n w c (h ∷ hs) → Deal n w (c + 1) (at_end h ∷ hs)
+  deals_stop h hs not_ended full d = record {
+    each_once = λ x. let g = d.each_once x in let m = once_full x c n full in omega arith;
+    no_empty_share = d.no_empty_share;
+    all_shares = d.all_shares;
+    all_dealt = λ some_ended. omega arith;
+    few_stops =
+        let g = d.few_stops in
+        let none_yet : cond h.ended h.share 0 ≡ 0 = ap (λ b. cond b h.share 0) not_ended in
+        let y = d.no_empty_share in
+        let p = positive_from_count h.share (omega arith) in
+        omega arith;
+  }
+
+  -- a hand is cut in two
+  pub deals_half : (h : Hand) (hs : List Hand) → h.ended ≡ false → 2 ≤ h.share → Deal n w c (h ∷ hs) → Deal n w c (halved (h ∷ hs))
+  deals_half h hs not_ended enough d = record {
+    each_once = λ x. let g = d.each_once x in omega arith;
+    no_empty_share =
+        let g = d.no_empty_share in
+        let a = count_of_positive (h.share - h.share / 2) (omega arith) in
+        let b = count_of_positive (h.share / 2) (omega arith) in
+        omega arith;
+    all_shares = let g = d.all_shares in omega arith;
+    all_dealt = λ some_ended. d.all_dealt (omega arith);
+    few_stops =
+        let g = d.few_stops in
+        let none_yet : cond h.ended h.share 0 ≡ 0 = ap (λ b. cond b h.share 0) not_ended in
+        omega arith;
+  }
+
+  -- two hands become one
+  pub deals_both : (h k : Hand) (hs : List Hand) → Deal n w c (h ∷ k ∷ hs) → Deal n w c (merged (h ∷ k ∷ hs))
+  deals_both h k hs d = record {
+    each_once = λ x. let g = d.each_once x in let p = total-append (λ y. one_if (eqb y x)) h.drawn k.drawn in omega arith;
+    no_empty_share =
+        let g = d.no_empty_share in
+        let positive = positive_from_count h.share (omega arith) in
+        let b = count_of_positive (h.share + k.share) (omega arith) in
+        omega arith;
+    all_shares = let g = d.all_shares in omega arith;
+    all_dealt = λ some_ended. let o = either_ended h.ended k.ended in d.all_dealt (omega arith);
+    few_stops = let g = d.few_stops in let b = both_stops h.ended k.ended h.share k.share in omega arith;
+  }
+
+  -- what a hand has drawn is below the word
+  pub drawn_below : (h : Hand) (hs : List Hand) → Deal n w c (h ∷ hs) → All (λ p. p < c) h.drawn
+  drawn_below h hs d k d0 inside =
+      let x : ℕ = get_or h.drawn k d0 in
+      let t = times_at h.drawn k d0 inside in
+      let o = d.each_once x in
+      below_from_once x c n (omega arith)
+
+  -- no number stands in the lists of two hands, or twice in one
+  pub apart : (h k : Hand) (hs : List Hand) → Deal n w c (h ∷ k ∷ hs) → (x : ℕ) → times x h.drawn + times x k.drawn ≤ once_below x n
+  apart h k hs d x = let e = d.each_once x in let b = below_min x c n in omega arith
+
+  -- the word stays small
+  pub word_fits : (hs : List Hand) → Deal n w c hs → c ≤ n + w
+  word_fits hs d = let t = total-le (λ k. cond k.ended k.share 0) (λ k. k.share) stops_fit hs in let a = d.all_shares in let b = d.few_stops in omega arith

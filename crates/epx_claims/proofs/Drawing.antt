@@ -1,0 +1,50 @@
+-- A draw keeps the deal.
+use Rattle.std.proofs.Common.{◌≡◌, ℕ, ◌+◌, ◌%◌, ◌^◌, ◌<◌, ◌≤◌, min, false, List, [], ◌∷◌, ◌++◌, length-append, get_or, sym, refl, ap, subst, ⊎_elim, arith}
+use Rattle.std.proofs.lemmas.Bool.{cases_lt}
+use mathlib.Core.Option.{none}
+use Rattle.atomic_table.specs.Table.{step, keeps, Allows}
+use Rattle.epx_claims.specs.declared.hand.Hand.{Hand}
+use Rattle.epx_claims.specs.declared.hand.Terms.{Terms}
+use Rattle.epx_claims.specs.declared.hand.View.{View}
+use Rattle.epx_claims.specs.Deal.{Deal}
+use Rattle.epx_claims.specs.Rule.{Sat, view, with_piece, at_end, IsDealt, IsDraw, Draws}
+use Rattle.epx_claims.proofs.Deals.{deals_piece, deals_stop, word_fits}
+use Rattle.epx_claims.proofs.Moving.{drawn_in_all, known, picked, changed}
+use Rattle.epx_claims.proofs.Sums.{others}
+
+-- a hand that has not ended may draw
+pub draws : (terms : Terms) (few_pieces : terms.pieces ≤ 2 ^ 40) (few_workers : terms.workers ≤ 64) (slots id : ℕ) (me : Sat) (h : Hand) → me.0.hands ≡ h ∷ [] → h.ended ≡ false
+    → Allows (IsDealt terms) slots id me 0 (λ k. (k + 1) % 2 ^ 64) (Draws (step slots 0 1 0 none) me)
+draws terms few_pieces few_workers slots id me h is not_ended s r wide at small =
+    let c : ℕ = get_or s.words 0 0 in
+    let n : ℕ = terms.pieces in
+    let v : View = me.0 in
+    let hs : List Hand = others s.views id in
+    let same : v.terms ≡ terms = known terms v h [] is (r.told id v at) in
+    let before : Deal n terms.workers c (h ∷ hs) = subst (λ (z : List Hand). Deal n terms.workers c (z ++ hs)) is (picked terms c s.views id v at r.deal) in
+    let fits = word_fits n terms.workers c (h ∷ hs) before in
+    let whole : (c + 1) % 2 ^ 64 ≡ c + 1 = omega arith in
+    let long : drawn_in_all v.hands ≡ drawn_in_all (h ∷ []) = ap drawn_in_all is in
+    let back : (λ (p : Terms × List Hand). p) (v.terms, v.hands) ≡ (terms, h ∷ []) = (λ i. (same i, is i)) in
+    ⊎_elim
+    (λ (left : c < n).
+    let w : View = view terms (with_piece c h ∷ []) in
+    let after = deals_piece n terms.workers c h hs left before in
+    let longer : drawn_in_all w.hands + min c n ≡ drawn_in_all v.hands + min (c + 1) n = (let a = length-append h.drawn (c ∷ []) in omega arith) in (
+      w,
+      keeps,
+      tt,
+      rw whole (changed terms s r id v w (c + 1) me.1 at refl after longer),
+      (refl, subst (λ (p : Terms × List Hand). IsDraw p.0 p.1 c w) (sym back) (record { others = hs; before = before; after = after }, (λ _. refl), (λ full. absurd (omega arith)))),
+    ))
+    (λ (full : n ≤ c).
+    let w : View = view terms (at_end h ∷ []) in
+    let after = deals_stop n terms.workers c h hs not_ended full before in
+    let longer : drawn_in_all w.hands + min c n ≡ drawn_in_all v.hands + min (c + 1) n = omega arith in (
+      w,
+      keeps,
+      tt,
+      rw whole (changed terms s r id v w (c + 1) me.1 at refl after longer),
+      (refl, subst (λ (p : Terms × List Hand). IsDraw p.0 p.1 c w) (sym back) (record { others = hs; before = before; after = after }, (λ left. absurd (omega arith)), (λ _. refl))),
+    ))
+    (cases_lt c n)

@@ -1,0 +1,11 @@
+pub mod Closing
+pub mod Deals
+pub mod Drawing
+pub mod Moving
+pub mod Numbers
+pub mod Parting
+pub mod Pieces
+pub mod Placing
+pub mod Seats
+pub mod Sums
+pub mod Working

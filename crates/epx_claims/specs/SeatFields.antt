@@ -1,0 +1,24 @@
+-- What contracts see of the fields of a seat, and what these keep.
+use Rattle.std.specs.Prelude.{◌≡◌, ℕ, List, [], ◌∷◌}
+use Rattle.epx_claims.specs.declared.hand.Hand.{Hand}
+use Rattle.epx_claims.specs.declared.seat.ClaimSeat.TheInside.{Inside}
+use Rattle.epx_claims.specs.Rule.{hand}
+use Rattle.epx_claims.specs.Seated.{SeatView}
+
+-- what the first hand has drawn
+abbrev pub drawn_of : List Hand → List ℕ
+drawn_of [] = []
+drawn_of (h ∷ hs) = h.drawn
+
+abbrev pub seat_view : Inside → SeatView
+seat_view s = record {
+  claims = record { table = s.seat.table_id; pieces = s.seat.me.0.terms.pieces; workers = s.seat.me.0.terms.workers };
+  drawn = drawn_of s.seat.me.0.hands;
+  share = s.share;
+  ended = s.ended;
+}
+
+-- the seat has one hand and holds no slot, and its share and mark are those of its hand
+pub record IsSeated (s : Inside) : Type 0 where
+  pub shown : s.seat.me.0.hands ≡ hand (drawn_of s.seat.me.0.hands) s.share s.ended ∷ []
+  pub no_slot : s.seat.me.1 ≡ []

@@ -1,0 +1,27 @@
+-- What contracts see of a table of claims and of a seat.
+use Rattle.std.specs.Prelude.{◌≡◌, ℕ, Bool, false, List, []}
+use Rattle.atomic_table.specs.Seated.{TableId}
+use Rattle.epx_claims.specs.declared.hand.Hand.{Hand}
+
+pub record ClaimsView : Type 0 where
+  pub table : TableId
+  pub pieces : ℕ
+  pub workers : ℕ
+
+pub record SeatView : Type 0 where
+  pub claims : ClaimsView
+  pub drawn : List ℕ
+  pub share : ℕ
+  pub ended : Bool
+
+-- the seat is one of these claims
+abbrev pub IsSeatOf : ClaimsView → SeatView → Type 0
+IsSeatOf claims seat = seat.claims ≡ claims
+
+-- a seat of these claims with this share, which has drawn nothing and has not ended
+abbrev pub fresh_seat : ClaimsView → ℕ → SeatView
+fresh_seat claims share = record { claims = claims; drawn = []; share = share; ended = false }
+
+-- a seat's part of the deal
+abbrev pub hand_of : SeatView → Hand
+hand_of seat = record { drawn = seat.drawn; share = seat.share; ended = seat.ended }

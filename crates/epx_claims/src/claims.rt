@@ -1,0 +1,142 @@
+//! Pieces that threads draw from one word, each once.
+ghost use Rattle.std.specs.Prelude.{◌≡◌, ◌<◌, ◌≤◌, ◌^◌, ◌+◌, ◌-◌, ◌/◌, ◌++◌, ◌||◌, [], ◌∷◌, ℕ, min, true, false, None, length, IfOk, IfSome, IfNone};
+ghost use Rattle.std.specs.List.{All};
+ghost use Rattle.epx_claims.specs.Count.{times, once_below};
+ghost use Rattle.epx_claims.specs.Event.{Event, IsDeal};
+ghost use Rattle.epx_claims.specs.Seated.{IsSeatOf, fresh_seat};
+
+use crate::hand::{Terms, View};
+use crate::rule::{Dealing, Drawing, Halving, Handing, Merging, Taking};
+use crate::seat::ClaimSeat;
+use atomic_table::Table;
+use epx_types::Memory;
+use std::alloc::Global;
+use std::marker::Model;
+
+/// The pieces of a piece of work, which threads draw, each piece once. Threads share it by reference, and each
+/// draws by a seat of its own. Whatever they do, between any two steps of theirs the word and all seats that are
+/// not spent show a deal. A call tells what its step did to the deal, and that all other seats stayed meanwhile;
+/// who they are, it does not tell.
+#[derive(Drop)]
+pub struct Claims {
+    table: Table<(), View, Terms, Dealing, Global>,
+    pieces: u64,
+}
+
+impl Model for Claims {
+    ghost use Rattle.epx_claims.specs.Seated.{ClaimsView};
+
+    ghost Value = { ClaimsView };
+
+    ghost use Rattle.epx_claims.specs.ClaimsFields.{claims_view, IsReady};
+
+    ghost view = { claims_view };
+
+    ghost invariant = { IsReady };
+}
+
+impl Claims {
+    /// Claims for so many pieces, and the seat of all workers.
+    pub fn new(alloc: Global, pieces: u64, workers: usize) -> Result<(Claims, ClaimSeat), Memory>
+        requires pieces { pieces ≤ 2 ^ 40 }
+        requires workers { (1 ≤ workers) × (workers ≤ 64) }
+        ensures terms { IfOk result (λ c. (c.0.pieces ≡ pieces) × (c.0.workers ≡ workers)) }
+        ensures seat { IfOk result (λ c. c.1 ≡ fresh_seat c.0 workers) }
+        ensures deal { IfOk result (λ c. IsDeal c.0 0 (c.1 ∷ [])) }
+    {
+        let terms = Terms { pieces, workers };
+        let (table, seat) = Table::of_words(alloc, &[0], &terms)?;
+        Ok((
+            Claims { table, pieces },
+            ClaimSeat {
+                seat,
+                share: workers,
+                ended: false,
+            },
+        ))
+    }
+
+    /// Draws the next piece, or ends the seat where none is left. A seat that has ended takes no step.
+    pub fn claim(&self, seat: &mut ClaimSeat) -> Option<u64>
+        requires { IsSeatOf self.now seat.old }
+        ensures some { IfSome result (λ p. (seat.old.ended ≡ false) × (p < self.now.pieces) × All (λ q. q < p) seat.old.drawn × (seat.new ≡ record seat.old { drawn = seat.old.drawn ++ p ∷ [] })) }
+        ensures none { IfNone result (seat.new ≡ record seat.old { ended = true }) }
+        ensures piece { IfSome result (λ p. Event self.now p (p + 1) (seat.old ∷ []) (seat.new ∷ [])) }
+        ensures stop { IfNone result (seat.old.ended ≡ false → (word : ℕ) × (self.now.pieces ≤ word) × Event self.now word (word + 1) (seat.old ∷ []) (seat.new ∷ [])) }
+        ensures ended { seat.old.ended ≡ true → (result ≡ None) × (seat.new ≡ seat.old) }
+    {
+        if seat.ended {
+            return None;
+        }
+        let found = self.table.shared.fetch_add::<Drawing>(&mut seat.seat, 0, 1);
+        if found < self.pieces {
+            Some(found)
+        } else {
+            seat.ended = true;
+            None
+        }
+    }
+
+    /// Gives half of the seat's share, rounded down, to a new seat.
+    pub fn split(&self, seat: &mut ClaimSeat) -> ClaimSeat
+        requires own { IsSeatOf self.now seat.old }
+        requires open { seat.old.ended ≡ false }
+        requires share { 2 ≤ seat.old.share }
+        ensures kept { seat.new ≡ record seat.old { share = seat.old.share - seat.old.share / 2 } }
+        ensures given { result ≡ fresh_seat self.now (seat.old.share / 2) }
+        ensures deal { (word : ℕ) × Event self.now word word (seat.old ∷ []) (seat.new ∷ result ∷ []) }
+    {
+        let half = seat.share / 2;
+        let shared = &self.table.shared;
+        shared.load::<Halving>(&mut seat.seat, 0);
+        let given = shared.split_seat::<Handing>(&mut seat.seat);
+        seat.share -= half;
+        ClaimSeat {
+            seat: given,
+            share: half,
+            ended: false,
+        }
+    }
+
+    /// Takes the share and the pieces of another seat, and its end. No piece stands in both lists.
+    pub fn join(&self, seat: &mut ClaimSeat, other: ClaimSeat)
+        requires own { IsSeatOf self.now seat.old }
+        requires other { IsSeatOf self.now other }
+        ensures both { seat.new ≡ record seat.old { drawn = seat.old.drawn ++ other.drawn; share = seat.old.share + other.share; ended = seat.old.ended || other.ended } }
+        ensures apart { (x : ℕ) → times x seat.old.drawn + times x other.drawn ≤ once_below x self.now.pieces }
+        ensures deal { (word : ℕ) × Event self.now word word (seat.old ∷ other ∷ []) (seat.new ∷ []) }
+    {
+        let ClaimSeat {
+            seat: theirs,
+            share,
+            ended,
+        } = other;
+        let shared = &self.table.shared;
+        shared.join_seat::<Taking>(&mut seat.seat, theirs);
+        shared.load::<Merging>(&mut seat.seat, 0);
+        // The deal has shown that the shares together are at most 64.
+        seat.share += share;
+        seat.ended = seat.ended || ended;
+    }
+
+    /// Ends the deal, once one seat has every share. Answers how many pieces were drawn.
+    pub fn close(self, seat: ClaimSeat) -> u64
+        requires own { IsSeatOf self seat }
+        requires share { seat.share ≡ self.workers }
+        ensures length { result ≡ length seat.drawn }
+        ensures each_once { (x : ℕ) → times x seat.drawn ≡ once_below x result }
+        ensures all { seat.ended ≡ true → result ≡ self.pieces }
+        ensures deal { (word : ℕ) × (result ≡ min word self.pieces) × IsDeal self word (seat ∷ []) }
+    {
+        let Claims { table, pieces } = self;
+        let ClaimSeat {
+            seat,
+            share: _,
+            ended: _,
+        } = seat;
+        let closed = table.close_with(seat);
+        let word = closed.word(0);
+        closed.free();
+        word.min(pieces)
+    }
+}

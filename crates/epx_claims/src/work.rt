@@ -1,0 +1,113 @@
+//! The workers of a parallel map: each draws pieces until none is left.
+ghost use Rattle.std.specs.Prelude.{◌≡◌, ◌<◌, ◌+◌, ◌++◌, ◌||◌, ◌∷◌, [], ℕ, true, IfOk, IfErr};
+ghost use Rattle.std.specs.Thread.{IsSync, IsSend};
+ghost use Rattle.epx_claims.specs.Seated.{IsSeatOf};
+ghost use Rattle.epx_claims.specs.Answered.{IsFault};
+ghost use Rattle.epx_claims.specs.Worked.{HasAnswers, IsFresh};
+ghost use Rattle.epx_types.specs.declared.memory.Memory.{Memory};
+
+use crate::claims::Claims;
+use crate::gate::Gate;
+use crate::seat::ClaimSeat;
+use epx_types::Memory;
+use std::alloc::Global;
+use std::thread::{Threads, join};
+
+/// A piece, and what the map answered for it.
+#[derive(Drop)]
+pub(crate) struct Answer<T> {
+    pub(crate) piece: usize,
+    pub(crate) value: T,
+}
+
+/// What a part of the work brings back: its seat, and the answers for the pieces that it drew.
+#[derive(Drop)]
+pub(crate) struct Worked<T> {
+    pub(crate) seat: ClaimSeat,
+    pub(crate) answers: Vec<Answer<T>>,
+}
+
+// One worker: draws until no piece is left, or until there is an error.
+fn draw_all<T: Drop, E: From<Memory> + Drop, G: Gate, F: Fn(usize) -> Result<T, E>>(
+    alloc: Global,
+    claims: &Claims,
+    seat: ClaimSeat,
+    gate: &G,
+    f: &F,
+) -> Result<Worked<T>, E>
+    requires seat { IsFresh claims.now seat.share seat }
+    requires calls { (i : ℕ) → i < claims.now.pieces → F.pre f.now i }
+    ensures ok { IfOk result (λ w. HasAnswers (λ i x. F.post f.now i (Ok x)) claims.now seat.share true w.seat w.answers.items) }
+    ensures err { IfErr result (IsFault (λ i e. F.post f.now i (Err e)) (λ e. (m : Memory) × E.from_gives m e) claims.now.pieces) }
+{
+    let mut seat = seat;
+    let mut answers = Vec::new(alloc);
+    while let Some(drawn) = claims.claim(&mut seat) {
+        let piece = drawn as usize;
+        gate.enter(piece);
+        let value = f(piece)?;
+        keep(&mut answers, Answer { piece, value })?;
+    }
+    Ok(Worked { seat, answers })
+}
+
+// Adds an answer at the end.
+fn keep<T: Drop>(answers: &mut Vec<Answer<T>>, answer: Answer<T>) -> Result<(), Memory>
+    ensures { IfOk result (λ _. answers.new.items ≡ answers.old.items ++ answer ∷ []) }
+{
+    answers.push(answer)?;
+    Ok(())
+}
+
+// Two parts as one.
+fn gather<T: Drop>(claims: &Claims, left: Worked<T>, right: Worked<T>) -> Result<Worked<T>, Memory>
+    requires left { IsSeatOf claims.now left.seat }
+    requires right { IsSeatOf claims.now right.seat }
+    ensures seat { IfOk result (λ w. w.seat ≡ record left.seat { drawn = left.seat.drawn ++ right.seat.drawn; share = left.seat.share + right.seat.share; ended = left.seat.ended || right.seat.ended }) }
+    ensures answers { IfOk result (λ w. w.answers.items ≡ left.answers.items ++ right.answers.items) }
+{
+    let Worked {
+        mut seat,
+        mut answers,
+    } = left;
+    let Worked {
+        seat: other,
+        answers: mut others,
+    } = right;
+    claims.join(&mut seat, other);
+    answers.append(&mut others)?;
+    Ok(Worked { seat, answers })
+}
+
+/// Splits the seat down to shares of one, each drawn by a worker in a thread of its own where one can be made, and joins the seats and the answers on the way back.
+#[cycle(workers)]
+pub(crate) fn work<
+    R: Threads + Sync,
+    T: Send + Drop,
+    E: From<Memory> + Send + Drop,
+    G: Gate + Sync,
+    F: Fn(usize) -> Result<T, E> + Sync,
+>(rt: &R, alloc: Global, claims: &Claims, seat: ClaimSeat, gate: &G, f: &F) -> Result<Worked<T>, E>
+    requires seat { IsFresh claims.now seat.share seat }
+    requires calls { (i : ℕ) → i < claims.now.pieces → F.pre f.now i }
+    ensures ok { IfOk result (λ w. HasAnswers (λ i x. F.post f.now i (Ok x)) claims.now seat.share true w.seat w.answers.items) }
+    ensures err { IfErr result (IsFault (λ i e. F.post f.now i (Err e)) (λ e. (m : Memory) × E.from_gives m e) claims.now.pieces) }
+{
+    let mut seat = seat;
+    if seat.share() < 2 {
+        return draw_all(alloc, claims, seat, gate, f);
+    }
+    let other = claims.split(&mut seat);
+    let mine = move || -> Result<Worked<T>, E>
+        requires { IsSync R.row × IsSync G.row × IsSync F.row × IsSend T.row × IsSend E.row × IsFresh claims.now seat.share seat × ((i : ℕ) → i < claims.now.pieces → F.pre f.now i) }
+        ensures ok { IfOk result (λ w. HasAnswers (λ i x. F.post f.entry.now i (Ok x)) claims.entry.now seat.share true w.seat w.answers.items) }
+        ensures err { IfErr result (IsFault (λ i e. F.post f.entry.now i (Err e)) (λ e. (m : Memory) × E.from_gives m e) claims.entry.now.pieces) }
+    { work(rt, alloc, claims, seat, gate, f) };
+    let theirs = move || -> Result<Worked<T>, E>
+        requires { IsSync R.row × IsSync G.row × IsSync F.row × IsSend T.row × IsSend E.row × IsFresh claims.now other.share other × ((i : ℕ) → i < claims.now.pieces → F.pre f.now i) }
+        ensures ok { IfOk result (λ w. HasAnswers (λ i x. F.post f.entry.now i (Ok x)) claims.entry.now other.share true w.seat w.answers.items) }
+        ensures err { IfErr result (IsFault (λ i e. F.post f.entry.now i (Err e)) (λ e. (m : Memory) × E.from_gives m e) claims.entry.now.pieces) }
+    { work(rt, alloc, claims, other, gate, f) };
+    let (left, right) = join(rt, mine, theirs);
+    Ok(gather(claims, left?, right?)?)
+}
