@@ -4,6 +4,7 @@ ghost use Rattle.std.specs.Prelude.{IfOk};
 
 use crate::clock::{now, passed};
 use epx_apply::run_order;
+use epx_claims::FreeGate;
 use epx_graph::{Graph, build, waiting};
 use epx_merge::{Merged, read_logs};
 use epx_order::{components, order};
@@ -99,7 +100,7 @@ fn reading<R: Threads + Sync + Clock>(
     plan: Plan,
 ) -> Result<(Merged, u128), Memory> {
     let start = now(rt)?;
-    let Ok(merged) = read_logs(rt, alloc, logs, plan) else {
+    let Ok(merged) = read_logs(rt, alloc, logs, plan, &FreeGate) else {
         return Err(Memory);
     };
     Ok((merged, passed(rt, &start)?))

@@ -1,5 +1,6 @@
 //! Reading of 65,536 instances, in one log and in each of sixteen.
 use crate::clock::{now, passed};
+use epx_claims::FreeGate;
 use epx_lines::{cut_lines, read_line};
 use epx_merge::read_logs;
 use epx_types::{Memory, Plan};
@@ -56,7 +57,7 @@ fn reading_logs<R: Threads + Sync + Clock>(
     plan: Plan,
 ) -> Result<u128, Memory> {
     let start = now(rt)?;
-    let Ok(_merged) = read_logs(rt, alloc, logs, plan) else {
+    let Ok(_merged) = read_logs(rt, alloc, logs, plan, &FreeGate) else {
         return Err(Memory);
     };
     passed(rt, &start)

@@ -1,51 +1,13 @@
 //! Draws whose order is known, and maps whose workers wait for one another.
 ghost use Rattle.std.specs.Prelude.{◌≡◌, ◌<◌, ◌≤◌, ◌*◌, ℕ, Some, length, slice_get, IfOk};
 
+use crate::gates::WaitingGate;
 use epx_claims::{Claims, FreeGate, Gate, claimed_map};
 use epx_types::{Memory, Plan};
 use std::alloc::Global;
 use std::process::Abort;
-use std::sync::atomic::{AtomicBool, AtomicU64, Ordering};
 use std::test::Fail;
 use std::thread::Threads;
-
-const MOST_LOADS: u32 = 100_000_000;
-
-/// One number waits in the gate until all were entered. It gives up after so many loads.
-#[derive(Drop)]
-struct WaitingGate {
-    waiter: usize,
-    all: u64,
-    entered: AtomicU64,
-    gave_up: AtomicBool,
-}
-
-impl WaitingGate {
-    fn new(waiter: usize, all: u64) -> WaitingGate {
-        WaitingGate {
-            waiter,
-            all,
-            entered: AtomicU64::new(0),
-            gave_up: AtomicBool::new(false),
-        }
-    }
-}
-
-impl Gate for WaitingGate {
-    fn enter(&self, piece: usize) {
-        let mark = [1, 10, 100, 1000].get(piece).copied().unwrap_or(0);
-        self.entered.fetch_add(mark, Ordering::SeqCst);
-        if piece != self.waiter {
-            return;
-        }
-        for _ in 0..MOST_LOADS {
-            if self.entered.load(Ordering::SeqCst) == self.all {
-                return;
-            }
-        }
-        self.gave_up.store(true, Ordering::SeqCst);
-    }
-}
 
 /// An error of the caller's own.
 #[derive(Debug, PartialEq, Drop)]
@@ -96,8 +58,7 @@ fn maps_while_one_waits<R: Threads + Sync + Abort>(
     let gate = WaitingGate::new(waiter, all);
     let answers = tens(rt, alloc, wanted.len(), plan, &gate)?;
     assert!(rt; answers.as_slice() == wanted);
-    assert!(rt; gate.entered.load(Ordering::SeqCst) == all);
-    assert!(rt; !gate.gave_up.load(Ordering::SeqCst));
+    assert!(rt; gate.saw_all());
     Ok(())
 }
 

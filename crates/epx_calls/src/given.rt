@@ -1,4 +1,5 @@
 //! Keys, Ids and logs for the tests.
+use epx_claims::FreeGate;
 use epx_merge::{Merged, read_logs};
 use epx_types::{Fault, Id, Key, Memory, Plan};
 use std::alloc::{AllocError, Global};
@@ -54,7 +55,7 @@ pub(crate) fn merged_of<R: Abort + Threads + Sync>(
     alloc: Global,
     logs: &[Vec<u8>],
 ) -> Result<Merged, Fail> {
-    match read_logs(rt, alloc, logs, plan(rt)) {
+    match read_logs(rt, alloc, logs, plan(rt), &FreeGate) {
         Ok(merged) => Ok(merged),
         Err(Fault::Memory) => Err(Fail::from("want of memory")),
         Err(_) => Err(Fail::from("the logs are refused")),

@@ -13,6 +13,8 @@ mod devices;
 #[cfg(test)]
 mod effects;
 #[cfg(test)]
+mod gates;
+#[cfg(test)]
 mod given;
 #[cfg(test)]
 mod graphs;

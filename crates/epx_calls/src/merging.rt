@@ -1,7 +1,9 @@
 //! Logs as text: what they commit, and how they are refused.
+use crate::gates::WaitingGate;
 use crate::given::{PUT_AND_GET, id, logs_of, merged_of, plan};
+use epx_claims::FreeGate;
 use epx_merge::{Merged, read_logs};
-use epx_types::{Fault, Id, Place};
+use epx_types::{Fault, Id, Place, Plan, Why};
 use std::alloc::Global;
 use std::process::Abort;
 use std::test::Fail;
@@ -20,6 +22,28 @@ const LESS_TURNED: &str = r#"{"r":0,"i":9,"seq":1,"deps":[[1,1],[2,2],[1,1]],"op
 
 const LESS_OTHER: &str = r#"{"r":0,"i":9,"seq":1,"deps":[[1,1]],"ops":[["get","k"]]}"#;
 
+/// B twice.
+const B_B: &str = r#"{"r":1,"i":7,"seq":2,"deps":[],"ops":[]}
+{"r":1,"i":7,"seq":2,"deps":[],"ops":[]}
+"#;
+
+const FOUR_LINES: &str = r#"{"r":0,"i":0,"seq":1,"deps":[],"ops":[]}
+{"r":0,"i":1,"seq":1,"deps":[],"ops":[]}
+{"r":0,"i":2,"seq":1,"deps":[],"ops":[]}
+{"r":0,"i":3,"seq":1,"deps":[],"ops":[]}
+"#;
+
+/// Eight lines, of which the second and the seventh are bad.
+const EIGHT_LINES: &str = r#"{"r":0,"i":0,"seq":1,"deps":[],"ops":[]}
+{}
+{"r":0,"i":2,"seq":1,"deps":[],"ops":[]}
+{"r":0,"i":3,"seq":1,"deps":[],"ops":[]}
+{"r":0,"i":4,"seq":1,"deps":[],"ops":[]}
+{"r":0,"i":5,"seq":1,"deps":[],"ops":[]}
+{}
+{"r":0,"i":7,"seq":1,"deps":[],"ops":[]}
+"#;
+
 fn place(log: usize, line: usize) -> Place {
     Place { log, line }
 }
@@ -31,7 +55,7 @@ fn refuses<R: Abort + Threads + Sync>(
     logs: &[Vec<u8>],
     wanted: Fault,
 ) -> Result<(), Fail> {
-    match read_logs(rt, alloc, logs, plan(rt)) {
+    match read_logs(rt, alloc, logs, plan(rt), &FreeGate) {
         Err(fault) => assert_eq!(rt; fault, wanted),
         Ok(_) => return Err(Fail::from("the logs are accepted")),
     }
@@ -121,4 +145,102 @@ fn the_second_line_is_the_first_that_differs(rt: HostRuntime) -> Result<(), Fail
     disagree(&rt, rt.alloc(), &[A, A, B, A], id(1, 7), first, third)?;
     disagree(&rt, rt.alloc(), &[A, A, B, B], id(1, 7), first, third)?;
     disagree(&rt, rt.alloc(), &[A, B, A], id(1, 7), first, place(1, 1))
+}
+
+/// By this plan the logs commit so many instances, or are refused so.
+fn comes_to<R: Abort + Threads + Sync>(
+    rt: &R,
+    alloc: Global,
+    logs: &[Vec<u8>],
+    plan: Plan,
+    wanted: Result<usize, Fault>,
+) {
+    let answer = read_logs(rt, alloc, logs, plan, &FreeGate);
+    assert_eq!(rt; answer.map(|merged| merged.len()), wanted);
+}
+
+/// The same of logs of these texts, by any plan.
+fn come_to<R: Abort + Threads + Sync>(
+    rt: &R,
+    alloc: Global,
+    texts: &[&str],
+    wanted: Result<usize, Fault>,
+) -> Result<(), Fail> {
+    let logs = logs_of(alloc, texts)?;
+    for workers in [1, 2, 64] {
+        for cut in [1, 3, 65_536] {
+            let plan = Plan::new(workers, cut).ok_or("a plan")?;
+            comes_to(rt, alloc, &logs, plan, wanted);
+        }
+    }
+    Ok(())
+}
+
+/// A bad line at this place without a replica.
+fn no_replica(at: Place) -> Result<usize, Fault> {
+    Err(Fault::BadLine {
+        place: at,
+        why: Why::Replica,
+    })
+}
+
+/// A disagreement on an instance between the first lines of these logs.
+fn differs(of: Id, first: usize, second: usize) -> Result<usize, Fault> {
+    Err(Fault::Disagree {
+        id: of,
+        first: place(first, 1),
+        second: place(second, 1),
+    })
+}
+
+#[test]
+fn the_least_bad_line_is_named_under_any_plan(rt: HostRuntime) -> Result<(), Fail> {
+    come_to(&rt, rt.alloc(), &[EIGHT_LINES], no_replica(place(0, 2)))
+}
+
+#[test]
+fn the_first_disagreement_is_named_under_any_plan(rt: HostRuntime) -> Result<(), Fail> {
+    let texts = [A, LESS, B, LESS_TURNED, LESS_OTHER];
+    come_to(&rt, rt.alloc(), &texts, differs(id(0, 9), 1, 4))
+}
+
+#[test]
+fn logs_that_repeat_each_other_commit_the_same(rt: HostRuntime) -> Result<(), Fail> {
+    let texts = [FOUR_LINES, "\n\n", FOUR_LINES, A, FOUR_LINES, A];
+    come_to(&rt, rt.alloc(), &texts, Ok(5))
+}
+
+#[test]
+fn a_repeated_bad_line_has_its_first_place(rt: HostRuntime) -> Result<(), Fail> {
+    let texts = [A, "{}\n{}\n", "[]\n", "{}\n"];
+    come_to(&rt, rt.alloc(), &texts, no_replica(place(1, 1)))
+}
+
+#[test]
+fn a_repeat_leaves_the_places_of_a_disagreement(rt: HostRuntime) -> Result<(), Fail> {
+    let second = differs(id(1, 7), 0, 2);
+    come_to(&rt, rt.alloc(), &[A, A, B_B, A, B], second)?;
+    come_to(&rt, rt.alloc(), &[B_B, A, A, B_B], differs(id(1, 7), 0, 1))
+}
+
+/// Two workers read four lines, while the piece of one waits until the others were entered.
+fn reads_while_one_waits<R: Abort + Threads + Sync>(
+    rt: &R,
+    alloc: Global,
+    waiter: usize,
+) -> Result<(), Fail> {
+    let logs = logs_of(alloc, &[FOUR_LINES])?;
+    let plan = Plan::new(2, 1).ok_or("a plan")?;
+    let gate = WaitingGate::new(waiter, 1111);
+    let merged = read_logs(rt, alloc, &logs, plan, &gate).expect(rt, "a map");
+    assert!(rt; merged.len() == 4 && gate.saw_all());
+    Ok(())
+}
+
+#[test]
+fn a_free_worker_reads_the_next_piece(rt: HostRuntime) -> Result<(), Fail> {
+    for waiter in 0..4 {
+        reads_while_one_waits(&rt, rt.alloc(), waiter)?;
+    }
+    Ok(())
 }

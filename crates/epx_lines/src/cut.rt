@@ -1,10 +1,25 @@
 //! Cutting a log into lines.
-ghost use Rattle.std.specs.Prelude.{◌≡◌, map, IfOk};
+ghost use Rattle.std.specs.Prelude.{◌≡◌, ◌<◌, ◌∷◌, length, map, IfOk};
 ghost use Rattle.epx_lines.specs.Lines.{lines_of};
 
 use epx_types::Memory;
 use memchr::memchr;
 use std::alloc::Global;
+
+/// The first line of a log, without its line feed, and the bytes after it.
+pub fn cut_line(bytes: &[u8]) -> (&[u8], &[u8])
+    requires { 0 < length bytes.now }
+    ensures lines { lines_of bytes.now ≡ result.0.now ∷ lines_of result.1.now }
+    ensures rest { length result.1.now < length bytes.now }
+{
+    match memchr(b'\n', bytes) {
+        Some(end) => {
+            let (line, more) = bytes.split_at(end);
+            (line, &more[1..])
+        }
+        None => bytes.split_at(bytes.len()),
+    }
+}
 
 /// The lines of a log in order, without their line feeds. The last line may lack its line feed, and
 /// none comes after a last line feed. Nothing is copied.
@@ -13,13 +28,10 @@ pub fn cut_lines(alloc: Global, bytes: &[u8]) -> Result<Vec<&[u8]>, Memory>
 {
     let mut lines = Vec::new(alloc);
     let mut rest = bytes;
-    while let Some(end) = memchr(b'\n', rest) {
-        let (line, more) = rest.split_at(end);
+    while !rest.is_empty() {
+        let (line, more) = cut_line(rest);
         lines.push(line)?;
-        rest = &more[1..];
-    }
-    if !rest.is_empty() {
-        lines.push(rest)?;
+        rest = more;
     }
     Ok(lines)
 }

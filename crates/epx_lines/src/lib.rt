@@ -9,10 +9,10 @@ mod ops;
 mod read;
 mod write;
 
-pub use cut::cut_lines;
+pub use cut::{cut_line, cut_lines};
 use epx_types::{Entry, Memory, Why};
 pub use laws::{lines_are_one, lines_make_up_the_bytes};
-pub use read::read_line;
+pub use read::{is_blank_line, read_line};
 pub use write::write_line;
 
 /// What a line of a log means.

@@ -17,7 +17,8 @@ use std::alloc::Global;
 /// A line that is not blank may have this many bytes, without its line feed.
 pub const MAX_LINE_BYTES: usize = 65_536;
 
-fn is_blank_line(bytes: &[u8]) -> bool
+/// Whether a line holds spaces, tabs and carriage returns alone, or nothing.
+pub fn is_blank_line(bytes: &[u8]) -> bool
     ensures { result ≡ is_blank bytes.now }
 {
     bytes.iter().all(|b| matches!(*b, b' ' | b'\t' | b'\r'))

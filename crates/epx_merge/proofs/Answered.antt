@@ -1,12 +1,12 @@
--- What a ledger of the lines of whole logs answers is the answer to the logs.
+-- What a ledger of the lines of whole logs answers is the answer to the logs, and so is what stops their reading.
 use Rattle.std.proofs.Common.{List, Result, Ok, Err, MatchResult, ℕ}
 use Rattle.epx_types.specs.declared.fault.Fault.{Fault}
 use Rattle.epx_types.specs.declared.fault.Fault.TheVariants.{Memory, TooManyLogs, LogTooLong, BadLine, TooManyInstances, Disagree, Read, Write}
 use Rattle.epx_types.specs.Instances.{Instance}
-use Rattle.epx_merge.specs.LogLines.{placed_of}
-use Rattle.epx_merge.specs.Refusals.{IsWhole, IsRefusal}
+use Rattle.epx_merge.specs.LogLines.{placed_of, spoilt_of}
+use Rattle.epx_merge.specs.Refusals.{Fits, IsWhole, IsRefusal}
 use Rattle.epx_merge.specs.Acceptance.{IsAccepted}
-use Rattle.epx_merge.specs.Steps.{IsMerged, IsMergeFault}
+use Rattle.epx_merge.specs.Steps.{IsMerged, IsMergeFault, IsReadFault}
 
 pub refused : (logs : List (List ℕ)) → IsWhole logs → (f : Fault) → IsMergeFault (placed_of logs) f → IsRefusal logs f
 refused logs whole Memory h = h
@@ -24,3 +24,14 @@ accepted logs whole m h = record { whole = whole; small = h.small; agree = h.agr
 pub answered : (logs : List (List ℕ)) → IsWhole logs → (r : Result (List Instance) Fault) → MatchResult r (IsMerged (placed_of logs)) (IsMergeFault (placed_of logs)) → MatchResult r (IsAccepted logs) (IsRefusal logs)
 answered logs whole (Ok m) h = accepted logs whole m h
 answered logs whole (Err f) h = refused logs whole f h
+
+-- what stops the reading of logs that fit is their refusal
+pub unread : (logs : List (List ℕ)) → Fits logs → (f : Fault) → IsReadFault (spoilt_of logs) f → IsRefusal logs f
+unread logs fits Memory h = h
+unread logs fits TooManyLogs h = absurd h
+unread logs fits (LogTooLong log) h = absurd h
+unread logs fits (BadLine place why) h = (fits, h)
+unread logs fits TooManyInstances h = absurd h
+unread logs fits (Disagree id first second) h = absurd h
+unread logs fits (Read log) h = absurd h
+unread logs fits Write h = absurd h

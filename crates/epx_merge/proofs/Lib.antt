@@ -1,6 +1,11 @@
 mod Equality
 mod FirstWhere
+mod NextLines
+mod PiecesOfLines
 mod Noting
+mod KeptLines
+mod LaidLines
+mod HeldLines
 mod NotedKeys
 mod SortedKeys
 mod Closing

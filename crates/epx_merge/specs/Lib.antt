@@ -7,3 +7,5 @@ pub mod Ledgers
 pub mod Keyed
 pub mod Steps
 pub mod LineOrder
+pub mod ReadPieces
+pub mod Repeats

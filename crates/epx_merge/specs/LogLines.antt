@@ -26,6 +26,11 @@ abbrev pub meanings_from : ℕ → List (List ℕ) → List MeaningAt
 meanings_from n [] = []
 meanings_from n (log ∷ logs) = meanings_in n 1 (lines_of log) ++ meanings_from (suc n) logs
 
+-- what is left of the lines where the first of them are gone over: of the log of this number the lines
+-- after that of this number, which begin with these bytes, and the logs after it
+abbrev pub meanings_left : ℕ → ℕ → List ℕ → List (List ℕ) → List MeaningAt
+meanings_left log line rest others = meanings_in log (suc line) (lines_of rest) ++ meanings_from (suc log) others
+
 -- the lines of all logs, by log and then by line
 abbrev pub meanings_of : List (List ℕ) → List MeaningAt
 meanings_of logs = meanings_from 0 logs

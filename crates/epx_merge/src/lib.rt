@@ -2,12 +2,17 @@
 #![tactic(auto)]
 
 pub mod laws;
+mod laying;
 mod ledger;
 mod limits;
+mod line;
 mod merged;
+mod pieces;
 mod placed;
 mod reading;
+mod repeats;
 mod same;
+mod walk;
 
 pub use limits::{MAX_INSTANCES, MAX_LOG_BYTES, MAX_LOGS};
 pub use merged::Merged;

@@ -1,81 +1,111 @@
-//! The lines of logs, read in order up to the first that has a fault.
-ghost use Rattle.std.specs.Prelude.{◌≡◌, [], ◌∷◌, MatchResult, map};
-ghost use Rattle.epx_lines.specs.Lines.{lines_of};
-ghost use Rattle.epx_merge.specs.LogLines.{meaning_at, meanings_in, meanings_of, placed_among, spoilt_among};
-ghost use Rattle.epx_merge.specs.Ledgers.{Notes};
+//! The answer to logs: their committed map, or the first refusal.
+ghost use Rattle.std.specs.Prelude.{◌≡◌, ◌≤◌, ◌^◌, [], IfOk, MatchResult, length, map};
+ghost use Rattle.epx_merge.specs.ReadPieces.{AreRead};
+ghost use Rattle.epx_merge.specs.LogLines.{placed_among, placed_of, spoilt_among, spoilt_of};
+ghost use Rattle.epx_merge.specs.Ledgers.{IsLedgerOf, Notes};
+ghost use Rattle.epx_merge.specs.Steps.{IsReadFault};
+ghost use Rattle.epx_merge.specs.Repeats.{IsEmptyTable};
 ghost use Rattle.epx_merge.specs.Acceptance.{IsAccepted};
 ghost use Rattle.epx_merge.specs.Refusals.{IsRefusal};
-ghost use Rattle.epx_merge.specs.Steps.{IsReadFault};
 
+use crate::laying::lay_lines;
 use crate::ledger::Ledger;
 use crate::limits::{MAX_LOGS, first_too_long};
+use crate::line::PlacedLine;
 use crate::merged::Merged;
+use crate::pieces::{BadLine, note_pieces, read_piece};
 use crate::placed::PlacedEntry;
-use epx_lines::{Line, LineFault, cut_lines, read_line};
-use epx_types::{Fault, Place, Plan};
+use crate::repeats::LineTable;
+use crate::walk::LineWalk;
+use epx_claims::{Gate, claimed_map};
+use epx_types::{Fault, Memory, Plan};
 use std::alloc::Global;
 use std::thread::Threads;
 
-/// Reads one line, and notes its entry if it gives one.
-fn read_at(alloc: Global, place: Place, bytes: &[u8], ledger: &mut Ledger) -> Result<(), Fault>
-    ensures { let line = meaning_at place bytes.now ∷ [] in MatchResult result
-        (λ _. (spoilt_among line ≡ []) × Notes (placed_among line) ledger.old ledger.new)
-        (IsReadFault (spoilt_among line)) }
+/// What each piece of the lines gives, in order.
+fn read_pieces<R: Threads + Sync, G: Gate + Sync>(
+    rt: &R,
+    alloc: Global,
+    plan: Plan,
+    gate: &G,
+    lines: &[PlacedLine<'_>],
+) -> Result<Vec<Result<Vec<PlacedEntry>, BadLine>>, Memory>
+    requires { length lines.now ≤ 2 ^ 40 }
+    ensures { IfOk result (λ v. AreRead (λ given entries. entries.items ≡ given) lines.now v.items) }
 {
-    match read_line(alloc, bytes) {
-        Ok(Line::Blank) => Ok(()),
-        Ok(Line::Entry(entry)) => match ledger.note(PlacedEntry::new(place, entry)) {
-            Ok(()) => Ok(()),
-            Err(_) => Err(Fault::Memory),
-        },
-        Err(LineFault::Memory) => Err(Fault::Memory),
-        Err(LineFault::Bad(why)) => Err(Fault::BadLine { place, why }),
+    let pieces = plan.pieces(lines.len());
+    claimed_map(rt, alloc, pieces, plan, gate, |piece| {
+        read_piece(alloc, plan, lines, piece)
+    })
+}
+
+/// Reads lines, and notes the entries that they give up to the first bad one.
+fn read_batch<R: Threads + Sync, G: Gate + Sync>(
+    rt: &R,
+    alloc: Global,
+    plan: Plan,
+    gate: &G,
+    lines: &[PlacedLine<'_>],
+    ledger: &mut Ledger,
+) -> Result<(), Fault>
+    requires { length lines.now ≤ 2 ^ 40 }
+    ensures { MatchResult result
+        (λ _. (spoilt_among lines.now ≡ []) × Notes (placed_among lines.now) ledger.old ledger.new)
+        (IsReadFault (spoilt_among lines.now)) }
+{
+    match read_pieces(rt, alloc, plan, gate, lines) {
+        Ok(pieces) => note_pieces(pieces, ledger),
+        Err(_) => Err(Fault::Memory),
     }
 }
 
-/// Reads the lines of one log, and notes those that give an entry.
-fn read_log(alloc: Global, log: usize, bytes: &[u8], ledger: &mut Ledger) -> Result<(), Fault>
-    ensures { let lines = meanings_in log 1 (lines_of bytes.now) in MatchResult result
-        (λ _. (spoilt_among lines ≡ []) × Notes (placed_among lines) ledger.old ledger.new)
-        (IsReadFault (spoilt_among lines)) }
+/// A table for the lines of so many logs. One log is not compared with itself.
+fn table_for<'a>(alloc: Global, logs: usize) -> Result<LineTable<'a>, Memory>
+    ensures { IfOk result IsEmptyTable }
 {
-    let Ok(lines) = cut_lines(alloc, bytes) else {
-        return Err(Fault::Memory);
-    };
-    for (index, line) in lines.iter().enumerate() {
-        let place = Place {
-            log,
-            line: index + 1,
-        };
-        if let Err(fault) = read_at(alloc, place, line, ledger) {
-            return Err(fault);
-        }
+    if logs < 2 {
+        Ok(LineTable::closed(alloc))
+    } else {
+        LineTable::new(alloc)
     }
-    Ok(())
 }
 
-/// Reads the lines of all logs, and notes those that give an entry.
-fn read_all(alloc: Global, logs: &[Vec<u8>], ledger: &mut Ledger) -> Result<(), Fault>
-    ensures { let lines = meanings_of (map (λ log. log.items) logs.now) in MatchResult result
-        (λ _. (spoilt_among lines ≡ []) × Notes (placed_among lines) ledger.old ledger.new)
-        (IsReadFault (spoilt_among lines)) }
+/// Reads the lines of all logs, and notes those that give an entry. So many lines are laid at once that what
+/// they give is noted before the next are laid.
+fn read_all<R: Threads + Sync, G: Gate + Sync>(
+    rt: &R,
+    alloc: Global,
+    logs: &[Vec<u8>],
+    plan: Plan,
+    gate: &G,
+) -> Result<Ledger, Fault>
+    ensures { let bytes = map (λ log. log.items) logs.now in MatchResult result
+        (λ ledger. (spoilt_of bytes ≡ []) × IsLedgerOf (placed_of bytes) ledger)
+        (IsReadFault (spoilt_of bytes)) }
 {
-    for (log, bytes) in logs.iter().enumerate() {
-        if let Err(fault) = read_log(alloc, log, bytes, ledger) {
+    let mut ledger = Ledger::new(alloc);
+    let mut table = table_for(alloc, logs.len())?;
+    let mut walk = LineWalk::new(logs);
+    let mut lines = lay_lines(alloc, &mut walk, &mut table)?;
+    while !lines.is_empty() {
+        if let Err(fault) = read_batch(rt, alloc, plan, gate, &lines, &mut ledger) {
             return Err(fault);
         }
+        lines = lay_lines(alloc, &mut walk, &mut table)?;
     }
-    Ok(())
+    Ok(ledger)
 }
 
 /// The committed map of logs that are accepted, or the first refusal of others.
 ///
-/// The answer is the same for every plan.
-pub fn read_logs<R: Threads + Sync>(
-    _rt: &R,
+/// The lines of all logs are cut into the plan's pieces, which its workers claim. The answer is the same for
+/// every plan and gate.
+pub fn read_logs<R: Threads + Sync, G: Gate + Sync>(
+    rt: &R,
     alloc: Global,
     logs: &[Vec<u8>],
-    _plan: Plan,
+    plan: Plan,
+    gate: &G,
 ) -> Result<Merged, Fault>
     ensures { let bytes = map (λ log. log.items) logs.now in
         MatchResult result (IsAccepted bytes) (IsRefusal bytes) }
@@ -86,9 +116,8 @@ pub fn read_logs<R: Threads + Sync>(
     if let Some(log) = first_too_long(logs) {
         return Err(Fault::LogTooLong { log });
     }
-    let mut ledger = Ledger::new(alloc);
-    match read_all(alloc, logs, &mut ledger) {
-        Ok(()) => ledger.close(),
+    match read_all(rt, alloc, logs, plan, gate) {
+        Ok(ledger) => ledger.close(),
         Err(fault) => Err(fault),
     }
 }

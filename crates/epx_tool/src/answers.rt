@@ -10,6 +10,7 @@ ghost use Rattle.epx_tool.specs.Views.{IsViewed};
 use crate::ask::Ask;
 use crate::report::{order_report, report};
 use epx_apply::run_order;
+use epx_claims::FreeGate;
 use epx_graph::{build, waiting};
 use epx_merge::{Merged, read_logs};
 use epx_order::order;
@@ -72,7 +73,7 @@ pub fn answer<R: Threads + Sync>(
     ensures { let bytes = map (λ log. log.items) logs.now in
         MatchResult result (λ text. IsAnswer bytes (Ok text.items)) (λ fault. IsAnswer bytes (Err fault)) }
 {
-    let merged = match read_logs(rt, alloc, logs, plan) {
+    let merged = match read_logs(rt, alloc, logs, plan, &FreeGate) {
         Ok(merged) => merged,
         Err(fault) => return Err(fault),
     };
@@ -90,7 +91,7 @@ pub fn view<R: Threads + Sync>(
     ensures { let bytes = map (λ log. log.items) logs.now in
         MatchResult result (λ text. Answers (IsViewed ask) bytes (Ok text.items)) (λ fault. Answers (IsViewed ask) bytes (Err fault)) }
 {
-    let merged = match read_logs(rt, alloc, logs, plan) {
+    let merged = match read_logs(rt, alloc, logs, plan, &FreeGate) {
         Ok(merged) => merged,
         Err(fault) => return Err(fault),
     };

@@ -1,10 +1,10 @@
-use Rattle.std.proofs.Common.{◌≡◌, ◌++◌, List, map, drop}
-use Rattle.epx_merge.specs.LogLines.{MeaningAt, meanings_from, meanings_of}
-use Rattle.epx_merge.proofs.ReadLines.{Reads}
+use Rattle.std.proofs.Common.{◌≤◌, ◌^◌, ◌+◌, length, map}
+use Rattle.epx_merge.specs.LogLines.{meanings_of}
+use Rattle.epx_merge.proofs.LaidLines.{IsUnderway}
 use Rattle.epx_merge.proofs.reading.read_all.Given as goal
 
--- the lines of the logs so far are read, and with those of the rest they are all lines
-abbrev pub invariant-loop-log : goal.invariant-loop-log
-invariant-loop-log l =
-    (read : List MeaningAt) × Reads read l.initial.ledger l.ledger
-    × (read ++ meanings_from l.log (map (λ log. log.items) (drop l.log l.logs)) ≡ meanings_of (map (λ log. log.items) l.logs))
+abbrev pub invariant-loop-walk : goal.invariant-loop-walk
+invariant-loop-walk g l = IsUnderway (meanings_of (map (λ log. log.items) l.logs)) l.walk l.lines.items l.table l.ledger × (length l.lines.items ≤ 2 ^ 40)
+
+abbrev pub decreases-loop-walk : goal.decreases-loop-walk
+decreases-loop-walk g l = length l.walk + length l.lines.items

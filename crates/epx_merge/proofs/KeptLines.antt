@@ -1,0 +1,201 @@
+-- Lines without some that are idle tell what all lines tell: the first that is bad, and the ledger.
+use Rattle.std.proofs.Common.{◌≡◌, ◌≢◌, inl, inr, ◌≤◌, ◌+◌, List, [], ◌∷◌, ◌++◌, length, Contains, Result, Ok, Err, refl, sym, ap, subst, ◌∙◌, append_assoc, append-nil, length-append, arith}
+use Rattle.std.proofs.lemmas.List.Elements.{Contains-append_left, Contains-append_cases, Contains-append_right}
+use Rattle.epx_types.specs.declared.fault.Fault.{Fault}
+use Rattle.epx_types.specs.declared.fault.Fault.TheVariants.{Memory, TooManyLogs, LogTooLong, BadLine, TooManyInstances, Disagree, Read, Write}
+use Rattle.epx_types.specs.declared.fault.Why.{Why}
+use Rattle.epx_types.specs.declared.place.Place.{Place}
+use Rattle.epx_types.specs.PlacedLines.{Placed}
+use Rattle.epx_types.specs.Instances.{Instance}
+use Rattle.epx_types.proofs.Membership.{Contains-nil, Contains-head, Contains-cons_cases}
+use Rattle.epx_lines.specs.declared.Line.{Line}
+use Rattle.epx_lines.specs.declared.Line.TheVariants.{Blank, Entry}
+use Rattle.epx_merge.specs.LogLines.{MeaningAt, placed_at, placed_among, Spoilt, spoilt_at, spoilt_among}
+use Rattle.epx_merge.specs.Ledgers.{Noted, IsFirstWhere, IsLedgerOf}
+use Rattle.epx_merge.specs.Steps.{IsReadFault}
+use Rattle.epx_merge.specs.Repeats.{IsIdle, Keeps}
+use Rattle.epx_merge.proofs.ReadLines.{placed_among-append, spoilt_among-append}
+use Rattle.epx_merge.proofs.Noting.{keys}
+
+-- ---- in turn
+
+pub Keeps-append : (xs ys a b c : List MeaningAt) → Keeps xs a b → Keeps ys b c → Keeps (xs ++ ys) a c
+Keeps-append [] ys a b c h k = subst (λ l. Keeps ys l c) (sym h) k
+Keeps-append (x ∷ xs) ys a b c (inl h) k = inl (Keeps-append xs ys (a ++ x ∷ []) b c h k)
+Keeps-append (x ∷ xs) ys a b c (inr h) k = inr (h.0, Keeps-append xs ys a b c h.1 k)
+
+-- no more are kept than there are
+pub length-kept : (lines old new : List MeaningAt) → Keeps lines old new → length new ≤ length old + length lines
+length-kept [] old new h = let same = ap length h in omega arith
+length-kept (l ∷ lines) old new (inl h) = let rest = length-kept lines (old ++ l ∷ []) new h in omega (arith, length-append old (l ∷ []))
+length-kept (l ∷ lines) old new (inr h) = let rest = length-kept lines old new h.1 in omega arith
+
+-- ---- one line more, whose instance an earlier line gives too
+
+module _ (P : Placed → Type 0) (q : Placed) where
+  -- a line of which the fact does not hold
+  first_past : (a b : List Placed) (p : Placed) → ¬ P q → IsFirstWhere P (a ++ b) p → IsFirstWhere P (a ++ q ∷ b) p
+  first_past [] b p fails h = inr (fails, h)
+  first_past (x ∷ a) b p fails (inl h) = inl h
+  first_past (x ∷ a) b p fails (inr h) = inr (h.0, first_past a b p fails h.1)
+
+  -- a line of which the fact holds only where it holds of an earlier one
+  first_repeated : (a b : List Placed) (p e : Placed) → Contains a e → (P q → P e) → IsFirstWhere P (a ++ b) p → IsFirstWhere P (a ++ q ∷ b) p
+  first_repeated [] b p e has back h = absurd (Contains-nil e has)
+  first_repeated (x ∷ a) b p e has back (inl h) = inl h
+  first_repeated (x ∷ a) b p e has back (inr h) =
+      inr (
+        h.0,
+        elim (Contains-cons_cases x a e has) [
+          | inl same ↦ first_past a b p (λ holds. h.0 (subst P (sym same) (back holds))) h.1
+          | inr later ↦ first_repeated a b p e later back h.1
+        ],
+      )
+
+module _ (a b : List Placed) (e q : Placed) (has : Contains a e) (same : e.instance ≡ q.instance) (noted : Noted) (h : IsLedgerOf (a ++ b) noted) where
+  as_one : (P : Instance → Type 0) → P q.instance → P e.instance
+  as_one P holds = subst P (sym same) holds
+
+  first_kept : (P : Instance → Type 0) (p : Placed) → IsFirstWhere (λ (r : Placed). P r.instance) (a ++ b) p → IsFirstWhere (λ (r : Placed). P r.instance) (a ++ q ∷ b) p
+  first_kept P p first = first_repeated (λ (r : Placed). P r.instance) q a b p e has (as_one P) first
+
+  -- it is one of the others, or the one more
+  others : (p : Placed) → Contains (a ++ q ∷ b) p → (r : Placed) × Contains (a ++ b) r × (r.instance ≡ p.instance)
+  others p in_p =
+      elim (Contains-append_cases a (q ∷ b) p in_p) [
+        | inl before ↦ (p, Contains-append_left a b p before, refl)
+        | inr after ↦ elim (Contains-cons_cases q b p after) [
+          | inl here ↦ (e, Contains-append_left a b e has, same ∙ ap (λ (r : Placed). r.instance) here)
+          | inr later ↦ (p, Contains-append_right a b p later, refl)
+        ]
+      ]
+
+  ledger_repeated : IsLedgerOf (a ++ q ∷ b) noted
+  ledger_repeated = record {
+    firsts = λ x p in_p. first_kept (λ i. i.id ≡ x) p (h.firsts x p in_p);
+    whole = λ p in_p.
+        let other = others p in_p in
+        subst (λ (i : Instance). Contains (keys noted.firsts) i.id) other.2 (h.whole other.0 other.1);
+    clashes = λ x clash in_clash.
+        let c = h.clashes x clash in_clash in
+        record {
+          first = c.first;
+          second = c.second;
+          opens = first_kept (λ i. i.id ≡ x) c.first c.opens;
+          differs = first_kept (λ i. (c.first.instance.id ≡ i.id) × (c.first.instance ≢ i)) c.second c.differs;
+          first_place = c.first_place;
+          second_place = c.second_place;
+        };
+    alike = λ x p in_p apart r in_r named.
+        let other = others r in_r in
+        h.alike x p in_p apart other.0 other.1 (ap (λ (i : Instance). i.id) other.2 ∙ named) ∙ other.2;
+  }
+
+-- ---- what lines that are kept tell of others
+
+-- the first bad line and the ledger of some lines are those of all
+pub record Tells (some all : List MeaningAt) : Type 0 where
+  pub fault : (f : Fault) → IsReadFault (spoilt_among some) f → IsReadFault (spoilt_among all) f
+  pub clean : spoilt_among some ≡ [] → spoilt_among all ≡ []
+  pub ledger : (noted : Noted) → IsLedgerOf (placed_among some) noted → IsLedgerOf (placed_among all) noted
+
+Tells-same : (some all : List MeaningAt) → some ≡ all → Tells some all
+Tells-same some all same = record {
+  fault = λ f h. subst (λ l. IsReadFault (spoilt_among l) f) same h;
+  clean = λ h. subst (λ l. spoilt_among l ≡ []) same h;
+  ledger = λ noted h. subst (λ l. IsLedgerOf (placed_among l) noted) same h;
+}
+
+Tells-trans : (some more all : List MeaningAt) → Tells some more → Tells more all → Tells some all
+Tells-trans some more all h k = record {
+  fault = λ f is. k.fault f (h.fault f is);
+  clean = λ none. k.clean (h.clean none);
+  ledger = λ noted is. k.ledger noted (h.ledger noted is);
+}
+
+-- a bad line stays the first where others follow it
+fault_ahead : (a b c : List Spoilt) (x : Spoilt) → Contains a x → (f : Fault) → IsReadFault (a ++ b) f → IsReadFault (a ++ c) f
+fault_ahead [] b c x has f h = absurd (Contains-nil x has)
+fault_ahead (y ∷ a) b c x has Memory h = h
+fault_ahead (y ∷ a) b c x has TooManyLogs h = h
+fault_ahead (y ∷ a) b c x has (LogTooLong log) h = h
+fault_ahead (y ∷ a) b c x has (BadLine place why) h = let first : y ≡ record { place = place; why = why } = cc h.1 in (a ++ c, ap (λ z. z ∷ (a ++ c)) first)
+fault_ahead (y ∷ a) b c x has TooManyInstances h = h
+fault_ahead (y ∷ a) b c x has (Disagree id first second) h = h
+fault_ahead (y ∷ a) b c x has (Read log) h = h
+fault_ahead (y ∷ a) b c x has Write h = h
+
+not_clean : (a b : List Spoilt) (x : Spoilt) → Contains a x → ¬ (a ++ b ≡ [])
+not_clean [] b x has none = Contains-nil x has
+not_clean (y ∷ a) b x has none = cc none
+
+-- what a line gives is among what its list gives
+given_placed : (lines : List MeaningAt) (l : MeaningAt) (p : Placed) → Contains lines l → Contains (placed_at l.place l.meaning) p → Contains (placed_among lines) p
+given_placed [] l p has h = absurd (Contains-nil l has)
+given_placed (k ∷ lines) l p has h =
+    elim (Contains-cons_cases k lines l has) [
+      | inl same ↦ Contains-append_left (placed_at k.place k.meaning) (placed_among lines) p (subst (λ (m : MeaningAt). Contains (placed_at m.place m.meaning) p) (sym same) h)
+      | inr later ↦ Contains-append_right (placed_at k.place k.meaning) (placed_among lines) p (given_placed lines l p later h)
+    ]
+
+given_spoilt : (lines : List MeaningAt) (l : MeaningAt) (x : Spoilt) → Contains lines l → Contains (spoilt_at l.place l.meaning) x → Contains (spoilt_among lines) x
+given_spoilt [] l x has h = absurd (Contains-nil l has)
+given_spoilt (k ∷ lines) l x has h =
+    elim (Contains-cons_cases k lines l has) [
+      | inl same ↦ Contains-append_left (spoilt_at k.place k.meaning) (spoilt_among lines) x (subst (λ (m : MeaningAt). Contains (spoilt_at m.place m.meaning) x) (sym same) h)
+      | inr later ↦ Contains-append_right (spoilt_at k.place k.meaning) (spoilt_among lines) x (given_spoilt lines l x later h)
+    ]
+
+-- a line that is blank or repeats an earlier one
+module _ (before after : List MeaningAt) (place : Place) where
+  abbrev line_of : Result Line Why → MeaningAt
+  line_of meaning = record { place = place; meaning = meaning }
+
+  placed_with : (meaning : Result Line Why) → placed_among (before ++ line_of meaning ∷ after) ≡ placed_among before ++ (placed_at place meaning ++ placed_among after)
+  placed_with meaning = placed_among-append before (line_of meaning ∷ after)
+
+  spoilt_with : (meaning : Result Line Why) → spoilt_among (before ++ line_of meaning ∷ after) ≡ spoilt_among before ++ (spoilt_at place meaning ++ spoilt_among after)
+  spoilt_with meaning = spoilt_among-append before (line_of meaning ∷ after)
+
+  Tells-idle : (meaning : Result Line Why) → IsIdle before meaning → Tells (before ++ after) (before ++ line_of meaning ∷ after)
+  Tells-idle (Ok Blank) idle =
+      let spoilt = spoilt_among-append before after ∙ sym (spoilt_with (Ok Blank)) in
+      let placed = placed_among-append before after ∙ sym (placed_with (Ok Blank)) in
+      record {
+        fault = λ f h. subst (λ l. IsReadFault l f) spoilt h;
+        clean = λ none. sym spoilt ∙ none;
+        ledger = λ noted h. subst (λ l. IsLedgerOf l noted) placed h;
+      }
+  Tells-idle (Ok (Entry e)) (inl blank) = absurd (cc blank)
+  Tells-idle (Ok (Entry e)) (inr earlier) =
+      let spoilt = spoilt_among-append before after ∙ sym (spoilt_with (Ok (Entry e))) in
+      let line = earlier.0 in
+      let first : Placed = record { place = line.place; instance = e } in
+      let more : Placed = record { place = place; instance = e } in
+      let has = given_placed before line first earlier.1 (subst (λ m. Contains (placed_at line.place m) first) (sym earlier.2) (Contains-head first [])) in
+      record {
+        fault = λ f h. subst (λ l. IsReadFault l f) spoilt h;
+        clean = λ none. sym spoilt ∙ none;
+        ledger = λ noted h.
+            subst (λ l. IsLedgerOf l noted) (sym (placed_with (Ok (Entry e))))
+            (ledger_repeated (placed_among before) (placed_among after) first more has refl noted (subst (λ l. IsLedgerOf l noted) (placed_among-append before after) h));
+      }
+  Tells-idle (Err why) (inl blank) = absurd (cc blank)
+  Tells-idle (Err why) (inr earlier) =
+      let placed = placed_among-append before after ∙ sym (placed_with (Err why)) in
+      let line = earlier.0 in
+      let first : Spoilt = record { place = line.place; why = why } in
+      let has = given_spoilt before line first earlier.1 (subst (λ m. Contains (spoilt_at line.place m) first) (sym earlier.2) (Contains-head first [])) in
+      record {
+        fault = λ f h.
+            subst (λ l. IsReadFault l f) (sym (spoilt_with (Err why)))
+            (fault_ahead (spoilt_among before) (spoilt_among after) _ first has f (subst (λ l. IsReadFault l f) (spoilt_among-append before after) h));
+        clean = λ none. absurd (not_clean (spoilt_among before) (spoilt_among after) first has (sym (spoilt_among-append before after) ∙ none));
+        ledger = λ noted h. subst (λ l. IsLedgerOf l noted) placed h;
+      }
+
+pub Tells-kept : (lines old new : List MeaningAt) → Keeps lines old new → Tells new (old ++ lines)
+Tells-kept [] old new h = Tells-same new (old ++ []) (sym h ∙ sym (append-nil old))
+Tells-kept (l ∷ lines) old new (inl h) = subst (Tells new) (append_assoc old (l ∷ []) lines) (Tells-kept lines (old ++ l ∷ []) new h)
+Tells-kept (l ∷ lines) old new (inr h) =
+    Tells-trans new (old ++ lines) (old ++ l ∷ lines) (Tells-kept lines old new h.1) (Tells-idle old lines l.place l.meaning h.0)

@@ -1,0 +1,6 @@
+use Rattle.std.proofs.Common.{drop}
+use Rattle.epx_merge.proofs.NextLines.{IsReading}
+use Rattle.epx_merge.proofs.pieces.read_lines.Given as goal
+
+abbrev pub invariant-loop-line : goal.invariant-loop-line
+invariant-loop-line l = IsReading l.lines (drop l.line-index l.lines) l.entries.items

@@ -1,0 +1,28 @@
+-- What reading lines that follow each other answers, piece by piece.
+use Rattle.std.specs.Prelude.{◌≡◌, ◌*◌, ◌++◌, ◌∷◌, ℕ, List, [], Result, Ok, Err, take, drop}
+use Rattle.epx_types.specs.PlacedLines.{Placed}
+use Rattle.epx_merge.specs.declared.pieces.BadLine.{BadLine}
+use Rattle.epx_merge.specs.LogLines.{MeaningAt, placed_among, spoilt_among}
+use Rattle.epx_merge.specs.Refusals.{IsFirstSpoilt}
+
+-- no line is bad, and what they give is held
+pub record Gives {E : Type 0} (holds : List Placed → E → Type 0) (lines : List MeaningAt) (held : E) : Type 0 where
+  pub clean : spoilt_among lines ≡ []
+  pub placed : holds (placed_among lines) held
+
+abbrev pub IsFirstBad : List MeaningAt → BadLine → Type 0
+IsFirstBad lines bad = IsFirstSpoilt (spoilt_among lines) bad.place bad.why
+
+-- what was read of lines that follow each other: what they give, or their first bad line
+abbrev pub IsRead : {E : Type 0} → (List Placed → E → Type 0) → List MeaningAt → Result E BadLine → Type 0
+IsRead holds lines (Ok held) = Gives holds lines held
+IsRead holds lines (Err bad) = IsFirstBad lines bad
+
+-- what was read of pieces that follow each other and together are the lines
+abbrev pub AreRead : {E : Type 0} → (List Placed → E → Type 0) → List MeaningAt → List (Result E BadLine) → Type 0
+AreRead holds lines [] = lines ≡ []
+AreRead holds lines (piece ∷ pieces) = (here rest : List MeaningAt) × (lines ≡ here ++ rest) × IsRead holds here piece × AreRead holds rest pieces
+
+-- the lines of a piece
+abbrev pub lines_of_piece : ℕ → ℕ → List MeaningAt → List MeaningAt
+lines_of_piece cut piece lines = take cut (drop (piece * cut) lines)

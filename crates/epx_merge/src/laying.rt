@@ -1,0 +1,44 @@
+//! The next lines of logs, laid in a list for the workers.
+ghost use Rattle.std.specs.Prelude.{◌≡◌, ◌≤◌, ◌^◌, [], IfOk, IsTrue, length};
+ghost use Rattle.epx_merge.specs.Repeats.{IsIdleIn, HoldsAfter, Lays};
+
+use crate::line::PlacedLine;
+use crate::repeats::LineTable;
+use crate::walk::LineWalk;
+use epx_types::Memory;
+use std::alloc::Global;
+
+/// At most this many lines are laid before they are read: four pieces of the greatest cut. So what is laid
+/// takes no more room where logs are longer.
+const LINES_AT_ONCE: usize = 262_144;
+
+/// Whether a line tells nothing: it is blank, or repeats one that the table holds.
+fn is_idle<'a>(line: &PlacedLine<'a>, table: &mut LineTable<'a>) -> bool
+    ensures idle { IsTrue result → IsIdleIn table.old line.now.meaning }
+    ensures held { HoldsAfter table.old line.now.meaning table.new }
+{
+    line.is_blank() || table.finds(line.bytes())
+}
+
+/// The next lines, without blank ones and without those that repeat an earlier one. None are laid only where
+/// no line is left.
+pub(crate) fn lay_lines<'a>(
+    alloc: Global,
+    walk: &mut LineWalk<'a>,
+    table: &mut LineTable<'a>,
+) -> Result<Vec<PlacedLine<'a>>, Memory>
+    ensures lays { IfOk result (λ v. Lays walk.old walk.new table.old table.new v.items) }
+    ensures last { IfOk result (λ v. v.items ≡ [] → walk.new ≡ []) }
+    ensures few { IfOk result (λ v. length v.items ≤ 2 ^ 40) }
+{
+    let mut lines = Vec::new(alloc);
+    while lines.len() < LINES_AT_ONCE {
+        let Some(line) = walk.next_line() else {
+            return Ok(lines);
+        };
+        if !is_idle(&line, table) {
+            lines.push(line)?;
+        }
+    }
+    Ok(lines)
+}

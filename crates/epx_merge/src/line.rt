@@ -1,0 +1,60 @@
+//! A line of a log, not read yet.
+ghost use Rattle.std.specs.Prelude.{◌≡◌, Ok, IfOk, IfErr, IsTrue};
+ghost use Rattle.epx_lines.specs.Meaning.{meaning_of};
+ghost use Rattle.epx_lines.specs.Faults.{IsFaultOf};
+ghost use Rattle.epx_lines.specs.declared.Line.TheVariants as line;
+ghost use Rattle.epx_merge.specs.LogLines.{meaning_at};
+
+use epx_lines::{Line, LineFault, is_blank_line, read_line};
+use epx_types::Place;
+use std::alloc::Global;
+use std::marker::Model;
+
+/// Where a line stands, and its bytes. Contracts see where it stands and what it means.
+#[derive(Drop)]
+pub(crate) struct PlacedLine<'a> {
+    place: Place,
+    bytes: &'a [u8],
+}
+
+impl<'a> Model for PlacedLine<'a> {
+    ghost use Rattle.epx_merge.specs.LogLines.{MeaningAt, meaning_at};
+
+    ghost Value = { MeaningAt };
+
+    ghost view = { λ l. meaning_at l.place l.bytes.now };
+}
+
+impl<'a> PlacedLine<'a> {
+    pub(crate) fn new(place: Place, bytes: &'a [u8]) -> PlacedLine<'a>
+        ensures { result ≡ meaning_at place bytes.now }
+    {
+        PlacedLine { place, bytes }
+    }
+
+    pub(crate) fn place(&self) -> Place
+        ensures { result ≡ self.now.place }
+    {
+        self.place
+    }
+
+    pub(crate) fn bytes(&self) -> &'a [u8]
+        ensures { meaning_of result.now ≡ self.now.meaning }
+    {
+        self.bytes
+    }
+
+    /// Whether it is passed over as it is.
+    pub(crate) fn is_blank(&self) -> bool
+        ensures { IsTrue result → self.now.meaning ≡ Ok line.Blank }
+    {
+        is_blank_line(self.bytes)
+    }
+
+    pub(crate) fn read(&self, alloc: Global) -> Result<Line, LineFault>
+        ensures line { IfOk result (λ l. self.now.meaning ≡ Ok l) }
+        ensures fault { IfErr result (λ f. IsFaultOf f self.now.meaning) }
+    {
+        read_line(alloc, self.bytes)
+    }
+}

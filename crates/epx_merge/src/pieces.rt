@@ -1,0 +1,101 @@
+//! Pieces of the lines, which workers read.
+ghost use Rattle.std.specs.Prelude.{◌≡◌, ◌<◌, ◌++◌, ◌∷◌, List, [], IfOk, OnOk, MatchOption, MatchResult, length};
+ghost use Rattle.epx_types.specs.Pieces.{piece_count};
+ghost use Rattle.epx_merge.specs.LogLines.{MeaningAt, placed_at, placed_among, spoilt_at, spoilt_among};
+ghost use Rattle.epx_merge.specs.ReadPieces.{IsRead, AreRead, lines_of_piece};
+ghost use Rattle.epx_merge.specs.Ledgers.{Notes};
+ghost use Rattle.epx_merge.specs.Steps.{IsReadFault};
+
+use crate::ledger::Ledger;
+use crate::line::PlacedLine;
+use crate::placed::PlacedEntry;
+use epx_lines::{Line, LineFault};
+use epx_types::{Fault, Memory, Place, Plan, Why};
+use std::alloc::Global;
+
+/// A line that gives no entry, and the reason.
+#[derive(Clone, Copy, Debug)]
+pub(crate) struct BadLine {
+    pub(crate) place: Place,
+    pub(crate) why: Why,
+}
+
+/// Reads one line, and adds its entry if it gives one. Answers the line if it is bad.
+fn read_next(
+    alloc: Global,
+    line: &PlacedLine<'_>,
+    entries: &mut Vec<PlacedEntry>,
+) -> Result<Option<BadLine>, Memory>
+    ensures { let at = line.now.place in let meaning = line.now.meaning in IfOk result (λ o. MatchOption o
+        ((spoilt_at at meaning ≡ []) × (entries.new.items ≡ entries.old.items ++ placed_at at meaning))
+        (λ bad. spoilt_at at meaning ≡ record { place = bad.place; why = bad.why } ∷ [])) }
+{
+    let place = line.place();
+    match line.read(alloc) {
+        Ok(Line::Blank) => Ok(None),
+        Ok(Line::Entry(entry)) => {
+            entries.push(PlacedEntry::new(place, entry))?;
+            Ok(None)
+        }
+        Err(LineFault::Memory) => Err(Memory),
+        Err(LineFault::Bad(why)) => Ok(Some(BadLine { place, why })),
+    }
+}
+
+/// The entries that lines give, or the first bad line.
+fn read_lines(
+    alloc: Global,
+    lines: &[PlacedLine<'_>],
+) -> Result<Result<Vec<PlacedEntry>, BadLine>, Memory>
+    ensures { IfOk result (IsRead (λ given entries. entries.items ≡ given) lines.now) }
+{
+    let mut entries = Vec::with_capacity(alloc, lines.len())?;
+    for line in lines {
+        if let Some(bad) = read_next(alloc, line, &mut entries)? {
+            return Ok(Err(bad));
+        }
+    }
+    Ok(Ok(entries))
+}
+
+/// The entries that the lines of a piece give, or its first bad line.
+pub(crate) fn read_piece(
+    alloc: Global,
+    plan: Plan,
+    lines: &[PlacedLine<'_>],
+    piece: usize,
+) -> Result<Result<Vec<PlacedEntry>, BadLine>, Memory>
+    requires { piece < piece_count plan.cut (length lines.now) }
+    ensures { IfOk result (IsRead (λ given entries. entries.items ≡ given) (lines_of_piece plan.cut piece lines.now)) }
+{
+    let (start, end) = plan.range(piece, lines.len());
+    read_lines(alloc, &lines[start..end])
+}
+
+/// Notes the entries of pieces in order, up to the first bad line.
+pub(crate) fn note_pieces(
+    pieces: Vec<Result<Vec<PlacedEntry>, BadLine>>,
+    ledger: &mut Ledger,
+) -> Result<(), Fault>
+    ensures { (lines : List MeaningAt) → AreRead (λ given entries. entries.items ≡ given) lines pieces.items → MatchResult result
+        (λ _. (spoilt_among lines ≡ []) × Notes (placed_among lines) ledger.old ledger.new)
+        (IsReadFault (spoilt_among lines)) }
+{
+    for piece in pieces {
+        match piece {
+            Ok(entries) => note_entries(entries, ledger)?,
+            Err(BadLine { place, why }) => return Err(Fault::BadLine { place, why }),
+        }
+    }
+    Ok(())
+}
+
+/// Notes entries in order.
+fn note_entries(entries: Vec<PlacedEntry>, ledger: &mut Ledger) -> Result<(), Memory>
+    ensures { OnOk result (Notes entries.items ledger.old ledger.new) }
+{
+    for entry in entries {
+        ledger.note(entry)?;
+    }
+    Ok(())
+}

@@ -1,0 +1,77 @@
+//! The lines of logs, one after another.
+ghost use Rattle.std.specs.Prelude.{◌≡◌, ◌∷◌, [], MatchOption, map};
+ghost use Rattle.epx_merge.specs.LogLines.{meanings_of};
+
+use crate::line::PlacedLine;
+use epx_lines::cut_line;
+use epx_types::Place;
+use std::marker::Model;
+
+/// Goes over the lines of logs, by log and then by line. Contracts see the lines that are left.
+#[derive(Drop)]
+pub(crate) struct LineWalk<'a> {
+    log: usize,
+    line: usize,
+    rest: &'a [u8],
+    others: &'a [Vec<u8>],
+}
+
+impl<'a> Model for LineWalk<'a> {
+    ghost use Rattle.std.specs.Prelude.{List, ◌+◌, ◌<◌, ◌^◌, length, map};
+    ghost use Rattle.epx_merge.specs.LogLines.{MeaningAt, meanings_left};
+
+    ghost Value = { List MeaningAt };
+
+    ghost view = { λ w. meanings_left w.log w.line w.rest.now (map (λ log. log.items) w.others.now) };
+
+    ghost invariant = { λ w. (w.line + length w.rest.now < 2 ^ 64) × (w.log + length w.others.now < 2 ^ 64) };
+}
+
+impl<'a> LineWalk<'a> {
+    pub(crate) fn new(logs: &'a [Vec<u8>]) -> LineWalk<'a>
+        ensures { result ≡ meanings_of (map (λ log. log.items) logs.now) }
+    {
+        match logs.split_first() {
+            Some((first, others)) => LineWalk {
+                log: 0,
+                line: 0,
+                rest: first,
+                others,
+            },
+            None => LineWalk {
+                log: 0,
+                line: 0,
+                rest: &[],
+                others: logs,
+            },
+        }
+    }
+
+    /// The next line.
+    pub(crate) fn next_line(&mut self) -> Option<PlacedLine<'a>>
+        ensures { MatchOption result ((self.old ≡ []) × (self.new ≡ [])) (λ line. self.old ≡ line ∷ self.new) }
+    {
+        let LineWalk {
+            mut log,
+            mut line,
+            mut rest,
+            mut others,
+        } = *self;
+        while rest.is_empty() {
+            let (first, more) = others.split_first()?;
+            log += 1;
+            line = 0;
+            rest = first;
+            others = more;
+        }
+        let (bytes, rest) = cut_line(rest);
+        line += 1;
+        *self = LineWalk {
+            log,
+            line,
+            rest,
+            others,
+        };
+        Some(PlacedLine::new(Place { log, line }, bytes))
+    }
+}
