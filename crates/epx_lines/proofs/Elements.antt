@@ -1,5 +1,5 @@
 -- Elements of a parsed array, one after another, beside what the definitions read of them.
-use Rattle.std.proofs.Common.{◌≡◌, ℕ, suc, ◌+◌, ◌<◌, ◌≤◌, List, [], ◌∷◌, ◌++◌, length, get_or, drop, map, filter, fold, Option, Some, None, option_map, option_and_then, refl, sym, ap, ◌∙◌, arith}
+use Rattle.std.proofs.Common.{◌≡◌, ℕ, suc, ◌+◌, ◌<◌, ◌≤◌, List, [], ◌∷◌, ◌++◌, length, get_or, drop, map, Option, Some, None, option_map, option_and_then, refl, sym, ap, ◌∙◌, arith}
 use Rattle.std.proofs.lemmas.Bool.Decides.{nat_tests}
 use Rattle.std.proofs.lemmas.List.{drop_more}
 use Rattle.serde_json.specs.Data.{Data}
@@ -8,10 +8,8 @@ use Rattle.serde_json.specs.View.{view, items_view}
 use Rattle.serde_json.specs.declared.value.Value.{Value}
 use Rattle.epx_types.specs.declared.id.Id.{Id}
 use Rattle.epx_types.specs.declared.op.Op.{Op}
-use Rattle.epx_lines.specs.Elements.{list_of, every, at_most}
-use Rattle.std.specs.BTreeSet.{insert_key}
-use Rattle.epx_types.specs.Ids.{id_cmp}
-use Rattle.epx_lines.specs.DependencyList.{is_other, rising_others, id_of, id_of_pair, deps_of}
+use Rattle.epx_lines.specs.Elements.{list_of, every, at_most, each_of_at_most}
+use Rattle.epx_lines.specs.DependencyList.{id_of, id_of_pair, deps_of}
 use Rattle.epx_lines.specs.OperationList.{op_of, op_of_list, ops_of}
 
 -- ---- an array's elements are those of the vector
@@ -95,24 +93,16 @@ pub ops_of_some : (d : Data) (vs : List Value) → Some (items_view vs) ≡ as_a
 unfolding ops_of
 ops_of_some d vs e l = rw (← e) (some_elements op_of 64 vs l)
 
-pub deps_of_some : (self : Id) (d : Data) (vs : List Value) → Some (items_view vs) ≡ as_array d → length vs ≤ 256 → deps_of self d ≡ option_map (rising_others self) (every (λ v. id_of (view v)) vs)
-unfolding deps_of
-deps_of_some self d vs e l = rw (← e) (ap (option_map (rising_others self)) (some_elements id_of 256 vs l))
-
 same_option : {A : Type 0} (o : Option A) → o ≡ option_map (λ x. x) o
 same_option None = refl
 same_option (Some x) = refl
-
--- the Ids found so far, with the others among these each put at its place, unless it is there
-abbrev pub with_others : Id → List Id → List Id → List Id
-with_others self found ids = fold (insert_key id_cmp) found (filter (is_other self) ids)
 
 -- before the first element
 pub ops_begin : (d : Data) (vs items : List Value) (ops : List Op) → Some (items_view vs) ≡ as_array d → length vs ≤ 64 → items ≡ vs → ops ≡ [] → ops_of d ≡ option_map (λ more. ops ++ more) (every (λ v. op_of (view v)) (drop 0 items))
 ops_begin d vs items ops e l same none = rw (same, none) (ops_of_some d vs e l ∙ same_option _)
 
-pub deps_begin : (self : Id) (d : Data) (vs items : List Value) (found : List Id) → Some (items_view vs) ≡ as_array d → length vs ≤ 256 → items ≡ vs → found ≡ [] → deps_of self d ≡ option_map (with_others self found) (every (λ v. id_of (view v)) (drop 0 items))
-deps_begin self d vs items found e l same none = rw (same, none) (deps_of_some self d vs e l)
+pub ids_begin : (d : Data) (vs items : List Value) (ids : List Id) → Some (items_view vs) ≡ as_array d → length vs ≤ 256 → items ≡ vs → ids ≡ [] → each_of_at_most 256 id_of d ≡ option_map (λ more. ids ++ more) (every (λ v. id_of (view v)) (drop 0 items))
+ids_begin d vs items ids e l same none = rw (same, none, ← e) (some_elements id_of 256 vs l ∙ same_option _)
 
 -- ---- a loop over the elements: `ahead` takes what the rest gives, `later` what it gives without its head
 

@@ -9,3 +9,6 @@ pub mod WrittenLines
 pub mod NoFloat
 pub mod OnLiterals
 pub mod WorkedLines
+pub mod TokenValues
+pub mod Parts
+pub mod RisingOthers

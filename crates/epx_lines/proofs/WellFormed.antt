@@ -121,7 +121,7 @@ length-every_at (Some y) None n ys h e = cc
 length-every_at (Some y) (Some zs) n ys h e = grind (arith, h zs refl)
 
 module _ {A B : Type 0} where
-  length-every : (f : A → Option B) (xs : List A) (ys : List B) → every f xs ≡ Some ys → length ys ≡ length xs
+  pub length-every : (f : A → Option B) (xs : List A) (ys : List B) → every f xs ≡ Some ys → length ys ≡ length xs
   length-every f [] ys e = grind arith
   length-every f (x ∷ xs) ys e = length-every_at (f x) (every f xs) (length xs) ys (length-every f xs) e
 

@@ -4,5 +4,6 @@ pub mod DependencyList
 pub mod OperationList
 pub mod Meaning
 pub mod Faults
+pub mod Tokens
 pub mod Text
 pub mod WrittenParts

@@ -2,9 +2,9 @@
 ghost use Rattle.std.specs.Prelude.{◌≡◌, ◌^◌, IfOk, option_map};
 ghost use Rattle.serde_json.specs.View.{view};
 ghost use Rattle.epx_lines.specs.Elements.{whole};
-ghost use Rattle.epx_lines.specs.DependencyList.{id_of, deps_of};
+ghost use Rattle.epx_lines.specs.DependencyList.{id_of, rising_others, deps_of};
 
-use epx_types::entry::MAX_DEPS;
+use epx_types::entry::{MAX_DEPS, is_rising};
 use epx_types::{Id, Memory};
 use serde_json::Value;
 use std::alloc::Global;
@@ -41,25 +41,39 @@ fn read_id(value: &Value) -> Option<Id>
     })
 }
 
+/// The rising list of these, each once, without the instance itself. A list that is so stays.
+pub fn other_ids(alloc: Global, id: Id, named: Vec<Id>) -> Result<Vec<Id>, Memory>
+    ensures { IfOk result (λ v. v.items ≡ rising_others id named.items) }
+{
+    if is_rising(&named) && !named.contains(&id) {
+        return Ok(named);
+    }
+    let mut others = BTreeSet::new(alloc);
+    for dep in &named {
+        if *dep != id {
+            others.insert(*dep)?;
+        }
+    }
+    Ok(others.into_iter().collect(alloc)?)
+}
+
 /// The rising list of the instances that are named, without the instance itself.
 #[tactic(auto, unfolding(crate::specs::DependencyList::deps_of))]
 pub fn read_deps(alloc: Global, id: Id, value: &Value) -> Result<Option<Vec<Id>>, Memory>
     ensures { IfOk result (λ o. option_map (λ v. v.items) o ≡ deps_of id (view value.now)) }
 {
-    let Some(named) = value.as_array() else {
+    let Some(written) = value.as_array() else {
         return Ok(None);
     };
-    if named.len() > MAX_DEPS {
+    if written.len() > MAX_DEPS {
         return Ok(None);
     }
-    let mut others = BTreeSet::new(alloc);
-    for dep in named {
+    let mut named = Vec::with_capacity(alloc, written.len())?;
+    for dep in written {
         let Some(dep) = read_id(dep) else {
             return Ok(None);
         };
-        if dep != id {
-            others.insert(dep)?;
-        }
+        named.push(dep)?;
     }
-    Ok(Some(others.into_iter().collect(alloc)?))
+    Ok(Some(other_ids(alloc, id, named)?))
 }

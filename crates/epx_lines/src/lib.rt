@@ -4,6 +4,7 @@
 
 mod cut;
 mod deps;
+mod direct;
 mod laws;
 mod ops;
 mod read;
@@ -12,7 +13,7 @@ mod write;
 pub use cut::{cut_line, cut_lines};
 use epx_types::{Entry, Memory, Why};
 pub use laws::{lines_are_one, lines_make_up_the_bytes};
-pub use read::{is_blank_line, read_line};
+pub use read::{LineReader, is_blank_line, read_line};
 pub use write::write_line;
 
 /// What a line of a log means.

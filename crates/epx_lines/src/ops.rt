@@ -31,7 +31,7 @@ fn read_value_or_null(value: &Value) -> Option<Option<i64>>
 }
 
 #[tactic(auto, unfolding(crate::specs::OperationList::op_with_key))]
-fn op_named(name: &str, key: Key) -> Option<Op>
+pub fn op_named(name: &str, key: Key) -> Option<Op>
     ensures { result ≡ op_with_key name.now key }
 {
     if name == "get" {
@@ -44,7 +44,7 @@ fn op_named(name: &str, key: Key) -> Option<Op>
 }
 
 #[tactic(auto, unfolding(crate::specs::OperationList::op_with_value))]
-fn op_named_with(alloc: Global, name: &str, key: Key, value: &Value) -> Result<Option<Op>, Memory>
+pub fn op_named_with(alloc: Global, name: &str, key: Key, value: &Value) -> Result<Option<Op>, Memory>
     ensures { IfOk result (λ o. o ≡ op_with_value name.now key (view value.now)) }
 {
     if name == "copy" {

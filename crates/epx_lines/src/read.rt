@@ -2,15 +2,18 @@
 ghost use Rattle.std.specs.Prelude.{◌≡◌, Ok, IfOk, IfErr, codes, option_map};
 ghost use Rattle.serde_json.specs.Find.{get};
 ghost use Rattle.serde_json.specs.View.{view};
-ghost use Rattle.epx_lines.specs.Meaning.{is_blank, json_of, at_member, status_is_allowed, instance_of, meaning_of};
+ghost use Rattle.epx_types.specs.declared.fault.Why.TheVariants.{NotJson};
+ghost use Rattle.epx_lines.specs.Meaning.{is_blank, json_of, need, at_member, status_is_allowed, instance_of, meaning_of_value, meaning_of};
 ghost use Rattle.epx_lines.specs.DependencyList.{deps_of};
 ghost use Rattle.epx_lines.specs.OperationList.{ops_of};
 ghost use Rattle.epx_lines.specs.Faults.{IsFaultOf};
 
 use crate::deps::{read_deps, read_number, read_replica};
+use crate::direct::direct_entry;
 use crate::ops::read_ops;
 use crate::{Line, LineFault};
 use epx_types::{Entry, Id, Memory, Op, Why};
+use json::Scratch;
 use serde_json::Value;
 use std::alloc::Global;
 
@@ -103,18 +106,12 @@ fn read_json(alloc: Global, bytes: &[u8]) -> Result<Option<Value>, Memory>
     }
 }
 
-/// What one line means, without its line feed. Members that have no part in an instance may hold
-/// anything. `Memory` comes only where a growth was refused.
-pub fn read_line(alloc: Global, bytes: &[u8]) -> Result<Line, LineFault>
-    ensures ok { IfOk result (λ l. meaning_of bytes.now ≡ Ok l) }
-    ensures bad { IfErr result (λ f. IsFaultOf f (meaning_of bytes.now)) }
+/// What a line means that is neither blank nor too long, by its value.
+fn read_whole(alloc: Global, bytes: &[u8]) -> Result<Line, LineFault>
+    ensures ok { IfOk result (λ l. need NotJson (json_of bytes.now) meaning_of_value ≡ Ok l) }
+    ensures bad { IfErr result
+        (λ f. IsFaultOf f (need NotJson (json_of bytes.now) meaning_of_value)) }
 {
-    if is_blank_line(bytes) {
-        return Ok(Line::Blank);
-    }
-    if bytes.len() > MAX_LINE_BYTES {
-        return Err(LineFault::Bad(Why::TooLong));
-    }
     let Some(value) = read_json(alloc, bytes)? else {
         return Err(LineFault::Bad(Why::NotJson));
     };
@@ -122,4 +119,44 @@ pub fn read_line(alloc: Global, bytes: &[u8]) -> Result<Line, LineFault>
         return Err(LineFault::Bad(Why::NotObject));
     }
     Ok(Line::Entry(read_instance(alloc, &value)?))
+}
+
+/// Reads lines one after another, over memory that it keeps.
+#[derive(Drop)]
+pub struct LineReader {
+    scratch: Scratch,
+}
+
+impl LineReader {
+    pub fn new(alloc: Global) -> LineReader {
+        LineReader {
+            scratch: Scratch::new(alloc),
+        }
+    }
+
+    /// What one line means, without its line feed. Members that have no part in an instance may hold
+    /// anything. `Memory` comes only where a growth was refused.
+    pub fn read(&mut self, alloc: Global, bytes: &[u8]) -> Result<Line, LineFault>
+        ensures ok { IfOk result (λ l. meaning_of bytes.now ≡ Ok l) }
+        ensures bad { IfErr result (λ f. IsFaultOf f (meaning_of bytes.now)) }
+    {
+        if is_blank_line(bytes) {
+            return Ok(Line::Blank);
+        }
+        if bytes.len() > MAX_LINE_BYTES {
+            return Err(LineFault::Bad(Why::TooLong));
+        }
+        if let Some(entry) = direct_entry(alloc, &mut self.scratch, bytes) {
+            return Ok(Line::Entry(entry));
+        }
+        read_whole(alloc, bytes)
+    }
+}
+
+/// What one line means, as `LineReader` reads it.
+pub fn read_line(alloc: Global, bytes: &[u8]) -> Result<Line, LineFault>
+    ensures ok { IfOk result (λ l. meaning_of bytes.now ≡ Ok l) }
+    ensures bad { IfErr result (λ f. IsFaultOf f (meaning_of bytes.now)) }
+{
+    LineReader::new(alloc).read(alloc, bytes)
 }

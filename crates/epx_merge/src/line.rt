@@ -5,7 +5,7 @@ ghost use Rattle.epx_lines.specs.Faults.{IsFaultOf};
 ghost use Rattle.epx_lines.specs.declared.Line.TheVariants as line;
 ghost use Rattle.epx_merge.specs.LogLines.{meaning_at};
 
-use epx_lines::{Line, LineFault, is_blank_line, read_line};
+use epx_lines::{Line, LineFault, LineReader, is_blank_line};
 use epx_types::Place;
 use std::alloc::Global;
 use std::marker::Model;
@@ -51,10 +51,10 @@ impl<'a> PlacedLine<'a> {
         is_blank_line(self.bytes)
     }
 
-    pub(crate) fn read(&self, alloc: Global) -> Result<Line, LineFault>
+    pub(crate) fn read(&self, alloc: Global, reader: &mut LineReader) -> Result<Line, LineFault>
         ensures line { IfOk result (λ l. self.now.meaning ≡ Ok l) }
         ensures fault { IfErr result (λ f. IsFaultOf f self.now.meaning) }
     {
-        read_line(alloc, self.bytes)
+        reader.read(alloc, self.bytes)
     }
 }

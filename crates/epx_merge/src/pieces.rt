@@ -9,7 +9,7 @@ ghost use Rattle.epx_merge.specs.Steps.{IsReadFault};
 use crate::ledger::Ledger;
 use crate::line::PlacedLine;
 use crate::placed::PlacedEntry;
-use epx_lines::{Line, LineFault};
+use epx_lines::{Line, LineFault, LineReader};
 use epx_types::{Fault, Memory, Place, Plan, Why};
 use std::alloc::Global;
 
@@ -23,6 +23,7 @@ pub(crate) struct BadLine {
 /// Reads one line, and adds its entry if it gives one. Answers the line if it is bad.
 fn read_next(
     alloc: Global,
+    reader: &mut LineReader,
     line: &PlacedLine<'_>,
     entries: &mut Vec<PlacedEntry>,
 ) -> Result<Option<BadLine>, Memory>
@@ -31,7 +32,7 @@ fn read_next(
         (λ bad. spoilt_at at meaning ≡ record { place = bad.place; why = bad.why } ∷ [])) }
 {
     let place = line.place();
-    match line.read(alloc) {
+    match line.read(alloc, reader) {
         Ok(Line::Blank) => Ok(None),
         Ok(Line::Entry(entry)) => {
             entries.push(PlacedEntry::new(place, entry))?;
@@ -49,9 +50,10 @@ fn read_lines(
 ) -> Result<Result<Vec<PlacedEntry>, BadLine>, Memory>
     ensures { IfOk result (IsRead (λ given entries. entries.items ≡ given) lines.now) }
 {
+    let mut reader = LineReader::new(alloc);
     let mut entries = Vec::with_capacity(alloc, lines.len())?;
     for line in lines {
-        if let Some(bad) = read_next(alloc, line, &mut entries)? {
+        if let Some(bad) = read_next(alloc, &mut reader, line, &mut entries)? {
             return Ok(Err(bad));
         }
     }

@@ -1,4 +1,4 @@
-mod ReportNumbers
+mod LineTexts
 mod Pairs
 mod SourcesRead
 mod OneAnswer

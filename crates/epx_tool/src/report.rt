@@ -1,12 +1,11 @@
-//! The report as text: lines of JSON (RFC 8259) in compact form, each ended by a line feed.
-ghost use Rattle.std.specs.Prelude.{◌≡◌, ◌++◌, ◌∷◌, [], false, length, map, flat_map, zip, OnOk, IfOk};
+//! The report as text: lines of JSON (RFC 8259) in compact form, each ended by a line feed. Each line
+//! is written token by token.
+ghost use Rattle.std.specs.Prelude.{◌≡◌, ◌++◌, ◌∷◌, [], length, map, flat_map, zip, OnOk, IfOk};
 ghost use Rattle.std.specs.FinMap as contents;
-ghost use Rattle.serde_json.specs.Data.{number};
-ghost use Rattle.serde_json.specs.Find.{of_integer};
-ghost use Rattle.serde_json.specs.View.{view};
-ghost use Rattle.serde_json.specs.Written.{compact_text, has_float};
-ghost use Rattle.epx_lines.specs.Text.{data_of_value};
-ghost use Rattle.epx_tool.specs.ReportLines.{line_feed, array_of, line_of, header_data, header_line, reply_data, reply_line, store_data, store_line, waiting_data, waiting_line};
+ghost use Rattle.json.specs.Token.{begin_array, end_array, string};
+ghost use Rattle.json.specs.Print.{print};
+ghost use Rattle.epx_tool.specs.LineTokens.{name_tokens, value_token, reply_tokens};
+ghost use Rattle.epx_tool.specs.ReportLines.{line_feed, line_of, header_line, reply_line, store_line, waiting_line};
 ghost use Rattle.epx_tool.specs.OrderText.{order_data, order_line, order_text};
 ghost use Rattle.epx_types.specs.ExecutionOrder.{component_count, ranked_ids};
 
@@ -14,89 +13,80 @@ use epx_graph::Waiter;
 use epx_order::OrderList;
 use epx_txn::Store;
 use epx_types::{Id, Key, Memory, Reply};
-use serde_json::{Value, json};
+use json::Writer;
 use std::alloc::{AllocError, Global};
 
 const LINE_FEED: u8 = 10;
 
-/// Text that grows by a line.
-fn append_line(alloc: Global, text: &mut Vec<u8>, value: &Value) -> Result<(), AllocError>
-    requires { has_float (view value.now) ≡ false }
-    ensures { OnOk result (text.new.items ≡ text.old.items ++ (compact_text (view value.now) ++ line_feed ∷ [])) }
+/// Most lines have no more bytes.
+const LINE_BYTES: usize = 128;
+
+/// The array of a line, up to its first element.
+fn begin_line(alloc: Global, name: &str) -> Result<Writer, AllocError>
+    ensures tokens { IfOk result (λ out. out.tokens ≡ begin_array ∷ string name.now ∷ []) }
+    ensures before { IfOk result (λ out. out.before ≡ []) }
 {
-    let line = value.to_string(alloc)?;
-    text.extend_from_slice(line.as_bytes())?;
+    let mut out = Writer::new(Vec::with_capacity(alloc, LINE_BYTES)?);
+    out.begin_array()?;
+    out.string(name)?;
+    Ok(out)
+}
+
+/// Text that grows by a line, whose array is ended.
+fn end_line(text: &mut Vec<u8>, mut out: Writer) -> Result<(), AllocError>
+    ensures { OnOk result (text.new.items ≡ text.old.items
+        ++ ((out.before ++ print (out.tokens ++ end_array ∷ [])) ++ line_feed ∷ [])) }
+{
+    out.end_array()?;
+    text.extend_from_slice(&out.into_inner())?;
     text.push(LINE_FEED)?;
     Ok(())
 }
 
-fn integer_value(value: &i64) -> Value
-    ensures { view result ≡ number (of_integer value.now) }
+fn write_name(out: &mut Writer, id: Id) -> Result<(), AllocError>
+    ensures tokens { OnOk result (out.new.tokens ≡ out.old.tokens ++ name_tokens id) }
+    ensures before { out.new.before ≡ out.old.before }
 {
-    let integer = *value;
-    Value::from(integer)
+    out.u64(id.replica as u64)?;
+    out.u64(id.number)
 }
 
-fn optional_value(value: Option<i64>) -> Value
-    ensures { view result ≡ data_of_value value }
+fn write_value(out: &mut Writer, value: Option<i64>) -> Result<(), AllocError>
+    ensures tokens { OnOk result (out.new.tokens ≡ out.old.tokens ++ value_token value ∷ []) }
+    ensures before { out.new.before ≡ out.old.before }
 {
     match value {
-        Some(value) => integer_value(&value),
-        None => Value::Null,
+        Some(value) => out.i64(value),
+        None => out.null(),
     }
 }
 
-fn header_value(
-    alloc: Global,
-    executed: usize,
-    waiting: usize,
-    components: usize,
-) -> Result<Value, AllocError>
-    ensures { IfOk result (λ v. view v ≡ array_of (header_data executed waiting components)) }
+fn write_values(out: &mut Writer, values: &[Option<i64>]) -> Result<(), AllocError>
+    ensures tokens { OnOk result (out.new.tokens ≡ out.old.tokens ++ map value_token values.now) }
+    ensures before { out.new.before ≡ out.old.before }
 {
-    json!(in alloc; ["executed", executed, "waiting", waiting, "components", components])
-}
-
-fn list_value(alloc: Global, values: &[Option<i64>]) -> Result<Value, AllocError>
-    ensures { IfOk result (λ v. view v ≡ array_of (map data_of_value values.now)) }
-{
-    let mut list = Vec::with_capacity(alloc, values.len())?;
     for value in values {
-        list.push(optional_value(*value))?;
+        write_value(out, *value)?;
     }
-    Ok(Value::Array(list))
+    Ok(())
 }
 
-fn reply_value(alloc: Global, id: Id, reply: &Reply) -> Result<Value, AllocError>
-    ensures { IfOk result (λ v. view v ≡ array_of (reply_data id reply.now)) }
+fn write_reply(out: &mut Writer, reply: &Reply) -> Result<(), AllocError>
+    ensures tokens { OnOk result (out.new.tokens ≡ out.old.tokens ++ reply_tokens reply.now) }
+    ensures before { out.new.before ≡ out.old.before }
 {
-    let Id { replica, number } = id;
     match reply {
         Reply::Values(values) => {
-            let list = list_value(alloc, values.as_slice())?;
-            json!(in alloc; ["reply", replica, number, "ok", list])
+            out.string("ok")?;
+            out.begin_array()?;
+            write_values(out, values.as_slice())?;
+            out.end_array()
         }
-        Reply::Abort(place) => json!(in alloc; ["reply", replica, number, "abort", *place]),
+        Reply::Abort(place) => {
+            out.string("abort")?;
+            out.u64(*place as u64)
+        }
     }
-}
-
-fn store_value(alloc: Global, key: &Key, value: &i64) -> Result<Value, AllocError>
-    ensures { IfOk result (λ v. view v ≡ array_of (store_data (key.now, value.now))) }
-{
-    json!(in alloc; ["store", key.text(), integer_value(value)])
-}
-
-fn waiting_value(alloc: Global, waiter: Waiter) -> Result<Value, AllocError>
-    ensures { IfOk result (λ v. view v ≡ array_of (waiting_data waiter)) }
-{
-    let Waiter { id, missing } = waiter;
-    json!(in alloc; ["waiting", id.replica, id.number, missing.replica, missing.number])
-}
-
-fn order_value(alloc: Global, id: Id, depth: usize, leader: Id) -> Result<Value, AllocError>
-    ensures { IfOk result (λ v. view v ≡ array_of (order_data id depth leader)) }
-{
-    json!(in alloc; ["order", id.replica, id.number, depth, leader.replica, leader.number])
 }
 
 fn append_header(
@@ -108,15 +98,22 @@ fn append_header(
 ) -> Result<(), AllocError>
     ensures { OnOk result (text.new.items ≡ text.old.items ++ header_line executed waiting components) }
 {
-    let value = header_value(alloc, executed, waiting, components)?;
-    append_line(alloc, text, &value)
+    let mut out = begin_line(alloc, "executed")?;
+    out.u64(executed as u64)?;
+    out.string("waiting")?;
+    out.u64(waiting as u64)?;
+    out.string("components")?;
+    out.u64(components as u64)?;
+    end_line(text, out)
 }
 
 fn append_reply(alloc: Global, text: &mut Vec<u8>, id: Id, reply: &Reply) -> Result<(), AllocError>
     ensures { OnOk result (text.new.items ≡ text.old.items ++ reply_line (id, reply.now)) }
 {
-    let value = reply_value(alloc, id, reply)?;
-    append_line(alloc, text, &value)
+    let mut out = begin_line(alloc, "reply")?;
+    write_name(&mut out, id)?;
+    write_reply(&mut out, reply)?;
+    end_line(text, out)
 }
 
 fn append_store_pair(
@@ -127,15 +124,19 @@ fn append_store_pair(
 ) -> Result<(), AllocError>
     ensures { OnOk result (text.new.items ≡ text.old.items ++ store_line (key.now, value.now)) }
 {
-    let value = store_value(alloc, key, value)?;
-    append_line(alloc, text, &value)
+    let mut out = begin_line(alloc, "store")?;
+    out.string(key.text())?;
+    out.i64(*value)?;
+    end_line(text, out)
 }
 
 fn append_waiter(alloc: Global, text: &mut Vec<u8>, waiter: Waiter) -> Result<(), AllocError>
     ensures { OnOk result (text.new.items ≡ text.old.items ++ waiting_line waiter) }
 {
-    let value = waiting_value(alloc, waiter)?;
-    append_line(alloc, text, &value)
+    let mut out = begin_line(alloc, "waiting")?;
+    write_name(&mut out, waiter.id)?;
+    write_name(&mut out, waiter.missing)?;
+    end_line(text, out)
 }
 
 fn append_ranked(
@@ -147,8 +148,11 @@ fn append_ranked(
 ) -> Result<(), AllocError>
     ensures { OnOk result (text.new.items ≡ text.old.items ++ line_of (order_data id depth leader)) }
 {
-    let value = order_value(alloc, id, depth, leader)?;
-    append_line(alloc, text, &value)
+    let mut out = begin_line(alloc, "order")?;
+    write_name(&mut out, id)?;
+    out.u64(depth as u64)?;
+    write_name(&mut out, leader)?;
+    end_line(text, out)
 }
 
 fn append_replies(

@@ -78,7 +78,7 @@ impl Entry {
 }
 
 /// Whether each is below the next.
-fn is_rising(ids: &[Id]) -> bool
+pub fn is_rising(ids: &[Id]) -> bool
     ensures { IsTrue result ↔ IsRising ids.now }
 {
     for i in 1..ids.len() {

@@ -1,4 +1,4 @@
-use Rattle.std.proofs.Common.{arith, rules}
+use Rattle.std.proofs.Common.{arith}
 use Rattle.epx_lines.proofs.FirstLine.{lines_of-first, lines_of-last, line_before, line_at_end}
 use Rattle.epx_lines.proofs.cut.cut_line.Goals as goal
 

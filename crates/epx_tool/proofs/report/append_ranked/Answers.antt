@@ -1,6 +1,16 @@
-use Rattle.std.proofs.Common.{ap, ◌∙◌, refl}
-use Rattle.serde_json.specs.Written.{has_float}
+use Rattle.std.proofs.Common.{◌≡◌, [], ◌∷◌, ◌++◌, codes, decimal, Some, refl, arith}
+use Rattle.std.proofs.lemmas.Grind.{common_steps}
+use Rattle.std.proofs.lemmas.Result.{on_ok_weaker}
+use Rattle.json.specs.Token.{begin_array, string, number}
+use Rattle.epx_tool.specs.LineTokens.{name_tokens, value_token, reply_tokens}
+use Rattle.epx_tool.specs.OrderText.{order_data}
+use Rattle.epx_tool.proofs.LineTexts.{line_written}
 use Rattle.epx_tool.proofs.report.append_ranked.Goals as goal
 
-pub append_line-requires : goal.append_line-requires
-append_line-requires c = ap has_float c.in_ok-value.ensures ∙ refl
+pub returns : goal.returns
+returns c =
+    let last = c.write_name-2.new.out in
+    let ts = begin_array ∷ string (codes "order") ∷ (name_tokens c.args.id ++ number (decimal c.args.depth) ∷ name_tokens c.args.leader) in
+    let same : last.tokens ≡ ts = grind (arith, common_steps) in
+    let kept : last.before ≡ [] = grind arith in
+    on_ok_weaker c.end_line.result (λ e. line_written (order_data c.args.id c.args.depth c.args.leader) ts last.tokens c.args.text.now.items last.before c.end_line.new.text.items same kept (refl) e) c.end_line.ensures

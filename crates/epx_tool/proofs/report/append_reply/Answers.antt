@@ -1,7 +1,16 @@
-use Rattle.std.proofs.Common.{ap, ◌∙◌}
-use Rattle.serde_json.specs.Written.{has_float}
-use Rattle.epx_tool.proofs.ReportNumbers.{no_float-reply}
+use Rattle.std.proofs.Common.{◌≡◌, [], ◌∷◌, ◌++◌, codes, decimal, Some, refl, arith}
+use Rattle.std.proofs.lemmas.Grind.{common_steps}
+use Rattle.std.proofs.lemmas.Result.{on_ok_weaker}
+use Rattle.json.specs.Token.{begin_array, string, number}
+use Rattle.epx_tool.specs.LineTokens.{name_tokens, value_token, reply_tokens}
+use Rattle.epx_tool.specs.ReportLines.{reply_data}
+use Rattle.epx_tool.proofs.LineTexts.{line_written, reply_line-tokens}
 use Rattle.epx_tool.proofs.report.append_reply.Goals as goal
 
-pub append_line-requires : goal.append_line-requires
-append_line-requires c = ap has_float c.in_ok-value.ensures ∙ no_float-reply c.args.id c.args.reply.now
+pub returns : goal.returns
+returns c =
+    let last = c.write_reply.new.out in
+    let ts = begin_array ∷ string (codes "reply") ∷ (name_tokens c.args.id ++ reply_tokens c.args.reply.now) in
+    let same : last.tokens ≡ ts = grind (arith, common_steps) in
+    let kept : last.before ≡ [] = grind arith in
+    on_ok_weaker c.end_line.result (λ e. line_written (reply_data c.args.id c.args.reply.now) ts last.tokens c.args.text.now.items last.before c.end_line.new.text.items same kept (reply_line-tokens c.args.id c.args.reply.now) e) c.end_line.ensures

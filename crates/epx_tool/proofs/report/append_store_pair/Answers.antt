@@ -1,7 +1,16 @@
-use Rattle.std.proofs.Common.{ap, ◌∙◌}
-use Rattle.serde_json.specs.Written.{has_float}
-use Rattle.epx_tool.proofs.ReportNumbers.{no_float-store}
+use Rattle.std.proofs.Common.{◌≡◌, [], ◌∷◌, ◌++◌, codes, decimal, Some, refl, arith}
+use Rattle.std.proofs.lemmas.Grind.{common_steps}
+use Rattle.std.proofs.lemmas.Result.{on_ok_weaker}
+use Rattle.json.specs.Token.{begin_array, string, number}
+use Rattle.epx_tool.specs.LineTokens.{name_tokens, value_token, reply_tokens}
+use Rattle.epx_tool.specs.ReportLines.{store_data}
+use Rattle.epx_tool.proofs.LineTexts.{line_written, store_line-tokens}
 use Rattle.epx_tool.proofs.report.append_store_pair.Goals as goal
 
-pub append_line-requires : goal.append_line-requires
-append_line-requires c = ap has_float c.in_ok-value.ensures ∙ no_float-store c.args.key.now c.args.value.now
+pub returns : goal.returns
+returns c =
+    let last = c.i64.new.self in
+    let ts = begin_array ∷ string (codes "store") ∷ string c.args.key.now ∷ value_token (Some c.args.value.now) ∷ [] in
+    let same : last.tokens ≡ ts = grind (arith, common_steps) in
+    let kept : last.before ≡ [] = grind arith in
+    on_ok_weaker c.end_line.result (λ e. line_written (store_data (c.args.key.now, c.args.value.now)) ts last.tokens c.args.text.now.items last.before c.end_line.new.text.items same kept (store_line-tokens c.args.key.now c.args.value.now) e) c.end_line.ensures

@@ -1,0 +1,46 @@
+use Rattle.std.proofs.Common.{◌≡◌, ◌^◌, Some, codes, refl, arith, rules}
+use Rattle.serde_json.specs.Data.{string}
+use Rattle.serde_json.specs.View.{view}
+use Rattle.epx_lines.specs.Elements.{whole}
+use Rattle.epx_lines.proofs.TokenValues.{BeginsWith-deeper}
+use Rattle.epx_lines.proofs.Parts.{HoldsParts-replica, HoldsParts-number, HoldsParts-seq, HoldsParts-named, HoldsParts-ops, HoldsParts-status}
+use Rattle.epx_lines.proofs.direct.take_member.Goals as goal
+
+pub returns-in_ok-read_replica : goal.returns-in_ok-read_replica
+returns-in_ok-read_replica c =
+    let named : c.args.name.now ≡ codes "r" = search rules in
+    let d = view c.in_ok-take_number.field-0 in
+    let is : whole 256 d ≡ Some c.in_ok-read_replica.field-0 = grind arith in
+    (d, BeginsWith-deeper 0 2 _ d _ (omega arith) c.in_ok-take_number.ensures, λ ms h. rw named (HoldsParts-replica d ms c.args.parts.now h _ is))
+
+pub returns-in_ok-read_number : goal.returns-in_ok-read_number
+returns-in_ok-read_number c =
+    let named : c.args.name.now ≡ codes "i" = search rules in
+    let d = view c.in_ok-take_number-2.field-0 in
+    let is : whole (2 ^ 64) d ≡ Some c.in_ok-read_number.field-0 = grind arith in
+    (d, BeginsWith-deeper 0 2 _ d _ (omega arith) c.in_ok-take_number-2.ensures, λ ms h. rw named (HoldsParts-number d ms c.args.parts.now h _ is))
+
+pub returns-in_ok-read_number-2 : goal.returns-in_ok-read_number-2
+returns-in_ok-read_number-2 c =
+    let named : c.args.name.now ≡ codes "seq" = search rules in
+    let d = view c.in_ok-take_number-3.field-0 in
+    let is : whole (2 ^ 64) d ≡ Some c.in_ok-read_number-2.field-0 = grind arith in
+    (d, BeginsWith-deeper 0 2 _ d _ (omega arith) c.in_ok-take_number-3.ensures, λ ms h. rw named (HoldsParts-seq d ms c.args.parts.now h _ is))
+
+pub returns-in_ok-take_ids : goal.returns-in_ok-take_ids
+returns-in_ok-take_ids c =
+    let named : c.args.name.now ≡ codes "deps" = search rules in
+    let g = c.in_ok-take_ids.ensures in
+    (g.0, g.1, λ ms h. rw named (HoldsParts-named g.0 ms c.args.parts.now h c.in_ok-take_ids.field-0 g.2))
+
+pub returns-in_ok-take_ops : goal.returns-in_ok-take_ops
+returns-in_ok-take_ops c =
+    let named : c.args.name.now ≡ codes "ops" = search rules in
+    let g = c.in_ok-take_ops.ensures in
+    (g.0, g.1, λ ms h. rw named (HoldsParts-ops g.0 ms c.args.parts.now h c.in_ok-take_ops.field-0 g.2))
+
+pub returns-in_ok-take_committed : goal.returns-in_ok-take_committed
+returns-in_ok-take_committed c =
+    let named : c.args.name.now ≡ codes "status" = search rules in
+    let d = string (codes "committed") in
+    (d, BeginsWith-deeper 0 2 _ d _ (omega arith) c.in_ok-take_committed.ensures, λ ms h. rw named (HoldsParts-status d ms c.args.parts.now h refl))

@@ -1,0 +1,37 @@
+-- Values at the front of a line's tokens; for private clauses.
+use Rattle.std.specs.Prelude.{◌≡◌, ℕ, ◌^◌, ◌≤◌, List, true, codes, Option, Some, IfSome, option_map}
+use Rattle.json.specs.Token.{Token}
+use Rattle.json.specs.Json.{value}
+use Rattle.serde_json.specs.Data.{Data, Members, object, put}
+use Rattle.serde_json.specs.Find.{get}
+use Rattle.serde_json.specs.Read.{of_json, converted}
+use Rattle.epx_lines.specs.declared.direct.Parts.{Parts}
+use Rattle.epx_lines.specs.Elements.{whole, each_of_at_most}
+use Rattle.epx_lines.specs.DependencyList.{id_of}
+use Rattle.epx_lines.specs.OperationList.{ops_of}
+use Rattle.epx_lines.specs.Meaning.{at_member, status_is_allowed}
+
+-- the tokens begin with the value d, whose lists nest at most n levels deep, and `rest` follows
+abbrev pub BeginsWith : ℕ → List Token → Data → List Token → Type 0
+BeginsWith n ts d rest = (depth : ℕ) → n ≤ depth → converted of_json (value depth ts) ≡ Some (d, rest)
+
+-- with one for which f gives x
+abbrev pub Gives : {A : Type 0} → ℕ → (Data → Option A) → List Token → A → List Token → Type 0
+Gives n f ts x rest = (d : Data) × BeginsWith n ts d rest × (f d ≡ Some x)
+
+-- what an object gives for a member, if the part is known
+abbrev pub IsMember : {A : Type 0} → List ℕ → (Data → Option A) → Members → Option A → Type 0
+IsMember name f ms part = IfSome part (λ x. at_member name f (object ms) ≡ Some x)
+
+-- the parts that are known are those of the object, whose status is allowed
+pub record HoldsParts (ms : Members) (p : Parts) : Type 0 where
+  pub replica : IsMember (codes "r") (whole 256) ms p.replica
+  pub number : IsMember (codes "i") (whole (2 ^ 64)) ms p.number
+  pub seq : IsMember (codes "seq") (whole (2 ^ 64)) ms p.seq
+  pub named : IsMember (codes "deps") (each_of_at_most 256 id_of) ms (option_map (λ v. v.items) p.named)
+  pub ops : IsMember (codes "ops") ops_of ms (option_map (λ v. v.items) p.ops)
+  pub status : status_is_allowed (get (codes "status") (object ms)) ≡ true
+
+-- a value was taken, and the parts hold with it under the name wherever they held before
+abbrev pub AddsMember : List ℕ → List Token → List Token → Parts → Parts → Type 0
+AddsMember name ts rest old new = (d : Data) × BeginsWith 2 ts d rest × ((ms : Members) → HoldsParts ms old → HoldsParts (put name d ms) new)

@@ -1,0 +1,262 @@
+//! Reading an instance from the tokens of its line, with no value of the whole line in between. Each
+//! function takes what it names from the front of the tokens. None says nothing of the line: it is
+//! then read as a value.
+ghost use Rattle.std.specs.Prelude.{◌≡◌, ◌<◌, ◌==◌, true, false, Some, Ok, IfSome, IsTrue, option_map, codes, length, slice_index};
+ghost use Rattle.serde_json.specs.Data.{Data, Members, object, number, string};
+ghost use Rattle.serde_json.specs.Read.{number_of, number_from};
+ghost use Rattle.serde_json.specs.View.{view};
+ghost use Rattle.epx_types.specs.declared.fault.Why.TheVariants.{NotJson};
+ghost use Rattle.epx_lines.specs.declared.Line.TheVariants as line;
+ghost use Rattle.epx_lines.specs.DependencyList.{id_of};
+ghost use Rattle.epx_lines.specs.Elements.{each_of_at_most};
+ghost use Rattle.epx_lines.specs.Meaning.{json_of, need, meaning_of_value, instance_of};
+ghost use Rattle.epx_lines.specs.OperationList.{op_of, ops_of};
+ghost use Rattle.epx_lines.specs.Tokens.{BeginsWith, Gives, HoldsParts, AddsMember};
+
+use crate::deps::{other_ids, read_number, read_replica};
+use crate::ops::{op_named, op_named_with};
+use epx_types::entry::{MAX_DEPS, MAX_OPS};
+use epx_types::{Entry, Id, Key, Op};
+use fast_float::Numeral;
+use json::{Reader, Scratch, Token};
+use serde_json::Value;
+use std::alloc::Global;
+use std::str;
+
+/// What was found of an instance.
+#[derive(Drop)]
+pub(crate) struct Parts {
+    pub(crate) replica: Option<u8>,
+    pub(crate) number: Option<u64>,
+    pub(crate) seq: Option<u64>,
+    pub(crate) named: Option<Vec<Id>>,
+    pub(crate) ops: Option<Vec<Op>>,
+}
+
+fn has_minus(bytes: &[u8]) -> bool
+    ensures value { result ≡ (slice_index bytes.now 0 == 45) }
+    ensures len { IsTrue result → 0 < length bytes.now }
+{
+    !bytes.is_empty() && bytes[0] == b'-'
+}
+
+fn positive_value(numeral: &Numeral<'_>) -> Option<Value>
+    ensures { IfSome result (λ v. option_map number (number_from false numeral.now) ≡ Some (view v)) }
+{
+    let whole = numeral.to_u64()?;
+    Some(Value::from(whole))
+}
+
+fn negative_value(numeral: &Numeral<'_>) -> Option<Value>
+    ensures { IfSome result (λ v. option_map number (number_from true numeral.now) ≡ Some (view v)) }
+{
+    let whole = numeral.to_i64(true)?;
+    if whole < 0 {
+        Some(Value::from(whole))
+    } else {
+        None
+    }
+}
+
+/// A whole number of 64 bits, by its digits.
+fn number_value(text: &str) -> Option<Value>
+    ensures { IfSome result (λ v. option_map number (number_of text.now) ≡ Some (view v)) }
+{
+    let bytes = text.as_bytes();
+    if has_minus(bytes) {
+        negative_value(&Numeral::scan(&bytes[1..]))
+    } else {
+        positive_value(&Numeral::scan(bytes))
+    }
+}
+
+fn take_number(reader: &mut Reader<'_>) -> Option<Value>
+    ensures { IfSome result (λ v. BeginsWith 0 reader.old (view v) reader.new) }
+{
+    let Token::Number(text) = reader.next()? else {
+        return None;
+    };
+    Some(number_value(text)?)
+}
+
+/// A value that holds no other.
+fn take_scalar(alloc: Global, reader: &mut Reader<'_>) -> Option<Value>
+    ensures { IfSome result (λ v. BeginsWith 0 reader.old (view v) reader.new) }
+{
+    match reader.next()? {
+        Token::Number(text) => Some(number_value(text)?),
+        Token::String(text) => Some(Value::String(String::from_str(alloc, text).ok()?)),
+        Token::Null => Some(Value::Null),
+        _ => None,
+    }
+}
+
+fn take_id(reader: &mut Reader<'_>) -> Option<Id>
+    ensures { IfSome result (λ x. Gives 1 id_of reader.old x reader.new) }
+{
+    let Token::BeginArray = reader.next()? else {
+        return None;
+    };
+    let replica = take_number(reader)?;
+    let number = take_number(reader)?;
+    if !reader.take_end_array() {
+        return None;
+    }
+    Some(Id {
+        replica: read_replica(&replica)?,
+        number: read_number(&number)?,
+    })
+}
+
+fn take_ids(alloc: Global, reader: &mut Reader<'_>) -> Option<Vec<Id>>
+    ensures { IfSome result
+        (λ ids. Gives 2 (each_of_at_most 256 id_of) reader.old ids.items reader.new) }
+{
+    let Token::BeginArray = reader.next()? else {
+        return None;
+    };
+    let mut ids = Vec::new(alloc);
+    while !reader.take_end_array() {
+        if ids.len() == MAX_DEPS {
+            return None;
+        }
+        ids.push(take_id(reader)?).ok()?;
+    }
+    ids.shrink_to_fit();
+    Some(ids)
+}
+
+fn take_op(alloc: Global, reader: &mut Reader<'_>) -> Option<Op>
+    ensures { IfSome result (λ op. Gives 1 op_of reader.old op reader.new) }
+{
+    let Token::BeginArray = reader.next()? else {
+        return None;
+    };
+    let Token::String(name) = reader.next()? else {
+        return None;
+    };
+    let Token::String(key) = reader.next()? else {
+        return None;
+    };
+    let key = Key::new(alloc, key).ok()??;
+    if reader.take_end_array() {
+        return Some(op_named(name, key)?);
+    }
+    let value = take_scalar(alloc, reader)?;
+    if !reader.take_end_array() {
+        return None;
+    }
+    Some(op_named_with(alloc, name, key, &value).ok()??)
+}
+
+fn take_ops(alloc: Global, reader: &mut Reader<'_>) -> Option<Vec<Op>>
+    ensures { IfSome result (λ ops. Gives 2 ops_of reader.old ops.items reader.new) }
+{
+    let Token::BeginArray = reader.next()? else {
+        return None;
+    };
+    let mut ops = Vec::new(alloc);
+    while !reader.take_end_array() {
+        if ops.len() == MAX_OPS {
+            return None;
+        }
+        ops.push(take_op(alloc, reader)?).ok()?;
+    }
+    ops.shrink_to_fit();
+    Some(ops)
+}
+
+/// The status of a committed instance.
+fn take_committed(reader: &mut Reader<'_>) -> Option<()>
+    ensures { IfSome result
+        (λ _. BeginsWith 0 reader.old (string (codes "committed")) reader.new) }
+{
+    let Token::String(text) = reader.next()? else {
+        return None;
+    };
+    if text == "committed" { Some(()) } else { None }
+}
+
+/// The value of the member of this name.
+fn take_member(
+    alloc: Global,
+    name: &str,
+    reader: &mut Reader<'_>,
+    parts: &mut Parts,
+) -> Option<()>
+    ensures { IfSome result (λ _. AddsMember name.now reader.old reader.new parts.old parts.new) }
+{
+    if name == "r" {
+        parts.replica = Some(read_replica(&take_number(reader)?)?);
+    } else if name == "i" {
+        parts.number = Some(read_number(&take_number(reader)?)?);
+    } else if name == "seq" {
+        parts.seq = Some(read_number(&take_number(reader)?)?);
+    } else if name == "deps" {
+        parts.named = Some(take_ids(alloc, reader)?);
+    } else if name == "ops" {
+        parts.ops = Some(take_ops(alloc, reader)?);
+    } else if name == "status" {
+        take_committed(reader)?;
+    } else {
+        return None;
+    }
+    Some(())
+}
+
+fn take_parts(alloc: Global, reader: &mut Reader<'_>) -> Option<Parts>
+    ensures { IfSome result (λ parts. (ms : Members)
+        × BeginsWith 3 reader.old (object ms) reader.new × HoldsParts ms parts) }
+{
+    let Token::BeginObject = reader.next()? else {
+        return None;
+    };
+    let mut parts = Parts {
+        replica: None,
+        number: None,
+        seq: None,
+        named: None,
+        ops: None,
+    };
+    while let Some(name) = reader.next_key().ok()? {
+        take_member(alloc, name, reader, &mut parts)?;
+    }
+    Some(parts)
+}
+
+fn entry_of(alloc: Global, parts: Parts) -> Option<Entry>
+    ensures { IfSome result
+        (λ e. (ms : Members) → HoldsParts ms parts → instance_of (object ms) ≡ Ok e) }
+{
+    let Parts {
+        replica,
+        number,
+        seq,
+        named,
+        ops,
+    } = parts;
+    let id = Id {
+        replica: replica?,
+        number: number?,
+    };
+    let deps = other_ids(alloc, id, named?).ok()?;
+    Entry::new(id, seq?, deps, ops?)
+}
+
+/// The entry of a line that holds one and nothing else.
+pub(crate) fn direct_entry(
+    alloc: Global,
+    scratch: &mut Scratch,
+    bytes: &[u8],
+) -> Option<Entry>
+    ensures { IfSome result
+        (λ e. need NotJson (json_of bytes.now) meaning_of_value ≡ Ok (line.Entry e)) }
+{
+    let text = str::from_utf8(bytes).ok()?;
+    let mut reader = Reader::new(text, scratch).ok()?;
+    let parts = take_parts(alloc, &mut reader)?;
+    if reader.next().is_some() {
+        return None;
+    }
+    entry_of(alloc, parts)
+}

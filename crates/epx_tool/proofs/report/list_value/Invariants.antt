@@ -1,7 +1,0 @@
-use Rattle.std.proofs.Common.{◌≡◌, map, take}
-use Rattle.serde_json.specs.View.{view}
-use Rattle.epx_lines.specs.Text.{data_of_value}
-use Rattle.epx_tool.proofs.report.list_value.Given as goal
-
-abbrev pub invariant-loop-value : goal.invariant-loop-value
-invariant-loop-value l = map view l.list.items ≡ map data_of_value (take l.value-index l.values)
