@@ -178,12 +178,7 @@ fn take_committed(reader: &mut Reader<'_>) -> Option<()>
 }
 
 /// The value of the member of this name.
-fn take_member(
-    alloc: Global,
-    name: &str,
-    reader: &mut Reader<'_>,
-    parts: &mut Parts,
-) -> Option<()>
+fn take_member(alloc: Global, name: &str, reader: &mut Reader<'_>, parts: &mut Parts) -> Option<()>
     ensures { IfSome result (λ _. AddsMember name.now reader.old reader.new parts.old parts.new) }
 {
     if name == "r" {
@@ -244,11 +239,7 @@ fn entry_of(alloc: Global, parts: Parts) -> Option<Entry>
 }
 
 /// The entry of a line that holds one and nothing else.
-pub(crate) fn direct_entry(
-    alloc: Global,
-    scratch: &mut Scratch,
-    bytes: &[u8],
-) -> Option<Entry>
+pub(crate) fn direct_entry(alloc: Global, scratch: &mut Scratch, bytes: &[u8]) -> Option<Entry>
     ensures { IfSome result
         (λ e. need NotJson (json_of bytes.now) meaning_of_value ≡ Ok (line.Entry e)) }
 {

@@ -44,7 +44,12 @@ pub fn op_named(name: &str, key: Key) -> Option<Op>
 }
 
 #[tactic(auto, unfolding(crate::specs::OperationList::op_with_value))]
-pub fn op_named_with(alloc: Global, name: &str, key: Key, value: &Value) -> Result<Option<Op>, Memory>
+pub fn op_named_with(
+    alloc: Global,
+    name: &str,
+    key: Key,
+    value: &Value,
+) -> Result<Option<Op>, Memory>
     ensures { IfOk result (λ o. o ≡ op_with_value name.now key (view value.now)) }
 {
     if name == "copy" {

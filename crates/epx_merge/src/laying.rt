@@ -1,16 +1,28 @@
 //! The next lines of logs, laid in a list for the workers.
-ghost use Rattle.std.specs.Prelude.{◌≡◌, ◌≤◌, ◌^◌, [], IfOk, IsTrue, length};
+ghost use Rattle.std.specs.Prelude.{◌≡◌, ◌<◌, ◌≤◌, ◌^◌, [], IfOk, IsTrue, length};
 ghost use Rattle.epx_merge.specs.Repeats.{IsIdleIn, HoldsAfter, Lays};
 
 use crate::line::PlacedLine;
 use crate::repeats::LineTable;
 use crate::walk::LineWalk;
-use epx_types::Memory;
+use epx_types::{Memory, Plan};
 use std::alloc::Global;
 
-/// At most this many lines are laid before they are read: four pieces of the greatest cut. So what is laid
-/// takes no more room where logs are longer.
-const LINES_AT_ONCE: usize = 262_144;
+/// So many lines are laid before they are read, where pieces are small, so that threads are not started for few.
+const LEAST_AT_ONCE: usize = 4_096;
+
+/// No more lines than four pieces of the greatest cut are laid before they are read. So what is laid takes no
+/// more room where logs are longer.
+const MOST_AT_ONCE: usize = 262_144;
+
+/// How many lines are laid before they are read: four pieces a worker, within the bounds.
+fn lines_at_once(plan: Plan) -> usize
+    ensures some { 0 < result }
+    ensures few { result ≤ 262144 }
+{
+    let wanted = 4 * plan.workers() * plan.cut();
+    wanted.max(LEAST_AT_ONCE).min(MOST_AT_ONCE)
+}
 
 /// Whether a line tells nothing: it is blank, or repeats one that the table holds.
 fn is_idle<'a>(line: &PlacedLine<'a>, table: &mut LineTable<'a>) -> bool
@@ -24,6 +36,7 @@ fn is_idle<'a>(line: &PlacedLine<'a>, table: &mut LineTable<'a>) -> bool
 /// no line is left.
 pub(crate) fn lay_lines<'a>(
     alloc: Global,
+    plan: Plan,
     walk: &mut LineWalk<'a>,
     table: &mut LineTable<'a>,
 ) -> Result<Vec<PlacedLine<'a>>, Memory>
@@ -31,8 +44,9 @@ pub(crate) fn lay_lines<'a>(
     ensures last { IfOk result (λ v. v.items ≡ [] → walk.new ≡ []) }
     ensures few { IfOk result (λ v. length v.items ≤ 2 ^ 40) }
 {
+    let most = lines_at_once(plan);
     let mut lines = Vec::new(alloc);
-    while lines.len() < LINES_AT_ONCE {
+    while lines.len() < most {
         let Some(line) = walk.next_line() else {
             return Ok(lines);
         };

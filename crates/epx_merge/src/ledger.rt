@@ -81,10 +81,10 @@ impl Ledger {
             mut firsts,
             mut clashes,
         } = self;
-        let Ok(()) = firsts.sort_keys() else {
+        let Ok(()) = firsts.sort_unstable_keys() else {
             return Err(Fault::Memory);
         };
-        let Ok(()) = clashes.sort_keys() else {
+        let Ok(()) = clashes.sort_unstable_keys() else {
             return Err(Fault::Memory);
         };
         if firsts.len() > MAX_INSTANCES {

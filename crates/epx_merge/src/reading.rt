@@ -86,12 +86,12 @@ fn read_all<R: Threads + Sync, G: Gate + Sync>(
     let mut ledger = Ledger::new(alloc);
     let mut table = table_for(alloc, logs.len())?;
     let mut walk = LineWalk::new(logs);
-    let mut lines = lay_lines(alloc, &mut walk, &mut table)?;
+    let mut lines = lay_lines(alloc, plan, &mut walk, &mut table)?;
     while !lines.is_empty() {
         if let Err(fault) = read_batch(rt, alloc, plan, gate, &lines, &mut ledger) {
             return Err(fault);
         }
-        lines = lay_lines(alloc, &mut walk, &mut table)?;
+        lines = lay_lines(alloc, plan, &mut walk, &mut table)?;
     }
     Ok(ledger)
 }

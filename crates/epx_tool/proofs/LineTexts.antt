@@ -26,7 +26,7 @@ pub line_written : (ds : List Data) (ts now : List Token) (text before whole : L
     → whole ≡ text ++ ((before ++ print (now ++ end_array ∷ [])) ++ line_feed ∷ []) → whole ≡ text ++ line_of ds
 line_written ds ts now text before whole same none is e =
     e ∙ ap (λ b. text ++ ((b ++ print (now ++ end_array ∷ [])) ++ line_feed ∷ [])) none ∙ ap (λ us. text ++ (print (us ++ end_array ∷ []) ++ line_feed ∷ [])) same
-        ∙ ap (λ all. text ++ (print all ++ line_feed ∷ [])) (sym is) ∙ ap (λ t. text ++ (t ++ line_feed ∷ [])) (print-outline (array_of ds))
+    ∙ ap (λ all. text ++ (print all ++ line_feed ∷ [])) (sym is) ∙ ap (λ t. text ++ (t ++ line_feed ∷ [])) (print-outline (array_of ds))
 
 integer_tokens : (v : ℤ) → tokens_of (value.number (of_integer v)) ≡ value_token (Some v) ∷ []
 integer_tokens (pos n) = refl

@@ -23,7 +23,7 @@ loop-parts-preserved c =
     let named : read_key l.reader ≡ Some (Some k, c.next_key.new.self) = grind arith in
     let added = c.in_ok-take_member.ensures in
     HasMembers-more 2 c.next.new.self (λ ms. HoldsParts (put_each ms no_members) l.parts) (λ ms. HoldsParts (put_each ms no_members) c.take_member.new.parts) k added.0 l.reader c.next_key.new.self c.take_member.new.reader l.invariant named added.1
-        (λ ms h. rw (put_each-last ms (k, added.0) no_members) (added.2 (put_each ms no_members) h))
+    (λ ms h. rw (put_each-last ms (k, added.0) no_members) (added.2 (put_each ms no_members) h))
 
 pub returns : goal.returns
 returns c =

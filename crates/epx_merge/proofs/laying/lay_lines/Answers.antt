@@ -9,7 +9,7 @@ loop-walk-init c = (laid_none c.args.walk.now _ c.args.table.now c.new-lines.ens
 pub loop-walk-preserved-in-Continue-1 : goal.loop-walk-preserved-in-Continue-1
 loop-walk-preserved-in-Continue-1 c = (
   laid_more c.args.walk.now c.loop-walk.walk c.next_line.new.self c.loop-walk.lines.items c.in-Some.line c.args.table.now c.loop-walk.table c.is_idle.new.table c.in-Some.ensures c.is_idle.ensures.held c.loop-walk.invariant.0 _ c.in_ok-push.ensures.items,
-  search rules,
+  search (rules, c.lines_at_once-most.ensures.few),
 )
 
 pub loop-walk-preserved : goal.loop-walk-preserved
