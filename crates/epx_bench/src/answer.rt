@@ -2,7 +2,7 @@
 ghost use Rattle.epx_graph.specs.GraphOf.{IsGraphOf};
 ghost use Rattle.std.specs.Prelude.{IfOk};
 
-use crate::clock::{now, passed};
+use crate::clock::{now, passed, tell};
 use epx_apply::run_order;
 use epx_claims::FreeGate;
 use epx_graph::{Graph, build, waiting};
@@ -17,7 +17,7 @@ use std::rt::Clock;
 use std::thread::Threads;
 
 /// What each instance depends on.
-#[derive(Clone, Copy, Debug)]
+#[derive(Clone, Copy)]
 enum Shape {
     Independent,
     /// On the one before it.
@@ -26,6 +26,16 @@ enum Shape {
     Ring,
     /// On the 256 before it.
     Wide,
+}
+
+/// What a shape is called in what is printed.
+fn name(shape: Shape) -> &'static str {
+    match shape {
+        Shape::Independent => "independent",
+        Shape::Chain => "chain",
+        Shape::Ring => "ring",
+        Shape::Wide => "256 dependencies each",
+    }
 }
 
 /// The numbers of the dependencies: from the first to before the last.
@@ -200,6 +210,36 @@ fn times<R: Threads + Sync + Clock>(
     Ok([read, built, found, ordered, waited, whole, applied])
 }
 
+/// What the times are of, in their order.
+const LAYERS: [&str; 7] = [
+    "read",
+    "build",
+    "components",
+    "order",
+    "waiting",
+    "answer",
+    "apply",
+];
+
+/// The least times of the layers over several answers to the same logs.
+fn least_times<R: Threads + Sync + Clock>(
+    rt: &R,
+    alloc: Global,
+    logs: &[Vec<u8>],
+) -> Result<[u128; 7], Memory> {
+    let Some(plan) = Plan::new(4, 256) else {
+        return Err(Memory);
+    };
+    let mut least = [u128::MAX; 7];
+    for _ in 0..5 {
+        let times = times(rt, alloc, logs, plan)?;
+        for layer in 0..7 {
+            least[layer] = least[layer].min(times[layer]);
+        }
+    }
+    Ok(least)
+}
+
 /// Prints the least times of the layers, in microseconds.
 fn compare<R: Threads + Sync + Clock + Print>(
     rt: &R,
@@ -207,21 +247,13 @@ fn compare<R: Threads + Sync + Clock + Print>(
     shape: Shape,
     count: u64,
 ) -> Result<(), Memory> {
-    let Some(plan) = Plan::new(4, 256) else {
-        return Err(Memory);
-    };
+    tell(rt, name(shape), u128::from(count))?;
     let logs = logs(alloc, shape, count)?;
-    let mut least = [u128::MAX; 7];
-    for _ in 0..5 {
-        let times = times(rt, alloc, &logs, plan)?;
-        for layer in 0..7 {
-            least[layer] = least[layer].min(times[layer]);
-        }
+    let least = least_times(rt, alloc, &logs)?;
+    for layer in 0..7 {
+        tell(rt, LAYERS[layer], least[layer])?;
     }
-    let [read, built, found, ordered, waited, whole, applied] = least;
-    println!(rt;
-        "{shape:?} {count}: read {read} build {built} components {found} order {ordered} waiting {waited} apply {applied} answer {whole}"
-    ).map_err(|_| Memory)
+    Ok(())
 }
 
 pub fn measure<R: Threads + Sync + Clock + AllocGlobal + Print>(rt: &R) -> Result<(), Memory> {

@@ -1,5 +1,5 @@
 //! Commands of two operations over 10,000 keys.
-use crate::clock::{now, passed};
+use crate::clock::{now, passed, tell};
 use epx_apply::run_order;
 use epx_txn::Store;
 use epx_types::{Command, Id, Key, Memory, Op, Plan};
@@ -94,9 +94,6 @@ fn least_time<R: Threads + Sync + Clock>(
 }
 
 pub fn measure<R: Threads + Sync + Clock + AllocGlobal + Print>(rt: &R) -> Result<(), Memory> {
-    for count in [16_384, 65_536] {
-        let best = least_time(rt, rt.alloc(), count)?;
-        println!(rt; "commands {count} run_order {best}").map_err(|_| Memory)?;
-    }
-    Ok(())
+    tell(rt, "16,384 commands", least_time(rt, rt.alloc(), 16_384)?)?;
+    tell(rt, "65,536 commands", least_time(rt, rt.alloc(), 65_536)?)
 }

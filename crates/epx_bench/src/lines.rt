@@ -1,5 +1,5 @@
 //! Cutting, parsing and reading of 65,536 lines.
-use crate::clock::{now, passed};
+use crate::clock::{now, passed, tell};
 use epx_lines::{cut_lines, read_line};
 use epx_types::Memory;
 use serde_json::Value;
@@ -60,5 +60,7 @@ pub fn measure<R: Clock + AllocGlobal + Print>(rt: &R) -> Result<(), Memory> {
         parsed = parsed.min(parsing(rt, alloc, &lines)?);
         read = read.min(reading(rt, alloc, &lines)?);
     }
-    println!(rt; "cut {cut} parse {parsed} read {read}").map_err(|_| Memory)
+    tell(rt, "cut", cut)?;
+    tell(rt, "parse", parsed)?;
+    tell(rt, "read", read)
 }

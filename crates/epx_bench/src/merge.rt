@@ -1,7 +1,6 @@
-//! Reading of 65,536 instances, in one log and in each of sixteen.
-use crate::clock::{now, passed};
+//! Reading of 65,536 instances, in one log and in each of sixteen, with one worker and with four.
+use crate::clock::{now, passed, tell};
 use epx_claims::FreeGate;
-use epx_lines::{cut_lines, read_line};
 use epx_merge::read_logs;
 use epx_types::{Memory, Plan};
 use std::alloc::{AllocGlobal, Global};
@@ -30,25 +29,6 @@ fn log(alloc: Global) -> Result<Vec<u8>, Memory> {
     Ok(log)
 }
 
-fn read_lines(alloc: Global, logs: &[Vec<u8>]) -> Result<bool, Memory> {
-    let mut good = true;
-    for log in logs {
-        for line in cut_lines(alloc, log)? {
-            good &= read_line(alloc, line).is_ok();
-        }
-    }
-    Ok(good)
-}
-
-/// The time of cutting and reading the lines one by one.
-fn reading_lines(rt: &impl Clock, alloc: Global, logs: &[Vec<u8>]) -> Result<u128, Memory> {
-    let start = now(rt)?;
-    if !read_lines(alloc, logs)? {
-        return Err(Memory);
-    }
-    passed(rt, &start)
-}
-
 /// The time of reading the logs.
 fn reading_logs<R: Threads + Sync + Clock>(
     rt: &R,
@@ -72,25 +52,29 @@ fn logs(alloc: Global, count: usize) -> Result<Vec<Vec<u8>>, Memory> {
     Ok(logs)
 }
 
-/// Prints the least times of reading the lines of so many equal logs, and of reading the logs.
-fn compare<R: Threads + Sync + Clock + Print>(
+/// Prints the least time of reading so many equal logs with so many workers.
+fn measure_logs<R: Threads + Sync + Clock + Print>(
     rt: &R,
     alloc: Global,
+    what: &str,
     count: usize,
+    workers: usize,
 ) -> Result<(), Memory> {
-    let Some(plan) = Plan::new(4, 256) else {
+    let Some(plan) = Plan::new(workers, 256) else {
         return Err(Memory);
     };
     let logs = logs(alloc, count)?;
-    let (mut lines, mut whole) = (u128::MAX, u128::MAX);
+    let mut least = u128::MAX;
     for _ in 0..9 {
-        lines = lines.min(reading_lines(rt, alloc, &logs)?);
-        whole = whole.min(reading_logs(rt, alloc, &logs, plan)?);
+        least = least.min(reading_logs(rt, alloc, &logs, plan)?);
     }
-    println!(rt; "logs {count} lines {lines} read_logs {whole}").map_err(|_| Memory)
+    tell(rt, what, least)
 }
 
 pub fn measure<R: Threads + Sync + Clock + AllocGlobal + Print>(rt: &R) -> Result<(), Memory> {
-    compare(rt, rt.alloc(), 1)?;
-    compare(rt, rt.alloc(), 16)
+    let alloc = rt.alloc();
+    measure_logs(rt, alloc, "one log, one worker", 1, 1)?;
+    measure_logs(rt, alloc, "one log, four workers", 1, 4)?;
+    measure_logs(rt, alloc, "sixteen equal logs, one worker", 16, 1)?;
+    measure_logs(rt, alloc, "sixteen equal logs, four workers", 16, 4)
 }

@@ -73,7 +73,7 @@ fn commands<'a>(alloc: Global, lists: &'a [Vec<Op>]) -> Result<Vec<Command<'a>>,
 }
 
 fn are_replies(rt: &impl Abort, replies: &[Reply], wanted: &[Wanted]) {
-    assert_eq!(rt; replies.len(), wanted.len());
+    assert!(rt; replies.len() == wanted.len());
     for (reply, want) in replies.iter().zip(wanted) {
         is_reply(rt, reply, *want);
     }

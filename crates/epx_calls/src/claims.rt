@@ -142,28 +142,19 @@ fn nothing_at_all(rt: HostRuntime) -> Result<(), Fail> {
 }
 
 #[test]
-fn one_worker_over_five_numbers(rt: HostRuntime) -> Result<(), Fail> {
-    maps_to_the_next(&rt, rt.alloc(), 1, 5, 9, Ok(&[1, 2, 3, 4, 5]))
+fn any_number_of_workers_over_five_numbers(rt: HostRuntime) -> Result<(), Fail> {
+    for workers in [1, 2, 64] {
+        maps_to_the_next(&rt, rt.alloc(), workers, 5, 9, Ok(&[1, 2, 3, 4, 5]))?;
+    }
+    Ok(())
 }
 
 #[test]
-fn two_workers_over_five_numbers(rt: HostRuntime) -> Result<(), Fail> {
-    maps_to_the_next(&rt, rt.alloc(), 2, 5, 9, Ok(&[1, 2, 3, 4, 5]))
-}
-
-#[test]
-fn sixty_four_workers_over_five_numbers(rt: HostRuntime) -> Result<(), Fail> {
-    maps_to_the_next(&rt, rt.alloc(), 64, 5, 9, Ok(&[1, 2, 3, 4, 5]))
-}
-
-#[test]
-fn the_callers_error_from_one_worker(rt: HostRuntime) -> Result<(), Fail> {
-    maps_to_the_next(&rt, rt.alloc(), 1, 5, 3, Err(Trouble::At(3)))
-}
-
-#[test]
-fn the_callers_error_from_many_workers(rt: HostRuntime) -> Result<(), Fail> {
-    maps_to_the_next(&rt, rt.alloc(), 64, 5, 3, Err(Trouble::At(3)))
+fn the_callers_error_from_any_number_of_workers(rt: HostRuntime) -> Result<(), Fail> {
+    for workers in [1, 2, 64] {
+        maps_to_the_next(&rt, rt.alloc(), workers, 5, 3, Err(Trouble::At(3)))?;
+    }
+    Ok(())
 }
 
 #[test]
@@ -177,21 +168,9 @@ fn threads_really_run(rt: HostRuntime) -> Result<(), Fail> {
 }
 
 #[test]
-fn others_are_drawn_while_the_first_waits(rt: HostRuntime) -> Result<(), Fail> {
-    maps_while_one_waits(&rt, rt.alloc(), 2, &[0, 10, 20, 30], 0, 1111)
-}
-
-#[test]
-fn others_are_drawn_while_the_second_waits(rt: HostRuntime) -> Result<(), Fail> {
-    maps_while_one_waits(&rt, rt.alloc(), 2, &[0, 10, 20, 30], 1, 1111)
-}
-
-#[test]
-fn others_are_drawn_while_the_third_waits(rt: HostRuntime) -> Result<(), Fail> {
-    maps_while_one_waits(&rt, rt.alloc(), 2, &[0, 10, 20, 30], 2, 1111)
-}
-
-#[test]
-fn others_are_drawn_while_the_last_waits(rt: HostRuntime) -> Result<(), Fail> {
-    maps_while_one_waits(&rt, rt.alloc(), 2, &[0, 10, 20, 30], 3, 1111)
+fn others_are_drawn_while_one_waits(rt: HostRuntime) -> Result<(), Fail> {
+    for waiter in 0..4 {
+        maps_while_one_waits(&rt, rt.alloc(), 2, &[0, 10, 20, 30], waiter, 1111)?;
+    }
+    Ok(())
 }

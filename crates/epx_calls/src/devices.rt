@@ -19,7 +19,7 @@ fn gives<S: Source>(rt: &impl Abort, alloc: Global, source: &mut S) -> Result<()
     requires { S.has_failed source.old ≡ false }
 {
     let bytes = read_log(alloc, 5, source)?;
-    assert_eq!(rt; bytes.as_slice(), TEXT.as_bytes());
+    assert!(rt; bytes.as_slice() == TEXT.as_bytes());
     assert!(rt; !source.failed());
     Ok(())
 }
@@ -28,17 +28,14 @@ fn gives<S: Source>(rt: &impl Abort, alloc: Global, source: &mut S) -> Result<()
 fn fails<S: Source>(rt: &impl Abort, alloc: Global, source: &mut S)
     requires { S.has_failed source.old ≡ false }
 {
-    assert_eq!(rt;
-        read_log(alloc, 5, source).err(),
-        Some(Fault::Read { log: 5 })
-    );
+    assert!(rt; read_log(alloc, 5, source).err() == Some(Fault::Read { log: 5 }));
     assert!(rt; source.failed());
 }
 
 #[test]
 fn what_is_written_is_read_again(rt: HostRuntime) -> Result<(), Fail> {
     let mut sink = MemorySink::new(rt.alloc());
-    assert_eq!(rt; write_out(TEXT.as_bytes(), &mut sink), Ok(()));
+    assert!(rt; write_out(TEXT.as_bytes(), &mut sink) == Ok(()));
     assert!(rt; !sink.failed());
     gives(&rt, rt.alloc(), &mut MemorySource::new(sink.bytes()))
 }
@@ -46,7 +43,7 @@ fn what_is_written_is_read_again(rt: HostRuntime) -> Result<(), Fail> {
 #[test]
 fn one_byte_a_call_is_enough(rt: HostRuntime) -> Result<(), Fail> {
     let mut sink = FuseSink::new(rt.alloc(), 1, None);
-    assert_eq!(rt; write_out(TEXT.as_bytes(), &mut sink), Ok(()));
+    assert!(rt; write_out(TEXT.as_bytes(), &mut sink) == Ok(()));
     gives(&rt, rt.alloc(), &mut FuseSource::new(sink.bytes(), 1, None))
 }
 
@@ -82,9 +79,9 @@ fn takes(
 {
     let mut sink = FuseSink::new(alloc, at_once, Some(fuse));
     let written = write_out(TEXT.as_bytes(), &mut sink);
-    assert_eq!(rt; written, wanted, "after {fuse} bytes");
-    assert_eq!(rt; sink.failed(), written.is_err());
-    assert_eq!(rt; sink.bytes(), held);
+    assert!(rt; written == wanted);
+    assert!(rt; sink.failed() == written.is_err());
+    assert!(rt; sink.bytes() == held);
 }
 
 /// The same for each number of bytes in all.
@@ -109,7 +106,7 @@ fn a_sink_that_fails_after_any_byte_holds_a_prefix(rt: HostRuntime) {
 fn each_read_on_a_blown_fuse_fails(rt: HostRuntime) {
     let mut source = FuseSource::new(TEXT.as_bytes(), 1, Some(0));
     for _ in 0..3 {
-        assert_eq!(rt; source.read_some(&mut [0; 8]), Err(DeviceFault));
+        assert!(rt; source.read_some(&mut [0; 8]) == Err(DeviceFault));
     }
 }
 
@@ -117,8 +114,8 @@ fn each_read_on_a_blown_fuse_fails(rt: HostRuntime) {
 fn each_write_on_a_blown_fuse_fails(rt: HostRuntime) {
     let mut sink = FuseSink::new(rt.alloc(), 1, Some(0));
     for _ in 0..3 {
-        assert_eq!(rt; sink.write_some(TEXT.as_bytes()), Err(DeviceFault));
-        assert_eq!(rt; sink.flush(), Err(DeviceFault));
+        assert!(rt; sink.write_some(TEXT.as_bytes()) == Err(DeviceFault));
+        assert!(rt; sink.flush() == Err(DeviceFault));
     }
 }
 
@@ -134,8 +131,8 @@ fn one_source_fails_and_another_does_not(rt: HostRuntime) -> Result<(), Fail> {
 fn std_readers_and_writers_carry_the_same_bytes(rt: HostRuntime) -> Result<(), Fail> {
     let mut written = Vec::new(rt.alloc());
     let mut sink = StdSink::new(&mut written);
-    assert_eq!(rt; write_out(TEXT.as_bytes(), &mut sink), Ok(()));
-    assert_eq!(rt; written.as_slice(), TEXT.as_bytes());
+    assert!(rt; write_out(TEXT.as_bytes(), &mut sink) == Ok(()));
+    assert!(rt; written.as_slice() == TEXT.as_bytes());
     gives(&rt, rt.alloc(), &mut StdSource::new(TEXT.as_bytes()))
 }
 
@@ -162,7 +159,7 @@ impl Write for Broken {
 /// The bytes can not be written to a broken sink, which tells so.
 fn is_broken_for(rt: &impl Abort, bytes: &[u8]) {
     let mut sink = StdSink::new(Broken);
-    assert_eq!(rt; write_out(bytes, &mut sink), Err(Fault::Write));
+    assert!(rt; write_out(bytes, &mut sink) == Err(Fault::Write));
     assert!(rt; sink.failed());
 }
 

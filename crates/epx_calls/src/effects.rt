@@ -16,11 +16,11 @@ pub(crate) fn is_stored(
     wanted: &[(&str, i64)],
 ) -> Result<(), Memory> {
     let pairs = store.pairs()?;
-    assert_eq!(rt; store.len(), wanted.len() as u128);
-    assert_eq!(rt; pairs.len(), wanted.len());
+    assert!(rt; store.len() == wanted.len() as u128);
+    assert!(rt; pairs.len() == wanted.len());
     for (pair, (text, value)) in pairs.iter().zip(wanted) {
-        assert_eq!(rt; pair.0.text(), *text);
-        assert_eq!(rt; pair.1, *value);
+        assert!(rt; pair.0.text() == *text);
+        assert!(rt; pair.1 == *value);
     }
     Ok(())
 }
@@ -30,7 +30,7 @@ fn put(rt: &impl Abort, store: &mut Store, key: Key, value: i64) -> Result<(), M
     let opening = store.copy()?;
     let text = key.copy()?;
     match store.put(key, value) {
-        Ok(()) => assert_eq!(rt; store.get(&text), Some(value)),
+        Ok(()) => assert!(rt; store.get(&text) == Some(value)),
         Err(Memory) => {
             is_same(rt, store, &opening)?;
             return Err(Memory);
@@ -40,9 +40,9 @@ fn put(rt: &impl Abort, store: &mut Store, key: Key, value: i64) -> Result<(), M
 }
 
 fn is_same(rt: &impl Abort, store: &Store, other: &Store) -> Result<(), Memory> {
-    assert_eq!(rt; store.len(), other.len());
+    assert!(rt; store.len() == other.len());
     for (key, value) in other.pairs()? {
-        assert_eq!(rt; store.get(key), Some(value));
+        assert!(rt; store.get(key) == Some(value));
     }
     Ok(())
 }
@@ -70,7 +70,7 @@ fn store_holds_what_was_put(rt: HostRuntime) -> Result<(), Fail> {
     let alloc = rt.alloc();
     is_stored(&rt, &Store::new(alloc), &[])?;
     let store = five(&rt, alloc)?;
-    assert_eq!(rt; store.get(&key(&rt, alloc, "b")?), None);
+    assert!(rt; store.get(&key(&rt, alloc, "b")?) == None);
     is_stored(&rt, &store, &[("a", 5)])?;
     is_stored(&rt, &store.copy()?, &[("a", 5)])?;
     Ok(())
@@ -93,17 +93,17 @@ pub(crate) enum Wanted<'a> {
 
 pub(crate) fn is_reply(rt: &impl Abort, reply: &Reply, wanted: Wanted) {
     match (reply, wanted) {
-        (Reply::Values(values), Wanted::Values(list)) => assert_eq!(rt; values.as_slice(), list),
-        (Reply::Abort(place), Wanted::Abort(at)) => assert_eq!(rt; *place, at),
+        (Reply::Values(values), Wanted::Values(list)) => assert!(rt; values.as_slice() == list),
+        (Reply::Abort(place), Wanted::Abort(at)) => assert!(rt; *place == at),
         _ => panic!(rt; "an abort for values, or values for an abort"),
     }
 }
 
 fn are_writes(rt: &impl Abort, made: &[(Key, Option<i64>)], wanted: &[(&str, Option<i64>)]) {
-    assert_eq!(rt; made.len(), wanted.len());
+    assert!(rt; made.len() == wanted.len());
     for (write, (text, value)) in made.iter().zip(wanted) {
-        assert_eq!(rt; write.0.text(), *text);
-        assert_eq!(rt; write.1, *value);
+        assert!(rt; write.0.text() == *text);
+        assert!(rt; write.1 == *value);
     }
 }
 
@@ -208,9 +208,9 @@ fn all_writes_are_merged(rt: HostRuntime) -> Result<(), Fail> {
 
 /// These are the keys.
 fn are_keys(rt: &impl Abort, keys: &[&Key], wanted: &[&str]) {
-    assert_eq!(rt; keys.len(), wanted.len());
+    assert!(rt; keys.len() == wanted.len());
     for (key, text) in keys.iter().zip(wanted) {
-        assert_eq!(rt; key.text(), *text);
+        assert!(rt; key.text() == *text);
     }
 }
 

@@ -23,21 +23,21 @@ fn graph_of_texts<R: Abort + Threads + Sync>(
 
 /// The nodes are these, and so many are committed.
 fn nodes_are(rt: &impl Abort, graph: &Graph, wanted: &[Id], committed: usize) {
-    assert_eq!(rt; graph.len(), wanted.len());
-    assert_eq!(rt; graph.is_empty(), wanted.is_empty());
-    assert_eq!(rt; graph.committed_len(), committed);
+    assert!(rt; graph.len() == wanted.len());
+    assert!(rt; graph.is_empty() == wanted.is_empty());
+    assert!(rt; graph.committed_len() == committed);
     for (node, wanted) in wanted.iter().enumerate() {
         assert!(rt; node < graph.len());
-        assert_eq!(rt; graph.node(*wanted), Some(node));
-        assert_eq!(rt; graph.id(node), *wanted);
-        assert_eq!(rt; graph.is_committed(node), node < committed);
+        assert!(rt; graph.node(*wanted) == Some(node));
+        assert!(rt; graph.id(node) == *wanted);
+        assert!(rt; graph.is_committed(node) == (node < committed));
     }
 }
 
 /// The node leads to these.
 fn edges_are(rt: &impl Abort, graph: &Graph, node: usize, wanted: &[usize]) {
     assert!(rt; node < graph.len());
-    assert_eq!(rt; graph.edges(node), wanted);
+    assert!(rt; graph.edges(node) == wanted);
 }
 
 /// The instances that wait, each with the missing one.
@@ -47,7 +47,7 @@ fn waiters_are(
     graph: &Graph,
     wanted: &[Waiter],
 ) -> Result<(), Fail> {
-    assert_eq!(rt; waiting(alloc, graph)?.as_slice(), wanted);
+    assert!(rt; waiting(alloc, graph)?.as_slice() == wanted);
     Ok(())
 }
 

@@ -1,7 +1,7 @@
 //! Single calls of each crate, with values worked out by hand: whether the clauses say what is meant,
 //! texts that no clause says, and that each call that wants memory succeeds where there is some. Tests
-//! alone, so that no library is proved again for them. With an allocation refused a test may end with
-//! want of memory, and what was lent is then as it was; it must not end in another way.
+//! alone, so that no library is proved again for them. A test of stores, effects or commands that meets a
+//! refused allocation ends with want of memory, and what was lent is then as it was.
 #![tactic(auto)]
 
 #[cfg(test)]

@@ -25,7 +25,7 @@ fn meaning(alloc: Global, line: &[u8]) -> Result<String, Memory> {
 
 /// The bytes mean this.
 fn bytes_mean(rt: &impl Abort, alloc: Global, line: &[u8], wanted: &str) -> Result<(), Fail> {
-    assert_eq!(rt; meaning(alloc, line)?.as_str(), wanted);
+    assert!(rt; meaning(alloc, line)?.as_str() == wanted);
     Ok(())
 }
 
@@ -82,7 +82,7 @@ fn cuts_into(rt: &impl Abort, alloc: Global, bytes: &str, wanted: &str) -> Resul
         shown.extend_from_slice(line)?;
         shown.push(b'>')?;
     }
-    assert_eq!(rt; shown.as_slice(), wanted.as_bytes(), "in {bytes:?}");
+    assert!(rt; shown.as_slice() == wanted.as_bytes());
     Ok(())
 }
 
@@ -363,7 +363,7 @@ fn padded_means(
 ) -> Result<(), Fail> {
     let spaces = repeated(alloc, " ", bytes.saturating_sub(line.len()))?;
     let padded = format!(in alloc; "{line}{spaces}")?;
-    assert_eq!(rt; padded.len(), bytes);
+    assert!(rt; padded.len() == bytes);
     means(rt, alloc, padded.as_str(), wanted)
 }
 
@@ -403,7 +403,7 @@ fn longest_entry(alloc: Global) -> Result<Option<Entry>, Memory> {
 /// The entry is written in so many bytes, and read again as it was written.
 fn is_written_in(rt: &impl Abort, alloc: Global, entry: &Entry, bytes: usize) -> Result<(), Fail> {
     let line = write_line(alloc, entry)?;
-    assert_eq!(rt; line.len(), bytes);
+    assert!(rt; line.len() == bytes);
     means(rt, alloc, line.as_str(), line.as_str())
 }
 

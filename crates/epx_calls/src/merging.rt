@@ -56,7 +56,7 @@ fn refuses<R: Abort + Threads + Sync>(
     wanted: Fault,
 ) -> Result<(), Fail> {
     match read_logs(rt, alloc, logs, plan(rt), &FreeGate) {
-        Err(fault) => assert_eq!(rt; fault, wanted),
+        Err(fault) => assert!(rt; fault == wanted),
         Ok(_) => return Err(Fail::from("the logs are accepted")),
     }
     Ok(())
@@ -81,23 +81,23 @@ fn disagree<R: Abort + Threads + Sync>(
 
 /// The instance stands at this place of the map, or is not in it.
 fn stands_at(rt: &impl Abort, merged: &Merged, of: Id, wanted: Option<usize>) {
-    assert_eq!(rt; merged.position(of), wanted);
-    assert_eq!(rt; merged.get(of).is_some(), wanted.is_some());
+    assert!(rt; merged.position(of) == wanted);
+    assert!(rt; merged.get(of).is_some() == wanted.is_some());
     if let Some(position) = merged.position(of) {
-        assert_eq!(rt; merged.entry_at(position).id(), of);
+        assert!(rt; merged.entry_at(position).id() == of);
     }
 }
 
 /// The instance has these dependencies.
 fn depends_on(rt: &impl Abort, merged: &Merged, of: Id, wanted: &[Id]) {
-    assert_eq!(rt; merged.get(of).map(|entry| entry.deps()), Some(wanted));
+    assert!(rt; merged.get(of).map(|entry| entry.deps()) == Some(wanted));
 }
 
 #[test]
 fn one_instance(rt: HostRuntime) -> Result<(), Fail> {
     let merged = merged_of(&rt, rt.alloc(), &logs_of(rt.alloc(), &[PUT_AND_GET])?)?;
     assert!(rt; merged.len() == 1 && !merged.is_empty());
-    assert_eq!(rt; merged.get(id(0, 0)).map(|entry| entry.seq()), Some(1));
+    assert!(rt; merged.get(id(0, 0)).map(|entry| entry.seq()) == Some(1));
     stands_at(&rt, &merged, id(0, 0), Some(0));
     stands_at(&rt, &merged, id(0, 1), None);
     Ok(())
@@ -116,7 +116,7 @@ fn dependency_sets_agree(rt: HostRuntime) -> Result<(), Fail> {
     let first = r#"{"r":2,"i":0,"seq":2,"deps":[[1,0],[0,0]],"ops":[]}"#;
     let second = r#"{"r":2,"i":0,"seq":2,"deps":[[0,0],[1,0],[1,0]],"ops":[]}"#;
     let merged = merged_of(&rt, rt.alloc(), &logs_of(rt.alloc(), &[first, second])?)?;
-    assert_eq!(rt; merged.len(), 1);
+    assert!(rt; merged.len() == 1);
     depends_on(&rt, &merged, id(2, 0), &[id(0, 0), id(1, 0)]);
     stands_at(&rt, &merged, id(0, 0), None);
     Ok(())
@@ -156,7 +156,7 @@ fn comes_to<R: Abort + Threads + Sync>(
     wanted: Result<usize, Fault>,
 ) {
     let answer = read_logs(rt, alloc, logs, plan, &FreeGate);
-    assert_eq!(rt; answer.map(|merged| merged.len()), wanted);
+    assert!(rt; answer.map(|merged| merged.len()) == wanted);
 }
 
 /// The same of logs of these texts, by any plan.

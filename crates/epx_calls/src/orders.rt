@@ -79,12 +79,12 @@ fn log_stands<R: Abort + Threads + Sync>(
     wanted: &[Row],
 ) -> Result<(), Fail> {
     let (merged, graph) = read(rt, alloc, log)?;
-    assert_eq!(rt; leaders(alloc, &graph)?.as_slice(), lead);
+    assert!(rt; leaders(alloc, &graph)?.as_slice() == lead);
     let order = order(rt, alloc, &merged, &graph)?;
-    assert_eq!(rt; order.len(), wanted.len());
-    assert_eq!(rt; order.is_empty(), wanted.is_empty());
-    assert_eq!(rt; order.component_count(), count);
-    assert_eq!(rt; rows(alloc, &order)?.as_slice(), wanted);
+    assert!(rt; order.len() == wanted.len());
+    assert!(rt; order.is_empty() == wanted.is_empty());
+    assert!(rt; order.component_count() == count);
+    assert!(rt; rows(alloc, &order)?.as_slice() == wanted);
     Ok(())
 }
 

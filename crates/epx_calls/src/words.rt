@@ -1,10 +1,59 @@
 //! Command lines, and what they come to.
+use epx_types::Memory;
 use epx_words::{Task, Words, read_words};
 use std::alloc::Global;
 use std::process::Abort;
 use std::test::Fail;
 
-/// The words ask for this work.
+/// Whether the paths are those of these logs.
+fn are_logs(paths: &[String], logs: &[&str]) -> bool {
+    paths.len() == logs.len()
+        && paths
+            .iter()
+            .zip(logs)
+            .all(|(path, log)| path.as_str() == *log)
+}
+
+/// Whether the words ask for this task with so many workers and this cut, over these logs or standard input.
+fn ask_for(
+    alloc: Global,
+    words: &[&str],
+    wanted: (Task, usize, usize),
+    logs: Option<&[&str]>,
+) -> Result<bool, Memory> {
+    let Words::Work { task, plan, paths } = read_words(alloc, words)? else {
+        return Ok(false);
+    };
+    let are_named = match (&paths, logs) {
+        (None, None) => true,
+        (Some(paths), Some(logs)) => are_logs(paths, logs),
+        _ => false,
+    };
+    Ok(are_named && (task, plan.workers(), plan.cut()) == wanted)
+}
+
+/// Whether no line is too wide for a terminal.
+fn fits_a_terminal(text: &str) -> bool {
+    text.lines().all(|line| line.chars().count() <= 80)
+}
+
+/// Whether the words come to a text with this status that begins and goes on so.
+fn tell(
+    alloc: Global,
+    words: &[&str],
+    wanted: u8,
+    start: &str,
+    within: &str,
+) -> Result<bool, Memory> {
+    let Words::Text { text, status } = read_words(alloc, words)? else {
+        return Ok(false);
+    };
+    let text = text.as_str();
+    let fits = status == 2 || fits_a_terminal(text);
+    Ok(fits && status == wanted && text.starts_with(start) && text.contains(within))
+}
+
+/// The words ask for this task with so many workers and this cut, over these logs or standard input.
 fn expect_work(
     rt: &impl Abort,
     alloc: Global,
@@ -12,45 +61,34 @@ fn expect_work(
     wanted: (Task, usize, usize),
     logs: Option<&[&str]>,
 ) -> Result<(), Fail> {
-    let Words::Work { task, plan, paths } = read_words(alloc, words)? else {
-        return Err(Fail::from("it is a text"));
-    };
-    assert_eq!(rt; (task, plan.workers(), plan.cut()), wanted, "{words:?}");
-    match (paths, logs) {
-        (None, None) => Ok(()),
-        (Some(paths), Some(logs)) => {
-            assert_eq!(rt; paths.len(), logs.len(), "{words:?}");
-            for (path, log) in paths.iter().zip(logs) {
-                assert_eq!(rt; path.as_str(), *log, "{words:?}");
-            }
-            Ok(())
-        }
-        _ => Err(Fail::from("paths for standard input, or standard input for paths")),
-    }
-}
-
-/// The words come to a text with this status that begins and goes on so.
-fn expect_text(
-    rt: &impl Abort,
-    alloc: Global,
-    words: &[&str],
-    wanted: u8,
-    start: &str,
-    within: &str,
-) -> Result<(), Fail> {
-    let Words::Text { text, status } = read_words(alloc, words)? else {
-        return Err(Fail::from("it is work"));
-    };
-    assert_eq!(rt; status, wanted, "{words:?}");
-    assert!(rt; text.as_str().starts_with(start), "{text}");
-    assert!(rt; text.as_str().contains(within), "{text}");
-    for line in text.as_str().lines() {
-        assert!(rt; status == 2 || line.chars().count() <= 80, "{line}");
-    }
+    assert!(rt; ask_for(alloc, words, wanted, logs)?, "{words:?}");
     Ok(())
 }
 
-const NO_LOGS: Option<&[&str]> = Some(&[]);
+/// The words ask for this task by the plan that is taken by default, over these logs.
+fn expect_logs(
+    rt: &impl Abort,
+    alloc: Global,
+    words: &[&str],
+    task: Task,
+    logs: &[&str],
+) -> Result<(), Fail> {
+    expect_work(rt, alloc, words, (task, 4, 256), Some(logs))
+}
+
+/// Each of the words come to a text with this status that begins so and holds what stands beside them.
+fn expect_texts(
+    rt: &impl Abort,
+    alloc: Global,
+    status: u8,
+    start: &str,
+    cases: &[(&[&str], &str)],
+) -> Result<(), Fail> {
+    for (words, within) in cases {
+        assert!(rt; tell(alloc, words, status, start, within)?, "{words:?}");
+    }
+    Ok(())
+}
 
 #[test]
 fn no_words_are_a_run_over_standard_input(rt: HostRuntime) -> Result<(), Fail> {
@@ -60,246 +98,113 @@ fn no_words_are_a_run_over_standard_input(rt: HostRuntime) -> Result<(), Fail> {
 
 #[test]
 fn a_subcommand_alone_has_no_logs(rt: HostRuntime) -> Result<(), Fail> {
-    expect_work(
-        &rt,
-        rt.alloc(),
-        &["epx", "run"],
-        (Task::Run, 4, 256),
-        NO_LOGS,
-    )?;
-    expect_work(
-        &rt,
-        rt.alloc(),
-        &["epx", "order"],
-        (Task::Order, 4, 256),
-        NO_LOGS,
-    )
+    expect_logs(&rt, rt.alloc(), &["epx", "run"], Task::Run, &[])?;
+    expect_logs(&rt, rt.alloc(), &["epx", "order"], Task::Order, &[])
 }
 
 #[test]
 fn logs_keep_their_order(rt: HostRuntime) -> Result<(), Fail> {
-    let logs: &[&str] = &["b", "a", "b", "run"];
-    expect_work(
-        &rt,
-        rt.alloc(),
-        &["epx", "order", "b", "a", "b", "run"],
-        (Task::Order, 4, 256),
-        Some(logs),
-    )
+    let words = ["epx", "order", "b", "a", "b", "run"];
+    expect_logs(&rt, rt.alloc(), &words, Task::Order, &words[2..])
+}
+
+#[test]
+fn a_path_may_start_with_a_hyphen(rt: HostRuntime) -> Result<(), Fail> {
+    let words = ["epx", "run", "a", "--", "-b", "--cut"];
+    expect_logs(&rt, rt.alloc(), &words, Task::Run, &["a", "-b", "--cut"])
 }
 
 #[test]
 fn options_stand_anywhere(rt: HostRuntime) -> Result<(), Fail> {
-    let logs: &[&str] = &["a", "b"];
-    expect_work(
-        &rt,
-        rt.alloc(),
-        &["epx", "run", "--workers", "2", "a", "b", "--cut", "10"],
-        (Task::Run, 2, 10),
-        Some(logs),
-    )?;
-    expect_work(
-        &rt,
-        rt.alloc(),
-        &["epx", "run", "a", "--cut=7", "b", "--workers=8"],
-        (Task::Run, 8, 7),
-        Some(logs),
-    )
-}
-
-#[test]
-fn numbers_reach_the_ends_of_their_ranges(rt: HostRuntime) -> Result<(), Fail> {
-    expect_work(
-        &rt,
-        rt.alloc(),
-        &["epx", "run", "--workers=1", "--cut=65536"],
-        (Task::Run, 1, 65_536),
-        NO_LOGS,
-    )?;
-    expect_work(
-        &rt,
-        rt.alloc(),
-        &["epx", "run", "--workers=+64", "--cut=1"],
-        (Task::Run, 64, 1),
-        NO_LOGS,
-    )
-}
-
-#[test]
-fn numbers_past_their_ranges_are_refused(rt: HostRuntime) -> Result<(), Fail> {
-    for number in [
-        "--workers=0",
-        "--workers=65",
-        "--workers=many",
-        "--workers=",
-    ] {
-        expect_text(
-            &rt,
-            rt.alloc(),
-            &["epx", "run", number],
+    let cases: [(&[&str], usize, usize); 2] = [
+        (
+            &["epx", "run", "--workers", "2", "a", "b", "--cut", "10"],
             2,
-            "error: ",
-            "--workers",
-        )?;
-    }
-    for number in ["--cut=0", "--cut=65537", "--cut=1.5"] {
-        expect_text(
-            &rt,
-            rt.alloc(),
-            &["epx", "order", number],
-            2,
-            "error: ",
-            "--cut",
-        )?;
+            10,
+        ),
+        (&["epx", "run", "a", "--cut=7", "b", "--workers=8"], 8, 7),
+    ];
+    for (words, workers, cut) in cases {
+        let wanted = (Task::Run, workers, cut);
+        expect_work(&rt, rt.alloc(), words, wanted, Some(&["a", "b"]))?;
     }
     Ok(())
 }
 
 #[test]
-fn options_without_their_value_are_refused(rt: HostRuntime) -> Result<(), Fail> {
-    expect_text(
-        &rt,
-        rt.alloc(),
-        &["epx", "run", "--cut"],
-        2,
-        "error: ",
-        "--cut",
-    )?;
-    expect_text(
-        &rt,
-        rt.alloc(),
-        &["epx", "run", "--workers", "--cut", "3"],
-        2,
-        "error: ",
-        "--workers",
-    )
+fn numbers_reach_the_ends_of_their_ranges(rt: HostRuntime) -> Result<(), Fail> {
+    let cases: [(&[&str], usize, usize); 2] = [
+        (&["epx", "run", "--workers=1", "--cut=65536"], 1, 65_536),
+        (&["epx", "run", "--workers=+64", "--cut=1"], 64, 1),
+    ];
+    for (words, workers, cut) in cases {
+        let wanted = (Task::Run, workers, cut);
+        expect_work(&rt, rt.alloc(), words, wanted, Some(&[]))?;
+    }
+    Ok(())
 }
 
 #[test]
-fn an_option_twice_is_refused(rt: HostRuntime) -> Result<(), Fail> {
-    let words = &["epx", "run", "--cut=1", "--cut=2"];
-    expect_text(&rt, rt.alloc(), words, 2, "error: ", "--cut")
+fn refused_words_are_named(rt: HostRuntime) -> Result<(), Fail> {
+    let cases: [(&[&str], &str); 15] = [
+        (&["epx", "run", "--workers=0"], "--workers"),
+        (&["epx", "run", "--workers=65"], "--workers"),
+        (&["epx", "run", "--workers=many"], "--workers"),
+        (&["epx", "run", "--workers="], "--workers"),
+        (&["epx", "run", "--workers", "--cut", "3"], "--workers"),
+        (&["epx", "order", "--cut=0"], "--cut"),
+        (&["epx", "order", "--cut=65537"], "--cut"),
+        (&["epx", "order", "--cut=1.5"], "--cut"),
+        (&["epx", "run", "--cut"], "--cut"),
+        (&["epx", "run", "--cut=1", "--cut=2"], "--cut"),
+        (&["epx", "levels"], "levels"),
+        (&["epx", "run", "--fast"], "--fast"),
+        (&["epx", "run", "-x"], "-x"),
+        (&["epx", "--workers", "3"], "--workers"),
+        (&["epx", "help", "levels"], "levels"),
+    ];
+    expect_texts(&rt, rt.alloc(), 2, "error: ", &cases)
 }
 
-#[test]
-fn unknown_words_are_named(rt: HostRuntime) -> Result<(), Fail> {
-    expect_text(&rt, rt.alloc(), &["epx", "levels"], 2, "error: ", "levels")?;
-    expect_text(
-        &rt,
-        rt.alloc(),
-        &["epx", "run", "--fast"],
-        2,
-        "error: ",
-        "--fast",
-    )?;
-    expect_text(&rt, rt.alloc(), &["epx", "run", "-x"], 2, "error: ", "-x")?;
-    expect_text(
-        &rt,
-        rt.alloc(),
-        &["epx", "--workers", "3"],
-        2,
-        "error: ",
-        "--workers",
-    )?;
-    expect_text(
-        &rt,
-        rt.alloc(),
-        &["epx", "help", "levels"],
-        2,
-        "error: ",
-        "levels",
-    )
-}
-
-#[test]
-fn a_path_may_start_with_a_hyphen(rt: HostRuntime) -> Result<(), Fail> {
-    let logs: &[&str] = &["a", "-b", "--cut"];
-    expect_work(
-        &rt,
-        rt.alloc(),
-        &["epx", "run", "a", "--", "-b", "--cut"],
-        (Task::Run, 4, 256),
-        Some(logs),
-    )
-}
+/// The line that help shows as an example of a log.
+const SHOWN: &str =
+    "{\"r\":0,\"i\":0,\"seq\":1,\"deps\":[],\"ops\":[[\"put\",\"a\",5],[\"get\",\"a\"]]}";
 
 #[test]
 fn help_is_a_text_that_ends_well(rt: HostRuntime) -> Result<(), Fail> {
-    let whole = "Executes the committed instances";
-    let log = "{\"r\":0,\"i\":0,\"seq\":1,\"deps\":[],\"ops\":[[\"put\",\"a\",5],[\"get\",\"a\"]]}";
-    expect_text(&rt, rt.alloc(), &["epx", "--help"], 0, whole, log)?;
-    expect_text(
-        &rt,
-        rt.alloc(),
-        &["epx", "help"],
-        0,
-        whole,
-        "1 to 64 and 4 by default",
-    )?;
-    expect_text(
-        &rt,
-        rt.alloc(),
-        &["epx", "-h"],
-        0,
-        whole,
-        "epx run examples/replicas/*.jsonl",
-    )
+    let cases: [(&[&str], &str); 3] = [
+        (&["epx", "--help"], SHOWN),
+        (&["epx", "help"], "1 to 64 and 4 by default"),
+        (&["epx", "-h"], "epx run examples/replicas/*.jsonl"),
+    ];
+    let start = "Executes the committed instances";
+    expect_texts(&rt, rt.alloc(), 0, start, &cases)
 }
 
 #[test]
-fn help_of_a_subcommand_has_its_options(rt: HostRuntime) -> Result<(), Fail> {
-    let log = "{\"r\":0,\"i\":0,\"seq\":1,\"deps\":[],\"ops\":[[\"put\",\"a\",5],[\"get\",\"a\"]]}";
-    let run = "Executes what the logs commit";
-    expect_text(&rt, rt.alloc(), &["epx", "run", "--help"], 0, run, log)?;
-    expect_text(
-        &rt,
-        rt.alloc(),
-        &["epx", "run", "--help"],
-        0,
-        run,
-        "[default: 256]",
-    )?;
-    expect_text(
-        &rt,
-        rt.alloc(),
-        &["epx", "help", "run"],
-        0,
-        run,
-        "1 to 65536",
-    )?;
-    expect_text(
-        &rt,
-        rt.alloc(),
-        &["epx", "run", "-h"],
-        0,
-        "Prints the report",
-        "[default: 4]",
-    )?;
-    let order = "Prints the execution order";
-    expect_text(&rt, rt.alloc(), &["epx", "order", "--help"], 0, order, log)?;
-    expect_text(
-        &rt,
-        rt.alloc(),
-        &["epx", "help", "order"],
-        0,
-        order,
-        "1 to 64",
-    )?;
-    expect_text(
-        &rt,
-        rt.alloc(),
-        &["epx", "order", "-h"],
-        0,
-        order,
-        "--cut <M>",
-    )
+fn help_of_run_has_its_options(rt: HostRuntime) -> Result<(), Fail> {
+    let cases: [(&[&str], &str); 3] = [
+        (&["epx", "run", "--help"], SHOWN),
+        (&["epx", "run", "--help"], "[default: 256]"),
+        (&["epx", "help", "run"], "1 to 65536"),
+    ];
+    expect_texts(&rt, rt.alloc(), 0, "Executes what the logs commit", &cases)?;
+    let short: [(&[&str], &str); 1] = [(&["epx", "run", "-h"], "[default: 4]")];
+    expect_texts(&rt, rt.alloc(), 0, "Prints the report", &short)
+}
+
+#[test]
+fn help_of_order_has_its_options(rt: HostRuntime) -> Result<(), Fail> {
+    let cases: [(&[&str], &str); 3] = [
+        (&["epx", "order", "--help"], SHOWN),
+        (&["epx", "help", "order"], "1 to 64"),
+        (&["epx", "order", "-h"], "--cut <M>"),
+    ];
+    expect_texts(&rt, rt.alloc(), 0, "Prints the execution order", &cases)
 }
 
 #[test]
 fn the_version_is_told(rt: HostRuntime) -> Result<(), Fail> {
-    let Words::Text { text, status } = read_words(rt.alloc(), &["epx", "--version"])? else {
-        return Err(Fail::from("it is work"));
-    };
-    assert_eq!(rt; (text.as_str(), status), ("epx 0.1.0\n", 0));
-    expect_text(&rt, rt.alloc(), &["epx", "-V"], 0, "epx 0.1.0", "0.1.0")
+    let cases: [(&[&str], &str); 2] = [(&["epx", "--version"], "\n"), (&["epx", "-V"], "\n")];
+    expect_texts(&rt, rt.alloc(), 0, "epx 0.1.0\n", &cases)
 }

@@ -1,5 +1,5 @@
 -- What the lines in a table mean, slot by slot.
-use Rattle.std.proofs.Common.{Bor, ◌≡◌, ◌⊎◌, ◌<◌, ℕ, zero, suc, inl, inr, List, [], ◌∷◌, map, length, slice_set, get_or, Contains, Result, Ok, sym, ap, subst, ◌∙◌}
+use Rattle.std.proofs.Common.{Bor, ◌≡◌, ◌⊎◌, ◌<◌, ℕ, zero, suc, inl, inr, List, [], ◌∷◌, map, length, slice_set, get_or, Contains, Result, sym, ap, subst, ◌∙◌}
 use Rattle.std.specs.List.{AllClonesOf}
 use Rattle.epx_types.specs.declared.fault.Why.{Why}
 use Rattle.epx_types.proofs.Membership.{Contains-nil, Contains-head, Contains-cons, Contains-cons_cases, Contains-map, Contains-from_map}

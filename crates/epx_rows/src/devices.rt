@@ -36,8 +36,8 @@ fn run_writes_what_it_answers(rt: HostRuntime) -> Result<(), Fail> {
     let mut sources = [MemorySource::new(LEAST.as_bytes())];
     let mut sink = MemorySink::new(rt.alloc());
     let done = run(&rt, rt.alloc(), &mut sources, plan(&rt), &mut sink);
-    assert_eq!(rt; done, Ok(()));
-    assert_eq!(rt; sink.bytes(), LEAST_REPORT.as_bytes());
+    assert!(rt; done == Ok(()));
+    assert!(rt; sink.bytes() == LEAST_REPORT.as_bytes());
     Ok(())
 }
 
@@ -47,9 +47,9 @@ fn show_writes_the_order(rt: HostRuntime) -> Result<(), Fail> {
     let mut sink = MemorySink::new(rt.alloc());
     let plan = plan(&rt);
     let done = show(&rt, rt.alloc(), Ask::Order, &mut sources, plan, &mut sink);
-    assert_eq!(rt; done, Ok(()));
+    assert!(rt; done == Ok(()));
     let order = "[\"executed\",1,\"waiting\",0,\"components\",1]\n[\"order\",0,0,0,0,0]\n";
-    assert_eq!(rt; sink.bytes(), order.as_bytes());
+    assert!(rt; sink.bytes() == order.as_bytes());
     Ok(())
 }
 
@@ -60,10 +60,10 @@ fn a_refused_allocation(rt: HostRuntime) -> Result<(), Fail> {
     let mut sink = MemorySink::new(rt.alloc());
     let done = run_one(&rt, rt.alloc(), whole(LEAST.as_bytes()), &mut sink);
     match done {
-        Ok(()) => assert_eq!(rt; sink.bytes(), LEAST_REPORT.as_bytes()),
+        Ok(()) => assert!(rt; sink.bytes() == LEAST_REPORT.as_bytes()),
         Err(Fault::Memory) => assert!(rt; sink.bytes().is_empty()),
         Err(fault) => {
-            assert_eq!(rt; fault, Fault::Write);
+            assert!(rt; fault == Fault::Write);
             assert!(rt; LEAST_REPORT.as_bytes().starts_with(sink.bytes()));
         }
     }
@@ -75,8 +75,8 @@ fn prefix_of_the_report(rt: HostRuntime) -> Result<(), Fail> {
     let source = whole(LEAST.as_bytes());
     let mut sink = FuseSink::new(rt.alloc(), 64, Some(10));
     let refused = run_one(&rt, rt.alloc(), source, &mut sink);
-    assert_eq!(rt; refused, Err(Fault::Write));
-    assert_eq!(rt; sink.bytes(), b"[\"executed".as_slice());
+    assert!(rt; refused == Err(Fault::Write));
+    assert!(rt; sink.bytes() == b"[\"executed".as_slice());
     Ok(())
 }
 
@@ -94,7 +94,7 @@ fn failing_devices(rt: HostRuntime) -> Result<(), Fail> {
     ];
     let mut sink = MemorySink::new(rt.alloc());
     let refused = run(&rt, rt.alloc(), &mut sources, plan(&rt), &mut sink);
-    assert_eq!(rt; refused, Err(Fault::Read { log: 0 }));
+    assert!(rt; refused == Err(Fault::Read { log: 0 }));
     assert!(rt; sink.bytes().is_empty());
     Ok(())
 }
@@ -108,7 +108,7 @@ fn the_first_source_that_fails_is_named(rt: HostRuntime) -> Result<(), Fail> {
     ];
     let mut sink = MemorySink::new(rt.alloc());
     let refused = run(&rt, rt.alloc(), &mut sources, plan(&rt), &mut sink);
-    assert_eq!(rt; refused, Err(Fault::Read { log: 1 }));
+    assert!(rt; refused == Err(Fault::Read { log: 1 }));
     assert!(rt; sink.bytes().is_empty());
     Ok(())
 }
@@ -118,7 +118,7 @@ fn a_log_that_is_too_long(rt: HostRuntime) -> Result<(), Fail> {
     let long = too_long(rt.alloc())?;
     let mut sink = MemorySink::new(rt.alloc());
     let refused = run_one(&rt, rt.alloc(), whole(&long), &mut sink);
-    assert_eq!(rt; refused, Err(Fault::LogTooLong { log: 0 }));
+    assert!(rt; refused == Err(Fault::LogTooLong { log: 0 }));
     assert!(rt; sink.bytes().is_empty());
     Ok(())
 }
@@ -144,7 +144,10 @@ fn fails_with_its_source<R: Abort + Threads + Sync>(
     let source = FuseSource::new(LEAST.as_bytes(), 64, Some(bytes));
     let mut sink = MemorySink::new(alloc);
     let refused = run_one(rt, alloc, source, &mut sink);
-    assert_eq!(rt; refused, Err(Fault::Read { log: 0 }), "after {bytes} bytes");
+    assert!(rt;
+        refused == Err(Fault::Read { log: 0 }),
+        "after {bytes} bytes"
+    );
     assert!(rt; sink.bytes().is_empty());
     Ok(())
 }
@@ -166,15 +169,15 @@ fn fails_with_its_sink<R: Abort + Threads + Sync>(
     let source = whole(LEAST.as_bytes());
     let mut sink = FuseSink::new(alloc, 64, Some(bytes));
     let refused = run_one(rt, alloc, source, &mut sink);
-    assert_eq!(rt; refused, Err(Fault::Write), "after {bytes} bytes");
-    assert_eq!(rt; sink.bytes().len(), bytes);
+    assert!(rt; refused == Err(Fault::Write), "after {bytes} bytes");
+    assert!(rt; sink.bytes().len() == bytes);
     assert!(rt; LEAST_REPORT.as_bytes().starts_with(sink.bytes()));
     Ok(())
 }
 
 #[test]
 fn a_sink_that_fails_after_any_byte(rt: HostRuntime) -> Result<(), Fail> {
-    assert_eq!(rt; LEAST_REPORT.len(), 81);
+    assert!(rt; LEAST_REPORT.len() == 81);
     for bytes in 0..82 {
         fails_with_its_sink(&rt, rt.alloc(), bytes)?;
     }
@@ -186,8 +189,8 @@ fn one_byte_a_call(rt: HostRuntime) -> Result<(), Fail> {
     let source = FuseSource::new(LEAST.as_bytes(), 1, None);
     let mut sink = FuseSink::new(rt.alloc(), 1, None);
     let done = run_one(&rt, rt.alloc(), source, &mut sink);
-    assert_eq!(rt; done, Ok(()));
-    assert_eq!(rt; sink.bytes(), LEAST_REPORT.as_bytes());
+    assert!(rt; done == Ok(()));
+    assert!(rt; sink.bytes() == LEAST_REPORT.as_bytes());
     Ok(())
 }
 
@@ -197,14 +200,14 @@ fn run_spaces<R: Abort + Threads + Sync>(rt: &R, alloc: Global, count: u64) -> R
     let mut sink = MemorySink::new(alloc);
     let done = run(rt, alloc, &mut sources, plan(rt), &mut sink);
     let wanted = if done.is_ok() { NOTHING } else { "" };
-    assert_eq!(rt; sink.bytes(), wanted.as_bytes());
+    assert!(rt; sink.bytes() == wanted.as_bytes());
     done
 }
 
 #[test]
 fn a_log_has_at_most_67108864_bytes(rt: HostRuntime) {
     let too_long = Err(Fault::LogTooLong { log: 0 });
-    assert_eq!(rt; run_spaces(&rt, rt.alloc(), 67_108_864), Ok(()));
-    assert_eq!(rt; run_spaces(&rt, rt.alloc(), 67_108_865), too_long);
-    assert_eq!(rt; run_spaces(&rt, rt.alloc(), u64::MAX), too_long);
+    assert!(rt; run_spaces(&rt, rt.alloc(), 67_108_864) == Ok(()));
+    assert!(rt; run_spaces(&rt, rt.alloc(), 67_108_865) == too_long);
+    assert!(rt; run_spaces(&rt, rt.alloc(), u64::MAX) == too_long);
 }

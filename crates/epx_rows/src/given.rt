@@ -88,7 +88,7 @@ pub(crate) fn logs_give_by<R: Abort + Threads + Sync>(
     for (workers, cut) in plans {
         let plan = Plan::new(*workers, *cut).expect(rt, "a plan");
         let told = told(rt, alloc, answer(rt, alloc, logs, plan))?;
-        assert_eq!(rt; told.as_str(), wanted, "{workers} workers, cut {cut}");
+        assert!(rt; told.as_str() == wanted, "{workers} workers, cut {cut}");
     }
     Ok(())
 }
@@ -101,7 +101,7 @@ pub(crate) fn logs_give<R: Abort + Threads + Sync>(
     wanted: &str,
 ) -> Result<(), Fail> {
     let told = answered(rt, alloc, logs)?;
-    assert_eq!(rt; told.as_str(), wanted);
+    assert!(rt; told.as_str() == wanted);
     Ok(())
 }
 

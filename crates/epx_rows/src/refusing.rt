@@ -75,8 +75,8 @@ fn as_many_instances_as_are_allowed(rt: HostRuntime) -> Result<(), Fail> {
     let log = many(rt.alloc(), 65_536)?;
     let report = answered(&rt, rt.alloc(), &[log])?;
     let header = "[\"executed\",65536,\"waiting\",0,\"components\",65536]";
-    assert_eq!(rt; report.lines().next(), Some(header));
-    assert_eq!(rt; report.lines().count(), 65_537);
+    assert!(rt; report.lines().next() == Some(header));
+    assert!(rt; report.lines().count() == 65_537);
     Ok(())
 }
 

@@ -1,22 +1,20 @@
 -- The text of a report's line is that of its tokens.
-use Rattle.std.proofs.Common.{◌≡◌, ℕ, ℤ, pos, negsuc, List, [], ◌∷◌, ◌++◌, map, codes, decimal, Option, Some, None, refl, sym, ap, ◌∙◌, append_assoc}
-use Rattle.json.specs.Token.{Token, begin_array, end_array, string, number, null}
+use Rattle.std.proofs.Common.{◌≡◌, ℕ, ℤ, pos, negsuc, List, [], ◌∷◌, ◌++◌, map, codes, Option, Some, None, refl, sym, ap, ◌∙◌}
+use Rattle.json.specs.Token.{Token, begin_array, end_array, string}
 use Rattle.json.specs.Print.{print}
 use Rattle.json.specs.Tree.{json_tokens, items_tokens}
 use Rattle.serde_json.specs.Data as value
 use Rattle.serde_json.specs.Data.{Data}
 use Rattle.serde_json.specs.Find.{of_integer}
 use Rattle.serde_json.specs.View.{items_of}
-use Rattle.serde_json.specs.Written.{outline, items_outline, compact_text}
+use Rattle.serde_json.specs.Written.{outline, items_outline}
 use Rattle.serde_json.proofs.Texts.{print-outline}
 use Rattle.epx_types.specs.declared.id.Id.{Id}
 use Rattle.epx_types.specs.declared.reply.Reply.{Reply}
 use Rattle.epx_types.specs.declared.reply.Reply.TheVariants.{Values, Abort}
-use Rattle.epx_types.specs.WaitingLists.{Waiting}
 use Rattle.epx_lines.specs.Text.{data_of_value}
 use Rattle.epx_tool.specs.LineTokens.{name_tokens, value_token, reply_tokens}
-use Rattle.epx_tool.specs.ReportLines.{line_feed, array_of, line_of, header_data, header_line, reply_data, reply_line, waiting_data, waiting_line, store_data, store_line}
-use Rattle.epx_tool.specs.OrderText.{order_data}
+use Rattle.epx_tool.specs.ReportLines.{line_feed, array_of, line_of, reply_data, store_data}
 
 abbrev pub tokens_of : Data → List Token
 tokens_of d = json_tokens (outline d)

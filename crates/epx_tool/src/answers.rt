@@ -80,6 +80,25 @@ pub fn answer<R: Threads + Sync>(
     Ok(report_of(rt, alloc, &merged, plan)?)
 }
 
+/// As `answer`, of logs that are freed once they are read.
+pub(crate) fn answer_once<R: Threads + Sync>(
+    rt: &R,
+    alloc: Global,
+    logs: Vec<Vec<u8>>,
+    plan: Plan,
+) -> Result<Vec<u8>, Fault>
+    ensures { let bytes = map (λ log. log.items) logs.items in
+        MatchResult result (λ text. IsAnswer bytes (Ok text.items)) (λ fault. IsAnswer bytes (Err fault)) }
+{
+    let merged = match read_logs(rt, alloc, &logs, plan, &FreeGate) {
+        Ok(merged) => merged,
+        Err(fault) => return Err(fault),
+    };
+    drop(logs);
+    let text = report_of(rt, alloc, &merged, plan)?;
+    Ok(text)
+}
+
 /// As `answer`, with the text that is asked for in place of the report.
 pub fn view<R: Threads + Sync>(
     rt: &R,

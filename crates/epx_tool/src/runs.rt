@@ -7,7 +7,7 @@ ghost use Rattle.epx_tool.specs.Views.{IsViewed};
 ghost use Rattle.epx_tool.specs.Runs.{AreBytesOf, IsReadingRefusal, IsRunFault};
 ghost use Rattle.epx_devices.specs.Transfers.{AppendsPrefix};
 
-use crate::answers::{answer, view};
+use crate::answers::{answer_once, view};
 use crate::ask::Ask;
 use epx_devices::{Sink, Source, read_log, write_out};
 use epx_merge::MAX_LOGS;
@@ -67,7 +67,7 @@ pub fn run<T: Threads + Sync, S: Source, W: Sink>(
         Ok(logs) => logs,
         Err(fault) => return Err(fault),
     };
-    let text = match answer(rt, alloc, &logs, plan) {
+    let text = match answer_once(rt, alloc, logs, plan) {
         Ok(text) => text,
         Err(fault) => return Err(fault),
     };

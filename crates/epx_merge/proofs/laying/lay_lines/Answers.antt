@@ -1,4 +1,4 @@
-use Rattle.std.proofs.Common.{◌≤◌, length, arith, rules}
+use Rattle.std.proofs.Common.{rules}
 use Rattle.epx_merge.specs.Repeats.{IsIdleIn}
 use Rattle.epx_merge.proofs.LaidLines.{laid_none, laid_more, laid_idle}
 use Rattle.epx_merge.proofs.laying.lay_lines.Goals as goal

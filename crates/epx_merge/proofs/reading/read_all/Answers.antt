@@ -1,6 +1,6 @@
 use Rattle.std.proofs.Common.{◌≡◌, ◌<◌, [], map, length, sym, subst, ◌∙◌, arith, rules}
 use Rattle.std.proofs.lemmas.List.{nil_from_length}
-use Rattle.epx_merge.specs.LogLines.{MeaningAt, meanings_of, placed_among, spoilt_among}
+use Rattle.epx_merge.specs.LogLines.{meanings_of, placed_among, spoilt_among}
 use Rattle.epx_merge.specs.Ledgers.{Notes}
 use Rattle.epx_merge.specs.Repeats.{Lays}
 use Rattle.epx_merge.specs.Steps.{IsReadFault}
