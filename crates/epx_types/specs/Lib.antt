@@ -1,4 +1,5 @@
 pub mod Keys
+pub mod KeyHeads
 pub mod Ids
 pub mod Instances
 pub mod Contents

@@ -1,6 +1,7 @@
 //! Keys of the store.
-ghost use Rattle.std.specs.Prelude.{◌≡◌, ◌≤◌, length, IfOk, IfSome, IfNone, IsSome, ◌↔◌, string_bytes};
+ghost use Rattle.std.specs.Prelude.{◌≡◌, ◌<◌, ◌≤◌, length, slice_index_or, IfOk, IfSome, IfNone, IsSome, ◌↔◌, string_bytes};
 ghost use Rattle.epx_types.specs.Keys.{FitsKey};
+ghost use Rattle.epx_types.specs.KeyHeads.{AreBytes, head_of};
 
 use crate::memory::Memory;
 use std::alloc::Global;
@@ -13,18 +14,50 @@ pub const MAX_KEY_BYTES: usize = 64;
 /// A key of the store: a text of 1 to 64 bytes; ordered by bytes.
 #[derive(Debug, Drop)]
 pub struct Key {
+    /// The first eight bytes as a number. It tells most keys apart without a look at their text.
+    head: u64,
     text: String,
 }
 
 impl Model for Key {
-    ghost use Rattle.std.specs.Prelude.{List, ℕ, string_bytes};
+    ghost use Rattle.std.specs.Prelude.{◌≡◌, List, ℕ, string_bytes};
     ghost use Rattle.epx_types.specs.Keys.{FitsKey};
+    ghost use Rattle.epx_types.specs.KeyHeads.{AreBytes, head_of};
 
     ghost Value = { List ℕ };
 
     ghost view = { λ k. string_bytes k.text };
 
-    ghost invariant = { λ k. FitsKey (string_bytes k.text) };
+    ghost invariant = { λ k. FitsKey (string_bytes k.text) × AreBytes (string_bytes k.text) × (k.head ≡ head_of (string_bytes k.text)) };
+}
+
+/// A byte of a text, or 0 past its end.
+fn byte_at(bytes: &[u8], place: usize) -> u64
+    ensures value { result ≡ slice_index_or bytes.now place 0 }
+    ensures byte { result < 256 }
+{
+    if place < bytes.len() {
+        bytes[place] as u64
+    } else {
+        0
+    }
+}
+
+/// The first eight bytes of a text as a number.
+fn head_of(text: &str) -> u64
+    ensures head { result ≡ head_of text.now }
+    ensures bytes { AreBytes text.now }
+{
+    let bytes = text.as_bytes();
+    let high = byte_at(bytes, 0) * 0x100_0000
+        + byte_at(bytes, 1) * 0x1_0000
+        + byte_at(bytes, 2) * 0x100
+        + byte_at(bytes, 3);
+    let low = byte_at(bytes, 4) * 0x100_0000
+        + byte_at(bytes, 5) * 0x1_0000
+        + byte_at(bytes, 6) * 0x100
+        + byte_at(bytes, 7);
+    high * 0x1_0000_0000 + low
 }
 
 impl Key {
@@ -36,8 +69,9 @@ impl Key {
         if text.is_empty() || text.len() > MAX_KEY_BYTES {
             return Ok(None);
         }
+        let head = head_of(text);
         let text = String::from_str(alloc, text)?;
-        Ok(Some(Key { text }))
+        Ok(Some(Key { head, text }))
     }
 
     pub fn text(&self) -> &str
@@ -51,7 +85,10 @@ impl Key {
         ensures { IfOk result (λ k. k ≡ self.now) }
     {
         let text = self.text.clone()?;
-        Ok(Key { text })
+        Ok(Key {
+            head: self.head,
+            text,
+        })
     }
 }
 
@@ -108,6 +145,10 @@ impl Ord for Key {
     ghost matches_eq = { Prim.search (comparing, rules) };
 
     fn cmp(&self, other: &Key) -> Ordering {
-        self.text.as_bytes().cmp(&other.text.as_bytes())
+        if self.head == other.head {
+            self.text.cmp(&other.text)
+        } else {
+            self.head.cmp(&other.head)
+        }
     }
 }
