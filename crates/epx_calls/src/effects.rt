@@ -2,10 +2,11 @@
 ghost use Rattle.std.specs.Prelude.{◌≡◌, [], ◌∷◌, IfOk};
 
 use crate::given::key;
-use epx_txn::{Effect, Store, Writes, eval, merge_effects, touched, written};
+use epx_txn::{Effect, Store, Writes, apply, eval, merge_effects, touched, written};
 use epx_types::{Key, Memory, Op, Reply, Values};
 use std::alloc::Global;
 use std::process::Abort;
+use std::slice::from_ref;
 use std::test::Fail;
 use std::thread::Threads;
 
@@ -203,6 +204,123 @@ fn all_writes_are_merged(rt: HostRuntime) -> Result<(), Fail> {
     is_stored(&rt, &store, &[("b", 7)])?;
     let store = merge_effects(&rt, alloc, store, &[])?;
     is_stored(&rt, &store, &[("b", 7)])?;
+    Ok(())
+}
+
+/// Puts of the letters from z down to a, each with its place in the alphabet.
+fn letters(rt: &impl Abort, alloc: Global) -> Result<Vec<Op>, Memory> {
+    let mut ops = Vec::new(alloc);
+    for (place, letter) in "abcdefghijklmnopqrstuvwxyz".char_indices().rev() {
+        let text = format!(in alloc; "{letter}")?;
+        ops.push(Op::Put {
+            key: key(rt, alloc, text.as_str())?,
+            value: place as i64 + 1,
+        })?;
+    }
+    Ok(ops)
+}
+
+/// The store after one command.
+fn after<R: Threads + Sync + Abort>(
+    rt: &R,
+    alloc: Global,
+    store: Store,
+    ops: &[Op],
+) -> Result<Store, Memory> {
+    let effect = eval(alloc, &store, ops)?;
+    merge_effects(rt, alloc, store, from_ref(&effect))
+}
+
+#[test]
+fn keys_of_all_shards_stand_in_byte_order(rt: HostRuntime) -> Result<(), Fail> {
+    let alloc = rt.alloc();
+    let ops = letters(&rt, alloc)?;
+    let store = after(&rt, alloc, Store::new(alloc), &ops)?;
+    let pairs = store.pairs()?;
+    assert!(rt; store.len() == 26);
+    assert!(rt; pairs.len() == 26);
+    for ((place, letter), pair) in "abcdefghijklmnopqrstuvwxyz".char_indices().zip(&pairs) {
+        assert!(rt; pair.0.text().starts_with(letter));
+        assert!(rt; pair.1 == place as i64 + 1);
+    }
+    Ok(())
+}
+
+/// Puts of all letters, and then a sum and a removal, each read.
+fn letters_and_more(rt: &impl Abort, alloc: Global) -> Result<Vec<Op>, Memory> {
+    let mut ops = letters(rt, alloc)?;
+    ops.push(Op::Add {
+        key: key(rt, alloc, "a")?,
+        amount: 6,
+    })?;
+    ops.push(Op::Get {
+        key: key(rt, alloc, "a")?,
+    })?;
+    ops.push(Op::Del {
+        key: key(rt, alloc, "b")?,
+    })?;
+    ops.push(Op::Get {
+        key: key(rt, alloc, "b")?,
+    })?;
+    Ok(ops)
+}
+
+#[test]
+fn command_may_write_many_keys(rt: HostRuntime) -> Result<(), Fail> {
+    let alloc = rt.alloc();
+    let ops = letters_and_more(&rt, alloc)?;
+    let store = five(&rt, alloc)?;
+    let effect = eval(alloc, &store, &ops)?;
+    is_reply(&rt, &effect.reply, Wanted::Values(&[Some(7), None]));
+    assert!(rt; effect.writes.as_slice().len() == 26);
+    let store = after(&rt, alloc, store, &ops)?;
+    assert!(rt; store.len() == 25);
+    for (text, value) in [("a", Some(7)), ("b", None), ("c", Some(3)), ("z", Some(26))] {
+        assert!(rt; store.get(&key(&rt, alloc, text)?) == value);
+    }
+    let mut applied = five(&rt, alloc)?;
+    let reply = apply(alloc, &mut applied, &ops)?;
+    is_reply(&rt, &reply, Wanted::Values(&[Some(7), None]));
+    is_same(&rt, &applied, &store)?;
+    Ok(())
+}
+
+#[test]
+fn abort_of_many_keys_writes_nothing(rt: HostRuntime) -> Result<(), Fail> {
+    let alloc = rt.alloc();
+    let mut ops = letters_and_more(&rt, alloc)?;
+    ops.push(Op::Is {
+        key: key(&rt, alloc, "c")?,
+        value: None,
+    })?;
+    have_effect(&rt, alloc, &ops, Wanted::Abort(30), &[])?;
+    Ok(())
+}
+
+/// Puts of so many numbers under their decimal texts.
+fn numbers(rt: &impl Abort, alloc: Global, count: i64) -> Result<Vec<Op>, Memory> {
+    let mut ops = Vec::new(alloc);
+    for value in 0..count {
+        let text = format!(in alloc; "{value}")?;
+        ops.push(Op::Put {
+            key: key(rt, alloc, text.as_str())?,
+            value,
+        })?;
+    }
+    Ok(ops)
+}
+
+#[test]
+fn many_writes_are_merged(rt: HostRuntime) -> Result<(), Fail> {
+    let alloc = rt.alloc();
+    let ops = numbers(&rt, alloc, 5_000)?;
+    let store = after(&rt, alloc, Store::new(alloc), &ops)?;
+    let store = after(&rt, alloc, store, &ops)?;
+    assert!(rt; store.len() == 5_000);
+    for value in 0..5_000 {
+        let text = format!(in alloc; "{value}")?;
+        assert!(rt; store.get(&key(&rt, alloc, text.as_str())?) == Some(value));
+    }
     Ok(())
 }
 

@@ -1,7 +1,13 @@
+pub mod RisingEntries
 pub mod TreeEntries
 pub mod Remaining
 pub mod Reading
 pub mod Drafts
+pub mod Placing
 pub mod EvaluationSteps
 pub mod Merging
 pub mod LentKeys
+pub mod ShardLookups
+pub mod ShardWrites
+pub mod ListedOnce
+pub mod Routing

@@ -1,8 +1,10 @@
 -- The writes of several effects in turn.
-use Rattle.std.proofs.Common.{◌≡◌, ℕ, ◌+◌, ◌<◌, ◌∙◌, sym, ap, List, length, get_or, drop, flat_map}
+use Rattle.std.proofs.Common.{◌≡◌, ℕ, ◌+◌, ◌<◌, ◌∙◌, sym, ap, subst, append-nil, List, [], ◌∷◌, length, get_or, drop, flat_map}
 use Rattle.epx_types.specs.Contents.{Contents}
-use Rattle.epx_types.specs.Writes.{Write, put_all}
+use Rattle.epx_types.specs.declared.op.Op.{Op}
+use Rattle.epx_types.specs.Writes.{Write, writes_of, put_all, NoKeyTwice}
 use Rattle.epx_types.proofs.GatheredWrites.{put_all-append}
+use Rattle.epx_types.proofs.Commands.{writes_of-apart}
 use Rattle.epx_txn.proofs.Remaining.{left_at}
 use Rattle.epx_txn.specs.declared.effect.Effect.{Effect}
 
@@ -17,3 +19,9 @@ after_effect effects i e before after all within here put so_far =
     ∙ sym (put_all-append e.writes (writes_in (drop (i + 1) effects)) before)
     ∙ ap (λ es. put_all (writes_in es) before) (sym (left_at effects i e within here))
     ∙ so_far
+
+-- the effect of one command writes no key twice
+pub no_key_twice : (ops : List Op) (before : Contents) (effects : List Effect) (e : Effect) → effects ≡ e ∷ [] → e.writes ≡ writes_of ops before → NoKeyTwice (writes_in effects)
+no_key_twice ops before effects e alone writes =
+    let P : List Write → Type 0 = λ ws. NoKeyTwice ws in
+    subst P (sym (ap writes_in alone ∙ append-nil e.writes ∙ writes)) (writes_of-apart ops before)

@@ -1,9 +1,11 @@
 -- What a loop over all entries of a map has gathered at its end.
-use Rattle.std.proofs.Common.{◌≡◌, ◌∙◌, ℕ, sym, ap, append-nil, List, [], ◌++◌}
+use Rattle.std.proofs.Common.{◌≡◌, ◌∙◌, ℕ, ℤ, Option, sym, ap, append-nil, List, [], ◌++◌}
 use Rattle.std.specs.BTreeMap.{BTreeMap, IsOrdered}
 use Rattle.std.specs.FinMap as contents
 use Rattle.std.specs.FinMap.{FinMap}
+use Rattle.epx_types.specs.Contents.{Contents}
 use Rattle.epx_types.specs.Keys.{key_cmp}
+use Rattle.epx_types.specs.Writes.{Write, put_all}
 use Rattle.epx_types.proofs.SortedEntries.{entries-from_entries, write_all, insert_all-from_entries}
 use Rattle.epx_txn.proofs.TreeEntries.{is_sorted-from_order}
 
@@ -13,10 +15,10 @@ module _ {X : Type 0} (tree : BTreeMap (List ℕ) X) (m : FinMap key_cmp X) (vie
   entries_of_tree =
       sym (entries-from_entries tree.entries (is_sorted-from_order tree.entries rises)) ∙ ap contents.entries view_is
 
-  -- all have been listed
-  pub listed_all : (done rest start : List (List ℕ × X)) → rest ≡ [] → done ++ rest ≡ start → start ≡ tree.entries → done ≡ contents.entries m
-  listed_all done rest start e kept from =
-      sym (append-nil done) ∙ ap (λ r. done ++ r) (sym e) ∙ kept ∙ from ∙ entries_of_tree
+  -- all have been listed, after what was listed before
+  pub listed_all : (before done rest start : List (List ℕ × X)) → rest ≡ [] → done ++ rest ≡ before ++ start → start ≡ tree.entries → done ≡ before ++ contents.entries m
+  listed_all before done rest start e kept from =
+      sym (append-nil done) ∙ ap (λ r. done ++ r) (sym e) ∙ kept ∙ ap (λ r. before ++ r) (from ∙ entries_of_tree)
 
   -- all have been inserted
   pub inserted_all : (made : FinMap key_cmp X) (rest start : List (List ℕ × X)) → rest ≡ [] → write_all contents.insert rest made ≡ write_all contents.insert start contents.empty → start ≡ tree.entries → made ≡ m
@@ -26,3 +28,8 @@ module _ {X : Type 0} (tree : BTreeMap (List ℕ) X) (m : FinMap key_cmp X) (vie
       ∙ ap (λ r. write_all contents.insert r contents.empty) from
       ∙ insert_all-from_entries tree.entries (is_sorted-from_order tree.entries rises)
       ∙ view_is
+
+-- all writes have been put in
+pub put_all_of_tree : (tree : BTreeMap (List ℕ) (Option ℤ)) (m : FinMap key_cmp (Option ℤ)) → contents.from_entries tree.entries ≡ m → IsOrdered key_cmp tree → (before after : Contents) (rest start : List Write) → rest ≡ [] → put_all rest after ≡ put_all start before → start ≡ tree.entries → after ≡ put_all (contents.entries m) before
+put_all_of_tree tree m view_is rises before after rest start e kept from =
+    ap (λ r. put_all r after) (sym e) ∙ kept ∙ ap (λ r. put_all r before) (from ∙ entries_of_tree tree m view_is rises)

@@ -1,5 +1,5 @@
 -- The entries of a tree map, as those of a finite map.
-use Rattle.std.proofs.Common.{◌≡◌, ℕ, ◌∙◌, refl, sym, ap, subst, T, Bool, true, false, cond, ◌&&◌, List, [], ◌∷◌, Option, Some, None}
+use Rattle.std.proofs.Common.{◌≡◌, ℕ, ◌∙◌, refl, sym, ap, subst, T, cond, List, [], ◌∷◌, Option, Some, None}
 use Rattle.std.specs.Ordering.{eq_by_cmp, is_lt}
 use Rattle.std.specs.declared.cmp.Ordering.{Ordering}
 use Rattle.std.specs.declared.cmp.Ordering.TheVariants.{Less}
@@ -14,10 +14,7 @@ use Rattle.std.specs.FinMap.{FinMap, find, is_sorted, same_map, get-from_entries
 use Rattle.std.specs.FinMap.Entries.{below_all}
 use Rattle.epx_types.specs.Keys.{key_cmp}
 use Rattle.epx_types.proofs.KeyLists.{key_cmp_total, key_cmp-IsAntisymmetric}
-
-both_of : (a b : Bool) → T a → T b → T (a && b)
-both_of true b g h = h
-both_of false b g h = absurd g
+use Rattle.epx_txn.proofs.RisingEntries.{both_of}
 
 module _ {X : Type 0} where
   -- a look-up in a tree's entries is a look-up in the finite map's

@@ -1,1 +1,4 @@
 pub mod Drafts
+pub mod Places
+pub mod Shards
+pub mod Routes

@@ -1,14 +1,95 @@
 //! The operations of a command over a lent store, with its writes held back.
-ghost use Rattle.std.specs.Prelude.{◌≡◌, IfOk, if◌then◌else◌};
+ghost use Rattle.std.specs.Prelude.{◌≡◌, IfOk, OnOk, if◌then◌else◌};
 ghost use Rattle.std.specs.FinMap as contents;
+ghost use Rattle.epx_types.specs.Writes.{put_all};
 ghost use Rattle.epx_txn.specs.Drafts.{seen_through, StepIs};
 
+use crate::few_writes::FewWrites;
 use crate::key_map::KeyMap;
 use crate::store::Store;
 use epx_types::{Key, Memory, Op};
+use std::alloc::Global;
+use std::marker::Model;
 
 /// What a command has written so far: a value, or None for absence, under each written key.
-pub(crate) type Draft = KeyMap<Option<i64>>;
+/// Contracts see it as one finite map.
+#[derive(Drop)]
+pub(crate) struct Draft<'a> {
+    alloc: Global,
+    few: FewWrites<'a>,
+    /// All, where they are too many for the former, which is then left as it was.
+    many: Option<KeyMap<Option<i64>>>,
+}
+
+impl<'a> Model for Draft<'a> {
+    ghost use Rattle.std.specs.Prelude.{ℤ, Option, unwrap_or};
+    ghost use Rattle.std.specs.FinMap as contents;
+    ghost use Rattle.std.specs.Coded.{coded_list, coded_ℕ, coded_ℤ, coded_option};
+    ghost use Rattle.epx_types.specs.Keys.{key_cmp};
+
+    ghost Value = { contents.FinMap key_cmp (Option ℤ) };
+
+    ghost coded = { contents.code (coded_list coded_ℕ) (coded_option coded_ℤ) };
+
+    ghost view = { λ d. unwrap_or d.many d.few };
+}
+
+impl<'a> Draft<'a> {
+    pub(crate) fn new(alloc: Global) -> Draft<'a>
+        ensures { result ≡ contents.empty }
+    {
+        Draft {
+            alloc,
+            few: FewWrites::new(alloc),
+            many: None,
+        }
+    }
+
+    fn get(&self, key: &Key) -> Option<Option<i64>>
+        ensures { result ≡ contents.get self.now key.now }
+    {
+        match &self.many {
+            Some(tree) => tree.get(key),
+            None => self.few.get(key),
+        }
+    }
+
+    fn set(&mut self, key: &'a Key, value: Option<i64>) -> Result<(), Memory>
+        ensures { OnOk result (self.new ≡ contents.insert self.old key.now value) }
+    {
+        if let Some(tree) = &mut self.many {
+            return tree.set(key, value);
+        }
+        if self.few.set(key, value)? {
+            return Ok(());
+        }
+        let mut tree = self.few.tree(self.alloc)?;
+        tree.set(key, value)?;
+        self.many = Some(tree);
+        Ok(())
+    }
+
+    /// All of them, put into a store.
+    pub(crate) fn put_into(&self, store: &mut Store) -> Result<(), Memory>
+        ensures { OnOk result (store.new ≡ put_all (contents.entries self.now) store.old) }
+    {
+        match &self.many {
+            Some(tree) => tree.put_into(store),
+            None => self.few.put_into(store),
+        }
+    }
+
+    /// The keys, copied once, with their values, by rising key.
+    pub(crate) fn into_pairs(self) -> Result<Vec<(Key, Option<i64>)>, Memory>
+        ensures { IfOk result (λ v. v.items ≡ contents.entries self.entry) }
+    {
+        let Draft { alloc, few, many } = self;
+        match many {
+            Some(tree) => tree.into_pairs(),
+            None => few.pairs(alloc),
+        }
+    }
+}
 
 /// What one operation did.
 #[derive(Clone, Copy, Debug, PartialEq, Eq)]
@@ -29,7 +110,7 @@ fn read(draft: &Draft, store: &Store, key: &Key) -> Option<i64>
 }
 
 /// One more write.
-fn write(draft: &mut Draft, key: &Key, value: Option<i64>) -> Result<Step, Memory>
+fn write<'a>(draft: &mut Draft<'a>, key: &'a Key, value: Option<i64>) -> Result<Step, Memory>
     ensures { IfOk result
         (λ s. (s ≡ Step.Done) × (draft.new ≡ contents.insert draft.old key.now value)) }
 {
@@ -44,7 +125,7 @@ fn done_if(holds: bool) -> Step
 }
 
 /// One operation.
-pub(crate) fn operate(draft: &mut Draft, store: &Store, op: &Op) -> Result<Step, Memory>
+pub(crate) fn operate<'a>(draft: &mut Draft<'a>, store: &Store, op: &'a Op) -> Result<Step, Memory>
     ensures { IfOk result (λ s. StepIs s op.now store.now draft.old draft.new) }
 {
     match op {

@@ -1,5 +1,6 @@
-//! One command over a lent store.
-ghost use Rattle.std.specs.Prelude.{◌≡◌, IfOk};
+//! One command over a store.
+ghost use Rattle.std.specs.Prelude.{◌≡◌, IfOk, OnOk};
+ghost use Rattle.std.specs.FinMap as contents;
 ghost use Rattle.epx_types.specs.Commands.{command_on};
 ghost use Rattle.epx_types.specs.Writes.{writes_of};
 
@@ -9,26 +10,44 @@ use crate::store::Store;
 use epx_types::{Memory, Op, Reply, Values};
 use std::alloc::Global;
 
-/// What a command does to a store, which it only reads.
-pub fn eval(alloc: Global, store: &Store, ops: &[Op]) -> Result<Effect, Memory>
-    ensures reply { IfOk result (λ e. e.reply ≡ (command_on ops.now store.now).reply) }
-    ensures writes { IfOk result (λ e. e.writes ≡ writes_of ops.now store.now) }
+/// The reply of a command over a store that it only reads, and what it would write.
+fn operate_all<'a>(
+    alloc: Global,
+    store: &Store,
+    ops: &'a [Op],
+) -> Result<(Reply, Draft<'a>), Memory>
+    ensures reply { IfOk result (λ r. r.0 ≡ (command_on ops.now store.now).reply) }
+    ensures writes { IfOk result (λ r. contents.entries r.1 ≡ writes_of ops.now store.now) }
 {
-    let mut draft: Draft = Draft::new(alloc);
+    let mut draft = Draft::new(alloc);
     let mut got = Vec::new(alloc);
     for (place, op) in ops.iter().enumerate() {
         match operate(&mut draft, store, op)? {
             Step::Read(value) => got.push(value)?,
             Step::Done => {}
-            Step::Abort => {
-                return Ok(Effect {
-                    reply: Reply::Abort(place as u64),
-                    writes: Writes::new(Vec::new(alloc)),
-                });
-            }
+            Step::Abort => return Ok((Reply::Abort(place as u64), Draft::new(alloc))),
         }
     }
+    Ok((Reply::Values(Values::new(got)), draft))
+}
+
+/// What a command does to a store, which it only reads.
+pub fn eval(alloc: Global, store: &Store, ops: &[Op]) -> Result<Effect, Memory>
+    ensures reply { IfOk result (λ e. e.reply ≡ (command_on ops.now store.now).reply) }
+    ensures writes { IfOk result (λ e. e.writes ≡ writes_of ops.now store.now) }
+{
+    let (reply, draft) = operate_all(alloc, store, ops)?;
     let writes = Writes::new(draft.into_pairs()?);
-    let reply = Reply::Values(Values::new(got));
     Ok(Effect { reply, writes })
+}
+
+/// One command applied to a store at once: the store after it, and its reply. After want of memory some of its writes
+/// may stand in the store.
+pub fn apply(alloc: Global, store: &mut Store, ops: &[Op]) -> Result<Reply, Memory>
+    ensures reply { IfOk result (λ r. r ≡ (command_on ops.now store.old).reply) }
+    ensures after { OnOk result (store.new ≡ (command_on ops.now store.old).after) }
+{
+    let (reply, draft) = operate_all(alloc, store, ops)?;
+    draft.put_into(store)?;
+    Ok(reply)
 }

@@ -1,8 +1,11 @@
 //! Values under keys.
-ghost use Rattle.std.specs.Prelude.{◌≡◌, IfOk, OnOk, OnErr, map};
+ghost use Rattle.std.specs.Prelude.{◌≡◌, ◌++◌, IfOk, OnOk, OnErr, map};
 ghost use Rattle.std.specs.FinMap as contents;
 ghost use Rattle.epx_types.specs.Keys.{key_cmp};
+ghost use Rattle.epx_types.specs.Contents.{assign};
+ghost use Rattle.epx_types.specs.Writes.{put_all};
 
+use crate::store::Store;
 use epx_types::{Key, Memory};
 use std::alloc::Global;
 use std::collections::BTreeMap;
@@ -85,18 +88,19 @@ impl<V: Copy> KeyMap<V> {
         Ok(made)
     }
 
-    /// The keys with their values, by rising key.
-    pub(crate) fn pairs(&self) -> Result<Vec<(&Key, V)>, Memory>
-        ensures { IfOk result (λ v. map (λ p. (p.0.now, p.1)) v.items ≡ contents.entries self.now) }
+    /// Lists the keys with their values, by rising key.
+    pub(crate) fn list<'a>(&'a self, pairs: &mut Vec<(&'a Key, V)>) -> Result<(), Memory>
+        ensures { OnOk result
+            (map (λ p. (p.0.now, p.1)) pairs.new.items ≡
+            map (λ p. (p.0.now, p.1)) pairs.old.items ++ contents.entries self.now) }
     {
-        let mut pairs = Vec::new(self.alloc);
         for (key, value) in &self.map {
             pairs.push((key, *value))?;
         }
-        Ok(pairs)
+        Ok(())
     }
 
-    /// The same, with the keys moved out.
+    /// The keys, moved out, with their values, by rising key.
     pub(crate) fn into_pairs(self) -> Result<Vec<(Key, V)>, Memory>
         ensures { IfOk result (λ v. v.items ≡ contents.entries self) }
     {
@@ -106,5 +110,32 @@ impl<V: Copy> KeyMap<V> {
             pairs.push((key, value))?;
         }
         Ok(pairs)
+    }
+}
+
+impl KeyMap<i64> {
+    /// The key holds the value, or is absent where there is none. The key is copied only where it is
+    /// new.
+    pub(crate) fn assign(&mut self, key: &Key, value: Option<i64>) -> Result<(), Memory>
+        ensures ok { OnOk result (self.new ≡ assign self.old key.now value) }
+        ensures err { OnErr result (self.new ≡ self.old) }
+    {
+        match value {
+            Some(value) => self.set(key, value)?,
+            None => self.remove(key),
+        }
+        Ok(())
+    }
+}
+
+impl KeyMap<Option<i64>> {
+    /// Written values, put into a store; None is absence.
+    pub(crate) fn put_into(&self, store: &mut Store) -> Result<(), Memory>
+        ensures { OnOk result (store.new ≡ put_all (contents.entries self.now) store.old) }
+    {
+        for (key, value) in &self.map {
+            store.write(key, *value)?;
+        }
+        Ok(())
     }
 }

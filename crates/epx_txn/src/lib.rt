@@ -4,13 +4,16 @@
 mod draft;
 pub mod effect;
 pub mod evaluation;
+mod few_writes;
 mod key_map;
 pub mod keys;
 pub mod merge;
+mod routes;
+mod shards;
 pub mod store;
 
 pub use effect::{Effect, Writes};
-pub use evaluation::eval;
+pub use evaluation::{apply, eval};
 pub use keys::{touched, written};
 pub use merge::merge_effects;
 pub use store::Store;

@@ -8,6 +8,20 @@ use epx_types::Memory;
 use std::alloc::Global;
 use std::thread::Threads;
 
+/// Fewer writes than these are put in by one thread: to start and join threads takes as long.
+const MANY: usize = 4_096;
+
+fn are_few(effects: &[Effect]) -> bool {
+    let mut count = 0usize;
+    for effect in effects {
+        count = count.saturating_add(effect.writes.as_slice().len());
+        if count >= MANY {
+            return false;
+        }
+    }
+    true
+}
+
 /// The writes of one command, put into the store one after another.
 fn put_writes(store: &mut Store, writes: &Writes) -> Result<(), Memory>
     ensures { OnOk result (store.new ≡ put_all writes.now store.old) }
@@ -18,9 +32,20 @@ fn put_writes(store: &mut Store, writes: &Writes) -> Result<(), Memory>
     Ok(())
 }
 
+/// All writes, put into the store one after another.
+fn put_effects(store: &mut Store, effects: &[Effect]) -> Result<(), Memory>
+    ensures { OnOk result
+        (store.new ≡ put_all (flat_map (λ e. e.writes) effects.now) store.old) }
+{
+    for effect in effects {
+        put_writes(store, &effect.writes)?;
+    }
+    Ok(())
+}
+
 /// The store with all writes put in. After want of memory the store is gone.
 pub fn merge_effects<R: Threads + Sync>(
-    _rt: &R,
+    rt: &R,
     _alloc: Global,
     store: Store,
     effects: &[Effect],
@@ -28,9 +53,10 @@ pub fn merge_effects<R: Threads + Sync>(
     requires { NoKeyTwice (flat_map (λ e. e.writes) effects.now) }
     ensures { IfOk result (λ s. s ≡ put_all (flat_map (λ e. e.writes) effects.now) store) }
 {
-    let mut store = store;
-    for effect in effects {
-        put_writes(&mut store, &effect.writes)?;
+    if !are_few(effects) {
+        return store.take_effects(rt, effects);
     }
+    let mut store = store;
+    put_effects(&mut store, effects)?;
     Ok(store)
 }

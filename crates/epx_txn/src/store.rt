@@ -1,29 +1,38 @@
 //! The store.
-ghost use Rattle.std.specs.Prelude.{◌≡◌, IfOk, OnOk, OnErr, map};
+ghost use Rattle.std.specs.Prelude.{◌≡◌, IfOk, OnOk, OnErr, map, flat_map};
 ghost use Rattle.std.specs.FinMap as contents;
 ghost use Rattle.epx_types.specs.Contents.{assign};
+ghost use Rattle.epx_types.specs.Writes.{put_all};
 
+use crate::effect::Effect;
 use crate::key_map::KeyMap;
+use crate::routes::{put_routes, sort_by_shard};
+use crate::shards::{SHARDS, copy_shards, empty_shards, shard_of};
 use epx_types::{Key, Memory};
 use std::alloc::Global;
 use std::marker::Model;
+use std::thread::Threads;
 
 /// Signed numbers of 64 bits under keys. Contracts see it as one finite map.
 #[derive(Debug, Drop)]
 pub struct Store {
-    map: KeyMap<i64>,
+    alloc: Global,
+    shards: [KeyMap<i64>; SHARDS],
 }
 
 impl Model for Store {
     ghost use Rattle.std.specs.FinMap as contents;
     ghost use Rattle.std.specs.Coded.{coded_list, coded_ℕ, coded_ℤ};
     ghost use Rattle.epx_types.specs.Contents.{Contents};
+    ghost use Rattle.epx_txn.specs.Shards.{AreShards, whole};
 
     ghost Value = { Contents };
 
     ghost coded = { contents.code (coded_list coded_ℕ) coded_ℤ };
 
-    ghost view = { λ s. s.map };
+    ghost view = { λ s. whole s.shards };
+
+    ghost invariant = { λ s. AreShards s.shards };
 }
 
 impl Store {
@@ -32,7 +41,8 @@ impl Store {
         ensures { result ≡ contents.empty }
     {
         Store {
-            map: KeyMap::new(alloc),
+            alloc,
+            shards: empty_shards(alloc),
         }
     }
 
@@ -40,14 +50,18 @@ impl Store {
     pub fn get(&self, key: &Key) -> Option<i64>
         ensures { result ≡ contents.get self.now key.now }
     {
-        self.map.get(key)
+        self.shards[shard_of(key)].get(key)
     }
 
     /// How many keys are present.
     pub fn len(&self) -> u128
         ensures { result ≡ contents.len self.now }
     {
-        self.map.len() as u128
+        let mut present = 0;
+        for shard in &self.shards {
+            present += shard.len() as u128;
+        }
+        present
     }
 
     /// The key holds the value. On want of memory the key is dropped.
@@ -55,7 +69,7 @@ impl Store {
         ensures ok { OnOk result (self.new ≡ contents.insert self.old key value) }
         ensures err { OnErr result (self.new ≡ self.old) }
     {
-        self.map.insert(key, value)
+        self.shards[shard_of(&key)].insert(key, value)
     }
 
     /// The key holds the value, or is absent where there is none. The key is copied only where it is
@@ -64,24 +78,45 @@ impl Store {
         ensures ok { OnOk result (self.new ≡ assign self.old key.now value) }
         ensures err { OnErr result (self.new ≡ self.old) }
     {
-        match value {
-            Some(value) => self.map.set(key, value)?,
-            None => self.map.remove(key),
-        }
-        Ok(())
+        self.shards[shard_of(key)].assign(key, value)
+    }
+
+    /// Each shard takes, of all effects, the writes of its own keys, in threads of their own. After
+    /// want of memory the store is gone.
+    // Not inlined, so that a merge of few writes does not clear the space of these routes.
+    #[inline(never)]
+    pub(crate) fn take_effects<R: Threads + Sync>(
+        self,
+        rt: &R,
+        effects: &[Effect],
+    ) -> Result<Store, Memory>
+        ensures { IfOk result (λ s. s ≡ put_all (flat_map (λ e. e.writes) effects.now) self) }
+    {
+        let Store { alloc, mut shards } = self;
+        let routes = sort_by_shard(alloc, effects)?;
+        put_routes(rt, &mut shards, &routes)?;
+        Ok(Store { alloc, shards })
     }
 
     pub fn copy(&self) -> Result<Store, Memory>
         ensures { IfOk result (λ s. s ≡ self.now) }
     {
-        let map = self.map.copy()?;
-        Ok(Store { map })
+        let shards = copy_shards(self.alloc, &self.shards)?;
+        Ok(Store {
+            alloc: self.alloc,
+            shards,
+        })
     }
 
     /// The keys with their values, in byte order of the keys.
     pub fn pairs(&self) -> Result<Vec<(&Key, i64)>, Memory>
         ensures { IfOk result (λ v. map (λ p. (p.0.now, p.1)) v.items ≡ contents.entries self.now) }
     {
-        self.map.pairs()
+        let mut pairs = Vec::new(self.alloc);
+        for shard in &self.shards {
+            shard.list(&mut pairs)?;
+        }
+        pairs.sort()?;
+        Ok(pairs)
     }
 }

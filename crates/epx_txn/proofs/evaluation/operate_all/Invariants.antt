@@ -1,5 +1,5 @@
 use Rattle.epx_txn.proofs.EvaluationSteps.{IsDoneUpTo}
-use Rattle.epx_txn.proofs.evaluation.eval.Given as goal
+use Rattle.epx_txn.proofs.evaluation.operate_all.Given as goal
 
 abbrev pub invariant-loop-place : goal.invariant-loop-place
 invariant-loop-place l = IsDoneUpTo l.ops l.store l.place l.draft l.got.items

@@ -1,8 +1,10 @@
 use Rattle.std.proofs.Common.{◌≡◌, ◌<◌, ◌≤◌, ◌∙◌, ◌∷◌, ◌++◌, [], ap, length, arith, rules}
 use Rattle.epx_txn.proofs.EvaluationSteps.{at_start, after_read, after_done, reply_of_abort, writes_of_abort, reply_at_end, writes_at_end}
+use Rattle.std.specs.FinMap as contents
 use Rattle.epx_types.specs.declared.reply.Reply.TheVariants.{Values}
-use Rattle.epx_txn.proofs.evaluation.eval.Goals as goal
-use Rattle.epx_txn.proofs.evaluation.eval.Goals.{in-Read+in_ok-push-in-Read, in-Done}
+use Rattle.epx_types.proofs.SortedEntries.{entries-empty}
+use Rattle.epx_txn.proofs.evaluation.operate_all.Goals as goal
+use Rattle.epx_txn.proofs.evaluation.operate_all.Goals.{in-Read+in_ok-push-in-Read, in-Done}
 
 pub loop-place-init : goal.loop-place-init
 loop-place-init c = rw (c.new-draft.ensures, c.new-got.ensures.items) (at_start c.args.ops.now c.args.store.now)
@@ -15,8 +17,8 @@ returns-in-Abort-clause-reply c =
 pub returns-in-Abort-clause-writes : goal.returns-in-Abort-clause-writes
 returns-in-Abort-clause-writes c =
     let within : c.loop-place.place < length c.args.ops.now = omega arith in
-    c.new-in-Abort.ensures
-    ∙ c.new.ensures.items
+    ap contents.entries c.new.ensures
+    ∙ entries-empty
     ∙ writes_of_abort c.args.ops.now c.args.store.now c.loop-place.place c.loop-place.draft c.operate.new.draft c.loop-place.got.items c.index-ops-place.result c.loop-place.invariant within c.index-ops-place.is (rw c.in-Abort.is at c.in_ok-value.ensures)
 
 pub loop-place-preserved : goal.loop-place-preserved
@@ -40,6 +42,4 @@ returns-clause-reply c =
 pub returns-clause-writes : goal.returns-clause-writes
 returns-clause-writes c =
     let past : length c.args.ops.now ≤ c.loop-place.place = omega arith in
-    c.new-writes.ensures
-    ∙ c.in_ok-into_pairs.ensures
-    ∙ writes_at_end c.args.ops.now c.args.store.now c.loop-place.place c.loop-place.draft c.loop-place.got.items c.loop-place.invariant past
+    writes_at_end c.args.ops.now c.args.store.now c.loop-place.place c.loop-place.draft c.loop-place.got.items c.loop-place.invariant past

@@ -1,0 +1,127 @@
+//! The writes of a command that writes few keys.
+ghost use Rattle.std.specs.Prelude.{◌≡◌, ◌≤◌, T, false, IfOk, OnOk, MatchResult, if◌then◌else◌, map};
+ghost use Rattle.std.specs.FinMap as contents;
+ghost use Rattle.std.specs.FinMap.{is_sorted};
+ghost use Rattle.epx_types.specs.Keys.{key_cmp};
+ghost use Rattle.epx_types.specs.Writes.{put_all};
+ghost use Rattle.epx_txn.specs.Places.{StandsAt, BelongsAt};
+
+use crate::key_map::KeyMap;
+use crate::store::Store;
+use epx_types::{Key, Memory};
+use std::alloc::Global;
+use std::cmp::Ordering;
+use std::marker::Model;
+
+/// So many keys are looked through one after another; more would be slow.
+const FEW: usize = 16;
+
+/// A value, or None for absence, under each of a few lent keys, by rising key. Contracts see it as
+/// one finite map.
+#[derive(Drop)]
+pub(crate) struct FewWrites<'a> {
+    items: Vec<(&'a Key, Option<i64>)>,
+}
+
+impl<'a> Model for FewWrites<'a> {
+    ghost use Rattle.std.specs.Prelude.{ℤ, T, Option, map};
+    ghost use Rattle.std.specs.FinMap as contents;
+    ghost use Rattle.std.specs.FinMap.{is_sorted};
+    ghost use Rattle.std.specs.Coded.{coded_list, coded_ℕ, coded_ℤ, coded_option};
+    ghost use Rattle.epx_types.specs.Keys.{key_cmp};
+
+    ghost Value = { contents.FinMap key_cmp (Option ℤ) };
+
+    ghost coded = { contents.code (coded_list coded_ℕ) (coded_option coded_ℤ) };
+
+    ghost view = { λ w. contents.from_entries (map (λ p. (p.0.now, p.1)) w.items.items) };
+
+    ghost invariant = { λ w. T (is_sorted key_cmp (map (λ p. (p.0.now, p.1)) w.items.items)) };
+}
+
+/// Where the key stands, or else where it belongs.
+fn place_of(writes: &[(&Key, Option<i64>)], key: &Key) -> Result<usize, usize>
+    requires { T (is_sorted key_cmp (map (λ p. (p.0.now, p.1)) writes.now)) }
+    ensures { MatchResult result
+        (StandsAt (map (λ p. (p.0.now, p.1)) writes.now) key.now)
+        (BelongsAt (map (λ p. (p.0.now, p.1)) writes.now) key.now) }
+{
+    for (place, write) in writes.iter().enumerate() {
+        match key.cmp(write.0) {
+            Ordering::Less => return Err(place),
+            Ordering::Equal => return Ok(place),
+            Ordering::Greater => {}
+        }
+    }
+    Err(writes.len())
+}
+
+impl<'a> FewWrites<'a> {
+    pub(crate) fn new(alloc: Global) -> FewWrites<'a>
+        ensures { result ≡ contents.empty }
+    {
+        FewWrites {
+            items: Vec::new(alloc),
+        }
+    }
+
+    pub(crate) fn get(&self, key: &Key) -> Option<Option<i64>>
+        ensures { result ≡ contents.get self.now key.now }
+    {
+        match place_of(self.items.as_slice(), key) {
+            Ok(place) => Some(self.items[place].1),
+            Err(_) => None,
+        }
+    }
+
+    /// False where there is no room for the key.
+    pub(crate) fn set(&mut self, key: &'a Key, value: Option<i64>) -> Result<bool, Memory>
+        ensures after { IfOk result
+            (λ had_room. self.new ≡
+            (if had_room then contents.insert self.old key.now value else self.old)) }
+        ensures room { IfOk result (λ had_room. had_room ≡ false → 16 ≤ contents.len self.old) }
+    {
+        match place_of(self.items.as_slice(), key) {
+            Ok(place) => self.items[place] = (key, value),
+            Err(place) => {
+                if self.items.len() >= FEW {
+                    return Ok(false);
+                }
+                self.items.insert(place, (key, value))?;
+            }
+        }
+        Ok(true)
+    }
+
+    /// The same in a tree, with copies of the keys.
+    pub(crate) fn tree(&self, alloc: Global) -> Result<KeyMap<Option<i64>>, Memory>
+        ensures { IfOk result (λ m. m ≡ self.now) }
+    {
+        let mut tree = KeyMap::new(alloc);
+        for (key, value) in &self.items {
+            tree.insert(key.copy()?, *value)?;
+        }
+        Ok(tree)
+    }
+
+    /// All of them, put into a store.
+    pub(crate) fn put_into(&self, store: &mut Store) -> Result<(), Memory>
+        ensures { OnOk result (store.new ≡ put_all (contents.entries self.now) store.old) }
+    {
+        for (key, value) in &self.items {
+            store.write(key, *value)?;
+        }
+        Ok(())
+    }
+
+    /// Copies of the keys with their values, by rising key.
+    pub(crate) fn pairs(&self, alloc: Global) -> Result<Vec<(Key, Option<i64>)>, Memory>
+        ensures { IfOk result (λ v. v.items ≡ contents.entries self.now) }
+    {
+        let mut pairs = Vec::with_capacity(alloc, self.items.len())?;
+        for (key, value) in &self.items {
+            pairs.push((key.copy()?, *value))?;
+        }
+        Ok(pairs)
+    }
+}

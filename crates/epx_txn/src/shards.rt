@@ -1,0 +1,43 @@
+//! The shards of a store.
+ghost use Rattle.std.specs.Prelude.{◌≡◌, All, IfOk};
+ghost use Rattle.std.specs.FinMap as contents;
+ghost use Rattle.epx_txn.specs.Shards.{shard_of};
+
+use crate::key_map::KeyMap;
+use epx_types::{Key, Memory};
+use std::alloc::Global;
+use std::array;
+
+/// A store has so many shards.
+pub(crate) const SHARDS: usize = 16;
+
+/// The number of a key's shard: the sum of its bytes modulo the number of shards.
+pub(crate) fn shard_of(key: &Key) -> usize
+    ensures { result ≡ shard_of key.now }
+{
+    let mut sum = 0;
+    for byte in key.text().as_bytes() {
+        sum += *byte as usize;
+    }
+    sum % SHARDS
+}
+
+/// Shards without keys. Allocates nothing.
+pub(crate) fn empty_shards(alloc: Global) -> [KeyMap<i64>; SHARDS]
+    ensures { All (λ c. c ≡ contents.empty) result }
+{
+    array::from_fn(|_| KeyMap::new(alloc))
+}
+
+pub(crate) fn copy_shards(
+    alloc: Global,
+    shards: &[KeyMap<i64>; SHARDS],
+) -> Result<[KeyMap<i64>; SHARDS], Memory>
+    ensures { IfOk result (λ copy. copy ≡ shards.now) }
+{
+    let mut copy = empty_shards(alloc);
+    for number in 0..SHARDS {
+        copy[number] = shards[number].copy()?;
+    }
+    Ok(copy)
+}
