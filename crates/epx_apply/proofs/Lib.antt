@@ -1,2 +1,10 @@
-pub mod Applied
-pub mod OneEffect
+pub mod RepliesAtPlaces
+pub mod JoinedPieces
+pub mod LevelEffects
+pub mod ByLevel
+pub mod AskedKeys
+pub mod NumberedKeys
+pub mod Bars
+pub mod Tables
+pub mod Levelled
+pub mod Laying

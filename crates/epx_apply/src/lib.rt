@@ -1,6 +1,9 @@
-//! Commands applied in order.
+//! Commands applied in order, and their conflict levels.
 #![tactic(auto)]
 
+mod key_table;
+pub mod level_map;
 pub mod run;
 
+pub use level_map::{LevelMap, levels};
 pub use run::run_order;

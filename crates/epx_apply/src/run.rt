@@ -1,38 +1,291 @@
-//! Commands executed one after another.
-ghost use Rattle.std.specs.Prelude.{◌≡◌, ◌≤◌, ◌^◌, length, map, IfOk, OnOk, OnErr};
+//! Commands executed level by level: those of one level do not conflict, so each is evaluated over the
+//! store before all of them, which is only read, and then their writes are put in together.
+ghost use Rattle.std.specs.Prelude.{◌≡◌, ◌<◌, ◌≤◌, ◌^◌, ◌++◌, ◌∷◌, [], ℕ, length, map, flat_map, slice_set, All, IfOk, OnOk, OnErr};
 ghost use Rattle.epx_types.specs.Commands.{command_on};
+ghost use Rattle.epx_types.specs.Conflicts.{AllApart};
 ghost use Rattle.epx_types.specs.Execution.{execute};
+ghost use Rattle.epx_types.specs.Pieces.{piece_count};
+ghost use Rattle.epx_types.specs.Rearrangements.{commands_at};
+ghost use Rattle.epx_apply.specs.Effects.{ops_of, effect_over, effects_over, items_of_piece, replies_in, put_replies};
 
-use epx_txn::{Effect, Store, eval, merge_effects};
+use crate::level_map::levels;
+use epx_claims::{Gate, claimed_map};
+use epx_txn::{Effect, Store, apply, eval, merge_effects};
 use epx_types::{Command, Memory, Op, Plan, Reply};
 use std::alloc::Global;
-use std::slice::from_ref;
+use std::mem::replace;
 use std::thread::Threads;
 
-/// A store that is handed over, after one command, and the command's reply.
-fn apply_one<R: Threads + Sync>(
+/// The effect of one command over a lent store, put behind those of others.
+fn add_effect(
+    alloc: Global,
+    store: &Store,
+    ops: &[Op],
+    effects: &mut Vec<Effect>,
+) -> Result<(), Memory>
+    ensures { OnOk result
+        (effects.new.items ≡ effects.old.items ++ effect_over store.now ops.now ∷ []) }
+{
+    let effect = eval(alloc, store, ops)?;
+    effects.push(effect)?;
+    Ok(())
+}
+
+/// The effects of the commands at these places, each over the same lent store.
+fn evaluate(
+    alloc: Global,
+    store: &Store,
+    commands: &[Command],
+    places: &[usize],
+) -> Result<Vec<Effect>, Memory>
+    requires { All (λ i. i < length commands.now) places.now }
+    ensures { IfOk result
+        (λ v. v.items ≡ effects_over store.now (commands_at (ops_of commands.now) places.now)) }
+{
+    let mut effects = Vec::with_capacity(alloc, places.len())?;
+    for place in places {
+        add_effect(alloc, store, commands[*place].ops, &mut effects)?;
+    }
+    Ok(effects)
+}
+
+/// The same for one of the pieces into which the plan cuts the places.
+fn evaluate_piece(
+    alloc: Global,
+    store: &Store,
+    commands: &[Command],
+    places: &[usize],
+    plan: Plan,
+    piece: usize,
+) -> Result<Vec<Effect>, Memory>
+    requires piece { piece < piece_count plan.cut (length places.now) }
+    requires within { All (λ i. i < length commands.now) places.now }
+    ensures { IfOk result (λ v. v.items ≡ effects_over store.now
+        (commands_at (ops_of commands.now) (items_of_piece plan.cut places.now piece))) }
+{
+    let (start, end) = plan.range(piece, places.len());
+    evaluate(alloc, store, commands, &places[start..end])
+}
+
+/// The effects of all parts, one part after another; so many are expected.
+fn join_parts(alloc: Global, parts: Vec<Vec<Effect>>, count: usize) -> Result<Vec<Effect>, Memory>
+    ensures { IfOk result (λ v. v.items ≡ flat_map (λ part. part.items) parts.items) }
+{
+    let mut effects = Vec::with_capacity(alloc, count)?;
+    for mut part in parts {
+        effects.append(&mut part)?;
+    }
+    Ok(effects)
+}
+
+/// The effects of the commands at these places, each over the same lent store, worked out piece by piece
+/// by the plan's workers.
+fn evaluate_all<R: Threads + Sync, G: Gate + Sync>(
+    rt: &R,
+    alloc: Global,
+    store: &Store,
+    commands: &[Command],
+    places: &[usize],
+    plan: Plan,
+    gate: &G,
+) -> Result<Vec<Effect>, Memory>
+    requires few { length places.now ≤ 2 ^ 40 }
+    requires within { All (λ i. i < length commands.now) places.now }
+    ensures { IfOk result
+        (λ v. v.items ≡ effects_over store.now (commands_at (ops_of commands.now) places.now)) }
+{
+    let pieces = plan.pieces(places.len());
+    let parts = claimed_map(rt, alloc, pieces, plan, gate, |piece| {
+        evaluate_piece(alloc, store, commands, places, plan, piece)
+    })?;
+    join_parts(alloc, parts, places.len())
+}
+
+/// The reply of an effect, put at its command's place.
+fn put_reply(replies: &mut Vec<Reply>, place: usize, effect: Effect)
+    requires { place < length replies.old.items }
+    ensures { replies.new.items ≡ slice_set replies.old.items place effect.reply }
+{
+    let Effect { reply, writes: _ } = effect;
+    replies[place] = reply;
+}
+
+/// The replies of effects, each put at its command's place.
+fn lay_replies(replies: &mut Vec<Reply>, places: &[usize], effects: Vec<Effect>)
+    requires len { length effects.items ≡ length places.now }
+    requires within { All (λ i. i < length replies.old.items) places.now }
+    ensures { replies.new.items ≡
+        put_replies places.now (replies_in effects.items) replies.old.items }
+{
+    for (place, effect) in places.iter().zip(effects) {
+        put_reply(replies, *place, effect);
+    }
+}
+
+/// What the commands so far have left: the store, and the reply of each of them at its place. At other
+/// places stand replies that say nothing.
+#[derive(Drop)]
+struct Work {
+    store: Store,
+    replies: Vec<Reply>,
+}
+
+impl Work {
+    fn new(alloc: Global, store: Store, commands: usize) -> Result<Work, Memory>
+        ensures store { IfOk result (λ w. w.store ≡ store) }
+        ensures replies { IfOk result (λ w. length w.replies.items ≡ commands) }
+    {
+        let mut replies = Vec::with_capacity(alloc, commands)?;
+        for _ in 0..commands {
+            replies.push(Reply::Abort(0))?;
+        }
+        Ok(Work { store, replies })
+    }
+
+    /// One command by itself.
+    fn run_one(&mut self, alloc: Global, ops: &[Op], place: usize) -> Result<(), Memory>
+        requires { place < length self.old.replies.items }
+        ensures store { OnOk result (self.new.store ≡ (command_on ops.now self.old.store).after) }
+        ensures replies { OnOk result (self.new.replies.items ≡
+            slice_set self.old.replies.items place (command_on ops.now self.old.store).reply) }
+    {
+        let reply = apply(alloc, &mut self.store, ops)?;
+        self.replies[place] = reply;
+        Ok(())
+    }
+
+    /// The commands at these places, one after another.
+    fn run_in_turn(
+        &mut self,
+        alloc: Global,
+        commands: &[Command],
+        places: &[usize],
+    ) -> Result<(), Memory>
+        requires within { All (λ i. i < length commands.now) places.now }
+        requires replies { length self.old.replies.items ≡ length commands.now }
+        ensures store { OnOk result (self.new.store ≡
+            (execute (commands_at (ops_of commands.now) places.now) self.old.store).final) }
+        ensures replies { OnOk result (self.new.replies.items ≡ put_replies places.now
+            (execute (commands_at (ops_of commands.now) places.now) self.old.store).replies
+            self.old.replies.items) }
+    {
+        for place in places {
+            self.run_one(alloc, commands[*place].ops, *place)?;
+        }
+        Ok(())
+    }
+
+    /// The commands at these places, which do not conflict, side by side. After want of memory the store is
+    /// not what it was.
+    fn run_side_by_side<R: Threads + Sync, G: Gate + Sync>(
+        &mut self,
+        rt: &R,
+        alloc: Global,
+        commands: &[Command],
+        places: &[usize],
+        plan: Plan,
+        gate: &G,
+    ) -> Result<(), Memory>
+        requires few { length places.now ≤ 2 ^ 40 }
+        requires within { All (λ i. i < length commands.now) places.now }
+        requires apart { AllApart (commands_at (ops_of commands.now) places.now) }
+        requires replies { length self.old.replies.items ≡ length commands.now }
+        ensures store { OnOk result (self.new.store ≡
+            (execute (commands_at (ops_of commands.now) places.now) self.old.store).final) }
+        ensures replies { OnOk result (self.new.replies.items ≡ put_replies places.now
+            (execute (commands_at (ops_of commands.now) places.now) self.old.store).replies
+            self.old.replies.items) }
+    {
+        let effects = evaluate_all(rt, alloc, &self.store, commands, places, plan, gate)?;
+        let before = replace(&mut self.store, Store::new(alloc));
+        self.store = merge_effects(rt, alloc, before, &effects)?;
+        lay_replies(&mut self.replies, places, effects);
+        Ok(())
+    }
+
+    /// The commands of one level, which do not conflict. One piece of them needs no claims.
+    fn run_level<R: Threads + Sync, G: Gate + Sync>(
+        &mut self,
+        rt: &R,
+        alloc: Global,
+        commands: &[Command],
+        members: &[usize],
+        plan: Plan,
+        gate: &G,
+    ) -> Result<(), Memory>
+        requires few { length members.now ≤ 2 ^ 40 }
+        requires within { All (λ i. i < length commands.now) members.now }
+        requires apart { AllApart (commands_at (ops_of commands.now) members.now) }
+        requires replies { length self.old.replies.items ≡ length commands.now }
+        ensures store { OnOk result (self.new.store ≡
+            (execute (commands_at (ops_of commands.now) members.now) self.old.store).final) }
+        ensures replies { OnOk result (self.new.replies.items ≡ put_replies members.now
+            (execute (commands_at (ops_of commands.now) members.now) self.old.store).replies
+            self.old.replies.items) }
+    {
+        if plan.pieces(members.len()) <= 1 {
+            self.run_in_turn(alloc, commands, members)
+        } else {
+            self.run_side_by_side(rt, alloc, commands, members, plan, gate)
+        }
+    }
+}
+
+/// All commands, one after another.
+fn run_all(alloc: Global, store: Store, commands: &[Command]) -> Result<Work, Memory>
+    ensures store { IfOk result (λ w. w.store ≡ (execute (ops_of commands.now) store).final) }
+    ensures replies { IfOk result
+        (λ w. w.replies.items ≡ (execute (ops_of commands.now) store).replies) }
+{
+    let mut store = store;
+    let mut replies = Vec::with_capacity(alloc, commands.len())?;
+    for command in commands {
+        replies.push(apply(alloc, &mut store, command.ops)?)?;
+    }
+    Ok(Work { store, replies })
+}
+
+/// Whether the levels are so small that threads would not be worth starting: on average, fewer than two
+/// pieces for each worker.
+fn are_small(levels: usize, commands: usize, plan: Plan) -> bool {
+    plan.pieces(commands) / 2 / plan.workers() < levels
+}
+
+/// All commands, level by level; where the levels are small, one after another, as they stand in memory.
+fn run_levels<R: Threads + Sync, G: Gate + Sync>(
     rt: &R,
     alloc: Global,
     store: Store,
-    ops: &[Op],
-) -> Result<(Store, Reply), Memory>
-    ensures after { IfOk result (λ p. p.0 ≡ (command_on ops.now store).after) }
-    ensures reply { IfOk result (λ p. p.1 ≡ (command_on ops.now store).reply) }
+    commands: &[Command],
+    plan: Plan,
+    gate: &G,
+) -> Result<Work, Memory>
+    requires { length commands.now ≤ 2 ^ 40 }
+    ensures store { IfOk result (λ w. w.store ≡ (execute (ops_of commands.now) store).final) }
+    ensures replies { IfOk result
+        (λ w. w.replies.items ≡ (execute (ops_of commands.now) store).replies) }
 {
-    let effect = eval(alloc, &store, ops)?;
-    let store = merge_effects(rt, alloc, store, from_ref(&effect))?;
-    let Effect { reply, writes: _ } = effect;
-    Ok((store, reply))
+    let level_map = levels(alloc, commands)?;
+    if are_small(level_map.count(), commands.len(), plan) {
+        return run_all(alloc, store, commands);
+    }
+    let mut work = Work::new(alloc, store, commands.len())?;
+    for level in 0..level_map.count() {
+        work.run_level(rt, alloc, commands, level_map.members(level), plan, gate)?;
+    }
+    Ok(work)
 }
 
-/// The replies of the commands in order, and the store after them, whatever the plan. The commands
-/// are applied to a copy of the store, which is moved in at the end.
-pub fn run_order<R: Threads + Sync>(
+/// The replies of the commands in order, and the store after them, as of one thread that executes them one
+/// after another, whatever the plan and the gate. They are executed on a copy of the store, which is moved
+/// in at the end. One worker needs no levels.
+pub fn run_order<R: Threads + Sync, G: Gate + Sync>(
     rt: &R,
     alloc: Global,
     store: &mut Store,
     commands: &[Command],
-    _plan: Plan,
+    plan: Plan,
+    gate: &G,
 ) -> Result<Vec<Reply>, Memory>
     requires { length commands.now ≤ 2 ^ 40 }
     ensures replies { IfOk result
@@ -41,13 +294,16 @@ pub fn run_order<R: Threads + Sync>(
         (store.new ≡ (execute (map (λ c. c.ops.now) commands.now) store.old).final) }
     ensures err { OnErr result (store.new ≡ store.old) }
 {
-    let mut work = store.copy()?;
-    let mut replies = Vec::new(alloc);
-    for command in commands {
-        let (after, reply) = apply_one(rt, alloc, work, command.ops)?;
-        work = after;
-        replies.push(reply)?;
-    }
-    *store = work;
+    let opening = store.copy()?;
+    let work = if plan.workers() == 1 {
+        run_all(alloc, opening, commands)?
+    } else {
+        run_levels(rt, alloc, opening, commands, plan, gate)?
+    };
+    let Work {
+        store: last,
+        replies,
+    } = work;
+    *store = last;
     Ok(replies)
 }

@@ -180,7 +180,7 @@ fn applying<R: Threads + Sync + Clock>(
     }
     let start = now(rt)?;
     let mut store = Store::new(alloc);
-    let _replies = run_order(rt, alloc, &mut store, &commands, plan)?;
+    let _replies = run_order(rt, alloc, &mut store, &commands, plan, &FreeGate)?;
     passed(rt, &start)
 }
 

@@ -1,7 +1,9 @@
 //! Commands in order. The operations are given as text.
 use crate::effects::{Wanted, is_reply, is_stored, stored};
+use crate::gates::WaitingGate;
 use crate::given::{id, key};
-use epx_apply::run_order;
+use epx_apply::{levels, run_order};
+use epx_claims::{FreeGate, Gate};
 use epx_types::{Command, Memory, Op, Plan, Reply};
 use std::alloc::Global;
 use std::process::Abort;
@@ -79,12 +81,13 @@ fn are_replies(rt: &impl Abort, replies: &[Reply], wanted: &[Wanted]) {
     }
 }
 
-/// By this plan the commands give these replies, and the opening store becomes this one. On want of
+/// By this plan and gate the commands give these replies, and the opening store becomes this one. On want of
 /// memory the store must be the opening one.
-fn run_by<R: Threads + Sync + Abort>(
+fn run_by<R: Threads + Sync + Abort, G: Gate + Sync>(
     rt: &R,
     alloc: Global,
     plan: Plan,
+    gate: &G,
     opening: &[(&str, i64)],
     commands: &[Command],
     wanted: &[Wanted],
@@ -92,7 +95,7 @@ fn run_by<R: Threads + Sync + Abort>(
 ) -> Result<(), Memory> {
     assert!(rt; commands.len() <= 8);
     let mut store = stored(rt, alloc, opening)?;
-    match run_order(rt, alloc, &mut store, commands, plan) {
+    match run_order(rt, alloc, &mut store, commands, plan, gate) {
         Ok(replies) => {
             are_replies(rt, replies.as_slice(), wanted);
             is_stored(rt, &store, after)
@@ -118,9 +121,11 @@ fn run<R: Threads + Sync + Abort>(
         lists.push(operations(rt, alloc, text)?)?;
     }
     let commands = commands(alloc, &lists)?;
-    for (workers, cut) in [(1, 1), (2, 3), (64, 65_536)] {
+    for (workers, cut) in [(1, 1), (2, 1), (2, 3), (64, 65_536)] {
         let plan = Plan::new(workers, cut).expect(rt, "a plan");
-        run_by(rt, alloc, plan, opening, &commands, wanted, after)?;
+        run_by(
+            rt, alloc, plan, &FreeGate, opening, &commands, wanted, after,
+        )?;
     }
     Ok(())
 }
@@ -164,4 +169,137 @@ fn no_op_in_a_chain(rt: HostRuntime) -> Result<(), Fail> {
     let replies = [nothing, nothing, Wanted::Values(&[Some(1)])];
     let texts = ["put a 1", "", "get a"];
     run(&rt, rt.alloc(), &[], &texts, &replies, &[("a", 1)])
+}
+
+#[test]
+fn keys_of_an_abort_count(rt: HostRuntime) -> Result<(), Fail> {
+    let replies = [Wanted::Abort(0), Wanted::Values(&[None])];
+    let texts = ["is a 1, put b 1", "get b"];
+    run(&rt, rt.alloc(), &[], &texts, &replies, &[])
+}
+
+#[test]
+fn levels_of_one_command_or_two(rt: HostRuntime) -> Result<(), Fail> {
+    let texts = [
+        "put a 1",
+        "put b 2",
+        "put c 3",
+        "copy a d",
+        "copy b e",
+        "add a 10",
+        "get a, get d",
+        "add c 1",
+    ];
+    let mut replies = [Wanted::Values(&[]); 8];
+    replies[6] = Wanted::Values(&[Some(11), Some(1)]);
+    let after = [("a", 11), ("b", 2), ("c", 4), ("d", 1), ("e", 2)];
+    run(&rt, rt.alloc(), &[], &texts, &replies, &after)
+}
+
+#[test]
+fn two_levels_of_four_commands(rt: HostRuntime) -> Result<(), Fail> {
+    let texts = [
+        "put a 1", "put b 2", "put c 3", "put d 4", "add a 10", "copy b e", "get c", "del d",
+    ];
+    let mut replies = [Wanted::Values(&[]); 8];
+    replies[6] = Wanted::Values(&[Some(3)]);
+    let after = [("a", 11), ("b", 2), ("c", 3), ("e", 2)];
+    run(&rt, rt.alloc(), &[("d", 9)], &texts, &replies, &after)
+}
+
+const FOUR_PUTS: [&str; 4] = ["put a 1", "put b 2", "put c 3", "put d 4"];
+
+/// Two workers apply the commands, while the piece of one waits until the others were entered.
+fn apply_while_one_waits<R: Threads + Sync + Abort>(
+    rt: &R,
+    alloc: Global,
+    commands: &[Command],
+    waiter: usize,
+) -> Result<(), Fail> {
+    let plan = Plan::new(2, 1).ok_or("a plan")?;
+    let gate = WaitingGate::new(waiter, 1111);
+    let replies = [Wanted::Values(&[]); 4];
+    let after = [("a", 1), ("b", 2), ("c", 3), ("d", 4)];
+    run_by(rt, alloc, plan, &gate, &[], commands, &replies, &after)?;
+    assert!(rt; gate.saw_all());
+    Ok(())
+}
+
+#[test]
+fn workers_share_a_level(rt: HostRuntime) -> Result<(), Fail> {
+    let mut lists = Vec::new(rt.alloc());
+    for text in FOUR_PUTS {
+        lists.push(operations(&rt, rt.alloc(), text)?)?;
+    }
+    let commands = commands(rt.alloc(), &lists)?;
+    for waiter in 0..4 {
+        apply_while_one_waits(&rt, rt.alloc(), &commands, waiter)?;
+    }
+    Ok(())
+}
+
+/// Whether the commands have these levels, with these members.
+fn have_levels(
+    alloc: Global,
+    commands: &[Command],
+    wanted: &[usize],
+    members: &[&[usize]],
+) -> Result<bool, Memory> {
+    let map = levels(alloc, commands)?;
+    let mut same = commands.len() == wanted.len() && map.count() == members.len();
+    for (place, level) in wanted.iter().enumerate() {
+        same = same && place < commands.len() && map.level_of(place) == *level;
+    }
+    for (level, places) in members.iter().enumerate() {
+        same = same && level < map.count() && map.members(level) == *places;
+    }
+    Ok(same)
+}
+
+/// The commands, as text, have these levels, with these members.
+fn levels_are(
+    rt: &impl Abort,
+    alloc: Global,
+    texts: &[&str],
+    wanted: &[usize],
+    members: &[&[usize]],
+) -> Result<(), Fail> {
+    let mut lists = Vec::new(alloc);
+    for text in texts {
+        lists.push(operations(rt, alloc, text)?)?;
+    }
+    let commands = commands(alloc, &lists)?;
+    assert!(rt; have_levels(alloc, &commands, wanted, members)?);
+    Ok(())
+}
+
+#[test]
+fn reads_follow_writes(rt: HostRuntime) -> Result<(), Fail> {
+    let texts = ["put a 1", "put b 2", "get a", "put a 3"];
+    let members: [&[usize]; 3] = [&[0, 1], &[2], &[3]];
+    levels_are(&rt, rt.alloc(), &texts, &[0, 0, 1, 2], &members)
+}
+
+#[test]
+fn no_commands_have_no_levels(rt: HostRuntime) -> Result<(), Fail> {
+    levels_are(&rt, rt.alloc(), &[], &[], &[])
+}
+
+#[test]
+fn levels_count_the_keys_of_an_abort(rt: HostRuntime) -> Result<(), Fail> {
+    let members: [&[usize]; 2] = [&[0], &[1]];
+    levels_are(
+        &rt,
+        rt.alloc(),
+        &["is a 1, put b 1", "get b"],
+        &[0, 1],
+        &members,
+    )
+}
+
+#[test]
+fn a_command_does_not_conflict_with_itself(rt: HostRuntime) -> Result<(), Fail> {
+    let texts = ["put a 1, get a, put a 2, copy a a", "get b, get b", ""];
+    let members: [&[usize]; 1] = [&[0, 1, 2]];
+    levels_are(&rt, rt.alloc(), &texts, &[0, 0, 0], &members)
 }

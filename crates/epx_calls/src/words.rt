@@ -99,7 +99,8 @@ fn no_words_are_a_run_over_standard_input(rt: HostRuntime) -> Result<(), Fail> {
 #[test]
 fn a_subcommand_alone_has_no_logs(rt: HostRuntime) -> Result<(), Fail> {
     expect_logs(&rt, rt.alloc(), &["epx", "run"], Task::Run, &[])?;
-    expect_logs(&rt, rt.alloc(), &["epx", "order"], Task::Order, &[])
+    expect_logs(&rt, rt.alloc(), &["epx", "order"], Task::Order, &[])?;
+    expect_logs(&rt, rt.alloc(), &["epx", "levels"], Task::Levels, &[])
 }
 
 #[test]
@@ -157,11 +158,11 @@ fn refused_words_are_named(rt: HostRuntime) -> Result<(), Fail> {
         (&["epx", "order", "--cut=1.5"], "--cut"),
         (&["epx", "run", "--cut"], "--cut"),
         (&["epx", "run", "--cut=1", "--cut=2"], "--cut"),
-        (&["epx", "levels"], "levels"),
+        (&["epx", "resume"], "resume"),
         (&["epx", "run", "--fast"], "--fast"),
         (&["epx", "run", "-x"], "-x"),
         (&["epx", "--workers", "3"], "--workers"),
-        (&["epx", "help", "levels"], "levels"),
+        (&["epx", "help", "resume"], "resume"),
     ];
     expect_texts(&rt, rt.alloc(), 2, "error: ", &cases)
 }

@@ -25,10 +25,11 @@ where
 }
 
 fn main(rt: HostRuntime) -> ExitCode {
-    let cases: [&[&str]; 7] = [
+    let cases: [&[&str]; 8] = [
         &["epx"],
         &["epx", "--help"],
         &["epx", "order", "component.jsonl"],
+        &["epx", "levels", "component.jsonl"],
         &["epx", "run", "0.jsonl", "1.jsonl", "2.jsonl"],
         &["epx", "run", "cut_off.jsonl"],
         &["epx", "run", "--workers", "65"],

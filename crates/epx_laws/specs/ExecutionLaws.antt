@@ -1,9 +1,10 @@
 -- Laws of commands executed one after another.
-use Rattle.std.specs.Prelude.{◌≡◌, List, [], ◌∷◌, ◌++◌, length}
+use Rattle.std.specs.Prelude.{◌≡◌, ℕ, List, [], ◌∷◌, ◌++◌, length, slice_get, Some}
 use Rattle.epx_types.specs.declared.op.Op.{Op}
 use Rattle.epx_types.specs.Contents.{Contents}
 use Rattle.epx_types.specs.Commands.{command_on}
 use Rattle.epx_types.specs.Execution.{execute}
+use Rattle.epx_types.specs.Rearrangements.{commands_at, IsRearrangement}
 
 -- one command is executed by itself
 abbrev pub OneCommandExecutes : Type 0
@@ -19,3 +20,9 @@ abbrev pub ExecutionGoesOn : Type 0
 ExecutionGoesOn = (first rest : List (List Op)) (c : Contents) →
     ((execute (first ++ rest) c).replies ≡ (execute first c).replies ++ (execute rest (execute first c).final).replies)
     × ((execute (first ++ rest) c).final ≡ (execute rest (execute first c).final).final)
+
+-- commands in another order that keeps the order of each two that conflict leave the same contents, and each gives the same reply
+abbrev pub RearrangementsExecuteAlike : Type 0
+RearrangementsExecuteAlike = (commands : List (List Op)) (places : List ℕ) → IsRearrangement commands places → (c : Contents) →
+    ((execute (commands_at commands places) c).final ≡ (execute commands c).final)
+    × ((k i : ℕ) → slice_get places k ≡ Some i → slice_get (execute (commands_at commands places) c).replies k ≡ slice_get (execute commands c).replies i)

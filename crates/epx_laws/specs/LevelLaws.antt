@@ -1,12 +1,20 @@
 -- Laws of conflict levels.
-use Rattle.std.specs.Prelude.{ℕ, ◌<◌, ◌≤◌, List}
+use Rattle.std.specs.Prelude.{◌≢◌, ℕ, ◌<◌, ◌≤◌, List, length, Contains}
 use Rattle.epx_types.specs.declared.op.Op.{Op}
-use Rattle.epx_types.specs.Levels.{ConflictAt, IsLevel, RisesWithConflicts}
+use Rattle.epx_types.specs.Levels.{ConflictAt, IsLevel, AreLevels, level_count, RisesWithConflicts}
 use Rattle.epx_laws.specs.AtMostOne.{AtMostOne}
 
 -- two levels of one place are equal
 abbrev pub LevelIsOne : Type 0
 LevelIsOne = (commands : List (List Op)) (j : ℕ) → AtMostOne (IsLevel commands j)
+
+-- two lists of the levels of the same commands are equal
+abbrev pub LevelsAreOne : Type 0
+LevelsAreOne = (commands : List (List Op)) → AtMostOne (AreLevels commands)
+
+-- two commands of one level do not conflict
+abbrev pub LevelIsApart : Type 0
+LevelIsApart = (commands : List (List Op)) (i j l : ℕ) → i ≢ j → IsLevel commands i l → IsLevel commands j l → ¬ ConflictAt commands i j
 
 -- of two commands that conflict the later stands in the greater level
 abbrev pub ConflictsClimb : Type 0
@@ -15,3 +23,12 @@ ConflictsClimb = (commands : List (List Op)) (i j k l : ℕ) → i < j → Confl
 -- levels are the least numbers that rise from each command to each later one that conflicts with it
 abbrev pub LevelsAreLeast : Type 0
 LevelsAreLeast = (commands : List (List Op)) (f : ℕ → ℕ) → RisesWithConflicts commands f → (j l : ℕ) → IsLevel commands j l → l ≤ f j
+
+-- no numbers that rise so are fewer than the levels: a list that holds the number of each command is at least as long as there are levels
+abbrev pub LevelsAreFewest : Type 0
+LevelsAreFewest = (commands : List (List Op)) (f : ℕ → ℕ) → RisesWithConflicts commands f → (levels : List ℕ) → AreLevels commands levels →
+    (numbers : List ℕ) → ((j : ℕ) → j < length commands → Contains numbers (f j)) → level_count levels ≤ length numbers
+
+-- and as many are in use: each level below their count is the level of a place
+abbrev pub EachLevelIsReached : Type 0
+EachLevelIsReached = (commands : List (List Op)) (levels : List ℕ) → AreLevels commands levels → (l : ℕ) → l < level_count levels → Contains levels l

@@ -1,12 +1,16 @@
 -- Laws of execution orders.
-use Rattle.std.specs.Prelude.{◌≡◌, ◌≢◌, List, map, length, Contains, AllPairs}
+use Rattle.std.specs.Prelude.{◌≡◌, ◌≢◌, ℕ, List, map, length, slice_get, Some, Contains, AllPairs}
 use Rattle.epx_types.specs.declared.id.Id.{Id}
+use Rattle.epx_types.specs.Ids.{IsRising}
 use Rattle.epx_types.specs.Instances.{Instance}
+use Rattle.epx_types.specs.CommittedMap.{ids_of}
+use Rattle.epx_types.specs.Contents.{Contents}
+use Rattle.epx_types.specs.Execution.{execute}
 use Rattle.epx_types.specs.Reaching.{Reaches}
 use Rattle.epx_types.specs.Readiness.{IsReady}
 use Rattle.epx_types.specs.Conflicts.{Conflict, IsCovered}
 use Rattle.epx_types.specs.ExecutionOrder.{Ranked, IsExecutionOrder, component_count}
-use Rattle.epx_types.specs.LawfulOrders.{Before, IsLawful}
+use Rattle.epx_types.specs.LawfulOrders.{Before, IsLawful, commands_in}
 use Rattle.epx_laws.specs.AtMostOne.{AtMostOne}
 
 abbrev pub ExecutionOrderIsOne : Type 0
@@ -56,3 +60,9 @@ pub record AreReadyAndConflict (m : List Instance) (d e : Instance) : Type 0 whe
 abbrev pub ConflictsStandAlike : Type 0
 ConflictsStandAlike = (m : List Instance) → IsCovered m → (ids other : List Id) → IsLawful m ids → IsLawful m other →
     (d e : Instance) → AreReadyAndConflict m d e → Before ids d.id e.id → Before other d.id e.id
+
+-- two lawful orders of a covered map leave the same contents, and each instance has the same reply
+abbrev pub LawfulOrdersExecuteAlike : Type 0
+LawfulOrdersExecuteAlike = (m : List Instance) → IsRising (ids_of m) → IsCovered m → (ids other : List Id) → IsLawful m ids → IsLawful m other → (c : Contents) →
+    ((execute (commands_in m other) c).final ≡ (execute (commands_in m ids) c).final)
+    × ((i j : ℕ) (x : Id) → slice_get ids i ≡ Some x → slice_get other j ≡ Some x → slice_get (execute (commands_in m other) c).replies j ≡ slice_get (execute (commands_in m ids) c).replies i)

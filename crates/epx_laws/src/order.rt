@@ -1,5 +1,5 @@
 //! Laws of execution orders.
-ghost use Rattle.epx_laws.specs.OrderLaws.{ComponentsAreCounted, RelatedStandAlike, LawfulOrdersHoldTheSame, ConflictsStandAlike, ExecutionOrderIsOne, ExecutionOrderIsLawful, LeadersStandInOrder};
+ghost use Rattle.epx_laws.specs.OrderLaws.{ComponentsAreCounted, RelatedStandAlike, LawfulOrdersHoldTheSame, LawfulOrdersExecuteAlike, ConflictsStandAlike, ExecutionOrderIsOne, ExecutionOrderIsLawful, LeadersStandInOrder};
 
 /// A map has one execution order.
 pub fn execution_order_is_one()
@@ -29,6 +29,11 @@ pub fn lawful_orders_hold_the_same()
 /// Of two instances of a covered map that conflict, the same one stands first in all lawful orders.
 pub fn conflicts_stand_alike()
     ensures { ConflictsStandAlike }
+{}
+
+/// Two lawful orders of a covered map execute alike.
+pub fn lawful_orders_execute_alike()
+    ensures { LawfulOrdersExecuteAlike }
 {}
 
 /// The number of components of an execution order is that of its distinct leaders.

@@ -22,6 +22,7 @@ fn answer<R: Threads + Sync, S: Source, W: Sink>(
     match task {
         Task::Run => run(rt, alloc, sources, plan, output),
         Task::Order => show(rt, alloc, Ask::Order, sources, plan, output),
+        Task::Levels => show(rt, alloc, Ask::Levels, sources, plan, output),
     }
 }
 

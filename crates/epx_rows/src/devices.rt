@@ -53,6 +53,18 @@ fn show_writes_the_order(rt: HostRuntime) -> Result<(), Fail> {
     Ok(())
 }
 
+#[test]
+fn show_writes_the_levels(rt: HostRuntime) -> Result<(), Fail> {
+    let mut sources = [whole(LEAST.as_bytes())];
+    let mut sink = MemorySink::new(rt.alloc());
+    let plan = plan(&rt);
+    let done = show(&rt, rt.alloc(), Ask::Levels, &mut sources, plan, &mut sink);
+    assert!(rt; done == Ok(()));
+    let levels = "[\"executed\",1,\"waiting\",0,\"components\",1]\n[\"level\",0,0,0]\n";
+    assert!(rt; sink.bytes() == levels.as_bytes());
+    Ok(())
+}
+
 /// For a test runner that refuses an allocation: the run ends with want of memory and an empty sink,
 /// or it writes the whole report; where the sink itself could not grow, it holds a prefix.
 #[test]

@@ -77,6 +77,23 @@ pub(crate) fn ordered<R: Abort + Threads + Sync>(
     told(rt, alloc, view(rt, alloc, Ask::Order, logs, plan(rt)))
 }
 
+/// The conflict levels of one log of these instances are the wanted text, by any of these plans.
+pub(crate) fn levels_by<R: Abort + Threads + Sync>(
+    rt: &R,
+    alloc: Global,
+    instances: &[Given],
+    plans: &[(usize, usize)],
+    wanted: &str,
+) -> Result<(), Fail> {
+    let logs = [log_of(alloc, instances)?];
+    for (workers, cut) in plans {
+        let plan = Plan::new(*workers, *cut).expect(rt, "a plan");
+        let told = told(rt, alloc, view(rt, alloc, Ask::Levels, &logs, plan))?;
+        assert!(rt; told.as_str() == wanted, "{workers} workers, cut {cut}");
+    }
+    Ok(())
+}
+
 /// The answer to these logs, by any of these plans, is the wanted text.
 pub(crate) fn logs_give_by<R: Abort + Threads + Sync>(
     rt: &R,

@@ -9,6 +9,8 @@ mod executing;
 #[cfg(test)]
 mod given;
 #[cfg(test)]
+mod levelling;
+#[cfg(test)]
 mod ordering;
 #[cfg(test)]
 mod reading;

@@ -6,9 +6,13 @@ use Rattle.epx_types.specs.declared.fault.Fault.TheVariants.{Memory}
 use Rattle.epx_types.specs.Instances.{Instance}
 use Rattle.epx_types.specs.Execution.{execute}
 use Rattle.epx_types.proofs.ExecutionOrders.{IsExecutionOrder-unique}
+use Rattle.epx_types.specs.Levels.{AreLevels}
+use Rattle.epx_types.proofs.LevelLemmas.{AreLevels-unique}
 use Rattle.epx_types.proofs.ListedWaiting.{IsWaitingList-unique}
 use Rattle.epx_merge.proofs.OneRefusal.{accepted_unique, accepted_not_refused, refusal_unique}
 use Rattle.epx_tool.specs.Report.{IsReport, report_text, commands_of}
+use Rattle.epx_tool.specs.OrderText.{IsOrderText, order_text}
+use Rattle.epx_tool.specs.LevelText.{IsLevelText, level_text}
 use Rattle.epx_tool.specs.Answer.{IsAnswer}
 
 pub IsReport-unique : (m : List Instance) (text other : List ℕ) → IsReport m text → IsReport m other → text ≡ other
@@ -16,6 +20,19 @@ IsReport-unique m text other p q =
     let order = IsExecutionOrder-unique m p.order q.order p.ordered q.ordered in
     let waiting = IsWaitingList-unique m p.waiting q.waiting p.listed q.listed in
     p.printed ∙ ap₂ (λ o w. report_text o w (execute (commands_of m o) contents.empty)) order waiting ∙ sym q.printed
+
+pub IsOrderText-unique : (m : List Instance) (text other : List ℕ) → IsOrderText m text → IsOrderText m other → text ≡ other
+IsOrderText-unique m text other p q =
+    let order = IsExecutionOrder-unique m p.order q.order p.ordered q.ordered in
+    let waiting = IsWaitingList-unique m p.waiting q.waiting p.listed q.listed in
+    p.printed ∙ ap₂ order_text order waiting ∙ sym q.printed
+
+pub IsLevelText-unique : (m : List Instance) (text other : List ℕ) → IsLevelText m text → IsLevelText m other → text ≡ other
+IsLevelText-unique m text other p q =
+    let order = IsExecutionOrder-unique m p.order q.order p.ordered q.ordered in
+    let waiting = IsWaitingList-unique m p.waiting q.waiting p.listed q.listed in
+    let levels = AreLevels-unique (commands_of m q.order) p.levels q.levels (subst (λ o. AreLevels (commands_of m o) p.levels) order p.levelled) q.levelled in
+    p.printed ∙ ap₂ (λ o w. level_text o p.levels w) order waiting ∙ ap (λ ls. level_text q.order ls q.waiting) levels ∙ sym q.printed
 
 pub IsAnswer-unique : (logs : List (List ℕ)) (a b : Result (List ℕ) Fault) → a ≢ Err Memory → b ≢ Err Memory → IsAnswer logs a → IsAnswer logs b → a ≡ b
 IsAnswer-unique logs (Ok text) (Ok other) s t p q =

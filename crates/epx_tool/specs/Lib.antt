@@ -1,6 +1,7 @@
 pub mod ReportLines
 pub mod Report
 pub mod OrderText
+pub mod LevelText
 pub mod Views
 pub mod Answer
 pub mod AnswerLaws

@@ -4,12 +4,13 @@ ghost use Rattle.epx_types.specs.CommittedMap.{instance_of};
 ghost use Rattle.epx_merge.specs.Limits.{max_instances};
 ghost use Rattle.epx_tool.specs.Answer.{Answers, IsAnswer};
 ghost use Rattle.epx_tool.specs.OrderText.{IsOrderText};
+ghost use Rattle.epx_tool.specs.LevelText.{IsLevelText};
 ghost use Rattle.epx_tool.specs.Report.{ops_of, IsReport};
 ghost use Rattle.epx_tool.specs.Views.{IsViewed};
 
 use crate::ask::Ask;
-use crate::report::{order_report, report};
-use epx_apply::run_order;
+use crate::report::{level_report, order_report, report};
+use epx_apply::{levels, run_order};
 use epx_claims::FreeGate;
 use epx_graph::{build, waiting};
 use epx_merge::{Merged, read_logs};
@@ -49,7 +50,7 @@ fn report_of<R: Threads + Sync>(
     let waiters = waiting(alloc, &graph)?;
     let commands = commands(alloc, merged, order.ids())?;
     let mut store = Store::new(alloc);
-    let replies = run_order(rt, alloc, &mut store, &commands, plan)?;
+    let replies = run_order(rt, alloc, &mut store, &commands, plan, &FreeGate)?;
     report(alloc, &order, &waiters, &replies, &store)
 }
 
@@ -61,6 +62,18 @@ fn order_of<R: Threads + Sync>(rt: &R, alloc: Global, merged: &Merged) -> Result
     let order = order(rt, alloc, merged, &graph)?;
     let waiters = waiting(alloc, &graph)?;
     order_report(alloc, &order, &waiters)
+}
+
+/// The execution order of a committed map with the conflict levels of its commands, as text.
+fn levels_of<R: Threads + Sync>(rt: &R, alloc: Global, merged: &Merged) -> Result<Vec<u8>, Memory>
+    ensures { IfOk result (λ text. IsLevelText merged.now text.items) }
+{
+    let graph = build(alloc, merged)?;
+    let order = order(rt, alloc, merged, &graph)?;
+    let waiters = waiting(alloc, &graph)?;
+    let commands = commands(alloc, merged, order.ids())?;
+    let levels = levels(alloc, &commands)?;
+    level_report(alloc, &order, &waiters, &levels)
 }
 
 /// The report of the logs, or their first refusal. The answer is the same for every plan.
@@ -116,5 +129,6 @@ pub fn view<R: Threads + Sync>(
     };
     match ask {
         Ask::Order => Ok(order_of(rt, alloc, &merged)?),
+        Ask::Levels => Ok(levels_of(rt, alloc, &merged)?),
     }
 }

@@ -5,4 +5,6 @@
 pub enum Ask {
     /// The execution order, with the depth and the leader of each instance.
     Order,
+    /// The execution order, with the conflict level of each instance's command.
+    Levels,
 }

@@ -7,8 +7,10 @@ ghost use Rattle.json.specs.Print.{print};
 ghost use Rattle.epx_tool.specs.LineTokens.{name_tokens, value_token, reply_tokens};
 ghost use Rattle.epx_tool.specs.ReportLines.{line_feed, line_of, header_line, reply_line, store_line, waiting_line};
 ghost use Rattle.epx_tool.specs.OrderText.{order_data, order_line, order_text};
+ghost use Rattle.epx_tool.specs.LevelText.{level_line, level_text};
 ghost use Rattle.epx_types.specs.ExecutionOrder.{component_count, ranked_ids};
 
+use epx_apply::LevelMap;
 use epx_graph::Waiter;
 use epx_order::OrderList;
 use epx_txn::Store;
@@ -155,6 +157,15 @@ fn append_ranked(
     end_line(text, out)
 }
 
+fn append_level(alloc: Global, text: &mut Vec<u8>, id: Id, level: usize) -> Result<(), AllocError>
+    ensures { OnOk result (text.new.items ≡ text.old.items ++ level_line (id, level)) }
+{
+    let mut out = begin_line(alloc, "level")?;
+    write_name(&mut out, id)?;
+    out.u64(level as u64)?;
+    end_line(text, out)
+}
+
 fn append_replies(
     alloc: Global,
     text: &mut Vec<u8>,
@@ -193,6 +204,21 @@ fn append_order(alloc: Global, text: &mut Vec<u8>, order: &OrderList) -> Result<
     for (place, id) in order.ids().iter().enumerate() {
         let leader = order.component_of(place);
         append_ranked(alloc, text, *id, order.depth_of(place), leader)?;
+    }
+    Ok(())
+}
+
+fn append_levels(
+    alloc: Global,
+    text: &mut Vec<u8>,
+    ids: &[Id],
+    levels: &LevelMap,
+) -> Result<(), AllocError>
+    requires { length levels.now ≡ length ids.now }
+    ensures { OnOk result (text.new.items ≡ text.old.items ++ flat_map level_line (zip ids.now levels.now)) }
+{
+    for (place, id) in ids.iter().enumerate() {
+        append_level(alloc, text, *id, levels.level_of(place))?;
     }
     Ok(())
 }
@@ -240,6 +266,29 @@ pub(crate) fn order_report(
         order.component_count(),
     )?;
     append_order(alloc, &mut text, order)?;
+    append_waiting(alloc, &mut text, waiters)?;
+    Ok(text)
+}
+
+/// The header, the instances in execution order with the levels of their commands, and the instances that wait.
+pub(crate) fn level_report(
+    alloc: Global,
+    order: &OrderList,
+    waiters: &[Waiter],
+    levels: &LevelMap,
+) -> Result<Vec<u8>, Memory>
+    requires { length levels.now ≡ length order.now }
+    ensures { IfOk result (λ text. text.items ≡ level_text order.now levels.now waiters.now) }
+{
+    let mut text = Vec::new(alloc);
+    append_header(
+        alloc,
+        &mut text,
+        order.len(),
+        waiters.len(),
+        order.component_count(),
+    )?;
+    append_levels(alloc, &mut text, order.ids(), levels)?;
     append_waiting(alloc, &mut text, waiters)?;
     Ok(text)
 }

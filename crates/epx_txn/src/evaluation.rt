@@ -25,7 +25,10 @@ fn operate_all<'a>(
         match operate(&mut draft, store, op)? {
             Step::Read(value) => got.push(value)?,
             Step::Done => {}
-            Step::Abort => return Ok((Reply::Abort(place as u64), Draft::new(alloc))),
+            Step::Abort => {
+                let nothing = Draft::new(alloc);
+                return Ok((Reply::Abort(place as u64), nothing));
+            }
         }
     }
     Ok((Reply::Values(Values::new(got)), draft))

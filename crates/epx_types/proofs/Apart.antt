@@ -20,7 +20,7 @@ kept ops c q not_written = elim (written_or_kept ops c q) [ inl written ↦ absu
 
 module _ (a b : List Op) (apart : ¬ Conflict a b) (c : Contents) where
   -- what one touches the other leaves
-  touched_kept : AgreeOn (touched_keys b) (command_on a c).after c
+  pub touched_kept : AgreeOn (touched_keys b) (command_on a c).after c
   touched_kept k touched = kept a c k (λ written. apart (k, inl (written, touched)))
 
   -- the second replies as it does alone

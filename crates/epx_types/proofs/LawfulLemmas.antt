@@ -68,10 +68,10 @@ Before-cases ids x y in_x in_y differ =
 Before-differ : (ids : List Id) → AllPairs (λ x y. x ≢ y) ids → (x y : Id) → Before ids x y → x ≢ y
 Before-differ ids once x y (i, j, l, p, q) = AllPairs-slice_get (λ v w. v ≢ w) ids once i j x y l p q
 
-Before-in_second : (ids : List Id) (x y : Id) → Before ids x y → Contains ids y
+pub Before-in_second : (ids : List Id) (x y : Id) → Before ids x y → Contains ids y
 Before-in_second ids x y (i, j, l, p, q) = Contains-slice_get ids j y q
 
-Before-in_first : (ids : List Id) (x y : Id) → Before ids x y → Contains ids x
+pub Before-in_first : (ids : List Id) (x y : Id) → Before ids x y → Contains ids x
 Before-in_first ids x y (i, j, l, p, q) = Contains-slice_get ids i x p
 
 module _ (m : List Instance) (ids : List Id) (lawful : IsLawful m ids) where

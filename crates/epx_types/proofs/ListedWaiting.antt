@@ -1,9 +1,7 @@
 -- A map fixes its waiting list.
-use Rattle.std.proofs.Common.{◌≡◌, List, Contains, subst}
-use Rattle.epx_types.specs.declared.id.Id.{Id}
+use Rattle.std.proofs.Common.{◌≡◌, List, Contains}
 use Rattle.epx_types.specs.Instances.{Instance}
 use Rattle.epx_types.specs.Ids.{Below}
-use Rattle.epx_types.specs.Readiness.{WaitsFor}
 use Rattle.epx_types.specs.WaitingLists.{Waiting, IsWaitingList}
 use Rattle.epx_types.proofs.Rising.{AllPairs-from_rising_ids}
 use Rattle.epx_types.proofs.TotalOrders.{below_itself, below_trans, same_rising}

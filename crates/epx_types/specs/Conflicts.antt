@@ -1,5 +1,5 @@
 -- Commands that conflict, by the text of their operations, and maps in which conflicting commands are related.
-use Rattle.std.specs.Prelude.{◌≢◌, ◌⊎◌, ℕ, List, Contains}
+use Rattle.std.specs.Prelude.{◌≢◌, ◌⊎◌, ℕ, List, [], ◌∷◌, Contains}
 use Rattle.epx_types.specs.declared.op.Op.{Op}
 use Rattle.epx_types.specs.Instances.{Instance}
 use Rattle.epx_types.specs.CommandKeys.{touched_keys, written_keys}
@@ -9,6 +9,15 @@ use Rattle.epx_types.specs.Reaching.{Reaches}
 -- one writes a key that the other touches
 abbrev pub Conflict : List Op → List Op → Type 0
 Conflict a b = (k : List ℕ) × ((Contains (written_keys a) k × Contains (touched_keys b) k) ⊎ (Contains (touched_keys a) k × Contains (written_keys b) k))
+
+-- a conflicts with none of the others
+abbrev pub ApartFrom : List Op → List (List Op) → Type 0
+ApartFrom a others = (b : List Op) → Contains others b → ¬ Conflict a b
+
+-- no two of the commands conflict
+abbrev pub AllApart : List (List Op) → Type 0
+AllApart [] = Unit {0}
+AllApart (a ∷ others) = ApartFrom a others × AllApart others
 
 -- of any two ready instances that conflict one reaches the other
 abbrev pub IsCovered : List Instance → Type 0

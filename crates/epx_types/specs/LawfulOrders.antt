@@ -1,16 +1,18 @@
 -- The orders that the protocol allows.
-use Rattle.std.specs.Prelude.{◌≡◌, ◌≢◌, ℕ, ◌<◌, true, List, Contains, AllPairs, Some, slice_get}
+use Rattle.std.specs.Prelude.{◌≡◌, ◌≢◌, ℕ, ◌<◌, true, List, [], map, Contains, AllPairs, Option, Some, None, slice_get}
 use Rattle.std.specs.Ordering.{nat_cmp, ordering_then, is_lt}
 use Rattle.epx_types.specs.declared.id.Id.{Id}
+use Rattle.epx_types.specs.declared.op.Op.{Op}
 use Rattle.epx_types.specs.Ids.{id_cmp}
 use Rattle.epx_types.specs.Instances.{Instance}
+use Rattle.epx_types.specs.CommittedMap.{instance_of}
 use Rattle.epx_types.specs.Readiness.{IsReady}
 use Rattle.epx_types.specs.Reaching.{Reaches}
 use Rattle.epx_types.specs.Components.{InOneComponent}
 
 -- x stands in the list, and stands there before y
-abbrev pub Before : List Id → Id → Id → Type 0
-Before ids x y = (i j : ℕ) × (i < j) × (slice_get ids i ≡ Some x) × (slice_get ids j ≡ Some y)
+abbrev pub Before : {X : Type 0} → List X → X → X → Type 0
+Before xs x y = (i j : ℕ) × (i < j) × (slice_get xs i ≡ Some x) × (slice_get xs j ≡ Some y)
 
 -- x has the lower sequence number, or the same one and the lower Id
 abbrev pub SequenceBefore : List Instance → Id → Id → Type 0
@@ -26,3 +28,11 @@ pub record IsLawfulFor (m : List Instance) (Member : Id → Type 0) (ids : List 
 
 abbrev pub IsLawful : List Instance → List Id → Type 0
 IsLawful m ids = IsLawfulFor m (IsReady m) ids
+
+abbrev pub ops_of : Option Instance → List Op
+ops_of None = []
+ops_of (Some e) = e.ops
+
+-- the commands of instances of a map
+abbrev pub commands_in : List Instance → List Id → List (List Op)
+commands_in m ids = map (λ x. ops_of (instance_of m x)) ids

@@ -1,5 +1,5 @@
 -- Conflict levels of a list of commands.
-use Rattle.std.specs.Prelude.{◌≡◌, ℕ, ◌<◌, ◌≤◌, List, [], ◌∷◌, length, slice_index_or}
+use Rattle.std.specs.Prelude.{◌≡◌, ◌==◌, ℕ, suc, max, ◌<◌, ◌≤◌, List, [], ◌∷◌, if◌then◌else◌, length, slice_index, slice_index_or}
 use Rattle.epx_types.specs.declared.op.Op.{Op}
 use Rattle.epx_types.specs.Conflicts.{Conflict}
 
@@ -16,6 +16,25 @@ Climbs commands j (i ∷ is) = (i < j) × ConflictAt commands i j × Climbs comm
 pub record IsLevel (commands : List (List Op)) (j level : ℕ) : Type 0 where
   pub chain : (is : List ℕ) × Climbs commands j is × (length is ≡ level)
   pub longest : (is : List ℕ) → Climbs commands j is → length is ≤ level
+
+-- these are the levels of the commands, place by place
+pub record AreLevels (commands : List (List Op)) (levels : List ℕ) : Type 0 where
+  pub whole : length levels ≡ length commands
+  pub each : (j : ℕ) → j < length commands → IsLevel commands j (slice_index levels j)
+
+-- how many levels there are: one more than the greatest
+abbrev pub level_count : List ℕ → ℕ
+level_count [] = 0
+level_count (level ∷ levels) = max (suc level) (level_count levels)
+
+-- the places of a level, rising, where the list begins at place j
+abbrev pub places_from : ℕ → List ℕ → ℕ → List ℕ
+places_from j [] l = []
+places_from j (level ∷ levels) l = if level == l then j ∷ places_from (suc j) levels l else places_from (suc j) levels l
+
+-- the places of a level, rising
+abbrev pub places_of : List ℕ → ℕ → List ℕ
+places_of levels l = places_from 0 levels l
 
 -- numbers that rise from each command to each later one that conflicts with it
 abbrev pub RisesWithConflicts : List (List Op) → (ℕ → ℕ) → Type 0

@@ -20,6 +20,7 @@ pub mod ExecutionOrder
 pub mod LawfulOrders
 pub mod Conflicts
 pub mod Levels
+pub mod Rearrangements
 pub mod Pieces
 pub mod Done
 pub mod Faults

@@ -38,20 +38,27 @@ run_works rest none =
 order_works : (rest : List Text) → entered_fault app (Some (codes "order", rest)) ≡ [] → GivesWork (entered app (Some (codes "order", rest)))
 order_works rest none =
     let numbers = numbers_of (codes "order") rest none in
-    (inr refl, numbers.workers, numbers.cut)
+    (inr (inl refl), numbers.workers, numbers.cut)
+
+levels_works : (rest : List Text) → entered_fault app (Some (codes "levels", rest)) ≡ [] → GivesWork (entered app (Some (codes "levels", rest)))
+levels_works rest none =
+    let numbers = numbers_of (codes "levels") rest none in
+    (inr (inr refl), numbers.workers, numbers.cut)
 
 task_works : (name : Text) (rest : List Text) → IsTaskName name → entered_fault app (Some (name, rest)) ≡ [] → GivesWork (entered app (Some (name, rest)))
 task_works name rest (inl is) none =
     subst (λ n. GivesWork (entered app (Some (n, rest)))) (sym is) (run_works rest (subst (λ n. entered_fault app (Some (n, rest)) ≡ []) is none))
-task_works name rest (inr is) none =
+task_works name rest (inr (inl is)) none =
     subst (λ n. GivesWork (entered app (Some (n, rest)))) (sym is) (order_works rest (subst (λ n. entered_fault app (Some (n, rest)) ≡ []) is none))
+task_works name rest (inr (inr is)) none =
+    subst (λ n. GivesWork (entered app (Some (n, rest)))) (sym is) (levels_works rest (subst (λ n. entered_fault app (Some (n, rest)) ≡ []) is none))
 
 stop_works : (stop : Option (Text × List Text)) → StopsAtTask stop → is_some (entered app stop) ≡ true → entered_fault app stop ≡ [] → GivesWork (entered app stop)
 stop_works None task there none = cc
 stop_works (Some p) task there none = task_works p.0 p.1 task none
 
 known : AllByRecursion (λ (l : Text × List Text). IsKnownName l.0) (names_of app)
-known = (inl (inl refl), (inl (inr refl), (inr refl, tt)))
+known = (inl (inl refl), (inl (inr (inl refl)), (inl (inr (inr refl)), (inr refl, tt))))
 
 subcommand_there : (rows : List Row) (there : Bool) → check_fault app.top rows there ≡ [] → there ≡ true
 subcommand_there rows true none = refl

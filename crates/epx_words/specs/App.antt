@@ -1,4 +1,4 @@
--- The program as clap knows it: two subcommands, each with two numbers and any number of logs.
+-- The program as clap knows it: three subcommands, each with two numbers and any number of logs.
 use Rattle.std.specs.Prelude.{ℕ, true, Some, [], ◌∷◌, codes}
 use Rattle.clap.specs.Simple.{on_top}
 use Rattle.clap.specs.Words.{App, Rule, Text, new_app, new_rule, with_rule, with_subcommand}
@@ -30,4 +30,4 @@ epx_start = on_top (λ shape. record shape { has_version = true; subcommand_requ
 
 -- the program
 abbrev pub epx_app : App
-epx_app = with_subcommand (with_subcommand epx_start (work_app (codes "run")).top) (work_app (codes "order")).top
+epx_app = with_subcommand (with_subcommand (with_subcommand epx_start (work_app (codes "run")).top) (work_app (codes "order")).top) (work_app (codes "levels")).top

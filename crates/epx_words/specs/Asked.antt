@@ -12,6 +12,7 @@ use Rattle.epx_words.specs.Given.{Given, IsCutOf, IsWorkersOf, logs_in, name_in,
 abbrev pub task_name : Task → Text
 task_name task.Run = codes "run"
 task_name task.Order = codes "order"
+task_name task.Levels = codes "levels"
 
 -- the words ask for work, and this holds of the task, the plan and the paths
 abbrev pub IfWork : (Task → Cutting → Option (List Text) → Type 0) → Words → Type 0

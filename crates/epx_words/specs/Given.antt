@@ -39,7 +39,7 @@ IsNumberUpTo most (Some text) = IsUnsignedIn 1 most text
 
 -- the name of a subcommand that asks for work
 abbrev pub IsTaskName : Text → Type 0
-IsTaskName name = (name ≡ codes "run") ⊎ (name ≡ codes "order")
+IsTaskName name = (name ≡ codes "run") ⊎ ((name ≡ codes "order") ⊎ (name ≡ codes "levels"))
 
 -- a subcommand that asks for work, with numbers in their ranges
 abbrev pub GivesWork : Given → Type 0

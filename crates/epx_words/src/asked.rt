@@ -9,6 +9,8 @@ pub enum Task {
     Run,
     /// The execution order.
     Order,
+    /// The conflict levels.
+    Levels,
 }
 
 /// What words come to.

@@ -14,10 +14,10 @@ const ABOUT: &str = "Executes the committed instances of EPaxos from their logs"
 
 const LONG_ABOUT: &str =
     "Executes the committed instances of EPaxos from their logs, which one replica
-wrote or several. What comes out is lines of JSON: the report, or the execution
-order.
+wrote or several. What comes out is lines of JSON: the report, the execution
+order, or the conflict levels.
 
-Both subcommands take --workers N, 1 to 64 and 4 by default, and --cut M, 1 to
+All subcommands take --workers N, 1 to 64 and 4 by default, and --cut M, 1 to
 65536 and 256 by default. With no words at all epx prints the report of one log,
 which it reads from standard input.";
 
@@ -36,6 +36,14 @@ const ORDER_LONG_ABOUT: &str =
 of JSON, with how many instances are ready and how many wait, each ready one in
 execution order with its depth and leader, and each instance that must wait with
 the missing one that it waits for.";
+
+const LEVELS_ABOUT: &str = "Prints the conflict levels of the commands";
+
+const LEVELS_LONG_ABOUT: &str =
+    "Prints the conflict levels of what the logs commit, and executes nothing: lines
+of JSON, with how many instances are ready and how many wait, each ready one in
+execution order with the level of its command, and each instance that must wait
+with the missing one that it waits for. Commands of one level do not conflict.";
 
 const EXAMPLE: &str = "Example:
   epx run examples/replicas/*.jsonl";
@@ -68,8 +76,13 @@ fn number_option<'a>(
         .value_parser(ValueParser::unsigned(1, most as u64))
 }
 
-/// A subcommand that works over logs. Both have the same options and the same positional.
-fn subcommand<'a>(alloc: Global, name: &'a str) -> Result<Command<'a>, AllocError>
+/// A subcommand that works over logs. All have the same options and the same positional.
+fn subcommand<'a>(
+    alloc: Global,
+    name: &'a str,
+    about: &'a str,
+    long_about: &'a str,
+) -> Result<Command<'a>, AllocError>
     ensures { IfOk result (λ c. app_of c ≡ work_app name.entry.now) }
 {
     let workers = number_option(alloc, "workers", "N", "4", MAX_WORKERS).help(
@@ -83,6 +96,8 @@ fn subcommand<'a>(alloc: Global, name: &'a str) -> Result<Command<'a>, AllocErro
         .action(ArgAction::Append)
         .help("The logs to read, in any order");
     Command::new(alloc, name)
+        .about(about)
+        .long_about(long_about)
         .after_help(EXAMPLE)
         .after_long_help(LOGS_AND_EXAMPLE)
         .arg(workers)?
@@ -94,12 +109,9 @@ fn subcommand<'a>(alloc: Global, name: &'a str) -> Result<Command<'a>, AllocErro
 pub(crate) fn command<'a>(alloc: Global) -> Result<Command<'a>, AllocError>
     ensures { IfOk result (λ c. app_of c ≡ epx_app) }
 {
-    let run = subcommand(alloc, "run")?
-        .about(RUN_ABOUT)
-        .long_about(RUN_LONG_ABOUT);
-    let order = subcommand(alloc, "order")?
-        .about(ORDER_ABOUT)
-        .long_about(ORDER_LONG_ABOUT);
+    let run = subcommand(alloc, "run", RUN_ABOUT, RUN_LONG_ABOUT)?;
+    let order = subcommand(alloc, "order", ORDER_ABOUT, ORDER_LONG_ABOUT)?;
+    let levels = subcommand(alloc, "levels", LEVELS_ABOUT, LEVELS_LONG_ABOUT)?;
     Command::new(alloc, "epx")
         .version(VERSION)
         .about(ABOUT)
@@ -108,5 +120,6 @@ pub(crate) fn command<'a>(alloc: Global) -> Result<Command<'a>, AllocError>
         .after_long_help(LOGS_AND_EXAMPLE)
         .subcommand_required(true)
         .subcommand(run)?
-        .subcommand(order)
+        .subcommand(order)?
+        .subcommand(levels)
 }

@@ -53,6 +53,8 @@ fn task_of(name: &str) -> Task
 {
     if name == "order" {
         Task::Order
+    } else if name == "levels" {
+        Task::Levels
     } else {
         Task::Run
     }

@@ -1,5 +1,13 @@
-use Rattle.epx_tool.proofs.Reports.{IsViewed-order}
+use Rattle.std.proofs.Common.{sym, subst}
+use Rattle.epx_tool.specs.Views.{IsViewed}
 use Rattle.epx_tool.proofs.answers.view.Goals as goal
 
+pub returns-in-Order : goal.returns-in-Order
+returns-in-Order g c =
+    let text = c.in_ok-order_of-in-Order.field-0.items in
+    (c.in-Ok.merged, c.in-Ok.ensures, subst (λ ask. IsViewed ask c.in-Ok.merged text) (sym c.in-Order.is) c.in_ok-order_of-in-Order.ensures)
+
 pub returns : goal.returns
-returns g c = (c.in-Ok.merged, c.in-Ok.ensures, IsViewed-order c.args.ask c.in-Ok.merged c.in_ok-order_of.field-0.items c.in_ok-order_of.ensures)
+returns g c =
+    let text = c.in_ok-levels_of-in-Levels.field-0.items in
+    (c.in-Ok.merged, c.in-Ok.ensures, subst (λ ask. IsViewed ask c.in-Ok.merged text) (sym c.in-Levels.is) c.in_ok-levels_of-in-Levels.ensures)

@@ -17,7 +17,7 @@ returns-in-Abort-clause-reply c =
 pub returns-in-Abort-clause-writes : goal.returns-in-Abort-clause-writes
 returns-in-Abort-clause-writes c =
     let within : c.loop-place.place < length c.args.ops.now = omega arith in
-    ap contents.entries c.new.ensures
+    ap contents.entries c.new-nothing.ensures
     ∙ entries-empty
     ∙ writes_of_abort c.args.ops.now c.args.store.now c.loop-place.place c.loop-place.draft c.operate.new.draft c.loop-place.got.items c.index-ops-place.result c.loop-place.invariant within c.index-ops-place.is (rw c.in-Abort.is at c.in_ok-value.ensures)
 
@@ -36,7 +36,7 @@ loop-place-preserved c =
 pub returns-clause-reply : goal.returns-clause-reply
 returns-clause-reply c =
     let past : length c.args.ops.now ≤ c.loop-place.place = omega arith in
-    ap (λ v. Values v) c.new-2.ensures
+    ap (λ v. Values v) c.new.ensures
     ∙ reply_at_end c.args.ops.now c.args.store.now c.loop-place.place c.loop-place.draft c.loop-place.got.items c.loop-place.invariant past
 
 pub returns-clause-writes : goal.returns-clause-writes

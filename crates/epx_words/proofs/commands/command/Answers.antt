@@ -9,9 +9,9 @@ pub returns : goal.returns
 returns c =
     let run = work_app (codes "run") in
     let order = work_app (codes "order") in
+    let levels = work_app (codes "levels") in
     let start_is : app_of c.subcommand_required.result ≡ epx_start = search rules in
-    let run_is : app_of c.long_about-run.result ≡ run = search (rules, c.in_ok-subcommand.ensures) in
-    let order_is : app_of c.long_about-order.result ≡ order = search (rules, c.in_ok-subcommand-2.ensures) in
-    let one = with_command c.subcommand_required.result c.long_about-run.result c.in_ok-subcommand-3.field-0 epx_start run c.in_ok-subcommand-3.ensures start_is run_is refl in
-    IfOk-weaker c.subcommand-4.result _ _ (λ made added.
-    with_command c.in_ok-subcommand-3.field-0 c.long_about-order.result made (with_subcommand epx_start run.top) order added one order_is refl) c.subcommand-4.ensures
+    let one = with_command c.subcommand_required.result c.in_ok-run.run' c.in_ok-subcommand.field-0 epx_start run c.in_ok-subcommand.ensures start_is c.in_ok-run.ensures refl in
+    let two = with_command c.in_ok-subcommand.field-0 c.in_ok-order.order c.in_ok-subcommand-2.field-0 (with_subcommand epx_start run.top) order c.in_ok-subcommand-2.ensures one c.in_ok-order.ensures refl in
+    IfOk-weaker c.subcommand-6.result _ _ (λ made added.
+    with_command c.in_ok-subcommand-2.field-0 c.in_ok-levels.levels made (with_subcommand (with_subcommand epx_start run.top) order.top) levels added two c.in_ok-levels.ensures refl) c.subcommand-6.ensures

@@ -1,0 +1,23 @@
+use Rattle.std.proofs.Common.{◌≡◌, ◌∙◌, sym, rules}
+use Rattle.std.proofs.lemmas.Result.{IfOk-weaker}
+use Rattle.epx_types.specs.Rearrangements.{commands_at}
+use Rattle.epx_apply.specs.Effects.{ops_of, effects_over, items_of_piece}
+use Rattle.epx_apply.proofs.JoinedPieces.{parts_joined}
+use Rattle.epx_apply.proofs.LevelEffects.{effect_at, effects_over-each}
+use Rattle.epx_apply.proofs.run.evaluate_all.Goals as goal
+
+pub returns : goal.returns
+returns g c =
+    let ops = ops_of c.args.commands.now in
+    let store = c.args.store.now in
+    let places = c.args.places.now in
+    let cut = c.args.plan.cut in
+    let done = c.in_ok-parts.ensures.ok in
+    IfOk-weaker c.join_parts.result _ _ (λ v joined.
+    joined
+    ∙ parts_joined cut c.pieces-pieces.ensures.fits.some_item (effect_at store ops) places (λ part. part.items) c.in_ok-parts.parts.items (done.len ∙ c.pieces-pieces.ensures.pieces) (λ i inside.
+    let part = done.each i (rw c.pieces-pieces.ensures.pieces inside) in
+    let answer = part.2 in
+    let is : part.0.items ≡ effects_over store (commands_at ops (items_of_piece cut places i)) = search rules in
+    (part.0, part.1, is ∙ effects_over-each store ops (items_of_piece cut places i)))
+    ∙ sym (effects_over-each store ops places)) c.join_parts.ensures

@@ -1,0 +1,35 @@
+-- What commands do over contents that they only read, and replies at places.
+use Rattle.std.specs.Prelude.{ℕ, List, [], ◌∷◌, length, map, slice_range, slice_set}
+use Rattle.epx_types.specs.declared.command.Command.{Command}
+use Rattle.epx_types.specs.declared.op.Op.{Op}
+use Rattle.epx_types.specs.declared.reply.Reply.{Reply}
+use Rattle.epx_types.specs.Contents.{Contents}
+use Rattle.epx_types.specs.Commands.{command_on}
+use Rattle.epx_types.specs.Pieces.{piece_start, piece_end}
+use Rattle.epx_types.specs.Writes.{writes_of}
+use Rattle.epx_txn.specs.declared.effect.Effect.{Effect}
+
+-- the operation lists of commands
+abbrev pub ops_of : List Command → List (List Op)
+ops_of commands = map (λ c. c.ops.now) commands
+
+-- the reply of a command, and what it writes
+abbrev pub effect_over : Contents → List Op → Effect
+effect_over c ops = record { reply = (command_on ops c).reply; writes = writes_of ops c }
+
+-- the effects of commands, each over the same contents
+abbrev pub effects_over : Contents → List (List Op) → List Effect
+effects_over c commands = map (effect_over c) commands
+
+abbrev pub replies_in : List Effect → List Reply
+replies_in effects = map (λ e. e.reply) effects
+
+-- each reply put at its place, one after another
+abbrev pub put_replies : List ℕ → List Reply → List Reply → List Reply
+put_replies [] replies at = at
+put_replies (i ∷ places) [] at = at
+put_replies (i ∷ places) (r ∷ replies) at = put_replies places replies (slice_set at i r)
+
+-- the items of one of the pieces of a list
+abbrev pub items_of_piece : {X : Type 0} → ℕ → List X → ℕ → List X
+items_of_piece cut items piece = slice_range items (piece_start cut piece) (piece_end cut (length items) piece)

@@ -1,0 +1,5 @@
+use Rattle.epx_tool.proofs.OneAnswer.{IsLevelText-unique}
+use Rattle.epx_tool.proofs.laws.level_text_is_one.Goals as goal
+
+pub returns : goal.returns
+returns c = IsLevelText-unique

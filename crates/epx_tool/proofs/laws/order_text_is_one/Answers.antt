@@ -1,0 +1,5 @@
+use Rattle.epx_tool.proofs.OneAnswer.{IsOrderText-unique}
+use Rattle.epx_tool.proofs.laws.order_text_is_one.Goals as goal
+
+pub returns : goal.returns
+returns c = IsOrderText-unique

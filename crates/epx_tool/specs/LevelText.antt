@@ -1,0 +1,32 @@
+-- The conflict levels of a run, as bytes.
+use Rattle.std.specs.Prelude.{◌≡◌, ℕ, List, [], ◌∷◌, ◌++◌, length, flat_map, zip, codes}
+use Rattle.serde_json.specs.Data.{Data, string}
+use Rattle.epx_types.specs.declared.id.Id.{Id}
+use Rattle.epx_types.specs.Instances.{Instance}
+use Rattle.epx_types.specs.ExecutionOrder.{Ranked, IsExecutionOrder, ranked_ids, component_count}
+use Rattle.epx_types.specs.Levels.{AreLevels}
+use Rattle.epx_types.specs.WaitingLists.{Waiting, IsWaitingList}
+use Rattle.epx_tool.specs.Report.{commands_of}
+use Rattle.epx_tool.specs.ReportLines.{data_of_number, line_of, header_line, waiting_line}
+
+-- an instance and the level of its command
+abbrev pub level_data : Id → ℕ → List Data
+level_data x level = string (codes "level") ∷ data_of_number x.replica ∷ data_of_number x.number ∷ data_of_number level ∷ []
+
+abbrev pub level_line : Id × ℕ → List ℕ
+level_line p = line_of (level_data p.0 p.1)
+
+-- the header of the report, the ready instances in execution order with the levels of their commands, and the instances that wait
+abbrev pub level_text : List Ranked → List ℕ → List Waiting → List ℕ
+level_text order levels waiting =
+    header_line (length order) (length waiting) (component_count order) ++ (flat_map level_line (zip (ranked_ids order) levels) ++ flat_map waiting_line waiting)
+
+-- the levels are those of the ready commands in execution order
+pub record IsLevelText (m : List Instance) (text : List ℕ) : Type 0 where
+  pub order : List Ranked
+  pub levels : List ℕ
+  pub waiting : List Waiting
+  pub ordered : IsExecutionOrder m order
+  pub levelled : AreLevels (commands_of m order) levels
+  pub listed : IsWaitingList m waiting
+  pub printed : text ≡ level_text order levels waiting

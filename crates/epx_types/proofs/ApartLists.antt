@@ -1,0 +1,104 @@
+-- Commands that do not conflict, in lists: one is moved past others, and all are executed over the contents before them.
+use Rattle.std.proofs.Common.{◌≡◌, ◌≢◌, ◌∙◌, List, [], ◌∷◌, ◌++◌, map, flat_map, Contains, refl, sym, ap, ap₂, subst, inl, inr, arith}
+use Rattle.std.proofs.lemmas.List.Elements.{Contains-append_cases}
+use Rattle.epx_types.specs.declared.op.Op.{Op}
+use Rattle.epx_types.specs.Conflicts.{ApartFrom, AllApart}
+use Rattle.epx_types.specs.Contents.{Contents}
+use Rattle.epx_types.specs.Commands.{command_on}
+use Rattle.epx_types.specs.CommandKeys.{written_keys}
+use Rattle.epx_types.specs.Execution.{execute}
+use Rattle.epx_types.specs.Writes.{Write, writes_of, put_all, NoKeyTwice}
+use Rattle.epx_types.proofs.Membership.{Contains-nil, Contains-head, Contains-cons}
+use Rattle.epx_types.proofs.Places.{AllPairs-append}
+use Rattle.epx_types.proofs.Apart.{Conflict-turned, reply-after_apart, after-exchanged, touched_kept}
+use Rattle.epx_types.proofs.Commands.{put_all-writes_of, writes_of-written, writes_of-apart, writes_of-alike, written_keys-touched}
+use Rattle.epx_types.proofs.Executions.{execute-append}
+use Rattle.epx_types.proofs.GatheredWrites.{put_all-append}
+
+-- ---- one command, past others with which it does not conflict
+
+module _ (a : List Op) where
+  -- they reply as they do without it
+  pub replies-past : (others : List (List Op)) → ApartFrom a others → (c : Contents) → (execute others (command_on a c).after).replies ≡ (execute others c).replies
+  replies-past [] apart c = refl
+  replies-past (b ∷ others) apart c =
+      let clear = apart b (Contains-head b others) in
+      ap₂ (λ r rs. r ∷ rs) (reply-after_apart a b clear c) (ap (λ d. (execute others d).replies) (after-exchanged a b clear c) ∙ replies-past others (λ d h. apart d (Contains-cons b others d h)) (command_on b c).after)
+
+  -- it can as well be executed after them
+  pub final-past : (others : List (List Op)) → ApartFrom a others → (c : Contents) → (execute others (command_on a c).after).final ≡ (command_on a (execute others c).final).after
+  final-past [] apart c = refl
+  final-past (b ∷ others) apart c =
+      ap (λ d. (execute others d).final) (after-exchanged a b (apart b (Contains-head b others)) c)
+      ∙ final-past others (λ d h. apart d (Contains-cons b others d h)) (command_on b c).after
+
+  -- and then replies the same
+  pub reply-past : (others : List (List Op)) → ApartFrom a others → (c : Contents) → (command_on a (execute others c).final).reply ≡ (command_on a c).reply
+  reply-past [] apart c = refl
+  reply-past (b ∷ others) apart c =
+      reply-past others (λ d h. apart d (Contains-cons b others d h)) (command_on b c).after
+      ∙ reply-after_apart b a (λ conflict. apart b (Contains-head b others) (Conflict-turned b a conflict)) c
+
+  -- moved to the front, it leaves the same
+  pub final-front : (front rest : List (List Op)) → ApartFrom a front → (c : Contents) → (execute (front ++ a ∷ rest) c).final ≡ (execute (front ++ rest) (command_on a c).after).final
+  final-front front rest apart c =
+      (execute-append front (a ∷ rest) c).1
+      ∙ ap (λ d. (execute rest d).final) (sym (final-past front apart c))
+      ∙ sym (execute-append front rest (command_on a c).after).1
+
+  -- and the replies are the same
+  pub replies-front : (front rest : List (List Op)) → ApartFrom a front → (c : Contents) → (execute (front ++ a ∷ rest) c).replies ≡ (execute front (command_on a c).after).replies ++ (command_on a c).reply ∷ (execute rest (execute front (command_on a c).after).final).replies
+  replies-front front rest apart c =
+      (execute-append front (a ∷ rest) c).0
+      ∙ ap₂ (λ rs r. rs ++ r ∷ (execute rest (command_on a (execute front c).final).after).replies) (sym (replies-past front apart c)) (reply-past front apart c)
+      ∙ ap (λ d. (execute front (command_on a c).after).replies ++ (command_on a c).reply ∷ (execute rest d).replies) (sym (final-past front apart c))
+
+-- ---- commands of which no two conflict
+
+-- the writes of commands, each over the same contents
+abbrev pub writes_over : List (List Op) → Contents → List Write
+writes_over commands c = flat_map (λ ops. writes_of ops c) commands
+
+-- what one leaves gives the others the same replies
+replies-over_after : (a : List Op) (others : List (List Op)) → ApartFrom a others → (c : Contents) → map (λ ops. (command_on ops (command_on a c).after).reply) others ≡ map (λ ops. (command_on ops c).reply) others
+replies-over_after a [] apart c = refl
+replies-over_after a (b ∷ others) apart c =
+    ap₂ (λ r rs. r ∷ rs) (reply-after_apart a b (apart b (Contains-head b others)) c) (replies-over_after a others (λ d h. apart d (Contains-cons b others d h)) c)
+
+-- and the same writes
+writes_over-after : (a : List Op) (others : List (List Op)) → ApartFrom a others → (c : Contents) → writes_over others (command_on a c).after ≡ writes_over others c
+writes_over-after a [] apart c = refl
+writes_over-after a (b ∷ others) apart c =
+    ap₂ (λ ws vs. ws ++ vs) (writes_of-alike b (command_on a c).after c (touched_kept a b (apart b (Contains-head b others)) c)) (writes_over-after a others (λ d h. apart d (Contains-cons b others d h)) c)
+
+-- each replies as it does over the contents before all of them
+pub replies-all_apart : (commands : List (List Op)) → AllApart commands → (c : Contents) → (execute commands c).replies ≡ map (λ ops. (command_on ops c).reply) commands
+replies-all_apart [] apart c = refl
+replies-all_apart (a ∷ others) apart c =
+    ap (λ rs. (command_on a c).reply ∷ rs) (replies-all_apart others apart.1 (command_on a c).after ∙ replies-over_after a others apart.0 c)
+
+-- and their writes, put in together, leave what they leave one after another
+pub final-all_apart : (commands : List (List Op)) → AllApart commands → (c : Contents) → (execute commands c).final ≡ put_all (writes_over commands c) c
+final-all_apart [] apart c = refl
+final-all_apart (a ∷ others) apart c =
+    final-all_apart others apart.1 (command_on a c).after
+    ∙ ap₂ put_all (writes_over-after a others apart.0 c) (sym (put_all-writes_of a c))
+    ∙ sym (put_all-append (writes_of a c) (writes_over others c) c)
+
+-- what is written over the same contents names keys that some command writes
+writes_over-written : (commands : List (List Op)) (c : Contents) (w : Write) → Contains (writes_over commands c) w → (ops : List Op) × Contains commands ops × Contains (written_keys ops) w.0
+writes_over-written [] c w h = absurd (Contains-nil w h)
+writes_over-written (a ∷ others) c w h =
+    elim (Contains-append_cases (writes_of a c) (writes_over others c) w h) [
+      | inl first ↦ (a, Contains-head a others, writes_of-written a c w first)
+      | inr rest ↦ let on = writes_over-written others c w rest in (on.0, Contains-cons a others on.0 on.1, on.2)
+    ]
+
+-- no key stands twice in them
+pub no_key_twice-all_apart : (commands : List (List Op)) → AllApart commands → (c : Contents) → NoKeyTwice (writes_over commands c)
+no_key_twice-all_apart [] apart c = λ i j d l k. absurd (omega arith)
+no_key_twice-all_apart (a ∷ others) apart c =
+    AllPairs-append (λ v w. v.0 ≢ w.0) (writes_of a c) (writes_over others c) (writes_of-apart a c) (no_key_twice-all_apart others apart.1 c) (λ v w first rest same.
+    let b = writes_over-written others c w rest in
+    let mine = subst (Contains (written_keys a)) same (writes_of-written a c v first) in
+    apart.0 b.0 b.1 (w.0, inl (mine, written_keys-touched b.0 w.0 b.2)))

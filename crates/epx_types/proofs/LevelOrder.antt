@@ -1,0 +1,204 @@
+-- The places of a list of commands, level by level: a rearrangement, in which no two commands of one level conflict.
+use Rattle.std.proofs.Common.{◌≡◌, ◌≢◌, ◌⊎◌, ◌<◌, ◌≤◌, ◌+◌, ◌∙◌, ℕ, zero, suc, List, [], ◌∷◌, ◌++◌, length, get_or, slice_get, slice_index, slice_index_or, Contains, AllPairs, Some, sym, ap, subst, inl, inr, arith}
+use Rattle.std.proofs.lemmas.Bool.{cases_lt}
+use Rattle.std.proofs.lemmas.List.{get_or_past}
+use Rattle.std.proofs.lemmas.Bool.Decides.{eqb_tells}
+use Rattle.std.proofs.lemmas.List.Elements.{Contains-append_left, Contains-append_right, Contains-append_cases}
+use Rattle.std.proofs.lemmas.Option.{slice_get_within, slice_get-get_or, get_or_from_slice_get}
+use Rattle.epx_types.specs.declared.op.Op.{Op}
+use Rattle.epx_types.specs.Conflicts.{Conflict, AllApart}
+use Rattle.epx_types.specs.Levels.{ConflictAt, AreLevels, level_count, places_from, places_of}
+use Rattle.epx_types.specs.LawfulOrders.{Before}
+use Rattle.epx_types.specs.Rearrangements.{commands_at, IsRearrangement}
+use Rattle.epx_types.proofs.Membership.{Contains-nil, Contains-head, Contains-cons, Contains-cons_cases, Contains-from_map}
+use Rattle.epx_types.proofs.Places.{AllPairs-slice_get, AllPairs-from_parts, AllPairs-append, AllPairs-head, AllPairs-tail, slice_get-from_Contains}
+use Rattle.epx_types.proofs.LevelLemmas.{IsLevel-below}
+use Rattle.epx_types.proofs.LevelPlaces.{level_below_count}
+
+-- ---- the places of one level
+
+-- a place of a level, where the list begins at place j
+pub Contains-from_places_from : (j : ℕ) (levels : List ℕ) (l i : ℕ) → Contains (places_from j levels l) i → (k : ℕ) × (i ≡ j + k) × (slice_get levels k ≡ Some l)
+Contains-from_places_from j [] l i h = absurd (Contains-nil i h)
+Contains-from_places_from j (level ∷ levels) l i h =
+    elim (eqb_tells level l) [
+      | inl same ↦ elim (Contains-cons_cases j (places_from (suc j) levels l) i (rw same.0 at h)) [
+        | inl here ↦ (0, omega (arith, here), ap Some same.1)
+        | inr later ↦ further (Contains-from_places_from (suc j) levels l i later)
+      ]
+      | inr other ↦ further (Contains-from_places_from (suc j) levels l i (rw other.0 at h))
+    ]
+  where
+    further : (k : ℕ) × (i ≡ suc j + k) × (slice_get levels k ≡ Some l) → (k : ℕ) × (i ≡ j + k) × (slice_get (level ∷ levels) k ≡ Some l)
+    further (k, e, at) = (suc k, omega (arith, e), at)
+
+pub Contains-places_from : (j : ℕ) (levels : List ℕ) (l k : ℕ) → slice_get levels k ≡ Some l → Contains (places_from j levels l) (j + k)
+Contains-places_from j [] l k e = absurd (cc e)
+Contains-places_from j (level ∷ levels) l zero e =
+    elim (eqb_tells level l) [
+      | inl same ↦ rw same.0 (subst (Contains (j ∷ places_from (suc j) levels l)) (omega arith) (Contains-head j (places_from (suc j) levels l)))
+      | inr other ↦ absurd (other.1 (cc e))
+    ]
+Contains-places_from j (level ∷ levels) l (suc k) e =
+    let later : Contains (places_from (suc j) levels l) (j + suc k) = subst (Contains (places_from (suc j) levels l)) (omega arith) (Contains-places_from (suc j) levels l k e) in
+    elim (eqb_tells level l) [
+      | inl same ↦ rw same.0 (Contains-cons j (places_from (suc j) levels l) (j + suc k) later)
+      | inr other ↦ rw other.0 later
+    ]
+
+places_from-rising : (j : ℕ) (levels : List ℕ) (l : ℕ) → AllPairs (λ i k. i < k) (places_from j levels l)
+places_from-rising j [] l = λ i k d less within. absurd (omega arith)
+places_from-rising j (level ∷ levels) l =
+    let rest = places_from-rising (suc j) levels l in
+    elim (eqb_tells level l) [
+      | inl same ↦ rw same.0 (AllPairs-from_parts (λ i k. i < k) j (places_from (suc j) levels l) (λ i h. let from = Contains-from_places_from (suc j) levels l i h in omega (arith, from.1)) rest)
+      | inr other ↦ rw other.0 rest
+    ]
+
+length-places_from : (j : ℕ) (levels : List ℕ) (l : ℕ) → length (places_from j levels l) ≤ length levels
+length-places_from j [] l = omega arith
+length-places_from j (level ∷ levels) l =
+    let rest = length-places_from (suc j) levels l in
+    elim (eqb_tells level l) [ inl same ↦ rw same.0 (omega arith) | inr other ↦ rw other.0 (omega arith) ]
+
+-- a level has no more places than the list
+pub length-places_of : (levels : List ℕ) (l : ℕ) → length (places_of levels l) ≤ length levels
+length-places_of levels l = length-places_from 0 levels l
+
+-- they rise
+pub places_of-rising : (levels : List ℕ) (l : ℕ) → AllPairs (λ i k. i < k) (places_of levels l)
+places_of-rising levels l = places_from-rising 0 levels l
+
+-- they are places of the list, and have that level
+pub Contains-from_places_of : (levels : List ℕ) (l i : ℕ) → Contains (places_of levels l) i → (i < length levels) × (slice_index levels i ≡ l)
+Contains-from_places_of levels l i h =
+    let from = Contains-from_places_from 0 levels l i h in
+    let place : from.0 ≡ i = omega (arith, from.1) in
+    let at : slice_get levels i ≡ Some l = subst (λ (k : ℕ). slice_get levels k ≡ Some l) place from.2 in
+    (slice_get_within levels i l at, get_or_from_slice_get levels i l 0 at)
+
+-- and all that have it
+pub Contains-places_of : (levels : List ℕ) (l i : ℕ) → i < length levels → slice_index levels i ≡ l → Contains (places_of levels l) i
+Contains-places_of levels l i within e =
+    let at : slice_get levels i ≡ Some l = slice_get-get_or levels i 0 within ∙ ap Some e in
+    subst (Contains (places_of levels l)) (omega arith) (Contains-places_from 0 levels l i at)
+
+-- ---- the places of all levels, one level after another
+
+-- the places of the levels below l
+abbrev pub by_level : List ℕ → ℕ → List ℕ
+by_level levels zero = []
+by_level levels (suc l) = by_level levels l ++ places_of levels l
+
+-- a place stands in a lower level, or in the same level further in front
+abbrev StandsLower : List ℕ → ℕ → ℕ → Type 0
+StandsLower levels i j = (slice_index levels i < slice_index levels j) ⊎ ((slice_index levels i ≡ slice_index levels j) × (i < j))
+
+module _ (levels : List ℕ) where
+  pub Contains-from_by_level : (l i : ℕ) → Contains (by_level levels l) i → (i < length levels) × (slice_index levels i < l)
+  Contains-from_by_level zero i h = absurd (Contains-nil i h)
+  Contains-from_by_level (suc l) i h =
+      elim (Contains-append_cases (by_level levels l) (places_of levels l) i h) [
+        | inl lower ↦ let from = Contains-from_by_level l i lower in (from.0, omega (arith, from.1))
+        | inr here ↦ let from = Contains-from_places_of levels l i here in (from.0, omega (arith, from.1))
+      ]
+
+  pub Contains-by_level : (l i : ℕ) → i < length levels → slice_index levels i < l → Contains (by_level levels l) i
+  Contains-by_level zero i within below = absurd (omega arith)
+  Contains-by_level (suc l) i within below =
+      elim (cases_lt (slice_index levels i) l) [
+        | inl lower ↦ Contains-append_left (by_level levels l) (places_of levels l) i (Contains-by_level l i within lower)
+        | inr upper ↦ Contains-append_right (by_level levels l) (places_of levels l) i (Contains-places_of levels l i within (omega arith))
+      ]
+
+  by_level-lower : (l : ℕ) → AllPairs (StandsLower levels) (by_level levels l)
+  by_level-lower zero = λ i j d less within. absurd (omega arith)
+  by_level-lower (suc l) =
+      AllPairs-append (StandsLower levels) (by_level levels l) (places_of levels l) (by_level-lower l) (by (places_of levels l) (Contains-from_places_of levels l) (places_of-rising levels l)) (λ i j h k.
+      let low = Contains-from_by_level l i h in
+      let high = Contains-from_places_of levels l j k in
+      inl (omega (arith, low.1, high.1)))
+    where
+      by : (places : List ℕ) → ((i : ℕ) → Contains places i → (i < length levels) × (slice_index levels i ≡ l)) → AllPairs (λ i j. i < j) places → AllPairs (StandsLower levels) places
+      by [] has rises = λ i j d less within. absurd (omega arith)
+      by (i ∷ places) has rises =
+          AllPairs-from_parts (StandsLower levels) i places (λ j h. inr ((has i (Contains-head i places)).1 ∙ sym (has j (Contains-cons i places j h)).1, AllPairs-head (λ k m. k < m) i places j rises h))
+          (by places (λ j h. has j (Contains-cons i places j h)) (AllPairs-tail (λ k m. k < m) i places rises))
+
+  by_level-apart : (l : ℕ) → AllPairs (λ i j. i ≢ j) (by_level levels l)
+  by_level-apart l i j d less within e =
+      elim (by_level-lower l i j d less within) [
+        | inl lower ↦ let same : slice_index levels (get_or (by_level levels l) i d) ≡ slice_index levels (get_or (by_level levels l) j d) = ap (slice_index levels) e in omega (arith, same, lower)
+        | inr other ↦ omega (arith, e, other.1)
+      ]
+
+-- ---- by the levels of commands
+
+pub no_conflict_past : (a : List Op) → ¬ Conflict a []
+no_conflict_past a (k, inl both) = Contains-nil k both.1
+no_conflict_past a (k, inr both) = Contains-nil k both.1
+
+module _ (commands : List (List Op)) (levels : List ℕ) (are : AreLevels commands levels) where
+  -- of two commands that conflict the later stands in the greater level
+  pub levels-climb : (i j : ℕ) → i < j → ConflictAt commands i j → (j < length commands) × (slice_index levels i < slice_index levels j)
+  levels-climb i j before conflict =
+      elim (cases_lt j (length commands)) [
+        | inl within ↦ (within, IsLevel-below commands i j (slice_index levels i) (slice_index levels j) before conflict (are.each i (omega arith)) (are.each j within))
+        | inr past ↦ absurd (no_conflict_past (slice_index_or commands i []) (subst (Conflict (slice_index_or commands i [])) (get_or_past commands j [] past) conflict))
+      ]
+
+  -- no two commands of one level conflict
+  pub level-apart : (l : ℕ) → AllApart (commands_at commands (places_of levels l))
+  level-apart l = by (places_of levels l) (Contains-from_places_of levels l) (places_of-rising levels l) where
+    by : (places : List ℕ) → ((i : ℕ) → Contains places i → (i < length levels) × (slice_index levels i ≡ l)) → AllPairs (λ i j. i < j) places → AllApart (commands_at commands places)
+    by [] has rises = tt
+    by (i ∷ places) has rises = (
+      λ b h conflict.
+          let from = Contains-from_map (λ j. slice_index_or commands j []) places b h in
+          let before = AllPairs-head (λ k m. k < m) i places from.0 rises from.1 in
+          let climb = levels-climb i from.0 before (subst (Conflict (slice_index_or commands i [])) (sym from.2) conflict) in
+          let low = has i (Contains-head i places) in
+          let high = has from.0 (Contains-cons i places from.0 from.1) in
+          omega (arith, climb.1, low.1, high.1),
+      by places (λ j h. has j (Contains-cons i places j h)) (AllPairs-tail (λ k m. k < m) i places rises),
+    )
+
+  -- the places of all levels, one level after another
+  abbrev all : List ℕ
+  all = by_level levels (level_count levels)
+
+  in_all : (i : ℕ) → i < length commands → Contains all i
+  in_all i within =
+      let place : i < length levels = omega (arith, are.whole) in
+      Contains-by_level levels (level_count levels) i place (level_below_count levels i place)
+
+  -- of two places the one in the lower level stands before the other
+  lower_before : (i j : ℕ) → i < length commands → j < length commands → slice_index levels i < slice_index levels j → Before all i j
+  lower_before i j in_i in_j lower =
+      let a = slice_get-from_Contains all i (in_all i in_i) in
+      let b = slice_get-from_Contains all j (in_all j in_j) in
+      elim (cases_lt a.0 b.0) [
+        | inl less ↦ (a.0, b.0, less, a.1, b.1)
+        | inr upto ↦ elim (cases_lt b.0 a.0) [
+          | inl less ↦ elim (AllPairs-slice_get (StandsLower levels) all (by_level-lower levels (level_count levels)) b.0 a.0 j i less b.1 a.1) [
+            | inl turned ↦ absurd (omega (arith, turned, lower))
+            | inr tied ↦ absurd (omega (arith, tied.0, lower))
+          ]
+          | inr other ↦
+              let one : Some i ≡ Some j = sym a.1 ∙ ap (slice_get all) (omega arith) ∙ b.1 in
+              let same : i ≡ j = cc one in
+              let level : slice_index levels i ≡ slice_index levels j = ap (slice_index levels) same in
+              absurd (omega (arith, level, lower))
+        ]
+      ]
+
+  -- taken level by level, the commands are rearranged
+  pub by_level-rearranges : IsRearrangement commands (by_level levels (level_count levels))
+  by_level-rearranges = record {
+    once = by_level-apart levels (level_count levels);
+    only = λ i h. let from = Contains-from_by_level levels (level_count levels) i h in omega (arith, from.0, are.whole);
+    whole = in_all;
+    keeps = λ i j before conflict.
+        let climb = levels-climb i j before conflict in
+        lower_before i j (omega (arith, climb.0)) climb.0 climb.1;
+  }
