@@ -8,7 +8,7 @@ ghost use Rattle.epx_types.specs.Pieces.{piece_count};
 ghost use Rattle.epx_types.specs.Rearrangements.{commands_at};
 ghost use Rattle.epx_apply.specs.Effects.{ops_of, effect_over, effects_over, items_of_piece, replies_in, put_replies};
 
-use crate::level_map::levels;
+use crate::level_map::levels_below;
 use epx_claims::{Gate, claimed_map};
 use epx_txn::{Effect, Store, apply, eval, merge_effects};
 use epx_types::{Command, Memory, Op, Plan, Reply};
@@ -245,13 +245,14 @@ fn run_all(alloc: Global, store: Store, commands: &[Command]) -> Result<Work, Me
     Ok(Work { store, replies })
 }
 
-/// Whether the levels are so small that threads would not be worth starting: on average, fewer than two
-/// pieces for each worker.
-fn are_small(levels: usize, commands: usize, plan: Plan) -> bool {
-    plan.pieces(commands) / 2 / plan.workers() < levels
+/// How many levels there may be for threads to be worth starting: on average, a level then has two pieces for
+/// each worker.
+fn most_levels(commands: usize, plan: Plan) -> usize {
+    plan.pieces(commands) / 2 / plan.workers()
 }
 
-/// All commands, level by level; where the levels are small, one after another, as they stand in memory.
+/// All commands, level by level; where the levels turn out to be many and small, one after another, as they
+/// stand in memory.
 fn run_levels<R: Threads + Sync, G: Gate + Sync>(
     rt: &R,
     alloc: Global,
@@ -265,10 +266,11 @@ fn run_levels<R: Threads + Sync, G: Gate + Sync>(
     ensures replies { IfOk result
         (λ w. w.replies.items ≡ (execute (ops_of commands.now) store).replies) }
 {
-    let level_map = levels(alloc, commands)?;
-    if are_small(level_map.count(), commands.len(), plan) {
+    let bound = most_levels(commands.len(), plan);
+    let found = levels_below(alloc, commands, bound)?;
+    let Some(level_map) = found else {
         return run_all(alloc, store, commands);
-    }
+    };
     let mut work = Work::new(alloc, store, commands.len())?;
     for level in 0..level_map.count() {
         work.run_level(rt, alloc, commands, level_map.members(level), plan, gate)?;
