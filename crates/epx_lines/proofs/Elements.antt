@@ -1,7 +1,7 @@
 -- Elements of a parsed array, one after another, beside what the definitions read of them.
 use Rattle.std.proofs.Common.{◌≡◌, ℕ, suc, ◌+◌, ◌<◌, ◌≤◌, List, [], ◌∷◌, ◌++◌, length, get_or, drop, map, Option, Some, None, option_map, option_and_then, refl, sym, ap, ◌∙◌, arith}
 use Rattle.std.proofs.lemmas.Bool.Decides.{nat_tests}
-use Rattle.std.proofs.lemmas.List.{drop_more}
+use Rattle.std.proofs.lemmas.List.{append_assoc, drop_more}
 use Rattle.serde_json.specs.Data.{Data}
 use Rattle.serde_json.specs.Find.{as_array}
 use Rattle.serde_json.specs.View.{view, items_view}
@@ -21,6 +21,19 @@ list_of-items_view (v ∷ vs) = ap (λ ds. view v ∷ ds) (list_of-items_view vs
 length-list_of : (vs : List Value) → length (list_of (items_view vs)) ≡ length vs
 length-list_of [] = refl
 length-list_of (v ∷ vs) = ap suc (length-list_of vs)
+
+-- ---- one element more is read
+
+joined : {B : Type 0} (done : List B) (y : B) (rest : Option (List B)) → option_map (λ more. done ++ more) (option_map (λ ys. y ∷ ys) rest) ≡ option_map (λ more. (done ++ y ∷ []) ++ more) rest
+joined done y None = refl
+joined done y (Some ys) = ap Some (sym (append_assoc done (y ∷ []) ys))
+
+pub read_one_more : {A B : Type 0} (f : A → Option B) (xs : List A) (i : ℕ) (x : A) (y : B) (done : List B) (whole : Option (List B)) → i < length xs → x ≡ get_or xs i x → f x ≡ Some y
+    → whole ≡ option_map (λ more. done ++ more) (every f (drop i xs)) → whole ≡ option_map (λ more. (done ++ y ∷ []) ++ more) (every f (drop (i + 1) xs))
+read_one_more f xs i x y done whole l at is e =
+    e ∙ ap (λ rest. option_map (λ more. done ++ more) (every f rest)) (drop_more xs i x l ∙ ap (λ z. z ∷ drop (i + 1) xs) (sym at))
+    ∙ ap (λ o. option_map (λ more. done ++ more) (option_and_then (λ z. option_map (λ ys. z ∷ ys) (every f (drop (i + 1) xs))) o)) is
+    ∙ joined done y (every f (drop (i + 1) xs))
 
 -- ---- lists of the wrong length are no pair and no operation
 

@@ -33,6 +33,22 @@ pub(crate) struct Parts {
     pub(crate) ops: Option<Vec<Op>>,
 }
 
+/// The lists of the line at hand, gathered in vectors that the next line uses again.
+#[derive(Drop)]
+pub(crate) struct Lists {
+    ids: Vec<Id>,
+    ops: Vec<Op>,
+}
+
+impl Lists {
+    pub(crate) fn new(alloc: Global) -> Lists {
+        Lists {
+            ids: Vec::new(alloc),
+            ops: Vec::new(alloc),
+        }
+    }
+}
+
 fn has_minus(bytes: &[u8]) -> bool
     ensures value { result ≡ (slice_index bytes.now 0 == 45) }
     ensures len { IsTrue result → 0 < length bytes.now }
@@ -108,22 +124,30 @@ fn take_id(reader: &mut Reader<'_>) -> Option<Id>
     })
 }
 
-fn take_ids(alloc: Global, reader: &mut Reader<'_>) -> Option<Vec<Id>>
+/// What was gathered, moved into a vector that has room for it and no more.
+fn moved<T: Drop>(alloc: Global, gathered: &mut Vec<T>) -> Option<Vec<T>>
+    ensures { IfSome result (λ v. v.items ≡ gathered.old.items) }
+{
+    let mut kept = Vec::with_capacity(alloc, gathered.len()).ok()?;
+    kept.append(gathered).ok()?;
+    Some(kept)
+}
+
+fn take_ids(alloc: Global, reader: &mut Reader<'_>, ids: &mut Vec<Id>) -> Option<Vec<Id>>
     ensures { IfSome result
         (λ ids. Gives 2 (each_of_at_most 256 id_of) reader.old ids.items reader.new) }
 {
     let Token::BeginArray = reader.next()? else {
         return None;
     };
-    let mut ids = Vec::new(alloc);
+    ids.clear();
     while !reader.take_end_array() {
         if ids.len() == MAX_DEPS {
             return None;
         }
         ids.push(take_id(reader)?).ok()?;
     }
-    ids.shrink_to_fit();
-    Some(ids)
+    moved(alloc, ids)
 }
 
 fn take_op(alloc: Global, reader: &mut Reader<'_>) -> Option<Op>
@@ -149,21 +173,20 @@ fn take_op(alloc: Global, reader: &mut Reader<'_>) -> Option<Op>
     Some(op_named_with(alloc, name, key, &value).ok()??)
 }
 
-fn take_ops(alloc: Global, reader: &mut Reader<'_>) -> Option<Vec<Op>>
+fn take_ops(alloc: Global, reader: &mut Reader<'_>, ops: &mut Vec<Op>) -> Option<Vec<Op>>
     ensures { IfSome result (λ ops. Gives 2 ops_of reader.old ops.items reader.new) }
 {
     let Token::BeginArray = reader.next()? else {
         return None;
     };
-    let mut ops = Vec::new(alloc);
+    ops.clear();
     while !reader.take_end_array() {
         if ops.len() == MAX_OPS {
             return None;
         }
         ops.push(take_op(alloc, reader)?).ok()?;
     }
-    ops.shrink_to_fit();
-    Some(ops)
+    moved(alloc, ops)
 }
 
 /// The status of a committed instance.
@@ -178,7 +201,13 @@ fn take_committed(reader: &mut Reader<'_>) -> Option<()>
 }
 
 /// The value of the member of this name.
-fn take_member(alloc: Global, name: &str, reader: &mut Reader<'_>, parts: &mut Parts) -> Option<()>
+fn take_member(
+    alloc: Global,
+    name: &str,
+    reader: &mut Reader<'_>,
+    lists: &mut Lists,
+    parts: &mut Parts,
+) -> Option<()>
     ensures { IfSome result (λ _. AddsMember name.now reader.old reader.new parts.old parts.new) }
 {
     if name == "r" {
@@ -188,9 +217,9 @@ fn take_member(alloc: Global, name: &str, reader: &mut Reader<'_>, parts: &mut P
     } else if name == "seq" {
         parts.seq = Some(read_number(&take_number(reader)?)?);
     } else if name == "deps" {
-        parts.named = Some(take_ids(alloc, reader)?);
+        parts.named = Some(take_ids(alloc, reader, &mut lists.ids)?);
     } else if name == "ops" {
-        parts.ops = Some(take_ops(alloc, reader)?);
+        parts.ops = Some(take_ops(alloc, reader, &mut lists.ops)?);
     } else if name == "status" {
         take_committed(reader)?;
     } else {
@@ -199,7 +228,7 @@ fn take_member(alloc: Global, name: &str, reader: &mut Reader<'_>, parts: &mut P
     Some(())
 }
 
-fn take_parts(alloc: Global, reader: &mut Reader<'_>) -> Option<Parts>
+fn take_parts(alloc: Global, reader: &mut Reader<'_>, lists: &mut Lists) -> Option<Parts>
     ensures { IfSome result (λ parts. (ms : Members)
         × BeginsWith 3 reader.old (object ms) reader.new × HoldsParts ms parts) }
 {
@@ -214,7 +243,7 @@ fn take_parts(alloc: Global, reader: &mut Reader<'_>) -> Option<Parts>
         ops: None,
     };
     while let Some(name) = reader.next_key().ok()? {
-        take_member(alloc, name, reader, &mut parts)?;
+        take_member(alloc, name, reader, lists, &mut parts)?;
     }
     Some(parts)
 }
@@ -239,13 +268,18 @@ fn entry_of(alloc: Global, parts: Parts) -> Option<Entry>
 }
 
 /// The entry of a line that holds one and nothing else.
-pub(crate) fn direct_entry(alloc: Global, scratch: &mut Scratch, bytes: &[u8]) -> Option<Entry>
+pub(crate) fn direct_entry(
+    alloc: Global,
+    scratch: &mut Scratch,
+    lists: &mut Lists,
+    bytes: &[u8],
+) -> Option<Entry>
     ensures { IfSome result
         (λ e. need NotJson (json_of bytes.now) meaning_of_value ≡ Ok (line.Entry e)) }
 {
     let text = str::from_utf8(bytes).ok()?;
     let mut reader = Reader::new(text, scratch).ok()?;
-    let parts = take_parts(alloc, &mut reader)?;
+    let parts = take_parts(alloc, &mut reader, lists)?;
     if reader.next().is_some() {
         return None;
     }

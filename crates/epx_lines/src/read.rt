@@ -9,7 +9,7 @@ ghost use Rattle.epx_lines.specs.OperationList.{ops_of};
 ghost use Rattle.epx_lines.specs.Faults.{IsFaultOf};
 
 use crate::deps::{read_deps, read_number, read_replica};
-use crate::direct::direct_entry;
+use crate::direct::{Lists, direct_entry};
 use crate::ops::read_ops;
 use crate::{Line, LineFault};
 use epx_types::{Entry, Id, Memory, Op, Why};
@@ -125,12 +125,14 @@ fn read_whole(alloc: Global, bytes: &[u8]) -> Result<Line, LineFault>
 #[derive(Drop)]
 pub struct LineReader {
     scratch: Scratch,
+    lists: Lists,
 }
 
 impl LineReader {
     pub fn new(alloc: Global) -> LineReader {
         LineReader {
             scratch: Scratch::new(alloc),
+            lists: Lists::new(alloc),
         }
     }
 
@@ -146,7 +148,7 @@ impl LineReader {
         if bytes.len() > MAX_LINE_BYTES {
             return Err(LineFault::Bad(Why::TooLong));
         }
-        if let Some(entry) = direct_entry(alloc, &mut self.scratch, bytes) {
+        if let Some(entry) = direct_entry(alloc, &mut self.scratch, &mut self.lists, bytes) {
             return Ok(Line::Entry(entry));
         }
         read_whole(alloc, bytes)

@@ -1,10 +1,11 @@
 //! The committed map.
-ghost use Rattle.std.specs.Prelude.{◌≡◌, ◌==◌, ◌<◌, length, option_copied, slice_get, Some};
+ghost use Rattle.std.specs.Prelude.{◌≡◌, ◌==◌, ◌<◌, IfSome, length, option_copied, slice_get, Some};
 ghost use Rattle.epx_types.specs.CommittedMap.{ids_of, instance_of, position_of};
 ghost use Rattle.epx_types.specs.Ids.{IsRising};
 ghost use Rattle.epx_merge.specs.Keyed.{IsKeyed, instances_of};
 
 use crate::placed::PlacedEntry;
+use crate::runs::Runs;
 use epx_types::{Entry, Id};
 use indexmap::IndexMap;
 use std::marker::Model;
@@ -13,6 +14,7 @@ use std::marker::Model;
 #[derive(Debug, Drop)]
 pub struct Merged {
     lines: IndexMap<Id, PlacedEntry>,
+    runs: Runs,
 }
 
 impl Model for Merged {
@@ -32,7 +34,21 @@ impl Merged {
         requires { IsKeyed lines.entries }
         ensures { result ≡ instances_of lines.entries }
     {
-        Merged { lines }
+        let runs = Runs::of(&lines);
+        Merged { lines, runs }
+    }
+
+    /// Where the instance stands, if it stands where its replica's instances would without gaps.
+    fn guessed(&self, id: Id) -> Option<usize>
+        ensures stands { IfSome result (λ position. position_of self.now id ≡ Some position) }
+        ensures rising { IfSome result (λ _. IsRising (ids_of self.now)) }
+    {
+        let position = self.runs.guess(id);
+        if position < self.len() && self.entry_at(position).id() == id {
+            Some(position)
+        } else {
+            None
+        }
     }
 
     /// How many instances are committed.
@@ -53,6 +69,9 @@ impl Merged {
     pub fn get(&self, id: Id) -> Option<&Entry>
         ensures { option_copied result ≡ instance_of self.now id }
     {
+        if let Some(position) = self.guessed(id) {
+            return Some(self.entry_at(position));
+        }
         match self.lines.get(&id) {
             Some(line) => Some(line.entry()),
             None => None,
@@ -63,6 +82,9 @@ impl Merged {
     pub fn position(&self, id: Id) -> Option<usize>
         ensures { result ≡ position_of self.now id }
     {
+        if let Some(position) = self.guessed(id) {
+            return Some(position);
+        }
         self.lines.get_index_of(&id)
     }
 

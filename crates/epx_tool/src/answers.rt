@@ -5,20 +5,20 @@ ghost use Rattle.epx_merge.specs.Limits.{max_instances};
 ghost use Rattle.epx_tool.specs.Answer.{Answers, IsAnswer};
 ghost use Rattle.epx_tool.specs.OrderText.{IsOrderText};
 ghost use Rattle.epx_tool.specs.LevelText.{IsLevelText};
-ghost use Rattle.epx_tool.specs.Report.{ops_of, IsReport};
+ghost use Rattle.epx_tool.specs.Report.{ops_of, report_text, IsReport};
 ghost use Rattle.epx_tool.specs.Views.{IsViewed};
 
 use crate::ask::Ask;
 use crate::report::{level_report, order_report, report};
 use epx_apply::{levels, run_order};
 use epx_claims::FreeGate;
-use epx_graph::{build, waiting};
+use epx_graph::{Waiter, build, waiting};
 use epx_merge::{Merged, read_logs};
-use epx_order::order;
+use epx_order::{OrderList, order};
 use epx_txn::Store;
-use epx_types::{Command, Fault, Id, Memory, Plan};
+use epx_types::{Command, Fault, Id, Memory, Plan, Reply};
 use std::alloc::Global;
-use std::thread::Threads;
+use std::thread::{Threads, join};
 
 /// The commands of these instances.
 fn commands<'a>(alloc: Global, merged: &'a Merged, ids: &[Id]) -> Result<Vec<Command<'a>>, Memory>
@@ -35,23 +35,53 @@ fn commands<'a>(alloc: Global, merged: &'a Merged, ids: &[Id]) -> Result<Vec<Com
     Ok(commands)
 }
 
+/// The report of a run. The map is not needed for it, and is freed at the same time by a thread of its own
+/// where there are several workers.
+fn report_alone<R: Threads + Sync>(
+    rt: &R,
+    alloc: Global,
+    plan: Plan,
+    merged: Merged,
+    order: &OrderList,
+    waiters: &[Waiter],
+    replies: &[Reply],
+    store: &Store,
+) -> Result<Vec<u8>, Memory>
+    ensures { IfOk result (λ text. text.items ≡ report_text order.now waiters.now (record { replies = replies.now; final = store.now })) }
+{
+    if plan.workers() == 1 {
+        drop(merged);
+        return report(alloc, order, waiters, replies, store);
+    }
+    let (_, text) = join(
+        rt,
+        move || drop(merged),
+        || -> Result<Vec<u8>, Memory>
+            ensures { IfOk result (λ text. text.items ≡ report_text order.entry.now waiters.entry.now (record { replies = replies.entry.now; final = store.entry.now })) }
+        { report(alloc, order, waiters, replies, store) },
+    );
+    text
+}
+
 /// The report of a committed map.
 fn report_of<R: Threads + Sync>(
     rt: &R,
     alloc: Global,
-    merged: &Merged,
+    merged: Merged,
     plan: Plan,
 ) -> Result<Vec<u8>, Memory>
-    requires few { length merged.now ≤ max_instances }
-    ensures { IfOk result (λ text. IsReport merged.now text.items) }
+    requires few { length merged ≤ max_instances }
+    ensures { IfOk result (λ text. IsReport merged text.items) }
 {
-    let graph = build(alloc, merged)?;
-    let order = order(rt, alloc, merged, &graph)?;
+    let graph = build(alloc, &merged)?;
+    let order = order(rt, alloc, &merged, &graph)?;
     let waiters = waiting(alloc, &graph)?;
-    let commands = commands(alloc, merged, order.ids())?;
+    drop(graph);
+    let commands = commands(alloc, &merged, order.ids())?;
     let mut store = Store::new(alloc);
     let replies = run_order(rt, alloc, &mut store, &commands, plan, &FreeGate)?;
-    report(alloc, &order, &waiters, &replies, &store)
+    drop(commands);
+    report_alone(rt, alloc, plan, merged, &order, &waiters, &replies, &store)
 }
 
 /// The execution order of a committed map, as text.
@@ -90,7 +120,7 @@ pub fn answer<R: Threads + Sync>(
         Ok(merged) => merged,
         Err(fault) => return Err(fault),
     };
-    Ok(report_of(rt, alloc, &merged, plan)?)
+    Ok(report_of(rt, alloc, merged, plan)?)
 }
 
 /// As `answer`, of logs that are freed once they are read.
@@ -108,7 +138,7 @@ pub(crate) fn answer_once<R: Threads + Sync>(
         Err(fault) => return Err(fault),
     };
     drop(logs);
-    let text = report_of(rt, alloc, &merged, plan)?;
+    let text = report_of(rt, alloc, merged, plan)?;
     Ok(text)
 }
 

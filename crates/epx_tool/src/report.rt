@@ -6,6 +6,7 @@ ghost use Rattle.json.specs.Token.{begin_array, end_array, string};
 ghost use Rattle.json.specs.Print.{print};
 ghost use Rattle.epx_tool.specs.LineTokens.{name_tokens, value_token, reply_tokens};
 ghost use Rattle.epx_tool.specs.ReportLines.{line_feed, line_of, header_line, reply_line, store_line, waiting_line};
+ghost use Rattle.epx_tool.specs.Report.{report_text};
 ghost use Rattle.epx_tool.specs.OrderText.{order_data, order_line, order_text};
 ghost use Rattle.epx_tool.specs.LevelText.{level_line, level_text};
 ghost use Rattle.epx_types.specs.ExecutionOrder.{component_count, ranked_ids};
@@ -17,30 +18,27 @@ use epx_txn::Store;
 use epx_types::{Id, Key, Memory, Reply};
 use json::Writer;
 use std::alloc::{AllocError, Global};
+use std::mem::replace;
 
 const LINE_FEED: u8 = 10;
 
-/// Most lines have no more bytes.
-const LINE_BYTES: usize = 128;
-
-/// The array of a line, up to its first element.
-fn begin_line(alloc: Global, name: &str) -> Result<Writer, AllocError>
+/// The array of a line behind a text, which is taken, up to its first element.
+fn begin_line(alloc: Global, text: &mut Vec<u8>, name: &str) -> Result<Writer, AllocError>
     ensures tokens { IfOk result (λ out. out.tokens ≡ begin_array ∷ string name.now ∷ []) }
-    ensures before { IfOk result (λ out. out.before ≡ []) }
+    ensures before { IfOk result (λ out. out.before ≡ text.old.items) }
 {
-    let mut out = Writer::new(Vec::with_capacity(alloc, LINE_BYTES)?);
+    let mut out = Writer::new(replace(text, Vec::new(alloc)));
     out.begin_array()?;
     out.string(name)?;
     Ok(out)
 }
 
-/// Text that grows by a line, whose array is ended.
+/// Gives the text back, with the line, whose array is ended.
 fn end_line(text: &mut Vec<u8>, mut out: Writer) -> Result<(), AllocError>
-    ensures { OnOk result (text.new.items ≡ text.old.items
-        ++ ((out.before ++ print (out.tokens ++ end_array ∷ [])) ++ line_feed ∷ [])) }
+    ensures { OnOk result (text.new.items ≡ (out.before ++ print (out.tokens ++ end_array ∷ [])) ++ line_feed ∷ []) }
 {
     out.end_array()?;
-    text.extend_from_slice(&out.into_inner())?;
+    *text = out.into_inner();
     text.push(LINE_FEED)?;
     Ok(())
 }
@@ -100,7 +98,7 @@ fn append_header(
 ) -> Result<(), AllocError>
     ensures { OnOk result (text.new.items ≡ text.old.items ++ header_line executed waiting components) }
 {
-    let mut out = begin_line(alloc, "executed")?;
+    let mut out = begin_line(alloc, text, "executed")?;
     out.u64(executed as u64)?;
     out.string("waiting")?;
     out.u64(waiting as u64)?;
@@ -112,7 +110,7 @@ fn append_header(
 fn append_reply(alloc: Global, text: &mut Vec<u8>, id: Id, reply: &Reply) -> Result<(), AllocError>
     ensures { OnOk result (text.new.items ≡ text.old.items ++ reply_line (id, reply.now)) }
 {
-    let mut out = begin_line(alloc, "reply")?;
+    let mut out = begin_line(alloc, text, "reply")?;
     write_name(&mut out, id)?;
     write_reply(&mut out, reply)?;
     end_line(text, out)
@@ -126,7 +124,7 @@ fn append_store_pair(
 ) -> Result<(), AllocError>
     ensures { OnOk result (text.new.items ≡ text.old.items ++ store_line (key.now, value.now)) }
 {
-    let mut out = begin_line(alloc, "store")?;
+    let mut out = begin_line(alloc, text, "store")?;
     out.string(key.text())?;
     out.i64(*value)?;
     end_line(text, out)
@@ -135,7 +133,7 @@ fn append_store_pair(
 fn append_waiter(alloc: Global, text: &mut Vec<u8>, waiter: Waiter) -> Result<(), AllocError>
     ensures { OnOk result (text.new.items ≡ text.old.items ++ waiting_line waiter) }
 {
-    let mut out = begin_line(alloc, "waiting")?;
+    let mut out = begin_line(alloc, text, "waiting")?;
     write_name(&mut out, waiter.id)?;
     write_name(&mut out, waiter.missing)?;
     end_line(text, out)
@@ -150,7 +148,7 @@ fn append_ranked(
 ) -> Result<(), AllocError>
     ensures { OnOk result (text.new.items ≡ text.old.items ++ line_of (order_data id depth leader)) }
 {
-    let mut out = begin_line(alloc, "order")?;
+    let mut out = begin_line(alloc, text, "order")?;
     write_name(&mut out, id)?;
     out.u64(depth as u64)?;
     write_name(&mut out, leader)?;
@@ -160,7 +158,7 @@ fn append_ranked(
 fn append_level(alloc: Global, text: &mut Vec<u8>, id: Id, level: usize) -> Result<(), AllocError>
     ensures { OnOk result (text.new.items ≡ text.old.items ++ level_line (id, level)) }
 {
-    let mut out = begin_line(alloc, "level")?;
+    let mut out = begin_line(alloc, text, "level")?;
     write_name(&mut out, id)?;
     out.u64(level as u64)?;
     end_line(text, out)
@@ -232,8 +230,7 @@ pub(crate) fn report(
     replies: &[Reply],
     store: &Store,
 ) -> Result<Vec<u8>, Memory>
-    ensures { IfOk result (λ text. text.items ≡ header_line (length order.now) (length waiters.now) (component_count order.now)
-        ++ (flat_map reply_line (zip (ranked_ids order.now) replies.now) ++ (flat_map waiting_line waiters.now ++ flat_map store_line (contents.entries store.now)))) }
+    ensures { IfOk result (λ text. text.items ≡ report_text order.now waiters.now (record { replies = replies.now; final = store.now })) }
 {
     let mut text = Vec::new(alloc);
     append_header(

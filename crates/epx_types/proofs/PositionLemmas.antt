@@ -9,8 +9,9 @@ use Rattle.std.proofs.lemmas.Option.{slice_get_within, slice_get-get_or}
 use Rattle.epx_types.specs.declared.id.Id.{Id}
 use Rattle.epx_types.specs.Ids.{id_cmp, Below, IsRising}
 use Rattle.epx_types.specs.Instances.{Instance}
-use Rattle.epx_types.specs.CommittedMap.{ids_of, position_of}
-use Rattle.epx_types.proofs.Places.{AllPairs-slice_get, slice_get-map}
+use Rattle.epx_types.specs.CommittedMap.{ids_of, instance_of, position_of}
+use Rattle.epx_types.proofs.AgreementLemmas.{instance_of_iff}
+use Rattle.epx_types.proofs.Places.{AllPairs-slice_get, Contains-slice_get, slice_get-map}
 use Rattle.epx_types.proofs.Rising.{AllPairs-from_IsRising}
 use Rattle.epx_types.proofs.TotalOrders.{below_itself}
 use Rattle.epx_types.proofs.Comparisons.{id_cmp_total, id_cmp-IsAntisymmetric}
@@ -56,3 +57,14 @@ position_of-found m rising x i e at is =
               absurd (below_itself id_cmp_total d.id (subst (Below d.id) (sym same) below))
           | inr other ↦ other
         ]
+
+-- within the committed instances
+pub position_of-within : (m : List Instance) (x : Id) (i : ℕ) → position_of m x ≡ Some i → i < length m
+position_of-within m x i found = let stands = position_of-stands m x i found in slice_get_within m i stands.0 stands.1
+
+-- where a look-up finds it
+pub instance_of-stands : (m : List Instance) → IsRising (ids_of m) → (x : Id) (i : ℕ) (e : Instance) → position_of m x ≡ Some i → slice_get m i ≡ Some e → instance_of m x ≡ Some e
+instance_of-stands m rising x i e found at =
+    let stands = position_of-stands m x i found in
+    let same : stands.0 ≡ e = cc (stands.1, at) in
+    (instance_of_iff m rising x e).1 (Contains-slice_get m i e at, sym (ap (λ (d : Instance). d.id) same) ∙ stands.2)

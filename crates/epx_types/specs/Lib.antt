@@ -1,5 +1,6 @@
 pub mod Keys
 pub mod KeyHeads
+pub mod KeyTexts
 pub mod Ids
 pub mod Instances
 pub mod Contents

@@ -1,8 +1,9 @@
 //! Keys of the store.
-ghost use Rattle.std.specs.Prelude.{◌≡◌, ◌<◌, ◌≤◌, length, slice_index_or, IfOk, IfSome, IfNone, IsSome, ◌↔◌, string_bytes};
+ghost use Rattle.std.specs.Prelude.{◌≡◌, ◌<◌, ◌≤◌, length, slice_index_or, IfOk, IfSome, IfNone, IsSome, ◌↔◌};
 ghost use Rattle.epx_types.specs.Keys.{FitsKey};
 ghost use Rattle.epx_types.specs.KeyHeads.{AreBytes, head_of};
 
+use crate::key_text::KeyText;
 use crate::memory::Memory;
 use std::alloc::Global;
 use std::cmp::Ordering;
@@ -16,19 +17,20 @@ pub const MAX_KEY_BYTES: usize = 64;
 pub struct Key {
     /// The first eight bytes as a number. It tells most keys apart without a look at their text.
     head: u64,
-    text: String,
+    text: KeyText,
 }
 
 impl Model for Key {
-    ghost use Rattle.std.specs.Prelude.{◌≡◌, List, ℕ, string_bytes};
+    ghost use Rattle.std.specs.Prelude.{◌≡◌, List, ℕ};
     ghost use Rattle.epx_types.specs.Keys.{FitsKey};
     ghost use Rattle.epx_types.specs.KeyHeads.{AreBytes, head_of};
+    ghost use Rattle.epx_types.specs.KeyTexts.{bytes_of};
 
     ghost Value = { List ℕ };
 
-    ghost view = { λ k. string_bytes k.text };
+    ghost view = { λ k. bytes_of k.text };
 
-    ghost invariant = { λ k. FitsKey (string_bytes k.text) × AreBytes (string_bytes k.text) × (k.head ≡ head_of (string_bytes k.text)) };
+    ghost invariant = { λ k. FitsKey (bytes_of k.text) × AreBytes (bytes_of k.text) × (k.head ≡ head_of (bytes_of k.text)) };
 }
 
 /// A byte of a text, or 0 past its end.
@@ -70,7 +72,7 @@ impl Key {
             return Ok(None);
         }
         let head = head_of(text);
-        let text = String::from_str(alloc, text)?;
+        let text = KeyText::new(alloc, text)?;
         Ok(Some(Key { head, text }))
     }
 
@@ -84,7 +86,7 @@ impl Key {
     pub fn copy(&self) -> Result<Key, Memory>
         ensures { IfOk result (λ k. k ≡ self.now) }
     {
-        let text = self.text.clone()?;
+        let text = self.text.copy()?;
         Ok(Key {
             head: self.head,
             text,
@@ -146,7 +148,7 @@ impl Ord for Key {
 
     fn cmp(&self, other: &Key) -> Ordering {
         if self.head == other.head {
-            self.text.cmp(&other.text)
+            self.text().cmp(other.text())
         } else {
             self.head.cmp(&other.head)
         }

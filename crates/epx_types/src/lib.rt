@@ -8,6 +8,7 @@ pub mod entry;
 pub mod fault;
 pub mod id;
 pub mod key;
+mod key_text;
 pub mod memory;
 pub mod op;
 pub mod place;

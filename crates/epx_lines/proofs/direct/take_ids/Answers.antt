@@ -1,4 +1,5 @@
 use Rattle.std.proofs.Common.{◌≡◌, [], ◌∷◌, ◌++◌, Some, arith}
+use Rattle.std.proofs.lemmas.Option.{IfSome_then}
 use Rattle.json.specs.Token.{Token}
 use Rattle.json.specs.Json.{after_end_array}
 use Rattle.json.specs.Reads.{token_of}
@@ -8,7 +9,7 @@ use Rattle.epx_lines.proofs.direct.take_ids.Goals as goal
 
 pub loop-ids-init : goal.loop-ids-init
 loop-ids-init c =
-    let none : c.new-ids.result.items ≡ [] = c.new-ids.ensures.items in
+    let none : c.clear.new.self.items ≡ [] = c.clear.ensures.items in
     record { taken = HasTaken-nothing 1 id_of c.next.new.self _ none; few = rw none (omega arith) }
 
 pub loop-ids-smaller : goal.loop-ids-smaller
@@ -32,5 +33,4 @@ returns c =
     let first : c.args.reader.now ≡ token_of c.in_ok-next.field-0 ∷ c.next.new.self = grind arith in
     let is : c.args.reader.now ≡ Token.begin_array ∷ c.next.new.self = grind (arith, first) in
     let end : after_end_array l.reader ≡ Some c.take_end_array.new.self = grind arith in
-    let kept : c.shrink_to_fit.new.self.items ≡ l.ids.items = c.shrink_to_fit.ensures.items in
-    rw (is, kept) (HasTaken-all 1 id_of c.next.new.self 256 l.ids.items l.reader c.take_end_array.new.self l.invariant.taken end l.invariant.few)
+    IfSome_then c.moved.result c.moved.ensures (λ v same. rw (is, same) (HasTaken-all 1 id_of c.next.new.self 256 l.ids.items l.reader c.take_end_array.new.self l.invariant.taken end l.invariant.few))

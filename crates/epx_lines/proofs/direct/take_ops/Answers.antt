@@ -1,4 +1,5 @@
 use Rattle.std.proofs.Common.{◌≡◌, [], ◌∷◌, ◌++◌, Some, arith}
+use Rattle.std.proofs.lemmas.Option.{IfSome_then}
 use Rattle.json.specs.Token.{Token}
 use Rattle.json.specs.Json.{after_end_array}
 use Rattle.json.specs.Reads.{token_of}
@@ -6,19 +7,19 @@ use Rattle.epx_lines.specs.OperationList.{op_of, ops_of}
 use Rattle.epx_lines.proofs.TokenValues.{Gives-shorter, HasTaken-nothing, HasTaken-more, HasTaken-all}
 use Rattle.epx_lines.proofs.direct.take_ops.Goals as goal
 
-pub loop-alloc-init : goal.loop-alloc-init
-loop-alloc-init c =
-    let none : c.new-ops.result.items ≡ [] = c.new-ops.ensures.items in
+pub loop-ops-init : goal.loop-ops-init
+loop-ops-init c =
+    let none : c.clear.new.self.items ≡ [] = c.clear.ensures.items in
     record { taken = HasTaken-nothing 1 op_of c.next.new.self _ none; few = rw none (omega arith) }
 
-pub loop-alloc-smaller : goal.loop-alloc-smaller
-loop-alloc-smaller c =
-    let same : c.take_end_array.new.self ≡ c.loop-alloc.reader = grind arith in
+pub loop-ops-smaller : goal.loop-ops-smaller
+loop-ops-smaller c =
+    let same : c.take_end_array.new.self ≡ c.loop-ops.reader = grind arith in
     rw (← same) (Gives-shorter 1 op_of c.take_end_array.new.self c.in_ok-take_op.field-0 c.take_op.new.reader c.in_ok-take_op.ensures)
 
-pub loop-alloc-preserved : goal.loop-alloc-preserved
-loop-alloc-preserved c =
-    let l = c.loop-alloc in
+pub loop-ops-preserved : goal.loop-ops-preserved
+loop-ops-preserved c =
+    let l = c.loop-ops in
     let same : c.take_end_array.new.self ≡ l.reader = grind arith in
     let pushed : c.push.new.self.items ≡ l.ops.items ++ c.in_ok-take_op.field-0 ∷ [] = grind arith in
     record {
@@ -29,9 +30,8 @@ loop-alloc-preserved c =
 pub returns : goal.returns
 unfolding ops_of
 returns c =
-    let l = c.loop-alloc in
+    let l = c.loop-ops in
     let first : c.args.reader.now ≡ token_of c.in_ok-next.field-0 ∷ c.next.new.self = grind arith in
     let is : c.args.reader.now ≡ Token.begin_array ∷ c.next.new.self = grind (arith, first) in
     let end : after_end_array l.reader ≡ Some c.take_end_array.new.self = grind arith in
-    let kept : c.shrink_to_fit.new.self.items ≡ l.ops.items = c.shrink_to_fit.ensures.items in
-    rw (is, kept) (HasTaken-all 1 op_of c.next.new.self 64 l.ops.items l.reader c.take_end_array.new.self l.invariant.taken end l.invariant.few)
+    IfSome_then c.moved.result c.moved.ensures (λ v same. rw (is, same) (HasTaken-all 1 op_of c.next.new.self 64 l.ops.items l.reader c.take_end_array.new.self l.invariant.taken end l.invariant.few))
