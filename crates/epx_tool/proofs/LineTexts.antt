@@ -1,5 +1,5 @@
 -- The text of a report's line is that of its tokens.
-use Rattle.std.proofs.Common.{◌≡◌, ℕ, ℤ, pos, negsuc, List, [], ◌∷◌, ◌++◌, map, codes, Option, Some, None, append_assoc, refl, sym, ap, ◌∙◌}
+use Rattle.std.proofs.Common.{◌≡◌, ℕ, ℤ, pos, negsuc, List, [], ◌∷◌, ◌++◌, map, codes, Option, Some, None, refl, sym, ap, ◌∙◌}
 use Rattle.json.specs.Token.{Token, begin_array, end_array, string}
 use Rattle.json.specs.Print.{print}
 use Rattle.json.specs.Tree.{json_tokens, items_tokens}
@@ -7,7 +7,7 @@ use Rattle.serde_json.specs.Data as value
 use Rattle.serde_json.specs.Data.{Data}
 use Rattle.serde_json.specs.Find.{of_integer}
 use Rattle.serde_json.specs.View.{items_of}
-use Rattle.serde_json.specs.Written.{compact_text, outline, items_outline}
+use Rattle.serde_json.specs.Written.{outline, items_outline}
 use Rattle.serde_json.proofs.Texts.{print-outline}
 use Rattle.epx_types.specs.declared.id.Id.{Id}
 use Rattle.epx_types.specs.declared.reply.Reply.{Reply}
@@ -19,13 +19,12 @@ use Rattle.epx_tool.specs.ReportLines.{line_feed, array_of, line_of, reply_data,
 abbrev pub tokens_of : Data → List Token
 tokens_of d = json_tokens (outline d)
 
--- the line of an array whose tokens, but for the last, are written behind a text
-pub line_written : (ds : List Data) (ts now : List Token) (text before whole : List ℕ) → now ≡ ts → before ≡ text → tokens_of (array_of ds) ≡ ts ++ end_array ∷ []
-    → whole ≡ (before ++ print (now ++ end_array ∷ [])) ++ line_feed ∷ [] → whole ≡ text ++ line_of ds
-line_written ds ts now text before whole same behind is e =
-    e ∙ ap (λ b. (b ++ print (now ++ end_array ∷ [])) ++ line_feed ∷ []) behind ∙ ap (λ us. (text ++ print (us ++ end_array ∷ [])) ++ line_feed ∷ []) same
-    ∙ ap (λ all. (text ++ print all) ++ line_feed ∷ []) (sym is) ∙ ap (λ t. (text ++ t) ++ line_feed ∷ []) (print-outline (array_of ds))
-    ∙ append_assoc text (compact_text (array_of ds)) (line_feed ∷ [])
+-- the line of an array whose tokens, but for the last, are written
+pub line_written : (ds : List Data) (ts now : List Token) (text before whole : List ℕ) → now ≡ ts → before ≡ [] → tokens_of (array_of ds) ≡ ts ++ end_array ∷ []
+    → whole ≡ text ++ ((before ++ print (now ++ end_array ∷ [])) ++ line_feed ∷ []) → whole ≡ text ++ line_of ds
+line_written ds ts now text before whole same none is e =
+    e ∙ ap (λ b. text ++ ((b ++ print (now ++ end_array ∷ [])) ++ line_feed ∷ [])) none ∙ ap (λ us. text ++ (print (us ++ end_array ∷ []) ++ line_feed ∷ [])) same
+    ∙ ap (λ all. text ++ (print all ++ line_feed ∷ [])) (sym is) ∙ ap (λ t. text ++ (t ++ line_feed ∷ [])) (print-outline (array_of ds))
 
 integer_tokens : (v : ℤ) → tokens_of (value.number (of_integer v)) ≡ value_token (Some v) ∷ []
 integer_tokens (pos n) = refl

@@ -22,23 +22,27 @@ use std::mem::replace;
 
 const LINE_FEED: u8 = 10;
 
-/// The array of a line behind a text, which is taken, up to its first element.
-fn begin_line(alloc: Global, text: &mut Vec<u8>, name: &str) -> Result<Writer, AllocError>
+/// The array of a line, up to its first element. It is written where the last line was, and not at once behind the
+/// text, since a writer first clears the room that its text has left.
+fn begin_line(alloc: Global, line: &mut Vec<u8>, name: &str) -> Result<Writer, AllocError>
     ensures tokens { IfOk result (λ out. out.tokens ≡ begin_array ∷ string name.now ∷ []) }
-    ensures before { IfOk result (λ out. out.before ≡ text.old.items) }
+    ensures before { IfOk result (λ out. out.before ≡ []) }
 {
-    let mut out = Writer::new(replace(text, Vec::new(alloc)));
+    line.clear();
+    let mut out = Writer::new(replace(line, Vec::new(alloc)));
     out.begin_array()?;
     out.string(name)?;
     Ok(out)
 }
 
-/// Gives the text back, with the line, whose array is ended.
-fn end_line(text: &mut Vec<u8>, mut out: Writer) -> Result<(), AllocError>
-    ensures { OnOk result (text.new.items ≡ (out.before ++ print (out.tokens ++ end_array ∷ [])) ++ line_feed ∷ []) }
+/// Text that grows by a line, whose array is ended.
+fn end_line(text: &mut Vec<u8>, line: &mut Vec<u8>, mut out: Writer) -> Result<(), AllocError>
+    ensures { OnOk result (text.new.items ≡ text.old.items
+        ++ ((out.before ++ print (out.tokens ++ end_array ∷ [])) ++ line_feed ∷ [])) }
 {
     out.end_array()?;
-    *text = out.into_inner();
+    *line = out.into_inner();
+    text.extend_from_slice(line)?;
     text.push(LINE_FEED)?;
     Ok(())
 }
@@ -98,70 +102,90 @@ fn append_header(
 ) -> Result<(), AllocError>
     ensures { OnOk result (text.new.items ≡ text.old.items ++ header_line executed waiting components) }
 {
-    let mut out = begin_line(alloc, text, "executed")?;
+    let line = &mut Vec::new(alloc);
+    let mut out = begin_line(alloc, line, "executed")?;
     out.u64(executed as u64)?;
     out.string("waiting")?;
     out.u64(waiting as u64)?;
     out.string("components")?;
     out.u64(components as u64)?;
-    end_line(text, out)
+    end_line(text, line, out)
 }
 
-fn append_reply(alloc: Global, text: &mut Vec<u8>, id: Id, reply: &Reply) -> Result<(), AllocError>
+fn append_reply(
+    alloc: Global,
+    text: &mut Vec<u8>,
+    line: &mut Vec<u8>,
+    id: Id,
+    reply: &Reply,
+) -> Result<(), AllocError>
     ensures { OnOk result (text.new.items ≡ text.old.items ++ reply_line (id, reply.now)) }
 {
-    let mut out = begin_line(alloc, text, "reply")?;
+    let mut out = begin_line(alloc, line, "reply")?;
     write_name(&mut out, id)?;
     write_reply(&mut out, reply)?;
-    end_line(text, out)
+    end_line(text, line, out)
 }
 
 fn append_store_pair(
     alloc: Global,
     text: &mut Vec<u8>,
+    line: &mut Vec<u8>,
     key: &Key,
     value: &i64,
 ) -> Result<(), AllocError>
     ensures { OnOk result (text.new.items ≡ text.old.items ++ store_line (key.now, value.now)) }
 {
-    let mut out = begin_line(alloc, text, "store")?;
+    let mut out = begin_line(alloc, line, "store")?;
     out.string(key.text())?;
     out.i64(*value)?;
-    end_line(text, out)
+    end_line(text, line, out)
 }
 
-fn append_waiter(alloc: Global, text: &mut Vec<u8>, waiter: Waiter) -> Result<(), AllocError>
+fn append_waiter(
+    alloc: Global,
+    text: &mut Vec<u8>,
+    line: &mut Vec<u8>,
+    waiter: Waiter,
+) -> Result<(), AllocError>
     ensures { OnOk result (text.new.items ≡ text.old.items ++ waiting_line waiter) }
 {
-    let mut out = begin_line(alloc, text, "waiting")?;
+    let mut out = begin_line(alloc, line, "waiting")?;
     write_name(&mut out, waiter.id)?;
     write_name(&mut out, waiter.missing)?;
-    end_line(text, out)
+    end_line(text, line, out)
 }
 
 fn append_ranked(
     alloc: Global,
     text: &mut Vec<u8>,
+    line: &mut Vec<u8>,
     id: Id,
     depth: usize,
     leader: Id,
 ) -> Result<(), AllocError>
     ensures { OnOk result (text.new.items ≡ text.old.items ++ line_of (order_data id depth leader)) }
 {
-    let mut out = begin_line(alloc, text, "order")?;
+    let mut out = begin_line(alloc, line, "order")?;
     write_name(&mut out, id)?;
     out.u64(depth as u64)?;
     write_name(&mut out, leader)?;
-    end_line(text, out)
+    end_line(text, line, out)
 }
 
-fn append_level(alloc: Global, text: &mut Vec<u8>, id: Id, level: usize) -> Result<(), AllocError>
+fn append_level(
+    alloc: Global,
+    text: &mut Vec<u8>,
+    line: &mut Vec<u8>,
+    id: Id,
+    level: usize,
+) -> Result<(), AllocError>
     ensures { OnOk result (text.new.items ≡ text.old.items ++ level_line (id, level)) }
 {
-    let mut out = begin_line(alloc, text, "level")?;
+    let mut out = begin_line(alloc, line, "level")?;
     write_name(&mut out, id)?;
     out.u64(level as u64)?;
-    end_line(text, out)
+    end_line(text, line, out)
 }
 
 fn append_replies(
@@ -172,8 +196,9 @@ fn append_replies(
 ) -> Result<(), AllocError>
     ensures { OnOk result (text.new.items ≡ text.old.items ++ flat_map reply_line (zip ids.now replies.now)) }
 {
+    let mut line = Vec::new(alloc);
     for (id, reply) in ids.iter().zip(replies) {
-        append_reply(alloc, text, *id, reply)?;
+        append_reply(alloc, text, &mut line, *id, reply)?;
     }
     Ok(())
 }
@@ -181,8 +206,9 @@ fn append_replies(
 fn append_store(alloc: Global, text: &mut Vec<u8>, store: &Store) -> Result<(), Memory>
     ensures { OnOk result (text.new.items ≡ text.old.items ++ flat_map store_line (contents.entries store.now)) }
 {
+    let mut line = Vec::new(alloc);
     for (key, value) in &store.pairs()? {
-        append_store_pair(alloc, text, key, value)?;
+        append_store_pair(alloc, text, &mut line, key, value)?;
     }
     Ok(())
 }
@@ -190,8 +216,9 @@ fn append_store(alloc: Global, text: &mut Vec<u8>, store: &Store) -> Result<(), 
 fn append_waiting(alloc: Global, text: &mut Vec<u8>, waiters: &[Waiter]) -> Result<(), AllocError>
     ensures { OnOk result (text.new.items ≡ text.old.items ++ flat_map waiting_line waiters.now) }
 {
+    let mut line = Vec::new(alloc);
     for waiter in waiters {
-        append_waiter(alloc, text, *waiter)?;
+        append_waiter(alloc, text, &mut line, *waiter)?;
     }
     Ok(())
 }
@@ -199,9 +226,10 @@ fn append_waiting(alloc: Global, text: &mut Vec<u8>, waiters: &[Waiter]) -> Resu
 fn append_order(alloc: Global, text: &mut Vec<u8>, order: &OrderList) -> Result<(), AllocError>
     ensures { OnOk result (text.new.items ≡ text.old.items ++ flat_map order_line order.now) }
 {
+    let mut line = Vec::new(alloc);
     for (place, id) in order.ids().iter().enumerate() {
         let leader = order.component_of(place);
-        append_ranked(alloc, text, *id, order.depth_of(place), leader)?;
+        append_ranked(alloc, text, &mut line, *id, order.depth_of(place), leader)?;
     }
     Ok(())
 }
@@ -215,8 +243,9 @@ fn append_levels(
     requires { length levels.now ≡ length ids.now }
     ensures { OnOk result (text.new.items ≡ text.old.items ++ flat_map level_line (zip ids.now levels.now)) }
 {
+    let mut line = Vec::new(alloc);
     for (place, id) in ids.iter().enumerate() {
-        append_level(alloc, text, *id, levels.level_of(place))?;
+        append_level(alloc, text, &mut line, *id, levels.level_of(place))?;
     }
     Ok(())
 }

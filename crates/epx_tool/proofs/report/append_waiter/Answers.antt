@@ -1,4 +1,4 @@
-use Rattle.std.proofs.Common.{◌≡◌, ◌∷◌, ◌++◌, codes, refl, arith}
+use Rattle.std.proofs.Common.{◌≡◌, [], ◌∷◌, ◌++◌, codes, refl, arith}
 use Rattle.std.proofs.lemmas.Grind.{common_steps}
 use Rattle.std.proofs.lemmas.Result.{on_ok_weaker}
 use Rattle.json.specs.Token.{begin_array, string}
@@ -12,5 +12,5 @@ returns c =
     let last = c.write_name-2.new.out in
     let ts = begin_array ∷ string (codes "waiting") ∷ (name_tokens c.args.waiter.id ++ name_tokens c.args.waiter.missing) in
     let same : last.tokens ≡ ts = grind (arith, common_steps) in
-    let kept : last.before ≡ c.args.text.now.items = grind arith in
+    let kept : last.before ≡ [] = grind arith in
     on_ok_weaker c.end_line.result (λ e. line_written (waiting_data c.args.waiter) ts last.tokens c.args.text.now.items last.before c.end_line.new.text.items same kept (refl) e) c.end_line.ensures
