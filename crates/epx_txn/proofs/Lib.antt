@@ -11,3 +11,4 @@ pub mod ShardLookups
 pub mod ShardWrites
 pub mod ListedOnce
 pub mod Routing
+pub mod Tournaments

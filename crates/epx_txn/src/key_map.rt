@@ -88,16 +88,15 @@ impl<V: Copy> KeyMap<V> {
         Ok(made)
     }
 
-    /// Lists the keys with their values, by rising key.
-    pub(crate) fn list<'a>(&'a self, pairs: &mut Vec<(&'a Key, V)>) -> Result<(), Memory>
-        ensures { OnOk result
-            (map (λ p. (p.0.now, p.1)) pairs.new.items ≡
-            map (λ p. (p.0.now, p.1)) pairs.old.items ++ contents.entries self.now) }
+    /// The keys with their values, by rising key.
+    pub(crate) fn list(&self) -> Result<Vec<(&Key, V)>, Memory>
+        ensures { IfOk result (λ v. map (λ p. (p.0.now, p.1)) v.items ≡ contents.entries self.now) }
     {
+        let mut pairs = Vec::with_capacity(self.alloc, self.map.len())?;
         for (key, value) in &self.map {
             pairs.push((key, *value))?;
         }
-        Ok(())
+        Ok(pairs)
     }
 
     /// The keys, moved out, with their values, by rising key.

@@ -11,6 +11,7 @@ pub mod merge;
 mod routes;
 mod shards;
 pub mod store;
+mod tournament;
 
 pub use effect::{Effect, Writes};
 pub use evaluation::{apply, eval};

@@ -1,9 +1,10 @@
 //! The shards of a store.
-ghost use Rattle.std.specs.Prelude.{◌≡◌, All, IfOk};
+ghost use Rattle.std.specs.Prelude.{◌≡◌, All, IfOk, map};
 ghost use Rattle.std.specs.FinMap as contents;
 ghost use Rattle.epx_txn.specs.Shards.{shard_of};
 
 use crate::key_map::KeyMap;
+use crate::tournament::Pairs;
 use epx_types::{Key, Memory};
 use std::alloc::Global;
 use std::array;
@@ -40,4 +41,20 @@ pub(crate) fn copy_shards(
         copy[number] = shards[number].copy()?;
     }
     Ok(copy)
+}
+
+/// Of each shard the keys with their values, by rising key.
+pub(crate) fn list_shards<'a>(
+    alloc: Global,
+    shards: &'a [KeyMap<i64>; SHARDS],
+) -> Result<[Pairs<'a>; SHARDS], Memory>
+    ensures { IfOk result
+        (λ lists. map (λ l. map (λ p. (p.0.now, p.1)) l.items) lists ≡
+        map contents.entries shards.now) }
+{
+    let mut lists = array::from_fn(|_| Vec::new(alloc));
+    for number in 0..SHARDS {
+        lists[number] = shards[number].list()?;
+    }
+    Ok(lists)
 }

@@ -7,7 +7,8 @@ ghost use Rattle.epx_types.specs.Writes.{put_all};
 use crate::effect::Effect;
 use crate::key_map::KeyMap;
 use crate::routes::{put_routes, sort_by_shard};
-use crate::shards::{SHARDS, copy_shards, empty_shards, shard_of};
+use crate::shards::{SHARDS, copy_shards, empty_shards, list_shards, shard_of};
+use crate::tournament::merge;
 use epx_types::{Key, Memory};
 use std::alloc::Global;
 use std::marker::Model;
@@ -112,10 +113,9 @@ impl Store {
     pub fn pairs(&self) -> Result<Vec<(&Key, i64)>, Memory>
         ensures { IfOk result (λ v. map (λ p. (p.0.now, p.1)) v.items ≡ contents.entries self.now) }
     {
-        let mut pairs = Vec::new(self.alloc);
-        for shard in &self.shards {
-            shard.list(&mut pairs)?;
-        }
+        let lists = list_shards(self.alloc, &self.shards)?;
+        let mut pairs = merge(self.alloc, lists)?;
+        // They fall already, so this only looks them through, and turns them round.
         pairs.sort()?;
         Ok(pairs)
     }

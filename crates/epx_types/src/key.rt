@@ -83,6 +83,14 @@ impl Key {
         self.text.as_str()
     }
 
+    /// The first eight bytes as a number, with 0 past the end. Where two keys differ in it, it orders
+    /// them as their bytes do.
+    pub fn head(&self) -> u64
+        ensures { result ≡ head_of self.now }
+    {
+        self.head
+    }
+
     pub fn copy(&self) -> Result<Key, Memory>
         ensures { IfOk result (λ k. k ≡ self.now) }
     {
