@@ -8,20 +8,21 @@ use crate::walk::LineWalk;
 use epx_types::{Memory, Plan};
 use std::alloc::Global;
 
-/// So many lines are laid before they are read, where pieces are small, so that threads are not started for few.
-const LEAST_AT_ONCE: usize = 4_096;
+/// So many lines are laid for each worker before they are read, where pieces are small, so that threads are not
+/// started for few.
+const LEAST_EACH: usize = 4_096;
 
 /// No more lines than four pieces of the greatest cut are laid before they are read. So what is laid takes no
 /// more room where logs are longer.
 const MOST_AT_ONCE: usize = 262_144;
 
-/// How many lines are laid before they are read: four pieces a worker, within the bounds.
+/// How many lines are laid before they are read: for each worker four pieces, within the bounds.
 fn lines_at_once(plan: Plan) -> usize
     ensures some { 0 < result }
     ensures few { result ≤ 262144 }
 {
-    let wanted = 4 * plan.workers() * plan.cut();
-    wanted.max(LEAST_AT_ONCE).min(MOST_AT_ONCE)
+    let each = (4 * plan.cut()).max(LEAST_EACH);
+    (plan.workers() * each).min(MOST_AT_ONCE)
 }
 
 /// Whether a line tells nothing: it is blank, or repeats one that the table holds.

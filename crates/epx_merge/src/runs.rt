@@ -20,12 +20,18 @@ pub(crate) struct Runs {
 
 impl Runs {
     pub(crate) fn of(lines: &IndexMap<Id, PlacedEntry>) -> Runs {
-        let mut firsts = [First { number: 0, position: u64::MAX }; 256];
+        let mut firsts = [First {
+            number: 0,
+            position: u64::MAX,
+        }; 256];
         let mut replica = None;
         for (position, id) in lines.keys().enumerate() {
             if replica != Some(id.replica) {
                 replica = Some(id.replica);
-                firsts[id.replica as usize] = First { number: id.number, position: position as u64 };
+                firsts[id.replica as usize] = First {
+                    number: id.number,
+                    position: position as u64,
+                };
             }
         }
         Runs { firsts }

@@ -1,5 +1,5 @@
 -- Entries among which no key stands twice, in whatever order.
-use Rattle.std.proofs.Common.{◌≡◌, ◌≢◌, ℕ, zero, suc, ◌+◌, ◌≤◌, ℤ, cond, Bool, true, false, T, List, [], ◌∷◌, ◌++◌, length, length-append, map, flat_map, get_or, drop, append-nil, sum_by, Contains, Option, Some, None, is_some, is_eq, is_lt, refl, sym, ap, ap₂, subst, ◌∙◌, inl, inr, arith, IsPermutation}
+use Rattle.std.proofs.Common.{◌≡◌, ◌≢◌, ℕ, zero, suc, ◌+◌, ◌≤◌, ℤ, cond, Bool, true, false, T, List, [], ◌∷◌, ◌++◌, length, length-append, map, flat_map, get_or, drop, sum_by, Contains, Option, Some, None, is_some, is_eq, is_lt, refl, sym, ap, ap₂, subst, ◌∙◌, inl, inr, arith, IsPermutation}
 use Rattle.std.specs.Ordering.{eq_by_cmp, ordering_then, ordering_reverse, int_cmp}
 use Rattle.std.specs.declared.cmp.Ordering.TheVariants.{Less, Equal, Greater}
 use Rattle.std.specs.List.Sorted.{IsSortedBy}

@@ -115,7 +115,7 @@ impl Store {
     {
         let lists = list_shards(self.alloc, &self.shards)?;
         let mut pairs = merge(self.alloc, lists)?;
-        // They fall already, so this only looks them through, and turns them round.
+        // They rise already, so this only looks them through.
         pairs.sort()?;
         Ok(pairs)
     }
