@@ -11,4 +11,5 @@ pub mod ShardLookups
 pub mod ShardWrites
 pub mod ListedOnce
 pub mod Routing
+pub mod HeadsRise
 pub mod Tournaments

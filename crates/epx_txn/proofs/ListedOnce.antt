@@ -4,7 +4,7 @@ use Rattle.std.specs.Ordering.{eq_by_cmp, ordering_then, ordering_reverse, int_c
 use Rattle.std.specs.declared.cmp.Ordering.TheVariants.{Less, Equal, Greater}
 use Rattle.std.specs.List.Sorted.{IsSortedBy}
 use Rattle.std.specs.Cmp.{tied_itself}
-use Rattle.std.proofs.lemmas.List.Sorted.{IsPermutation-sym, IsPermutation-trans, IsPermutation-map, Contains-permutation, sum_by-IsPermutation}
+use Rattle.std.proofs.lemmas.List.Sorted.{IsPermutation-sym, IsPermutation-map, Contains-permutation, sum_by-IsPermutation}
 use Rattle.std.proofs.lemmas.List.{drop_all, map-append}
 use Rattle.std.proofs.lemmas.List.Sums.{sum_by-cons}
 use Rattle.std.specs.FinMap as contents
@@ -211,13 +211,13 @@ module _ {A : Type 0} (key : A → List ℕ) (value : A → ℤ) where
       let below = next_below x y (map shown xs) (h 0 x (omega arith) (omega arith)) once in
       both_of _ _ (both_of _ _ (subst T (sym (ap is_lt below)) tt) (below_all_trans (key x) (key y) (map shown xs) below (first_of _ _ rest))) rest
 
-  -- the entries of all shards, once all were listed, moved, and then sorted, are those of the whole
-  pub entries-sorted : (shards : List Contents) (c : Contents) (xs zs ys : List A) → AreShards shards → whole shards ≡ c → map shown xs ≡ flat_map contents.entries shards → IsPermutation xs zs → IsPermutation zs ys → IsSortedBy lower ys → map shown ys ≡ contents.entries c
-  entries-sorted shards c xs zs ys h is listed moved turned sorted =
+  -- the entries of all shards, once all were listed and moved, are those of the whole where they rise
+  pub entries-rising : (shards : List Contents) (c : Contents) (xs ys : List A) → AreShards shards → whole shards ≡ c → map shown xs ≡ flat_map contents.entries shards → IsPermutation xs ys → (StandOnce (map shown ys) → T (is_sorted key_cmp (map shown ys))) → map shown ys ≡ contents.entries c
+  entries-rising shards c xs ys h is listed moved rises =
       let all : Entries = flat_map contents.entries shards in
-      let placed : IsPermutation all (map shown ys) = subst (λ es. IsPermutation es (map shown ys)) listed (IsPermutation-map shown xs ys (IsPermutation-trans xs zs ys moved turned)) in
+      let placed : IsPermutation all (map shown ys) = subst (λ es. IsPermutation es (map shown ys)) listed (IsPermutation-map shown xs ys moved) in
       let once : StandOnce all = StandOnce-shards shards h in
-      entries-moved all (map shown ys) placed once (rises-sorted ys sorted (StandOnce-moved all (map shown ys) placed once)) c is
+      entries-moved all (map shown ys) placed once (rises (StandOnce-moved all (map shown ys) placed once)) c is
 
   -- the entries of each shard, listed, are those of all
   pub entries-listed : {B : Type 0} (items : B → List A) (ls : List B) (shards : List Contents) → map (λ l. map shown (items l)) ls ≡ map contents.entries shards → map shown (flat_map items ls) ≡ flat_map contents.entries shards

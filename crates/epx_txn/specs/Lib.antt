@@ -2,3 +2,4 @@ pub mod Drafts
 pub mod Places
 pub mod Shards
 pub mod Routes
+pub mod Rises

@@ -86,7 +86,8 @@ impl Key {
     /// The first eight bytes as a number, with 0 past the end. Where two keys differ in it, it orders
     /// them as their bytes do.
     pub fn head(&self) -> u64
-        ensures { result ≡ head_of self.now }
+        ensures head { result ≡ head_of self.now }
+        ensures bytes { AreBytes self.now }
     {
         self.head
     }
