@@ -1,10 +1,11 @@
 -- What a ledger tells of its lines, once its keys are sorted.
-use Rattle.std.proofs.Common.{◌≡◌, inl, inr, List, [], ◌∷◌, Contains, Some, None, slice_get, IsPermutation, refl, sym, subst, ◌∙◌}
+use Rattle.std.proofs.Common.{◌≡◌, inl, inr, List, [], ◌∷◌, map, Contains, Some, None, slice_get, IsPermutation, refl, sym, subst, ◌∙◌}
 use Rattle.std.specs.List.{IsDistinct}
 use Rattle.std.specs.List.Sorted.{IsSorted}
 use Rattle.std.proofs.lemmas.List.Sorted.{IsPermutation-sym, Contains-permutation}
 use Rattle.epx_types.specs.declared.id.Id.{Id}
 use Rattle.epx_types.specs.Ids.{id_cmp, UpTo, IsRising}
+use Rattle.epx_types.specs.Instances.{Instance}
 use Rattle.epx_types.specs.PlacedLines.{Placed}
 use Rattle.epx_types.specs.Agreement.{Agree, Differ}
 use Rattle.epx_types.specs.CommittedMap.{ids_of, IsCommittedBy}
@@ -13,27 +14,22 @@ use Rattle.epx_types.proofs.Waiting.{Contains-Id_cases}
 use Rattle.epx_merge.specs.declared.ledger.Clash.{Clash}
 use Rattle.epx_merge.specs.Refusals.{AreNamedBy, IsDisagreementAt}
 use Rattle.epx_merge.specs.Ledgers.{Noted, Names, IsLedgerOf}
-use Rattle.epx_merge.specs.Keyed.{instances_of, StandUnderTheirNames, IsKeyed}
 use Rattle.epx_merge.specs.LineOrder.{InPlaceOrder}
 use Rattle.epx_merge.proofs.FirstWhere.{IsFirstWhere-contains, IsFirstWhere-holds, IsFirstWhere-earliest}
 use Rattle.epx_merge.proofs.Noting.{keys, key_of_entry}
 use Rattle.epx_merge.proofs.NotedKeys.{same_id}
 use Rattle.epx_merge.proofs.SortedKeys.{rising_from_sorted, first_is_least}
 
--- each line stands under the name of its instance
-keys-named : (firsts : List (Id × Placed)) → StandUnderTheirNames firsts → keys firsts ≡ ids_of (instances_of firsts)
+abbrev pub instances_of : List (Id × Placed) → List Instance
+instances_of es = map (λ e. e.1.instance) es
+
+-- the names, where each line stands under the name of its instance
+keys-named : (firsts : List (Id × Placed)) → ((x : Id) (p : Placed) → Contains firsts (x, p) → p.instance.id ≡ x) → keys firsts ≡ ids_of (instances_of firsts)
 keys-named [] named = refl
 keys-named (e ∷ es) named =
     let first : e.0 ≡ e.1.instance.id = sym (named e.0 e.1 (Contains-head e es)) in
     let rest = keys-named es (λ x p h. named x p (Contains-cons e es (x, p) h)) in
     λ i. first i ∷ rest i
-
--- the same lines, sorted
-pub IsKeyed-sorted : (before firsts : List (Id × Placed)) → StandUnderTheirNames before → IsPermutation before firsts → IsSorted id_cmp (keys firsts) → IsDistinct same_id (keys firsts) → IsKeyed firsts
-IsKeyed-sorted before firsts named moved sorted distinct = record {
-  named = keys-named firsts (λ x p h. named x p (Contains-permutation firsts before (x, p) (IsPermutation-sym before firsts moved) h));
-  rising = rising_from_sorted (keys firsts) sorted distinct;
-}
 
 module _ (lines : List Placed) (noted : Noted) (ledger : IsLedgerOf lines noted) where
   -- the first line of each noted instance
@@ -71,9 +67,6 @@ module _ (lines : List Placed) (noted : Noted) (ledger : IsLedgerOf lines noted)
     there : (x : Id) (p : Placed) → Contains noted.firsts (x, p) → Contains firsts (x, p)
     there x p h = Contains-permutation noted.firsts firsts (x, p) moved h
 
-    keyed : IsKeyed firsts
-    keyed = IsKeyed-sorted noted.firsts firsts first_named moved sorted distinct
-
     -- the keys are the distinct instances of the lines
     pub AreNamedBy-sorted : AreNamedBy lines (keys firsts)
     AreNamedBy-sorted = record {
@@ -88,7 +81,7 @@ module _ (lines : List Placed) (noted : Noted) (ledger : IsLedgerOf lines noted)
     -- where the lines agree, their first lines are what they commit
     pub IsCommittedBy-sorted : Agree lines → IsCommittedBy lines (instances_of firsts)
     IsCommittedBy-sorted agree = record {
-      rising = subst IsRising keyed.named keyed.rising;
+      rising = subst IsRising (keys-named firsts (λ x p h. first_named x p (back x p h))) (rising_from_sorted (keys firsts) sorted distinct);
       given = λ e h.
           let d = Contains-from_map (λ (f : Id × Placed). f.1.instance) firsts e h in
           (d.0.1, first_line d.0.0 d.0.1 (back d.0.0 d.0.1 d.1), d.2);

@@ -7,11 +7,13 @@ mod KeptLines
 mod LaidLines
 mod HeldLines
 mod NotedKeys
+mod RowLines
 mod SortedKeys
 mod Closing
+mod MovedRows
+mod KeyedRows
 pub mod PlaceOrder
 pub mod ReadLines
-mod Lookups
 mod Answered
 pub mod OneRefusal
 pub mod Existence

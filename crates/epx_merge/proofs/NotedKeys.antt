@@ -1,16 +1,20 @@
 -- Ledgers as the maps hold them: look-ups tell what was noted.
-use Rattle.std.proofs.Common.{◌≡◌, ◌≢◌, inl, inr, Bool, true, false, List, [], ◌∷◌, ◌++◌, Contains, Option, None, Some, is_some, refl, sym, ap, subst, ◌∙◌}
+use Rattle.std.proofs.Common.{◌≡◌, ◌≢◌, inl, inr, ℕ, Bool, true, false, not, List, [], ◌∷◌, ◌++◌, map, get_or, slice_get, Contains, Option, None, Some, is_some, refl, sym, ap, subst, subst₂, ◌∙◌, arith}
 use Rattle.std.specs.Map.{lookup}
+use Rattle.std.specs.List.{list_any}
+use Rattle.indexmap.specs.IndexSet.{insert_key}
 use Rattle.std.proofs.lemmas.Bool.{cases_Bool}
-use Rattle.std.proofs.lemmas.List.Elements.{Contains-push_cases}
+use Rattle.std.proofs.lemmas.List.{map-append}
+use Rattle.std.proofs.lemmas.Option.{get_or_from_slice_get}
 use Rattle.std.proofs.lemmas.Map.Views.{Contains-from_lookup}
 use Rattle.epx_types.specs.declared.id.Id.{Id}
 use Rattle.epx_types.specs.contracts.id.IdPartialEq.TheImpl as id_eq
 use Rattle.epx_types.specs.PlacedLines.{Placed}
-use Rattle.epx_types.proofs.Membership.{Contains-nil, Contains-cons_cases}
+use Rattle.epx_types.proofs.Membership.{Contains-nil, Contains-cons_cases, Contains-map}
+use Rattle.epx_types.proofs.Places.{slice_get-from_map, Contains-slice_get}
 use Rattle.epx_merge.specs.declared.ledger.Clash.{Clash}
 use Rattle.epx_merge.specs.Ledgers.{Noted, Notes}
-use Rattle.epx_merge.specs.Keyed.{StandUnderTheirNames}
+use Rattle.epx_merge.specs.Keyed.{under_names}
 use Rattle.epx_merge.proofs.Equality.{ids_decide}
 use Rattle.epx_merge.proofs.Noting.{keys, key_of_entry, Notes-new, Notes-known, Notes-clash}
 
@@ -49,42 +53,70 @@ module _ {V : Type 0} where
   pub no_key : (x : Id) (es : List (Id × V)) → is_some (lookup (same_id x) es) ≡ false → ¬ Contains (keys es) x
   no_key x es t = by_no_look_up x es (lookup (same_id x) es) refl t
 
--- one line more under its name
-pub named_push : (es after : List (Id × Placed)) (x : Id) (line : Placed) → StandUnderTheirNames es → after ≡ es ++ (x, line) ∷ [] → line.instance.id ≡ x → StandUnderTheirNames after
-named_push es after x line named is here y p h =
-    elim (Contains-push_cases es (x, line) (y, p) (subst (λ (l : List (Id × Placed)). Contains l (y, p)) is h)) [
-      | inl old ↦ named y p old
-      | inr new ↦ (let P : Id × Placed → Type 0 = λ e. e.1.instance.id ≡ e.0 in subst P new here)
-    ]
+-- ---- lines under the names of their instances
+
+pub names_under : (lines : List Placed) → keys (under_names lines) ≡ map (λ p. p.instance.id) lines
+names_under [] = refl
+names_under (p ∷ lines) = ap (λ l. p.instance.id ∷ l) (names_under lines)
 
 -- a test that finds nothing
 pub is_none : {V : Type 0} (o : Option V) → is_some o ≡ false → o ≡ None
 is_none None e = refl
 is_none (Some v) e = absurd (cc e)
 
-module _ (noted : Noted) (line : Placed) (x : Id) (named : x ≡ line.instance.id) where
+-- a name that no test ties with was not noted
+unseen : (x : Id) (names : List Id) → list_any (same_id x) names ≡ false → ¬ Contains names x
+unseen x [] e h = Contains-nil x h
+unseen x (y ∷ names) e h =
+    elim (cases_Bool (same_id x y)) [
+      | inl same ↦ (let found : true ≡ false = rw same at e in cc)
+      | inr other ↦ elim (Contains-cons_cases y names x h) [
+        | inl first ↦ (let tied = (ids_decide x y).1 (sym first) in cc)
+        | inr rest ↦ unseen x names (rw other at e) rest
+      ]
+    ]
+
+-- a name that was there goes nowhere
+same_names : (x : Id) (names : List Id) → not (list_any (same_id x) names) ≡ false → insert_key same_id names x ≡ names
+same_names x names old = let there : list_any (same_id x) names ≡ true = grind (arith, old) in rw there refl
+
+-- what stands where a known name does is the line of that name
+pub known_line : (lines : List Placed) (names after : List Id) (x y : Id) (place : ℕ) (first : Placed) → names ≡ map (λ p. p.instance.id) lines → not (list_any (same_id x) names) ≡ false
+    → after ≡ insert_key same_id names x → slice_get after place ≡ Some y → same_id x y ≡ true → first ≡ get_or lines place first → Contains (under_names lines) (x, first)
+known_line lines names after x y place first stand old same_after at same is =
+    let p = slice_get-from_map (λ (q : Placed). q.instance.id) lines place y (sym (ap (λ (l : List Id). slice_get l place) (same_after ∙ same_names x names old ∙ stand)) ∙ at) in
+    let first_is : p.0 ≡ first = sym (get_or_from_slice_get lines place p.0 first p.1) ∙ sym is in
+    let id : p.0.instance.id ≡ x = p.2 ∙ sym ((ids_decide x y).0 same) in
+    subst₂ (λ (z : Id) (q : Placed). Contains (under_names lines) (z, q)) id first_is (Contains-map (λ (q : Placed). (q.instance.id, q)) lines p.0 (Contains-slice_get lines place p.0 p.1))
+
+module _ (lines : List Placed) (clashes : List (Id × Clash)) (line : Placed) (x : Id) (named : x ≡ line.instance.id) where
+  abbrev pub noted : Noted
+  noted = record { firsts = under_names lines; clashes = clashes }
+
   -- the first line of an instance goes last
-  pub noted_first : (after : List (Id × Placed)) → lookup (same_id x) noted.firsts ≡ None → after ≡ noted.firsts ++ (x, line) ∷ [] → Notes (line ∷ []) noted (record { firsts = after; clashes = noted.clashes })
-  noted_first after none is =
-      let end : after ≡ noted.firsts ++ (line.instance.id, line) ∷ [] = is ∙ ap (λ (y : Id). noted.firsts ++ (y, line) ∷ []) named in
-      subst (λ (firsts : List (Id × Placed)). Notes (line ∷ []) noted (record { firsts = firsts; clashes = noted.clashes })) (sym end)
-      (Notes-new noted line (subst (λ (y : Id). ¬ Contains (keys noted.firsts) y) named (no_entry x noted.firsts none)))
+  pub noted_first : (after : List Placed) (names : List Id) → names ≡ map (λ p. p.instance.id) lines → not (list_any (same_id x) names) ≡ true → after ≡ lines ++ line ∷ [] → Notes (line ∷ []) noted (record { firsts = under_names after; clashes = clashes })
+  noted_first after names stand new is =
+      let end : under_names after ≡ under_names lines ++ (line.instance.id, line) ∷ [] = ap under_names is ∙ map-append (λ (p : Placed). (p.instance.id, p)) lines (line ∷ []) in
+      let none = unseen x names (let fresh : list_any (same_id x) names ≡ false = grind (arith, new) in fresh) in
+      subst (λ (firsts : List (Id × Placed)). Notes (line ∷ []) noted (record { firsts = firsts; clashes = clashes })) (sym end)
+      (Notes-new noted line (subst₂ (λ (names : List Id) (y : Id). ¬ Contains names y) (stand ∙ sym (names_under lines)) named none))
 
-  known : (first : Placed) → lookup (same_id x) noted.firsts ≡ Some first → Contains noted.firsts (line.instance.id, first)
-  known first found = subst (λ (y : Id). Contains noted.firsts (y, first)) named (entry_found x first noted.firsts found)
+  module _ (first : Placed) (found : Contains (under_names lines) (x, first)) where
+    known : Contains (under_names lines) (line.instance.id, first)
+    known = subst (λ (y : Id). Contains (under_names lines) (y, first)) named found
 
-  -- a line that commits the same as the first of its instance
-  pub noted_alike : (first : Placed) → lookup (same_id x) noted.firsts ≡ Some first → first.instance ≡ line.instance → Notes (line ∷ []) noted noted
-  noted_alike first found same = Notes-known noted line first (known first found) (inl same)
+    -- a line that commits the same as the first of its instance
+    pub noted_alike : first.instance ≡ line.instance → Notes (line ∷ []) noted noted
+    noted_alike same = Notes-known noted line first known (inl same)
 
-  -- a line of an instance that has a clash
-  pub noted_clashing : (first : Placed) → lookup (same_id x) noted.firsts ≡ Some first → is_some (lookup (same_id x) noted.clashes) ≡ true → Notes (line ∷ []) noted noted
-  noted_clashing first found clashing = Notes-known noted line first (known first found) (inr (subst (Contains (keys noted.clashes)) named (key_found x noted.clashes clashing)))
+    -- a line of an instance that has a clash
+    pub noted_clashing : is_some (lookup (same_id x) clashes) ≡ true → Notes (line ∷ []) noted noted
+    noted_clashing clashing = Notes-known noted line first known (inr (subst (Contains (keys clashes)) named (key_found x clashes clashing)))
 
-  -- a first clash goes last
-  pub noted_clash : (first : Placed) (clash : Clash) (after : List (Id × Clash)) → lookup (same_id x) noted.firsts ≡ Some first → first.instance ≢ line.instance → is_some (lookup (same_id x) noted.clashes) ≡ false
-      → clash.first ≡ first.place → clash.second ≡ line.place → after ≡ noted.clashes ++ (x, clash) ∷ [] → Notes (line ∷ []) noted (record { firsts = noted.firsts; clashes = after })
-  noted_clash first clash after found differ none first_place second_place is =
-      let end : after ≡ noted.clashes ++ (line.instance.id, clash) ∷ [] = is ∙ ap (λ (y : Id). noted.clashes ++ (y, clash) ∷ []) named in
-      subst (λ (clashes : List (Id × Clash)). Notes (line ∷ []) noted (record { firsts = noted.firsts; clashes = clashes })) (sym end)
-      (Notes-clash noted line first clash (known first found) differ (subst (λ (y : Id). ¬ Contains (keys noted.clashes) y) named (no_key x noted.clashes none)) (sym first_place) (sym second_place))
+    -- a first clash goes last
+    pub noted_clash : (clash : Clash) (after : List (Id × Clash)) → first.instance ≢ line.instance → is_some (lookup (same_id x) clashes) ≡ false
+        → clash.first ≡ first.place → clash.second ≡ line.place → after ≡ clashes ++ (x, clash) ∷ [] → Notes (line ∷ []) noted (record { firsts = under_names lines; clashes = after })
+    noted_clash clash after differ none first_place second_place is =
+        let end : after ≡ clashes ++ (line.instance.id, clash) ∷ [] = is ∙ ap (λ (y : Id). clashes ++ (y, clash) ∷ []) named in
+        subst (λ (es : List (Id × Clash)). Notes (line ∷ []) noted (record { firsts = under_names lines; clashes = es })) (sym end)
+        (Notes-clash noted line first clash known differ (subst (λ (y : Id). ¬ Contains (keys clashes) y) named (no_key x clashes none)) (sym first_place) (sym second_place))

@@ -8,9 +8,10 @@ ghost use Rattle.epx_merge.specs.Steps.{IsMerged, IsMergeFault};
 use crate::limits::MAX_INSTANCES;
 use crate::merged::Merged;
 use crate::placed::PlacedEntry;
+use crate::rows::rows_of;
 use crate::same::same_entry;
 use epx_types::{Fault, Id, Memory, Place};
-use indexmap::IndexMap;
+use indexmap::{IndexMap, IndexSet};
 use std::alloc::Global;
 use std::marker::Model;
 
@@ -24,19 +25,24 @@ pub(crate) struct Clash {
 /// Notes lines one by one, and keeps one entry an instance.
 #[derive(Debug, Drop)]
 pub(crate) struct Ledger {
-    firsts: IndexMap<Id, PlacedEntry>,
+    alloc: Global,
+    /// The name of each first line, in the order of the lines.
+    names: IndexSet<Id>,
+    /// The first line of each instance. It stays where it was noted.
+    firsts: Vec<PlacedEntry>,
     clashes: IndexMap<Id, Clash>,
 }
 
 impl Model for Ledger {
+    ghost use Rattle.std.specs.Prelude.{◌≡◌, map};
     ghost use Rattle.epx_merge.specs.Ledgers.{Noted};
-    ghost use Rattle.epx_merge.specs.Keyed.{StandUnderTheirNames};
+    ghost use Rattle.epx_merge.specs.Keyed.{under_names};
 
     ghost Value = { Noted };
 
-    ghost view = { λ l. record { firsts = l.firsts.entries; clashes = l.clashes.entries } };
+    ghost view = { λ l. record { firsts = under_names l.firsts.items; clashes = l.clashes.entries } };
 
-    ghost invariant = { λ l. StandUnderTheirNames l.firsts.entries };
+    ghost invariant = { λ l. l.names.keys ≡ map (λ p. p.instance.id) l.firsts.items };
 }
 
 impl Ledger {
@@ -44,7 +50,9 @@ impl Ledger {
         ensures { IsLedgerOf [] result }
     {
         Ledger {
-            firsts: IndexMap::new(alloc),
+            alloc,
+            names: IndexSet::new(alloc),
+            firsts: Vec::new(alloc),
             clashes: IndexMap::new(alloc),
         }
     }
@@ -53,11 +61,15 @@ impl Ledger {
     pub(crate) fn note(&mut self, line: PlacedEntry) -> Result<(), Memory>
         ensures { OnOk result (Notes (line ∷ []) self.old self.new) }
     {
+        // The name goes in only where there is room for the line.
+        self.firsts.reserve(1)?;
         let id = line.id();
-        let Some(first) = self.firsts.get(&id) else {
-            self.firsts.insert(id, line)?;
+        let (place, is_new) = self.names.insert_full(id)?;
+        if is_new {
+            self.firsts.push(line)?;
             return Ok(());
-        };
+        }
+        let first = &self.firsts[place];
         if same_entry(first.entry(), line.entry()) {
             return Ok(());
         }
@@ -78,16 +90,18 @@ impl Ledger {
             → MatchResult result (IsMerged lines) (IsMergeFault lines) }
     {
         let Ledger {
-            mut firsts,
+            alloc,
+            names,
+            firsts,
             mut clashes,
         } = self;
-        let Ok(()) = firsts.sort_unstable_keys() else {
+        let Ok(rows) = rows_of(alloc, names.as_slice()) else {
             return Err(Fault::Memory);
         };
         let Ok(()) = clashes.sort_unstable_keys() else {
             return Err(Fault::Memory);
         };
-        if firsts.len() > MAX_INSTANCES {
+        if rows.len() > MAX_INSTANCES {
             return Err(Fault::TooManyInstances);
         }
         match clashes.first() {
@@ -96,7 +110,7 @@ impl Ledger {
                 first: clash.first,
                 second: clash.second,
             }),
-            None => Ok(Merged::new(firsts)),
+            None => Ok(Merged::new(firsts, rows)),
         }
     }
 }

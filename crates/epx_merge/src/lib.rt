@@ -11,6 +11,7 @@ mod pieces;
 mod placed;
 mod reading;
 mod repeats;
+mod rows;
 mod runs;
 mod same;
 mod walk;

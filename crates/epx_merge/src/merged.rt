@@ -2,53 +2,55 @@
 ghost use Rattle.std.specs.Prelude.{◌≡◌, ◌==◌, ◌<◌, IfSome, length, option_copied, slice_get, Some};
 ghost use Rattle.epx_types.specs.CommittedMap.{ids_of, instance_of, position_of};
 ghost use Rattle.epx_types.specs.Ids.{IsRising};
-ghost use Rattle.epx_merge.specs.Keyed.{IsKeyed, instances_of};
+ghost use Rattle.epx_merge.specs.Keyed.{IsKeyed, instances_at};
 
 use crate::placed::PlacedEntry;
+use crate::rows::{Row, find};
 use crate::runs::Runs;
 use epx_types::{Entry, Id};
-use indexmap::IndexMap;
 use std::marker::Model;
 
 /// The committed instances of logs that agree. Contracts see them by rising Id.
 #[derive(Debug, Drop)]
 pub struct Merged {
-    lines: IndexMap<Id, PlacedEntry>,
+    lines: Vec<PlacedEntry>,
+    /// The lines by rising Id.
+    rows: Vec<Row>,
     runs: Runs,
 }
 
 impl Model for Merged {
     ghost use Rattle.std.specs.Prelude.{List};
     ghost use Rattle.epx_types.specs.Instances.{Instance};
-    ghost use Rattle.epx_merge.specs.Keyed.{instances_of, IsKeyed};
+    ghost use Rattle.epx_merge.specs.Keyed.{instances_at, IsKeyed};
 
     ghost Value = { List Instance };
 
-    ghost view = { λ m. instances_of m.lines.entries };
+    ghost view = { λ m. instances_at m.lines.items m.rows.items };
 
-    ghost invariant = { λ m. IsKeyed m.lines.entries };
+    ghost invariant = { λ m. IsKeyed m.lines.items m.rows.items };
 }
 
 impl Merged {
-    pub(crate) fn new(lines: IndexMap<Id, PlacedEntry>) -> Merged
-        requires { IsKeyed lines.entries }
-        ensures { result ≡ instances_of lines.entries }
+    pub(crate) fn new(lines: Vec<PlacedEntry>, rows: Vec<Row>) -> Merged
+        requires { IsKeyed lines.items rows.items }
+        ensures { result ≡ instances_at lines.items rows.items }
     {
-        let runs = Runs::of(&lines);
-        Merged { lines, runs }
+        let runs = Runs::of(&rows);
+        Merged { lines, rows, runs }
     }
 
-    /// Where the instance stands, if it stands where its replica's instances would without gaps.
-    fn guessed(&self, id: Id) -> Option<usize>
-        ensures stands { IfSome result (λ position. position_of self.now id ≡ Some position) }
-        ensures rising { IfSome result (λ _. IsRising (ids_of self.now)) }
+    /// Where the instance stands: mostly where its replica's instances would without gaps, and else
+    /// found by halving.
+    fn found(&self, id: Id) -> Option<usize>
+        ensures position { result ≡ position_of self.now id }
+        ensures rising { IsRising (ids_of self.now) }
     {
         let position = self.runs.guess(id);
-        if position < self.len() && self.entry_at(position).id() == id {
-            Some(position)
-        } else {
-            None
+        if position < self.rows.len() && self.rows[position].id == id {
+            return Some(position);
         }
+        find(&self.rows, id)
     }
 
     /// How many instances are committed.
@@ -56,36 +58,31 @@ impl Merged {
         ensures len { result ≡ length self.now }
         ensures rising { IsRising (ids_of self.now) }
     {
-        self.lines.len()
+        self.rows.len()
     }
 
     pub fn is_empty(&self) -> bool
         ensures { result ≡ (length self.now == 0) }
     {
-        self.lines.is_empty()
+        self.len() == 0
     }
 
-    /// The entry of a committed instance, in constant time.
+    /// The entry of a committed instance, in at most logarithmic time.
     pub fn get(&self, id: Id) -> Option<&Entry>
         ensures { option_copied result ≡ instance_of self.now id }
     {
-        if let Some(position) = self.guessed(id) {
-            return Some(self.entry_at(position));
-        }
-        match self.lines.get(&id) {
-            Some(line) => Some(line.entry()),
+        match self.found(id) {
+            Some(position) => Some(self.entry_at(position)),
             None => None,
         }
     }
 
-    /// How many committed instances stand below this one, if it is committed, in constant time.
+    /// How many committed instances stand below this one, if it is committed, in at most logarithmic
+    /// time.
     pub fn position(&self, id: Id) -> Option<usize>
         ensures { result ≡ position_of self.now id }
     {
-        if let Some(position) = self.guessed(id) {
-            return Some(position);
-        }
-        self.lines.get_index_of(&id)
+        self.found(id)
     }
 
     /// The entry at a position, counted from 0.
@@ -93,6 +90,6 @@ impl Merged {
         requires { position < length self.now }
         ensures { slice_get self.now position ≡ Some result.now }
     {
-        self.lines[position].entry()
+        self.lines[self.rows[position].line].entry()
     }
 }

@@ -1,8 +1,7 @@
 //! Where the instances of each replica begin among instances by rising Id.
 
-use crate::placed::PlacedEntry;
+use crate::rows::Row;
 use epx_types::Id;
-use indexmap::IndexMap;
 
 /// A replica's first instance: its number, and its position.
 #[derive(Clone, Copy, Debug, Drop)]
@@ -19,13 +18,13 @@ pub(crate) struct Runs {
 }
 
 impl Runs {
-    pub(crate) fn of(lines: &IndexMap<Id, PlacedEntry>) -> Runs {
+    pub(crate) fn of(rows: &[Row]) -> Runs {
         let mut firsts = [First {
             number: 0,
             position: u64::MAX,
         }; 256];
         let mut replica = None;
-        for (position, id) in lines.keys().enumerate() {
+        for (position, Row { id, line: _ }) in rows.iter().enumerate() {
             if replica != Some(id.replica) {
                 replica = Some(id.replica);
                 firsts[id.replica as usize] = First {
