@@ -1,6 +1,6 @@
 //! Times the layers of epx. With no word it only names the words that it takes, so that what it
-//! prints is the same on every run; `lines`, `merge`, `apply` and `answer` print the least of several
-//! times, in microseconds.
+//! prints is the same on every run; `lines`, `merge`, `apply`, `answer` and `pairs` print the least of
+//! several times, in microseconds.
 #![tactic(auto)]
 
 mod answer;
@@ -8,6 +8,7 @@ mod apply;
 mod clock;
 mod lines;
 mod merge;
+mod pairs;
 
 use epx_types::Memory;
 use std::env;
@@ -23,6 +24,7 @@ fn main(rt: HostRuntime) -> Result<(), Memory> {
         Some("merge") => merge::measure(&rt),
         Some("apply") => apply::measure(&rt),
         Some("answer") => answer::measure(&rt),
-        _ => println!(rt; "words: lines, merge, apply, answer").map_err(|_| Memory),
+        Some("pairs") => pairs::measure(&rt),
+        _ => println!(rt; "words: lines, merge, apply, answer, pairs").map_err(|_| Memory),
     }
 }
