@@ -41,7 +41,7 @@ turned_padded rows turned n is k j = (
   λ h. subst (λ (row : List ℕ). Contains row j) (sym (row_padded rows n k)) ((is k j).1 h),
 )
 
-module _ (m : List Instance) (ids : List Id) (rows : List (List ℕ)) (rising : IsRising (ids_of m)) (nodes : AreNodesOf m ids) (are : AreRowsOf m ids rows (length m)) where
+module _ (m : List Instance) (ids : List Id) (rows : List (List ℕ)) (nodes : AreNodesOf m ids) (are : AreRowsOf m ids rows (length m)) where
   committed_is : take (length rows) ids ≡ ids_of m
   committed_is = ap (λ n. take n ids) are.0 ∙ nodes.committed
 
@@ -56,7 +56,7 @@ module _ (m : List Instance) (ids : List Id) (rows : List (List ℕ)) (rising : 
   row_in_range k l =
       let e = instance_of_row k l in
       let row = are.1 k e.0 (omega (arith, are.0)) e.1 in
-      All-weaker (Contains (row_of rows k)) (λ j. j < length ids) (λ j h. let at = row.numbers j h in slice_get_within ids j at.0 at.2) (row_of rows k) (All-contains_itself (row_of rows k))
+      All-weaker (Contains (row_of rows k)) (λ j. j < length ids) (λ j h. let at = (row.exact j).0 h in slice_get_within ids j at.0 at.2) (row_of rows k) (All-contains_itself (row_of rows k))
 
   no_row : (k : ℕ) → length rows ≤ k → edges_of (graph_over ids rows) k ≡ []
   no_row k l = row_padded rows (length ids - length rows) k ∙ get_or_past rows k [] l
@@ -79,7 +79,7 @@ module _ (m : List Instance) (ids : List Id) (rows : List (List ℕ)) (rising : 
         (All-replicate (λ (row : List ℕ). All (λ j. j < length ids) row) (length ids - length rows) [] (All-nil (λ j. j < length ids)));
     edges_rise = rows_rise;
     missing_lead_nowhere = no_row;
-    committed_rise = subst IsRising (sym committed_is) rising;
+    committed_rise = subst IsRising (sym committed_is) nodes.committed_rise;
     missing_rise = subst IsRising (sym missing_is) nodes.missing.rising;
     apart = λ x h k. ((nodes.missing.exact x).0 (subst (λ (l : List Id). Contains l x) missing_is k)).1 (subst (λ (l : List Id). Contains l x) committed_is h);
   }
@@ -91,17 +91,11 @@ module _ (m : List Instance) (ids : List Id) (rows : List (List ℕ)) (rising : 
             let at : slice_get (ids_of m) k ≡ Some x = ap (λ xs. slice_get xs k) (sym committed_is) ∙ slice_get-take ids (length rows) k x l p in
             let e = slice_get-from_map (λ (i : Instance). i.id) m k x at in
             let row = are.1 k e.0 (omega (arith, are.0)) e.1 in
-            let number = row.numbers j (subst (λ (r : List ℕ). Contains r j) (row_padded rows (length ids - length rows) k) h) in
+            let number = (row.exact j).0 (subst (λ (r : List ℕ). Contains r j) (row_padded rows (length ids - length rows) k) h) in
             let one : Some number.0 ≡ Some y = sym number.2 ∙ q in
             (e.0, Contains-slice_get m k e.0 e.1, e.2, subst (Contains e.0.deps) (cc one) number.1)
         | inr past ↦ absurd (Contains-nil j (subst (λ (r : List ℕ). Contains r j) (no_row k past) h))
       ]
-
-  -- what an instance depends on is listed in its row
-  numbered : (k : ℕ) (e : Instance) (x y : Id) → k < length rows → slice_get m k ≡ Some e → e.id ≡ x → DependsOn m x y → (j : ℕ) × Contains (row_of rows k) j × (slice_get ids j ≡ Some y)
-  numbered k e x y l at is d =
-      let row = are.1 k e (omega (arith, are.0)) at in
-      row.whole y ((DependsOn-listed m rising e (Contains-slice_get m k e at) y).0 (subst (λ (z : Id). DependsOn m z y) (sym is) d))
 
   edge_back : (k j : ℕ) (x y : Id) → slice_get ids k ≡ Some x → slice_get ids j ≡ Some y → DependsOn m x y → Contains (edges_of (graph_over ids rows) k) j
   edge_back k j x y p q d =
@@ -111,9 +105,9 @@ module _ (m : List Instance) (ids : List Id) (rows : List (List ℕ)) (rising : 
       let l : k < length rows = omega (arith, found.1) in
       let at : slice_get (ids_of m) k ≡ Some x = ap (λ xs. slice_get xs k) (sym committed_is) ∙ slice_get-take ids (length rows) k x l p in
       let e = slice_get-from_map (λ (i : Instance). i.id) m k x at in
-      let number = numbered k e.0 x y l e.1 e.2 d in
-      let one : number.0 ≡ j = node_is_one g graph_kept number.0 j y number.2 q in
-      subst (λ (r : List ℕ). Contains r j) (sym (row_padded rows (length ids - length rows) k)) (subst (Contains (row_of rows k)) one number.1)
+      let row = are.1 k e.0 (omega (arith, are.0)) e.1 in
+      let listed = (DependsOn-listed m nodes.committed_rise e.0 (Contains-slice_get m k e.0 e.1) y).0 (subst (λ (z : Id). DependsOn m z y) (sym e.2) d) in
+      subst (λ (r : List ℕ). Contains r j) (sym (row_padded rows (length ids - length rows) k)) ((row.exact j).1 (y, listed, q))
 
   pub graph_built : IsGraphOf m (graph_over ids rows)
   graph_built = record {

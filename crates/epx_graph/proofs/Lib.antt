@@ -7,6 +7,8 @@ mod Filled
 mod Finding
 mod MissingIds
 mod Numbering
+mod RisingRows
+mod GatheredRows
 mod Built
 mod Searching
 mod WaiterLists

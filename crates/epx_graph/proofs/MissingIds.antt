@@ -52,7 +52,7 @@ some_position m x i some =
     let at = position_of-stands m x i some in
     subst (IsCommitted m) at.2 (IsCommitted-from_Contains m at.0 (Contains-slice_get m i at.0 at.1))
 
-lacks-from_missing : (m : List Instance) (x : Id) → ¬ IsCommitted m x → not (is_some (position_of m x)) ≡ true
+pub lacks-from_missing : (m : List Instance) (x : Id) → ¬ IsCommitted m x → not (is_some (position_of m x)) ≡ true
 lacks-from_missing m x missing = by (position_of m x) refl where
   by : (o : Option ℕ) → position_of m x ≡ o → not (is_some o) ≡ true
   by None e = refl
@@ -66,7 +66,12 @@ missing-from_lacks m x passes = by (position_of m x) refl passes where
 
 -- ---- what is gathered
 
-Contains-flat_map : {X Y : Type 0} (f : X → List Y) (xs : List X) (x : X) (y : Y) → Contains xs x → Contains (f x) y → Contains (flat_map f xs) y
+pub lacking_missing : (m : List Instance) (xs : List Id) (x : Id) → Contains (lacking m xs) x → ¬ IsCommitted m x
+lacking_missing m xs x h =
+    let p = λ (y : Id). not (is_some (position_of m y)) in
+    missing-from_lacks m x (All-contains (λ (y : Id). p y ≡ true) (lacking m xs) x (filter_passes p xs) h)
+
+pub Contains-flat_map : {X Y : Type 0} (f : X → List Y) (xs : List X) (x : X) (y : Y) → Contains xs x → Contains (f x) y → Contains (flat_map f xs) y
 Contains-flat_map f [] x y h k = absurd (Contains-nil x h)
 Contains-flat_map {X} {Y} f (z ∷ xs) x y h k =
     elim (Contains-cons_cases z xs x h) [
@@ -88,8 +93,7 @@ Contains-all_lacking m x = (there, back) where
   there h =
       let from = Contains-from_flat_map (λ (e : Instance). lacking m e.deps) m x h in
       let listed = Contains-from_filter (λ (y : Id). not (is_some (position_of m y))) from.0.deps x from.2 in
-      let passes = All-contains (λ (y : Id). not (is_some (position_of m y)) ≡ true) (lacking m from.0.deps) x (filter_passes (λ (y : Id). not (is_some (position_of m y))) from.0.deps) from.2 in
-      ((from.0.id, (from.0, from.1, refl, listed)), missing-from_lacks m x passes)
+      ((from.0.id, (from.0, from.1, refl, listed)), lacking_missing m from.0.deps x from.2)
 
   back : IsMissing m x → Contains (all_lacking m m) x
   back h =
@@ -127,17 +131,17 @@ rising_from_strict (x ∷ xs) h = (below_all xs h.0, rising_from_strict xs h.1) 
 ids_tie : (x y : Id) → id_eq.eq-value.it x y ≡ eq_by_cmp id_cmp x y
 ids_tie x y = grind (arith, nat_tests)
 
-pub missing_kept : (m : List Instance) (gathered sorted ids : List Id) → gathered ≡ all_lacking m m → IsPermutation gathered sorted → IsSorted id_cmp sorted → IsFiltered (DiffersFromLast id_eq.eq-value.it) [] sorted ids → AreMissingIds m ids
-missing_kept m gathered sorted ids is moved sorts filtered =
+-- the sorted Ids without those that follow their like
+pub each_kept : (gathered sorted ids : List Id) → IsPermutation gathered sorted → IsSorted id_cmp sorted → IsFiltered (DiffersFromLast id_eq.eq-value.it) [] sorted ids → IsRising ids × ((x : Id) → Contains ids x ↔ Contains gathered x)
+each_kept gathered sorted ids moved sorts filtered =
     let E = id_eq.eq-value.it in
-    let kept : ids ≡ dedup E sorted = dedup_is E sorted ids filtered in
-    record {
-      rising = subst IsRising (sym kept) (rising_from_strict (dedup E sorted) (IsStrictlySortedBy-dedup id_cmp_total {E = E} ids_tie sorted sorts));
-      exact = λ x. (
-        λ h. (Contains-all_lacking m x).0 (subst (λ (l : List Id). Contains l x) is (Contains-permutation sorted gathered x (IsPermutation-sym gathered sorted moved) (Contains-from_dedup E sorted x (subst (λ (l : List Id). Contains l x) kept h)))),
-        λ h. subst (λ (l : List Id). Contains l x) (sym kept) (keeps sorted x (Contains-permutation gathered sorted x moved (subst (λ (l : List Id). Contains l x) (sym is) ((Contains-all_lacking m x).1 h)))),
-      );
-    }
+    let kept : ids ≡ dedup E sorted = dedup_is E sorted ids filtered in (
+      subst IsRising (sym kept) (rising_from_strict (dedup E sorted) (IsStrictlySortedBy-dedup id_cmp_total {E = E} ids_tie sorted sorts)),
+      λ x. (
+        λ h. Contains-permutation sorted gathered x (IsPermutation-sym gathered sorted moved) (Contains-from_dedup E sorted x (subst (λ (l : List Id). Contains l x) kept h)),
+        λ h. subst (λ (l : List Id). Contains l x) (sym kept) (keeps sorted x (Contains-permutation gathered sorted x moved h)),
+      ),
+    )
   where
     same : (x y : Id) → id_eq.eq-value.it x y ≡ true → x ≡ y
     same x y t = id_cmp-IsAntisymmetric x y ((Equal-is (id_cmp x y)).0 (sym (ids_tie x y) ∙ t))
@@ -153,6 +157,16 @@ missing_kept m gathered sorted ids is moved sorts filtered =
 
     keeps : (xs : List Id) (x : Id) → Contains xs x → Contains (dedup id_eq.eq-value.it xs) x
     keeps xs x h = Contains-dedup {E = id_eq.eq-value.it} equal same xs x h
+
+-- where they are all that the instances lack, they are the missing ones
+pub missing_kept : (m : List Instance) (gathered ids : List Id) → gathered ≡ all_lacking m m → IsRising ids → ((x : Id) → Contains ids x ↔ Contains gathered x) → AreMissingIds m ids
+missing_kept m gathered ids is rising exact = record {
+  rising = rising;
+  exact = λ x. (
+    λ h. (Contains-all_lacking m x).0 (subst (λ (l : List Id). Contains l x) is ((exact x).0 h)),
+    λ h. (exact x).1 (subst (λ (l : List Id). Contains l x) (sym is) ((Contains-all_lacking m x).1 h)),
+  );
+}
 
 -- ---- committed Ids
 

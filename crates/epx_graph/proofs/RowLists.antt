@@ -1,8 +1,8 @@
 -- Rows of one list: as many as there are ends, each within the list, and joined they are the list.
-use Rattle.std.proofs.Common.{◌≡◌, ◌≢◌, ◌⊎◌, inl, inr, ℕ, zero, suc, ◌+◌, ◌-◌, ◌<◌, ◌≤◌, List, [], ◌∷◌, ◌++◌, length, take, drop, get_or, Contains, refl, sym, ap, ◌∙◌, arith, slice_range}
+use Rattle.std.proofs.Common.{◌≡◌, ◌≢◌, ◌⊎◌, inl, inr, ℕ, zero, suc, ◌+◌, ◌-◌, ◌<◌, ◌≤◌, List, [], ◌∷◌, ◌++◌, length, take, drop, get_or, Contains, refl, sym, ap, subst, ◌∙◌, arith, slice_range}
 use Rattle.std.specs.List.{concat}
 use Rattle.std.proofs.lemmas.Bool.{cases_lt}
-use Rattle.std.proofs.lemmas.List.{length-take, length-drop, take_all, drop_all, drop_at, drop-drop, take-append-drop, take-append-le, drop-append-le, get_or-take, get_or-drop, get_or_default}
+use Rattle.std.proofs.lemmas.List.{length-take, length-drop, take_all, drop_all, drop_at, drop-drop, take-append-drop, take-append-le, drop-append-le, length-append, get_or-take, get_or-drop, get_or_default}
 use Rattle.epx_graph.specs.Rows.{rows_from, AreEnds, row_of}
 
 -- two numbers are one, or differ
@@ -40,7 +40,7 @@ start_later ends (suc k) l = let same : k ≡ suc k - 1 = omega arith in ap (λ 
 
 -- ---- one row more
 
-pub AreEnds-push : (start : ℕ) (ends : List ℕ) (n m : ℕ) → n ≤ m → AreEnds start ends n → AreEnds start (ends ++ m ∷ []) m
+AreEnds-push : (start : ℕ) (ends : List ℕ) (n m : ℕ) → n ≤ m → AreEnds start ends n → AreEnds start (ends ++ m ∷ []) m
 AreEnds-push start [] n m l h = (omega arith, refl)
 AreEnds-push start (end ∷ ends) n m l h = (h.0, AreEnds-push end ends n m l h.1)
 
@@ -52,7 +52,7 @@ last_range : (numbers row : List ℕ) (n : ℕ) → n ≡ length numbers + lengt
 last_range numbers row n is =
     ap (take (n - length numbers)) (drop_at numbers row (length numbers) refl) ∙ take_all (n - length numbers) row (omega arith)
 
-pub rows_push : (start : ℕ) (ends numbers row : List ℕ) (n : ℕ) → n ≡ length numbers + length row → AreEnds start ends (length numbers) → rows_from start (ends ++ n ∷ []) (numbers ++ row) ≡ rows_from start ends numbers ++ row ∷ []
+rows_push : (start : ℕ) (ends numbers row : List ℕ) (n : ℕ) → n ≡ length numbers + length row → AreEnds start ends (length numbers) → rows_from start (ends ++ n ∷ []) (numbers ++ row) ≡ rows_from start ends numbers ++ row ∷ []
 rows_push start [] numbers row n is h =
     let begins = ap (λ a. slice_range (numbers ++ row) a n) h ∙ last_range numbers row n is in
     λ i. begins i ∷ []
@@ -60,6 +60,17 @@ rows_push start (end ∷ ends) numbers row n is h =
     let first = range_kept numbers row start end h.0 (start_within end ends (length numbers) h.1) in
     let rest = rows_push end ends numbers row n is h.1 in
     λ i. first i ∷ rest i
+
+-- the numbers of one row more, and where it ends
+module _ (ends numbers row ends' numbers' : List ℕ) (n : ℕ) (ends_are : ends' ≡ ends ++ n ∷ []) (numbers_are : numbers' ≡ numbers ++ row) (last : n ≡ length numbers') (h : AreEnds 0 ends (length numbers)) where
+  long : n ≡ length numbers + length row
+  long = last ∙ ap length numbers_are ∙ length-append numbers row
+
+  pub ends_more : AreEnds 0 ends' (length numbers')
+  ends_more = subst (AreEnds 0 ends') last (subst (λ (es : List ℕ). AreEnds 0 es n) (sym ends_are) (AreEnds-push 0 ends (length numbers) n (omega (arith, long)) h))
+
+  pub numbers_more : rows_from 0 ends' numbers' ≡ rows_from 0 ends numbers ++ row ∷ []
+  numbers_more = ap (λ es. rows_from 0 es numbers') ends_are ∙ ap (rows_from 0 (ends ++ n ∷ [])) numbers_are ∙ rows_push 0 ends numbers row n long h
 
 -- ---- the rows joined
 

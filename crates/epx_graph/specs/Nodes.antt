@@ -1,5 +1,5 @@
 -- The nodes and the edges that a committed map has, as they are built.
-use Rattle.std.specs.Prelude.{◌≡◌, ◌↔◌, ℕ, ◌<◌, not, List, length, take, drop, filter, flat_map, AllPairs, Contains, Some, slice_get, is_some}
+use Rattle.std.specs.Prelude.{◌≡◌, ◌↔◌, ℕ, ◌<◌, not, List, length, take, drop, map, filter, filter_map, flat_map, All, AllPairs, Contains, Some, slice_get, is_some}
 use Rattle.epx_types.specs.declared.id.Id.{Id}
 use Rattle.epx_types.specs.Ids.{IsRising}
 use Rattle.epx_types.specs.Instances.{Instance}
@@ -7,13 +7,28 @@ use Rattle.epx_types.specs.CommittedMap.{ids_of, position_of}
 use Rattle.epx_graph.specs.GraphOf.{IsMissing}
 use Rattle.epx_graph.specs.Rows.{row_of}
 
+-- the positions of those of the Ids that are committed
+abbrev pub positions_of : List Instance → List Id → List ℕ
+positions_of m xs = filter_map (position_of m) xs
+
 -- the Ids of the list that are not committed
 abbrev pub lacking : List Instance → List Id → List Id
 lacking m xs = filter (λ x. not (is_some (position_of m x))) xs
 
+-- of each instance the positions of its committed dependencies
+abbrev pub all_positions : List Instance → List Instance → List (List ℕ)
+all_positions m es = map (λ e. positions_of m e.deps) es
+
 -- of each instance those of its dependencies that are not committed
 abbrev pub all_lacking : List Instance → List Instance → List Id
 all_lacking m es = flat_map (λ e. lacking m e.deps) es
+
+-- the dependencies of all instances, those that are committed by position and the others by Id
+pub record IsGathered (m : List Instance) (rows : List (List ℕ)) (ids : List Id) : Type 0 where
+  pub committed : rows ≡ all_positions m m
+  pub missing : ids ≡ all_lacking m m
+  pub instances_rise : IsRising (ids_of m)
+  pub deps_rise : All (λ e. IsRising e.deps) m
 
 -- missing instances, each once
 pub record AreMissingIds (m : List Instance) (ids : List Id) : Type 0 where
@@ -22,15 +37,15 @@ pub record AreMissingIds (m : List Instance) (ids : List Id) : Type 0 where
 
 -- first the committed Ids, then the missing ones
 pub record AreNodesOf (m : List Instance) (ids : List Id) : Type 0 where
+  pub committed_rise : IsRising (ids_of m)
   pub committed : take (length m) ids ≡ ids_of m
   pub missing : AreMissingIds m (drop (length m) ids)
 
--- the numbers of the Ids, by rising number
-pub record AreNumbersOf (ids xs : List Id) (row : List ℕ) : Type 0 where
+-- the places at which Ids of xs stand in the list, by rising place
+pub record ArePlacesOf (ids xs : List Id) (row : List ℕ) : Type 0 where
   pub rising : AllPairs (λ i j. i < j) row
-  pub numbers : (j : ℕ) → Contains row j → (x : Id) × Contains xs x × (slice_get ids j ≡ Some x)
-  pub whole : (x : Id) → Contains xs x → (j : ℕ) × Contains row j × (slice_get ids j ≡ Some x)
+  pub exact : (j : ℕ) → Contains row j ↔ ((x : Id) × Contains xs x × (slice_get ids j ≡ Some x))
 
 -- a row of edges for each of the first n instances
 abbrev pub AreRowsOf : List Instance → List Id → List (List ℕ) → ℕ → Type 0
-AreRowsOf m ids rows n = (length rows ≡ n) × ((k : ℕ) (e : Instance) → k < n → slice_get m k ≡ Some e → AreNumbersOf ids e.deps (row_of rows k))
+AreRowsOf m ids rows n = (length rows ≡ n) × ((k : ℕ) (e : Instance) → k < n → slice_get m k ≡ Some e → ArePlacesOf ids e.deps (row_of rows k))

@@ -2,10 +2,10 @@
 #![tactic(auto)]
 
 mod building;
+mod committed;
 mod find;
 mod graph;
 pub mod laws;
-mod missing;
 mod rows;
 mod search;
 mod turned;

@@ -45,13 +45,21 @@ fn part(numbers: &[usize], start: usize, end: usize) -> &[usize]
 }
 
 impl Rows {
-    pub(crate) fn new(alloc: Global) -> Rows
-        ensures { result ≡ [] }
+    /// No rows, with room for some.
+    pub(crate) fn with_capacity(alloc: Global, rows: usize, numbers: usize) -> Result<Rows, Memory>
+        ensures { IfOk result (λ rows. rows ≡ []) }
     {
-        Rows {
-            ends: Vec::new(alloc),
-            numbers: Vec::new(alloc),
-        }
+        Ok(Rows {
+            ends: Vec::with_capacity(alloc, rows)?,
+            numbers: Vec::with_capacity(alloc, numbers)?,
+        })
+    }
+
+    /// No rows, with room for as many as these, and for more numbers.
+    pub(crate) fn room(&self, alloc: Global, more: usize) -> Result<Rows, Memory>
+        ensures { IfOk result (λ rows. rows ≡ []) }
+    {
+        Rows::with_capacity(alloc, self.ends.len(), self.numbers.len().saturating_add(more))
     }
 
     pub(crate) fn len(&self) -> usize
@@ -68,15 +76,16 @@ impl Rows {
         part(&self.numbers, start, end)
     }
 
-    /// With one row more.
-    pub(crate) fn push_row(self, row: &[usize]) -> Result<Rows, Memory>
-        ensures { IfOk result (λ rows. rows ≡ self ++ row.now ∷ []) }
+    /// With one row more, of two parts.
+    pub(crate) fn push_row(self, low: &[usize], high: &[usize]) -> Result<Rows, Memory>
+        ensures { IfOk result (λ rows. rows ≡ self ++ (low.now ++ high.now) ∷ []) }
     {
         let Rows {
             mut ends,
             mut numbers,
         } = self;
-        numbers.extend_from_slice(row)?;
+        numbers.extend_from_slice(low)?;
+        numbers.extend_from_slice(high)?;
         ends.push(numbers.len())?;
         Ok(Rows { ends, numbers })
     }

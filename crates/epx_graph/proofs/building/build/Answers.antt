@@ -7,10 +7,10 @@ pub new-requires : goal.new-requires
 new-requires c =
     let m = c.args.merged.now in
     let rows = rw c.deref.ensures.value at c.in_ok-rows.ensures in
-    graph_kept m c.in_ok-ids.ids.items c.in_ok-rows.rows c.in_ok-ids.ensures.rising c.in_ok-ids.ensures.nodes rows
+    graph_kept m c.in_ok-ids.ids.items c.in_ok-rows.rows c.in_ok-ids.ensures rows
 
 pub returns : goal.returns
 returns c =
     let m = c.args.merged.now in
     let rows = rw c.deref.ensures.value at c.in_ok-rows.ensures in
-    subst (IsGraphOf m) (sym c.new.ensures) (graph_built m c.in_ok-ids.ids.items c.in_ok-rows.rows c.in_ok-ids.ensures.rising c.in_ok-ids.ensures.nodes rows)
+    subst (IsGraphOf m) (sym c.new.ensures) (graph_built m c.in_ok-ids.ids.items c.in_ok-rows.rows c.in_ok-ids.ensures rows)

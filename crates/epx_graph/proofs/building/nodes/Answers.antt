@@ -1,13 +1,15 @@
-use Rattle.std.proofs.Common.{◌++◌, ◌∷◌, [], take, sym, ap, ◌∙◌}
+use Rattle.std.proofs.Common.{◌≡◌, ◌++◌, sym, ap, subst, ◌∙◌}
 use Rattle.epx_types.specs.CommittedMap.{ids_of}
-use Rattle.epx_graph.proofs.MissingIds.{ids_more}
+use Rattle.epx_graph.specs.Nodes.{AreNodesOf}
+use Rattle.epx_graph.proofs.MissingIds.{missing_kept}
+use Rattle.epx_graph.proofs.Numbering.{nodes_joined}
 use Rattle.epx_graph.proofs.building.nodes.Goals as goal
 
-pub loop-position-preserved : goal.loop-position-preserved
-loop-position-preserved c =
+pub returns : goal.returns
+returns c =
     let m = c.args.merged.now in
-    let i = c.loop-position.position in
-    c.in_ok-push.ensures.items
-    ∙ ap (λ l. l ++ c.id.result ∷ []) c.loop-position.invariant
-    ∙ ap (λ x. ids_of (take i m) ++ x ∷ []) c.id.ensures
-    ∙ sym (ids_more m i c.entry_at.result.now c.entry_at.ensures)
+    let missing = c.in_ok-missing.missing.items in
+    let is : c.extend_from_slice.new.self.items ≡ ids_of m ++ missing =
+        c.in_ok-extend_from_slice.ensures.items ∙ ap (λ l. l ++ c.deref-2.result.now) c.in_ok-ids.ensures ∙ ap (λ l. ids_of m ++ l) c.deref-2.ensures.value in
+    let kept = missing_kept m c.deref.result.now missing (c.deref.ensures.value ∙ c.requires.missing) c.in_ok-missing.ensures.rising c.in_ok-missing.ensures.exact in
+    subst (AreNodesOf m) (sym is) (nodes_joined m missing c.requires.instances_rise kept)
