@@ -11,4 +11,6 @@ pub mod OnLiterals
 pub mod WorkedLines
 pub mod TokenValues
 pub mod Parts
+pub mod NumberTexts
+pub mod OperationValues
 pub mod RisingOthers

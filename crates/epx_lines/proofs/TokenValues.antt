@@ -1,21 +1,24 @@
 -- Values at the front of tokens, and lists and objects built of them.
-use Rattle.std.proofs.Common.{◌≡◌, ℕ, suc, ◌-◌, ◌<◌, ◌≤◌, List, [], ◌∷◌, ◌++◌, length, Option, Some, None, option_map, option_and_then, refl, sym, ap, ◌∙◌, subst, arith, append-nil, lt-ltb, le-leb, ◌^◌}
+use Rattle.std.proofs.Common.{◌≡◌, ℕ, suc, ◌-◌, ◌<◌, ◌≤◌, List, [], ◌∷◌, ◌++◌, length, Option, Some, None, IfSome, ltb, option_map, option_and_then, refl, sym, ap, ◌∙◌, subst, arith, append-nil, lt-ltb, ◌^◌}
+use Rattle.std.proofs.lemmas.Option.{cond_some}
 use Rattle.json.specs.Token.{Token}
 use Rattle.json.specs.Json as json
 use Rattle.json.specs.Lex.{tokens}
 use Rattle.json.specs.Json.{Parse, parse_map, after_end_array, read_key, items, members, value, if_last}
 use Rattle.json.proofs.Grammar.{value_is, value-begin_array, value-begin_object, items_end, items_more, members_end, members_more, left, skip_value-shorter, read_key-shorter}
-use Rattle.serde_json.specs.Data.{Data, null, number, string, array, object, item, Members, no_members, put}
+use Rattle.serde_json.specs.Data.{Data, null, unsigned, number, string, array, object, item, Members, no_members, put}
+use Rattle.serde_json.specs.Find.{as_number, as_u64}
 use Rattle.serde_json.specs.Read.{number_of, of_json, of_items, of_members, converted, max_depth, read}
 use Rattle.serde_json.specs.View.{items_of}
 use Rattle.epx_lines.specs.Tokens.{BeginsWith, Gives}
 use Rattle.epx_types.specs.Keys.{FitsKey}
 use Rattle.epx_types.specs.declared.op.Op.{Op}
 use Rattle.epx_lines.specs.DependencyList.{id_of}
-use Rattle.epx_lines.specs.OperationList.{key_of, op_with_key, op_with_value, op_of}
-use Rattle.epx_lines.specs.Elements.{whole, list_of, at_most, every, each_of_at_most}
+use Rattle.epx_lines.specs.OperationList.{op_with_key, op_with_value, op_of}
+use Rattle.epx_lines.specs.Elements.{below, whole, list_of, at_most, every, each_of_at_most}
 use Rattle.epx_lines.proofs.Elements.{at_most-within}
 use Rattle.epx_lines.proofs.WellFormed.{length-every}
+use Rattle.epx_lines.proofs.WrittenParts.{whole-fits, key_of-fits}
 
 -- ---- values that hold no other
 
@@ -30,6 +33,24 @@ BeginsWith-null rest depth h = ap (converted of_json) (value_is depth (Token.nul
 
 pub BeginsWith-deeper : (n m : ℕ) (ts : List Token) (d : Data) (rest : List Token) → n ≤ m → BeginsWith n ts d rest → BeginsWith m ts d rest
 BeginsWith-deeper n m ts d rest l h depth k = h depth (omega arith)
+
+-- ---- what f gives for them
+
+-- what f gives for the value at the front, if it gives something
+pub Gives-found : {A : Type 0} (n : ℕ) (f : Data → Option A) (ts rest : List Token) (d : Data) (o : Option A) → BeginsWith n ts d rest → o ≡ f d → IfSome o (λ x. Gives n f ts x rest)
+Gives-found n f ts rest d None h e = tt
+Gives-found n f ts rest d (Some x) h e = (d, h, sym e)
+
+pub Gives-number : (s : List ℕ) (n : ℕ) (rest : List Token) → number_of s ≡ Some (unsigned n) → n < 2 ^ 64 → Gives 0 (whole (2 ^ 64)) (Token.number s ∷ rest) n rest
+Gives-number s n rest is l = (number (unsigned n), BeginsWith-number s _ rest (ap (option_map number) is), whole-fits (2 ^ 64) n l)
+
+narrower : (b c n : ℕ) (o : Option ℕ) → option_and_then (below b) o ≡ Some n → n < c → option_and_then (below c) o ≡ Some n
+narrower b c n None e l = absurd (cc e)
+narrower b c n (Some m) e l = let same : m ≡ n = (cond_some (ltb m b) m n e).1 in rw (same, lt-ltb n c l)
+
+pub Gives-replica : (n : ℕ) (ts rest : List Token) → Gives 0 (whole (2 ^ 64)) ts n rest → n < 256 → Gives 0 (whole 256) ts n rest
+unfolding whole
+Gives-replica n ts rest g l = (g.0, g.1, narrower (2 ^ 64) 256 n (option_and_then as_u64 (as_number g.0)) g.2 l)
 
 -- ---- what a value is read from
 
@@ -219,14 +240,10 @@ pub id_of-pair : (a b : Data) (r i : ℕ) → whole 256 a ≡ Some r → whole (
 unfolding id_of
 id_of-pair a b r i r_is i_is = rw (r_is, i_is)
 
-key_of-string : (k : List ℕ) → FitsKey k → key_of (string k) ≡ Some k
-unfolding key_of
-key_of-string k h = rw (lt-ltb _ _ h.0, le-leb _ _ h.1)
-
 pub op_of-keyed : (name k : List ℕ) (op : Op) → FitsKey k → op_with_key name k ≡ Some op → op_of (array (items_of (string name ∷ string k ∷ []))) ≡ Some op
 unfolding op_of
-op_of-keyed name k op h e = rw (key_of-string k h, e)
+op_of-keyed name k op h e = rw (key_of-fits k h, e)
 
 pub op_of-keyed_with : (name k : List ℕ) (d : Data) (op : Op) → FitsKey k → op_with_value name k d ≡ Some op → op_of (array (items_of (string name ∷ string k ∷ d ∷ []))) ≡ Some op
 unfolding op_of
-op_of-keyed_with name k d op h e = rw (key_of-string k h, e)
+op_of-keyed_with name k d op h e = rw (key_of-fits k h, e)

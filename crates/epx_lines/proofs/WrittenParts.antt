@@ -34,7 +34,7 @@ FitsValue-from_range (negsuc n) h = let l : n < 2 ^ 63 = omega (arith, ints, h) 
   short = omega (arith, length-decimal-le 19 (suc n) (lit< tt) (omega arith) (omega arith));
 }
 
-key_of-fits : (k : List ℕ) → FitsKey k → key_of (string k) ≡ Some k
+pub key_of-fits : (k : List ℕ) → FitsKey k → key_of (string k) ≡ Some k
 unfolding key_of
 key_of-fits k h = grind (arith, nat_tests, h.0, h.1)
 

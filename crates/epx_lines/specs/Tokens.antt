@@ -1,5 +1,6 @@
 -- Values at the front of a line's tokens; for private clauses.
 use Rattle.std.specs.Prelude.{◌≡◌, ℕ, ◌^◌, ◌≤◌, List, true, codes, Option, Some, IfSome, option_map}
+use Rattle.std.specs.Str.Parse.{IsNumeral, digits_value}
 use Rattle.json.specs.Token.{Token}
 use Rattle.json.specs.Json.{value}
 use Rattle.serde_json.specs.Data.{Data, Members, object, put}
@@ -10,6 +11,10 @@ use Rattle.epx_lines.specs.Elements.{whole, each_of_at_most}
 use Rattle.epx_lines.specs.DependencyList.{id_of}
 use Rattle.epx_lines.specs.OperationList.{ops_of}
 use Rattle.epx_lines.specs.Meaning.{at_member, status_is_allowed}
+
+-- the text is digits alone, one or more, and they write n
+abbrev pub AreDigitsOf : List ℕ → ℕ → Type 0
+AreDigitsOf text n = IsNumeral 10 text × (digits_value 10 text ≡ n)
 
 -- the tokens begin with the value d, whose lists nest at most n levels deep, and `rest` follows
 abbrev pub BeginsWith : ℕ → List Token → Data → List Token → Type 0

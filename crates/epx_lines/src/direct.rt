@@ -1,25 +1,22 @@
 //! Reading an instance from the tokens of its line, with no value of the whole line in between. Each
 //! function takes what it names from the front of the tokens. None says nothing of the line: it is
 //! then read as a value.
-ghost use Rattle.std.specs.Prelude.{◌≡◌, ◌<◌, ◌==◌, true, false, Some, Ok, IfSome, IsTrue, option_map, codes, length, slice_index};
-ghost use Rattle.serde_json.specs.Data.{Data, Members, object, number, string};
-ghost use Rattle.serde_json.specs.Read.{number_of, number_from};
-ghost use Rattle.serde_json.specs.View.{view};
+ghost use Rattle.std.specs.Prelude.{◌≡◌, ◌^◌, Ok, IfSome, codes};
+ghost use Rattle.serde_json.specs.Data.{Members, object, string};
 ghost use Rattle.epx_types.specs.declared.fault.Why.TheVariants.{NotJson};
 ghost use Rattle.epx_lines.specs.declared.Line.TheVariants as line;
 ghost use Rattle.epx_lines.specs.DependencyList.{id_of};
-ghost use Rattle.epx_lines.specs.Elements.{each_of_at_most};
+ghost use Rattle.epx_lines.specs.Elements.{whole, each_of_at_most};
 ghost use Rattle.epx_lines.specs.Meaning.{json_of, need, meaning_of_value, instance_of};
-ghost use Rattle.epx_lines.specs.OperationList.{op_of, ops_of};
+ghost use Rattle.epx_lines.specs.OperationList.{op_with_value, op_of, ops_of};
 ghost use Rattle.epx_lines.specs.Tokens.{BeginsWith, Gives, HoldsParts, AddsMember};
 
-use crate::deps::{other_ids, read_number, read_replica};
-use crate::ops::{op_named, op_named_with};
+use crate::deps::other_ids;
+use crate::digits::{signed_number, unsigned_number};
+use crate::ops::{op_named, op_with_absence, op_with_number, op_with_target};
 use epx_types::entry::{MAX_DEPS, MAX_OPS};
 use epx_types::{Entry, Id, Key, Op};
-use fast_float::Numeral;
 use json::{Reader, Scratch, Token};
-use serde_json::Value;
 use std::alloc::Global;
 use std::str;
 
@@ -49,62 +46,19 @@ impl Lists {
     }
 }
 
-fn has_minus(bytes: &[u8]) -> bool
-    ensures value { result ≡ (slice_index bytes.now 0 == 45) }
-    ensures len { IsTrue result → 0 < length bytes.now }
-{
-    !bytes.is_empty() && bytes[0] == b'-'
-}
-
-fn positive_value(numeral: &Numeral<'_>) -> Option<Value>
-    ensures { IfSome result (λ v. option_map number (number_from false numeral.now) ≡ Some (view v)) }
-{
-    let whole = numeral.to_u64()?;
-    Some(Value::from(whole))
-}
-
-fn negative_value(numeral: &Numeral<'_>) -> Option<Value>
-    ensures { IfSome result (λ v. option_map number (number_from true numeral.now) ≡ Some (view v)) }
-{
-    let whole = numeral.to_i64(true)?;
-    if whole < 0 {
-        Some(Value::from(whole))
-    } else {
-        None
-    }
-}
-
-/// A whole number of 64 bits, by its digits.
-fn number_value(text: &str) -> Option<Value>
-    ensures { IfSome result (λ v. option_map number (number_of text.now) ≡ Some (view v)) }
-{
-    let bytes = text.as_bytes();
-    if has_minus(bytes) {
-        negative_value(&Numeral::scan(&bytes[1..]))
-    } else {
-        positive_value(&Numeral::scan(bytes))
-    }
-}
-
-fn take_number(reader: &mut Reader<'_>) -> Option<Value>
-    ensures { IfSome result (λ v. BeginsWith 0 reader.old (view v) reader.new) }
+fn take_number(reader: &mut Reader<'_>) -> Option<u64>
+    ensures { IfSome result (λ n. Gives 0 (whole (2 ^ 64)) reader.old n reader.new) }
 {
     let Token::Number(text) = reader.next()? else {
         return None;
     };
-    Some(number_value(text)?)
+    Some(unsigned_number(text)?)
 }
 
-/// A value that holds no other.
-fn take_scalar(alloc: Global, reader: &mut Reader<'_>) -> Option<Value>
-    ensures { IfSome result (λ v. BeginsWith 0 reader.old (view v) reader.new) }
+fn take_replica(reader: &mut Reader<'_>) -> Option<u8>
+    ensures { IfSome result (λ r. Gives 0 (whole 256) reader.old r reader.new) }
 {
-    match reader.next()? {
-        Token::Number(text) => Some(number_value(text)?),
-        Token::String(text) => Some(Value::String(String::from_str(alloc, text).ok()?)),
-        Token::Null => Some(Value::Null),
-        _ => None,
-    }
+    Some(u8::try_from(take_number(reader)?).ok()?)
 }
 
 fn take_id(reader: &mut Reader<'_>) -> Option<Id>
@@ -113,15 +67,12 @@ fn take_id(reader: &mut Reader<'_>) -> Option<Id>
     let Token::BeginArray = reader.next()? else {
         return None;
     };
-    let replica = take_number(reader)?;
+    let replica = take_replica(reader)?;
     let number = take_number(reader)?;
     if !reader.take_end_array() {
         return None;
     }
-    Some(Id {
-        replica: read_replica(&replica)?,
-        number: read_number(&number)?,
-    })
+    Some(Id { replica, number })
 }
 
 /// What was gathered, moved into a vector that has room for it and no more.
@@ -150,6 +101,18 @@ fn take_ids(alloc: Global, reader: &mut Reader<'_>, ids: &mut Vec<Id>) -> Option
     moved(alloc, ids)
 }
 
+/// The operation of this name and key, by the value that follows them.
+fn take_op_with(alloc: Global, reader: &mut Reader<'_>, name: &str, key: Key) -> Option<Op>
+    ensures { IfSome result (λ op. Gives 0 (op_with_value name.now key) reader.old op reader.new) }
+{
+    match reader.next()? {
+        Token::Number(text) => op_with_number(name, key, signed_number(text)?),
+        Token::String(text) => op_with_target(name, key, Key::new(alloc, text).ok()??),
+        Token::Null => op_with_absence(name, key),
+        _ => None,
+    }
+}
+
 fn take_op(alloc: Global, reader: &mut Reader<'_>) -> Option<Op>
     ensures { IfSome result (λ op. Gives 1 op_of reader.old op reader.new) }
 {
@@ -166,11 +129,11 @@ fn take_op(alloc: Global, reader: &mut Reader<'_>) -> Option<Op>
     if reader.take_end_array() {
         return Some(op_named(name, key)?);
     }
-    let value = take_scalar(alloc, reader)?;
+    let op = take_op_with(alloc, reader, name, key)?;
     if !reader.take_end_array() {
         return None;
     }
-    Some(op_named_with(alloc, name, key, &value).ok()??)
+    Some(op)
 }
 
 fn take_ops(alloc: Global, reader: &mut Reader<'_>, ops: &mut Vec<Op>) -> Option<Vec<Op>>
@@ -211,11 +174,11 @@ fn take_member(
     ensures { IfSome result (λ _. AddsMember name.now reader.old reader.new parts.old parts.new) }
 {
     if name == "r" {
-        parts.replica = Some(read_replica(&take_number(reader)?)?);
+        parts.replica = Some(take_replica(reader)?);
     } else if name == "i" {
-        parts.number = Some(read_number(&take_number(reader)?)?);
+        parts.number = Some(take_number(reader)?);
     } else if name == "seq" {
-        parts.seq = Some(read_number(&take_number(reader)?)?);
+        parts.seq = Some(take_number(reader)?);
     } else if name == "deps" {
         parts.named = Some(take_ids(alloc, reader, &mut lists.ids)?);
     } else if name == "ops" {

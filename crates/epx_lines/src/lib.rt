@@ -4,6 +4,7 @@
 
 mod cut;
 mod deps;
+mod digits;
 mod direct;
 mod laws;
 mod ops;

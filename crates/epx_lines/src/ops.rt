@@ -1,7 +1,8 @@
 //! Operations of a line.
-ghost use Rattle.std.specs.Prelude.{◌≡◌, IfOk, option_map};
+ghost use Rattle.std.specs.Prelude.{◌≡◌, Some, IfOk, option_map};
+ghost use Rattle.serde_json.specs.Data.{Data, null};
 ghost use Rattle.serde_json.specs.View.{view};
-ghost use Rattle.epx_lines.specs.OperationList.{key_of, value_or_null, op_with_key, op_with_value, op_of, ops_of};
+ghost use Rattle.epx_lines.specs.OperationList.{key_of, op_with_key, op_with_value, op_of, ops_of};
 ghost use Rattle.epx_lines.specs.Elements.{signed};
 
 use epx_types::entry::MAX_OPS;
@@ -19,17 +20,6 @@ fn read_key(alloc: Global, value: &Value) -> Result<Option<Key>, Memory>
     Ok(Key::new(alloc, text)?)
 }
 
-/// A value of 64 bits, or null for absence.
-#[tactic(auto, unfolding(crate::specs::OperationList::value_or_null))]
-fn read_value_or_null(value: &Value) -> Option<Option<i64>>
-    ensures { result ≡ value_or_null (view value.now) }
-{
-    if value.is_null() {
-        return Some(None);
-    }
-    Some(Some(value.as_i64()?))
-}
-
 #[tactic(auto, unfolding(crate::specs::OperationList::op_with_key))]
 pub fn op_named(name: &str, key: Key) -> Option<Op>
     ensures { result ≡ op_with_key name.now key }
@@ -44,38 +34,67 @@ pub fn op_named(name: &str, key: Key) -> Option<Op>
 }
 
 #[tactic(auto, unfolding(crate::specs::OperationList::op_with_value))]
-pub fn op_named_with(
-    alloc: Global,
-    name: &str,
-    key: Key,
-    value: &Value,
-) -> Result<Option<Op>, Memory>
-    ensures { IfOk result (λ o. o ≡ op_with_value name.now key (view value.now)) }
+pub fn op_with_number(name: &str, key: Key, number: i64) -> Option<Op>
+    ensures { (d : Data) → signed d ≡ Some number → result ≡ op_with_value name.now key d }
 {
-    if name == "copy" {
-        return Ok(read_key(alloc, value)?.map(|target| Op::Copy {
-            source: key,
-            target,
-        }));
-    }
-    if name == "is" {
-        return Ok(read_value_or_null(value).map(|value| Op::Is { key, value }));
-    }
-    let Some(number) = value.as_i64() else {
-        return Ok(None);
-    };
     if name == "put" {
-        Ok(Some(Op::Put { key, value: number }))
+        Some(Op::Put { key, value: number })
     } else if name == "add" {
-        Ok(Some(Op::Add {
+        Some(Op::Add {
             key,
             amount: number,
-        }))
+        })
+    } else if name == "is" {
+        Some(Op::Is {
+            key,
+            value: Some(number),
+        })
     } else if name == "floor" {
-        Ok(Some(Op::Floor { key, least: number }))
+        Some(Op::Floor { key, least: number })
     } else {
-        Ok(None)
+        None
     }
+}
+
+#[tactic(auto, unfolding(crate::specs::OperationList::op_with_value))]
+pub fn op_with_target(name: &str, key: Key, target: Key) -> Option<Op>
+    ensures { (d : Data) → key_of d ≡ Some target → result ≡ op_with_value name.now key d }
+{
+    if name == "copy" {
+        Some(Op::Copy {
+            source: key,
+            target,
+        })
+    } else {
+        None
+    }
+}
+
+#[tactic(auto, unfolding(crate::specs::OperationList::key_of, crate::specs::OperationList::value_or_null, crate::specs::OperationList::op_with_value))]
+pub fn op_with_absence(name: &str, key: Key) -> Option<Op>
+    ensures { result ≡ op_with_value name.now key null }
+{
+    if name == "is" {
+        Some(Op::Is { key, value: None })
+    } else {
+        None
+    }
+}
+
+#[tactic(auto, unfolding(crate::specs::OperationList::op_with_value))]
+fn op_named_with(alloc: Global, name: &str, key: Key, value: &Value) -> Result<Option<Op>, Memory>
+    ensures { IfOk result (λ o. o ≡ op_with_value name.now key (view value.now)) }
+{
+    if value.is_null() {
+        return Ok(op_with_absence(name, key));
+    }
+    if let Some(number) = value.as_i64() {
+        return Ok(op_with_number(name, key, number));
+    }
+    let Some(target) = read_key(alloc, value)? else {
+        return Ok(None);
+    };
+    Ok(op_with_target(name, key, target))
 }
 
 #[tactic(auto, unfolding(crate::specs::OperationList::op_of))]

@@ -1,31 +1,26 @@
-use Rattle.std.proofs.Common.{◌≡◌, ◌^◌, Some, codes, refl, arith, rules}
+use Rattle.std.proofs.Common.{◌≡◌, codes, refl, arith, rules}
 use Rattle.serde_json.specs.Data.{string}
-use Rattle.serde_json.specs.View.{view}
-use Rattle.epx_lines.specs.Elements.{whole}
 use Rattle.epx_lines.proofs.TokenValues.{BeginsWith-deeper}
 use Rattle.epx_lines.proofs.Parts.{HoldsParts-replica, HoldsParts-number, HoldsParts-seq, HoldsParts-named, HoldsParts-ops, HoldsParts-status}
 use Rattle.epx_lines.proofs.direct.take_member.Goals as goal
 
-pub returns-in_ok-read_replica : goal.returns-in_ok-read_replica
-returns-in_ok-read_replica c =
+pub returns-in_ok-take_replica : goal.returns-in_ok-take_replica
+returns-in_ok-take_replica c =
     let named : c.args.name.now ≡ codes "r" = search rules in
-    let d = view c.in_ok-take_number.field-0 in
-    let is : whole 256 d ≡ Some c.in_ok-read_replica.field-0 = grind arith in
-    (d, BeginsWith-deeper 0 2 _ d _ (omega arith) c.in_ok-take_number.ensures, λ ms h. rw named (HoldsParts-replica d ms c.args.parts.now h _ is))
+    let g = c.in_ok-take_replica.ensures in
+    (g.0, BeginsWith-deeper 0 2 _ g.0 _ (omega arith) g.1, λ ms h. rw named (HoldsParts-replica g.0 ms c.args.parts.now h _ g.2))
 
-pub returns-in_ok-read_number : goal.returns-in_ok-read_number
-returns-in_ok-read_number c =
+pub returns-in_ok-take_number : goal.returns-in_ok-take_number
+returns-in_ok-take_number c =
     let named : c.args.name.now ≡ codes "i" = search rules in
-    let d = view c.in_ok-take_number-2.field-0 in
-    let is : whole (2 ^ 64) d ≡ Some c.in_ok-read_number.field-0 = grind arith in
-    (d, BeginsWith-deeper 0 2 _ d _ (omega arith) c.in_ok-take_number-2.ensures, λ ms h. rw named (HoldsParts-number d ms c.args.parts.now h _ is))
+    let g = c.in_ok-take_number.ensures in
+    (g.0, BeginsWith-deeper 0 2 _ g.0 _ (omega arith) g.1, λ ms h. rw named (HoldsParts-number g.0 ms c.args.parts.now h _ g.2))
 
-pub returns-in_ok-read_number-2 : goal.returns-in_ok-read_number-2
-returns-in_ok-read_number-2 c =
+pub returns-in_ok-take_number-2 : goal.returns-in_ok-take_number-2
+returns-in_ok-take_number-2 c =
     let named : c.args.name.now ≡ codes "seq" = search rules in
-    let d = view c.in_ok-take_number-3.field-0 in
-    let is : whole (2 ^ 64) d ≡ Some c.in_ok-read_number-2.field-0 = grind arith in
-    (d, BeginsWith-deeper 0 2 _ d _ (omega arith) c.in_ok-take_number-3.ensures, λ ms h. rw named (HoldsParts-seq d ms c.args.parts.now h _ is))
+    let g = c.in_ok-take_number-2.ensures in
+    (g.0, BeginsWith-deeper 0 2 _ g.0 _ (omega arith) g.1, λ ms h. rw named (HoldsParts-seq g.0 ms c.args.parts.now h _ g.2))
 
 pub returns-in_ok-take_ids : goal.returns-in_ok-take_ids
 returns-in_ok-take_ids c =

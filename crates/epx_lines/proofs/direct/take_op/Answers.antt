@@ -3,9 +3,9 @@ use Rattle.json.specs.Token.{Token}
 use Rattle.json.specs.Json.{after_end_array}
 use Rattle.json.specs.Reads.{token_of}
 use Rattle.serde_json.specs.Data.{array, string}
-use Rattle.serde_json.specs.View.{view, items_of}
+use Rattle.serde_json.specs.View.{items_of}
 use Rattle.epx_types.specs.Keys.{FitsKey}
-use Rattle.epx_lines.specs.OperationList.{op_with_key, op_with_value}
+use Rattle.epx_lines.specs.OperationList.{op_with_key}
 use Rattle.epx_lines.proofs.TokenValues.{BeginsWith-string, BeginsWith-array, op_of-keyed, op_of-keyed_with}
 use Rattle.epx_lines.proofs.direct.take_op.Goals as goal
 
@@ -35,11 +35,12 @@ returns c =
     let third : c.next-2.new.self ≡ token_of c.in_ok-key.field-0 ∷ c.next-3.new.self = grind arith in
     let keys : c.next-2.new.self ≡ Token.string c.in-String-2.key.now ∷ c.next-3.new.self = grind (arith, third) in
     let same : c.take_end_array.new.self ≡ c.next-3.new.self = grind arith in
-    let end : after_end_array c.take_scalar.new.reader ≡ Some c.take_end_array-2.new.self = grind arith in
+    let end : after_end_array c.take_op_with.new.reader ≡ Some c.take_end_array-2.new.self = grind arith in
     let fits : FitsKey c.in-String-2.key.now = search rules in
-    let op : op_with_value c.in-String.name.now c.in-String-2.key.now (view c.in_ok-value.value) ≡ Some c.in_ok-branch.field-0 = search rules in
-    let ds = string c.in-String.name.now ∷ string c.in-String-2.key.now ∷ view c.in_ok-value.value ∷ [] in (
+    let is_key : c.in_ok-key-2.key ≡ c.in-String-2.key.now = search rules in
+    let g = c.in_ok-op.ensures in
+    let ds = string c.in-String.name.now ∷ string c.in-String-2.key.now ∷ g.0 ∷ [] in (
       array (items_of ds),
-      rw (opens, names, keys) (BeginsWith-array 0 _ ds c.take_end_array-2.new.self (_, BeginsWith-string c.in-String.name.now _, (_, BeginsWith-string c.in-String-2.key.now _, (c.take_scalar.new.reader, rw (← same) c.in_ok-value.ensures, end)))),
-      op_of-keyed_with _ _ _ _ fits op,
+      rw (opens, names, keys) (BeginsWith-array 0 _ ds c.take_end_array-2.new.self (_, BeginsWith-string c.in-String.name.now _, (_, BeginsWith-string c.in-String-2.key.now _, (c.take_op_with.new.reader, rw (← same) g.1, end)))),
+      op_of-keyed_with _ _ _ _ fits (rw is_key at g.2),
     )
