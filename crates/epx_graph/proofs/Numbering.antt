@@ -1,5 +1,5 @@
 -- The nodes of a map, and the rows of their edges.
-use Rattle.std.proofs.Common.{◌≡◌, inl, inr, ℕ, ◌+◌, ◌<◌, ◌≤◌, List, [], ◌∷◌, ◌++◌, length, take, Some, slice_get, Contains, refl, sym, ap, subst, ◌∙◌, arith}
+use Rattle.std.proofs.Common.{◌≡◌, inl, inr, ℕ, ◌+◌, ◌<◌, ◌≤◌, List, [], ◌∷◌, ◌++◌, length, take, Some, slice_get, Contains, sym, ap, subst, ◌∙◌, arith}
 use Rattle.std.proofs.lemmas.Bool.{cases_lt}
 use Rattle.std.proofs.lemmas.List.{length-take, length-map, get_or_append_left, get_or_push, length_push, take_at, drop_at}
 use Rattle.epx_types.specs.declared.id.Id.{Id}
@@ -39,9 +39,6 @@ module _ (m : List Instance) (ids : List Id) (is : AreNodesOf m ids) where
       ]
 
 -- ---- rows
-
-pub rows_none : (m : List Instance) (ids : List Id) → AreRowsOf m ids [] 0
-rows_none m ids = (refl, λ k e l at. absurd (omega arith))
 
 pub rows_more : (m : List Instance) (ids : List Id) (rows : List (List ℕ)) (n : ℕ) (e : Instance) (row : List ℕ) → slice_get m n ≡ Some e → ArePlacesOf ids e.deps row → AreRowsOf m ids rows n → AreRowsOf m ids (rows ++ row ∷ []) (n + 1)
 rows_more m ids rows n e row at is before = (length_push rows row ∙ ap (λ k. k + 1) before.0, each) where

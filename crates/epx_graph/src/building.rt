@@ -49,7 +49,12 @@ fn nodes(alloc: Global, merged: &Merged, gathered: &Gathered) -> Result<Vec<Id>,
 }
 
 /// The numbers of missing nodes, in `row`.
-fn number_missing(merged: &Merged, ids: &[Id], missing: &[Id], row: &mut Vec<usize>) -> Result<(), Memory>
+fn number_missing(
+    merged: &Merged,
+    ids: &[Id],
+    missing: &[Id],
+    row: &mut Vec<usize>,
+) -> Result<(), Memory>
     requires nodes { AreNodesOf merged.now ids.now }
     requires rising { AllPairs Below missing.now }
     requires missing { All (λ x. ¬ IsCommitted merged.now x) missing.now }
@@ -66,7 +71,12 @@ fn number_missing(merged: &Merged, ids: &[Id], missing: &[Id], row: &mut Vec<usi
 }
 
 /// The edges of the committed nodes: what was gathered of each, and then its missing dependencies.
-fn numbered_rows(alloc: Global, merged: &Merged, ids: &[Id], gathered: &Gathered) -> Result<Rows, Memory>
+fn numbered_rows(
+    alloc: Global,
+    merged: &Merged,
+    ids: &[Id],
+    gathered: &Gathered,
+) -> Result<Rows, Memory>
     requires nodes { AreNodesOf merged.now ids.now }
     requires gathered { IsGathered merged.now gathered.now.rows gathered.now.missing.items }
     ensures { IfOk result (λ rows. AreRowsOf merged.now ids.now rows (length merged.now)) }

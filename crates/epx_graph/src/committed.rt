@@ -7,17 +7,23 @@ use epx_merge::Merged;
 use epx_types::{Id, Memory};
 use std::alloc::Global;
 
-/// The dependencies of the committed instances, those that are committed and those that are not.
+/// The dependencies of the committed instances, the committed ones apart from the missing ones.
 #[derive(Debug, Drop)]
 pub(crate) struct Gathered {
     /// For each committed instance the positions of its committed dependencies.
     pub(crate) rows: Rows,
-    /// The other dependencies, of one instance after another.
+    /// The missing dependencies, those of one instance after those of another: as many of each as
+    /// its row is shorter than its list of dependencies.
     pub(crate) missing: Vec<Id>,
 }
 
 /// Adds the position of each Id that is committed, and each other Id.
-fn gather(merged: &Merged, deps: &[Id], numbers: &mut Vec<usize>, missing: &mut Vec<Id>) -> Result<(), Memory>
+fn gather(
+    merged: &Merged,
+    deps: &[Id],
+    numbers: &mut Vec<usize>,
+    missing: &mut Vec<Id>,
+) -> Result<(), Memory>
     ensures numbers { OnOk result (numbers.new.items ≡ numbers.old.items ++ positions_of merged.now deps.now) }
     ensures missing { OnOk result (missing.new.items ≡ missing.old.items ++ lacking merged.now deps.now) }
 {
@@ -34,7 +40,12 @@ fn gather(merged: &Merged, deps: &[Id], numbers: &mut Vec<usize>, missing: &mut 
 impl Rows {
     /// With the positions of committed dependencies as one row more. Those that are missing go
     /// into a list of their own.
-    fn push_committed(self, merged: &Merged, deps: &[Id], missing: &mut Vec<Id>) -> Result<Rows, Memory>
+    fn push_committed(
+        self,
+        merged: &Merged,
+        deps: &[Id],
+        missing: &mut Vec<Id>,
+    ) -> Result<Rows, Memory>
         ensures rows { IfOk result (λ rows. rows ≡ self ++ positions_of merged.now deps.now ∷ []) }
         ensures missing { OnOk result (missing.new.items ≡ missing.old.items ++ lacking merged.now deps.now) }
     {
@@ -48,7 +59,7 @@ impl Rows {
     }
 }
 
-/// How many dependencies there are, as far as a number can say.
+/// How many dependencies there are, as far as a number can say. Only how much room is made rests on it.
 fn count_deps(merged: &Merged) -> usize {
     let mut count: usize = 0;
     for position in 0..merged.len() {

@@ -59,7 +59,11 @@ impl Rows {
     pub(crate) fn room(&self, alloc: Global, more: usize) -> Result<Rows, Memory>
         ensures { IfOk result (λ rows. rows ≡ []) }
     {
-        Rows::with_capacity(alloc, self.ends.len(), self.numbers.len().saturating_add(more))
+        Rows::with_capacity(
+            alloc,
+            self.ends.len(),
+            self.numbers.len().saturating_add(more),
+        )
     }
 
     pub(crate) fn len(&self) -> usize

@@ -40,7 +40,7 @@ loop-position-preserved c =
     let places : ArePlacesOf ids (lacking m e.deps) high = subst (λ (xs : List Id). ArePlacesOf ids xs high) (c.split_at.ensures.front ∙ these.these) c.in_ok-number_missing.ensures in
     let joined = row_joined m ids c.requires.nodes e.deps (AllPairs-from_IsRising e.deps c.deps.ensures.fits.rising) high places in
     let is : c.in_ok-rows-2.rows ≡ rows ++ (positions_of m e.deps ++ high) ∷ [] =
-        c.in_ok-rows-2.ensures ∙ ap (λ r. rows ++ (c.row-known.result.now ++ r) ∷ []) c.deref.ensures.value ∙ ap (λ r. rows ++ (r ++ high) ∷ []) these.known in
+    c.in_ok-rows-2.ensures ∙ ap (λ r. rows ++ (c.row-known.result.now ++ r) ∷ []) c.deref.ensures.value ∙ ap (λ r. rows ++ (r ++ high) ∷ []) these.known in
     record {
       rows = subst (λ (r : List (List ℕ)). AreRowsOf m ids r (c.loop-position.position + 1)) (sym is) (rows_more m ids rows c.loop-position.position e (positions_of m e.deps ++ high) c.entry_at.ensures joined c.loop-position.invariant.rows);
       missing = c.split_at.ensures.back ∙ these.later;
