@@ -78,8 +78,13 @@ pub(crate) fn least_missing(alloc: Global, graph: &Graph) -> Result<Vec<Option<u
     ensures marks { IfOk result (λ marks. AreMarksOf graph.now marks.items) }
     ensures fits { OnOk result (IsGraph graph.now) }
 {
-    let sources = graph.sources(alloc)?;
     let mut search = Search::new(alloc, graph.committed_len())?;
+    // Where no node is missing, no edge has to be turned round.
+    if graph.committed_len() == graph.len() {
+        let Search { marks, stack: _ } = search;
+        return Ok(marks);
+    }
+    let sources = graph.sources(alloc)?;
     for root in graph.committed_len()..graph.len() {
         search.spread(&sources, root)?;
     }

@@ -1,13 +1,13 @@
 -- The marks of the components that reach a missing node, in the order in which they were finished.
-use Rattle.std.proofs.Common.{◌≡◌, ◌≢◌, ℕ, ◌+◌, ◌<◌, ◌≤◌, ◌↔◌, ◌⊎◌, inl, inr, Bool, true, false, List, [], ◌∷◌, length, get_or, set, sym, subst, ◌∙◌, ap, arith, Contains, IsTrue}
-use Rattle.std.proofs.lemmas.Bool.{cases_lt}
-use Rattle.std.proofs.lemmas.List.{get_or_default}
+use Rattle.std.proofs.Common.{◌≡◌, ◌≢◌, ℕ, ◌+◌, ◌<◌, ◌≤◌, ◌↔◌, ◌⊎◌, inl, inr, Bool, true, false, List, [], ◌∷◌, length, get_or, set, replicate, sym, subst, ◌∙◌, ap, arith, Contains, IsTrue}
+use Rattle.std.proofs.lemmas.Bool.{cases_lt, false≢true}
+use Rattle.std.proofs.lemmas.List.{get_or_default, get_or_past, get_or-replicate, length-replicate}
 use Rattle.std.proofs.lemmas.List.Elements.{Contains-get_or}
 use Rattle.epx_graph.specs.NodePaths.{IsNodePath}
 use Rattle.epx_order.specs.MissingNodes.{ReachesMissing}
 use Rattle.epx_order.specs.Partitions.{Parts, IsPartition, component_of, node_at, mark_for}
 use Rattle.epx_order.specs.Targets.{LeadsToMarked}
-use Rattle.epx_order.proofs.NodePathLemmas.{reaches_edge, reaches_on}
+use Rattle.epx_order.proofs.NodePathLemmas.{reaches_edge, reaches_on, reach_below}
 use Rattle.epx_order.proofs.PartitionLemmas.{node_below, set_for}
 
 -- the marks after the first n nodes of the order
@@ -83,3 +83,16 @@ path_marked edges committed p marks is m k j (c ∷ cs) l le h =
 
 pub marks_all : (edges : ℕ → List ℕ) (committed : ℕ) (p : Parts) (marks : List Bool) → IsPartition edges p → AreMarks edges committed p marks (length p.order) → (k : ℕ) → k < length p.component → IsTrue (mark_for p marks k) ↔ ReachesMissing edges committed k
 marks_all edges committed p marks is m k l = (m.reason k l, λ r. path_marked edges committed p marks is m k r.0 r.2.0 l r.1 r.2.1)
+
+-- where all nodes are committed, none reaches a missing one
+pub none_missing : (edges : ℕ → List ℕ) (p : Parts) (marks : List Bool) (count : ℕ) → IsPartition edges p → marks ≡ replicate count false → (k : ℕ) → k < length p.component → IsTrue (mark_for p marks k) ↔ ReachesMissing edges (length p.component) k
+none_missing edges p marks count is unmarked k l =
+    let none : mark_for p marks k ≡ false = ap (λ ms. get_or ms (component_of p k) false) unmarked ∙ unmarked_at (component_of p k) in (
+      λ marked. absurd (false≢true (sym none ∙ marked)),
+      λ r.
+          let below = reach_below edges (length p.component) (λ i j has. is.within i j has) k r.0 l r.2 in
+          absurd (omega (arith, below, r.1)),
+    )
+  where
+    unmarked_at : (c : ℕ) → get_or (replicate count false) c false ≡ false
+    unmarked_at c = elim (cases_lt c count) [ inl below ↦ get_or-replicate count c false false below | inr above ↦ get_or_past (replicate count false) c false (omega (arith, length-replicate count false, above)) ]

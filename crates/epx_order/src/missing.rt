@@ -21,6 +21,10 @@ pub(crate) fn find_missing(
     ensures each { IfOk result (λ marks. (k : ℕ) → k < length graph.now.ids → IsTrue (mark_for (parts partition.now) marks.items k) ↔ ReachesMissing (edges_of graph.now) graph.now.committed k) }
 {
     let mut marks = vec![in alloc; false; partition.count]?;
+    // Where no node is missing, no edge has to be looked at.
+    if graph.committed_len() == graph.len() {
+        return Ok(marks);
+    }
     for node in &partition.order {
         if leads_to_missing(graph, *node, &partition.component, &marks) {
             marks[partition.component[*node]] = true;

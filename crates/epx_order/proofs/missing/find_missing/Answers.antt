@@ -1,12 +1,12 @@
-use Rattle.std.proofs.Common.{◌≡◌, ◌+◌, ◌<◌, length, length-set, get_or, inl, inr, arith, sym, subst, ◌∙◌, ap, List, Bool, refl}
+use Rattle.std.proofs.Common.{◌≡◌, ◌↔◌, IsTrue, ◌+◌, ◌<◌, length, length-set, get_or, inl, inr, arith, sym, subst, ◌∙◌, ap, List, Bool, refl}
 use Rattle.std.proofs.lemmas.List.{get_or_read}
 use Rattle.std.proofs.lemmas.Bool.{false≢true}
 use Rattle.epx_graph.specs.Graphs.{edges_of}
 use Rattle.epx_order.specs.MissingNodes.{ReachesMissing}
-use Rattle.epx_order.specs.Partitions.{parts, component_of, node_at}
+use Rattle.epx_order.specs.Partitions.{parts, component_of, node_at, mark_for}
 use Rattle.epx_order.proofs.NodePathLemmas.{reaches_itself}
 use Rattle.epx_order.proofs.PartitionLemmas.{node_below, component_below, targets_below}
-use Rattle.epx_order.proofs.MissingLemmas.{AreMarks, marks_found, marks_set, marks_skip, marks_all}
+use Rattle.epx_order.proofs.MissingLemmas.{AreMarks, marks_found, marks_set, marks_skip, marks_all, none_missing}
 use Rattle.epx_order.proofs.missing.find_missing.Goals as goal
 use Rattle.epx_order.proofs.missing.find_missing.Goals.{then-leads_to_missing, else-leads_to_missing}
 
@@ -47,6 +47,15 @@ loop-node-preserved c =
                 (λ on. false≢true (sym w.if-leads_to_missing.false ∙ leads.1 (inr on))) old);
           }
     ]
+
+pub returns-then-committed_len-len-clause-each : goal.returns-then-committed_len-len-clause-each
+returns-then-committed_len-len-clause-each c = λ k l.
+    let edges = edges_of c.args.graph.now in
+    let p = parts c.args.partition.now in
+    let marks = c.in_ok-marks.marks.items in
+    let all : length p.component ≡ c.args.graph.now.committed = omega (arith, c.requires.each_node, c.committed_len.ensures, c.len.ensures.len, c.if-committed_len-len.true) in
+    subst (λ n. IsTrue (mark_for p marks k) ↔ ReachesMissing edges n k) all
+    (none_missing edges p marks c.args.partition.now.count c.requires.is (c.in_ok-marks.ensures.items_if_clones_equal (λ y same. same)) k (omega (arith, c.requires.each_node)))
 
 pub returns-clause-each : goal.returns-clause-each
 returns-clause-each c = λ k l.
