@@ -17,6 +17,7 @@ pub struct Merged {
     /// The lines by rising Id.
     rows: Vec<Row>,
     runs: Runs,
+    dep_count: usize,
 }
 
 impl Model for Merged {
@@ -32,12 +33,17 @@ impl Model for Merged {
 }
 
 impl Merged {
-    pub(crate) fn new(lines: Vec<PlacedEntry>, rows: Vec<Row>) -> Merged
+    pub(crate) fn new(lines: Vec<PlacedEntry>, rows: Vec<Row>, dep_count: usize) -> Merged
         requires { IsKeyed lines.items rows.items }
         ensures { result ≡ instances_at lines.items rows.items }
     {
         let runs = Runs::of(&rows);
-        Merged { lines, rows, runs }
+        Merged {
+            lines,
+            rows,
+            runs,
+            dep_count,
+        }
     }
 
     /// Where the instance stands: mostly where its replica's instances would without gaps, and else
@@ -67,6 +73,12 @@ impl Merged {
         self.len() == 0
     }
 
+    /// How many dependencies the instances name in all, as far as a number can say: a hint of the room
+    /// that they take, on which nothing rests.
+    pub fn dep_count(&self) -> usize {
+        self.dep_count
+    }
+
     /// The entry of a committed instance, in at most logarithmic time.
     pub fn get(&self, id: Id) -> Option<&Entry>
         ensures { option_copied result ≡ instance_of self.now id }
@@ -83,6 +95,14 @@ impl Merged {
         ensures { result ≡ position_of self.now id }
     {
         self.found(id)
+    }
+
+    /// The name of the instance at a position, counted from 0.
+    pub fn id_at(&self, position: usize) -> Id
+        requires { position < length self.now }
+        ensures { slice_get (ids_of self.now) position ≡ Some result }
+    {
+        self.rows[position].id
     }
 
     /// The entry at a position, counted from 0.
