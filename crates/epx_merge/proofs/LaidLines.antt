@@ -1,15 +1,19 @@
 -- Lines that are laid one after another, and batch by batch.
 use Rattle.std.specs.Prelude.{◌==◌}
-use Rattle.std.proofs.Common.{◌≡◌, ℕ, zero, suc, false, ◌+◌, ◌<◌, inl, inr, List, [], ◌∷◌, ◌++◌, length, Result, refl, sym, ap, subst, ◌∙◌, append_assoc, append-nil, length-append, arith}
+use Rattle.std.proofs.Common.{◌≡◌, ℕ, zero, suc, false, ◌+◌, ◌<◌, ◌≤◌, ◌^◌, inl, inr, List, [], ◌∷◌, ◌++◌, length, Contains, Result, refl, sym, ap, subst, ◌∙◌, append_assoc, append-nil, length-append, arith}
 use Rattle.std.proofs.lemmas.List.Elements.{Contains-append_left, Contains-append_right}
 use Rattle.epx_types.specs.declared.fault.Fault.{Fault}
 use Rattle.epx_types.specs.declared.fault.Why.{Why}
-use Rattle.epx_types.proofs.Membership.{Contains-head}
+use Rattle.epx_types.proofs.Membership.{Contains-nil, Contains-head}
 use Rattle.epx_lines.specs.declared.Line.{Line}
 use Rattle.epx_merge.specs.LogLines.{MeaningAt, placed_among, spoilt_among}
 use Rattle.epx_merge.specs.Ledgers.{Noted, IsLedgerOf, Notes}
 use Rattle.epx_merge.specs.Steps.{IsReadFault}
-use Rattle.epx_merge.specs.Repeats.{IsIdle, Keeps, IsEmptyTable, IsIdleIn, HoldsAfter, IsTableOf, Lays}
+use Rattle.epx_merge.specs.Repeats.{IsIdle, Keeps, IsIdleIn, HoldsAfter, IsTableOf, Lays}
+use Rattle.epx_merge.specs.ReadPieces.{AreRead}
+use Rattle.epx_merge.specs.declared.pieces.BadLine.{BadLine}
+use Rattle.epx_merge.specs.Advances.{Advances}
+use Rattle.epx_types.specs.PlacedLines.{Placed}
 use Rattle.epx_merge.proofs.ReadLines.{placed_among-append, spoilt_among-append, fault_after}
 use Rattle.epx_merge.proofs.KeptLines.{Keeps-append, length-kept, Tells-kept}
 
@@ -76,68 +80,88 @@ pub is_some_length : (n : ℕ) → (n == 0) ≡ false → 0 < n
 is_some_length zero e = absurd (cc e)
 is_some_length (suc n) e = omega arith
 
--- some lines are read and noted, and some more are laid; the table holds none but these
-pub record IsUnderway (all walk lines : List MeaningAt) (table : List (Result Line Why)) (ledger : Noted) : Type 0 where
+-- some lines are read and noted, then pieces of some are read, and then some are laid; the table holds none but these
+pub record IsUnderway {E : Type 0} (holds : List Placed → E → Type 0) (all walk lines : List MeaningAt) (pieces : List (Result E BadLine)) (table : List (Result Line Why)) (ledger : Noted) : Type 0 where
   pub gone : List MeaningAt
   pub read : List MeaningAt
+  pub pending : List MeaningAt
   pub whole : all ≡ gone ++ walk
-  pub keeps : Keeps gone [] (read ++ lines)
+  pub keeps : Keeps gone [] ((read ++ pending) ++ lines)
   pub clean : spoilt_among read ≡ []
   pub noted : IsLedgerOf (placed_among read) ledger
-  pub holds : IsTableOf (read ++ lines) table
+  pub given : AreRead holds pending pieces
+  pub tabled : IsTableOf ((read ++ pending) ++ lines) table
   pub last : lines ≡ [] → walk ≡ []
+  pub few : length lines ≤ 2 ^ 40
 
-pub underway_first : (all walk lines : List MeaningAt) (empty table : List (Result Line Why)) (ledger : Noted) → IsEmptyTable empty → IsLedgerOf [] ledger
-    → Lays all walk empty table lines → (lines ≡ [] → walk ≡ []) → IsUnderway all walk lines table ledger
-underway_first all walk lines empty table ledger none noted h last =
-    let good : IsTableOf [] empty = (λ m has. inl (none m has)) in
-    record {
-      gone = h.gone;
-      read = [];
-      whole = h.whole;
-      keeps = h.keeps [] good;
-      clean = refl;
-      noted = noted;
-      holds = h.holds [] good;
-      last = last;
-    }
+-- a fault before any line is read
+pub fault_at_first : (all : List MeaningAt) (f : Fault) → IsReadFault (spoilt_among []) f → IsReadFault (spoilt_among all) f
+fault_at_first all f bad = fault_after [] [] all all f refl bad refl
 
-module _ (all walk lines : List MeaningAt) (table : List (Result Line Why)) (ledger : Noted) (h : IsUnderway all walk lines table ledger) where
-  -- what is laid was read, and more is laid
-  pub underway_next : (walk' lines' : List MeaningAt) (table' : List (Result Line Why)) (ledger' : Noted) → spoilt_among lines ≡ [] → Notes (placed_among lines) ledger ledger'
-      → Lays walk walk' table table' lines' → (lines' ≡ [] → walk' ≡ []) → IsUnderway all walk' lines' table' ledger'
-  underway_next walk' lines' table' ledger' clean noted laid last = record {
-    gone = h.gone ++ laid.gone;
-    read = h.read ++ lines;
-    whole = h.whole ∙ ap (λ l. h.gone ++ l) laid.whole ∙ sym (append_assoc h.gone laid.gone walk');
-    keeps = Keeps-append h.gone laid.gone [] (h.read ++ lines) ((h.read ++ lines) ++ lines') h.keeps (laid.keeps (h.read ++ lines) h.holds);
-    clean = spoilt_among-append h.read lines ∙ ap (λ l. l ++ spoilt_among lines) h.clean ∙ clean;
-    noted = subst (λ l. IsLedgerOf l ledger') (sym (placed_among-append h.read lines)) (noted (placed_among h.read) h.noted);
-    holds = laid.holds (h.read ++ lines) h.holds;
-    last = last;
-  }
+module _ {E : Type 0} (holds : List Placed → E → Type 0) (all : List MeaningAt) where
+  -- the first lines are laid
+  pub underway_first : (left walk lines : List MeaningAt) (pieces : List (Result E BadLine)) (empty table : List (Result Line Why)) (new ledger : Noted) → left ≡ all → empty ≡ [] → IsLedgerOf [] new → pieces ≡ []
+      → Advances [] new ledger left walk empty table lines → IsUnderway holds all walk lines pieces table ledger
+  underway_first left walk lines pieces empty table new ledger whole none noted unread step =
+      let good : IsTableOf [] empty = (λ m has. absurd (Contains-nil m (subst (λ t. Contains t m) none has))) in
+      record {
+        gone = step.laid.gone;
+        read = [];
+        pending = [];
+        whole = sym whole ∙ step.laid.whole;
+        keeps = step.laid.keeps [] good;
+        clean = refl;
+        noted = step.noted [] noted;
+        given = subst (AreRead holds []) (sym unread) refl;
+        tabled = step.laid.holds [] good;
+        last = step.last;
+        few = step.few;
+      }
 
-  -- less is left then
-  pub underway_less : (walk' lines' : List MeaningAt) (table' : List (Result Line Why)) → Lays walk walk' table table' lines' → 0 < length lines → length walk' + length lines' < length walk + length lines
-  underway_less walk' lines' table' laid some =
-      let kept = h.read ++ lines in
-      let few = length-kept laid.gone kept (kept ++ lines') (laid.keeps kept h.holds) in
-      let size = ap length laid.whole in
-      omega (arith, length-append laid.gone walk', length-append kept lines')
+  module _ (walk lines : List MeaningAt) (pieces : List (Result E BadLine)) (table : List (Result Line Why)) (ledger : Noted) (h : IsUnderway holds all walk lines pieces table ledger) where
+    -- all that were gone over, without some idle ones
+    abbrev kept : List MeaningAt
+    kept = (h.read ++ h.pending) ++ lines
 
-  -- the first bad line of those that are laid is the first of all
-  pub underway_fault : (f : Fault) → IsReadFault (spoilt_among lines) f → IsReadFault (spoilt_among all) f
-  underway_fault f bad =
-      let tells = Tells-kept h.gone [] (h.read ++ lines) h.keeps in
-      let same = spoilt_among-append h.read lines ∙ ap (λ l. l ++ spoilt_among lines) h.clean in
-      fault_after [] h.gone walk all f refl (tells.fault f (subst (λ l. IsReadFault l f) (sym same) bad)) (sym h.whole)
+    module _ (walk' lines' : List MeaningAt) (table' : List (Result Line Why)) (ledger' : Noted) (step : Advances h.pending ledger ledger' walk walk' table table' lines') where
+      -- what was laid is read meanwhile
+      pub underway_next : (pieces' : List (Result E BadLine)) → AreRead holds lines pieces' → IsUnderway holds all walk' lines' pieces' table' ledger'
+      underway_next pieces' given = record {
+        gone = h.gone ++ step.laid.gone;
+        read = h.read ++ h.pending;
+        pending = lines;
+        whole = h.whole ∙ ap (λ l. h.gone ++ l) step.laid.whole ∙ sym (append_assoc h.gone step.laid.gone walk');
+        keeps = Keeps-append h.gone step.laid.gone [] kept (kept ++ lines') h.keeps (step.laid.keeps kept h.tabled);
+        clean = spoilt_among-append h.read h.pending ∙ ap (λ l. l ++ spoilt_among h.pending) h.clean ∙ step.clean;
+        noted = subst (λ l. IsLedgerOf l ledger') (sym (placed_among-append h.read h.pending)) (step.noted (placed_among h.read) h.noted);
+        given = given;
+        tabled = step.laid.holds kept h.tabled;
+        last = step.last;
+        few = step.few;
+      }
 
-  -- nothing is left
-  pub underway_over : lines ≡ [] → (spoilt_among all ≡ []) × IsLedgerOf (placed_among all) ledger
-  underway_over none =
-      let tells = Tells-kept h.gone [] (h.read ++ lines) h.keeps in
-      let kept : h.read ++ lines ≡ h.read = ap (λ l. h.read ++ l) none ∙ append-nil h.read in
-      let every : all ≡ h.gone = h.whole ∙ ap (λ l. h.gone ++ l) (h.last none) ∙ append-nil h.gone in (
-        ap spoilt_among every ∙ tells.clean (ap spoilt_among kept ∙ h.clean),
-        subst (λ l. IsLedgerOf (placed_among l) ledger) (sym every) (tells.ledger ledger (subst (λ l. IsLedgerOf (placed_among l) ledger) (sym kept) h.noted)),
-      )
+      -- less is left then
+      pub underway_less : 0 < length lines → length walk' + length lines' < length walk + length lines
+      underway_less some =
+          let few = length-kept step.laid.gone kept (kept ++ lines') (step.laid.keeps kept h.tabled) in
+          let size = ap length step.laid.whole in
+          omega (arith, length-append step.laid.gone walk', length-append kept lines')
+
+    -- the first bad line of those that are read and not noted is the first of all
+    pub underway_fault : (f : Fault) → IsReadFault (spoilt_among h.pending) f → IsReadFault (spoilt_among all) f
+    underway_fault f bad =
+        let tells = Tells-kept h.gone [] kept h.keeps in
+        let here = fault_after h.read h.pending lines kept f h.clean bad (sym (append_assoc h.read h.pending lines)) in
+        fault_after [] h.gone walk all f refl (tells.fault f here) (sym h.whole)
+
+    -- nothing is left, and the last that was read is noted
+    pub underway_over : (ledger' : Noted) → lines ≡ [] → spoilt_among h.pending ≡ [] → Notes (placed_among h.pending) ledger ledger' → (spoilt_among all ≡ []) × IsLedgerOf (placed_among all) ledger'
+    underway_over ledger' none clean noted =
+        let tells = Tells-kept h.gone [] kept h.keeps in
+        let same : kept ≡ h.read ++ h.pending = ap (λ l. (h.read ++ h.pending) ++ l) none ∙ append-nil (h.read ++ h.pending) in
+        let every : all ≡ h.gone = h.whole ∙ ap (λ l. h.gone ++ l) (h.last none) ∙ append-nil h.gone in
+        let unspoilt : spoilt_among kept ≡ [] = ap spoilt_among same ∙ spoilt_among-append h.read h.pending ∙ ap (λ l. l ++ spoilt_among h.pending) h.clean ∙ clean in
+        let placed : placed_among kept ≡ placed_among h.read ++ placed_among h.pending = ap placed_among same ∙ placed_among-append h.read h.pending in (
+          ap spoilt_among every ∙ tells.clean unspoilt,
+          subst (λ l. IsLedgerOf (placed_among l) ledger') (sym every) (tells.ledger ledger' (subst (λ l. IsLedgerOf l ledger') (sym placed) (noted (placed_among h.read) h.noted))),
+        )

@@ -9,3 +9,4 @@ pub mod Steps
 pub mod LineOrder
 pub mod ReadPieces
 pub mod Repeats
+pub mod Advances

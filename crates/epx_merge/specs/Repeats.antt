@@ -20,10 +20,6 @@ Keeps (line ∷ lines) old new = Keeps lines (old ++ line ∷ []) new ⊎ (IsIdl
 
 -- ---- a table of what kept lines mean
 
--- an empty slot is as good as a blank line
-abbrev pub IsEmptyTable : List (Result Line Why) → Type 0
-IsEmptyTable table = (m : Result Line Why) → Contains table m → m ≡ Ok Blank
-
 -- a line of this meaning tells nothing that those in the table do not
 abbrev pub IsIdleIn : List (Result Line Why) → Result Line Why → Type 0
 IsIdleIn table meaning = (meaning ≡ Ok Blank) ⊎ Contains table meaning

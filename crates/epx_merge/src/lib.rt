@@ -1,6 +1,7 @@
 //! Reading logs: the map that they commit, or the first refusal.
 #![tactic(auto)]
 
+mod front;
 pub mod laws;
 mod laying;
 mod ledger;

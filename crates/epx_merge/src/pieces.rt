@@ -20,6 +20,9 @@ pub(crate) struct BadLine {
     pub(crate) why: Why,
 }
 
+/// What pieces give, in order.
+pub(crate) type Pieces = Vec<Result<Vec<PlacedEntry>, BadLine>>;
+
 /// Reads one line, and adds its entry if it gives one. Answers the line if it is bad.
 fn read_next(
     alloc: Global,
@@ -76,7 +79,7 @@ pub(crate) fn read_piece(
 
 /// Notes the entries of pieces in order, up to the first bad line.
 pub(crate) fn note_pieces(
-    pieces: Vec<Result<Vec<PlacedEntry>, BadLine>>,
+    pieces: Pieces,
     ledger: &mut Ledger,
 ) -> Result<(), Fault>
     ensures { (lines : List MeaningAt) → AreRead (λ given entries. entries.items ≡ given) lines pieces.items → MatchResult result

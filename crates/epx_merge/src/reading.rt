@@ -1,26 +1,24 @@
 //! The answer to logs: their committed map, or the first refusal.
-ghost use Rattle.std.specs.Prelude.{◌≡◌, ◌≤◌, ◌^◌, [], IfOk, MatchResult, length, map};
+ghost use Rattle.std.specs.Prelude.{◌≡◌, ◌≤◌, ◌^◌, List, [], IfOk, MatchResult, length, map};
+ghost use Rattle.std.specs.Thread.{IsSync};
+ghost use Rattle.epx_merge.specs.Advances.{Advances};
 ghost use Rattle.epx_merge.specs.ReadPieces.{AreRead};
-ghost use Rattle.epx_merge.specs.LogLines.{placed_among, placed_of, spoilt_among, spoilt_of};
-ghost use Rattle.epx_merge.specs.Ledgers.{IsLedgerOf, Notes};
+ghost use Rattle.epx_merge.specs.LogLines.{MeaningAt, placed_of, spoilt_among, spoilt_of};
+ghost use Rattle.epx_merge.specs.Ledgers.{IsLedgerOf};
 ghost use Rattle.epx_merge.specs.Steps.{IsReadFault};
-ghost use Rattle.epx_merge.specs.Repeats.{IsEmptyTable};
 ghost use Rattle.epx_merge.specs.Acceptance.{IsAccepted};
 ghost use Rattle.epx_merge.specs.Refusals.{IsRefusal};
 
-use crate::laying::lay_lines;
+use crate::front::{Front, advance};
 use crate::ledger::Ledger;
 use crate::limits::{MAX_LOGS, first_too_long};
 use crate::line::PlacedLine;
 use crate::merged::Merged;
-use crate::pieces::{BadLine, note_pieces, read_piece};
-use crate::placed::PlacedEntry;
-use crate::repeats::LineTable;
-use crate::walk::LineWalk;
+use crate::pieces::{Pieces, note_pieces, read_piece};
 use epx_claims::{Gate, claimed_map};
 use epx_types::{Fault, Memory, Plan};
 use std::alloc::Global;
-use std::thread::Threads;
+use std::thread::{Threads, join};
 
 /// What each piece of the lines gives, in order.
 fn read_pieces<R: Threads + Sync, G: Gate + Sync>(
@@ -28,50 +26,57 @@ fn read_pieces<R: Threads + Sync, G: Gate + Sync>(
     alloc: Global,
     plan: Plan,
     gate: &G,
-    lines: &[PlacedLine<'_>],
-) -> Result<Vec<Result<Vec<PlacedEntry>, BadLine>>, Memory>
-    requires { length lines.now ≤ 2 ^ 40 }
-    ensures { IfOk result (λ v. AreRead (λ given entries. entries.items ≡ given) lines.now v.items) }
+    lines: Vec<PlacedLine<'_>>,
+) -> Result<Pieces, Memory>
+    requires { length lines.items ≤ 2 ^ 40 }
+    ensures { IfOk result (λ v. AreRead (λ given entries. entries.items ≡ given) lines.entry.items v.items) }
 {
     let pieces = plan.pieces(lines.len());
     claimed_map(rt, alloc, pieces, plan, gate, |piece| {
-        read_piece(alloc, plan, lines, piece)
+        read_piece(alloc, plan, &lines, piece)
     })
 }
 
-/// Reads lines, and notes the entries that they give up to the first bad one.
-fn read_batch<R: Threads + Sync, G: Gate + Sync>(
+/// Reads lines that are laid; meanwhile one thread notes what was read before, and lays the next lines. A single
+/// worker does the one after the other. A fault of what was read before is named first.
+fn read_and_advance<'a, R: Threads + Sync, G: Gate + Sync>(
     rt: &R,
     alloc: Global,
     plan: Plan,
     gate: &G,
-    lines: &[PlacedLine<'_>],
-    ledger: &mut Ledger,
-) -> Result<(), Fault>
-    requires { length lines.now ≤ 2 ^ 40 }
-    ensures { MatchResult result
-        (λ _. (spoilt_among lines.now ≡ []) × Notes (placed_among lines.now) ledger.old ledger.new)
-        (IsReadFault (spoilt_among lines.now)) }
+    front: Front<'a>,
+    read: Pieces,
+    lines: Vec<PlacedLine<'a>>,
+) -> Result<(Front<'a>, Vec<PlacedLine<'a>>, Pieces), Fault>
+    requires { length lines.items ≤ 2 ^ 40 }
+    ensures { (done : List MeaningAt) → AreRead (λ given entries. entries.items ≡ given) done read.items → MatchResult result
+        (λ next. Advances done front.entry.ledger next.0.ledger front.entry.walk next.0.walk front.entry.table next.0.table next.1.items
+            × AreRead (λ given entries. entries.items ≡ given) lines.entry.items next.2.items)
+        (IsReadFault (spoilt_among done)) }
 {
-    match read_pieces(rt, alloc, plan, gate, lines) {
-        Ok(pieces) => note_pieces(pieces, ledger),
-        Err(_) => Err(Fault::Memory),
+    if plan.workers() == 1 {
+        let (front, next) = advance(alloc, plan, front, read)?;
+        let read = read_pieces(rt, alloc, plan, gate, lines)?;
+        return Ok((front, next, read));
     }
-}
-
-/// A table for the lines of so many logs. One log is not compared with itself.
-fn table_for<'a>(alloc: Global, logs: usize) -> Result<LineTable<'a>, Memory>
-    ensures { IfOk result IsEmptyTable }
-{
-    if logs < 2 {
-        Ok(LineTable::closed(alloc))
-    } else {
-        LineTable::new(alloc)
-    }
+    let (advanced, read) = join(
+        rt,
+        move || -> Result<(Front, Vec<PlacedLine>), Fault>
+            ensures { (done : List MeaningAt) → AreRead (λ given entries. entries.items ≡ given) done read.items → MatchResult result
+                (λ next. Advances done front.entry.ledger next.0.ledger front.entry.walk next.0.walk front.entry.table next.0.table next.1.items)
+                (IsReadFault (spoilt_among done)) }
+        { advance(alloc, plan, front, read) },
+        move || -> Result<Pieces, Memory>
+            requires { IsSync R.row × IsSync G.row × (length lines.items ≤ 2 ^ 40) }
+            ensures { IfOk result (λ v. AreRead (λ given entries. entries.items ≡ given) lines.entry.items v.items) }
+        { read_pieces(rt, alloc, plan, gate, lines) },
+    );
+    let (front, next) = advanced?;
+    Ok((front, next, read?))
 }
 
 /// Reads the lines of all logs, and notes those that give an entry. So many lines are laid at once that what
-/// they give is noted before the next are laid.
+/// they give is noted while the next are read.
 fn read_all<R: Threads + Sync, G: Gate + Sync>(
     rt: &R,
     alloc: Global,
@@ -83,16 +88,14 @@ fn read_all<R: Threads + Sync, G: Gate + Sync>(
         (λ ledger. (spoilt_of bytes ≡ []) × IsLedgerOf (placed_of bytes) ledger)
         (IsReadFault (spoilt_of bytes)) }
 {
-    let mut ledger = Ledger::new(alloc);
-    let mut table = table_for(alloc, logs.len())?;
-    let mut walk = LineWalk::new(logs);
-    let mut lines = lay_lines(alloc, plan, &mut walk, &mut table)?;
+    let mut read = Vec::new(alloc);
+    let (mut front, mut lines) = advance(alloc, plan, Front::new(alloc, logs)?, Vec::new(alloc))?;
     while !lines.is_empty() {
-        if let Err(fault) = read_batch(rt, alloc, plan, gate, &lines, &mut ledger) {
-            return Err(fault);
-        }
-        lines = lay_lines(alloc, plan, &mut walk, &mut table)?;
+        let next = read_and_advance(rt, alloc, plan, gate, front, read, lines)?;
+        (front, lines, read) = next;
     }
+    let Front { mut ledger, .. } = front;
+    note_pieces(read, &mut ledger)?;
     Ok(ledger)
 }
 

@@ -1,7 +1,7 @@
 //! Lines that were kept, found again by their bytes.
-ghost use Rattle.std.specs.Prelude.{IsTrue, IfOk, Contains};
+ghost use Rattle.std.specs.Prelude.{◌≡◌, [], IsTrue, IfOk, Contains};
 ghost use Rattle.epx_lines.specs.Meaning.{meaning_of};
-ghost use Rattle.epx_merge.specs.Repeats.{HoldsAfter, IsEmptyTable};
+ghost use Rattle.epx_merge.specs.Repeats.{HoldsAfter};
 
 use epx_types::Memory;
 use std::alloc::Global;
@@ -52,7 +52,7 @@ fn hash_of(bytes: &[u8]) -> u64 {
 impl<'a> LineTable<'a> {
     /// A table that finds no line.
     pub(crate) fn closed(alloc: Global) -> LineTable<'a>
-        ensures { IsEmptyTable result }
+        ensures { result ≡ [] }
     {
         LineTable {
             slots: Vec::new(alloc),
@@ -61,7 +61,7 @@ impl<'a> LineTable<'a> {
     }
 
     pub(crate) fn new(alloc: Global) -> Result<LineTable<'a>, Memory>
-        ensures { IfOk result IsEmptyTable }
+        ensures { IfOk result (λ table. table ≡ []) }
     {
         Ok(LineTable {
             slots: vec![in alloc; FREE; SLOTS as usize + SEARCHED]?,

@@ -1,42 +1,64 @@
-use Rattle.std.proofs.Common.{◌≡◌, ◌<◌, [], map, length, sym, subst, ◌∙◌, arith, rules}
+use Rattle.std.proofs.Common.{◌≡◌, ◌<◌, [], map, length, sym, subst, ◌∙◌, refl, arith, rules}
 use Rattle.std.proofs.lemmas.List.{nil_from_length}
-use Rattle.epx_merge.specs.LogLines.{meanings_of, placed_among, spoilt_among}
-use Rattle.epx_merge.specs.Ledgers.{Notes}
-use Rattle.epx_merge.specs.Repeats.{Lays}
-use Rattle.epx_merge.specs.Steps.{IsReadFault}
-use Rattle.epx_merge.proofs.LaidLines.{is_some_length, underway_first, underway_next, underway_less, underway_fault, underway_over}
+use Rattle.epx_merge.specs.LogLines.{meanings_of}
+use Rattle.epx_merge.specs.ReadPieces.{AreRead}
+use Rattle.epx_merge.proofs.LaidLines.{is_some_length, underway_first, underway_next, underway_less, underway_fault, underway_over, fault_at_first}
 use Rattle.epx_merge.proofs.reading.read_all.Goals as goal
 
-pub loop-walk-init : goal.loop-walk-init
-loop-walk-init g c =
+pub loop-alloc-init : goal.loop-alloc-init
+loop-alloc-init g c =
     let all = meanings_of (map (λ log. log.items) c.args.logs.now) in
-    let laid = subst (λ walk. Lays walk c.lay_lines.new.walk c.in_ok-table.table c.lay_lines.new.table c.in_ok-lines.lines.items) c.new-walk.ensures c.in_ok-lines.ensures.lays in (
-      underway_first all c.lay_lines.new.walk c.in_ok-lines.lines.items c.in_ok-table.table c.lay_lines.new.table c.new-ledger.result c.in_ok-table.ensures c.new-ledger.ensures laid c.in_ok-lines.ensures.last,
-      c.in_ok-lines.ensures.few,
-    )
+    let new = c.in_ok-new.field-0 in
+    let front = c.in_ok-front.front in
+    let unread = subst (λ pieces. AreRead (λ given entries. entries.items ≡ given) [] pieces) (sym c.new-2.ensures.items) refl in
+    underway_first (λ given entries. entries.items ≡ given) all new.walk front.walk c.in_ok-front.lines.items c.new-read.result.items new.table front.table new.ledger front.ledger
+    c.in_ok-new.ensures.walk c.in_ok-new.ensures.table c.in_ok-new.ensures.ledger c.new-read.ensures.items (c.in_ok-front.ensures [] unread)
 
-pub returns-in-Err : goal.returns-in-Err
-returns-in-Err g c =
+pub returns-in_err-front : goal.returns-in_err-front
+returns-in_err-front g c =
     let all = meanings_of (map (λ log. log.items) c.args.logs.now) in
-    let bad = subst (λ lines. IsReadFault (spoilt_among lines) c.in-Err.fault) c.deref.ensures.value c.in-Err.ensures in
-    underway_fault all c.loop-walk.walk c.loop-walk.lines.items c.loop-walk.table c.loop-walk.ledger c.loop-walk.invariant.0 c.in-Err.fault bad
+    let unread = subst (λ pieces. AreRead (λ given entries. entries.items ≡ given) [] pieces) (sym c.new-2.ensures.items) refl in
+    let bad = fault_at_first all c.in_err-front.field-0.0 (c.in_err-front.ensures [] unread) in
+    search (rules, bad)
 
-pub loop-walk-smaller : goal.loop-walk-smaller
-loop-walk-smaller g c =
+pub returns-in_err-next : goal.returns-in_err-next
+returns-in_err-next g c =
     let all = meanings_of (map (λ log. log.items) c.args.logs.now) in
-    let full = is_some_length c.loop-walk.lines.len (sym c.is_empty.ensures ∙ c.loop-walk-test.true) in
-    let some : 0 < length c.loop-walk.lines.items = omega (arith, full, c.loop-walk.lines.ok.0) in
-    underway_less all c.loop-walk.walk c.loop-walk.lines.items c.loop-walk.table c.loop-walk.ledger c.loop-walk.invariant.0 c.lay_lines-in-loop-walk.new.walk c.in_ok-lines-2.lines.items c.lay_lines-in-loop-walk.new.table c.in_ok-lines-2.ensures.lays some
+    let h = c.loop-alloc.invariant in
+    let bad = underway_fault (λ given entries. entries.items ≡ given) all c.loop-alloc.front.walk c.loop-alloc.lines.items c.loop-alloc.read.items c.loop-alloc.front.table c.loop-alloc.front.ledger h c.in_err-next.field-0.0 (c.in_err-next.ensures h.pending h.given) in
+    search (rules, bad)
 
-pub loop-walk-preserved : goal.loop-walk-preserved
-loop-walk-preserved g c =
+pub loop-alloc-smaller : goal.loop-alloc-smaller
+loop-alloc-smaller g c =
     let all = meanings_of (map (λ log. log.items) c.args.logs.now) in
-    let read = subst (λ lines. (spoilt_among lines ≡ []) × Notes (placed_among lines) c.loop-walk.ledger c.read_batch.new.ledger) c.deref.ensures.value c.in_default.ensures in (
-      underway_next all c.loop-walk.walk c.loop-walk.lines.items c.loop-walk.table c.loop-walk.ledger c.loop-walk.invariant.0 c.lay_lines-in-loop-walk.new.walk c.in_ok-lines-2.lines.items c.lay_lines-in-loop-walk.new.table c.read_batch.new.ledger read.0 read.1 c.in_ok-lines-2.ensures.lays c.in_ok-lines-2.ensures.last,
-      c.in_ok-lines-2.ensures.few,
-    )
+    let h = c.loop-alloc.invariant in
+    let next = c.in_ok-next.next in
+    let step = c.in_ok-next.ensures h.pending h.given in
+    let full = is_some_length c.loop-alloc.lines.len (sym c.is_empty.ensures ∙ c.loop-alloc-test.true) in
+    let some : 0 < length c.loop-alloc.lines.items = omega (arith, full, c.loop-alloc.lines.ok.0) in
+    underway_less (λ given entries. entries.items ≡ given) all c.loop-alloc.front.walk c.loop-alloc.lines.items c.loop-alloc.read.items c.loop-alloc.front.table c.loop-alloc.front.ledger h
+    next.0.walk next.1.items next.0.table next.0.ledger step.0 some
+
+pub loop-alloc-preserved : goal.loop-alloc-preserved
+loop-alloc-preserved g c =
+    let all = meanings_of (map (λ log. log.items) c.args.logs.now) in
+    let h = c.loop-alloc.invariant in
+    let next = c.in_ok-next.next in
+    let step = c.in_ok-next.ensures h.pending h.given in
+    underway_next (λ given entries. entries.items ≡ given) all c.loop-alloc.front.walk c.loop-alloc.lines.items c.loop-alloc.read.items c.loop-alloc.front.table c.loop-alloc.front.ledger h
+    next.0.walk next.1.items next.0.table next.0.ledger step.0 next.2.items step.1
+
+pub returns-in_err-note_pieces : goal.returns-in_err-note_pieces
+returns-in_err-note_pieces g c =
+    let all = meanings_of (map (λ log. log.items) c.args.logs.now) in
+    let h = c.loop-alloc.invariant in
+    let bad = underway_fault (λ given entries. entries.items ≡ given) all c.loop-alloc.front.walk c.loop-alloc.lines.items c.loop-alloc.read.items c.loop-alloc.front.table c.loop-alloc.front.ledger h c.in_err-note_pieces.field-0.0 (c.in_err-note_pieces.ensures h.pending h.given) in
+    search (rules, bad)
 
 pub returns : goal.returns
 returns g c =
     let all = meanings_of (map (λ log. log.items) c.args.logs.now) in
-    underway_over all c.loop-walk.walk c.loop-walk.lines.items c.loop-walk.table c.loop-walk.ledger c.loop-walk.invariant.0 (nil_from_length c.loop-walk.lines.items (search rules))
+    let h = c.loop-alloc.invariant in
+    let noted = c.in_ok-note_pieces.ensures h.pending h.given in
+    let none = nil_from_length c.loop-alloc.lines.items (search rules) in
+    underway_over (λ given entries. entries.items ≡ given) all c.loop-alloc.front.walk c.loop-alloc.lines.items c.loop-alloc.read.items c.loop-alloc.front.table c.loop-alloc.front.ledger h c.note_pieces.new.ledger none noted.0 noted.1
