@@ -13,7 +13,7 @@ use std::alloc::Global;
 const LEAST_EACH: usize = 4_096;
 
 /// No more lines than four pieces of the greatest cut are laid before they are read. So what is laid takes no
-/// more room where logs are longer.
+/// more room where logs are longer. Two times so many may be held: some are read while the next are laid.
 const MOST_AT_ONCE: usize = 262_144;
 
 /// How many lines are laid before they are read: for each worker four pieces, within the bounds.

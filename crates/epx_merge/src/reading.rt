@@ -37,8 +37,8 @@ fn read_pieces<R: Threads + Sync, G: Gate + Sync>(
     })
 }
 
-/// Reads lines that are laid; meanwhile one thread notes what was read before, and lays the next lines. A single
-/// worker does the one after the other. A fault of what was read before is named first.
+/// Reads lines that are laid; meanwhile one more thread notes what was read before them, and lays those after
+/// them. Where one worker reads all of them, no thread is started. A fault in what was read before is named first.
 fn read_and_advance<'a, R: Threads + Sync, G: Gate + Sync>(
     rt: &R,
     alloc: Global,
@@ -54,7 +54,7 @@ fn read_and_advance<'a, R: Threads + Sync, G: Gate + Sync>(
             × AreRead (λ given entries. entries.items ≡ given) lines.entry.items next.2.items)
         (IsReadFault (spoilt_among done)) }
 {
-    if plan.workers() == 1 {
+    if plan.workers() == 1 || lines.len() <= plan.cut() {
         let (front, next) = advance(alloc, plan, front, read)?;
         let read = read_pieces(rt, alloc, plan, gate, lines)?;
         return Ok((front, next, read));
@@ -75,8 +75,8 @@ fn read_and_advance<'a, R: Threads + Sync, G: Gate + Sync>(
     Ok((front, next, read?))
 }
 
-/// Reads the lines of all logs, and notes those that give an entry. So many lines are laid at once that what
-/// they give is noted while the next are read.
+/// Reads the lines of all logs, and notes those that give an entry. What some lines give is noted while the next
+/// are read, and those after these are laid.
 fn read_all<R: Threads + Sync, G: Gate + Sync>(
     rt: &R,
     alloc: Global,
@@ -91,8 +91,7 @@ fn read_all<R: Threads + Sync, G: Gate + Sync>(
     let mut read = Vec::new(alloc);
     let (mut front, mut lines) = advance(alloc, plan, Front::new(alloc, logs)?, Vec::new(alloc))?;
     while !lines.is_empty() {
-        let next = read_and_advance(rt, alloc, plan, gate, front, read, lines)?;
-        (front, lines, read) = next;
+        (front, lines, read) = read_and_advance(rt, alloc, plan, gate, front, read, lines)?;
     }
     let Front { mut ledger, .. } = front;
     note_pieces(read, &mut ledger)?;

@@ -21,32 +21,34 @@ returns-in_err-front g c =
     let bad = fault_at_first all c.in_err-front.field-0.0 (c.in_err-front.ensures [] unread) in
     search (rules, bad)
 
-pub returns-in_err-next : goal.returns-in_err-next
-returns-in_err-next g c =
+pub returns-in_err-front-2 : goal.returns-in_err-front-2
+returns-in_err-front-2 g c =
     let all = meanings_of (map (λ log. log.items) c.args.logs.now) in
     let h = c.loop-alloc.invariant in
-    let bad = underway_fault (λ given entries. entries.items ≡ given) all c.loop-alloc.front.walk c.loop-alloc.lines.items c.loop-alloc.read.items c.loop-alloc.front.table c.loop-alloc.front.ledger h c.in_err-next.field-0.0 (c.in_err-next.ensures h.pending h.given) in
+    let bad = underway_fault (λ given entries. entries.items ≡ given) all c.loop-alloc.front.walk c.loop-alloc.lines.items c.loop-alloc.read.items c.loop-alloc.front.table c.loop-alloc.front.ledger h c.in_err-front-2.field-0.0 (c.in_err-front-2.ensures h.pending h.given) in
     search (rules, bad)
 
 pub loop-alloc-smaller : goal.loop-alloc-smaller
 loop-alloc-smaller g c =
     let all = meanings_of (map (λ log. log.items) c.args.logs.now) in
     let h = c.loop-alloc.invariant in
-    let next = c.in_ok-next.next in
-    let step = c.in_ok-next.ensures h.pending h.given in
+    let front = c.in_ok-front-2.field-0-0 in
+    let lines = c.in_ok-front-2.field-0-1 in
+    let step = c.in_ok-front-2.ensures h.pending h.given in
     let full = is_some_length c.loop-alloc.lines.len (sym c.is_empty.ensures ∙ c.loop-alloc-test.true) in
     let some : 0 < length c.loop-alloc.lines.items = omega (arith, full, c.loop-alloc.lines.ok.0) in
     underway_less (λ given entries. entries.items ≡ given) all c.loop-alloc.front.walk c.loop-alloc.lines.items c.loop-alloc.read.items c.loop-alloc.front.table c.loop-alloc.front.ledger h
-    next.0.walk next.1.items next.0.table next.0.ledger step.0 some
+    front.walk lines.items front.table front.ledger step.0 some
 
 pub loop-alloc-preserved : goal.loop-alloc-preserved
 loop-alloc-preserved g c =
     let all = meanings_of (map (λ log. log.items) c.args.logs.now) in
     let h = c.loop-alloc.invariant in
-    let next = c.in_ok-next.next in
-    let step = c.in_ok-next.ensures h.pending h.given in
+    let front = c.in_ok-front-2.field-0-0 in
+    let lines = c.in_ok-front-2.field-0-1 in
+    let step = c.in_ok-front-2.ensures h.pending h.given in
     underway_next (λ given entries. entries.items ≡ given) all c.loop-alloc.front.walk c.loop-alloc.lines.items c.loop-alloc.read.items c.loop-alloc.front.table c.loop-alloc.front.ledger h
-    next.0.walk next.1.items next.0.table next.0.ledger step.0 next.2.items step.1
+    front.walk lines.items front.table front.ledger step.0 c.in_ok-front-2.field-0-2.items step.1
 
 pub returns-in_err-note_pieces : goal.returns-in_err-note_pieces
 returns-in_err-note_pieces g c =
