@@ -78,10 +78,7 @@ pub(crate) fn read_piece(
 }
 
 /// Notes the entries of pieces in order, up to the first bad line.
-pub(crate) fn note_pieces(
-    pieces: Pieces,
-    ledger: &mut Ledger,
-) -> Result<(), Fault>
+pub(crate) fn note_pieces(pieces: Pieces, ledger: &mut Ledger) -> Result<(), Fault>
     ensures { (lines : List MeaningAt) → AreRead (λ given entries. entries.items ≡ given) lines pieces.items → MatchResult result
         (λ _. (spoilt_among lines ≡ []) × Notes (placed_among lines) ledger.old ledger.new)
         (IsReadFault (spoilt_among lines)) }

@@ -51,7 +51,7 @@ fn read_and_advance<'a, R: Threads + Sync, G: Gate + Sync>(
     requires { length lines.items ≤ 2 ^ 40 }
     ensures { (done : List MeaningAt) → AreRead (λ given entries. entries.items ≡ given) done read.items → MatchResult result
         (λ next. Advances done front.entry.ledger next.0.ledger front.entry.walk next.0.walk front.entry.table next.0.table next.1.items
-            × AreRead (λ given entries. entries.items ≡ given) lines.entry.items next.2.items)
+        × AreRead (λ given entries. entries.items ≡ given) lines.entry.items next.2.items)
         (IsReadFault (spoilt_among done)) }
 {
     if plan.workers() == 1 || lines.len() <= plan.cut() {
