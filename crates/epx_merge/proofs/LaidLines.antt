@@ -4,16 +4,16 @@ use Rattle.std.proofs.Common.{◌≡◌, ℕ, zero, suc, false, ◌+◌, ◌<◌
 use Rattle.std.proofs.lemmas.List.Elements.{Contains-append_left, Contains-append_right}
 use Rattle.epx_types.specs.declared.fault.Fault.{Fault}
 use Rattle.epx_types.specs.declared.fault.Why.{Why}
+use Rattle.epx_types.specs.PlacedLines.{Placed}
 use Rattle.epx_types.proofs.Membership.{Contains-nil, Contains-head}
 use Rattle.epx_lines.specs.declared.Line.{Line}
+use Rattle.epx_merge.specs.declared.pieces.BadLine.{BadLine}
 use Rattle.epx_merge.specs.LogLines.{MeaningAt, placed_among, spoilt_among}
 use Rattle.epx_merge.specs.Ledgers.{Noted, IsLedgerOf, Notes}
+use Rattle.epx_merge.specs.ReadPieces.{AreRead}
 use Rattle.epx_merge.specs.Steps.{IsReadFault}
 use Rattle.epx_merge.specs.Repeats.{IsIdle, Keeps, IsIdleIn, HoldsAfter, IsTableOf, Lays}
-use Rattle.epx_merge.specs.ReadPieces.{AreRead}
-use Rattle.epx_merge.specs.declared.pieces.BadLine.{BadLine}
 use Rattle.epx_merge.specs.Advances.{Advances}
-use Rattle.epx_types.specs.PlacedLines.{Placed}
 use Rattle.epx_merge.proofs.ReadLines.{placed_among-append, spoilt_among-append, fault_after}
 use Rattle.epx_merge.proofs.KeptLines.{Keeps-append, length-kept, Tells-kept}
 

@@ -12,6 +12,9 @@ use std::alloc::Global;
 /// started for few.
 const LEAST_EACH: usize = 4_096;
 
+/// The same for one worker, which starts no thread: few lines stay in its cache until they are read.
+const LEAST_ALONE: usize = 1_024;
+
 /// No more lines than four pieces of the greatest cut are laid before they are read. So what is laid takes no
 /// more room where logs are longer. Two times so many may be held: some are read while the next are laid.
 const MOST_AT_ONCE: usize = 262_144;
@@ -21,7 +24,12 @@ fn lines_at_once(plan: Plan) -> usize
     ensures some { 0 < result }
     ensures few { result ≤ 262144 }
 {
-    let each = (4 * plan.cut()).max(LEAST_EACH);
+    let least = if plan.workers() == 1 {
+        LEAST_ALONE
+    } else {
+        LEAST_EACH
+    };
+    let each = (4 * plan.cut()).max(least);
     (plan.workers() * each).min(MOST_AT_ONCE)
 }
 
