@@ -117,11 +117,16 @@ fn reading<R: Threads + Sync + Clock>(
 }
 
 /// The graph of the map, and the time of building it.
-fn building(rt: &impl Clock, alloc: Global, merged: &Merged) -> Result<(Graph, u128), Memory>
+fn building<R: Threads + Sync + Clock>(
+    rt: &R,
+    alloc: Global,
+    merged: &Merged,
+    plan: Plan,
+) -> Result<(Graph, u128), Memory>
     ensures { IfOk result (λ built. IsGraphOf merged.now built.0) }
 {
     let start = now(rt)?;
-    let graph = build(alloc, merged)?;
+    let graph = build(rt, alloc, merged, plan)?;
     Ok((graph, passed(rt, &start)?))
 }
 
@@ -189,8 +194,9 @@ fn layers<R: Threads + Sync + Clock>(
     rt: &R,
     alloc: Global,
     merged: &Merged,
+    plan: Plan,
 ) -> Result<[u128; 4], Memory> {
-    let (graph, built) = building(rt, alloc, merged)?;
+    let (graph, built) = building(rt, alloc, merged, plan)?;
     let found = finding(rt, alloc, &graph)?;
     let ordered = ordering(rt, alloc, merged, &graph)?;
     Ok([built, found, ordered, listing(rt, alloc, &graph)?])
@@ -204,7 +210,7 @@ fn times<R: Threads + Sync + Clock>(
     plan: Plan,
 ) -> Result<[u128; 7], Memory> {
     let (merged, read) = reading(rt, alloc, logs, plan)?;
-    let [built, found, ordered, waited] = layers(rt, alloc, &merged)?;
+    let [built, found, ordered, waited] = layers(rt, alloc, &merged, plan)?;
     let applied = applying(rt, alloc, &merged, plan)?;
     let whole = answering(rt, alloc, logs, plan)?;
     Ok([read, built, found, ordered, waited, whole, applied])

@@ -1,5 +1,5 @@
 //! Maps as logs: their graphs, and the instances that wait.
-use crate::given::{id, logs_of, merged_of};
+use crate::given::{id, logs_of, merged_of, plan};
 use epx_graph::{Graph, Waiter, build, waiting};
 use epx_types::Id;
 use std::alloc::Global;
@@ -18,7 +18,7 @@ fn graph_of_texts<R: Abort + Threads + Sync>(
     texts: &[&str],
 ) -> Result<Graph, Fail> {
     let merged = merged_of(rt, alloc, &logs_of(alloc, texts)?)?;
-    Ok(build(alloc, &merged)?)
+    Ok(build(rt, alloc, &merged, plan(rt))?)
 }
 
 /// The nodes are these, and so many are committed.

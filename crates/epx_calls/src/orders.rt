@@ -2,7 +2,7 @@
 ghost use Rattle.epx_graph.specs.GraphOf.{IsGraphOf};
 ghost use Rattle.std.specs.Prelude.{IfOk};
 
-use crate::given::{id, merged_of, push_line};
+use crate::given::{id, merged_of, plan, push_line};
 use epx_graph::{Graph, build};
 use epx_merge::Merged;
 use epx_order::{OrderList, components, order};
@@ -23,7 +23,7 @@ fn read<R: Abort + Threads + Sync>(
     let mut logs = Vec::new(alloc);
     logs.push(log)?;
     let merged = merged_of(rt, alloc, &logs)?;
-    let graph = build(alloc, &merged)?;
+    let graph = build(rt, alloc, &merged, plan(rt))?;
     Ok((merged, graph))
 }
 

@@ -50,19 +50,19 @@ lacking_next m i e at =
 
 -- where nothing is missing, what was gathered are the rows
 pub rows_whole : (m : List Instance) (ids : List Id) (rows : List (List ℕ)) (missing : List Id) → AreNodesOf m ids → IsGathered m rows missing → missing ≡ [] → AreRowsOf m ids rows (length m)
-rows_whole m ids rows missing nodes is none = (ap length is.committed ∙ length-map m (λ (e : Instance). positions_of m e.deps), each) where
+rows_whole m ids rows missing nodes is none = (ap length is.all.committed ∙ length-map m (λ (e : Instance). positions_of m e.deps), each) where
   lacks_none : (e : Instance) → Contains m e → (x : Id) → ¬ Contains (lacking m e.deps) x
-  lacks_none e h x c = Contains-nil x (subst (λ (l : List Id). Contains l x) (sym is.missing ∙ none) (Contains-flat_map (λ (d : Instance). lacking m d.deps) m e x h c))
+  lacks_none e h x c = Contains-nil x (subst (λ (l : List Id). Contains l x) (sym is.all.missing ∙ none) (Contains-flat_map (λ (d : Instance). lacking m d.deps) m e x h c))
 
   each : (k : ℕ) (e : Instance) → k < length m → slice_get m k ≡ Some e → ArePlacesOf ids e.deps (row_of rows k)
   each k e l at =
       let h = Contains-slice_get m k e at in
-      let rise = AllPairs-from_IsRising e.deps (All-contains (λ (d : Instance). IsRising d.deps) m e is.deps_rise h) in
+      let rise = AllPairs-from_IsRising e.deps (All-contains (λ (d : Instance). IsRising d.deps) m e is.all.deps_rise h) in
       let nothing : ArePlacesOf ids (lacking m e.deps) [] = record {
         rising = λ i j d low within. absurd (omega arith);
         exact = λ j. (λ c. absurd (Contains-nil j c), λ c. absurd (lacks_none e h c.0 c.1));
       } in
-      subst (ArePlacesOf ids e.deps) (append-nil (positions_of m e.deps) ∙ sym (row_gathered m rows k e is.committed at)) (row_joined m ids nodes e.deps rise [] nothing)
+      subst (ArePlacesOf ids e.deps) (append-nil (positions_of m e.deps) ∙ sym (row_gathered m rows k e is.all.committed at)) (row_joined m ids nodes e.deps rise [] nothing)
 
 -- ---- the second pass
 
@@ -75,12 +75,12 @@ pub record BeginsWithThese (m : List Instance) (i : ℕ) (e : Instance) (row : L
 
 module _ (m : List Instance) (rows : List (List ℕ)) (ids : List Id) (is : IsGathered m rows ids) (i : ℕ) (e : Instance) (at : slice_get m i ≡ Some e) where
   pub row_short : length (row_of rows i) ≤ length e.deps
-  row_short = omega (arith, ap length (row_gathered m rows i e is.committed at), positions_count m e.deps)
+  row_short = omega (arith, ap length (row_gathered m rows i e is.all.committed at), positions_count m e.deps)
 
   pub begins_with_these : (row : List ℕ) (deps left : List Id) → row ≡ row_of rows i → deps ≡ e.deps → left ≡ all_lacking m (drop i m) → BeginsWithThese m i e row left (length deps - length row)
   begins_with_these row deps left row_is deps_are rest =
       let short = length deps - length row in
-      let known : row ≡ positions_of m e.deps = row_is ∙ row_gathered m rows i e is.committed at in
+      let known : row ≡ positions_of m e.deps = row_is ∙ row_gathered m rows i e is.all.committed at in
       let whole : left ≡ lacking m e.deps ++ all_lacking m (drop (i + 1) m) = rest ∙ lacking_next m i e at in
       let many : length (lacking m e.deps) ≡ short = omega (arith, ap length known, ap length deps_are, positions_count m e.deps) in
       record {

@@ -3,11 +3,13 @@ pub mod GraphNodes
 pub mod MapPaths
 pub mod OneGraph
 mod RowLists
+mod RowsJoined
 mod Filled
 mod Finding
 mod MissingIds
 mod Numbering
 mod RisingRows
+mod GatheredParts
 mod GatheredRows
 mod Built
 mod Searching

@@ -23,7 +23,7 @@ row_is start [] numbers k l = absurd (omega arith)
 row_is start (end ∷ ends) numbers zero l = refl
 row_is start (end ∷ ends) numbers (suc k) l = row_is end ends numbers k (omega arith)
 
-start_within : (start : ℕ) (ends : List ℕ) (n : ℕ) → AreEnds start ends n → start ≤ n
+pub start_within : (start : ℕ) (ends : List ℕ) (n : ℕ) → AreEnds start ends n → start ≤ n
 start_within start [] n h = omega arith
 start_within start (end ∷ ends) n h = let rest = start_within end ends n h.1 in omega arith
 
@@ -44,7 +44,7 @@ AreEnds-push : (start : ℕ) (ends : List ℕ) (n m : ℕ) → n ≤ m → AreEn
 AreEnds-push start [] n m l h = (omega arith, refl)
 AreEnds-push start (end ∷ ends) n m l h = (h.0, AreEnds-push end ends n m l h.1)
 
-range_kept : (numbers row : List ℕ) (a b : ℕ) → a ≤ b → b ≤ length numbers → slice_range (numbers ++ row) a b ≡ slice_range numbers a b
+pub range_kept : (numbers row : List ℕ) (a b : ℕ) → a ≤ b → b ≤ length numbers → slice_range (numbers ++ row) a b ≡ slice_range numbers a b
 range_kept numbers row a b l within =
     ap (take (b - a)) (drop-append-le a numbers row (omega arith)) ∙ take-append-le (b - a) (drop a numbers) row (omega (arith, length-drop a numbers))
 

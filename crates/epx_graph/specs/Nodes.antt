@@ -23,12 +23,16 @@ all_positions m es = map (λ e. positions_of m e.deps) es
 abbrev pub all_lacking : List Instance → List Instance → List Id
 all_lacking m es = flat_map (λ e. lacking m e.deps) es
 
--- the dependencies of all instances, those that are committed by position and the others by Id
+-- the dependencies of some of the instances, those that are committed by position and the others by Id
+pub record IsGatheredOf (m es : List Instance) (rows : List (List ℕ)) (ids : List Id) : Type 0 where
+  pub committed : rows ≡ all_positions m es
+  pub missing : ids ≡ all_lacking m es
+  pub deps_rise : All (λ e. IsRising e.deps) es
+
+-- the dependencies of all instances, which rise
 pub record IsGathered (m : List Instance) (rows : List (List ℕ)) (ids : List Id) : Type 0 where
-  pub committed : rows ≡ all_positions m m
-  pub missing : ids ≡ all_lacking m m
+  pub all : IsGatheredOf m m rows ids
   pub instances_rise : IsRising (ids_of m)
-  pub deps_rise : All (λ e. IsRising e.deps) m
 
 -- missing instances, each once
 pub record AreMissingIds (m : List Instance) (ids : List Id) : Type 0 where

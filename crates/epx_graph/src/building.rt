@@ -11,8 +11,9 @@ use crate::find::find;
 use crate::graph::Graph;
 use crate::rows::Rows;
 use epx_merge::Merged;
-use epx_types::{Id, Memory};
+use epx_types::{Id, Memory, Plan};
 use std::alloc::Global;
+use std::thread::Threads;
 
 /// The Ids, each once, by rising Id.
 fn each_once(alloc: Global, ids: &[Id]) -> Result<Vec<Id>, Memory>
@@ -109,10 +110,17 @@ fn rows(alloc: Global, merged: &Merged, ids: &[Id], gathered: Gathered) -> Resul
 }
 
 /// The graph of a map, in time n log n in its instances and dependencies.
-pub fn build(alloc: Global, merged: &Merged) -> Result<Graph, Memory>
+///
+/// The plan's workers look the dependencies up. The graph is the same for every plan.
+pub fn build<R: Threads + Sync>(
+    rt: &R,
+    alloc: Global,
+    merged: &Merged,
+    plan: Plan,
+) -> Result<Graph, Memory>
     ensures { IfOk result (λ graph. IsGraphOf merged.now graph) }
 {
-    let gathered = committed_rows(alloc, merged)?;
+    let gathered = committed_rows(rt, alloc, merged, plan)?;
     let ids = nodes(alloc, merged, &gathered)?;
     let rows = rows(alloc, merged, &ids, gathered)?;
     Ok(Graph::new(ids, rows))

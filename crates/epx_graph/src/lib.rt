@@ -6,6 +6,7 @@ mod committed;
 mod find;
 mod graph;
 pub mod laws;
+mod part;
 mod rows;
 mod search;
 mod turned;

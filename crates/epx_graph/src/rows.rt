@@ -1,5 +1,5 @@
 //! Lists of numbers, one after another in one vector.
-ghost use Rattle.std.specs.Prelude.{◌≡◌, ◌<◌, ◌≤◌, ◌++◌, ◌∷◌, [], length, slice_index, slice_range, IfOk};
+ghost use Rattle.std.specs.Prelude.{◌≡◌, ◌<◌, ◌≤◌, ◌+◌, ◌^◌, ◌++◌, ◌∷◌, [], length, map, slice_index, slice_range, All, IfOk, OnOk};
 ghost use Rattle.epx_graph.specs.Rows.{row_of};
 
 use epx_types::Memory;
@@ -34,6 +34,17 @@ fn bounds(ends: &[usize], place: usize) -> (usize, usize)
         return (0, ends[0]);
     }
     (ends[place - 1], ends[place])
+}
+
+/// Adds where rows end that stand after so many numbers.
+fn push_ends(ends: &mut Vec<usize>, before: usize, later: &[usize]) -> Result<(), Memory>
+    requires { All (λ end. before + end < 2 ^ 64) later.now }
+    ensures { OnOk result (ends.new.items ≡ ends.old.items ++ map (λ end. before + end) later.now) }
+{
+    for end in later {
+        ends.push(before + *end)?;
+    }
+    Ok(())
 }
 
 fn part(numbers: &[usize], start: usize, end: usize) -> &[usize]
@@ -91,6 +102,26 @@ impl Rows {
         numbers.extend_from_slice(low)?;
         numbers.extend_from_slice(high)?;
         ends.push(numbers.len())?;
+        Ok(Rows { ends, numbers })
+    }
+
+    /// With other rows after these.
+    pub(crate) fn append(self, later: Rows) -> Result<Rows, Memory>
+        ensures { IfOk result (λ rows. rows ≡ self ++ later) }
+    {
+        let Rows {
+            mut ends,
+            mut numbers,
+        } = self;
+        let Rows {
+            ends: later_ends,
+            numbers: later_numbers,
+        } = later;
+        let before = numbers.len();
+        numbers.extend_from_slice(&later_numbers)?;
+        // Freed at once: the numbers are held twice until then.
+        drop(later_numbers);
+        push_ends(&mut ends, before, &later_ends)?;
         Ok(Rows { ends, numbers })
     }
 }

@@ -73,7 +73,7 @@ fn report_of<R: Threads + Sync>(
     requires few { length merged ≤ max_instances }
     ensures { IfOk result (λ text. IsReport merged text.items) }
 {
-    let graph = build(alloc, &merged)?;
+    let graph = build(rt, alloc, &merged, plan)?;
     let order = order(rt, alloc, &merged, &graph)?;
     let waiters = waiting(alloc, &graph)?;
     drop(graph);
@@ -85,20 +85,30 @@ fn report_of<R: Threads + Sync>(
 }
 
 /// The execution order of a committed map, as text.
-fn order_of<R: Threads + Sync>(rt: &R, alloc: Global, merged: &Merged) -> Result<Vec<u8>, Memory>
+fn order_of<R: Threads + Sync>(
+    rt: &R,
+    alloc: Global,
+    merged: &Merged,
+    plan: Plan,
+) -> Result<Vec<u8>, Memory>
     ensures { IfOk result (λ text. IsOrderText merged.now text.items) }
 {
-    let graph = build(alloc, merged)?;
+    let graph = build(rt, alloc, merged, plan)?;
     let order = order(rt, alloc, merged, &graph)?;
     let waiters = waiting(alloc, &graph)?;
     order_report(alloc, &order, &waiters)
 }
 
 /// The execution order of a committed map with the conflict levels of its commands, as text.
-fn levels_of<R: Threads + Sync>(rt: &R, alloc: Global, merged: &Merged) -> Result<Vec<u8>, Memory>
+fn levels_of<R: Threads + Sync>(
+    rt: &R,
+    alloc: Global,
+    merged: &Merged,
+    plan: Plan,
+) -> Result<Vec<u8>, Memory>
     ensures { IfOk result (λ text. IsLevelText merged.now text.items) }
 {
-    let graph = build(alloc, merged)?;
+    let graph = build(rt, alloc, merged, plan)?;
     let order = order(rt, alloc, merged, &graph)?;
     let waiters = waiting(alloc, &graph)?;
     let commands = commands(alloc, merged, order.ids())?;
@@ -158,7 +168,7 @@ pub fn view<R: Threads + Sync>(
         Err(fault) => return Err(fault),
     };
     match ask {
-        Ask::Order => Ok(order_of(rt, alloc, &merged)?),
-        Ask::Levels => Ok(levels_of(rt, alloc, &merged)?),
+        Ask::Order => Ok(order_of(rt, alloc, &merged, plan)?),
+        Ask::Levels => Ok(levels_of(rt, alloc, &merged, plan)?),
     }
 }
