@@ -33,7 +33,7 @@ fn committed_ids(alloc: Global, merged: &Merged, more: usize) -> Result<Vec<Id>,
 {
     let mut ids = Vec::with_capacity(alloc, merged.len().saturating_add(more))?;
     for position in 0..merged.len() {
-        ids.push(merged.entry_at(position).id())?;
+        ids.push(merged.id_at(position))?;
     }
     Ok(ids)
 }

@@ -30,8 +30,6 @@ pub(crate) struct Ledger {
     names: IndexSet<Id>,
     /// The first line of each instance. It stays where it was noted.
     firsts: Vec<PlacedEntry>,
-    /// How many dependencies the first lines name.
-    dep_count: usize,
     clashes: IndexMap<Id, Clash>,
 }
 
@@ -55,7 +53,6 @@ impl Ledger {
             alloc,
             names: IndexSet::new(alloc),
             firsts: Vec::new(alloc),
-            dep_count: 0,
             clashes: IndexMap::new(alloc),
         }
     }
@@ -69,8 +66,6 @@ impl Ledger {
         let id = line.id();
         let (place, is_new) = self.names.insert_full(id)?;
         if is_new {
-            let deps = line.entry().deps().len();
-            self.dep_count = self.dep_count.saturating_add(deps);
             self.firsts.push(line)?;
             return Ok(());
         }
@@ -98,7 +93,6 @@ impl Ledger {
             alloc,
             names,
             firsts,
-            dep_count,
             mut clashes,
         } = self;
         let Ok(rows) = rows_of(alloc, names.as_slice()) else {
@@ -116,7 +110,7 @@ impl Ledger {
                 first: clash.first,
                 second: clash.second,
             }),
-            None => Ok(Merged::new(firsts, rows, dep_count)),
+            None => Ok(Merged::new(firsts, rows)),
         }
     }
 }

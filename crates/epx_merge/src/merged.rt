@@ -17,7 +17,6 @@ pub struct Merged {
     /// The lines by rising Id.
     rows: Vec<Row>,
     runs: Runs,
-    dep_count: usize,
 }
 
 impl Model for Merged {
@@ -33,17 +32,12 @@ impl Model for Merged {
 }
 
 impl Merged {
-    pub(crate) fn new(lines: Vec<PlacedEntry>, rows: Vec<Row>, dep_count: usize) -> Merged
+    pub(crate) fn new(lines: Vec<PlacedEntry>, rows: Vec<Row>) -> Merged
         requires { IsKeyed lines.items rows.items }
         ensures { result ≡ instances_at lines.items rows.items }
     {
         let runs = Runs::of(&rows);
-        Merged {
-            lines,
-            rows,
-            runs,
-            dep_count,
-        }
+        Merged { lines, rows, runs }
     }
 
     /// Where the instance stands: mostly where its replica's instances would without gaps, and else
@@ -71,12 +65,6 @@ impl Merged {
         ensures { result ≡ (length self.now == 0) }
     {
         self.len() == 0
-    }
-
-    /// How many dependencies the instances name in all, as far as a number can say: a hint of the room
-    /// that they take, on which nothing rests.
-    pub fn dep_count(&self) -> usize {
-        self.dep_count
     }
 
     /// The entry of a committed instance, in at most logarithmic time.

@@ -26,7 +26,7 @@ returns-then-same_entry c =
     let at = c.in_ok-place.ensures.stored in
     let known = known_line lines c.self.inside.names.keys c.insert_full.new.self.keys c.id-id.result at.0 c.in_ok-place.place c.index-first.result.now stand
     (sym c.in_ok-place.ensures.added ∙ c.if-is_new.false) c.in_ok-place.ensures.keys at.1 at.2 c.index-first.ensures in
-    let same = sym c.entry-2.ensures ∙ c.same_entry.ensures.0 c.if-same_entry.true ∙ c.entry-3.ensures in
+    let same = sym c.entry.ensures ∙ c.same_entry.ensures.0 c.if-same_entry.true ∙ c.entry-2.ensures in
     subst (λ (n : Noted). Notes (c.args.line ∷ []) n (record { firsts = under_names lines; clashes = clashes })) start
     (noted_alike lines clashes c.args.line c.id-id.result c.id-id.ensures c.index-first.result.now known same)
 
@@ -57,6 +57,6 @@ returns c =
     let clash : Clash = record { first = c.place.result; second = c.place-2.result } in
     let absent = sym c.contains_key.ensures ∙ c.if-contains_key.false in
     let last = c.in_ok-insert.ensures.entries ∙ insert_entry-new same_id c.self.inside.clashes c.id-id.result clash (is_none _ absent) in
-    let differ : first.instance ≢ c.args.line.instance = λ e. true≢false (sym (c.same_entry.ensures.1 (c.entry-2.ensures ∙ e ∙ sym c.entry-3.ensures)) ∙ c.if-same_entry.false) in
+    let differ : first.instance ≢ c.args.line.instance = λ e. true≢false (sym (c.same_entry.ensures.1 (c.entry.ensures ∙ e ∙ sym c.entry-2.ensures)) ∙ c.if-same_entry.false) in
     subst (λ (n : Noted). Notes (c.args.line ∷ []) n (record { firsts = under_names lines; clashes = c.insert.new.self.entries })) start
     (noted_clash lines clashes c.args.line c.id-id.result c.id-id.ensures first known clash c.insert.new.self.entries differ absent c.place.ensures c.place-2.ensures last)
