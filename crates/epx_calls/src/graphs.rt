@@ -1,5 +1,5 @@
 //! Maps as logs: their graphs, and the instances that wait.
-use crate::given::{id, logs_of, merged_of, plan};
+use crate::given::{id, logs_of, merged_of, plan, push_line};
 use epx_graph::{Graph, Waiter, build, waiting};
 use epx_types::Id;
 use std::alloc::Global;
@@ -86,4 +86,37 @@ fn no_logs_have_an_empty_graph(rt: HostRuntime) -> Result<(), Fail> {
     let graph = graph_of_texts(&rt, rt.alloc(), &[])?;
     nodes_are(&rt, &graph, &[], 0);
     waiters_are(&rt, rt.alloc(), &graph, &[])
+}
+
+/// A chain of so many instances, of which one depends on an instance without a line as well.
+fn chain(alloc: Global, count: u64, lacking: u64) -> Result<Vec<u8>, Fail> {
+    let mut log = Vec::new(alloc);
+    push_line(alloc, &mut log, id(0, 0), 1, "")?;
+    for number in 1..count {
+        let before = number - 1;
+        let more = if number == lacking { ",[1,7]" } else { "" };
+        let deps = format!(in alloc; "[0,{before}]{more}")?;
+        push_line(alloc, &mut log, id(0, number), 1, &deps)?;
+    }
+    Ok(log)
+}
+
+/// So many instances that several workers look up what they depend on.
+#[test]
+fn many_instances(rt: HostRuntime) -> Result<(), Fail> {
+    let mut logs = Vec::new(rt.alloc());
+    logs.push(chain(rt.alloc(), 10_000, 7_000)?)?;
+    let merged = merged_of(&rt, rt.alloc(), &logs)?;
+    let graph = build(&rt, rt.alloc(), &merged, plan(&rt))?;
+    assert!(rt; graph.len() == 10_001);
+    assert!(rt; graph.committed_len() == 10_000);
+    for node in 1..10_000 {
+        if node == 7_000 {
+            edges_are(&rt, &graph, node, &[6_999, 10_000]);
+        } else {
+            edges_are(&rt, &graph, node, &[node - 1]);
+        }
+    }
+    assert!(rt; waiting(rt.alloc(), &graph)?.len() == 3_000);
+    Ok(())
 }
