@@ -1,14 +1,15 @@
 //! Commands executed level by level: those of one level do not conflict, so each is evaluated over the
 //! store before all of them, which is only read, and then their writes are put in together.
-ghost use Rattle.std.specs.Prelude.{◌≡◌, ◌<◌, ◌≤◌, ◌^◌, ◌++◌, ◌∷◌, [], ℕ, length, map, flat_map, slice_set, All, IfOk, OnOk, OnErr};
+ghost use Rattle.std.specs.Prelude.{◌≡◌, ◌<◌, ◌≤◌, ◌^◌, ◌++◌, ◌∷◌, [], ℕ, length, map, flat_map, slice_set, All, IfOk, IfSome, OnOk, OnErr};
 ghost use Rattle.epx_types.specs.Commands.{command_on};
 ghost use Rattle.epx_types.specs.Conflicts.{AllApart};
 ghost use Rattle.epx_types.specs.Execution.{execute};
+ghost use Rattle.epx_types.specs.Levels.{AreLevels};
 ghost use Rattle.epx_types.specs.Pieces.{piece_count};
 ghost use Rattle.epx_types.specs.Rearrangements.{commands_at};
 ghost use Rattle.epx_apply.specs.Effects.{ops_of, effect_over, effects_over, items_of_piece, replies_in, put_replies};
 
-use crate::level_map::levels_below;
+use crate::level_map::{LevelMap, levels_below};
 use epx_claims::{Gate, claimed_map};
 use epx_txn::{Effect, Store, apply, eval, merge_effects};
 use epx_types::{Command, Memory, Op, Plan, Reply};
@@ -251,6 +252,22 @@ fn most_levels(commands: usize, plan: Plan) -> usize {
     plan.pieces(commands) / 2 / plan.workers()
 }
 
+/// The levels of all commands, where they are below a bound. Their last eighth is looked at first, by itself: in an
+/// execution order the deepest come last, so that mostly it tells at once that there are too many.
+fn few_levels(
+    alloc: Global,
+    commands: &[Command],
+    bound: usize,
+) -> Result<Option<LevelMap>, Memory>
+    ensures { IfOk result (λ found. IfSome found (AreLevels (ops_of commands.now))) }
+{
+    let last = &commands[commands.len() - commands.len() / 8..];
+    if levels_below(alloc, last, bound)?.is_none() {
+        return Ok(None);
+    }
+    levels_below(alloc, commands, bound)
+}
+
 /// All commands, level by level; where the levels turn out to be many and small, one after another, as they
 /// stand in memory.
 fn run_levels<R: Threads + Sync, G: Gate + Sync>(
@@ -267,7 +284,7 @@ fn run_levels<R: Threads + Sync, G: Gate + Sync>(
         (λ w. w.replies.items ≡ (execute (ops_of commands.now) store).replies) }
 {
     let bound = most_levels(commands.len(), plan);
-    let found = levels_below(alloc, commands, bound)?;
+    let found = few_levels(alloc, commands, bound)?;
     let Some(level_map) = found else {
         return run_all(alloc, store, commands);
     };
