@@ -10,8 +10,8 @@ use Rattle.std.proofs.lemmas.Map.Views.{Contains-from_lookup}
 use Rattle.epx_types.specs.declared.id.Id.{Id}
 use Rattle.epx_types.specs.contracts.id.IdPartialEq.TheImpl as id_eq
 use Rattle.epx_types.specs.PlacedLines.{Placed}
-use Rattle.epx_types.proofs.Membership.{Contains-nil, Contains-cons_cases, Contains-map}
-use Rattle.epx_types.proofs.Places.{slice_get-from_map, Contains-slice_get}
+use Rattle.epx_types.proofs.Membership.{Contains-nil, Contains-cons_cases}
+use Rattle.epx_types.proofs.Places.{slice_get-map, slice_get-from_map, Contains-slice_get}
 use Rattle.epx_merge.specs.declared.ledger.Clash.{Clash}
 use Rattle.epx_merge.specs.Ledgers.{Noted, Notes}
 use Rattle.epx_merge.specs.Keyed.{under_names}
@@ -81,13 +81,21 @@ same_names : (x : Id) (names : List Id) → not (list_any (same_id x) names) ≡
 same_names x names old = let there : list_any (same_id x) names ≡ true = grind (arith, old) in rw there refl
 
 -- what stands where a known name does is the line of that name
-pub known_line : (lines : List Placed) (names after : List Id) (x y : Id) (place : ℕ) (first : Placed) → names ≡ map (λ p. p.instance.id) lines → not (list_any (same_id x) names) ≡ false
-    → after ≡ insert_key same_id names x → slice_get after place ≡ Some y → same_id x y ≡ true → first ≡ get_or lines place first → Contains (under_names lines) (x, first)
-known_line lines names after x y place first stand old same_after at same is =
+pub known_line : (lines : List Placed) (names after : List Id) (x y : Id) (place : ℕ) → names ≡ map (λ p. p.instance.id) lines → not (list_any (same_id x) names) ≡ false
+    → after ≡ insert_key same_id names x → slice_get after place ≡ Some y → same_id x y ≡ true → (first : Placed) × (slice_get (under_names lines) place ≡ Some (x, first))
+known_line lines names after x y place stand old same_after at same =
     let p = slice_get-from_map (λ (q : Placed). q.instance.id) lines place y (sym (ap (λ (l : List Id). slice_get l place) (same_after ∙ same_names x names old ∙ stand)) ∙ at) in
-    let first_is : p.0 ≡ first = sym (get_or_from_slice_get lines place p.0 first p.1) ∙ sym is in
     let id : p.0.instance.id ≡ x = p.2 ∙ sym ((ids_decide x y).0 same) in
-    subst₂ (λ (z : Id) (q : Placed). Contains (under_names lines) (z, q)) id first_is (Contains-map (λ (q : Placed). (q.instance.id, q)) lines p.0 (Contains-slice_get lines place p.0 p.1))
+    (p.0, slice_get-map (λ (q : Placed). (q.instance.id, q)) lines place p.0 p.1 ∙ ap (λ (z : Id). Some (z, p.0)) id)
+
+-- the line that is read where one stands under a name
+pub line_under : (lines : List Placed) (clashes : List (Id × Clash)) (noted : Noted) → ◌≡◌ {A = Noted} (record { firsts = under_names lines; clashes = clashes }) noted → (place : ℕ) (x : Id) (first : Placed)
+    → (p : Placed) × (slice_get noted.firsts place ≡ Some (x, p)) → first ≡ get_or lines place first → Contains (under_names lines) (x, first)
+line_under lines clashes noted view place x first h is =
+    let at : slice_get (under_names lines) place ≡ Some (x, h.0) = subst (λ (n : Noted). slice_get n.firsts place ≡ Some (x, h.0)) (sym view) h.1 in
+    let q = slice_get-from_map (λ (r : Placed). (r.instance.id, r)) lines place (x, h.0) at in
+    let same : h.0 ≡ first = sym (is ∙ get_or_from_slice_get lines place q.0 first q.1 ∙ ap (λ (e : Id × Placed). e.1) q.2) in
+    subst (λ (r : Placed). Contains (under_names lines) (x, r)) same (Contains-slice_get (under_names lines) place (x, h.0) at)
 
 module _ (lines : List Placed) (clashes : List (Id × Clash)) (line : Placed) (x : Id) (named : x ≡ line.instance.id) where
   abbrev pub noted : Noted
@@ -101,10 +109,7 @@ module _ (lines : List Placed) (clashes : List (Id × Clash)) (line : Placed) (x
       subst (λ (firsts : List (Id × Placed)). Notes (line ∷ []) noted (record { firsts = firsts; clashes = clashes })) (sym end)
       (Notes-new noted line (subst₂ (λ (names : List Id) (y : Id). ¬ Contains names y) (stand ∙ sym (names_under lines)) named none))
 
-  module _ (first : Placed) (found : Contains (under_names lines) (x, first)) where
-    known : Contains (under_names lines) (line.instance.id, first)
-    known = subst (λ (y : Id). Contains (under_names lines) (y, first)) named found
-
+  module _ (first : Placed) (known : Contains (under_names lines) (line.instance.id, first)) where
     -- a line that commits the same as the first of its instance
     pub noted_alike : first.instance ≡ line.instance → Notes (line ∷ []) noted noted
     noted_alike same = Notes-known noted line first known (inl same)

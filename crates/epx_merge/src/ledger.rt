@@ -1,5 +1,5 @@
 //! The first line of each instance, and where the lines of one instance differ.
-ghost use Rattle.std.specs.Prelude.{◌≡◌, List, [], ◌∷◌, OnOk, MatchResult};
+ghost use Rattle.std.specs.Prelude.{◌≡◌, List, [], ◌∷◌, OnOk, MatchResult, Some, slice_get};
 ghost use Rattle.epx_types.specs.PlacedLines.{Placed};
 ghost use Rattle.epx_merge.specs.Ledgers.{IsLedgerOf, Notes};
 ghost use Rattle.epx_merge.specs.LineOrder.{InPlaceOrder};
@@ -63,17 +63,22 @@ impl Ledger {
     {
         // The name goes in only where there is room for the line.
         self.firsts.reserve(1)?;
-        let id = line.id();
-        let (place, is_new) = self.names.insert_full(id)?;
+        let (place, is_new) = self.names.insert_full(line.id())?;
         if is_new {
             self.firsts.push(line)?;
             return Ok(());
         }
+        self.compare(place, &line)
+    }
+
+    /// Notes a line of an instance whose first line stands at this place.
+    fn compare(&mut self, place: usize, line: &PlacedEntry) -> Result<(), Memory>
+        requires { (first : Placed) × (slice_get self.now.firsts place ≡ Some (line.now.instance.id, first)) }
+        ensures { OnOk result (Notes (line.now ∷ []) self.old self.new) }
+    {
+        let id = line.id();
         let first = &self.firsts[place];
-        if same_entry(first.entry(), line.entry()) {
-            return Ok(());
-        }
-        if self.clashes.contains_key(&id) {
+        if same_entry(first.entry(), line.entry()) || self.clashes.contains_key(&id) {
             return Ok(());
         }
         let clash = Clash {
