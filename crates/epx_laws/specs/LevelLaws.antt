@@ -4,6 +4,10 @@ use Rattle.epx_types.specs.declared.op.Op.{Op}
 use Rattle.epx_types.specs.Levels.{ConflictAt, IsLevel, AreLevels, level_count, RisesWithConflicts}
 use Rattle.epx_laws.specs.AtMostOne.{AtMostOne}
 
+-- commands have levels
+abbrev pub LevelsExist : Type 0
+LevelsExist = (commands : List (List Op)) → (levels : List ℕ) × AreLevels commands levels
+
 -- two levels of one place are equal
 abbrev pub LevelIsOne : Type 0
 LevelIsOne = (commands : List (List Op)) (j : ℕ) → AtMostOne (IsLevel commands j)

@@ -13,6 +13,10 @@ use Rattle.epx_types.specs.ExecutionOrder.{Ranked, IsExecutionOrder, component_c
 use Rattle.epx_types.specs.LawfulOrders.{Before, IsLawful, commands_in}
 use Rattle.epx_laws.specs.AtMostOne.{AtMostOne}
 
+-- a committed map has an execution order
+abbrev pub ExecutionOrderExists : Type 0
+ExecutionOrderExists = (m : List Instance) → IsRising (ids_of m) → (order : List Ranked) × IsExecutionOrder m order
+
 abbrev pub ExecutionOrderIsOne : Type 0
 ExecutionOrderIsOne = (m : List Instance) → AtMostOne (IsExecutionOrder m)
 

@@ -1,12 +1,12 @@
 -- Laws of reaching, of components and their leaders and depths, and of readiness.
-use Rattle.std.specs.Prelude.{◌≡◌, ◌↔◌, ℕ, ◌<◌, ◌≤◌, Bool, true, List, Contains}
+use Rattle.std.specs.Prelude.{◌≡◌, ◌⊎◌, ◌↔◌, ℕ, ◌<◌, ◌≤◌, Bool, true, List, Contains}
 use Rattle.epx_types.specs.declared.id.Id.{Id}
 use Rattle.epx_types.specs.Instances.{Instance}
 use Rattle.epx_types.specs.Ids.{IsRising}
 use Rattle.epx_types.specs.CommittedMap.{ids_of, IsCommitted}
 use Rattle.epx_types.specs.Reaching.{DependsOn, Reaches}
 use Rattle.epx_types.specs.Readiness.{IsReady, WaitsFor, LacksNothing}
-use Rattle.epx_types.specs.WaitingLists.{IsWaitingList}
+use Rattle.epx_types.specs.WaitingLists.{Waiting, IsWaitingList}
 use Rattle.epx_types.specs.Components.{InOneComponent, IsLeader}
 use Rattle.epx_types.specs.Depth.{IsDepth, FallsOneWay}
 use Rattle.epx_laws.specs.AtMostOne.{AtMostOne}
@@ -45,8 +45,16 @@ pub record MembersAreAlike : Type 0 where
   pub depth : (m : List Instance) (x y : Id) (k : ℕ) → InOneComponent m x y → IsDepth m x k → IsDepth m y k
   pub ready : (m : List Instance) (x y : Id) → InOneComponent m x y → IsReady m x → IsReady m y
 
+-- each instance has a leader
+abbrev pub LeaderExists : Type 0
+LeaderExists = (m : List Instance) (x : Id) → (leader : Id) × IsLeader m x leader
+
 abbrev pub LeaderIsOne : Type 0
 LeaderIsOne = (m : List Instance) (x : Id) → AtMostOne (IsLeader m x)
+
+-- each instance has a depth
+abbrev pub DepthExists : Type 0
+DepthExists = (m : List Instance) (x : Id) → (depth : ℕ) × IsDepth m x depth
 
 abbrev pub DepthIsOne : Type 0
 DepthIsOne = (m : List Instance) (x : Id) → AtMostOne (IsDepth m x)
@@ -63,9 +71,17 @@ DepthIsLeast = (m : List Instance) (f : Id → ℕ) → FallsOneWay m f → (x :
 abbrev pub MissingIsOne : Type 0
 MissingIsOne = (m : List Instance) (x : Id) → AtMostOne (WaitsFor m x)
 
+-- a committed map has a waiting list
+abbrev pub WaitingListExists : Type 0
+WaitingListExists = (m : List Instance) → IsRising (ids_of m) → (ws : List Waiting) × IsWaitingList m ws
+
 -- a map has one waiting list
 abbrev pub WaitingListIsOne : Type 0
 WaitingListIsOne = (m : List Instance) → AtMostOne (IsWaitingList m)
+
+-- a committed instance is ready, or waits for another
+abbrev pub ReadyOrWaits : Type 0
+ReadyOrWaits = (m : List Instance) (x : Id) → IsCommitted m x → IsReady m x ⊎ ((y : Id) × WaitsFor m x y)
 
 -- a committed instance is ready exactly where it waits for nothing
 abbrev pub ReadyWaitsForNothing : Type 0

@@ -1,5 +1,10 @@
 //! Laws of conflict levels.
-ghost use Rattle.epx_laws.specs.LevelLaws.{LevelIsOne, LevelsAreOne, LevelIsApart, ConflictsClimb, LevelsAreLeast, LevelsAreFewest, EachLevelIsReached};
+ghost use Rattle.epx_laws.specs.LevelLaws.{LevelsExist, LevelIsOne, LevelsAreOne, LevelIsApart, ConflictsClimb, LevelsAreLeast, LevelsAreFewest, EachLevelIsReached};
+
+/// Commands have levels.
+pub fn levels_exist()
+    ensures { LevelsExist }
+{}
 
 /// A place has one level.
 pub fn level_is_one()

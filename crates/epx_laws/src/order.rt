@@ -1,5 +1,10 @@
 //! Laws of execution orders.
-ghost use Rattle.epx_laws.specs.OrderLaws.{ComponentsAreCounted, RelatedStandAlike, LawfulOrdersHoldTheSame, LawfulOrdersExecuteAlike, ConflictsStandAlike, ExecutionOrderIsOne, ExecutionOrderIsLawful, LeadersStandInOrder};
+ghost use Rattle.epx_laws.specs.OrderLaws.{ExecutionOrderExists, ComponentsAreCounted, RelatedStandAlike, LawfulOrdersHoldTheSame, LawfulOrdersExecuteAlike, ConflictsStandAlike, ExecutionOrderIsOne, ExecutionOrderIsLawful, LeadersStandInOrder};
+
+/// A committed map has an execution order.
+pub fn execution_order_exists()
+    ensures { ExecutionOrderExists }
+{}
 
 /// A map has one execution order.
 pub fn execution_order_is_one()

@@ -1,5 +1,5 @@
 //! Laws of reaching, of components and of readiness.
-ghost use Rattle.epx_laws.specs.ReachingLaws.{DependenciesAreListed, ReachingIsReflexive, ReachingIsTransitive, DependenciesAreReached, ReachingIsLeast, OneComponentIsEquivalence, MembersAreAlike, LeaderIsOne, DepthIsOne, DepthFalls, DepthIsLeast, MissingIsOne, WaitingListIsOne, ReadyWaitsForNothing, AllReadyWhereNothingLacks};
+ghost use Rattle.epx_laws.specs.ReachingLaws.{DependenciesAreListed, ReachingIsReflexive, ReachingIsTransitive, DependenciesAreReached, ReachingIsLeast, OneComponentIsEquivalence, MembersAreAlike, LeaderExists, LeaderIsOne, DepthExists, DepthIsOne, DepthFalls, DepthIsLeast, MissingIsOne, WaitingListExists, WaitingListIsOne, ReadyOrWaits, ReadyWaitsForNothing, AllReadyWhereNothingLacks};
 
 /// Committed instances alone depend on others, each on those that it lists.
 pub fn dependencies_are_listed()
@@ -36,9 +36,19 @@ pub fn members_are_alike()
     ensures { MembersAreAlike }
 {}
 
+/// Each instance has a leader.
+pub fn leader_exists()
+    ensures { LeaderExists }
+{}
+
 /// A component has one leader.
 pub fn leader_is_one()
     ensures { LeaderIsOne }
+{}
+
+/// Each instance has a depth.
+pub fn depth_exists()
+    ensures { DepthExists }
 {}
 
 /// An instance has one depth.
@@ -61,9 +71,19 @@ pub fn missing_is_one()
     ensures { MissingIsOne }
 {}
 
+/// A committed map has a waiting list.
+pub fn waiting_list_exists()
+    ensures { WaitingListExists }
+{}
+
 /// A map has one waiting list.
 pub fn waiting_list_is_one()
     ensures { WaitingListIsOne }
+{}
+
+/// A committed instance is ready, or waits for another.
+pub fn ready_or_waits()
+    ensures { ReadyOrWaits }
 {}
 
 /// A committed instance is ready exactly where it waits for nothing.

@@ -1,6 +1,6 @@
--- The orders of Ids, places and ranks are total, and those of Ids and places tie equal values alone.
+-- The orders of Ids, places and ranks are total, and tie equal values alone.
 use Rattle.std.proofs.Common.{◌≡◌, Ordering, Less, Equal, Greater, refl}
-use Rattle.std.specs.Ordering.{ordering_then}
+use Rattle.std.specs.Ordering.{nat_cmp, ordering_then}
 use Rattle.std.specs.Cmp.{IsTotalOrder, nat_cmp_total, on_total, then_total}
 use Rattle.std.specs.FinMap.{IsAntisymmetric, nat_cmp-IsAntisymmetric}
 use Rattle.epx_types.specs.Ids.{id_cmp}
@@ -43,3 +43,14 @@ place_cmp-IsAntisymmetric p q e =
 -- ranks are in a total order
 pub rank_cmp_total : IsTotalOrder rank_cmp
 rank_cmp_total = then_total (on_total (λ r. r.depth) nat_cmp_total) (then_total (on_total (λ r. r.leader) id_cmp_total) (then_total (on_total (λ r. r.seq) nat_cmp_total) (on_total (λ r. r.id) id_cmp_total)))
+
+-- ranks that tie are equal
+pub rank_cmp-IsAntisymmetric : IsAntisymmetric rank_cmp
+rank_cmp-IsAntisymmetric a b e =
+    let rest = then_second (nat_cmp a.depth b.depth) _ e in
+    let last = then_second (id_cmp a.leader b.leader) _ rest in
+    let depth = nat_cmp-IsAntisymmetric a.depth b.depth (then_first _ _ e) in
+    let leader = id_cmp-IsAntisymmetric a.leader b.leader (then_first _ _ rest) in
+    let seq = nat_cmp-IsAntisymmetric a.seq b.seq (then_first _ _ last) in
+    let id = id_cmp-IsAntisymmetric a.id b.id (then_second _ _ last) in
+    λ i. record { id = id i; seq = seq i; leader = leader i; depth = depth i }

@@ -29,7 +29,7 @@ module _ (commands : List (List Op)) where
       omega (arith, p.chain.2)
 
   -- numbers that rise wherever commands conflict are no lower than a climb is long
-  Climbs-length : (f : ℕ → ℕ) → RisesWithConflicts commands f → (j : ℕ) (is : List ℕ) → Climbs commands j is → length is ≤ f j
+  pub Climbs-length : (f : ℕ → ℕ) → RisesWithConflicts commands f → (j : ℕ) (is : List ℕ) → Climbs commands j is → length is ≤ f j
   Climbs-length f rises j [] climbs = omega arith
   Climbs-length f rises j (i ∷ is) climbs =
       let rest = Climbs-length f rises i is climbs.2 in

@@ -104,7 +104,7 @@ module _ (m : List Instance) where
       omega (arith, dy.descent.2)
 
   -- numbers that fall along each one-way reach are no lower than a descent is long
-  Descends-length : (f : Id → ℕ) → FallsOneWay m f → (x : Id) (ys : List Id) → Descends m x ys → length ys ≤ f x
+  pub Descends-length : (f : Id → ℕ) → FallsOneWay m f → (x : Id) (ys : List Id) → Descends m x ys → length ys ≤ f x
   Descends-length f falls x [] d = omega arith
   Descends-length f falls x (y ∷ ys) d =
       let rest = Descends-length f falls y ys d.2 in

@@ -1,0 +1,5 @@
+use Rattle.epx_types.proofs.LevelsExist.{levels_exist}
+use Rattle.epx_laws.proofs.levels.levels_exist.Goals as goal
+
+pub returns : goal.returns
+returns c = levels_exist
