@@ -8,4 +8,5 @@ pub mod ConflictLaws
 pub mod LevelLaws
 pub mod PieceLaws
 pub mod DoneLaws
+pub mod LongerLaws
 pub mod OrderingLaws

@@ -8,6 +8,7 @@ pub mod conflicts;
 pub mod done;
 pub mod execution;
 pub mod levels;
+pub mod longer;
 pub mod order;
 pub mod orders;
 pub mod pieces;

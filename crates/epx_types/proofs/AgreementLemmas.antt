@@ -41,7 +41,7 @@ IsRising-same m rising d e in_d in_e same =
 pub IsCommittedBy-Agree : (lines : List Placed) (m : List Instance) → IsCommittedBy lines m → Agree lines
 IsCommittedBy-Agree lines m h p q in_p in_q same = IsRising-same m h.rising p.instance q.instance (h.whole p in_p) (h.whole q in_q) same
 
-instance_of-found : (m : List Instance) (x : Id) (e : Instance) → instance_of m x ≡ Some e → Contains m e × (e.id ≡ x)
+pub instance_of-found : (m : List Instance) (x : Id) (e : Instance) → instance_of m x ≡ Some e → Contains m e × (e.id ≡ x)
 instance_of-found [] x e found = absurd (cc found)
 instance_of-found (d ∷ m) x e found =
     elim (cases_Bool (is_eq (id_cmp d.id x))) [
@@ -52,7 +52,7 @@ instance_of-found (d ∷ m) x e found =
     ]
 
 -- a look-up finds an instance of the Id where one is committed
-instance_of-finds : (m : List Instance) (e : Instance) → Contains m e → (d : Instance) × (instance_of m e.id ≡ Some d)
+pub instance_of-finds : (m : List Instance) (e : Instance) → Contains m e → (d : Instance) × (instance_of m e.id ≡ Some d)
 instance_of-finds [] e h = absurd (Contains-nil e h)
 instance_of-finds (d ∷ m) e h =
     elim (cases_Bool (is_eq (id_cmp d.id e.id))) [

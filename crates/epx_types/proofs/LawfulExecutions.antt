@@ -1,5 +1,5 @@
 -- Two lawful orders of a covered map execute alike.
-use Rattle.std.proofs.Common.{◌≡◌, ◌≢◌, ◌⊎◌, ◌∙◌, ℕ, suc, List, [], ◌∷◌, length, map, Contains, Option, Some, None, slice_get, refl, sym, ap, ap₂, subst, inl, inr, arith}
+use Rattle.std.proofs.Common.{◌≡◌, ◌≢◌, ◌⊎◌, ◌∙◌, ℕ, List, [], ◌∷◌, length, map, Contains, Option, Some, None, slice_get, refl, sym, ap, ap₂, subst, inl, inr, arith}
 use Rattle.std.proofs.lemmas.List.{length-map}
 use Rattle.epx_types.specs.declared.id.Id.{Id}
 use Rattle.epx_types.specs.declared.op.Op.{Op}
@@ -18,21 +18,13 @@ use Rattle.epx_types.proofs.AgreementLemmas.{instance_of_iff}
 use Rattle.epx_types.proofs.Executions.{length-replies}
 use Rattle.epx_types.proofs.LawfulLemmas.{Before-in_first, Before-in_second, Before-alike_reaching, Before-alike_reached}
 use Rattle.epx_types.proofs.Membership.{map-agree}
-use Rattle.epx_types.proofs.Places.{slice_get-from_Contains, slice_get-map}
+use Rattle.epx_types.proofs.Places.{slice_get-map}
 use Rattle.epx_types.proofs.LevelOrder.{no_conflict_past}
 use Rattle.epx_types.proofs.Apart.{Conflict-turned}
-use Rattle.epx_types.proofs.Rearranged.{Once, Precedes, IsRearranged, ExecutesAlike, execute-rearranged}
+use Rattle.epx_types.proofs.Rearranged.{Once, IsRearranged, ExecutesAlike, execute-rearranged}
 use Rattle.epx_types.proofs.RearrangedPlaces.{Once-from_AllPairs, Precedes-from_Before, AllPairs-Precedes}
+use Rattle.epx_types.proofs.StandingBefore.{Before-from_Precedes}
 use Rattle.epx_types.proofs.Waiting.{Id-cases}
-
-Before-from_Precedes : (ids : List Id) (x y : Id) → Precedes ids x y → Before ids x y
-Before-from_Precedes [] x y h = absurd h
-Before-from_Precedes (z ∷ ids) x y (inl h) =
-    let later = slice_get-from_Contains ids y h.1 in
-    (0, suc later.0, omega arith, ap Some h.0, later.1)
-Before-from_Precedes (z ∷ ids) x y (inr h) =
-    let on = Before-from_Precedes ids x y h in
-    (suc on.0, suc on.1, omega (arith, on.2), on.3, on.4)
 
 -- a value for one Id, and f's at the others
 first_or : {Y : Type 0} → Id → Y → (Id → Y) → Id → Y
