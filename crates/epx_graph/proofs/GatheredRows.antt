@@ -9,12 +9,12 @@ use Rattle.epx_types.specs.declared.id.Id.{Id}
 use Rattle.epx_types.specs.Ids.{Below, IsRising}
 use Rattle.epx_types.specs.Instances.{Instance}
 use Rattle.epx_types.specs.CommittedMap.{position_of, IsCommitted}
-use Rattle.epx_types.proofs.Membership.{Contains-nil}
+use Rattle.epx_types.proofs.Membership.{Contains-nil, Contains-flat_map}
 use Rattle.epx_types.proofs.Places.{Contains-slice_get, slice_get-map}
 use Rattle.epx_types.proofs.Rising.{AllPairs-from_IsRising}
 use Rattle.epx_graph.specs.Rows.{row_of}
 use Rattle.epx_graph.specs.Nodes.{positions_of, lacking, all_positions, all_lacking, AreNodesOf, ArePlacesOf, AreRowsOf, IsGathered}
-use Rattle.epx_graph.proofs.MissingIds.{Contains-flat_map, lacking_missing}
+use Rattle.epx_graph.proofs.MissingIds.{lacking_missing}
 use Rattle.epx_graph.proofs.RisingRows.{positions_count, row_joined}
 
 -- ---- Ids gathered one after another

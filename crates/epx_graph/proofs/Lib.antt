@@ -12,5 +12,6 @@ mod RisingRows
 mod GatheredParts
 mod GatheredRows
 mod Built
+mod GraphsExist
 mod Searching
 mod WaiterLists

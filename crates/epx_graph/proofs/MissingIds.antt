@@ -1,5 +1,5 @@
 -- The missing instances of a map, gathered, sorted and each kept once.
-use Rattle.std.proofs.Common.{◌≡◌, ◌↔◌, inl, inr, ℕ, ◌+◌, ◌<◌, true, false, not, cond, List, [], ◌∷◌, ◌++◌, length, take, get_or, flat_map, position, Option, Some, None, is_some, slice_get, Contains, nat_lt, Less, refl, sym, ap, subst, ◌∙◌, append-nil, arith}
+use Rattle.std.proofs.Common.{◌≡◌, ◌↔◌, inl, inr, ℕ, ◌+◌, ◌<◌, true, false, not, cond, List, [], ◌∷◌, ◌++◌, length, take, get_or, position, Option, Some, None, is_some, slice_get, Contains, nat_lt, Less, refl, sym, ap, subst, ◌∙◌, append-nil, arith}
 use Rattle.std.specs.List.{position_or_len, AllByRecursion, dedup}
 use Rattle.std.specs.List.Sorted.{IsSorted, IsPermutation, IsStrictlySortedBy}
 use Rattle.std.specs.List.Retain.{IsFiltered, DiffersFromLast}
@@ -9,7 +9,7 @@ use Rattle.std.proofs.lemmas.Bool.{cases_lt}
 use Rattle.std.proofs.lemmas.Bool.Decides.{nat_tests}
 use Rattle.std.proofs.lemmas.List.{take_more, map_push}
 use Rattle.std.proofs.lemmas.List.Concat.{flat_map-append}
-use Rattle.std.proofs.lemmas.List.Elements.{All-contains, filter_passes, filter_more, Contains-append_left, Contains-append_right, Contains-append_cases}
+use Rattle.std.proofs.lemmas.List.Elements.{All-contains, filter_passes, filter_more}
 use Rattle.std.proofs.lemmas.List.Filters.{dedup_is}
 use Rattle.std.proofs.lemmas.List.Kept.{IsStrictlySortedBy-dedup, Contains-dedup, Contains-from_dedup}
 use Rattle.std.proofs.lemmas.List.Sorted.{Contains-permutation, IsPermutation-sym}
@@ -21,7 +21,7 @@ use Rattle.epx_types.specs.Ids.{id_cmp, BelowAll, IsRising}
 use Rattle.epx_types.specs.Instances.{Instance}
 use Rattle.epx_types.specs.CommittedMap.{ids_of, position_of, IsCommitted}
 use Rattle.epx_types.proofs.Comparisons.{id_cmp_total, id_cmp-IsAntisymmetric}
-use Rattle.epx_types.proofs.Membership.{Contains-nil, Contains-head, Contains-cons, Contains-cons_cases, Contains-filter, Contains-from_filter, Contains-from_map}
+use Rattle.epx_types.proofs.Membership.{Contains-filter, Contains-from_filter, Contains-flat_map, Contains-from_flat_map, Contains-from_map}
 use Rattle.epx_types.proofs.Places.{Contains-slice_get}
 use Rattle.epx_types.proofs.PositionLemmas.{position_of-stands}
 use Rattle.epx_types.proofs.DependencyLemmas.{IsCommitted-from_Contains}
@@ -70,22 +70,6 @@ pub lacking_missing : (m : List Instance) (xs : List Id) (x : Id) → Contains (
 lacking_missing m xs x h =
     let p = λ (y : Id). not (is_some (position_of m y)) in
     missing-from_lacks m x (All-contains (λ (y : Id). p y ≡ true) (lacking m xs) x (filter_passes p xs) h)
-
-pub Contains-flat_map : {X Y : Type 0} (f : X → List Y) (xs : List X) (x : X) (y : Y) → Contains xs x → Contains (f x) y → Contains (flat_map f xs) y
-Contains-flat_map f [] x y h k = absurd (Contains-nil x h)
-Contains-flat_map {X} {Y} f (z ∷ xs) x y h k =
-    elim (Contains-cons_cases z xs x h) [
-      | inl e ↦ Contains-append_left (f z) (flat_map f xs) y (let P : X → Type 0 = λ w. Contains (f w) y in subst P (sym e) k)
-      | inr rest ↦ Contains-append_right (f z) (flat_map f xs) y (Contains-flat_map f xs x y rest k)
-    ]
-
-Contains-from_flat_map : {X Y : Type 0} (f : X → List Y) (xs : List X) (y : Y) → Contains (flat_map f xs) y → (x : X) × Contains xs x × Contains (f x) y
-Contains-from_flat_map f [] y h = absurd (Contains-nil y h)
-Contains-from_flat_map f (z ∷ xs) y h =
-    elim (Contains-append_cases (f z) (flat_map f xs) y h) [
-      | inl here ↦ (z, Contains-head z xs, here)
-      | inr rest ↦ let from = Contains-from_flat_map f xs y rest in (from.0, Contains-cons z xs from.0 from.1, from.2)
-    ]
 
 Contains-all_lacking : (m : List Instance) (x : Id) → Contains (all_lacking m m) x ↔ IsMissing m x
 Contains-all_lacking m x = (there, back) where

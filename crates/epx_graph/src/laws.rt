@@ -1,5 +1,10 @@
 //! What shows that the graph of a map means what it should: each function's contract is a law.
-ghost use Rattle.epx_graph.specs.GraphLaws.{GraphIsOne};
+ghost use Rattle.epx_graph.specs.GraphLaws.{GraphExists, GraphIsOne};
+
+/// A committed map has a graph.
+pub fn graph_exists()
+    ensures { GraphExists }
+{}
 
 /// A map has at most one graph.
 pub fn graph_is_one()
