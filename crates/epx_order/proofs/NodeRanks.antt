@@ -42,6 +42,6 @@ module _ (m : List Instance) (g : DependencyGraph) (is : IsGraphOf m g) where
       record {
         ready = ready;
         seq = λ d in_d same. ap (λ (i : Instance). i.seq) (instance_is_one d e in_d (Contains-slice_get m k e at) same);
-        leader = leader_from_node m g is k s.leader e.id leader node to ready stands.leader;
+        leader = leader_from_node m g is k s.leader e.id leader node to stands.leader;
         depth = depth_from_node m g is k e.id s.depth node stands.depth;
       }

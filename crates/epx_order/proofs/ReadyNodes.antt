@@ -7,7 +7,6 @@ use Rattle.epx_types.specs.Instances.{Instance}
 use Rattle.epx_types.specs.Readiness.{IsReady}
 use Rattle.epx_graph.specs.Graphs.{DependencyGraph, edges_of}
 use Rattle.epx_graph.specs.GraphOf.{IsGraphOf}
-use Rattle.epx_graph.specs.NodePaths.{NodeReaches}
 use Rattle.epx_graph.proofs.GraphNodes.{node_id, reached_within}
 use Rattle.epx_graph.proofs.MapPaths.{node_committed, node_reaches, reached_node}
 use Rattle.epx_order.specs.MissingNodes.{ReachesMissing}
@@ -29,7 +28,3 @@ module _ (m : List Instance) (g : DependencyGraph) (is : IsGraphOf m g) where
       let y = node_id g is.graph j (reached_within g is.graph k path.0 j (slice_get_within g.ids k x at) path.1) in
       let committed = ready.complete y.0 ((node_reaches m g is k j x y.0 at y.1).0 path) in
       omega (arith, (node_committed m g is j y.0 y.1).1 committed)
-
-  -- what a ready instance reaches has a committed node
-  pub reached_committed : (k j : ℕ) (x y : Id) → slice_get g.ids k ≡ Some x → slice_get g.ids j ≡ Some y → IsReady m x → NodeReaches (edges_of g) k j → j < g.committed
-  reached_committed k j x y at to ready path = (node_committed m g is j y to).1 (ready.complete y ((node_reaches m g is k j x y at to).0 path))

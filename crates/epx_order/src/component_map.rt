@@ -1,5 +1,9 @@
 //! The strongly connected components of the graph.
-ghost use Rattle.std.specs.Prelude.{◌≡◌, ℕ, ◌<◌, length, slice_index, IfOk};
+ghost use Rattle.std.specs.Prelude.{◌≡◌, ℕ, ◌<◌, List, Some, length, slice_get, slice_index, IfOk};
+ghost use Rattle.epx_types.specs.declared.id.Id.{Id};
+ghost use Rattle.epx_types.specs.Components.{IsLeader};
+ghost use Rattle.epx_types.specs.Instances.{Instance};
+ghost use Rattle.epx_graph.specs.GraphOf.{IsGraphOf};
 ghost use Rattle.epx_graph.specs.Graphs.{edges_of};
 ghost use Rattle.epx_order.specs.NodeComponents.{IsNodeLeader};
 
@@ -32,6 +36,7 @@ impl Model for ComponentMap {
 pub fn components(alloc: Global, graph: &Graph) -> Result<ComponentMap, Memory>
     ensures len { IfOk result (λ found. length found ≡ length graph.now.ids) }
     ensures leaders { IfOk result (λ found. (k : ℕ) → k < length graph.now.ids → IsNodeLeader (edges_of graph.now) k (slice_index found k)) }
+    ensures instances { IfOk result (λ found. (m : List Instance) → IsGraphOf m graph.now → (k : ℕ) (x : Id) → slice_get graph.now.ids k ≡ Some x → (y : Id) × (slice_get graph.now.ids (slice_index found k) ≡ Some y) × IsLeader m x y) }
 {
     let partition = find_components(alloc, graph)?;
     let leaders = find_leaders(alloc, graph, &partition)?;
