@@ -2,6 +2,7 @@ mod LineTexts
 mod Pairs
 mod SourcesRead
 mod OneAnswer
+mod AnswersExist
 mod OrderedInstances
 mod AcceptedLogs
 mod Reports

@@ -13,7 +13,10 @@ use Rattle.epx_merge.proofs.OneRefusal.{accepted_unique, accepted_not_refused, r
 use Rattle.epx_tool.specs.Report.{IsReport, report_text, commands_of}
 use Rattle.epx_tool.specs.OrderText.{IsOrderText, order_text}
 use Rattle.epx_tool.specs.LevelText.{IsLevelText, level_text}
-use Rattle.epx_tool.specs.Answer.{IsAnswer}
+use Rattle.epx_tool.specs.declared.ask.Ask.{Ask}
+use Rattle.epx_tool.specs.declared.ask.Ask.TheVariants.{Order, Levels}
+use Rattle.epx_tool.specs.Views.{IsViewed}
+use Rattle.epx_tool.specs.Answer.{Answers}
 
 pub IsReport-unique : (m : List Instance) (text other : List ℕ) → IsReport m text → IsReport m other → text ≡ other
 IsReport-unique m text other p q =
@@ -34,10 +37,16 @@ IsLevelText-unique m text other p q =
     let levels = AreLevels-unique (commands_of m q.order) p.levels q.levels (subst (λ o. AreLevels (commands_of m o) p.levels) order p.levelled) q.levelled in
     p.printed ∙ ap₂ (λ o w. level_text o p.levels w) order waiting ∙ ap (λ ls. level_text q.order ls q.waiting) levels ∙ sym q.printed
 
-pub IsAnswer-unique : (logs : List (List ℕ)) (a b : Result (List ℕ) Fault) → a ≢ Err Memory → b ≢ Err Memory → IsAnswer logs a → IsAnswer logs b → a ≡ b
-IsAnswer-unique logs (Ok text) (Ok other) s t p q =
-    let same = accepted_unique logs p.0 q.0 p.1 q.1 in
-    ap Ok (IsReport-unique q.0 text other (subst (λ m. IsReport m text) same p.2) q.2)
-IsAnswer-unique logs (Ok text) (Err fault) s t p q = absurd (t (ap Err (accepted_not_refused logs p.0 fault p.1 q)))
-IsAnswer-unique logs (Err fault) (Ok text) s t p q = absurd (s (ap Err (accepted_not_refused logs q.0 fault q.1 p)))
-IsAnswer-unique logs (Err fault) (Err other) s t p q = ap Err (refusal_unique logs fault other (λ e. s (ap Err e)) (λ e. t (ap Err e)) p q)
+pub IsViewed-unique : (ask : Ask) (m : List Instance) (text other : List ℕ) → IsViewed ask m text → IsViewed ask m other → text ≡ other
+IsViewed-unique Order = IsOrderText-unique
+IsViewed-unique Levels = IsLevelText-unique
+
+-- where each committed map has at most one text, logs have at most one answer, want of memory aside
+module _ (Is : List Instance → List ℕ → Type 0) (one : (m : List Instance) (text other : List ℕ) → Is m text → Is m other → text ≡ other) where
+  pub Answers-unique : (logs : List (List ℕ)) (a b : Result (List ℕ) Fault) → a ≢ Err Memory → b ≢ Err Memory → Answers Is logs a → Answers Is logs b → a ≡ b
+  Answers-unique logs (Ok text) (Ok other) s t p q =
+      let same = accepted_unique logs p.0 q.0 p.1 q.1 in
+      ap Ok (one q.0 text other (subst (λ m. Is m text) same p.2) q.2)
+  Answers-unique logs (Ok text) (Err fault) s t p q = absurd (t (ap Err (accepted_not_refused logs p.0 fault p.1 q)))
+  Answers-unique logs (Err fault) (Ok text) s t p q = absurd (s (ap Err (accepted_not_refused logs q.0 fault q.1 p)))
+  Answers-unique logs (Err fault) (Err other) s t p q = ap Err (refusal_unique logs fault other (λ e. s (ap Err e)) (λ e. t (ap Err e)) p q)

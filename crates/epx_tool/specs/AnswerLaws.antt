@@ -2,11 +2,23 @@
 use Rattle.std.specs.Prelude.{◌≡◌, ◌≢◌, ℕ, List, Result, Err}
 use Rattle.epx_types.specs.declared.fault.Fault.{Fault}
 use Rattle.epx_types.specs.declared.fault.Fault.TheVariants.{Memory}
+use Rattle.epx_types.specs.Ids.{IsRising}
 use Rattle.epx_types.specs.Instances.{Instance}
+use Rattle.epx_types.specs.CommittedMap.{ids_of}
+use Rattle.epx_tool.specs.declared.ask.Ask.{Ask}
 use Rattle.epx_tool.specs.Report.{IsReport}
 use Rattle.epx_tool.specs.OrderText.{IsOrderText}
 use Rattle.epx_tool.specs.LevelText.{IsLevelText}
-use Rattle.epx_tool.specs.Answer.{IsAnswer}
+use Rattle.epx_tool.specs.Views.{IsViewed}
+use Rattle.epx_tool.specs.Answer.{Answers, IsAnswer}
+
+-- a committed map has a report
+abbrev pub ReportExists : Type 0
+ReportExists = (m : List Instance) → IsRising (ids_of m) → (text : List ℕ) × IsReport m text
+
+-- a committed map has a text of its execution order, and one of its conflict levels
+abbrev pub ViewTextExists : Type 0
+ViewTextExists = (ask : Ask) (m : List Instance) → IsRising (ids_of m) → (text : List ℕ) × IsViewed ask m text
 
 -- a committed map has one report
 abbrev pub ReportIsOne : Type 0
@@ -20,6 +32,18 @@ OrderTextIsOne = (m : List Instance) (text other : List ℕ) → IsOrderText m t
 abbrev pub LevelTextIsOne : Type 0
 LevelTextIsOne = (m : List Instance) (text other : List ℕ) → IsLevelText m text → IsLevelText m other → text ≡ other
 
+-- every list of logs has an answer other than want of memory
+abbrev pub AnswerExists : Type 0
+AnswerExists = (logs : List (List ℕ)) → (a : Result (List ℕ) Fault) × (a ≢ Err Memory) × IsAnswer logs a
+
+-- and one that shows the order, or the levels
+abbrev pub ViewExists : Type 0
+ViewExists = (ask : Ask) (logs : List (List ℕ)) → (a : Result (List ℕ) Fault) × (a ≢ Err Memory) × Answers (IsViewed ask) logs a
+
 -- logs have one answer, want of memory aside
 abbrev pub AnswerIsOne : Type 0
 AnswerIsOne = (logs : List (List ℕ)) (a b : Result (List ℕ) Fault) → a ≢ Err Memory → b ≢ Err Memory → IsAnswer logs a → IsAnswer logs b → a ≡ b
+
+-- and one that shows the order, or the levels
+abbrev pub ViewIsOne : Type 0
+ViewIsOne = (ask : Ask) (logs : List (List ℕ)) (a b : Result (List ℕ) Fault) → a ≢ Err Memory → b ≢ Err Memory → Answers (IsViewed ask) logs a → Answers (IsViewed ask) logs b → a ≡ b

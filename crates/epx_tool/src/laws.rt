@@ -1,5 +1,15 @@
 //! Laws of answers.
-ghost use Rattle.epx_tool.specs.AnswerLaws.{ReportIsOne, OrderTextIsOne, LevelTextIsOne, AnswerIsOne};
+ghost use Rattle.epx_tool.specs.AnswerLaws.{ReportExists, ViewTextExists, ReportIsOne, OrderTextIsOne, LevelTextIsOne, AnswerExists, ViewExists, AnswerIsOne, ViewIsOne};
+
+/// A committed map has a report.
+pub fn report_exists()
+    ensures { ReportExists }
+{}
+
+/// A committed map has a text of its execution order, and one of its conflict levels.
+pub fn view_text_exists()
+    ensures { ViewTextExists }
+{}
 
 /// A committed map has one report.
 pub fn report_is_one()
@@ -16,7 +26,22 @@ pub fn level_text_is_one()
     ensures { LevelTextIsOne }
 {}
 
+/// Every list of logs has an answer other than want of memory.
+pub fn answer_exists()
+    ensures { AnswerExists }
+{}
+
+/// Every list of logs has an answer that shows the order, and one that shows the levels, other than want of memory.
+pub fn view_exists()
+    ensures { ViewExists }
+{}
+
 /// Logs have one answer, want of memory aside.
 pub fn answer_is_one()
     ensures { AnswerIsOne }
+{}
+
+/// Logs have one answer that shows the order, and one that shows the levels, want of memory aside.
+pub fn view_is_one()
+    ensures { ViewIsOne }
 {}

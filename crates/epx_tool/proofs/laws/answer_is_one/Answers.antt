@@ -1,5 +1,6 @@
-use Rattle.epx_tool.proofs.OneAnswer.{IsAnswer-unique}
+use Rattle.epx_tool.specs.Report.{IsReport}
+use Rattle.epx_tool.proofs.OneAnswer.{IsReport-unique, Answers-unique}
 use Rattle.epx_tool.proofs.laws.answer_is_one.Goals as goal
 
 pub returns : goal.returns
-returns c = IsAnswer-unique
+returns c = Answers-unique IsReport IsReport-unique

@@ -1,0 +1,6 @@
+use Rattle.epx_tool.specs.Report.{IsReport}
+use Rattle.epx_tool.proofs.AnswersExist.{report_exists, answer_exists}
+use Rattle.epx_tool.proofs.laws.answer_exists.Goals as goal
+
+pub returns : goal.returns
+returns c = answer_exists IsReport report_exists

@@ -1,0 +1,5 @@
+use Rattle.epx_tool.proofs.AnswersExist.{report_exists}
+use Rattle.epx_tool.proofs.laws.report_exists.Goals as goal
+
+pub returns : goal.returns
+returns c = report_exists
