@@ -1,5 +1,6 @@
 -- Readers, writers and files whose failures are watched.
-use Rattle.std.specs.Prelude.{ℕ, Bool, List}
+use Rattle.std.specs.Prelude.{◌≡◌, ℕ, Bool, List, Option, Some, IfSome}
+use Rattle.std.specs.Io.KnownBytes.{Consumes}
 
 pub record WatchedReader (R : Type 0) : Type 0 where
   pub reader : R
@@ -11,7 +12,13 @@ pub record WatchedWriter (W : Type 0) : Type 0 where
   pub flushed : Bool
   pub failed : Bool
 
--- the file at this path, opened or not
-pub record WatchedPath : Type 0 where
+-- the file at this path, once it is opened
+pub record WatchedPath (F : Type 0) : Type 0 where
   pub path : List ℕ
+  pub file : Option F
   pub failed : Bool
+
+-- these are the next bytes of a file: of the one that was open, or of one that is opened now
+abbrev pub GivesNext : {F : Type 0} → (F → Option (List ℕ)) → Option F → Option F → List ℕ → Type 0
+GivesNext {F} remaining old new bytes = (before : F) × (after : F) × IfSome old (λ first. first ≡ before) × (new ≡ Some after)
+    × Consumes (remaining before) (remaining after) bytes

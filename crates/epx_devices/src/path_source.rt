@@ -1,9 +1,13 @@
 //! A source over the file at a path.
-ghost use Rattle.std.specs.Prelude.{◌≡◌, ◌≤◌, false, length, IfSome};
+ghost use Rattle.std.specs.Prelude.{◌≡◌, false, take, None, IfOk, option_and_then};
+ghost use Rattle.std.specs.Io.{ReadsAtMost};
+ghost use Rattle.std.specs.Io.KnownBytes.{ReadConsumes};
+ghost use Rattle.epx_devices.specs.Devices.{failed_after};
+ghost use Rattle.epx_devices.specs.WatchedDevices.{GivesNext};
 
 use crate::device::{DeviceFault, Source};
 use std::fs;
-use std::io::Read;
+use std::io::{self, Read};
 use std::marker::Model;
 use std::rt::Files;
 
@@ -20,15 +24,15 @@ pub struct PathSource<'a, R: Files> {
 impl<'a, R: Files> Model for PathSource<'a, R> {
     ghost use Rattle.epx_devices.specs.WatchedDevices.{WatchedPath};
 
-    ghost Value = { WatchedPath };
+    ghost Value = { WatchedPath R.File };
 
-    ghost view = { λ s. record { path = s.path.now; failed = s.failed } };
+    ghost view = { λ s. record { path = s.path.now; file = s.file; failed = s.failed } };
 }
 
 impl<'a, R: Files> PathSource<'a, R> {
     /// Opens nothing yet.
     pub fn new(rt: &'a R, path: &'a str) -> PathSource<'a, R>
-        ensures { result ≡ record { path = path.now; failed = false } }
+        ensures { result ≡ record { path = path.now; file = None; failed = false } }
     {
         PathSource {
             rt,
@@ -38,29 +42,43 @@ impl<'a, R: Files> PathSource<'a, R> {
         }
     }
 
-    /// The next bytes of the file, opened where it is not yet. None where a call failed.
-    fn next_bytes(&mut self, part: &mut [u8]) -> Option<usize>
-        ensures bound { IfSome result (λ count. count ≤ length part.new) }
-        ensures part { length part.new ≡ length part.old }
-        ensures source { self.new ≡ self.old }
+    /// The next bytes of the file, opened where it is not yet.
+    fn next_bytes(&mut self, part: &mut [u8]) -> io::Result<usize>
+        ensures bound { ReadsAtMost result part.new }
+        ensures bytes { let left = option_and_then R.File.remaining self.new.file in
+            ReadConsumes (option_and_then R.File.remaining self.old.file) left result part.new }
+        ensures given { IfOk result (λ count. GivesNext R.File.remaining self.old.file self.new.file (take count part.new)) }
+        ensures path { self.new.path ≡ self.old.path }
+        ensures failed { self.new.failed ≡ self.old.failed }
     {
         let mut file = match self.file.take() {
             Some(file) => file,
-            None => fs::open(self.rt, self.path).ok()?,
+            None => fs::open(self.rt, self.path)?,
         };
-        let count = file.read(part).ok();
+        let count = file.read(part);
         self.file = Some(file);
         count
     }
 }
 
 impl<'a, R: Files> Source for PathSource<'a, R> {
+    // What reads of the open file will give.
+    ghost remaining = { λ s. option_and_then R.File.remaining s.file };
+
     ghost has_failed = { λ s. s.failed };
 
-    fn read_some(&mut self, part: &mut [u8]) -> Result<usize, DeviceFault> {
+    fn read_some(&mut self, part: &mut [u8]) -> Result<usize, DeviceFault>
+        ensures bound { ReadsAtMost result part.new }
+        ensures bytes { let left = option_and_then R.File.remaining self.new.file in
+            ReadConsumes (option_and_then R.File.remaining self.old.file) left result part.new }
+        ensures failures { self.new.failed ≡ failed_after self.old.failed result }
+
+        ensures path { self.new.path ≡ self.old.path }
+        ensures given { IfOk result (λ count. GivesNext R.File.remaining self.old.file self.new.file (take count part.new)) }
+    {
         match self.next_bytes(part) {
-            Some(count) => Ok(count),
-            None => {
+            Ok(count) => Ok(count),
+            Err(_) => {
                 self.failed = true;
                 Err(DeviceFault)
             }
