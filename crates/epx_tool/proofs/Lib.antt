@@ -1,5 +1,6 @@
 mod LineTexts
 mod Pairs
+mod SourcesTaken
 mod SourcesRead
 mod OneAnswer
 mod AnswersExist

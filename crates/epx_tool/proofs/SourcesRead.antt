@@ -1,35 +1,45 @@
 -- Sources read one after another.
-use Rattle.std.proofs.Common.{◌≡◌, ◌↔◌, ◌+◌, ◌++◌, ◌<◌, ◌≤◌, ℕ, Bool, true, false, List, [], ◌∷◌, length, take, get_or, set, All, Option, Some, None, Result, Ok, Err, slice_get, IfSome, IsErrOf, refl, sym, ap, ap₂, ◌∙◌, subst, inl, inr, arith}
+use Rattle.std.proofs.Common.{◌≡◌, ◌↔◌, ◌+◌, ◌++◌, ◌<◌, ◌≤◌, ℕ, Bool, true, false, List, [], ◌∷◌, length, take, drop, get_or, set, All, Option, Some, None, Result, Ok, Err, slice_get, IfSome, IsErrOf, refl, sym, ap, ap₂, ◌∙◌, subst, inl, inr, arith}
 use Rattle.std.proofs.lemmas.Bool.{cases_eq}
-use Rattle.std.proofs.lemmas.List.{length-map, length-set, length-append, length-take-le, take_more, get_or-set_same, get_or-set_other, get_or-take}
+use Rattle.std.proofs.lemmas.List.{length-map, length-set, length-append, length-take-le, take_more, take_more_set, take_all, drop-set-lt, get_or-drop, get_or-set_same, get_or-set_other, get_or-take}
+use Rattle.std.proofs.lemmas.Grind.{drop_more_same}
 use Rattle.std.proofs.lemmas.List.Elements.{All-set, All-push}
 use Rattle.std.proofs.lemmas.Option.{slice_get_within, slice_get-get_or, get_or_from_slice_get}
-use Rattle.std.specs.Io.KnownBytes.{Consumes}
+use Rattle.std.specs.Io.KnownBytes.{Consumes, IsAtEnd}
 use Rattle.epx_types.specs.declared.fault.Fault.{Fault}
 use Rattle.epx_types.specs.declared.fault.Fault.TheVariants.{Memory, TooManyLogs, LogTooLong, BadLine, TooManyInstances, Disagree, Read, Write}
 use Rattle.epx_types.proofs.Places.{slice_get-map, slice_get-from_map}
 use Rattle.epx_merge.specs.Limits.{max_logs, max_log_bytes}
-use Rattle.epx_devices.specs.Transfers.{IsReadingFault, ConsumesExactly}
+use Rattle.epx_merge.specs.Refusals.{Fits}
+use Rattle.epx_devices.specs.Transfers.{IsReadingFault, ConsumesUpTo, ConsumesExactly}
 use Rattle.epx_tool.specs.Runs.{AreBytesOf, NoneTooLongBefore, IsReadingRefusal}
+use Rattle.epx_tool.specs.Sources.{EachConsumesUpTo}
+use Rattle.epx_tool.proofs.SourcesTaken.{none_consumed, one_consumed}
 
 -- the first n sources are read, and gave these bytes
 pub record HaveBeenRead {S : Type 0} (remaining : S → Option (List ℕ)) (has_failed : S → Bool) (first now : List S) (n : ℕ) (read : List (List ℕ)) : Type 0 where
   pub as_many : length now ≡ length first
   pub within : n ≤ length first
-  pub rest : (k : ℕ) (d : S) → n ≤ k → get_or now k d ≡ get_or first k d
+  pub rest : drop n now ≡ drop n first
   pub whole : All (λ s. has_failed s ≡ false) now
   pub known : (logs : List (List ℕ)) → AreBytesOf remaining first logs → read ≡ take n logs
   pub short : All (λ bytes. length bytes ≤ max_log_bytes) read
+  pub count : length read ≡ n
+  pub taken : EachConsumesUpTo remaining first now (max_log_bytes + 1)
+  pub ended : All (λ s. IsAtEnd (remaining s)) (take n now)
 
 module _ {S : Type 0} (remaining : S → Option (List ℕ)) (has_failed : S → Bool) where
   pub none_read : (first : List S) → All (λ s. has_failed s ≡ false) first → HaveBeenRead remaining has_failed first first 0 []
   none_read first whole = record {
     as_many = refl;
     within = omega arith;
-    rest = λ k d l. refl;
+    rest = refl;
     whole = whole;
     known = λ logs e. refl;
     short = λ k d l. absurd (omega arith);
+    count = refl;
+    taken = none_consumed remaining (max_log_bytes + 1) first;
+    ended = λ k d l. absurd (omega arith);
   }
 
   -- the bytes of one source
@@ -58,14 +68,27 @@ module _ {S : Type 0} (remaining : S → Option (List ℕ)) (has_failed : S → 
 
   module _ (first now : List S) (n : ℕ) (read : List (List ℕ)) (h : HaveBeenRead remaining has_failed first now n read) where
     -- the next source is as it was at first
-    next_source : n < length first → (d : S) → slice_get first n ≡ Some (get_or now n d)
-    next_source l d = slice_get-get_or first n d l ∙ ap Some (sym (h.rest n d (omega arith)))
+    same_next : (d : S) → get_or now n d ≡ get_or first n d
+    same_next d =
+        let none : n + 0 ≡ n = omega arith in
+        ap (λ k. get_or now k d) (sym none) ∙ sym (get_or-drop n now 0 d) ∙ ap (λ l. get_or l 0 d) h.rest ∙ get_or-drop n first 0 d ∙ ap (λ k. get_or first k d) none
 
-    pub read_one_more : n < length first → (d later : S) → has_failed later ≡ false → (bytes : List ℕ) → IfSome (remaining (get_or now n d)) (λ all. bytes ≡ all) → length bytes ≤ max_log_bytes → HaveBeenRead remaining has_failed first (set now n later) (n + 1) (read ++ bytes ∷ [])
-    read_one_more l d later whole bytes gives few = record {
+    next_source : n < length first → (d : S) → slice_get first n ≡ Some (get_or now n d)
+    next_source l d = slice_get-get_or first n d l ∙ ap Some (sym (same_next d))
+
+    -- those after it too
+    pub rest_after : (later : S) → drop (n + 1) (set now n later) ≡ drop (n + 1) first
+    rest_after later = drop-set-lt (n + 1) now n later (omega arith) ∙ drop_more_same now first n h.rest
+
+    pub taken_further : (d later : S) → ConsumesUpTo (remaining (get_or now n d)) (remaining later) (max_log_bytes + 1) → EachConsumesUpTo remaining first (set now n later) (max_log_bytes + 1)
+    taken_further d later c = one_consumed remaining (max_log_bytes + 1) first now n d later h.taken (subst (λ s. ConsumesUpTo (remaining s) (remaining later) (max_log_bytes + 1)) (same_next d) c)
+
+    pub read_one_more : n < length first → (d later : S) → has_failed later ≡ false → (bytes : List ℕ) → IfSome (remaining (get_or now n d)) (λ all. bytes ≡ all) → length bytes ≤ max_log_bytes
+        → ConsumesUpTo (remaining (get_or now n d)) (remaining later) (max_log_bytes + 1) → IsAtEnd (remaining later) → HaveBeenRead remaining has_failed first (set now n later) (n + 1) (read ++ bytes ∷ [])
+    read_one_more l d later whole bytes gives few took end = record {
       as_many = length-set now n later ∙ h.as_many;
       within = omega (arith, l, h.as_many);
-      rest = λ k d m. get_or-set_other now n k later d (λ e. omega (arith, m, e)) ∙ h.rest k d (omega (arith, m));
+      rest = rest_after later;
       whole = All-set (λ s. has_failed s ≡ false) now n later whole h.whole;
       known = λ logs e.
           let b = bytes_at first logs e n (get_or now n d) (next_source l d) in
@@ -73,6 +96,9 @@ module _ {S : Type 0} (remaining : S → Option (List ℕ)) (has_failed : S → 
           let more = take_more logs n b.0 (slice_get_within logs n b.0 b.1) in
           ap₂ (λ r x. r ++ x ∷ []) (h.known logs e) (same ∙ sym (get_or_from_slice_get logs n b.0 b.0 b.1)) ∙ sym more;
       short = All-push (λ bytes. length bytes ≤ max_log_bytes) read bytes h.short few;
+      count = omega (arith, h.count, length-append read (bytes ∷ []));
+      taken = taken_further d later took;
+      ended = subst (All (λ s. IsAtEnd (remaining s))) (sym (take_more_set now n later (omega (arith, l, h.as_many)))) (All-push (λ s. IsAtEnd (remaining s)) (take n now) later h.ended end);
     }
 
     -- a log that was read is not too long
@@ -105,9 +131,24 @@ module _ {S : Type 0} (remaining : S → Option (List ℕ)) (has_failed : S → 
         subst P (sym of_log) (omega (arith, few, as_many_logs first logs e), short_before l logs e)
     reading_refusal l few d later Write of_log long logs e = absurd of_log
 
+    -- logs that were all read fit
+    pub all_fit : length first ≤ n → length first ≤ max_logs → Fits read
+    all_fit all few = (
+      omega (arith, few, h.count, h.within),
+      λ k bytes there. subst (λ b. length b ≤ max_log_bytes) (get_or_from_slice_get read k bytes bytes there) (h.short k bytes (slice_get_within read k bytes there)),
+    )
+
+    -- and their sources are at their ends
+    pub all_ended : length first ≤ n → All (λ s. IsAtEnd (remaining s)) now
+    all_ended all = subst (All (λ s. IsAtEnd (remaining s))) (take_all n now (omega (arith, all, h.as_many))) h.ended
+
     -- no source has failed
     pub none_failed : (k : ℕ) (s : S) → slice_get now k ≡ Some s → has_failed s ≡ false
     none_failed k s there = subst (λ t. has_failed t ≡ false) (get_or_from_slice_get now k s s there) (h.whole k s (slice_get_within now k s there))
+
+    pub none_failed_after : (later : S) → has_failed later ≡ false → (k : ℕ) (s : S) → slice_get (set now n later) k ≡ Some s → has_failed s ≡ false
+    none_failed_after later well k s there =
+        subst (λ t. has_failed t ≡ false) (get_or_from_slice_get (set now n later) k s s there) (All-set (λ s. has_failed s ≡ false) now n later well h.whole k s (slice_get_within (set now n later) k s there))
 
     pub none_named : {T : Type 0} (r : Result T Fault) → ((k : ℕ) → ¬ IsErrOf r (Read k)) → (k : ℕ) (s : S) → slice_get now k ≡ Some s → IsErrOf r (Read k) ↔ (has_failed s ≡ true)
     none_named r not_read k s there = let well = none_failed k s there in (

@@ -6,6 +6,7 @@ pub mod Views
 pub mod Answer
 pub mod AnswerLaws
 pub mod Runs
+pub mod Sources
 pub use Rattle.epx_devices.specs.Devices
 pub use Rattle.epx_devices.specs.MemorySink
 pub use Rattle.epx_devices.specs.WatchedDevices

@@ -1,10 +1,13 @@
 //! A run: logs are read from sources, and the answer to them is written to a sink.
-ghost use Rattle.std.specs.Prelude.{◌≡◌, ◌≢◌, ◌↔◌, true, false, map, All, Some, slice_get, Ok, IfOk, OnOk, IfErr, IsErrOf};
-ghost use Rattle.std.specs.Io.KnownBytes.{Appends, Keeps};
+ghost use Rattle.std.specs.Prelude.{◌≡◌, ◌≢◌, ◌↔◌, ◌+◌, ◌<◌, ℕ, true, false, map, drop, length, All, Some, slice_get, Ok, IfOk, OnOk, IfErr, IsErrOf};
+ghost use Rattle.std.specs.Io.KnownBytes.{Appends, Keeps, IsAtEnd};
+ghost use Rattle.epx_merge.specs.Limits.{max_log_bytes};
+ghost use Rattle.epx_merge.specs.Refusals.{Fits};
 ghost use Rattle.epx_tool.specs.Answer.{Answers};
 ghost use Rattle.epx_tool.specs.Report.{IsReport};
 ghost use Rattle.epx_tool.specs.Views.{IsViewed};
 ghost use Rattle.epx_tool.specs.Runs.{AreBytesOf, IsReadingRefusal, IsRunFault};
+ghost use Rattle.epx_tool.specs.Sources.{EachConsumesUpTo, StopsAt};
 ghost use Rattle.epx_devices.specs.Transfers.{AppendsPrefix};
 
 use crate::answers::{answer_once, view};
@@ -22,6 +25,13 @@ fn read_sources<S: Source>(alloc: Global, sources: &mut [S]) -> Result<Vec<Vec<u
     ensures refusal { IfErr result (λ fault. (logs : _) → AreBytesOf S.remaining sources.old logs → IsReadingRefusal logs fault) }
     ensures nothing_written { ¬ IsErrOf result Fault.Write }
     ensures failed { (log : _) (source : _) → slice_get sources.new log ≡ Some source → IsErrOf result (Fault.Read log) ↔ (S.has_failed source ≡ true) }
+    ensures fit { IfOk result (λ v. Fits (map (λ log. log.items) v.items)) }
+
+    ensures taken { EachConsumesUpTo S.remaining sources.old sources.new (max_log_bytes + 1) }
+    ensures ended { OnOk result (All (λ s. IsAtEnd (S.remaining s)) sources.new) }
+    ensures no_further { (log : ℕ) → StopsAt result log → drop (log + 1) sources.new ≡ drop (log + 1) sources.old }
+    ensures too_many { IsErrOf result Fault.TooManyLogs ↔ (MAX_LOGS < length sources.old) }
+    ensures none_read { IsErrOf result Fault.TooManyLogs → sources.new ≡ sources.old }
 {
     if sources.len() > MAX_LOGS {
         return Err(Fault::TooManyLogs);
@@ -62,6 +72,12 @@ pub fn run<T: Threads + Sync, S: Source, W: Sink>(
 
     ensures read { (log : _) (source : _) → slice_get sources.new log ≡ Some source → IsErrOf result (Fault.Read log) ↔ (S.has_failed source ≡ true) }
     ensures written { IsErrOf result Fault.Write ↔ (W.has_failed sink.new ≡ true) }
+
+    ensures taken { EachConsumesUpTo S.remaining sources.old sources.new (max_log_bytes + 1) }
+    ensures ended { OnOk result (All (λ s. IsAtEnd (S.remaining s)) sources.new) }
+    ensures no_further { (log : ℕ) → StopsAt result log → drop (log + 1) sources.new ≡ drop (log + 1) sources.old }
+    ensures too_many { IsErrOf result Fault.TooManyLogs ↔ (MAX_LOGS < length sources.old) }
+    ensures none_read { IsErrOf result Fault.TooManyLogs → sources.new ≡ sources.old }
 {
     let logs = match read_sources(alloc, sources) {
         Ok(logs) => logs,
@@ -97,6 +113,12 @@ pub fn show<T: Threads + Sync, S: Source, W: Sink>(
 
     ensures read { (log : _) (source : _) → slice_get sources.new log ≡ Some source → IsErrOf result (Fault.Read log) ↔ (S.has_failed source ≡ true) }
     ensures written { IsErrOf result Fault.Write ↔ (W.has_failed sink.new ≡ true) }
+
+    ensures taken { EachConsumesUpTo S.remaining sources.old sources.new (max_log_bytes + 1) }
+    ensures ended { OnOk result (All (λ s. IsAtEnd (S.remaining s)) sources.new) }
+    ensures no_further { (log : ℕ) → StopsAt result log → drop (log + 1) sources.new ≡ drop (log + 1) sources.old }
+    ensures too_many { IsErrOf result Fault.TooManyLogs ↔ (MAX_LOGS < length sources.old) }
+    ensures none_read { IsErrOf result Fault.TooManyLogs → sources.new ≡ sources.old }
 {
     let logs = match read_sources(alloc, sources) {
         Ok(logs) => logs,
