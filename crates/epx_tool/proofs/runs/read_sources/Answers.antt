@@ -1,4 +1,4 @@
-use Rattle.std.proofs.Common.{map, ap, ◌∙◌, sym, subst}
+use Rattle.std.proofs.Common.{refl, map, ap, ◌∙◌, sym, subst}
 use Rattle.std.proofs.lemmas.List.{map-append}
 use Rattle.epx_tool.proofs.SourcesTaken.{none_consumed}
 use Rattle.epx_tool.proofs.SourcesRead.{HaveBeenRead, none_read, read_well, read_one_more, reading_refusal, taken_further, all_fit, all_ended, none_failed, none_failed_after, one_failed}
@@ -15,6 +15,18 @@ returns-in-Err-clause-failed g c =
 
 pub returns-then-sources-gt-MAX_LOGS-clause-taken : goal.returns-then-sources-gt-MAX_LOGS-clause-taken
 returns-then-sources-gt-MAX_LOGS-clause-taken g c = none_consumed g.S.Source.remaining 67108865 c.args.sources.now
+
+pub returns-then-sources-gt-MAX_LOGS-clause-none_read : goal.returns-then-sources-gt-MAX_LOGS-clause-none_read
+returns-then-sources-gt-MAX_LOGS-clause-none_read g c is = refl
+
+pub returns-then-sources-gt-MAX_LOGS-clause-failed : goal.returns-then-sources-gt-MAX_LOGS-clause-failed
+returns-then-sources-gt-MAX_LOGS-clause-failed g c k source there =
+    let remaining = g.S.Source.remaining in
+    let has_failed = g.S.Source.has_failed in
+    let well = none_failed remaining has_failed _ _ _ _ (none_read remaining has_failed c.args.sources.now c.requires) k source there in (
+      λ is. absurd (cc is),
+      λ bad. absurd (cc (well, bad)),
+    )
 
 pub loop-log-init : goal.loop-log-init
 loop-log-init g c =
