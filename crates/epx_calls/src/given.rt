@@ -49,15 +49,20 @@ pub(crate) fn logs_of(alloc: Global, texts: &[&str]) -> Result<Vec<Vec<u8>>, All
     Ok(logs)
 }
 
+/// The map of logs that must be accepted.
+pub(crate) fn accepted(read: Result<Merged, Fault>) -> Result<Merged, Fail> {
+    match read {
+        Ok(merged) => Ok(merged),
+        Err(Fault::Memory) => Err(Fail::from("want of memory")),
+        Err(_) => Err(Fail::from("the logs are refused")),
+    }
+}
+
 /// What the logs commit; they must be accepted.
 pub(crate) fn merged_of<R: Abort + Threads + Sync>(
     rt: &R,
     alloc: Global,
     logs: &[Vec<u8>],
 ) -> Result<Merged, Fail> {
-    match read_logs(rt, alloc, logs, plan(rt), &FreeGate) {
-        Ok(merged) => Ok(merged),
-        Err(Fault::Memory) => Err(Fail::from("want of memory")),
-        Err(_) => Err(Fail::from("the logs are refused")),
-    }
+    accepted(read_logs(rt, alloc, logs, plan(rt), &FreeGate))
 }

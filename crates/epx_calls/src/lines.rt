@@ -415,8 +415,10 @@ fn longest_line(rt: HostRuntime) -> Result<(), Fail> {
 
 #[test]
 fn numbers_and_lists_are_read(rt: HostRuntime) -> Result<(), Fail> {
-    let Ok(Line::Entry(entry)) = read_line(rt.alloc(), PUT_AND_GET.as_bytes()) else {
-        return Err(Fail::from("no entry"));
+    let entry = match read_line(rt.alloc(), PUT_AND_GET.as_bytes()) {
+        Ok(Line::Entry(entry)) => entry,
+        Err(LineFault::Memory) => return Err(Fail::from("want of memory")),
+        _ => return Err(Fail::from("no entry")),
     };
     assert!(rt; entry.id() == id(0, 0) && entry.seq() == 1);
     assert!(rt; entry.deps().is_empty() && entry.ops().len() == 2);

@@ -1,6 +1,6 @@
 //! Logs as text: what they commit, and how they are refused.
 use crate::gates::WaitingGate;
-use crate::given::{PUT_AND_GET, id, logs_of, merged_of, plan};
+use crate::given::{PUT_AND_GET, accepted, id, logs_of, merged_of, plan};
 use epx_claims::FreeGate;
 use epx_merge::{Merged, read_logs};
 use epx_types::{Fault, Id, Place, Plan, Why};
@@ -56,6 +56,7 @@ fn refuses<R: Abort + Threads + Sync>(
     wanted: Fault,
 ) -> Result<(), Fail> {
     match read_logs(rt, alloc, logs, plan(rt), &FreeGate) {
+        Err(Fault::Memory) => return Err(Fail::from("want of memory")),
         Err(fault) => assert!(rt; fault == wanted),
         Ok(_) => return Err(Fail::from("the logs are accepted")),
     }
@@ -154,9 +155,13 @@ fn comes_to<R: Abort + Threads + Sync>(
     logs: &[Vec<u8>],
     plan: Plan,
     wanted: Result<usize, Fault>,
-) {
-    let answer = read_logs(rt, alloc, logs, plan, &FreeGate);
-    assert!(rt; answer.map(|merged| merged.len()) == wanted);
+) -> Result<(), Fail> {
+    let answer = read_logs(rt, alloc, logs, plan, &FreeGate).map(|merged| merged.len());
+    if answer == Err(Fault::Memory) {
+        return Err(Fail::from("want of memory"));
+    }
+    assert!(rt; answer == wanted);
+    Ok(())
 }
 
 /// The same of logs of these texts, by any plan.
@@ -170,7 +175,7 @@ fn come_to<R: Abort + Threads + Sync>(
     for workers in [1, 2, 64] {
         for cut in [1, 3, 65_536] {
             let plan = Plan::new(workers, cut).ok_or("a plan")?;
-            comes_to(rt, alloc, &logs, plan, wanted);
+            comes_to(rt, alloc, &logs, plan, wanted)?;
         }
     }
     Ok(())
@@ -232,7 +237,7 @@ fn reads_while_one_waits<R: Abort + Threads + Sync>(
     let logs = logs_of(alloc, &[FOUR_LINES])?;
     let plan = Plan::new(2, 1).ok_or("a plan")?;
     let gate = WaitingGate::new(waiter, 1111);
-    let merged = read_logs(rt, alloc, &logs, plan, &gate).expect(rt, "a map");
+    let merged = accepted(read_logs(rt, alloc, &logs, plan, &gate))?;
     assert!(rt; merged.len() == 4 && gate.saw_all());
     Ok(())
 }
