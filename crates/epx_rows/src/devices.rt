@@ -3,12 +3,22 @@ ghost use Rattle.std.specs.Prelude.{◌≡◌, false};
 
 use crate::given::{LEAST, LEAST_REPORT, NOTHING, plan};
 use epx_tool::{Ask, FuseSink, FuseSource, MemorySink, MemorySource, Sink, StdSource, run, show};
-use epx_types::Fault;
+use epx_types::{Fault, Place, Why};
 use std::alloc::{AllocError, Global};
 use std::io::{self, Read};
 use std::process::Abort;
 use std::test::Fail;
 use std::thread::Threads;
+
+/// How a run has ended; want of memory ends the test.
+type Ended = Result<Result<(), Fault>, Fail>;
+
+fn ended(outcome: Result<(), Fault>) -> Ended {
+    if outcome == Err(Fault::Memory) {
+        return Err(Fail::from("want of memory"));
+    }
+    Ok(outcome)
+}
 
 /// A run from one source to a sink.
 fn run_one<R: Abort + Threads + Sync, W: Sink>(
@@ -16,12 +26,11 @@ fn run_one<R: Abort + Threads + Sync, W: Sink>(
     alloc: Global,
     source: FuseSource,
     sink: &mut W,
-) -> Result<(), Fault>
+) -> Ended
     requires source { source.failed ≡ false }
     requires sink { W.has_failed sink.old ≡ false }
 {
-    let mut sources = [source];
-    run(rt, alloc, &mut sources, plan(rt), sink)
+    ended(run(rt, alloc, &mut [source], plan(rt), sink))
 }
 
 /// A source of these bytes that does not fail.
@@ -36,7 +45,7 @@ fn run_writes_what_it_answers(rt: HostRuntime) -> Result<(), Fail> {
     let mut sources = [MemorySource::new(LEAST.as_bytes())];
     let mut sink = MemorySink::new(rt.alloc());
     let done = run(&rt, rt.alloc(), &mut sources, plan(&rt), &mut sink);
-    assert!(rt; done == Ok(()));
+    assert!(rt; ended(done)? == Ok(()));
     assert!(rt; sink.bytes() == LEAST_REPORT.as_bytes());
     Ok(())
 }
@@ -47,7 +56,7 @@ fn show_writes_the_order(rt: HostRuntime) -> Result<(), Fail> {
     let mut sink = MemorySink::new(rt.alloc());
     let plan = plan(&rt);
     let done = show(&rt, rt.alloc(), Ask::Order, &mut sources, plan, &mut sink);
-    assert!(rt; done == Ok(()));
+    assert!(rt; ended(done)? == Ok(()));
     let order = "[\"executed\",1,\"waiting\",0,\"components\",1]\n[\"order\",0,0,0,0,0]\n";
     assert!(rt; sink.bytes() == order.as_bytes());
     Ok(())
@@ -59,7 +68,7 @@ fn show_writes_the_levels(rt: HostRuntime) -> Result<(), Fail> {
     let mut sink = MemorySink::new(rt.alloc());
     let plan = plan(&rt);
     let done = show(&rt, rt.alloc(), Ask::Levels, &mut sources, plan, &mut sink);
-    assert!(rt; done == Ok(()));
+    assert!(rt; ended(done)? == Ok(()));
     let levels = "[\"executed\",1,\"waiting\",0,\"components\",1]\n[\"level\",0,0,0]\n";
     assert!(rt; sink.bytes() == levels.as_bytes());
     Ok(())
@@ -70,8 +79,8 @@ fn show_writes_the_levels(rt: HostRuntime) -> Result<(), Fail> {
 #[test]
 fn a_refused_allocation(rt: HostRuntime) -> Result<(), Fail> {
     let mut sink = MemorySink::new(rt.alloc());
-    let done = run_one(&rt, rt.alloc(), whole(LEAST.as_bytes()), &mut sink);
-    match done {
+    let mut sources = [whole(LEAST.as_bytes())];
+    match run(&rt, rt.alloc(), &mut sources, plan(&rt), &mut sink) {
         Ok(()) => assert!(rt; sink.bytes() == LEAST_REPORT.as_bytes()),
         Err(Fault::Memory) => assert!(rt; sink.bytes().is_empty()),
         Err(fault) => {
@@ -86,7 +95,7 @@ fn a_refused_allocation(rt: HostRuntime) -> Result<(), Fail> {
 fn prefix_of_the_report(rt: HostRuntime) -> Result<(), Fail> {
     let source = whole(LEAST.as_bytes());
     let mut sink = FuseSink::new(rt.alloc(), 64, Some(10));
-    let refused = run_one(&rt, rt.alloc(), source, &mut sink);
+    let refused = run_one(&rt, rt.alloc(), source, &mut sink)?;
     assert!(rt; refused == Err(Fault::Write));
     assert!(rt; sink.bytes() == b"[\"executed".as_slice());
     Ok(())
@@ -106,7 +115,7 @@ fn failing_devices(rt: HostRuntime) -> Result<(), Fail> {
     ];
     let mut sink = MemorySink::new(rt.alloc());
     let refused = run(&rt, rt.alloc(), &mut sources, plan(&rt), &mut sink);
-    assert!(rt; refused == Err(Fault::Read { log: 0 }));
+    assert!(rt; ended(refused)? == Err(Fault::Read { log: 0 }));
     assert!(rt; sink.bytes().is_empty());
     Ok(())
 }
@@ -120,7 +129,7 @@ fn the_first_source_that_fails_is_named(rt: HostRuntime) -> Result<(), Fail> {
     ];
     let mut sink = MemorySink::new(rt.alloc());
     let refused = run(&rt, rt.alloc(), &mut sources, plan(&rt), &mut sink);
-    assert!(rt; refused == Err(Fault::Read { log: 1 }));
+    assert!(rt; ended(refused)? == Err(Fault::Read { log: 1 }));
     assert!(rt; sink.bytes().is_empty());
     Ok(())
 }
@@ -129,20 +138,20 @@ fn the_first_source_that_fails_is_named(rt: HostRuntime) -> Result<(), Fail> {
 fn a_log_that_is_too_long(rt: HostRuntime) -> Result<(), Fail> {
     let long = too_long(rt.alloc())?;
     let mut sink = MemorySink::new(rt.alloc());
-    let refused = run_one(&rt, rt.alloc(), whole(&long), &mut sink);
+    let refused = run_one(&rt, rt.alloc(), whole(&long), &mut sink)?;
     assert!(rt; refused == Err(Fault::LogTooLong { log: 0 }));
     assert!(rt; sink.bytes().is_empty());
     Ok(())
 }
 
 #[test]
-fn a_truncated_log_writes_nothing(rt: HostRuntime) -> Result<(), Fail> {
-    let source = whole(b"{\"r\":0,\"i\":");
+fn truncated_line(rt: HostRuntime) -> Result<(), Fail> {
+    let log = format!(in rt.alloc(); "{LEAST}\n{{\"r\":0,\"i\":")?;
     let mut sink = MemorySink::new(rt.alloc());
-    let refused = run_one(&rt, rt.alloc(), source, &mut sink);
-    let Err(Fault::BadLine { .. }) = refused else {
-        return Err(Fail::from("a truncated line must be refused"));
-    };
+    let refused = run_one(&rt, rt.alloc(), whole(log.as_bytes()), &mut sink)?;
+    let place = Place { log: 0, line: 2 };
+    let why = Why::NotJson;
+    assert!(rt; refused == Err(Fault::BadLine { place, why }));
     assert!(rt; sink.bytes().is_empty());
     Ok(())
 }
@@ -155,7 +164,7 @@ fn fails_with_its_source<R: Abort + Threads + Sync>(
 ) -> Result<(), Fail> {
     let source = FuseSource::new(LEAST.as_bytes(), 64, Some(bytes));
     let mut sink = MemorySink::new(alloc);
-    let refused = run_one(rt, alloc, source, &mut sink);
+    let refused = run_one(rt, alloc, source, &mut sink)?;
     assert!(rt;
         refused == Err(Fault::Read { log: 0 }),
         "after {bytes} bytes"
@@ -180,7 +189,7 @@ fn fails_with_its_sink<R: Abort + Threads + Sync>(
 ) -> Result<(), Fail> {
     let source = whole(LEAST.as_bytes());
     let mut sink = FuseSink::new(alloc, 64, Some(bytes));
-    let refused = run_one(rt, alloc, source, &mut sink);
+    let refused = run_one(rt, alloc, source, &mut sink)?;
     assert!(rt; refused == Err(Fault::Write), "after {bytes} bytes");
     assert!(rt; sink.bytes().len() == bytes);
     assert!(rt; LEAST_REPORT.as_bytes().starts_with(sink.bytes()));
@@ -200,26 +209,27 @@ fn a_sink_that_fails_after_any_byte(rt: HostRuntime) -> Result<(), Fail> {
 fn one_byte_a_call(rt: HostRuntime) -> Result<(), Fail> {
     let source = FuseSource::new(LEAST.as_bytes(), 1, None);
     let mut sink = FuseSink::new(rt.alloc(), 1, None);
-    let done = run_one(&rt, rt.alloc(), source, &mut sink);
+    let done = run_one(&rt, rt.alloc(), source, &mut sink)?;
     assert!(rt; done == Ok(()));
     assert!(rt; sink.bytes() == LEAST_REPORT.as_bytes());
     Ok(())
 }
 
 /// A run over one source of so many spaces.
-fn run_spaces<R: Abort + Threads + Sync>(rt: &R, alloc: Global, count: u64) -> Result<(), Fault> {
+fn run_spaces<R: Abort + Threads + Sync>(rt: &R, alloc: Global, count: u64) -> Ended {
     let mut sources = [StdSource::new(io::repeat(b' ').take(count))];
     let mut sink = MemorySink::new(alloc);
-    let done = run(rt, alloc, &mut sources, plan(rt), &mut sink);
+    let done = ended(run(rt, alloc, &mut sources, plan(rt), &mut sink))?;
     let wanted = if done.is_ok() { NOTHING } else { "" };
     assert!(rt; sink.bytes() == wanted.as_bytes());
-    done
+    Ok(done)
 }
 
 #[test]
-fn a_log_has_at_most_67108864_bytes(rt: HostRuntime) {
+fn a_log_has_at_most_67108864_bytes(rt: HostRuntime) -> Result<(), Fail> {
     let too_long = Err(Fault::LogTooLong { log: 0 });
-    assert!(rt; run_spaces(&rt, rt.alloc(), 67_108_864) == Ok(()));
-    assert!(rt; run_spaces(&rt, rt.alloc(), 67_108_865) == too_long);
-    assert!(rt; run_spaces(&rt, rt.alloc(), u64::MAX) == too_long);
+    assert!(rt; run_spaces(&rt, rt.alloc(), 67_108_864)? == Ok(()));
+    assert!(rt; run_spaces(&rt, rt.alloc(), 67_108_865)? == too_long);
+    assert!(rt; run_spaces(&rt, rt.alloc(), u64::MAX)? == too_long);
+    Ok(())
 }

@@ -117,6 +117,20 @@ fn keys_with_a_quote(rt: HostRuntime) -> Result<(), Fail> {
 }
 
 #[test]
+fn as_many_operations_as_are_allowed(rt: HostRuntime) -> Result<(), Fail> {
+    let mut ops = String::from_str(rt.alloc(), "[[\"get\",\"a\"]")?;
+    for _ in 0..62 {
+        ops.push_str(",[\"add\",\"a\",1]")?;
+    }
+    ops.push_str(",[\"get\",\"a\"]]")?;
+    let report = r#"["executed",1,"waiting",0,"components",1]
+["reply",0,0,"ok",[null,62]]
+["store","a",62]
+"#;
+    gives(&rt, rt.alloc(), &[(0, 0, 1, "[]", ops.as_str())], report)
+}
+
+#[test]
 fn too_many_operations(rt: HostRuntime) -> Result<(), Fail> {
     let mut ops = String::from_str(rt.alloc(), "[[\"get\",\"a\"]")?;
     for _ in 1..65 {

@@ -1,7 +1,20 @@
 //! Rows on logs that agree, and on those that are refused as a whole.
-use crate::given::{NOTHING, add_line, answered, gives, log_of, logs_give};
+use crate::given::{NOTHING, add_line, answered, gives, log_of, logs_give, logs_give_by};
 use std::alloc::{AllocError, Global};
 use std::test::Fail;
+
+/// Any number of workers with any cut.
+const PLANS: [(usize, usize); 9] = [
+    (1, 1),
+    (1, 2),
+    (1, 256),
+    (2, 1),
+    (2, 2),
+    (2, 256),
+    (4, 1),
+    (4, 2),
+    (4, 256),
+];
 
 #[test]
 fn agreement_inside_one_log(rt: HostRuntime) -> Result<(), Fail> {
@@ -28,7 +41,7 @@ fn first_disagreement_by_id(rt: HostRuntime) -> Result<(), Fail> {
         &[(0, 5, 2, "[]", "[]"), (0, 2, 1, "[]", r#"[["get","a"]]"#)],
     )?;
     let fault = "epx: fault 6: instance 0.2 differs between log 0 line 2 and log 1 line 2";
-    logs_give(&rt, alloc, &[first, second], fault)
+    logs_give_by(&rt, alloc, &[first, second], &PLANS, fault)
 }
 
 #[test]
@@ -38,7 +51,7 @@ fn bad_line_before_disagreement(rt: HostRuntime) -> Result<(), Fail> {
     let mut second = log_of(alloc, &[(1, 0, 1, "[]", "[]"), (1, 1, 1, "[]", "[]")])?;
     second.extend_from_slice(b"{\"r\":0}\n")?;
     let fault = "epx: fault 4: log 1 line 3: Number";
-    logs_give(&rt, alloc, &[first, second], fault)
+    logs_give_by(&rt, alloc, &[first, second], &PLANS, fault)
 }
 
 /// This many empty logs.
