@@ -137,7 +137,7 @@ impl LineReader {
     }
 
     /// What one line means, without its line feed. Members that have no part in an instance may hold
-    /// anything. `Memory` comes only where a growth was refused.
+    /// anything. `Memory` is meant for a growth that was refused; that it comes only then, no clause says.
     pub fn read(&mut self, alloc: Global, bytes: &[u8]) -> Result<Line, LineFault>
         ensures ok { IfOk result (λ l. meaning_of bytes.now ≡ Ok l) }
         ensures bad { IfErr result (λ f. IsFaultOf f (meaning_of bytes.now)) }

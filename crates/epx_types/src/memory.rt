@@ -3,7 +3,7 @@ ghost use Rattle.std.specs.Prelude.{◌≡◌};
 
 use std::alloc::{AllocError, AllocFailed};
 
-/// Memory ran out: a growth was refused.
+/// Memory ran out. It is answered where a growth was refused; that it comes only then, no clause says.
 #[derive(Clone, Copy, Debug, PartialEq, Eq)]
 pub struct Memory;
 
