@@ -254,11 +254,7 @@ fn most_levels(commands: usize, plan: Plan) -> usize {
 
 /// The levels of all commands, where they are below a bound. Their last eighth is looked at first, by itself: in an
 /// execution order the deepest come last, so that mostly it tells at once that there are too many.
-fn few_levels(
-    alloc: Global,
-    commands: &[Command],
-    bound: usize,
-) -> Result<Option<LevelMap>, Memory>
+fn few_levels(alloc: Global, commands: &[Command], bound: usize) -> Result<Option<LevelMap>, Memory>
     ensures { IfOk result (λ found. IfSome found (AreLevels (ops_of commands.now))) }
 {
     let last = &commands[commands.len() - commands.len() / 8..];
