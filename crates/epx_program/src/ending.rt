@@ -1,12 +1,17 @@
 //! How the program ends.
-ghost use Rattle.std.specs.Prelude.{◌≡◌, false};
+ghost use Rattle.std.specs.Prelude.{◌≡◌, ◌≢◌, true, false};
+ghost use Rattle.std.specs.Io.KnownBytes.{Appends};
+ghost use Rattle.epx_devices.specs.Transfers.{AppendsPrefix};
+ghost use Rattle.epx_program.specs.Endings.{status_of};
 
 use epx_tool::{Sink, write_out};
 use epx_types::Fault;
 use std::io::Eprint;
 
 /// The fault's line on standard error, and its status.
-pub(crate) fn end(rt: &impl Eprint, done: Result<(), Fault>) -> u8 {
+pub(crate) fn end(rt: &impl Eprint, done: Result<(), Fault>) -> u8
+    ensures { result ≡ status_of done }
+{
     match done {
         Ok(()) => 0,
         Err(fault) => {
@@ -25,6 +30,15 @@ pub(crate) fn end_with_text<R: Eprint, W: Sink>(
     output: &mut W,
 ) -> u8
     requires { W.has_failed output.old ≡ false }
+
+    ensures told { status ≢ 0 → (result ≡ status) × (output.new ≡ output.old) }
+
+    ensures shown { status ≡ 0 → result ≡ 0 → Appends (W.contents output.old) (W.contents output.new) text.now }
+    ensures flushed { status ≡ 0 → result ≡ 0 → W.is_flushed output.new ≡ true }
+    ensures prefix { status ≡ 0 → AppendsPrefix (W.contents output.old) (W.contents output.new) text.now }
+
+    ensures status { status ≡ 0 → result ≢ 0 → (result ≡ 4) × (W.has_failed output.new ≡ true) }
+    ensures failed { W.has_failed output.new ≡ true → result ≡ 4 }
 {
     if status == 0 {
         return end(rt, write_out(text.as_bytes(), output));

@@ -1,5 +1,9 @@
 //! From the words to the exit status.
-ghost use Rattle.std.specs.Prelude.{◌≡◌, false};
+ghost use Rattle.std.specs.Prelude.{◌≡◌, ◌≢◌, ◌⊎◌, true, false, [], ◌∷◌, IfOk, None, Some, string_bytes};
+ghost use Rattle.std.specs.Io.KnownBytes.{Appends, Keeps};
+ghost use Rattle.std.specs.Process.{exit_status};
+ghost use Rattle.epx_words.specs.Asked.{IfText, IfWork};
+ghost use Rattle.epx_program.specs.Endings.{EndsWith, IsStatus};
 
 use crate::ending::{end, end_with_text};
 use crate::work::work;
@@ -13,7 +17,9 @@ use std::rt::Files;
 use std::thread::Threads;
 
 /// What the words say, or a text in their place where one is no UTF-8.
-fn words<R: Env + AllocGlobal>(rt: &R, alloc: Global) -> Result<Words, Memory> {
+fn words<R: Env + AllocGlobal>(rt: &R, alloc: Global) -> Result<Words, Memory>
+    ensures { IfOk result (IfText (λ status. (status ≡ 0) ⊎ (status ≡ 2))) }
+{
     let given = match env::args(rt) {
         Ok(given) => given,
         Err(error) if error.kind() == ErrorKind::InvalidData => {
@@ -41,6 +47,19 @@ where
     W: Sink,
     requires input { I.has_failed input ≡ false }
     requires output { W.has_failed output.old ≡ false }
+
+    ensures work { IfWork (λ _ _ _. IsStatus result) words }
+    ensures input { (bytes : _) → I.remaining input ≡ Some bytes → IfWork (λ task _ paths. paths ≡ None
+        → EndsWith task (bytes ∷ []) result (W.contents output.old) (W.contents output.new)) words }
+
+    ensures shown { (text : _) → words ≡ Words.Text text 0 → result ≡ 0
+        → Appends (W.contents output.old) (W.contents output.new) (string_bytes text) }
+    ensures text { IfText (λ status. status ≡ 0 → IsStatus result) words }
+    ensures told { IfText (λ status. status ≢ 0 → (result ≡ status) × (output.new ≡ output.old)) words }
+
+    ensures flushed { result ≡ 0 → W.is_flushed output.new ≡ true }
+    ensures failed { W.has_failed output.new ≡ true → result ≡ 4 }
+    ensures nothing { result ≢ 0 → result ≢ 4 → Keeps (W.contents output.old) (W.contents output.new) }
 {
     match words {
         Words::Work { task, plan, paths } => {
@@ -58,6 +77,7 @@ where
     R: Env + AllocGlobal + Eprint + Files + Threads + Sync,
     I: Read + Drop,
     O: Write + Drop,
+    ensures { IsStatus (exit_status result) ⊎ (exit_status result ≡ 2) }
 {
     let status = match words(rt, rt.alloc()) {
         Ok(words) => act(rt, words, StdSource::new(input), &mut StdSink::new(output)),

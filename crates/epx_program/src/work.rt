@@ -1,5 +1,8 @@
 //! The work itself: sources by the paths, and the answer that the task asks for.
-ghost use Rattle.std.specs.Prelude.{◌≡◌, false, All, IfOk};
+ghost use Rattle.std.specs.Prelude.{◌≡◌, ◌≢◌, ◌↔◌, true, false, [], ◌∷◌, All, map, None, Some, IfErr, IfOk, IsErrOf, OnOk, string_bytes};
+ghost use Rattle.std.specs.Io.KnownBytes.{Keeps};
+ghost use Rattle.epx_program.specs.Endings.{ComesTo};
+ghost use Rattle.epx_tool.specs.Runs.{AreBytesOf};
 
 use epx_tool::{Ask, PathSource, Sink, Source, Task, run, show};
 use epx_types::{Fault, Plan};
@@ -18,6 +21,12 @@ fn answer<R: Threads + Sync, S: Source, W: Sink>(
 ) -> Result<(), Fault>
     requires sources { All (λ s. S.has_failed s ≡ false) sources.old }
     requires output { W.has_failed output.old ≡ false }
+
+    ensures answer { (logs : _) → AreBytesOf S.remaining sources.old logs →
+        ComesTo task logs result (W.contents output.old) (W.contents output.new) }
+    ensures flushed { OnOk result (W.is_flushed output.new ≡ true) }
+    ensures nothing { IfErr result (λ fault. fault ≢ Fault.Write → Keeps (W.contents output.old) (W.contents output.new)) }
+    ensures written { IsErrOf result Fault.Write ↔ (W.has_failed output.new ≡ true) }
 {
     match task {
         Task::Run => run(rt, alloc, sources, plan, output),
@@ -32,7 +41,9 @@ fn sources_at<'a, R: Files>(
     alloc: Global,
     paths: &'a [String],
 ) -> Result<Vec<PathSource<'a, R>>, AllocError>
-    ensures { IfOk result (λ sources. All (λ s. s.failed ≡ false) sources.items) }
+    ensures paths { IfOk result (λ sources. map (λ s. s.path) sources.items ≡ map string_bytes paths.now) }
+    ensures unopened { IfOk result (λ sources. All (λ s. s.file ≡ None) sources.items) }
+    ensures failed { IfOk result (λ sources. All (λ s. s.failed ≡ false) sources.items) }
 {
     let mut sources = Vec::with_capacity(alloc, paths.len())?;
     for path in paths {
@@ -53,6 +64,12 @@ pub(crate) fn work<R: Files + Threads + Sync, I: Source + Drop, W: Sink>(
 ) -> Result<(), Fault>
     requires input { I.has_failed input ≡ false }
     requires output { W.has_failed output.old ≡ false }
+
+    ensures input { (bytes : _) → paths ≡ None → I.remaining input ≡ Some bytes →
+        ComesTo task (bytes ∷ []) result (W.contents output.old) (W.contents output.new) }
+    ensures flushed { OnOk result (W.is_flushed output.new ≡ true) }
+    ensures nothing { IfErr result (λ fault. fault ≢ Fault.Write → Keeps (W.contents output.old) (W.contents output.new)) }
+    ensures written { IsErrOf result Fault.Write ↔ (W.has_failed output.new ≡ true) }
 {
     let Some(paths) = paths else {
         let mut sources = Vec::new(alloc);

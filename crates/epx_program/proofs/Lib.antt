@@ -1,0 +1,2 @@
+mod Sources
+mod Statuses

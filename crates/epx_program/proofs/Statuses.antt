@@ -1,0 +1,43 @@
+-- With which status the program ends.
+use Rattle.std.proofs.Common.{◌≡◌, ◌≢◌, ◌⊎◌, ◌∙◌, ℕ, zero, suc, List, Option, Result, Ok, Err, inl, inr, refl, rules, arith}
+use Rattle.std.specs.Prelude.{None, Some, OnOk, IfErr, option_map}
+use Rattle.epx_types.specs.declared.fault.Fault.{Fault}
+use Rattle.epx_types.specs.declared.fault.Fault.TheVariants.{Write}
+use Rattle.epx_words.specs.Asked.{IfText, IfWork}
+use Rattle.epx_words.specs.declared.asked.Task.{Task}
+use Rattle.epx_words.specs.declared.asked.Words.{Words}
+use Rattle.epx_words.specs.declared.asked.Words.TheVariants.{Work, Text}
+use Rattle.epx_tool.specs.Runs.{AreBytesOf, IsRunFault}
+use Rattle.epx_program.specs.Endings.{AppendsAnswer, ComesTo, EndsWith, IsAsked, IsStatus, status_of}
+
+-- the status of a task that is done, or not
+pub ends-as-done : {A : Type 0} (task : Task) (logs : List (List ℕ)) (done : Result A Fault) (old new : Option (List ℕ))
+    → ComesTo task logs done old new → EndsWith task logs (status_of done) old new
+ends-as-done task logs (Ok x) old new written = inl (refl, written)
+ends-as-done task logs (Err fault) old new why = inr (fault, why, refl)
+
+-- what the task comes to, from what is said of a run that is well and of one that is not
+pub comes-to : {A S : Type 0} (remaining : S → Option (List ℕ)) (sources : List S) (task : Task) (done : Result A Fault) (old new : Option (List ℕ))
+    → OnOk done ((logs : List (List ℕ)) → AreBytesOf remaining sources logs → AppendsAnswer task logs old new)
+    → IfErr done (λ fault. (logs : List (List ℕ)) → AreBytesOf remaining sources logs → IsRunFault (IsAsked task) logs fault)
+    → (logs : List (List ℕ)) → AreBytesOf remaining sources logs → ComesTo task logs done old new
+comes-to remaining sources task (Ok x) old new text why = text
+comes-to remaining sources task (Err fault) old new text why = why
+
+-- no paths are meant where they map to none
+pub unpathed : {A B : Type 0} (f : A → B) (paths : Option A) → option_map f paths ≡ None → paths ≡ None
+unpathed f None none = refl
+unpathed f (Some a) none = search rules
+
+-- a text that was asked for
+pub of-text : {P : Type 0} (result : ℕ) → (result ≢ 0 → (result ≡ 4) × P) → IsStatus result
+of-text zero failed = inl refl
+of-text (suc n) failed = inr (Write, (failed (λ none. omega (arith, none))).0)
+
+-- whatever the words come to
+pub of-words : (P : Type 0) (words : Words) (result : ℕ) → IfText (λ status. (status ≡ 0) ⊎ (status ≡ 2)) words
+    → IfWork (λ task plan paths. IsStatus result) words → IfText (λ status. status ≡ 0 → IsStatus result) words
+    → IfText (λ status. status ≢ 0 → (result ≡ status) × P) words → IsStatus result ⊎ (result ≡ 2)
+of-words P (Work task plan paths) result said work text told = inl work
+of-words P (Text text status) result (inl good) work asked told = inl (asked good)
+of-words P (Text text status) result (inr two) work asked told = inr ((told (λ none. omega (arith, none, two))).0 ∙ two)

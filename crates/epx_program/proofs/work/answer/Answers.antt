@@ -1,0 +1,12 @@
+use Rattle.epx_words.specs.declared.asked.Task.TheVariants.{Run, Order, Levels}
+use Rattle.epx_program.proofs.Statuses.{comes-to}
+use Rattle.epx_program.proofs.work.answer.Goals as goal
+
+pub returns-in-Run-clause-answer : goal.returns-in-Run-clause-answer
+returns-in-Run-clause-answer g c = rw c.in-Run.is (comes-to g.S.Source.remaining c.args.sources.now Run c.run.result (g.W.Sink.contents c.args.output.now) (g.W.Sink.contents c.run.new.sink) c.run.ensures.text c.run.ensures.refusal)
+
+pub returns-in-Order-clause-answer : goal.returns-in-Order-clause-answer
+returns-in-Order-clause-answer g c = rw c.in-Order.is (comes-to g.S.Source.remaining c.args.sources.now Order c.show.result (g.W.Sink.contents c.args.output.now) (g.W.Sink.contents c.show.new.sink) c.show.ensures.text c.show.ensures.refusal)
+
+pub returns-in-Levels-clause-answer : goal.returns-in-Levels-clause-answer
+returns-in-Levels-clause-answer g c = rw c.in-Levels.is (comes-to g.S.Source.remaining c.args.sources.now Levels c.show-in-Levels.result (g.W.Sink.contents c.args.output.now) (g.W.Sink.contents c.show-in-Levels.new.sink) c.show-in-Levels.ensures.text c.show-in-Levels.ensures.refusal)
