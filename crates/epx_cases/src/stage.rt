@@ -1,0 +1,113 @@
+//! A runtime whose words are given, and whose standard error can be compared.
+
+use std::alloc::Allocator;
+use std::env::FillError;
+use std::fmt::Display;
+use std::fs::{Metadata, OpenOptions};
+use std::io::{self, Eprint, Print};
+use std::rt::{Env, Files};
+use std::thread::Threads;
+
+/// The word that is handed on as a byte that no UTF-8 has.
+pub(crate) const NOT_UTF_8: &str = "not UTF-8";
+
+/// The runtime itself, but for the words, and for standard error, which goes to standard output.
+#[derive(Clone, Copy)]
+pub(crate) struct Stage<'a, R> {
+    pub rt: &'a R,
+    pub words: &'a [&'a str],
+}
+
+impl<R> Env for Stage<'_, R> {
+    fn arg(&self, i: usize, buf: &mut [u8]) -> Result<usize, FillError> {
+        let Some(word) = self.words.get(i) else {
+            return Err(FillError::NotPresent);
+        };
+        let bytes = if *word == NOT_UTF_8 {
+            &[0xff]
+        } else {
+            word.as_bytes()
+        };
+        if buf.len() < bytes.len() {
+            return Err(FillError::TooLong);
+        }
+        buf[..bytes.len()].copy_from_slice(bytes);
+        Ok(bytes.len())
+    }
+
+    fn var(&self, _name: &str, _buf: &mut [u8]) -> Result<usize, FillError> {
+        Err(FillError::NotPresent)
+    }
+
+    fn var_at(&self, _i: usize, _buf: &mut [u8]) -> Result<usize, FillError> {
+        Err(FillError::NotPresent)
+    }
+}
+
+impl<R: Print> Eprint for Stage<'_, R> {
+    fn eprint<D: Display + Drop>(&self, value: D) -> io::Result<()> {
+        self.rt.println("== standard error")?;
+        self.rt.print(value)
+    }
+
+    fn eprintln<D: Display + Drop>(&self, value: D) -> io::Result<()> {
+        self.rt.println("== standard error")?;
+        self.rt.println(value)
+    }
+}
+
+impl<R: Alloc> Alloc for Stage<'_, R> {
+    type A = R::A;
+
+    fn alloc(&self) -> R::A {
+        self.rt.alloc()
+    }
+}
+
+impl<R: Threads> Threads for Stage<'_, R> {}
+
+impl<R: Files> Files for Stage<'_, R> {
+    type File = R::File;
+
+    type Dir = R::Dir;
+
+    fn open_file(&self, how: &OpenOptions, path: &str) -> io::Result<R::File> {
+        self.rt.open_file(how, path)
+    }
+
+    fn open_dir(&self, path: &str) -> io::Result<R::Dir> {
+        self.rt.open_dir(path)
+    }
+
+    fn metadata(&self, path: &str) -> io::Result<Metadata> {
+        self.rt.metadata(path)
+    }
+
+    fn symlink_metadata(&self, path: &str) -> io::Result<Metadata> {
+        self.rt.symlink_metadata(path)
+    }
+
+    fn copy(&self, from: &str, to: &str) -> io::Result<u64> {
+        self.rt.copy(from, to)
+    }
+
+    fn rename(&self, from: &str, to: &str) -> io::Result<()> {
+        self.rt.rename(from, to)
+    }
+
+    fn remove_file(&self, path: &str) -> io::Result<()> {
+        self.rt.remove_file(path)
+    }
+
+    fn create_dir(&self, path: &str) -> io::Result<()> {
+        self.rt.create_dir(path)
+    }
+
+    fn remove_dir(&self, path: &str) -> io::Result<()> {
+        self.rt.remove_dir(path)
+    }
+
+    fn remove_dir_all<B: Allocator>(&self, alloc: B, path: &str) -> io::Result<()> {
+        self.rt.remove_dir_all(alloc, path)
+    }
+}
