@@ -12,6 +12,7 @@ use crate::line::PlacedLine;
 use crate::pieces::{Pieces, note_pieces};
 use crate::repeats::LineTable;
 use crate::walk::LineWalk;
+use epx_seed::Seed;
 use epx_types::{Fault, Memory, Plan};
 use std::alloc::Global;
 
@@ -35,14 +36,14 @@ fn table_for<'a>(alloc: Global, logs: usize) -> Result<LineTable<'a>, Memory>
 }
 
 impl<'a> Front<'a> {
-    /// Nothing is noted, and all lines are left.
-    pub(crate) fn new(alloc: Global, logs: &'a [Vec<u8>]) -> Result<Front<'a>, Memory>
+    /// Nothing is noted, and all lines are left. Names are looked up from the seed.
+    pub(crate) fn new(alloc: Global, logs: &'a [Vec<u8>], seed: Seed) -> Result<Front<'a>, Memory>
         ensures ledger { IfOk result (λ front. IsLedgerOf [] front.ledger) }
         ensures walk { IfOk result (λ front. front.walk ≡ meanings_of (map (λ log. log.items) logs.now)) }
         ensures table { IfOk result (λ front. front.table ≡ []) }
     {
         Ok(Front {
-            ledger: Ledger::new(alloc),
+            ledger: Ledger::new(alloc, seed),
             walk: LineWalk::new(logs),
             table: table_for(alloc, logs.len())?,
         })

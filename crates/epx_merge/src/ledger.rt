@@ -10,6 +10,7 @@ use crate::merged::Merged;
 use crate::placed::PlacedEntry;
 use crate::rows::rows_of;
 use crate::same::same_entry;
+use epx_seed::Seed;
 use epx_types::{Fault, Id, Memory, Place};
 use indexmap::{IndexMap, IndexSet};
 use std::alloc::Global;
@@ -27,10 +28,10 @@ pub(crate) struct Clash {
 pub(crate) struct Ledger {
     alloc: Global,
     /// The name of each first line, in the order of the lines.
-    names: IndexSet<Id>,
+    names: IndexSet<Id, Seed>,
     /// The first line of each instance. It stays where it was noted.
     firsts: Vec<PlacedEntry>,
-    clashes: IndexMap<Id, Clash>,
+    clashes: IndexMap<Id, Clash, Seed>,
 }
 
 impl Model for Ledger {
@@ -46,14 +47,15 @@ impl Model for Ledger {
 }
 
 impl Ledger {
-    pub(crate) fn new(alloc: Global) -> Ledger
+    /// A ledger of no lines, whose tables hash from the seed.
+    pub(crate) fn new(alloc: Global, seed: Seed) -> Ledger
         ensures { IsLedgerOf [] result }
     {
         Ledger {
             alloc,
-            names: IndexSet::new(alloc),
+            names: IndexSet::with_hasher(alloc, seed),
             firsts: Vec::new(alloc),
-            clashes: IndexMap::new(alloc),
+            clashes: IndexMap::with_hasher(alloc, seed),
         }
     }
 

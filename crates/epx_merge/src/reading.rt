@@ -16,8 +16,10 @@ use crate::line::PlacedLine;
 use crate::merged::Merged;
 use crate::pieces::{Pieces, note_pieces, read_piece};
 use epx_claims::{Gate, claimed_map};
+use epx_seed::Seed;
 use epx_types::{Fault, Memory, Plan};
 use std::alloc::Global;
+use std::random::RandomSource;
 use std::thread::{Threads, join};
 
 /// What each piece of the lines gives, in order.
@@ -77,7 +79,7 @@ fn read_and_advance<'a, R: Threads + Sync, G: Gate + Sync>(
 
 /// Reads the lines of all logs, and notes those that give an entry. What some lines give is noted while the next
 /// are read, and those after these are laid.
-fn read_all<R: Threads + Sync, G: Gate + Sync>(
+fn read_all<R: Threads + RandomSource + Sync, G: Gate + Sync>(
     rt: &R,
     alloc: Global,
     logs: &[Vec<u8>],
@@ -89,7 +91,8 @@ fn read_all<R: Threads + Sync, G: Gate + Sync>(
         (IsReadFault (spoilt_of bytes)) }
 {
     let mut read = Vec::new(alloc);
-    let (mut front, mut lines) = advance(alloc, plan, Front::new(alloc, logs)?, Vec::new(alloc))?;
+    let start = Front::new(alloc, logs, Seed::draw(rt))?;
+    let (mut front, mut lines) = advance(alloc, plan, start, Vec::new(alloc))?;
     while !lines.is_empty() {
         (front, lines, read) = read_and_advance(rt, alloc, plan, gate, front, read, lines)?;
     }
@@ -101,8 +104,8 @@ fn read_all<R: Threads + Sync, G: Gate + Sync>(
 /// The committed map of logs that are accepted, or the first refusal of others.
 ///
 /// The lines of all logs are cut into the plan's pieces, which its workers claim. The answer is the same for
-/// every plan and gate.
-pub fn read_logs<R: Threads + Sync, G: Gate + Sync>(
+/// every plan and gate, and whatever is drawn.
+pub fn read_logs<R: Threads + RandomSource + Sync, G: Gate + Sync>(
     rt: &R,
     alloc: Global,
     logs: &[Vec<u8>],

@@ -8,11 +8,11 @@ use Rattle.epx_merge.proofs.reading.read_all.Goals as goal
 pub loop-alloc-init : goal.loop-alloc-init
 loop-alloc-init g c =
     let all = meanings_of (map (λ log. log.items) c.args.logs.now) in
-    let new = c.in_ok-new.field-0 in
+    let new = c.in_ok-start.start in
     let front = c.in_ok-front.front in
     let unread = subst (λ pieces. AreRead (λ given entries. entries.items ≡ given) [] pieces) (sym c.new-2.ensures.items) refl in
     underway_first (λ given entries. entries.items ≡ given) all new.walk front.walk c.in_ok-front.lines.items c.new-read.result.items new.table front.table new.ledger front.ledger
-    c.in_ok-new.ensures.walk c.in_ok-new.ensures.table c.in_ok-new.ensures.ledger c.new-read.ensures.items (c.in_ok-front.ensures [] unread)
+    c.in_ok-start.ensures.walk c.in_ok-start.ensures.table c.in_ok-start.ensures.ledger c.new-read.ensures.items (c.in_ok-front.ensures [] unread)
 
 pub returns-in_err-front : goal.returns-in_err-front
 returns-in_err-front g c =
