@@ -3,6 +3,7 @@ ghost use Rattle.std.specs.Prelude.{◌≡◌, ◌<◌, ◌^◌, ◌+◌, ℕ, L
 ghost use Rattle.epx_types.specs.declared.op.Op.{Op};
 ghost use Rattle.epx_apply.specs.KeyTables.{IsTableOf, Asks, Notes, asked_by, bar_of, raise};
 
+use epx_seed::Seed;
 use epx_types::{Key, Memory, Op};
 use indexmap::IndexSet;
 use std::alloc::Global;
@@ -27,7 +28,7 @@ pub(crate) struct Access {
 /// The keys of the commands so far, numbered as they came, and what stands at each.
 #[derive(Debug, Drop)]
 pub(crate) struct KeyTable<'a> {
-    keys: IndexSet<&'a str>,
+    keys: IndexSet<&'a str, Seed>,
     bars: Vec<Bar>,
     /// The keys of the command at hand.
     accesses: Vec<Access>,
@@ -82,11 +83,12 @@ fn raise_bars(bars: &mut [Bar], accesses: &[Access], least: usize)
 }
 
 impl<'a> KeyTable<'a> {
-    pub(crate) fn new(alloc: Global) -> KeyTable<'a>
+    /// A table of no keys, which hashes from the seed.
+    pub(crate) fn new(alloc: Global, seed: Seed) -> KeyTable<'a>
         ensures { IsTableOf [] [] result }
     {
         KeyTable {
-            keys: IndexSet::new(alloc),
+            keys: IndexSet::with_hasher(alloc, seed),
             bars: Vec::new(alloc),
             accesses: Vec::new(alloc),
         }

@@ -1,6 +1,7 @@
 //! Commands applied in order, and their conflict levels.
 #![tactic(auto)]
 
+mod key_seed;
 mod key_table;
 pub mod level_map;
 pub mod run;

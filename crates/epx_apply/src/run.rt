@@ -11,10 +11,12 @@ ghost use Rattle.epx_apply.specs.Effects.{ops_of, effect_over, effects_over, ite
 
 use crate::level_map::{LevelMap, levels_below};
 use epx_claims::{Gate, claimed_map};
+use epx_seed::Seed;
 use epx_txn::{Effect, Store, apply, eval, merge_effects};
 use epx_types::{Command, Memory, Op, Plan, Reply};
 use std::alloc::Global;
 use std::mem::replace;
+use std::random::RandomSource;
 use std::thread::Threads;
 
 /// The effect of one command over a lent store, put behind those of others.
@@ -254,19 +256,24 @@ fn most_levels(commands: usize, plan: Plan) -> usize {
 
 /// The levels of all commands, where they are below a bound. Their last eighth is looked at first, by itself: in an
 /// execution order the deepest come last, so that mostly it tells at once that there are too many.
-fn few_levels(alloc: Global, commands: &[Command], bound: usize) -> Result<Option<LevelMap>, Memory>
+fn few_levels(
+    alloc: Global,
+    commands: &[Command],
+    bound: usize,
+    seed: Seed,
+) -> Result<Option<LevelMap>, Memory>
     ensures { IfOk result (λ found. IfSome found (AreLevels (ops_of commands.now))) }
 {
     let last = &commands[commands.len() - commands.len() / 8..];
-    if levels_below(alloc, last, bound)?.is_none() {
+    if levels_below(alloc, last, bound, seed)?.is_none() {
         return Ok(None);
     }
-    levels_below(alloc, commands, bound)
+    levels_below(alloc, commands, bound, seed)
 }
 
 /// All commands, level by level; where the levels turn out to be many and small, one after another, as they
 /// stand in memory.
-fn run_levels<R: Threads + Sync, G: Gate + Sync>(
+fn run_levels<R: Threads + RandomSource + Sync, G: Gate + Sync>(
     rt: &R,
     alloc: Global,
     store: Store,
@@ -280,7 +287,7 @@ fn run_levels<R: Threads + Sync, G: Gate + Sync>(
         (λ w. w.replies.items ≡ (execute (ops_of commands.now) store).replies) }
 {
     let bound = most_levels(commands.len(), plan);
-    let found = few_levels(alloc, commands, bound)?;
+    let found = few_levels(alloc, commands, bound, Seed::draw(rt))?;
     let Some(level_map) = found else {
         return run_all(alloc, store, commands);
     };
@@ -292,9 +299,9 @@ fn run_levels<R: Threads + Sync, G: Gate + Sync>(
 }
 
 /// The replies of the commands in order, and the store after them, as of one thread that executes them one
-/// after another, whatever the plan and the gate. They are executed on a copy of the store, which is moved
-/// in at the end. One worker needs no levels.
-pub fn run_order<R: Threads + Sync, G: Gate + Sync>(
+/// after another, whatever the plan, the gate and what is drawn. They are executed on a copy of the store, which
+/// is moved in at the end. One worker needs no levels.
+pub fn run_order<R: Threads + RandomSource + Sync, G: Gate + Sync>(
     rt: &R,
     alloc: Global,
     store: &mut Store,

@@ -1,0 +1,31 @@
+//! A seed for the table of the keys of commands, where nothing can be drawn.
+use epx_seed::Seed;
+use epx_types::{Command, Op};
+use std::hash::{DefaultHasher, Hash};
+
+/// Takes in the keys of an operation.
+fn hash_keys(op: &Op, keys: &mut DefaultHasher) {
+    match op {
+        Op::Get { key }
+        | Op::Is { key, .. }
+        | Op::Floor { key, .. }
+        | Op::Put { key, .. }
+        | Op::Del { key }
+        | Op::Add { key, .. } => key.text().hash(keys),
+        Op::Copy { source, target } => {
+            source.text().hash(keys);
+            target.text().hash(keys);
+        }
+    }
+}
+
+/// A seed that follows from all keys of the commands.
+pub(crate) fn seed_after(commands: &[Command]) -> Seed {
+    let mut keys = DefaultHasher::new();
+    for command in commands {
+        for op in command.ops {
+            hash_keys(op, &mut keys);
+        }
+    }
+    Seed::after(keys)
+}
