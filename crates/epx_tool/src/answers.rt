@@ -18,6 +18,7 @@ use epx_order::{OrderList, order};
 use epx_txn::Store;
 use epx_types::{Command, Fault, Id, Memory, Plan, Reply};
 use std::alloc::Global;
+use std::random::RandomSource;
 use std::thread::{Threads, join};
 
 /// The commands of these instances.
@@ -64,7 +65,7 @@ fn report_alone<R: Threads + Sync>(
 }
 
 /// The report of a committed map.
-fn report_of<R: Threads + Sync>(
+fn report_of<R: Threads + RandomSource + Sync>(
     rt: &R,
     alloc: Global,
     merged: Merged,
@@ -117,7 +118,7 @@ fn levels_of<R: Threads + Sync>(
 }
 
 /// The report of the logs, or their first refusal. The answer is the same for every plan.
-pub fn answer<R: Threads + Sync>(
+pub fn answer<R: Threads + RandomSource + Sync>(
     rt: &R,
     alloc: Global,
     logs: &[Vec<u8>],
@@ -134,7 +135,7 @@ pub fn answer<R: Threads + Sync>(
 }
 
 /// As `answer`, of logs that are freed once they are read.
-pub(crate) fn answer_once<R: Threads + Sync>(
+pub(crate) fn answer_once<R: Threads + RandomSource + Sync>(
     rt: &R,
     alloc: Global,
     logs: Vec<Vec<u8>>,
@@ -153,7 +154,7 @@ pub(crate) fn answer_once<R: Threads + Sync>(
 }
 
 /// As `answer`, with the text that is asked for in place of the report.
-pub fn view<R: Threads + Sync>(
+pub fn view<R: Threads + RandomSource + Sync>(
     rt: &R,
     alloc: Global,
     ask: Ask,

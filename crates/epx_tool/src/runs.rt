@@ -16,6 +16,7 @@ use epx_devices::{Sink, Source, read_log, write_out};
 use epx_merge::MAX_LOGS;
 use epx_types::{Fault, Plan};
 use std::alloc::Global;
+use std::random::RandomSource;
 use std::thread::Threads;
 
 /// The bytes of all sources, read in order.
@@ -51,7 +52,7 @@ fn read_sources<S: Source>(alloc: Global, sources: &mut [S]) -> Result<Vec<Vec<u
 
 /// Reads the logs from the sources in order, and writes the answer to them to the sink, whole or not
 /// at all; a sink that fails has taken a prefix.
-pub fn run<T: Threads + Sync, S: Source, W: Sink>(
+pub fn run<T: Threads + RandomSource + Sync, S: Source, W: Sink>(
     rt: &T,
     alloc: Global,
     sources: &mut [S],
@@ -91,7 +92,7 @@ pub fn run<T: Threads + Sync, S: Source, W: Sink>(
 }
 
 /// As `run`, with the text that is asked for in place of the report.
-pub fn show<T: Threads + Sync, S: Source, W: Sink>(
+pub fn show<T: Threads + RandomSource + Sync, S: Source, W: Sink>(
     rt: &T,
     alloc: Global,
     ask: Ask,
