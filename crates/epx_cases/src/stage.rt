@@ -5,6 +5,7 @@ use std::env::FillError;
 use std::fmt::Display;
 use std::fs::{Metadata, OpenOptions};
 use std::io::{self, Eprint, Print};
+use std::random::RandomSource;
 use std::rt::{Env, Files};
 use std::thread::Threads;
 
@@ -65,6 +66,12 @@ impl<R: Alloc> Alloc for Stage<'_, R> {
 }
 
 impl<R: Threads> Threads for Stage<'_, R> {}
+
+impl<R: RandomSource> RandomSource for Stage<'_, R> {
+    fn fill_bytes(&self, buf: &mut [u8]) -> io::Result<()> {
+        self.rt.fill_bytes(buf)
+    }
+}
 
 impl<R: Files> Files for Stage<'_, R> {
     type File = R::File;

@@ -1,2 +1,3 @@
+mod Asking
 mod Sources
 mod Statuses

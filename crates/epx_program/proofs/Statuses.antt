@@ -29,15 +29,19 @@ pub unpathed : {A B : Type 0} (f : A → B) (paths : Option A) → option_map f 
 unpathed f None none = refl
 unpathed f (Some a) none = search rules
 
--- a text that was asked for
-pub of-text : {P : Type 0} (result : ℕ) → (result ≢ 0 → (result ≡ 4) × P) → IsStatus result
+-- a text that was asked for is shown, or the output failed
+pub of-text : {P : Type 0} (result : ℕ) → (result ≢ 0 → (result ≡ 4) × P) → (result ≡ 0) ⊎ ((result ≡ 4) × P)
 of-text zero failed = inl refl
-of-text (suc n) failed = inr (Write, (failed (λ none. omega (arith, none))).0)
+of-text (suc n) failed = inr (failed (λ none. omega (arith, none)))
+
+shown : {P : Type 0} (result : ℕ) → (result ≡ 0) ⊎ ((result ≡ 4) × P) → IsStatus result
+shown result (inl well) = inl well
+shown result (inr failed) = inr (Write, failed.0)
 
 -- whatever the words come to
-pub of-words : (P : Type 0) (words : Words) (result : ℕ) → IfText (λ status. (status ≡ 0) ⊎ (status ≡ 2)) words
-    → IfWork (λ task plan paths. IsStatus result) words → IfText (λ status. status ≡ 0 → IsStatus result) words
+pub of-words : (P Q : Type 0) (words : Words) (result : ℕ) → IfText (λ status. (status ≡ 0) ⊎ (status ≡ 2)) words
+    → IfWork (λ task plan paths. IsStatus result) words → IfText (λ status. status ≡ 0 → (result ≡ 0) ⊎ ((result ≡ 4) × Q)) words
     → IfText (λ status. status ≢ 0 → (result ≡ status) × P) words → IsStatus result ⊎ (result ≡ 2)
-of-words P (Work task plan paths) result said work text told = inl work
-of-words P (Text text status) result (inl good) work asked told = inl (asked good)
-of-words P (Text text status) result (inr two) work asked told = inr ((told (λ none. omega (arith, none, two))).0 ∙ two)
+of-words P Q (Work task plan paths) result said work text told = inl work
+of-words P Q (Text text status) result (inl good) work asked told = inl (shown result (asked good))
+of-words P Q (Text text status) result (inr two) work asked told = inr ((told (λ none. omega (arith, none, two))).0 ∙ two)

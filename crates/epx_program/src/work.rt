@@ -7,11 +7,12 @@ ghost use Rattle.epx_tool.specs.Runs.{AreBytesOf};
 use epx_tool::{Ask, PathSource, Sink, Source, Task, run, show};
 use epx_types::{Fault, Plan};
 use std::alloc::{AllocError, Global};
+use std::random::RandomSource;
 use std::rt::Files;
 use std::thread::Threads;
 
 /// Writes what the task asks for.
-fn answer<R: Threads + Sync, S: Source, W: Sink>(
+fn answer<R: Threads + RandomSource + Sync, S: Source, W: Sink>(
     rt: &R,
     alloc: Global,
     task: Task,
@@ -53,7 +54,7 @@ fn sources_at<'a, R: Files>(
 }
 
 /// Reads the logs at the paths, or the input where no paths are meant, and answers them.
-pub(crate) fn work<R: Files + Threads + Sync, I: Source + Drop, W: Sink>(
+pub(crate) fn work<R: Files + Threads + RandomSource + Sync, I: Source + Drop, W: Sink>(
     rt: &R,
     alloc: Global,
     task: Task,

@@ -1,0 +1,96 @@
+-- What is asked, from the words that were given.
+use Rattle.std.proofs.Common.{◌≡◌, ◌≢◌, ◌≤◌, ◌↔◌, ◌⊎◌, ◌++◌, ◌∙◌, ℕ, Bool, true, false, inl, inr, zero, suc, List, [], ◌∷◌, length, map, Option, Some, None, Result, Ok, Err, IfOk, subst, sym, ap, refl, append-nil, arith}
+use Rattle.std.specs.Prelude.{option_map, string_bytes}
+use Rattle.std.specs.Io.KnownBytes.{Appends, Keeps}
+use Rattle.std.specs.declared.alloc.Global.{Global}
+use Rattle.std.specs.declared.io.Error.{Error}
+use Rattle.std.specs.declared.string.String.{String}
+use Rattle.std.specs.declared.vec.IntoIter.{IntoIter}
+use Rattle.clap.specs.Words.{Text, fault_of, subcommand_of, takes}
+use Rattle.epx_types.specs.declared.memory.Memory.{Memory}
+use Rattle.epx_devices.specs.Transfers.{AppendsPrefix}
+use Rattle.epx_words.specs.App.{epx_app}
+use Rattle.epx_words.specs.Asked.{AsksWork, Fits, IfText, IfWork, task_name}
+use Rattle.epx_words.specs.Endings.{EndsAs}
+use Rattle.epx_words.specs.Given.{IsCutOf, IsWorkersOf, logs_in, name_in, rows_in}
+use Rattle.epx_words.specs.declared.asked.Task.TheVariants.{Run}
+use Rattle.epx_words.specs.declared.asked.Words.{Words}
+use Rattle.epx_words.specs.declared.asked.Words.TheVariants.{Work, Text as text}
+use Rattle.epx_program.specs.Calls.{AreTakenFor, Asks, EndsAsAsked, EndsWithText}
+use Rattle.epx_program.specs.Endings.{EndsWith, IsStatus}
+
+-- words are taken for one list of texts
+pub one_taking : (words : Result (IntoIter (String Global) Global) Error) (texts others : List Text) → AreTakenFor words texts → AreTakenFor words others → texts ≡ others
+one_taking (Ok given) texts others these those = sym these ∙ those
+one_taking (Err why) texts others these those = absurd these
+
+no_items : {A : Type 0} (xs : List A) → length xs ≡ 0 → xs ≡ []
+no_items [] none = refl
+no_items (x ∷ xs) none = absurd (omega arith)
+
+-- where no word is to come, those that came are all
+pub all_taken : {A B : Type 0} (f : A → B) (came : List B) (rest : List A) → length rest ≡ 0 → came ++ map f rest ≡ came
+all_taken f came rest none = ap (λ xs. came ++ map f xs) (no_items rest none) ∙ append-nil came
+
+module _ (words : List Text) (n : ℕ) (as_many : n ≡ length words) where
+  work_fits : (asked : Words) → IfWork (λ task plan paths. name_in (subcommand_of epx_app words) ≡ Some (task_name task)) asked
+      → IfWork (λ task plan paths. IsWorkersOf (rows_in (subcommand_of epx_app words)) plan.workers) asked
+      → IfWork (λ task plan paths. IsCutOf (rows_in (subcommand_of epx_app words)) plan.cut) asked
+      → IfWork (λ task plan paths. paths ≡ Some (logs_in (rows_in (subcommand_of epx_app words)))) asked
+      → IfWork (Fits (subcommand_of epx_app words)) asked
+  work_fits (Work task plan paths) is_task is_workers is_cut are_paths = record { task = is_task; workers = is_workers; cut = is_cut; paths = are_paths }
+  work_fits (text said status) is_task is_workers is_cut are_paths = tt
+
+  text_ends : (asked : Words) → IfText (λ status. takes epx_app words ≡ false) asked → IfText (EndsAs (fault_of epx_app words)) asked
+      → IfText (λ status. (takes epx_app words ≡ false) × EndsAs (fault_of epx_app words) status) asked
+  text_ends (Work task plan paths) refused ends = tt
+  text_ends (text said status) refused ends = (refused, ends)
+
+  -- what is read of the words is what they ask for
+  pub asks : (read : Result Words Memory) → (n ≤ 1 → IfOk read (λ asked. asked ≡ Work Run (record { workers = 4; cut = 256 }) None))
+      → (2 ≤ n → IfOk read (IfWork (λ task plan paths. name_in (subcommand_of epx_app words) ≡ Some (task_name task))))
+      → (2 ≤ n → IfOk read (IfWork (λ task plan paths. IsWorkersOf (rows_in (subcommand_of epx_app words)) plan.workers)))
+      → (2 ≤ n → IfOk read (IfWork (λ task plan paths. IsCutOf (rows_in (subcommand_of epx_app words)) plan.cut)))
+      → (2 ≤ n → IfOk read (IfWork (λ task plan paths. paths ≡ Some (logs_in (rows_in (subcommand_of epx_app words))))))
+      → (2 ≤ n → IfOk read (λ asked. AsksWork asked ↔ (fault_of epx_app words ≡ [])))
+      → (2 ≤ n → IfOk read (IfText (λ status. takes epx_app words ≡ false)))
+      → (2 ≤ n → IfOk read (IfText (EndsAs (fault_of epx_app words)))) → IfOk read (Asks words)
+  asks (Ok asked) bare is_task is_workers is_cut are_paths taken refused ends = record {
+    bare = λ few. bare (omega (arith, as_many, few));
+    work = λ many. let two : 2 ≤ n = omega (arith, as_many, many) in work_fits asked (is_task two) (is_workers two) (is_cut two) (are_paths two);
+    taken = λ many. taken (omega (arith, as_many, many));
+    text = λ many. let two : 2 ≤ n = omega (arith, as_many, many) in text_ends asked (refused two) (ends two);
+  }
+  asks (Err memory) bare is_task is_workers is_cut are_paths taken refused ends = tt
+
+keeps_same : (known : Option (List ℕ)) → Keeps known known
+keeps_same None = tt
+keeps_same (Some bytes) = refl
+
+-- an output that is as before has what it had
+module _ {S : Type 0} (contents : S → Option (List ℕ)) (before after : S) where
+  kept : after ≡ before → Keeps (contents before) (contents after)
+  kept same = subst (λ output. Keeps (contents output) (contents after)) same (keeps_same (contents after))
+
+  module _ (input : Option (List ℕ)) (status : ℕ) (failed : Bool) where
+    text_ends_so : (said : List ℕ) (n : ℕ) → (n ≡ 0 → status ≡ 0 → Appends (contents before) (contents after) said)
+        → (n ≡ 0 → AppendsPrefix (contents before) (contents after) said) → (n ≡ 0 → (status ≡ 0) ⊎ ((status ≡ 4) × (failed ≡ true)))
+        → (n ≢ 0 → (status ≡ n) × (after ≡ before)) → EndsWithText said n status failed (contents before) (contents after)
+    text_ends_so said zero shown prefix well told = go (well refl)
+      where
+        go : (status ≡ 0) ⊎ ((status ≡ 4) × (failed ≡ true)) → EndsWithText said 0 status failed (contents before) (contents after)
+        go (inl done) = inl (done, shown refl done)
+        go (inr bad) = inr (bad.0, bad.1, prefix refl)
+    text_ends_so said (suc n) shown prefix well told = let ends = told (λ none. omega (arith, none)) in (ends.0, kept ends.1)
+
+    -- what was wanted is done, by what is said of doing it
+    pub ends_as_asked : (wanted : Words) → IfWork (λ task plan paths. IsStatus status) wanted
+        → ((bytes : List ℕ) → input ≡ Some bytes → IfWork (λ task plan paths. paths ≡ None → EndsWith task (bytes ∷ []) status (contents before) (contents after)) wanted)
+        → ((said : String Global) → wanted ≡ text said 0 → status ≡ 0 → Appends (contents before) (contents after) (string_bytes said))
+        → ((said : String Global) → wanted ≡ text said 0 → AppendsPrefix (contents before) (contents after) (string_bytes said))
+        → IfText (λ n. n ≡ 0 → (status ≡ 0) ⊎ ((status ≡ 4) × (failed ≡ true))) wanted
+        → IfText (λ n. n ≢ 0 → (status ≡ n) × (after ≡ before)) wanted → EndsAsAsked input wanted status failed (contents before) (contents after)
+    ends_as_asked (Work task plan paths) work over shown prefix well told =
+        (work, λ bytes none known. over bytes known (ap (option_map (λ list. map string_bytes list.items)) none))
+    ends_as_asked (text said n) work over shown prefix well told =
+        text_ends_so (string_bytes said) n (λ none. shown said (ap (text said) none)) (λ none. prefix said (ap (text said) none)) well told

@@ -1,0 +1,45 @@
+//! What the words of the operating system ask for.
+ghost use Rattle.std.specs.Prelude.{◌≡◌, ◌≢◌, ◌⊎◌, IfErr, IfOk, IsErrOf};
+ghost use Rattle.std.specs.IoError.{error_kind};
+ghost use Rattle.epx_words.specs.Asked.{IfText, IsText};
+ghost use Rattle.epx_program.specs.Calls.{AreTakenFor, Asks};
+
+use epx_tool::{Words, read_words};
+use epx_types::Memory;
+use std::alloc::Global;
+use std::env::Args;
+use std::io::{self, ErrorKind};
+
+/// A text for words of which one is no UTF-8. Words that fail in another way failed for want of memory.
+fn unread(alloc: Global, why: ErrorKind) -> Result<Words, Memory>
+    ensures no_text { why ≡ ErrorKind.InvalidData → IfOk result (IsText 2) }
+    ensures no_words { why ≢ ErrorKind.InvalidData → IsErrOf result (record {}) }
+{
+    if why != ErrorKind::InvalidData {
+        return Err(Memory);
+    }
+    let text = String::from_str(alloc, "epx: a word is not UTF-8\n")?;
+    Ok(Words::Text { text, status: 2 })
+}
+
+/// What the words ask for, or a text in its place where one is no UTF-8.
+pub(crate) fn asked(alloc: Global, words: io::Result<Args>) -> Result<Words, Memory>
+    ensures asked { (texts : _) → AreTakenFor words texts → IfOk result (Asks texts) }
+    ensures status { IfOk result (IfText (λ status. (status ≡ 0) ⊎ (status ≡ 2))) }
+    ensures no_text { IfErr words (λ error. error_kind error ≡ ErrorKind.InvalidData → IfOk result (IsText 2)) }
+    ensures no_words { IfErr words (λ error. error_kind error ≢ ErrorKind.InvalidData → IsErrOf result (record {})) }
+{
+    let given = match words {
+        Ok(given) => given,
+        Err(error) => return unread(alloc, error.kind()),
+    };
+    let mut owned = Vec::new(alloc);
+    for word in given {
+        owned.push(word)?;
+    }
+    let mut texts = Vec::new(alloc);
+    for text in &owned {
+        texts.push(text.as_str())?;
+    }
+    read_words(alloc, &texts)
+}
