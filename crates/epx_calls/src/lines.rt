@@ -136,6 +136,12 @@ fn status_and_further_members(rt: HostRuntime) -> Result<(), Fail> {
     members_mean(&rt, alloc, capital, "Status")?;
     let committed = r#""seq":1,"status":"committed","deps":[],"ops":[]"#;
     members_mean(&rt, alloc, committed, NO_OP_WRITTEN)?;
+    let executed = r#""seq":1,"status":"executed","deps":[],"ops":[]"#;
+    members_mean(&rt, alloc, executed, NO_OP_WRITTEN)?;
+    let accepted = r#""seq":1,"status":"accepted","deps":7,"ops":7"#;
+    members_mean(&rt, alloc, accepted, "blank")?;
+    let unnumbered = r#""status":"pre-accepted","deps":[],"ops":[]"#;
+    members_mean(&rt, alloc, unnumbered, "Seq")?;
     means(&rt, alloc, PUT_AND_GET, PUT_AND_GET_WRITTEN)?;
     let further = r#""seq":1,"deps":[],"ops":[["put","a",5],["get","a"]],"x":{}"#;
     members_mean(&rt, alloc, further, PUT_AND_GET_WRITTEN)

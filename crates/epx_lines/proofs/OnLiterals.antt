@@ -5,10 +5,10 @@ use Rattle.serde_json.proofs.OnLiterals.{serde_json_on_literals}
 use Rattle.epx_lines.specs.Elements.{whole}
 use Rattle.epx_lines.specs.DependencyList.{id_of, deps_of}
 use Rattle.epx_lines.specs.OperationList.{key_of, value_or_null, op_with_key, op_with_value, op_of, ops_of}
-use Rattle.epx_lines.specs.Meaning.{instance_of}
+use Rattle.epx_lines.specs.Meaning.{object_line}
 use Rattle.epx_lines.specs.Text.{data_of_op}
 
 -- what an answer unfolds to compute the meaning of a line, or the line of an entry, that is written out
 unfoldable pub lines_on_literals : ⊤
-unfolding serde_json_on_literals digits is_utf8 chars whole id_of deps_of key_of value_or_null op_with_key op_with_value op_of ops_of instance_of data_of_op
+unfolding serde_json_on_literals digits is_utf8 chars whole id_of deps_of key_of value_or_null op_with_key op_with_value op_of ops_of object_line data_of_op
 lines_on_literals = tt

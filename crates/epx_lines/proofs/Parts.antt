@@ -8,12 +8,13 @@ use Rattle.serde_json.specs.Find.{get, get_member}
 use Rattle.serde_json.proofs.Views.{get_member-put, get_member-put_other}
 use Rattle.epx_types.specs.declared.id.Id.{Id}
 use Rattle.epx_types.specs.declared.op.Op.{Op}
+use Rattle.epx_lines.specs.declared.Line.TheVariants.{Entry}
 use Rattle.epx_lines.specs.declared.direct.Parts.{Parts}
 use Rattle.epx_lines.specs.Tokens.{IsMember, HoldsParts}
 use Rattle.epx_lines.specs.Elements.{whole, each_of_at_most}
 use Rattle.epx_lines.specs.DependencyList.{id_of, rising_others, deps_of}
 use Rattle.epx_lines.specs.OperationList.{ops_of}
-use Rattle.epx_lines.specs.Meaning.{at_member, status_is_allowed, instance_of}
+use Rattle.epx_lines.specs.Meaning.{at_member, is_committed, object_line}
 
 -- ---- a member that is put, and the others
 
@@ -27,8 +28,8 @@ kept q f k d ms (Some x) e h = ap (option_and_then f) (get_member-put_other q k 
 added : {A : Type 0} (k : List ℕ) (f : Data → Option A) (d : Data) (ms : Members) (x : A) → f d ≡ Some x → at_member k f (object (put k d ms)) ≡ Some x
 added k f d ms x e = ap (option_and_then f) (get_member-put k d ms) ∙ e
 
-kept_status : (k : List ℕ) (d : Data) (ms : Members) → bytes_eq (codes "status") k ≡ false → status_is_allowed (get (codes "status") (object ms)) ≡ true → status_is_allowed (get (codes "status") (object (put k d ms))) ≡ true
-kept_status k d ms e h = ap status_is_allowed (get_member-put_other (codes "status") k d ms (unlike (codes "status") k e)) ∙ h
+kept_status : (k : List ℕ) (d : Data) (ms : Members) → bytes_eq (codes "status") k ≡ false → is_committed (get (codes "status") (object ms)) ≡ Some true → is_committed (get (codes "status") (object (put k d ms))) ≡ Some true
+kept_status k d ms e h = ap is_committed (get_member-put_other (codes "status") k d ms (unlike (codes "status") k e)) ∙ h
 
 module _ (d : Data) (ms : Members) (old : Parts) (h : HoldsParts ms old) where
   pub HoldsParts-replica : (r : ℕ) → whole 256 d ≡ Some r → HoldsParts (put (codes "r") d ms) (record old { replica = Some r })
@@ -81,17 +82,17 @@ module _ (d : Data) (ms : Members) (old : Parts) (h : HoldsParts ms old) where
     status = kept_status (codes "ops") d ms refl h.status;
   }
 
-  pub HoldsParts-status : status_is_allowed (Some d) ≡ true → HoldsParts (put (codes "status") d ms) old
+  pub HoldsParts-status : is_committed (Some d) ≡ Some true → HoldsParts (put (codes "status") d ms) old
   HoldsParts-status e = record {
     replica = kept (codes "r") (whole 256) (codes "status") d ms (old.replica) refl h.replica;
     number = kept (codes "i") (whole (2 ^ 64)) (codes "status") d ms (old.number) refl h.number;
     seq = kept (codes "seq") (whole (2 ^ 64)) (codes "status") d ms (old.seq) refl h.seq;
     named = kept (codes "deps") (each_of_at_most 256 id_of) (codes "status") d ms (option_map (λ v. v.items) old.named) refl h.named;
     ops = kept (codes "ops") (ops_of) (codes "status") d ms (option_map (λ v. v.items) old.ops) refl h.ops;
-    status = ap status_is_allowed (get_member-put (codes "status") d ms) ∙ e;
+    status = ap is_committed (get_member-put (codes "status") d ms) ∙ e;
   }
 
--- ---- the instance
+-- ---- the line
 
 mapped_member : {A B : Type 0} (name : List ℕ) (f : Data → Option A) (g : A → B) (o : Option Data) (x : A) → option_and_then f o ≡ Some x → option_and_then (λ d. option_map g (f d)) o ≡ Some (g x)
 mapped_member name f g None x e = absurd (cc)
@@ -101,10 +102,10 @@ module _ (ms : Members) (r i seq : ℕ) (named deps : List Id) (ops : List Op) w
   abbrev id : Id
   id = record { replica = r; number = i }
 
-  pub instance_of-parts : IsMember (codes "r") (whole 256) ms (Some r) → IsMember (codes "i") (whole (2 ^ 64)) ms (Some i) → IsMember (codes "seq") (whole (2 ^ 64)) ms (Some seq)
-      → IsMember (codes "deps") (each_of_at_most 256 id_of) ms (Some named) → IsMember (codes "ops") ops_of ms (Some ops) → status_is_allowed (get (codes "status") (object ms)) ≡ true
-      → deps ≡ rising_others id named → instance_of (object ms) ≡ Ok (record { id = id; seq = seq; deps = deps; ops = ops })
-  unfolding instance_of deps_of
-  instance_of-parts r_is i_is seq_is named_is ops_is status_is deps_is =
+  pub object_line-parts : IsMember (codes "r") (whole 256) ms (Some r) → IsMember (codes "i") (whole (2 ^ 64)) ms (Some i) → IsMember (codes "seq") (whole (2 ^ 64)) ms (Some seq)
+      → IsMember (codes "deps") (each_of_at_most 256 id_of) ms (Some named) → IsMember (codes "ops") ops_of ms (Some ops) → is_committed (get (codes "status") (object ms)) ≡ Some true
+      → deps ≡ rising_others id named → object_line (object ms) ≡ Ok (Entry (record { id = id; seq = seq; deps = deps; ops = ops }))
+  unfolding object_line deps_of
+  object_line-parts r_is i_is seq_is named_is ops_is status_is deps_is =
       let others = mapped_member (codes "deps") (each_of_at_most 256 id_of) (rising_others id) (get_member (codes "deps") ms) named named_is in
       rw (r_is, i_is, seq_is, status_is, others, ops_is, deps_is)

@@ -35,3 +35,13 @@ sequence_with_fraction = refl
 -- a tab and a carriage return
 pub blank_line : meaning_of (9 ∷ 13 ∷ []) ≡ Ok Blank
 blank_line = refl
+
+-- an instance that was executed
+pub executed_line : meaning_of (codes "{\"r\":0,\"i\":0,\"seq\":1,\"status\":\"executed\",\"deps\":[],\"ops\":[[\"put\",\"a\",5],[\"get\",\"a\"]]}") ≡ Ok (Entry first_entry)
+unfolding lines_on_literals first_entry
+executed_line = refl
+
+-- one that is only accepted, with dependencies that are none
+pub accepted_line : meaning_of (codes "{\"r\":0,\"i\":0,\"seq\":1,\"status\":\"accepted\",\"deps\":7,\"ops\":[]}") ≡ Ok Blank
+unfolding lines_on_literals
+accepted_line = refl

@@ -16,7 +16,7 @@ use Rattle.epx_types.proofs.Comparisons.{id_cmp_total, id_cmp-IsAntisymmetric}
 use Rattle.epx_types.proofs.Membership.{Contains-head, Contains-cons}
 use Rattle.epx_types.proofs.TotalOrders.{Less-is_lt}
 use Rattle.epx_lines.specs.declared.Line.TheVariants.{Entry}
-use Rattle.epx_lines.specs.Meaning.{is_blank, max_line_bytes, instance_of, entry_line, meaning_of}
+use Rattle.epx_lines.specs.Meaning.{is_blank, max_line_bytes, object_line, meaning_of}
 use Rattle.epx_lines.specs.Elements.{list_of, every}
 use Rattle.epx_lines.specs.DependencyList.{is_other, rising_others, id_of, deps_of}
 use Rattle.epx_lines.specs.OperationList.{op_of, ops_of}
@@ -108,7 +108,7 @@ ops_of-written ops few fit =
 -- ---- the line
 
 pub FitsEntry-from_parts : (e : Instance) → IsWellFormed e → FitNumbers e.id.replica e.id.number e.seq → All FitsId e.deps → All FitsOp e.ops → FitsEntry e
-unfolding instance_of
+unfolding object_line
 FitsEntry-from_parts e formed numbers deps ops = record {
   reads = rw (whole-fits 256 e.id.replica numbers.replica_fits, whole-fits (2 ^ 64) e.id.number numbers.number_fits, whole-fits (2 ^ 64) e.seq numbers.seq_fits, deps_of-written e.id e.deps formed.rising formed.not_itself formed.few_deps deps, ops_of-written e.ops formed.few_ops ops);
   short = length-line_text e numbers formed.few_deps formed.few_ops deps ops;
@@ -121,4 +121,4 @@ pub meaning_of-written : (e : Instance) (text : List ℕ) → IsUtf8 text → re
 meaning_of-written e text utf8 reads is fits =
     let no_blank : is_blank text ≡ false = ap is_blank is in
     let short : length text ≤ max_line_bytes = rw is fits.short in
-    rw (no_blank, not_too_long text short, json_of-some text (object_of e) (utf8, reads)) (ap entry_line fits.reads)
+    rw (no_blank, not_too_long text short, json_of-some text (object_of e) (utf8, reads)) fits.reads

@@ -1,4 +1,4 @@
--- What a line of a log means: nothing, an instance, or the first fault.
+-- What a line of a log means: nothing, a committed instance, or the first fault.
 use Rattle.std.specs.Prelude.{ℕ, ◌^◌, ◌==◌, ◌||◌, Bool, true, false, nat_lt, List, length, codes, Option, Some, None, is_some, Result, Ok, Err, option_and_then, if◌then◌else◌}
 use Rattle.std.specs.List.{list_all}
 use Rattle.std.specs.Str.{is_utf8, bytes_eq}
@@ -8,7 +8,6 @@ use Rattle.serde_json.specs.Find.{get, as_object, as_str}
 use Rattle.epx_types.specs.declared.id.Id.{Id}
 use Rattle.epx_types.specs.declared.fault.Why.{Why}
 use Rattle.epx_types.specs.declared.fault.Why.TheVariants.{TooLong, NotJson, NotObject, Replica, Number, Seq, Status, Deps, Ops}
-use Rattle.epx_types.specs.Instances.{Instance}
 use Rattle.epx_lines.specs.declared.Line.{Line}
 use Rattle.epx_lines.specs.declared.Line.TheVariants.{Blank, Entry}
 use Rattle.epx_lines.specs.Elements.{whole}
@@ -39,42 +38,40 @@ json_of bytes = if is_utf8 bytes then read bytes else None
 abbrev pub at_member : {A : Type 0} → List ℕ → (Data → Option A) → Data → Option A
 at_member name f d = option_and_then f (get name d)
 
--- the text `committed`
-abbrev pub is_committed : Option (List ℕ) → Bool
-is_committed None = false
-is_committed (Some text) = bytes_eq text (codes "committed")
+-- whether an instance of this status is committed, if there is such a status
+abbrev pub committed_by : List ℕ → Option Bool
+committed_by text =
+    if bytes_eq text (codes "committed") || bytes_eq text (codes "executed") then Some true else
+    (if bytes_eq text (codes "accepted") || bytes_eq text (codes "pre-accepted") then Some false else None)
 
--- absent, or the text `committed`
-abbrev pub status_is_allowed : Option Data → Bool
-status_is_allowed None = true
-status_is_allowed (Some d) = is_committed (as_str d)
+-- the same of what the member `status` holds; without one the instance is committed
+abbrev pub is_committed : Option Data → Option Bool
+is_committed None = Some true
+is_committed (Some d) = option_and_then committed_by (as_str d)
 
 -- next of the value, if there is one, and else the fault
 abbrev pub need : {A B : Type 0} → Why → Option A → (A → Result B Why) → Result B Why
 need why None next = Err why
 need why (Some x) next = next x
 
--- the instance of an object, or its first fault
-unfoldable pub instance_of : Data → Result Instance Why
-instance_of d =
+-- what an object means: an instance, nothing where it is not committed yet, or the first fault
+unfoldable pub object_line : Data → Result Line Why
+object_line d =
     need Replica (at_member (codes "r") (whole 256) d) (λ r.
     need Number (at_member (codes "i") (whole (2 ^ 64)) d) (λ i.
     need Seq (at_member (codes "seq") (whole (2 ^ 64)) d) (λ seq.
-    if status_is_allowed (get (codes "status") d) then
+    need Status (is_committed (get (codes "status") d)) (λ committed.
+    if committed then
     (let id : Id = record { replica = r; number = i } in
     need Deps (at_member (codes "deps") (deps_of id) d) (λ deps.
     need Ops (at_member (codes "ops") ops_of d) (λ ops.
-    Ok (record { id = id; seq = seq; deps = deps; ops = ops }))))
-    else Err Status)))
+    Ok (Entry (record { id = id; seq = seq; deps = deps; ops = ops })))))
+    else Ok Blank))))
 
 -- ---- the line
 
-abbrev pub entry_line : Result Instance Why → Result Line Why
-entry_line (Ok e) = Ok (Entry e)
-entry_line (Err why) = Err why
-
 abbrev pub meaning_of_value : Data → Result Line Why
-meaning_of_value d = if is_some (as_object d) then entry_line (instance_of d) else Err NotObject
+meaning_of_value d = if is_some (as_object d) then object_line d else Err NotObject
 
 abbrev pub meaning_of : List ℕ → Result Line Why
 meaning_of bytes =

@@ -10,7 +10,7 @@ use Rattle.epx_lines.specs.declared.direct.Parts.{Parts}
 use Rattle.epx_lines.specs.Elements.{whole, each_of_at_most}
 use Rattle.epx_lines.specs.DependencyList.{id_of}
 use Rattle.epx_lines.specs.OperationList.{ops_of}
-use Rattle.epx_lines.specs.Meaning.{at_member, status_is_allowed}
+use Rattle.epx_lines.specs.Meaning.{at_member, is_committed}
 
 -- the text is digits alone, one or more, and they write n
 abbrev pub AreDigitsOf : List ℕ → ℕ → Type 0
@@ -28,14 +28,14 @@ Gives n f ts x rest = (d : Data) × BeginsWith n ts d rest × (f d ≡ Some x)
 abbrev pub IsMember : {A : Type 0} → List ℕ → (Data → Option A) → Members → Option A → Type 0
 IsMember name f ms part = IfSome part (λ x. at_member name f (object ms) ≡ Some x)
 
--- the parts that are known are those of the object, whose status is allowed
+-- the parts that are known are those of the object, whose status is that of a committed instance
 pub record HoldsParts (ms : Members) (p : Parts) : Type 0 where
   pub replica : IsMember (codes "r") (whole 256) ms p.replica
   pub number : IsMember (codes "i") (whole (2 ^ 64)) ms p.number
   pub seq : IsMember (codes "seq") (whole (2 ^ 64)) ms p.seq
   pub named : IsMember (codes "deps") (each_of_at_most 256 id_of) ms (option_map (λ v. v.items) p.named)
   pub ops : IsMember (codes "ops") ops_of ms (option_map (λ v. v.items) p.ops)
-  pub status : status_is_allowed (get (codes "status") (object ms)) ≡ true
+  pub status : is_committed (get (codes "status") (object ms)) ≡ Some true
 
 -- a value was taken, and the parts hold with it under the name wherever they held before
 abbrev pub AddsMember : List ℕ → List Token → List Token → Parts → Parts → Type 0

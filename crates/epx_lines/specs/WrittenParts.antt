@@ -6,7 +6,8 @@ use Rattle.serde_json.specs.Written.{compact_text}
 use Rattle.epx_types.specs.declared.id.Id.{Id}
 use Rattle.epx_types.specs.declared.op.Op.{Op}
 use Rattle.epx_types.specs.Instances.{Instance}
-use Rattle.epx_lines.specs.Meaning.{max_line_bytes, instance_of}
+use Rattle.epx_lines.specs.declared.Line.TheVariants.{Entry}
+use Rattle.epx_lines.specs.Meaning.{max_line_bytes, object_line}
 use Rattle.epx_lines.specs.Elements.{signed}
 use Rattle.epx_lines.specs.DependencyList.{id_of}
 use Rattle.epx_lines.specs.OperationList.{op_of}
@@ -35,5 +36,5 @@ pub record FitNumbers (replica number seq : ℕ) : Type 0 where
 
 -- an entry
 pub record FitsEntry (e : Instance) : Type 0 where
-  pub reads : instance_of (object_of e) ≡ Ok e
+  pub reads : object_line (object_of e) ≡ Ok (Entry e)
   pub short : length (line_text e) ≤ max_line_bytes

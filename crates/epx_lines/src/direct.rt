@@ -1,19 +1,20 @@
 //! Reading an instance from the tokens of its line, with no value of the whole line in between. Each
 //! function takes what it names from the front of the tokens. None says nothing of the line: it is
 //! then read as a value.
-ghost use Rattle.std.specs.Prelude.{◌≡◌, ◌^◌, Ok, IfSome, codes};
-ghost use Rattle.serde_json.specs.Data.{Members, object, string};
+ghost use Rattle.std.specs.Prelude.{◌≡◌, ◌^◌, true, Ok, Some, IfSome};
+ghost use Rattle.serde_json.specs.Data.{Members, object};
 ghost use Rattle.epx_types.specs.declared.fault.Why.TheVariants.{NotJson};
 ghost use Rattle.epx_lines.specs.declared.Line.TheVariants as line;
 ghost use Rattle.epx_lines.specs.DependencyList.{id_of};
 ghost use Rattle.epx_lines.specs.Elements.{whole, each_of_at_most};
-ghost use Rattle.epx_lines.specs.Meaning.{json_of, need, meaning_of_value, instance_of};
+ghost use Rattle.epx_lines.specs.Meaning.{json_of, need, is_committed, meaning_of_value, object_line};
 ghost use Rattle.epx_lines.specs.OperationList.{op_with_value, op_of, ops_of};
 ghost use Rattle.epx_lines.specs.Tokens.{BeginsWith, Gives, HoldsParts, AddsMember};
 
 use crate::deps::other_ids;
 use crate::digits::{signed_number, unsigned_number};
 use crate::ops::{op_named, op_with_absence, op_with_number, op_with_target};
+use crate::status::committed_by;
 use epx_types::entry::{MAX_DEPS, MAX_OPS};
 use epx_types::{Entry, Id, Key, Op};
 use json::{Reader, Scratch, Token};
@@ -155,12 +156,12 @@ fn take_ops(alloc: Global, reader: &mut Reader<'_>, ops: &mut Vec<Op>) -> Option
 /// The status of a committed instance.
 fn take_committed(reader: &mut Reader<'_>) -> Option<()>
     ensures { IfSome result
-        (λ _. BeginsWith 0 reader.old (string (codes "committed")) reader.new) }
+        (λ _. Gives 0 (λ d. is_committed (Some d)) reader.old true reader.new) }
 {
     let Token::String(text) = reader.next()? else {
         return None;
     };
-    if text == "committed" { Some(()) } else { None }
+    if committed_by(text)? { Some(()) } else { None }
 }
 
 /// The value of the member of this name.
@@ -213,7 +214,7 @@ fn take_parts(alloc: Global, reader: &mut Reader<'_>, lists: &mut Lists) -> Opti
 
 fn entry_of(alloc: Global, parts: Parts) -> Option<Entry>
     ensures { IfSome result
-        (λ e. (ms : Members) → HoldsParts ms parts → instance_of (object ms) ≡ Ok e) }
+        (λ e. (ms : Members) → HoldsParts ms parts → object_line (object ms) ≡ Ok (line.Entry e)) }
 {
     let Parts {
         replica,

@@ -9,6 +9,7 @@ mod direct;
 mod laws;
 mod ops;
 mod read;
+mod status;
 mod write;
 
 pub use cut::{cut_line, cut_lines};
@@ -20,7 +21,7 @@ pub use write::write_line;
 /// What a line of a log means.
 #[derive(Debug, Drop)]
 pub enum Line {
-    /// Nothing: spaces, tabs and carriage returns alone, or no byte.
+    /// Nothing: spaces, tabs and carriage returns alone, no byte, or an instance that is not committed yet.
     Blank,
     /// A committed instance.
     Entry(Entry),

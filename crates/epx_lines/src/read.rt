@@ -3,7 +3,7 @@ ghost use Rattle.std.specs.Prelude.{◌≡◌, Ok, IfOk, IfErr, codes, option_ma
 ghost use Rattle.serde_json.specs.Find.{get};
 ghost use Rattle.serde_json.specs.View.{view};
 ghost use Rattle.epx_types.specs.declared.fault.Why.TheVariants.{NotJson};
-ghost use Rattle.epx_lines.specs.Meaning.{is_blank, json_of, need, at_member, status_is_allowed, instance_of, meaning_of_value, meaning_of};
+ghost use Rattle.epx_lines.specs.Meaning.{is_blank, json_of, need, at_member, is_committed, object_line, meaning_of_value, meaning_of};
 ghost use Rattle.epx_lines.specs.DependencyList.{deps_of};
 ghost use Rattle.epx_lines.specs.OperationList.{ops_of};
 ghost use Rattle.epx_lines.specs.Faults.{IsFaultOf};
@@ -11,6 +11,7 @@ ghost use Rattle.epx_lines.specs.Faults.{IsFaultOf};
 use crate::deps::{read_deps, read_number, read_replica};
 use crate::direct::{Lists, direct_entry};
 use crate::ops::read_ops;
+use crate::status::committed_by;
 use crate::{Line, LineFault};
 use epx_types::{Entry, Id, Memory, Op, Why};
 use json::Scratch;
@@ -27,16 +28,14 @@ pub fn is_blank_line(bytes: &[u8]) -> bool
     bytes.iter().all(|b| matches!(*b, b' ' | b'\t' | b'\r'))
 }
 
-fn has_allowed_status(object: &Value) -> bool
-    ensures { result ≡ status_is_allowed (get (codes "status") (view object.now)) }
+/// Whether an object's instance is committed; None where its status is none.
+fn is_committed(object: &Value) -> Option<bool>
+    ensures { result ≡ is_committed (get (codes "status") (view object.now)) }
 {
     let Some(status) = object.get("status") else {
-        return true;
+        return Some(true);
     };
-    match status.as_str() {
-        Some(text) => text == "committed",
-        None => false,
-    }
+    committed_by(status.as_str()?)
 }
 
 fn member_deps(alloc: Global, id: Id, object: &Value) -> Result<Option<Vec<Id>>, Memory>
@@ -61,10 +60,10 @@ fn member_ops(alloc: Global, object: &Value) -> Result<Option<Vec<Op>>, Memory>
     }
 }
 
-#[tactic(auto, unfolding(crate::specs::Meaning::instance_of))]
-fn read_instance(alloc: Global, value: &Value) -> Result<Entry, LineFault>
-    ensures ok { IfOk result (λ e. instance_of (view value.now) ≡ Ok e) }
-    ensures bad { IfErr result (λ f. IsFaultOf f (instance_of (view value.now))) }
+#[tactic(auto, unfolding(crate::specs::Meaning::object_line))]
+fn read_object(alloc: Global, value: &Value) -> Result<Line, LineFault>
+    ensures ok { IfOk result (λ l. object_line (view value.now) ≡ Ok l) }
+    ensures bad { IfErr result (λ f. IsFaultOf f (object_line (view value.now))) }
 {
     let replica = value
         .get("r")
@@ -78,8 +77,8 @@ fn read_instance(alloc: Global, value: &Value) -> Result<Entry, LineFault>
         .get("seq")
         .and_then(read_number)
         .ok_or(LineFault::Bad(Why::Seq))?;
-    if !has_allowed_status(value) {
-        return Err(LineFault::Bad(Why::Status));
+    if !is_committed(value).ok_or(LineFault::Bad(Why::Status))? {
+        return Ok(Line::Blank);
     }
     let id = Id { replica, number };
     let Some(deps) = member_deps(alloc, id, value)? else {
@@ -88,7 +87,7 @@ fn read_instance(alloc: Global, value: &Value) -> Result<Entry, LineFault>
     let Some(ops) = member_ops(alloc, value)? else {
         return Err(LineFault::Bad(Why::Ops));
     };
-    Ok(Entry::new(id, seq, deps, ops).unwrap())
+    Ok(Line::Entry(Entry::new(id, seq, deps, ops).unwrap()))
 }
 
 /// The value of a JSON text, if it is one.
@@ -118,7 +117,7 @@ fn read_whole(alloc: Global, bytes: &[u8]) -> Result<Line, LineFault>
     if !value.is_object() {
         return Err(LineFault::Bad(Why::NotObject));
     }
-    Ok(Line::Entry(read_instance(alloc, &value)?))
+    read_object(alloc, &value)
 }
 
 /// Reads lines one after another, over memory that it keeps.

@@ -3,7 +3,7 @@ use Rattle.std.proofs.lemmas.Option.{IfSome_then}
 use Rattle.json.specs.Lex.{tokens}
 use Rattle.serde_json.specs.Data.{object}
 use Rattle.epx_types.specs.declared.fault.Why.TheVariants.{NotJson}
-use Rattle.epx_lines.specs.Meaning.{need, entry_line, meaning_of_value}
+use Rattle.epx_lines.specs.Meaning.{need, meaning_of_value}
 use Rattle.epx_lines.proofs.JsonTexts.{json_of-some}
 use Rattle.epx_lines.proofs.TokenValues.{read-from_tokens}
 use Rattle.epx_lines.proofs.direct.direct_entry.Goals as goal
@@ -16,4 +16,4 @@ returns c =
     let over : c.take_parts.new.reader ≡ [] = search rules in
     let all : c.in_ok-reader.reader ≡ tokens c.args.bytes.now = search rules in
     let value = json_of-some c.args.bytes.now (object parts.0) (utf8, read-from_tokens c.args.bytes.now (object parts.0) (rw (all, over) at parts.1)) in
-    IfSome_then c.entry_of.result c.entry_of.ensures (λ e is. ap (λ o. need NotJson o meaning_of_value) value ∙ ap entry_line (is parts.0 parts.2))
+    IfSome_then c.entry_of.result c.entry_of.ensures (λ e is. ap (λ o. need NotJson o meaning_of_value) value ∙ is parts.0 parts.2)

@@ -1,8 +1,9 @@
 use Rattle.std.proofs.Common.{◌≡◌, Some, ap, ◌∙◌, sym, rules}
 use Rattle.std.specs.Prelude.{Ok}
 use Rattle.std.proofs.lemmas.Option.{IfSome_then}
+use Rattle.epx_lines.specs.declared.Line.TheVariants.{Entry}
 use Rattle.epx_lines.specs.DependencyList.{rising_others}
-use Rattle.epx_lines.proofs.Parts.{instance_of-parts}
+use Rattle.epx_lines.proofs.Parts.{object_line-parts}
 use Rattle.epx_lines.proofs.direct.entry_of.Goals as goal
 
 pub returns : goal.returns
@@ -14,6 +15,6 @@ returns c =
     let ops_is : c.args.parts.ops ≡ Some c.in_ok-ops.field-0 = search rules in
     let deps_is : c.in_ok-deps.deps.items ≡ rising_others (record { replica = c.in_ok-replica.field-0; number = c.in_ok-number.field-0 }) c.in_ok-named.field-0.items = search rules in
     IfSome_then c.new.result c.new.ensures.entry (λ e is ms h.
-    instance_of-parts ms _ _ _ c.in_ok-named.field-0.items c.in_ok-deps.deps.items c.in_ok-ops.field-0.items
+    object_line-parts ms _ _ _ c.in_ok-named.field-0.items c.in_ok-deps.deps.items c.in_ok-ops.field-0.items
     (rw r_is at h.replica) (rw i_is at h.number) (rw seq_is at h.seq) (rw named_is at h.named) (rw ops_is at h.ops) h.status deps_is
-    ∙ ap Ok (sym is))
+    ∙ ap (λ e. Ok (Entry e)) (sym is))

@@ -1,5 +1,4 @@
-use Rattle.std.proofs.Common.{◌≡◌, codes, refl, arith, rules}
-use Rattle.serde_json.specs.Data.{string}
+use Rattle.std.proofs.Common.{◌≡◌, codes, arith, rules}
 use Rattle.epx_lines.proofs.TokenValues.{BeginsWith-deeper}
 use Rattle.epx_lines.proofs.Parts.{HoldsParts-replica, HoldsParts-number, HoldsParts-seq, HoldsParts-named, HoldsParts-ops, HoldsParts-status}
 use Rattle.epx_lines.proofs.direct.take_member.Goals as goal
@@ -37,5 +36,5 @@ returns-in_ok-take_ops c =
 pub returns-in_ok-take_committed : goal.returns-in_ok-take_committed
 returns-in_ok-take_committed c =
     let named : c.args.name.now ≡ codes "status" = search rules in
-    let d = string (codes "committed") in
-    (d, BeginsWith-deeper 0 2 _ d _ (omega arith) c.in_ok-take_committed.ensures, λ ms h. rw named (HoldsParts-status d ms c.args.parts.now h refl))
+    let g = c.in_ok-take_committed.ensures in
+    (g.0, BeginsWith-deeper 0 2 _ g.0 _ (omega arith) g.1, λ ms h. rw named (HoldsParts-status g.0 ms c.args.parts.now h g.2))

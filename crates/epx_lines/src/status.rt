@@ -1,0 +1,14 @@
+//! What a status says of an instance.
+ghost use Rattle.std.specs.Prelude.{◌≡◌};
+ghost use Rattle.epx_lines.specs.Meaning.{committed_by};
+
+/// Whether an instance of this status is committed; None where there is no such status.
+pub(crate) fn committed_by(status: &str) -> Option<bool>
+    ensures { result ≡ committed_by status.now }
+{
+    match status {
+        "committed" | "executed" => Some(true),
+        "accepted" | "pre-accepted" => Some(false),
+        _ => None,
+    }
+}
