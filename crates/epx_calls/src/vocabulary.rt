@@ -49,7 +49,7 @@ fn faults_of_too_much(rt: HostRuntime) -> Result<(), Fail> {
     tells(&rt, alloc, Fault::TooManyLogs, 2, 1, text)?;
     let text = "epx: fault 3: log 7 is longer than 67108864 bytes";
     tells(&rt, alloc, Fault::LogTooLong { log: 7 }, 3, 1, text)?;
-    let text = "epx: fault 5: more than 65536 instances";
+    let text = "epx: fault 5: more than 1048576 instances";
     tells(&rt, alloc, Fault::TooManyInstances, 5, 1, text)
 }
 

@@ -8,4 +8,4 @@ abbrev pub max_log_bytes : ℕ
 max_log_bytes = 67108864
 
 abbrev pub max_instances : ℕ
-max_instances = 65536
+max_instances = 1048576

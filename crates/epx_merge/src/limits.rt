@@ -9,7 +9,7 @@ pub const MAX_LOGS: usize = 64;
 pub const MAX_LOG_BYTES: usize = 67_108_864;
 
 /// Logs name at most this many distinct instances.
-pub const MAX_INSTANCES: usize = 65_536;
+pub const MAX_INSTANCES: usize = 1_048_576;
 
 /// The first log that is too long.
 pub(crate) fn first_too_long(logs: &[Vec<u8>]) -> Option<usize>

@@ -85,25 +85,25 @@ fn many(alloc: Global, count: u64) -> Result<Vec<u8>, AllocError> {
 
 #[test]
 fn as_many_instances_as_are_allowed(rt: HostRuntime) -> Result<(), Fail> {
-    let log = many(rt.alloc(), 65_536)?;
+    let log = many(rt.alloc(), 1_048_576)?;
     let report = answered(&rt, rt.alloc(), &[log])?;
-    let header = "[\"executed\",65536,\"waiting\",0,\"components\",65536]";
+    let header = "[\"executed\",1048576,\"waiting\",0,\"components\",1048576]";
     assert!(rt; report.lines().next() == Some(header));
-    assert!(rt; report.lines().count() == 65_537);
+    assert!(rt; report.lines().count() == 1_048_577);
     Ok(())
 }
 
 #[test]
 fn too_many_instances(rt: HostRuntime) -> Result<(), Fail> {
-    let fault = "epx: fault 5: more than 65536 instances";
-    logs_give(&rt, rt.alloc(), &[many(rt.alloc(), 65_537)?], fault)
+    let fault = "epx: fault 5: more than 1048576 instances";
+    logs_give(&rt, rt.alloc(), &[many(rt.alloc(), 1_048_577)?], fault)
 }
 
 #[test]
 fn a_bad_line_comes_before_too_many_instances(rt: HostRuntime) -> Result<(), Fail> {
-    let mut log = many(rt.alloc(), 65_537)?;
+    let mut log = many(rt.alloc(), 1_048_577)?;
     log.extend_from_slice(b"{}")?;
-    let fault = "epx: fault 4: log 0 line 65538: Replica";
+    let fault = "epx: fault 4: log 0 line 1048578: Replica";
     logs_give(&rt, rt.alloc(), &[log], fault)
 }
 

@@ -96,7 +96,7 @@ impl fmt::Display for Fault {
                 write!(f, "epx: fault 3: log {log} is longer than 67108864 bytes")
             }
             Fault::BadLine { place, why } => write!(f, "epx: fault 4: {place}: {why}"),
-            Fault::TooManyInstances => write!(f, "epx: fault 5: more than 65536 instances"),
+            Fault::TooManyInstances => write!(f, "epx: fault 5: more than 1048576 instances"),
             Fault::Disagree { id, first, second } => {
                 write!(
                     f,
