@@ -48,12 +48,13 @@ with the missing one that it waits for. Commands of one level do not conflict.";
 const EXAMPLE: &str = "Example:
   epx run examples/replicas/*.jsonl";
 
-const LOGS_AND_EXAMPLE: &str = "A log has one committed instance a line, as a JSON object:
+const LOGS_AND_EXAMPLE: &str = "A log has one instance a line, as a JSON object:
 
   {\"r\":0,\"i\":0,\"seq\":1,\"deps\":[],\"ops\":[[\"put\",\"a\",5],[\"get\",\"a\"]]}
 
 This is the instance 0 of replica 0, with sequence number 1 and no dependencies,
-which writes 5 to the key a and reads it.
+which writes 5 to the key a and reads it. It is committed, as with the status
+committed or executed; accepted and pre-accepted ones are passed over.
 
 Example:
   epx run examples/replicas/*.jsonl";
