@@ -4,13 +4,15 @@ use std::test::Fail;
 
 #[test]
 fn executed_is_committed(rt: HostRuntime) -> Result<(), Fail> {
-    let line = r#"{"r":0,"i":0,"seq":1,"status":"executed","deps":[],"ops":[["put","a",5],["get","a"]]}"#;
+    let line =
+        r#"{"r":0,"i":0,"seq":1,"status":"executed","deps":[],"ops":[["put","a",5],["get","a"]]}"#;
     text_gives(&rt, rt.alloc(), line, LEAST_REPORT)
 }
 
 #[test]
 fn lists_of_an_accepted_instance_are_not_looked_at(rt: HostRuntime) -> Result<(), Fail> {
-    let line = r#"{"r":0,"i":0,"seq":1,"status":"accepted","deps":7,"ops":[["put","a",5],["get","a"]]}"#;
+    let line =
+        r#"{"r":0,"i":0,"seq":1,"status":"accepted","deps":7,"ops":[["put","a",5],["get","a"]]}"#;
     text_gives(&rt, rt.alloc(), line, NOTHING)
 }
 
