@@ -13,6 +13,7 @@ use epx_txn::Store;
 use epx_types::{Command, Memory, Plan};
 use std::alloc::{AllocGlobal, Global};
 use std::io::Print;
+use std::random::RandomSource;
 use std::rt::Clock;
 use std::thread::Threads;
 
@@ -90,7 +91,7 @@ fn logs(alloc: Global, shape: Shape, count: u64) -> Result<Vec<Vec<u8>>, Memory>
 }
 
 /// The commands of all instances, by rising Id: the order plays no part in what applying them costs.
-fn commands<'a>(alloc: Global, merged: &'a Merged) -> Result<Vec<Command<'a>>, Memory> {
+pub(crate) fn commands<'a>(alloc: Global, merged: &'a Merged) -> Result<Vec<Command<'a>>, Memory> {
     let mut commands = Vec::with_capacity(alloc, merged.len())?;
     for position in 0..merged.len() {
         let entry = merged.entry_at(position);
@@ -103,7 +104,7 @@ fn commands<'a>(alloc: Global, merged: &'a Merged) -> Result<Vec<Command<'a>>, M
 }
 
 /// The committed map of the logs, and the time of reading them.
-fn reading<R: Threads + Sync + Clock>(
+pub(crate) fn reading<R: Threads + RandomSource + Sync + Clock>(
     rt: &R,
     alloc: Global,
     logs: &[Vec<u8>],
@@ -159,7 +160,7 @@ fn listing(rt: &impl Clock, alloc: Global, graph: &Graph) -> Result<u128, Memory
 }
 
 /// The time of the whole answer.
-fn answering<R: Threads + Sync + Clock>(
+fn answering<R: Threads + RandomSource + Sync + Clock>(
     rt: &R,
     alloc: Global,
     logs: &[Vec<u8>],
@@ -173,7 +174,7 @@ fn answering<R: Threads + Sync + Clock>(
 }
 
 /// The time of applying the commands.
-fn applying<R: Threads + Sync + Clock>(
+pub(crate) fn applying<R: Threads + RandomSource + Sync + Clock>(
     rt: &R,
     alloc: Global,
     merged: &Merged,
@@ -190,7 +191,7 @@ fn applying<R: Threads + Sync + Clock>(
 }
 
 /// The times of the layers over the map: building the graph, its components, the order and the waiting list.
-fn layers<R: Threads + Sync + Clock>(
+fn layers<R: Threads + RandomSource + Sync + Clock>(
     rt: &R,
     alloc: Global,
     merged: &Merged,
@@ -203,7 +204,7 @@ fn layers<R: Threads + Sync + Clock>(
 }
 
 /// What each layer takes, and the whole answer, in microseconds.
-fn times<R: Threads + Sync + Clock>(
+fn times<R: Threads + RandomSource + Sync + Clock>(
     rt: &R,
     alloc: Global,
     logs: &[Vec<u8>],
@@ -228,7 +229,7 @@ const LAYERS: [&str; 7] = [
 ];
 
 /// The least times of the layers over several answers to the same logs.
-fn least_times<R: Threads + Sync + Clock>(
+fn least_times<R: Threads + RandomSource + Sync + Clock>(
     rt: &R,
     alloc: Global,
     logs: &[Vec<u8>],
@@ -247,7 +248,7 @@ fn least_times<R: Threads + Sync + Clock>(
 }
 
 /// Prints the least times of the layers, in microseconds.
-fn compare<R: Threads + Sync + Clock + Print>(
+fn compare<R: Threads + RandomSource + Sync + Clock + Print>(
     rt: &R,
     alloc: Global,
     shape: Shape,
@@ -262,7 +263,9 @@ fn compare<R: Threads + Sync + Clock + Print>(
     Ok(())
 }
 
-pub fn measure<R: Threads + Sync + Clock + AllocGlobal + Print>(rt: &R) -> Result<(), Memory> {
+pub fn measure<R: Threads + RandomSource + Sync + Clock + AllocGlobal + Print>(
+    rt: &R,
+) -> Result<(), Memory> {
     for shape in [Shape::Independent, Shape::Chain, Shape::Ring, Shape::Wide] {
         compare(rt, rt.alloc(), shape, 16_384)?;
         compare(rt, rt.alloc(), shape, 65_536)?;

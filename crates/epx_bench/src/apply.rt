@@ -6,6 +6,7 @@ use epx_txn::Store;
 use epx_types::{Command, Id, Key, Memory, Op, Plan};
 use std::alloc::{AllocGlobal, Global};
 use std::io::Print;
+use std::random::RandomSource;
 use std::rt::Clock;
 use std::thread::Threads;
 
@@ -103,7 +104,7 @@ fn commands(alloc: Global, list: &[Vec<Op>]) -> Result<Vec<Command<'_>>, Memory>
 }
 
 /// The time of one application to an empty store.
-fn apply_once<R: Threads + Sync + Clock>(
+fn apply_once<R: Threads + RandomSource + Sync + Clock>(
     rt: &R,
     alloc: Global,
     commands: &[Command],
@@ -119,7 +120,7 @@ fn apply_once<R: Threads + Sync + Clock>(
 }
 
 /// The least time of applying the commands with so many workers.
-fn least_apply<R: Threads + Sync + Clock>(
+fn least_apply<R: Threads + RandomSource + Sync + Clock>(
     rt: &R,
     alloc: Global,
     commands: &[Command],
@@ -135,18 +136,27 @@ fn least_apply<R: Threads + Sync + Clock>(
     Ok(best)
 }
 
+/// The time of finding the levels of the commands.
+pub(crate) fn levelling(
+    rt: &impl Clock,
+    alloc: Global,
+    commands: &[Command],
+) -> Result<u128, Memory> {
+    let start = now(rt)?;
+    let _map = levels(alloc, commands)?;
+    passed(rt, &start)
+}
+
 /// The least time of finding the levels of the commands.
 fn least_levels<R: Clock>(rt: &R, alloc: Global, commands: &[Command]) -> Result<u128, Memory> {
     let mut best = u128::MAX;
     for _ in 0..9 {
-        let start = now(rt)?;
-        let _map = levels(alloc, commands)?;
-        best = best.min(passed(rt, &start)?);
+        best = best.min(levelling(rt, alloc, commands)?);
     }
     Ok(best)
 }
 
-fn measure_shape<R: Threads + Sync + Clock + AllocGlobal + Print>(
+fn measure_shape<R: Threads + RandomSource + Sync + Clock + AllocGlobal + Print>(
     rt: &R,
     name: &str,
     shape: Shape,
@@ -160,7 +170,9 @@ fn measure_shape<R: Threads + Sync + Clock + AllocGlobal + Print>(
     tell(rt, "  levels", least_levels(rt, alloc, &commands)?)
 }
 
-pub fn measure<R: Threads + Sync + Clock + AllocGlobal + Print>(rt: &R) -> Result<(), Memory> {
+pub fn measure<R: Threads + RandomSource + Sync + Clock + AllocGlobal + Print>(
+    rt: &R,
+) -> Result<(), Memory> {
     measure_shape(rt, "keys of their own", Shape::OwnKeys)?;
     measure_shape(rt, "one key", Shape::OneKey)?;
     measure_shape(rt, "two operations", Shape::Drawn(1))?;

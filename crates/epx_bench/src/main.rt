@@ -1,11 +1,13 @@
 //! Times the layers of epx. With no word it only names the words that it takes, so that what it
-//! prints is the same on every run; `lines`, `merge`, `apply`, `answer` and `pairs` print the least of
-//! several times, in microseconds.
+//! prints is the same on every run; `lines`, `merge`, `apply`, `answer`, `pairs` and `collisions` print
+//! the least of several times, in microseconds.
 #![tactic(auto)]
 
 mod answer;
 mod apply;
+mod chosen;
 mod clock;
+mod collisions;
 mod lines;
 mod merge;
 mod pairs;
@@ -25,6 +27,9 @@ fn main(rt: HostRuntime) -> Result<(), Memory> {
         Some("apply") => apply::measure(&rt),
         Some("answer") => answer::measure(&rt),
         Some("pairs") => pairs::measure(&rt),
-        _ => println!(rt; "words: lines, merge, apply, answer, pairs").map_err(|_| Memory),
+        Some("collisions") => collisions::measure(&rt),
+        _ => println!(rt; "words: lines, merge, apply, answer, pairs, collisions").map_err(
+            |_| Memory,
+        ),
     }
 }

@@ -5,6 +5,7 @@ use epx_merge::read_logs;
 use epx_types::{Memory, Plan};
 use std::alloc::{AllocGlobal, Global};
 use std::io::Print;
+use std::random::RandomSource;
 use std::rt::Clock;
 use std::thread::Threads;
 
@@ -30,7 +31,7 @@ fn log(alloc: Global) -> Result<Vec<u8>, Memory> {
 }
 
 /// The time of reading the logs.
-fn reading_logs<R: Threads + Sync + Clock>(
+fn reading_logs<R: Threads + RandomSource + Sync + Clock>(
     rt: &R,
     alloc: Global,
     logs: &[Vec<u8>],
@@ -53,7 +54,7 @@ fn logs(alloc: Global, count: usize) -> Result<Vec<Vec<u8>>, Memory> {
 }
 
 /// Prints the least time of reading so many equal logs with so many workers.
-fn measure_logs<R: Threads + Sync + Clock + Print>(
+fn measure_logs<R: Threads + RandomSource + Sync + Clock + Print>(
     rt: &R,
     alloc: Global,
     what: &str,
@@ -71,7 +72,9 @@ fn measure_logs<R: Threads + Sync + Clock + Print>(
     tell(rt, what, least)
 }
 
-pub fn measure<R: Threads + Sync + Clock + AllocGlobal + Print>(rt: &R) -> Result<(), Memory> {
+pub fn measure<R: Threads + RandomSource + Sync + Clock + AllocGlobal + Print>(
+    rt: &R,
+) -> Result<(), Memory> {
     let alloc = rt.alloc();
     measure_logs(rt, alloc, "one log, one worker", 1, 1)?;
     measure_logs(rt, alloc, "one log, four workers", 1, 4)?;
