@@ -37,10 +37,20 @@ fn fails<S: Source>(rt: &impl Abort, alloc: Global, source: &mut S) -> Result<()
     Ok(())
 }
 
+/// The text is written whole to a sink that fails only where it can not grow.
+fn is_written<W: Sink>(sink: &mut W) -> Result<(), Fail>
+    requires { W.has_failed sink.old ≡ false }
+{
+    match write_out(TEXT.as_bytes(), sink) {
+        Ok(()) => Ok(()),
+        Err(_) => Err(Fail::from("want of memory in the sink")),
+    }
+}
+
 #[test]
 fn what_is_written_is_read_again(rt: HostRuntime) -> Result<(), Fail> {
     let mut sink = MemorySink::new(rt.alloc());
-    assert!(rt; write_out(TEXT.as_bytes(), &mut sink) == Ok(()));
+    is_written(&mut sink)?;
     assert!(rt; !sink.failed());
     gives(&rt, rt.alloc(), &mut MemorySource::new(sink.bytes()))
 }
@@ -48,7 +58,7 @@ fn what_is_written_is_read_again(rt: HostRuntime) -> Result<(), Fail> {
 #[test]
 fn one_byte_a_call_is_enough(rt: HostRuntime) -> Result<(), Fail> {
     let mut sink = FuseSink::new(rt.alloc(), 1, None);
-    assert!(rt; write_out(TEXT.as_bytes(), &mut sink) == Ok(()));
+    is_written(&mut sink)?;
     gives(&rt, rt.alloc(), &mut FuseSource::new(sink.bytes(), 1, None))
 }
 
@@ -79,32 +89,36 @@ fn takes(
     fuse: usize,
     wanted: Result<(), Fault>,
     held: &[u8],
-)
+) -> Result<(), Fail>
     requires { 1 ≤ at_once }
 {
     let mut sink = FuseSink::new(alloc, at_once, Some(fuse));
     let written = write_out(TEXT.as_bytes(), &mut sink);
+    if written == Err(Fault::Write) && sink.bytes().len() < held.len() {
+        return Err(Fail::from("want of memory in the sink"));
+    }
     assert!(rt; written == wanted);
     assert!(rt; sink.failed() == written.is_err());
     assert!(rt; sink.bytes() == held);
+    Ok(())
 }
 
 /// The same for each number of bytes in all.
-fn takes_up_to_any_byte(rt: &impl Abort, alloc: Global, at_once: usize)
+fn takes_up_to_any_byte(rt: &impl Abort, alloc: Global, at_once: usize) -> Result<(), Fail>
     requires { 1 ≤ at_once }
 {
     let text = TEXT.as_bytes();
     for fuse in 0..text.len() + 1 {
-        takes(rt, alloc, at_once, fuse, Err(Fault::Write), &text[..fuse]);
+        takes(rt, alloc, at_once, fuse, Err(Fault::Write), &text[..fuse])?;
     }
-    takes(rt, alloc, at_once, text.len() + 1, Ok(()), text);
+    takes(rt, alloc, at_once, text.len() + 1, Ok(()), text)
 }
 
 #[test]
-fn a_sink_that_fails_after_any_byte_holds_a_prefix(rt: HostRuntime) {
-    takes_up_to_any_byte(&rt, rt.alloc(), 1);
-    takes_up_to_any_byte(&rt, rt.alloc(), 2);
-    takes_up_to_any_byte(&rt, rt.alloc(), 3);
+fn a_sink_that_fails_after_any_byte_holds_a_prefix(rt: HostRuntime) -> Result<(), Fail> {
+    takes_up_to_any_byte(&rt, rt.alloc(), 1)?;
+    takes_up_to_any_byte(&rt, rt.alloc(), 2)?;
+    takes_up_to_any_byte(&rt, rt.alloc(), 3)
 }
 
 #[test]
@@ -136,7 +150,7 @@ fn one_source_fails_and_another_does_not(rt: HostRuntime) -> Result<(), Fail> {
 fn std_readers_and_writers_carry_the_same_bytes(rt: HostRuntime) -> Result<(), Fail> {
     let mut written = Vec::new(rt.alloc());
     let mut sink = StdSink::new(&mut written);
-    assert!(rt; write_out(TEXT.as_bytes(), &mut sink) == Ok(()));
+    is_written(&mut sink)?;
     assert!(rt; written.as_slice() == TEXT.as_bytes());
     gives(&rt, rt.alloc(), &mut StdSource::new(TEXT.as_bytes()))
 }

@@ -1,6 +1,7 @@
 //! A gate in which one number waits for others.
 use epx_claims::Gate;
 use std::sync::atomic::{AtomicBool, AtomicU64, Ordering};
+use std::test::Fail;
 
 const MOST_LOADS: u32 = 100_000_000;
 
@@ -23,9 +24,16 @@ impl WaitingGate {
         }
     }
 
-    /// Whether all were entered, and the one that waited saw it.
-    pub(crate) fn saw_all(&self) -> bool {
-        self.entered.load(Ordering::SeqCst) == self.all && !self.gave_up.load(Ordering::SeqCst)
+    /// All were entered, and the one that waited saw it. Where it did not, a worker may have been missing, whose
+    /// thread could not be started.
+    pub(crate) fn saw_all(&self) -> Result<(), Fail> {
+        if self.entered.load(Ordering::SeqCst) != self.all {
+            return Err(Fail::from("not each number was entered once"));
+        }
+        if self.gave_up.load(Ordering::SeqCst) {
+            return Err(Fail::from("a worker was missing, or want of memory for its thread"));
+        }
+        Ok(())
     }
 }
 
