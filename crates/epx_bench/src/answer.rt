@@ -1,4 +1,4 @@
-//! Whole answers, and the layers that make them, over logs of four shapes.
+//! Whole answers, and the layers that make them, over logs of several shapes.
 ghost use Rattle.epx_graph.specs.GraphOf.{IsGraphOf};
 ghost use Rattle.std.specs.Prelude.{IfOk};
 
@@ -19,22 +19,25 @@ use std::thread::Threads;
 
 /// What each instance depends on.
 #[derive(Clone, Copy)]
-enum Shape {
+pub(crate) enum Shape {
     Independent,
     /// On the one before it.
     Chain,
     /// On the one before it, and the first on the last.
     Ring,
+    /// On the 16 before it.
+    Sixteen,
     /// On the 256 before it.
     Wide,
 }
 
 /// What a shape is called in what is printed.
-fn name(shape: Shape) -> &'static str {
+pub(crate) fn name(shape: Shape) -> &'static str {
     match shape {
         Shape::Independent => "independent",
         Shape::Chain => "chain",
         Shape::Ring => "ring",
+        Shape::Sixteen => "16 dependencies each",
         Shape::Wide => "256 dependencies each",
     }
 }
@@ -44,6 +47,7 @@ fn range(shape: Shape, number: u64, count: u64) -> (u64, u64) {
     let reach = match shape {
         Shape::Independent => 0,
         Shape::Chain | Shape::Ring => 1,
+        Shape::Sixteen => 16,
         Shape::Wide => 256,
     };
     if number == 0 && matches!(shape, Shape::Ring) {
@@ -76,7 +80,7 @@ fn push_line(
 }
 
 /// Logs of so many instances, each log within the limit.
-fn logs(alloc: Global, shape: Shape, count: u64) -> Result<Vec<Vec<u8>>, Memory> {
+pub(crate) fn logs(alloc: Global, shape: Shape, count: u64) -> Result<Vec<Vec<u8>>, Memory> {
     let mut logs = Vec::new(alloc);
     let mut log = Vec::new(alloc);
     for number in 0..count {
@@ -160,7 +164,7 @@ fn listing(rt: &impl Clock, alloc: Global, graph: &Graph) -> Result<u128, Memory
 }
 
 /// The time of the whole answer.
-fn answering<R: Threads + RandomSource + Sync + Clock>(
+pub(crate) fn answering<R: Threads + RandomSource + Sync + Clock>(
     rt: &R,
     alloc: Global,
     logs: &[Vec<u8>],

@@ -1,6 +1,6 @@
 //! Times the layers of epx. With no word it only names the words that it takes, so that what it
-//! prints is the same on every run; `lines`, `merge`, `apply`, `answer`, `pairs` and `collisions` print
-//! the least of several times, in microseconds.
+//! prints is the same on every run; `lines`, `merge`, `apply`, `answer`, `pairs`, `collisions` and
+//! `growth` print the least of several times, in microseconds.
 #![tactic(auto)]
 
 mod answer;
@@ -8,6 +8,7 @@ mod apply;
 mod chosen;
 mod clock;
 mod collisions;
+mod growth;
 mod lines;
 mod merge;
 mod pairs;
@@ -28,7 +29,8 @@ fn main(rt: HostRuntime) -> Result<(), Memory> {
         Some("answer") => answer::measure(&rt),
         Some("pairs") => pairs::measure(&rt),
         Some("collisions") => collisions::measure(&rt),
-        _ => println!(rt; "words: lines, merge, apply, answer, pairs, collisions").map_err(
+        Some("growth") => growth::measure(&rt),
+        _ => println!(rt; "words: lines, merge, apply, answer, pairs, collisions, growth").map_err(
             |_| Memory,
         ),
     }
