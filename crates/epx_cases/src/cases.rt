@@ -1,0 +1,30 @@
+//! The lists of words that the program is run under.
+
+use crate::stage::NOT_UTF_8;
+
+/// Words of every kind, each list with the program's name.
+pub(crate) fn word_lists() -> [&'static [&'static str]; 13] {
+    [
+        &["epx"],
+        &["epx", "--help"],
+        &["epx", "--version"],
+        &["epx", "order", "component.jsonl"],
+        &["epx", "levels", "component.jsonl"],
+        &["epx", "run", "0.jsonl", "1.jsonl", "2.jsonl"],
+        &["epx", "run", "long.jsonl"],
+        &["epx", "run", "0.jsonl", "cut_off.jsonl"],
+        &["epx", "run", "0.jsonl", "other.jsonl"],
+        &["epx", "run", "--workers", "65"],
+        &["epx", "run", NOT_UTF_8],
+        &["epx", "run", "."],
+        &["epx", "run", "cut_off.jsonl", "nowhere.jsonl"],
+    ]
+}
+
+/// The words of a run over 65 logs, which is one too many.
+pub(crate) fn too_many_logs() -> [&'static str; 67] {
+    let mut words = ["0.jsonl"; 67];
+    words[0] = "epx";
+    words[1] = "run";
+    words
+}
