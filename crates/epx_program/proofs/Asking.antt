@@ -1,6 +1,7 @@
 -- What is asked, from the words that were given.
-use Rattle.std.proofs.Common.{◌≡◌, ◌≢◌, ◌≤◌, ◌↔◌, ◌⊎◌, ◌++◌, ◌∙◌, ℕ, Bool, true, false, inl, inr, zero, suc, List, [], ◌∷◌, length, map, Option, Some, None, Result, Ok, Err, IfOk, subst, sym, ap, refl, append-nil, arith}
+use Rattle.std.proofs.Common.{◌≡◌, ◌≢◌, ◌≤◌, ◌↔◌, ◌⊎◌, ◌++◌, ◌∙◌, ℕ, Bool, true, false, inl, inr, zero, suc, List, [], ◌∷◌, length, map, Option, Some, None, Result, Ok, Err, IfOk, IfSome, Vec, subst, sym, ap, refl, append-nil, arith}
 use Rattle.std.specs.Prelude.{option_map, string_bytes}
+use Rattle.std.proofs.lemmas.List.{length-map}
 use Rattle.std.specs.Io.KnownBytes.{Appends, Keeps}
 use Rattle.std.specs.declared.alloc.Global.{Global}
 use Rattle.std.specs.declared.io.Error.{Error}
@@ -17,7 +18,8 @@ use Rattle.epx_words.specs.declared.asked.Task.TheVariants.{Run}
 use Rattle.epx_words.specs.declared.asked.Words.{Words}
 use Rattle.epx_words.specs.declared.asked.Words.TheVariants.{Work, Text as text}
 use Rattle.epx_program.specs.Calls.{AreTakenFor, Asks, EndsAsAsked, EndsWithText}
-use Rattle.epx_program.specs.Endings.{EndsWith, IsStatus}
+use Rattle.epx_tool.specs.Runs.{AddsAnswerTo}
+use Rattle.epx_program.specs.Endings.{EndsWith, IsAsked, IsStatus}
 
 -- words are taken for one list of texts
 pub one_taking : (words : Result (IntoIter (String Global) Global) Error) (texts others : List Text) → AreTakenFor words texts → AreTakenFor words others → texts ≡ others
@@ -86,11 +88,18 @@ module _ {S : Type 0} (contents : S → Option (List ℕ)) (before after : S) wh
     -- what was wanted is done, by what is said of doing it
     pub ends_as_asked : (wanted : Words) → IfWork (λ task plan paths. IsStatus status) wanted
         → ((bytes : List ℕ) → input ≡ Some bytes → IfWork (λ task plan paths. paths ≡ None → EndsWith task (bytes ∷ []) status (contents before) (contents after)) wanted)
+        → IfWork (λ task plan paths. IfSome paths (λ list. status ≡ 0 → AddsAnswerTo (IsAsked task) (length list) (contents before) (contents after))) wanted
         → ((said : String Global) → wanted ≡ text said 0 → status ≡ 0 → Appends (contents before) (contents after) (string_bytes said))
         → ((said : String Global) → wanted ≡ text said 0 → AppendsPrefix (contents before) (contents after) (string_bytes said))
         → IfText (λ n. n ≡ 0 → (status ≡ 0) ⊎ ((status ≡ 4) × (failed ≡ true))) wanted
         → IfText (λ n. n ≢ 0 → (status ≡ n) × (after ≡ before)) wanted → EndsAsAsked input wanted status failed (contents before) (contents after)
-    ends_as_asked (Work task plan paths) work over shown prefix well told =
-        (work, λ bytes none known. over bytes known (ap (option_map (λ list. map string_bytes list.items)) none))
-    ends_as_asked (text said n) work over shown prefix well told =
+    ends_as_asked (Work task plan paths) work over files shown prefix well told =
+        (work, λ bytes none known. over bytes known (ap (option_map (λ list. map string_bytes list.items)) none), answered paths files)
+      where
+        answered : (paths : Option (Vec (String Global) Global))
+            → IfSome (option_map (λ list. map string_bytes list.items) paths) (λ list. status ≡ 0 → AddsAnswerTo (IsAsked task) (length list) (contents before) (contents after))
+            → IfSome paths (λ list. status ≡ 0 → AddsAnswerTo (IsAsked task) (length list.items) (contents before) (contents after))
+        answered None files = tt
+        answered (Some list) files = subst (λ n. status ≡ 0 → AddsAnswerTo (IsAsked task) n (contents before) (contents after)) (length-map list.items string_bytes) files
+    ends_as_asked (text said n) work over files shown prefix well told =
         text_ends_so (string_bytes said) n (λ none. shown said (ap (text said) none)) (λ none. prefix said (ap (text said) none)) well told

@@ -1,8 +1,8 @@
 //! The work itself: sources by the paths, and the answer that the task asks for.
-ghost use Rattle.std.specs.Prelude.{◌≡◌, ◌≢◌, ◌↔◌, true, false, [], ◌∷◌, All, map, None, Some, IfErr, IfOk, IsErrOf, OnOk, string_bytes};
+ghost use Rattle.std.specs.Prelude.{◌≡◌, ◌≢◌, ◌↔◌, true, false, [], ◌∷◌, All, map, None, Some, IfErr, IfOk, IfSome, IsErrOf, OnOk, length, string_bytes};
 ghost use Rattle.std.specs.Io.KnownBytes.{Keeps};
-ghost use Rattle.epx_program.specs.Endings.{ComesTo};
-ghost use Rattle.epx_tool.specs.Runs.{AreBytesOf};
+ghost use Rattle.epx_program.specs.Endings.{ComesTo, IsAsked};
+ghost use Rattle.epx_tool.specs.Runs.{AddsAnswerTo, AreBytesOf};
 
 use epx_tool::{Ask, PathSource, Sink, Source, Task, run, show};
 use epx_types::{Fault, Plan};
@@ -25,6 +25,7 @@ fn answer<R: Threads + RandomSource + Sync, S: Source, W: Sink>(
 
     ensures answer { (logs : _) → AreBytesOf S.remaining sources.old logs →
         ComesTo task logs result (W.contents output.old) (W.contents output.new) }
+    ensures answered { OnOk result (AddsAnswerTo (IsAsked task) (length sources.old) (W.contents output.old) (W.contents output.new)) }
     ensures flushed { OnOk result (W.is_flushed output.new ≡ true) }
     ensures nothing { IfErr result (λ fault. fault ≢ Fault.Write → Keeps (W.contents output.old) (W.contents output.new)) }
     ensures written { IsErrOf result Fault.Write ↔ (W.has_failed output.new ≡ true) }
@@ -68,6 +69,8 @@ pub(crate) fn work<R: Files + Threads + RandomSource + Sync, I: Source + Drop, W
 
     ensures input { (bytes : _) → paths ≡ None → I.remaining input ≡ Some bytes →
         ComesTo task (bytes ∷ []) result (W.contents output.old) (W.contents output.new) }
+    ensures paths { IfSome paths (λ list. OnOk result
+        (AddsAnswerTo (IsAsked task) (length list.items) (W.contents output.old) (W.contents output.new))) }
     ensures flushed { OnOk result (W.is_flushed output.new ≡ true) }
     ensures nothing { IfErr result (λ fault. fault ≢ Fault.Write → Keeps (W.contents output.old) (W.contents output.new)) }
     ensures written { IsErrOf result Fault.Write ↔ (W.has_failed output.new ≡ true) }

@@ -138,6 +138,10 @@ module _ {S : Type 0} (remaining : S → Option (List ℕ)) (has_failed : S → 
       λ k bytes there. subst (λ b. length b ≤ max_log_bytes) (get_or_from_slice_get read k bytes bytes there) (h.short k bytes (slice_get_within read k bytes there)),
     )
 
+    -- one for each source
+    pub each_read : length first ≤ n → length read ≡ length first
+    each_read all = omega (arith, all, h.count, h.within)
+
     -- and their sources are at their ends
     pub all_ended : length first ≤ n → All (λ s. IsAtEnd (remaining s)) now
     all_ended all = subst (All (λ s. IsAtEnd (remaining s))) (take_all n now (omega (arith, all, h.as_many))) h.ended

@@ -6,7 +6,7 @@ ghost use Rattle.epx_merge.specs.Refusals.{Fits};
 ghost use Rattle.epx_tool.specs.Answer.{Answers};
 ghost use Rattle.epx_tool.specs.Report.{IsReport};
 ghost use Rattle.epx_tool.specs.Views.{IsViewed};
-ghost use Rattle.epx_tool.specs.Runs.{AreBytesOf, IsReadingRefusal, IsRunFault};
+ghost use Rattle.epx_tool.specs.Runs.{AddsAnswerTo, AreBytesOf, IsReadingRefusal, IsRunFault};
 ghost use Rattle.epx_tool.specs.Sources.{EachConsumesUpTo, StopsAt};
 ghost use Rattle.epx_devices.specs.Transfers.{AppendsPrefix};
 
@@ -23,6 +23,7 @@ use std::thread::Threads;
 fn read_sources<S: Source>(alloc: Global, sources: &mut [S]) -> Result<Vec<Vec<u8>>, Fault>
     requires { All (λ s. S.has_failed s ≡ false) sources.old }
     ensures bytes { IfOk result (λ v. (logs : _) → AreBytesOf S.remaining sources.old logs → map (λ log. log.items) v.items ≡ logs) }
+    ensures each { IfOk result (λ v. length v.items ≡ length sources.old) }
     ensures refusal { IfErr result (λ fault. (logs : _) → AreBytesOf S.remaining sources.old logs → IsReadingRefusal logs fault) }
     ensures nothing_written { ¬ IsErrOf result Fault.Write }
     ensures failed { (log : _) (source : _) → slice_get sources.new log ≡ Some source → IsErrOf result (Fault.Read log) ↔ (S.has_failed source ≡ true) }
@@ -64,6 +65,7 @@ pub fn run<T: Threads + RandomSource + Sync, S: Source, W: Sink>(
 
     ensures text { OnOk result ((logs : _) → AreBytesOf S.remaining sources.old logs →
         (text : _) × Answers IsReport logs (Ok text) × Appends (W.contents sink.old) (W.contents sink.new) text) }
+    ensures answered { OnOk result (AddsAnswerTo IsReport (length sources.old) (W.contents sink.old) (W.contents sink.new)) }
     ensures flushed { OnOk result (W.is_flushed sink.new ≡ true) }
 
     ensures refusal { IfErr result (λ fault. (logs : _) → AreBytesOf S.remaining sources.old logs → IsRunFault IsReport logs fault) }
@@ -105,6 +107,7 @@ pub fn show<T: Threads + RandomSource + Sync, S: Source, W: Sink>(
 
     ensures text { OnOk result ((logs : _) → AreBytesOf S.remaining sources.old logs →
         (text : _) × Answers (IsViewed ask) logs (Ok text) × Appends (W.contents sink.old) (W.contents sink.new) text) }
+    ensures answered { OnOk result (AddsAnswerTo (IsViewed ask) (length sources.old) (W.contents sink.old) (W.contents sink.new)) }
     ensures flushed { OnOk result (W.is_flushed sink.new ≡ true) }
 
     ensures refusal { IfErr result (λ fault. (logs : _) → AreBytesOf S.remaining sources.old logs → IsRunFault (IsViewed ask) logs fault) }

@@ -18,7 +18,7 @@ returns-clause-asked g c texts taken = rw c.from.ensures (elim c.match-asked.bra
       rw (w.status-is, w.output-is) (inr (
         w.in-Ok.words,
         w.in-Ok.ensures.asked texts taken,
-        ends_as_asked g.W.Sink.contents _ _ (g.I.Source.remaining c.args.input) _ _ w.in-Ok.words said.work said.input said.shown said.prefix said.text said.told,
+        ends_as_asked g.W.Sink.contents _ _ (g.I.Source.remaining c.args.input) _ _ w.in-Ok.words said.work said.input said.paths said.shown said.prefix said.text said.told,
       ))
   | in-Err w ↦ rw (w.status-is, w.end-status.ensures) (inl refl)
 ])

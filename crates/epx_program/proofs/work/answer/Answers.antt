@@ -10,3 +10,12 @@ returns-in-Order-clause-answer g c = rw c.in-Order.is (comes-to g.S.Source.remai
 
 pub returns-in-Levels-clause-answer : goal.returns-in-Levels-clause-answer
 returns-in-Levels-clause-answer g c = rw c.in-Levels.is (comes-to g.S.Source.remaining c.args.sources.now Levels c.show-in-Levels.result (g.W.Sink.contents c.args.output.now) (g.W.Sink.contents c.show-in-Levels.new.sink) c.show-in-Levels.ensures.text c.show-in-Levels.ensures.refusal)
+
+pub returns-in-Run-clause-answered : goal.returns-in-Run-clause-answered
+returns-in-Run-clause-answered g c = rw c.in-Run.is c.run.ensures.answered
+
+pub returns-in-Order-clause-answered : goal.returns-in-Order-clause-answered
+returns-in-Order-clause-answered g c = rw c.in-Order.is c.show.ensures.answered
+
+pub returns-in-Levels-clause-answered : goal.returns-in-Levels-clause-answered
+returns-in-Levels-clause-answered g c = rw c.in-Levels.is c.show-in-Levels.ensures.answered

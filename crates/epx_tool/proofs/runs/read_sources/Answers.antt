@@ -1,7 +1,7 @@
 use Rattle.std.proofs.Common.{refl, map, ap, ◌∙◌, sym, subst}
-use Rattle.std.proofs.lemmas.List.{map-append}
+use Rattle.std.proofs.lemmas.List.{length-map, map-append}
 use Rattle.epx_tool.proofs.SourcesTaken.{none_consumed}
-use Rattle.epx_tool.proofs.SourcesRead.{HaveBeenRead, none_read, read_well, read_one_more, reading_refusal, taken_further, all_fit, all_ended, none_failed, none_failed_after, one_failed}
+use Rattle.epx_tool.proofs.SourcesRead.{HaveBeenRead, none_read, read_well, read_one_more, reading_refusal, taken_further, all_fit, each_read, all_ended, none_failed, none_failed_after, one_failed}
 use Rattle.epx_tool.proofs.runs.read_sources.Goals as goal
 
 pub returns-in-Err-clause-refusal : goal.returns-in-Err-clause-refusal
@@ -52,6 +52,10 @@ returns-in_default-clause-failed g c k source there =
 
 pub returns-clause-fit : goal.returns-clause-fit
 returns-clause-fit g c = all_fit g.S.Source.remaining g.S.Source.has_failed _ _ _ _ c.loop-log.invariant c.loop-log-test.false c.if-sources-gt-MAX_LOGS.false
+
+pub returns-clause-each : goal.returns-clause-each
+returns-clause-each g c =
+    sym (length-map c.loop-log.logs.items (λ log. log.items)) ∙ each_read g.S.Source.remaining g.S.Source.has_failed _ _ _ _ c.loop-log.invariant c.loop-log-test.false
 
 pub returns-clause-ended : goal.returns-clause-ended
 returns-clause-ended g c = all_ended g.S.Source.remaining g.S.Source.has_failed _ _ _ _ c.loop-log.invariant c.loop-log-test.false
