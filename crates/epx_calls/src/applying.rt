@@ -7,6 +7,7 @@ use epx_claims::{FreeGate, Gate};
 use epx_types::{Command, Memory, Op, Plan, Reply};
 use std::alloc::Global;
 use std::process::Abort;
+use std::random::RandomSource;
 use std::test::Fail;
 use std::thread::Threads;
 
@@ -83,7 +84,7 @@ fn are_replies(rt: &impl Abort, replies: &[Reply], wanted: &[Wanted]) {
 
 /// By this plan and gate the commands give these replies, and the opening store becomes this one. On want of
 /// memory the store must be the opening one.
-fn run_by<R: Threads + Sync + Abort, G: Gate + Sync>(
+fn run_by<R: Threads + RandomSource + Sync + Abort, G: Gate + Sync>(
     rt: &R,
     alloc: Global,
     plan: Plan,
@@ -108,7 +109,7 @@ fn run_by<R: Threads + Sync + Abort, G: Gate + Sync>(
 }
 
 /// The same by several plans, with the commands as text.
-fn run<R: Threads + Sync + Abort>(
+fn run<R: Threads + RandomSource + Sync + Abort>(
     rt: &R,
     alloc: Global,
     opening: &[(&str, i64)],
@@ -210,7 +211,7 @@ fn two_levels_of_four_commands(rt: HostRuntime) -> Result<(), Fail> {
 const FOUR_PUTS: [&str; 4] = ["put a 1", "put b 2", "put c 3", "put d 4"];
 
 /// Two workers apply the commands, while the piece of one waits until the others were entered.
-fn apply_while_one_waits<R: Threads + Sync + Abort>(
+fn apply_while_one_waits<R: Threads + RandomSource + Sync + Abort>(
     rt: &R,
     alloc: Global,
     commands: &[Command],

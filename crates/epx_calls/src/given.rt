@@ -4,6 +4,7 @@ use epx_merge::{Merged, read_logs};
 use epx_types::{Fault, Id, Key, Memory, Plan};
 use std::alloc::{AllocError, Global};
 use std::process::Abort;
+use std::random::RandomSource;
 use std::test::Fail;
 use std::thread::Threads;
 
@@ -59,7 +60,7 @@ pub(crate) fn accepted(read: Result<Merged, Fault>) -> Result<Merged, Fail> {
 }
 
 /// What the logs commit; they must be accepted.
-pub(crate) fn merged_of<R: Abort + Threads + Sync>(
+pub(crate) fn merged_of<R: Abort + Threads + RandomSource + Sync>(
     rt: &R,
     alloc: Global,
     logs: &[Vec<u8>],

@@ -4,6 +4,7 @@ use epx_graph::{Graph, Waiter, build, waiting};
 use epx_types::Id;
 use std::alloc::Global;
 use std::process::Abort;
+use std::random::RandomSource;
 use std::test::Fail;
 use std::thread::Threads;
 
@@ -12,7 +13,7 @@ fn waiter(of: Id, missing: Id) -> Waiter {
 }
 
 /// The graph of logs of these texts.
-fn graph_of_texts<R: Abort + Threads + Sync>(
+fn graph_of_texts<R: Abort + Threads + RandomSource + Sync>(
     rt: &R,
     alloc: Global,
     texts: &[&str],

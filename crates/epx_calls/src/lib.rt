@@ -25,6 +25,8 @@ mod merging;
 #[cfg(test)]
 mod orders;
 #[cfg(test)]
+mod seeds;
+#[cfg(test)]
 mod vocabulary;
 #[cfg(test)]
 mod words;

@@ -6,6 +6,7 @@ use epx_merge::{Merged, read_logs};
 use epx_types::{Fault, Id, Place, Plan, Why};
 use std::alloc::Global;
 use std::process::Abort;
+use std::random::RandomSource;
 use std::test::Fail;
 use std::thread::Threads;
 
@@ -49,7 +50,7 @@ fn place(log: usize, line: usize) -> Place {
 }
 
 /// The logs are refused with this fault.
-fn refuses<R: Abort + Threads + Sync>(
+fn refuses<R: Abort + Threads + RandomSource + Sync>(
     rt: &R,
     alloc: Global,
     logs: &[Vec<u8>],
@@ -64,7 +65,7 @@ fn refuses<R: Abort + Threads + Sync>(
 }
 
 /// Logs of these texts disagree on this instance at these places.
-fn disagree<R: Abort + Threads + Sync>(
+fn disagree<R: Abort + Threads + RandomSource + Sync>(
     rt: &R,
     alloc: Global,
     texts: &[&str],
@@ -149,7 +150,7 @@ fn the_second_line_is_the_first_that_differs(rt: HostRuntime) -> Result<(), Fail
 }
 
 /// By this plan the logs commit so many instances, or are refused so.
-fn comes_to<R: Abort + Threads + Sync>(
+fn comes_to<R: Abort + Threads + RandomSource + Sync>(
     rt: &R,
     alloc: Global,
     logs: &[Vec<u8>],
@@ -165,7 +166,7 @@ fn comes_to<R: Abort + Threads + Sync>(
 }
 
 /// The same of logs of these texts, by any plan.
-fn come_to<R: Abort + Threads + Sync>(
+fn come_to<R: Abort + Threads + RandomSource + Sync>(
     rt: &R,
     alloc: Global,
     texts: &[&str],
@@ -229,7 +230,7 @@ fn a_repeat_leaves_the_places_of_a_disagreement(rt: HostRuntime) -> Result<(), F
 }
 
 /// Two workers read four lines, while the piece of one waits until the others were entered.
-fn reads_while_one_waits<R: Abort + Threads + Sync>(
+fn reads_while_one_waits<R: Abort + Threads + RandomSource + Sync>(
     rt: &R,
     alloc: Global,
     waiter: usize,

@@ -9,11 +9,12 @@ use epx_order::{OrderList, components, order};
 use epx_types::{Id, Memory};
 use std::alloc::Global;
 use std::process::Abort;
+use std::random::RandomSource;
 use std::test::Fail;
 use std::thread::Threads;
 
 /// The map of a log and its graph.
-fn read<R: Abort + Threads + Sync>(
+fn read<R: Abort + Threads + RandomSource + Sync>(
     rt: &R,
     alloc: Global,
     log: Vec<u8>,
@@ -70,7 +71,7 @@ fn leaders(alloc: Global, graph: &Graph) -> Result<Vec<usize>, Memory> {
 }
 
 /// The log has nodes with these leaders, and so many components in an order of these rows.
-fn log_stands<R: Abort + Threads + Sync>(
+fn log_stands<R: Abort + Threads + RandomSource + Sync>(
     rt: &R,
     alloc: Global,
     log: Vec<u8>,
@@ -101,7 +102,7 @@ fn deps_of(alloc: Global, numbers: &[u64]) -> Result<String, Memory> {
 }
 
 /// The same of instances 0.0, 0.1 and so on, by the numbers of those that each depends on.
-fn stand<R: Abort + Threads + Sync>(
+fn stand<R: Abort + Threads + RandomSource + Sync>(
     rt: &R,
     alloc: Global,
     edges: &[&[u64]],

@@ -7,6 +7,7 @@ use epx_types::{Fault, Place, Why};
 use std::alloc::{AllocError, Global};
 use std::io::{self, Read};
 use std::process::Abort;
+use std::random::RandomSource;
 use std::test::Fail;
 use std::thread::Threads;
 
@@ -21,7 +22,7 @@ fn ended(outcome: Result<(), Fault>) -> Ended {
 }
 
 /// A run from one source to a sink.
-fn run_one<R: Abort + Threads + Sync, W: Sink>(
+fn run_one<R: Abort + Threads + RandomSource + Sync, W: Sink>(
     rt: &R,
     alloc: Global,
     source: FuseSource,
@@ -157,7 +158,7 @@ fn truncated_line(rt: HostRuntime) -> Result<(), Fail> {
 }
 
 /// The run fails where the source does, after this many bytes, and writes nothing.
-fn fails_with_its_source<R: Abort + Threads + Sync>(
+fn fails_with_its_source<R: Abort + Threads + RandomSource + Sync>(
     rt: &R,
     alloc: Global,
     bytes: usize,
@@ -182,7 +183,7 @@ fn a_source_that_fails_after_any_byte(rt: HostRuntime) -> Result<(), Fail> {
 }
 
 /// The run fails where the sink does, after this many bytes, which are a prefix of the report.
-fn fails_with_its_sink<R: Abort + Threads + Sync>(
+fn fails_with_its_sink<R: Abort + Threads + RandomSource + Sync>(
     rt: &R,
     alloc: Global,
     bytes: usize,
@@ -216,7 +217,11 @@ fn one_byte_a_call(rt: HostRuntime) -> Result<(), Fail> {
 }
 
 /// A run over one source of so many spaces.
-fn run_spaces<R: Abort + Threads + Sync>(rt: &R, alloc: Global, count: u64) -> Ended {
+fn run_spaces<R: Abort + Threads + RandomSource + Sync>(
+    rt: &R,
+    alloc: Global,
+    count: u64,
+) -> Ended {
     let mut sources = [StdSource::new(io::repeat(b' ').take(count))];
     let mut sink = MemorySink::new(alloc);
     let done = ended(run(rt, alloc, &mut sources, plan(rt), &mut sink))?;

@@ -4,6 +4,7 @@ use epx_tool::{Ask, answer, view};
 use epx_types::{Fault, Plan};
 use std::alloc::{AllocError, Global};
 use std::process::Abort;
+use std::random::RandomSource;
 use std::test::Fail;
 use std::thread::Threads;
 
@@ -60,7 +61,7 @@ fn told(rt: &impl Abort, alloc: Global, answer: Result<Vec<u8>, Fault>) -> Resul
 }
 
 /// The report of the logs, or the text of their fault.
-pub(crate) fn answered<R: Abort + Threads + Sync>(
+pub(crate) fn answered<R: Abort + Threads + RandomSource + Sync>(
     rt: &R,
     alloc: Global,
     logs: &[Vec<u8>],
@@ -69,7 +70,7 @@ pub(crate) fn answered<R: Abort + Threads + Sync>(
 }
 
 /// The execution order of the logs, or the text of their fault.
-pub(crate) fn ordered<R: Abort + Threads + Sync>(
+pub(crate) fn ordered<R: Abort + Threads + RandomSource + Sync>(
     rt: &R,
     alloc: Global,
     logs: &[Vec<u8>],
@@ -78,7 +79,7 @@ pub(crate) fn ordered<R: Abort + Threads + Sync>(
 }
 
 /// The conflict levels of one log of these instances are the wanted text, by any of these plans.
-pub(crate) fn levels_by<R: Abort + Threads + Sync>(
+pub(crate) fn levels_by<R: Abort + Threads + RandomSource + Sync>(
     rt: &R,
     alloc: Global,
     instances: &[Given],
@@ -95,7 +96,7 @@ pub(crate) fn levels_by<R: Abort + Threads + Sync>(
 }
 
 /// The answer to these logs, by any of these plans, is the wanted text.
-pub(crate) fn logs_give_by<R: Abort + Threads + Sync>(
+pub(crate) fn logs_give_by<R: Abort + Threads + RandomSource + Sync>(
     rt: &R,
     alloc: Global,
     logs: &[Vec<u8>],
@@ -111,7 +112,7 @@ pub(crate) fn logs_give_by<R: Abort + Threads + Sync>(
 }
 
 /// The answer to these logs is the wanted text.
-pub(crate) fn logs_give<R: Abort + Threads + Sync>(
+pub(crate) fn logs_give<R: Abort + Threads + RandomSource + Sync>(
     rt: &R,
     alloc: Global,
     logs: &[Vec<u8>],
@@ -123,7 +124,7 @@ pub(crate) fn logs_give<R: Abort + Threads + Sync>(
 }
 
 /// The answer to one log of these instances is the wanted text.
-pub(crate) fn gives<R: Abort + Threads + Sync>(
+pub(crate) fn gives<R: Abort + Threads + RandomSource + Sync>(
     rt: &R,
     alloc: Global,
     instances: &[Given],
@@ -133,7 +134,7 @@ pub(crate) fn gives<R: Abort + Threads + Sync>(
 }
 
 /// The answer to one log of this text is the wanted text.
-pub(crate) fn text_gives<R: Abort + Threads + Sync>(
+pub(crate) fn text_gives<R: Abort + Threads + RandomSource + Sync>(
     rt: &R,
     alloc: Global,
     text: &str,

@@ -2,6 +2,7 @@
 use crate::given::{add_line, gives, log_of, logs_give, logs_give_by, ordered};
 use std::alloc::{AllocError, Global};
 use std::process::Abort;
+use std::random::RandomSource;
 use std::test::Fail;
 use std::thread::Threads;
 
@@ -174,7 +175,7 @@ fn chain(alloc: Global, first: &str) -> Result<Vec<u8>, AllocError> {
 }
 
 /// The execution order of one log has these first and last lines.
-fn orders_from_to<R: Abort + Threads + Sync>(
+fn orders_from_to<R: Abort + Threads + RandomSource + Sync>(
     rt: &R,
     alloc: Global,
     log: Vec<u8>,

@@ -2,6 +2,7 @@
 use crate::given::{LEAST, LEAST_REPORT, NOTHING, gives, text_gives};
 use std::alloc::{AllocError, Global};
 use std::process::Abort;
+use std::random::RandomSource;
 use std::test::Fail;
 use std::thread::Threads;
 
@@ -32,7 +33,7 @@ fn truncated_line(rt: HostRuntime) -> Result<(), Fail> {
 }
 
 /// The answer to the line of the least whole path with this text as its sequence number.
-fn seq_gives<R: Abort + Threads + Sync>(
+fn seq_gives<R: Abort + Threads + RandomSource + Sync>(
     rt: &R,
     alloc: Global,
     seq: &str,
@@ -81,7 +82,7 @@ fn line_length_where_it_is_blank(rt: HostRuntime) -> Result<(), Fail> {
 }
 
 /// The answer to an instance that reads a key of this many letters.
-fn key_gives<R: Abort + Threads + Sync>(
+fn key_gives<R: Abort + Threads + RandomSource + Sync>(
     rt: &R,
     alloc: Global,
     letters: usize,

@@ -2,6 +2,7 @@
 use crate::given::{add_line, answered, gives, log_of, logs_give};
 use std::alloc::{AllocError, Global};
 use std::process::Abort;
+use std::random::RandomSource;
 use std::test::Fail;
 use std::thread::Threads;
 
@@ -41,7 +42,7 @@ fn dependency_sets_agree(rt: HostRuntime) -> Result<(), Fail> {
 }
 
 /// The answer to an instance that names this many dependencies, all the same one.
-fn dependencies_give<R: Abort + Threads + Sync>(
+fn dependencies_give<R: Abort + Threads + RandomSource + Sync>(
     rt: &R,
     alloc: Global,
     count: usize,
