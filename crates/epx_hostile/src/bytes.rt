@@ -1,0 +1,104 @@
+//! Logs of bytes that nobody meant as a log.
+use crate::given::{LEAST, LEAST_REPORT, NOTHING, Wanted, bad, repeated, reports};
+use epx_types::Why;
+use std::alloc::AllocGlobal;
+use std::process::Abort;
+use std::random::RandomSource;
+use std::test::Fail;
+use std::thread::Threads;
+
+#[test]
+fn each_prefix_of_a_line(rt: HostRuntime) -> Result<(), Fail> {
+    let line = LEAST.as_bytes();
+    assert!(rt; reports(&rt, &[], &[], Ok(NOTHING))?);
+    for end in 1..line.len() {
+        assert!(rt;
+            reports(&rt, &line[..end], &[], bad(Why::NotJson))?,
+            "{end} bytes"
+        );
+    }
+    assert!(rt; reports(&rt, line, &[], Ok(LEAST_REPORT))?);
+    Ok(())
+}
+
+/// Each is no JSON: bytes that are not UTF-8 (a byte that none has, a second byte first, a NUL in two bytes, half of
+/// a pair of UTF-16, more than U+10FFFF, a character that is cut off), a NUL, and escapes that name no character.
+const NO_JSON: [&[u8]; 9] = [
+    b"\xff",
+    b"{\"x\":\"\x80\"}",
+    b"{\"x\":\"\xc0\x80\"}",
+    b"{\"x\":\"\xed\xa0\x80\"}",
+    b"{\"x\":\"\xf4\x90\x80\x80\"}",
+    b"{\"x\":\"\xe2\x82\"}",
+    b"{\"x\":\"\x00\"}",
+    b"{\"x\":\"\\ud800\"}",
+    b"{\"x\":\"\\u12\"}",
+];
+
+#[test]
+fn bytes_that_are_no_json(rt: HostRuntime) -> Result<(), Fail> {
+    for (place, line) in NO_JSON.iter().enumerate() {
+        assert!(rt; reports(&rt, line, &[], bad(Why::NotJson))?, "line {place}");
+    }
+    Ok(())
+}
+
+#[test]
+fn a_good_line_among_bytes_that_spoil_it(rt: HostRuntime) -> Result<(), Fail> {
+    for (before, after) in [
+        ("\u{feff}", ""),
+        ("", " x"),
+        ("", "\0"),
+        (",", ""),
+        ("\u{a0}", ""),
+    ] {
+        let line = format!(in rt.alloc(); "{before}{LEAST}{after}")?;
+        assert!(rt; reports(&rt, line.as_bytes(), &[], bad(Why::NotJson))?);
+    }
+    Ok(())
+}
+
+/// Whether so many nested arrays between these texts come to this.
+fn nested<R: AllocGlobal + Threads + RandomSource + Sync>(
+    rt: &R,
+    before: &str,
+    depth: usize,
+    after: &str,
+    wanted: Wanted,
+) -> Result<bool, Fail> {
+    let open = repeated(rt.alloc(), "[", depth)?;
+    let close = repeated(rt.alloc(), "]", depth)?;
+    let line = format!(in rt.alloc(); "{before}{open}{close}{after}")?;
+    reports(rt, line.as_bytes(), &[], wanted)
+}
+
+#[test]
+fn nesting(rt: HostRuntime) -> Result<(), Fail> {
+    let before = r#"{"r":0,"i":0,"seq":1,"deps":[],"ops":[["put","a",5],["get","a"]],"x":"#;
+    let cases: [(&str, usize, &str, Wanted); 5] = [
+        ("", 127, "", bad(Why::NotObject)),
+        ("", 128, "", bad(Why::NotJson)),
+        ("", 32_768, "", bad(Why::NotJson)),
+        (before, 126, "}", Ok(LEAST_REPORT)),
+        (before, 127, "}", bad(Why::NotJson)),
+    ];
+    for (before, depth, after, wanted) in cases {
+        assert!(rt;
+            nested(&rt, before, depth, after, wanted)?,
+            "{depth} arrays"
+        );
+    }
+    Ok(())
+}
+
+#[test]
+fn a_line_that_only_opens(rt: HostRuntime) -> Result<(), Fail> {
+    for piece in ["[", "{\"x\":", "[[{\"x\":", "\"", "-", "1"] {
+        let line = repeated(rt.alloc(), piece, 65_536 / piece.len())?;
+        assert!(rt;
+            reports(&rt, line.as_bytes(), &[], bad(Why::NotJson))?,
+            "{piece}"
+        );
+    }
+    Ok(())
+}

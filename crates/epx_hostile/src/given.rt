@@ -1,0 +1,93 @@
+//! Runs over two logs, and whether what came of them is right.
+use epx_tool::{Ask, MemorySink, MemorySource, run, show};
+use epx_types::{Fault, Place, Plan, Why};
+use std::alloc::{AllocGlobal, Global};
+use std::random::RandomSource;
+use std::test::Fail;
+use std::thread::Threads;
+
+/// The line of the least whole path.
+pub(crate) const LEAST: &str =
+    r#"{"r":0,"i":0,"seq":1,"deps":[],"ops":[["put","a",5],["get","a"]]}"#;
+
+/// The report of that line.
+pub(crate) const LEAST_REPORT: &str = r#"["executed",1,"waiting",0,"components",1]
+["reply",0,0,"ok",[5]]
+["store","a",5]
+"#;
+
+/// The execution order of that line.
+pub(crate) const LEAST_ORDER: &str = r#"["executed",1,"waiting",0,"components",1]
+["order",0,0,0,0,0]
+"#;
+
+/// The report where nothing is executed and nothing waits.
+pub(crate) const NOTHING: &str = "[\"executed\",0,\"waiting\",0,\"components\",0]\n";
+
+/// What must come of a run: a text, whole, or a fault, with nothing written.
+pub(crate) type Wanted<'a> = Result<&'a str, Fault>;
+
+/// A bad first line of the first log.
+pub(crate) fn bad(why: Why) -> Wanted<'static> {
+    let place = Place { log: 0, line: 1 };
+    Err(Fault::BadLine { place, why })
+}
+
+/// Two workers that draw items one by one.
+pub(crate) fn plan() -> Result<Plan, Fail> {
+    Ok(Plan::new(2, 1).ok_or("a plan")?)
+}
+
+/// Whether what was wanted has come. Want of memory ends the test: with nothing written, or, where it was the sink
+/// in memory that could not grow, with a failed write and a part of the text.
+pub(crate) fn is_right(
+    outcome: Result<(), Fault>,
+    held: &[u8],
+    wanted: Wanted,
+) -> Result<bool, Fail> {
+    match (outcome, wanted) {
+        (Ok(()), Ok(text)) => Ok(held == text.as_bytes()),
+        (Err(Fault::Memory), _) if held.is_empty() => Err(Fail::from("want of memory")),
+        (Err(Fault::Write), Ok(text)) if text.as_bytes().starts_with(held) => {
+            Err(Fail::from("want of memory in the sink"))
+        }
+        (Err(fault), Err(wanted)) => Ok(fault == wanted && held.is_empty()),
+        _ => Ok(false),
+    }
+}
+
+/// Whether the report of these two logs is the wanted one.
+pub(crate) fn reports<R: AllocGlobal + Threads + RandomSource + Sync>(
+    rt: &R,
+    first: &[u8],
+    second: &[u8],
+    wanted: Wanted,
+) -> Result<bool, Fail> {
+    let mut sources = [MemorySource::new(first), MemorySource::new(second)];
+    let mut sink = MemorySink::new(rt.alloc());
+    let outcome = run(rt, rt.alloc(), &mut sources, plan()?, &mut sink);
+    is_right(outcome, sink.bytes(), wanted)
+}
+
+/// Whether the order or the levels of these two logs are the wanted ones.
+pub(crate) fn shows<R: AllocGlobal + Threads + RandomSource + Sync>(
+    rt: &R,
+    ask: Ask,
+    first: &[u8],
+    second: &[u8],
+    wanted: Wanted,
+) -> Result<bool, Fail> {
+    let mut sources = [MemorySource::new(first), MemorySource::new(second)];
+    let mut sink = MemorySink::new(rt.alloc());
+    let outcome = show(rt, rt.alloc(), ask, &mut sources, plan()?, &mut sink);
+    is_right(outcome, sink.bytes(), wanted)
+}
+
+/// A text so many times.
+pub(crate) fn repeated(alloc: Global, text: &str, count: usize) -> Result<String, Fail> {
+    let mut all = String::new(alloc);
+    for _ in 0..count {
+        all.push_str(text)?;
+    }
+    Ok(all)
+}
