@@ -1,7 +1,7 @@
 -- What a ledger of the lines of whole logs answers is the answer to the logs, and so is what stops their reading.
 use Rattle.std.proofs.Common.{List, Result, Ok, Err, MatchResult, ℕ}
 use Rattle.epx_types.specs.declared.fault.Fault.{Fault}
-use Rattle.epx_types.specs.declared.fault.Fault.TheVariants.{Memory, TooManyLogs, LogTooLong, BadLine, TooManyInstances, Disagree, Read, Write}
+use Rattle.epx_types.specs.declared.fault.Fault.TheVariants.{Memory, TooManyLogs, LogTooLong, BadLine, TooManyInstances, Disagree, Read, Write, BadBase}
 use Rattle.epx_types.specs.Instances.{Instance}
 use Rattle.epx_merge.specs.LogLines.{placed_of, spoilt_of}
 use Rattle.epx_merge.specs.Refusals.{Fits, IsWhole, IsRefusal}
@@ -17,6 +17,7 @@ refused logs whole TooManyInstances h = (whole, h)
 refused logs whole (Disagree id first second) h = (whole, h.0, h.1)
 refused logs whole (Read log) h = absurd h
 refused logs whole Write h = absurd h
+refused logs whole (BadBase line) h = absurd h
 
 pub accepted : (logs : List (List ℕ)) → IsWhole logs → (m : List Instance) → IsMerged (placed_of logs) m → IsAccepted logs m
 accepted logs whole m h = record { whole = whole; small = h.small; agree = h.agree; committed = h.committed }
@@ -35,3 +36,4 @@ unread logs fits TooManyInstances h = absurd h
 unread logs fits (Disagree id first second) h = absurd h
 unread logs fits (Read log) h = absurd h
 unread logs fits Write h = absurd h
+unread logs fits (BadBase line) h = absurd h

@@ -2,7 +2,7 @@
 use Rattle.std.proofs.Common.{◌≡◌, ◌≢◌, inl, inr, ◌≤◌, ◌+◌, List, [], ◌∷◌, ◌++◌, length, Contains, Result, Ok, Err, refl, sym, ap, subst, ◌∙◌, append_assoc, append-nil, length-append, arith}
 use Rattle.std.proofs.lemmas.List.Elements.{Contains-append_left, Contains-append_cases, Contains-append_right}
 use Rattle.epx_types.specs.declared.fault.Fault.{Fault}
-use Rattle.epx_types.specs.declared.fault.Fault.TheVariants.{Memory, TooManyLogs, LogTooLong, BadLine, TooManyInstances, Disagree, Read, Write}
+use Rattle.epx_types.specs.declared.fault.Fault.TheVariants.{Memory, TooManyLogs, LogTooLong, BadLine, TooManyInstances, Disagree, Read, Write, BadBase}
 use Rattle.epx_types.specs.declared.fault.Why.{Why}
 use Rattle.epx_types.specs.declared.place.Place.{Place}
 use Rattle.epx_types.specs.PlacedLines.{Placed}
@@ -124,6 +124,7 @@ fault_ahead (y ∷ a) b c x has TooManyInstances h = h
 fault_ahead (y ∷ a) b c x has (Disagree id first second) h = h
 fault_ahead (y ∷ a) b c x has (Read log) h = h
 fault_ahead (y ∷ a) b c x has Write h = h
+fault_ahead (y ∷ a) b c x has (BadBase line) h = h
 
 not_clean : (a b : List Spoilt) (x : Spoilt) → Contains a x → ¬ (a ++ b ≡ [])
 not_clean [] b x has none = Contains-nil x has

@@ -3,7 +3,7 @@ use Rattle.std.proofs.Common.{◌≡◌, ◌≢◌, ℕ, ◌<◌, List, ◌∷�
 use Rattle.epx_types.specs.declared.id.Id.{Id}
 use Rattle.epx_types.specs.declared.place.Place.{Place}
 use Rattle.epx_types.specs.declared.fault.Fault.{Fault}
-use Rattle.epx_types.specs.declared.fault.Fault.TheVariants.{Memory, TooManyLogs, LogTooLong, BadLine, TooManyInstances, Disagree, Read, Write}
+use Rattle.epx_types.specs.declared.fault.Fault.TheVariants.{Memory, TooManyLogs, LogTooLong, BadLine, TooManyInstances, Disagree, Read, Write, BadBase}
 use Rattle.epx_types.specs.declared.fault.Why.{Why}
 use Rattle.epx_types.specs.Ids.{Below}
 use Rattle.epx_types.specs.Instances.{Instance}
@@ -46,6 +46,7 @@ accepted_not_refused logs m TooManyInstances a r = absurd (not_small_and_large (
 accepted_not_refused logs m (Disagree id first second) a r = let d = r.2.2 in absurd (d.differ.1 (a.agree r.2.0 r.2.1 d.has_first d.has_second d.differ.0))
 accepted_not_refused logs m (Read log) a r = absurd r
 accepted_not_refused logs m Write a r = absurd r
+accepted_not_refused logs m (BadBase line) a r = absurd r
 
 -- ---- one refusal
 
@@ -60,7 +61,7 @@ same_disagreement logs x y p q r s a b =
 not_shorter : (logs : List (List ℕ)) (j k : ℕ) → IsFirstTooLong logs j → IsFirstTooLong logs k → ¬ j < k
 not_shorter logs j k a b lt = omega (arith, b.first j a.long.0 lt a.long.1, a.long.2)
 
-same_long : (logs : List (List ℕ)) (j k : ℕ) → IsFirstTooLong logs j → IsFirstTooLong logs k → j ≡ k
+pub same_long : (logs : List (List ℕ)) (j k : ℕ) → IsFirstTooLong logs j → IsFirstTooLong logs k → j ≡ k
 same_long logs j k a b = omega (arith, not_shorter logs j k a b, not_shorter logs k j b a)
 
 first_is : (x y : Spoilt) (xs ys : List Spoilt) → x ∷ xs ≡ y ∷ ys → x ≡ y
@@ -74,9 +75,11 @@ pub refusal_unique : (logs : List (List ℕ)) (f g : Fault) → f ≢ Memory →
 refusal_unique logs Memory g nf ng a b = absurd (nf refl)
 refusal_unique logs (Read log) g nf ng a b = absurd a
 refusal_unique logs Write g nf ng a b = absurd a
+refusal_unique logs (BadBase line) g nf ng a b = absurd a
 refusal_unique logs TooManyLogs Memory nf ng a b = absurd (ng refl)
 refusal_unique logs TooManyLogs (Read log) nf ng a b = absurd b
 refusal_unique logs TooManyLogs Write nf ng a b = absurd b
+refusal_unique logs TooManyLogs (BadBase line) nf ng a b = absurd b
 refusal_unique logs TooManyLogs TooManyLogs nf ng a b = refl
 refusal_unique logs TooManyLogs (LogTooLong k) nf ng a b = absurd (omega (arith, a, b.0))
 refusal_unique logs TooManyLogs (BadLine n how) nf ng a b = absurd (omega (arith, a, b.0.0))
@@ -85,6 +88,7 @@ refusal_unique logs TooManyLogs (Disagree y r s) nf ng a b = absurd (omega (arit
 refusal_unique logs (LogTooLong j) Memory nf ng a b = absurd (ng refl)
 refusal_unique logs (LogTooLong j) (Read log) nf ng a b = absurd b
 refusal_unique logs (LogTooLong j) Write nf ng a b = absurd b
+refusal_unique logs (LogTooLong j) (BadBase line) nf ng a b = absurd b
 refusal_unique logs (LogTooLong j) TooManyLogs nf ng a b = absurd (omega (arith, b, a.0))
 refusal_unique logs (LogTooLong j) (LogTooLong k) nf ng a b = ap LogTooLong (same_long logs j k a.1 b.1)
 refusal_unique logs (LogTooLong j) (BadLine n how) nf ng a b = absurd (none_and_first_too_long logs j (b.0.1) a.1)
@@ -93,6 +97,7 @@ refusal_unique logs (LogTooLong j) (Disagree y r s) nf ng a b = absurd (none_and
 refusal_unique logs (BadLine m why) Memory nf ng a b = absurd (ng refl)
 refusal_unique logs (BadLine m why) (Read log) nf ng a b = absurd b
 refusal_unique logs (BadLine m why) Write nf ng a b = absurd b
+refusal_unique logs (BadLine m why) (BadBase line) nf ng a b = absurd b
 refusal_unique logs (BadLine m why) TooManyLogs nf ng a b = absurd (omega (arith, b, a.0.0))
 refusal_unique logs (BadLine m why) (LogTooLong k) nf ng a b = absurd (none_and_first_too_long logs k (a.0.1) b.1)
 refusal_unique logs (BadLine m why) (BadLine n how) nf ng a b = same_spoilt (spoilt_of logs) m n why how a.1 b.1
@@ -101,6 +106,7 @@ refusal_unique logs (BadLine m why) (Disagree y r s) nf ng a b = let some = a.1.
 refusal_unique logs TooManyInstances Memory nf ng a b = absurd (ng refl)
 refusal_unique logs TooManyInstances (Read log) nf ng a b = absurd b
 refusal_unique logs TooManyInstances Write nf ng a b = absurd b
+refusal_unique logs TooManyInstances (BadBase line) nf ng a b = absurd b
 refusal_unique logs TooManyInstances TooManyLogs nf ng a b = absurd (omega (arith, b, a.0.0.0))
 refusal_unique logs TooManyInstances (LogTooLong k) nf ng a b = absurd (none_and_first_too_long logs k (a.0.0.1) b.1)
 refusal_unique logs TooManyInstances (BadLine n how) nf ng a b = let some = b.1.1 in let none = a.0.1 in cc
@@ -109,6 +115,7 @@ refusal_unique logs TooManyInstances (Disagree y r s) nf ng a b = absurd (not_sm
 refusal_unique logs (Disagree x p q) Memory nf ng a b = absurd (ng refl)
 refusal_unique logs (Disagree x p q) (Read log) nf ng a b = absurd b
 refusal_unique logs (Disagree x p q) Write nf ng a b = absurd b
+refusal_unique logs (Disagree x p q) (BadBase line) nf ng a b = absurd b
 refusal_unique logs (Disagree x p q) TooManyLogs nf ng a b = absurd (omega (arith, b, a.0.0.0))
 refusal_unique logs (Disagree x p q) (LogTooLong k) nf ng a b = absurd (none_and_first_too_long logs k (a.0.0.1) b.1)
 refusal_unique logs (Disagree x p q) (BadLine n how) nf ng a b = let some = b.1.1 in let none = a.0.1 in cc

@@ -3,7 +3,7 @@ use Rattle.std.proofs.Common.{◌≡◌, ℕ, suc, ◌+◌, ◌<◌, List, [], �
 use Rattle.std.proofs.Math.Seq.{drop-cons}
 use Rattle.std.proofs.lemmas.Grind.{flat_map-append}
 use Rattle.epx_types.specs.declared.fault.Fault.{Fault}
-use Rattle.epx_types.specs.declared.fault.Fault.TheVariants.{Memory, TooManyLogs, LogTooLong, BadLine, TooManyInstances, Disagree, Read, Write}
+use Rattle.epx_types.specs.declared.fault.Fault.TheVariants.{Memory, TooManyLogs, LogTooLong, BadLine, TooManyInstances, Disagree, Read, Write, BadBase}
 use Rattle.epx_lines.specs.Lines.{lines_of}
 use Rattle.epx_merge.specs.LogLines.{MeaningAt, meaning_at, meanings_in, meanings_from, placed_at, placed_among, Spoilt, spoilt_at, spoilt_among}
 use Rattle.epx_merge.specs.Ledgers.{Noted, Notes}
@@ -26,6 +26,7 @@ fault_before xs ys TooManyInstances h = h
 fault_before xs ys (Disagree id first second) h = h
 fault_before xs ys (Read log) h = h
 fault_before xs ys Write h = h
+fault_before xs ys (BadBase line) h = h
 
 -- the lines read so far have no fault and are noted
 pub record Reads (lines : List MeaningAt) (old new : Noted) : Type 0 where

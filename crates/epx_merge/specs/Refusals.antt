@@ -3,7 +3,7 @@ use Rattle.std.specs.Prelude.{◌≡◌, ℕ, ◌<◌, ◌≤◌, List, [], ◌�
 use Rattle.epx_types.specs.declared.id.Id.{Id}
 use Rattle.epx_types.specs.declared.place.Place.{Place}
 use Rattle.epx_types.specs.declared.fault.Fault.{Fault}
-use Rattle.epx_types.specs.declared.fault.Fault.TheVariants.{Memory, TooManyLogs, LogTooLong, BadLine, TooManyInstances, Disagree, Read, Write}
+use Rattle.epx_types.specs.declared.fault.Fault.TheVariants.{Memory, TooManyLogs, LogTooLong, BadLine, TooManyInstances, Disagree, Read, Write, BadBase}
 use Rattle.epx_types.specs.declared.fault.Why.{Why}
 use Rattle.epx_types.specs.Ids.{IsRising}
 use Rattle.epx_types.specs.PlacedLines.{Placed}
@@ -66,3 +66,4 @@ IsRefusal logs TooManyInstances = IsWhole logs × IsLarge (placed_of logs)
 IsRefusal logs (Disagree id first second) = IsWhole logs × IsSmall (placed_of logs) × IsDisagreementAt (placed_of logs) id first second
 IsRefusal logs (Read log) = ⊥
 IsRefusal logs Write = ⊥
+IsRefusal logs (BadBase line) = ⊥

@@ -1,7 +1,7 @@
 -- What each step of reading logs finds, or why it goes no further.
 use Rattle.std.specs.Prelude.{List}
 use Rattle.epx_types.specs.declared.fault.Fault.{Fault}
-use Rattle.epx_types.specs.declared.fault.Fault.TheVariants.{Memory, TooManyLogs, LogTooLong, BadLine, TooManyInstances, Disagree, Read, Write}
+use Rattle.epx_types.specs.declared.fault.Fault.TheVariants.{Memory, TooManyLogs, LogTooLong, BadLine, TooManyInstances, Disagree, Read, Write, BadBase}
 use Rattle.epx_types.specs.Instances.{Instance}
 use Rattle.epx_types.specs.PlacedLines.{Placed}
 use Rattle.epx_types.specs.Agreement.{Agree}
@@ -19,6 +19,7 @@ IsReadFault lines TooManyInstances = ⊥
 IsReadFault lines (Disagree id first second) = ⊥
 IsReadFault lines (Read log) = ⊥
 IsReadFault lines Write = ⊥
+IsReadFault lines (BadBase line) = ⊥
 
 pub record IsMerged (lines : List Placed) (m : List Instance) : Type 0 where
   pub small : IsSmall lines
@@ -35,3 +36,4 @@ IsMergeFault lines (LogTooLong log) = ⊥
 IsMergeFault lines (BadLine place why) = ⊥
 IsMergeFault lines (Read log) = ⊥
 IsMergeFault lines Write = ⊥
+IsMergeFault lines (BadBase line) = ⊥

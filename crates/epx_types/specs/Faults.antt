@@ -3,7 +3,7 @@ use Rattle.std.specs.Prelude.{ℕ, List, ◌++◌, codes, decimal}
 use Rattle.epx_types.specs.declared.fault.Why.{Why}
 use Rattle.epx_types.specs.declared.fault.Why.TheVariants.{TooLong, NotJson, NotObject, Replica, Number, Seq, Status, Deps, Ops}
 use Rattle.epx_types.specs.declared.fault.Fault.{Fault}
-use Rattle.epx_types.specs.declared.fault.Fault.TheVariants.{Memory, TooManyLogs, LogTooLong, BadLine, TooManyInstances, Disagree, Read, Write}
+use Rattle.epx_types.specs.declared.fault.Fault.TheVariants.{Memory, TooManyLogs, LogTooLong, BadLine, TooManyInstances, Disagree, Read, Write, BadBase}
 use Rattle.epx_types.specs.declared.id.Id.{Id}
 use Rattle.epx_types.specs.declared.place.Place.{Place}
 
@@ -19,8 +19,9 @@ fault_number TooManyInstances = 5
 fault_number (Disagree id first second) = 6
 fault_number (Read log) = 7
 fault_number Write = 8
+fault_number (BadBase line) = 9
 
--- 3 for want of memory, 4 for a device that failed, and 1 for what the logs say
+-- 3 for want of memory, 4 for a device that failed, and 1 for what the logs and the base say
 abbrev pub fault_status : Fault → ℕ
 fault_status Memory = 3
 fault_status TooManyLogs = 1
@@ -30,6 +31,7 @@ fault_status TooManyInstances = 1
 fault_status (Disagree id first second) = 1
 fault_status (Read log) = 4
 fault_status Write = 4
+fault_status (BadBase line) = 1
 
 abbrev pub why_text : Why → List ℕ
 why_text TooLong = codes "TooLong"
@@ -57,3 +59,4 @@ fault_text TooManyInstances = codes "epx: fault 5: more than 1048576 instances"
 fault_text (Disagree id first second) = codes "epx: fault 6: instance " ++ id_text id ++ codes " differs between " ++ place_text first ++ codes " and " ++ place_text second
 fault_text (Read log) = codes "epx: fault 7: log " ++ decimal log ++ codes " can not be read"
 fault_text Write = codes "epx: fault 8: the answer can not be written"
+fault_text (BadBase line) = codes "epx: fault 9: base line " ++ decimal line ++ codes " is not as it must be"

@@ -71,6 +71,8 @@ pub enum Fault {
     Read { log: usize },
     /// The sink failed.
     Write,
+    /// The bytes are no base: the line may not stand where it stands, or should follow the last one.
+    BadBase { line: usize },
 }
 
 impl From<Memory> for Fault {
@@ -105,12 +107,15 @@ impl fmt::Display for Fault {
             }
             Fault::Read { log } => write!(f, "epx: fault 7: log {log} can not be read"),
             Fault::Write => write!(f, "epx: fault 8: the answer can not be written"),
+            Fault::BadBase { line } => {
+                write!(f, "epx: fault 9: base line {line} is not as it must be")
+            }
         }
     }
 }
 
 impl Fault {
-    /// 1 to 8, as the text of the fault has it.
+    /// 1 to 9, as the text of the fault has it.
     pub fn number(&self) -> u8
         ensures { result ≡ fault_number self.now }
     {
@@ -123,6 +128,7 @@ impl Fault {
             Fault::Disagree { .. } => 6,
             Fault::Read { .. } => 7,
             Fault::Write => 8,
+            Fault::BadBase { .. } => 9,
         }
     }
 
