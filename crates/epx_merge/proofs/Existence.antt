@@ -40,7 +40,7 @@ first_later : (l : List ℕ) (logs : List (List ℕ)) (n : ℕ) → length l ≤
 first_later l logs n fits first zero bytes lower e = within_limit l bytes fits e
 first_later l logs n fits first (suc k) bytes lower e = first.first k bytes (omega arith) e
 
-long_cases : (logs : List (List ℕ)) → NoneTooLong logs ⊎ ((log : ℕ) × IsFirstTooLong logs log)
+pub long_cases : (logs : List (List ℕ)) → NoneTooLong logs ⊎ ((log : ℕ) × IsFirstTooLong logs log)
 long_cases [] = inl (λ k bytes e. absurd (cc e))
 long_cases (l ∷ logs) =
     elim (cases_lt max_log_bytes (length l)) [

@@ -17,6 +17,6 @@ mod runs;
 mod same;
 mod walk;
 
-pub use limits::{MAX_INSTANCES, MAX_LOG_BYTES, MAX_LOGS};
+pub use limits::{MAX_INSTANCES, MAX_LOG_BYTES, MAX_LOGS, first_too_long};
 pub use merged::Merged;
 pub use reading::read_logs;

@@ -12,7 +12,7 @@ pub const MAX_LOG_BYTES: usize = 67_108_864;
 pub const MAX_INSTANCES: usize = 1_048_576;
 
 /// The first log that is too long.
-pub(crate) fn first_too_long(logs: &[Vec<u8>]) -> Option<usize>
+pub fn first_too_long(logs: &[Vec<u8>]) -> Option<usize>
     ensures { let bytes = map (λ log. log.items) logs.now in MatchOption result (NoneTooLong bytes) (IsFirstTooLong bytes) }
 {
     for (number, log) in logs.iter().enumerate() {
