@@ -9,4 +9,5 @@ pub mod LevelLaws
 pub mod PieceLaws
 pub mod DoneLaws
 pub mod LongerLaws
+pub mod ResumingLaws
 pub mod OrderingLaws

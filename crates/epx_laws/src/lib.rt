@@ -13,3 +13,4 @@ pub mod order;
 pub mod orders;
 pub mod pieces;
 pub mod reaching;
+pub mod resuming;

@@ -6,7 +6,7 @@ use Rattle.std.proofs.lemmas.Bool.{cases_Bool}
 use Rattle.std.proofs.lemmas.List.Elements.{All-contains, filter_passes}
 use Rattle.std.proofs.lemmas.Map.Views.{Contains-from_any, list_any-from_Contains}
 use Rattle.epx_types.specs.declared.id.Id.{Id}
-use Rattle.epx_types.specs.Ids.{id_cmp}
+use Rattle.epx_types.specs.Ids.{id_cmp, BelowAll, IsRising}
 use Rattle.epx_types.specs.Instances.{Instance}
 use Rattle.epx_types.specs.CommittedMap.{ids_of}
 use Rattle.epx_types.specs.Reaching.{DependsOn}
@@ -68,19 +68,36 @@ module _ (done : List Id) where
   pub Contains-remaining_iff : (m : List Instance) (x : Id) → Contains (ids_of (remaining done m)) x ↔ Contains (ids_of m) x × (¬ Contains done x)
   Contains-remaining_iff m x = (Contains-from_remaining m x, λ h. Contains-remaining m x h.0 h.1)
 
+  BelowAll-remaining : (x : Id) (m : List Instance) → BelowAll x (ids_of m) → BelowAll x (ids_of (remaining done m))
+  BelowAll-remaining x [] h = tt
+  BelowAll-remaining x (e ∷ m) h =
+      elim (is_among_cases done e.id) [
+        | inl among ↦ rw among.0 (BelowAll-remaining x m h.1)
+        | inr other ↦ rw other.0 (h.0, BelowAll-remaining x m h.1)
+      ]
+
+  -- what is left of a map whose Ids rise is such a map
+  pub IsRising-remaining : (m : List Instance) → IsRising (ids_of m) → IsRising (ids_of (remaining done m))
+  IsRising-remaining [] h = tt
+  IsRising-remaining (e ∷ m) h =
+      elim (is_among_cases done e.id) [
+        | inl among ↦ rw among.0 (IsRising-remaining m h.1)
+        | inr other ↦ rw other.0 (BelowAll-remaining e.id m h.0, IsRising-remaining m h.1)
+      ]
+
   -- ---- dependencies of what is left
 
   -- an instance that is left is one of the map that is not done, without its done dependencies
-  from_remaining : (m : List Instance) (e : Instance) → Contains (remaining done m) e → (d : Instance) × Contains m d × (is_among done d.id ≡ false) × (without_deps done d ≡ e)
+  pub from_remaining : (m : List Instance) (e : Instance) → Contains (remaining done m) e → (d : Instance) × Contains m d × (is_among done d.id ≡ false) × (without_deps done d ≡ e)
   from_remaining m e h =
       let d = Contains-from_map (without_deps done) (filter (λ i. not (is_among done i.id)) m) e h in
       let kept = All-contains (λ i. not (is_among done i.id) ≡ true) (filter (λ i. not (is_among done i.id)) m) d.0 (filter_passes (λ i. not (is_among done i.id)) m) d.1 in
       (d.0, Contains-from_filter (λ i. not (is_among done i.id)) m d.0 d.1, not_false (is_among done d.0.id) kept, d.2)
 
-  not_done : (x : Id) → is_among done x ≡ false → ¬ Contains done x
+  pub not_done : (x : Id) → is_among done x ≡ false → ¬ Contains done x
   not_done x e = elim (is_among_cases done x) [ inl found ↦ absurd (cc (e, found.0)) | inr none ↦ none.1 ]
 
-  not_among : (x : Id) → ¬ Contains done x → is_among done x ≡ false
+  pub not_among : (x : Id) → ¬ Contains done x → is_among done x ≡ false
   not_among x none = elim (is_among_cases done x) [ inl found ↦ absurd (none found.1) | inr missed ↦ missed.0 ]
 
   -- what is left depends on what it depended on and is not done

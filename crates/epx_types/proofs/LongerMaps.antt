@@ -12,12 +12,13 @@ use Rattle.epx_types.specs.Conflicts.{IsCovered}
 use Rattle.epx_types.specs.Execution.{execute}
 use Rattle.epx_types.specs.Reaching.{DependsOn, Reaches}
 use Rattle.epx_types.specs.Readiness.{IsReady}
+use Rattle.epx_types.specs.Done.{rest_of}
 use Rattle.epx_types.specs.LawfulOrders.{SequenceBefore, IsLawfulFor, IsLawful, ops_of, commands_in}
 use Rattle.epx_types.proofs.AgreementLemmas.{IsRising-same, instance_of_iff, instance_of-found, instance_of-finds}
 use Rattle.epx_types.proofs.DependencyLemmas.{IsCommitted-from_Contains}
 use Rattle.epx_types.proofs.Executions.{length-replies, execute-append}
 use Rattle.epx_types.proofs.LawfulExecutions.{reply-lawful}
-use Rattle.epx_types.proofs.LawfulParts.{rest_of, IsLawful-part_and_rest}
+use Rattle.epx_types.proofs.LawfulParts.{IsLawful-part_and_rest}
 use Rattle.epx_types.proofs.Membership.{Contains-from_map, map-agree}
 use Rattle.epx_types.proofs.Reaching.{Reaches-itself, Reaches-trans, Reaches-dependency, Reaches-passes, IsReady-reached}
 use Rattle.epx_types.proofs.StandingBefore.{slice_get-append_left}

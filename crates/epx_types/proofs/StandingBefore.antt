@@ -1,5 +1,5 @@
 -- What stands before what in two lists, one after the other, and in what a filter keeps.
-use Rattle.std.proofs.Common.{◌≡◌, ℕ, zero, suc, Bool, true, List, [], ◌∷◌, ◌++◌, filter, Contains, Some, slice_get, ap, inl, inr, arith}
+use Rattle.std.proofs.Common.{◌≡◌, ℕ, zero, suc, ◌+◌, Bool, true, List, [], ◌∷◌, ◌++◌, length, filter, Contains, Some, slice_get, ap, ◌∙◌, inl, inr, arith}
 use Rattle.std.proofs.lemmas.Bool.{cases_Bool}
 use Rattle.std.proofs.lemmas.List.Elements.{Contains-append_left, Contains-append_right}
 use Rattle.epx_types.specs.LawfulOrders.{Before}
@@ -46,6 +46,11 @@ module _ {X : Type 0} where
   -- what stands in the first list stands before what stands in the second
   pub Before-across : (xs ys : List X) (x y : X) → Contains xs x → Contains ys y → Before (xs ++ ys) x y
   Before-across xs ys x y h k = Before-from_Precedes (xs ++ ys) x y (Precedes-across xs ys x y h k)
+
+  -- the places of the second list follow those of the first
+  pub slice_get-append : (xs ys : List X) (i : ℕ) → slice_get (xs ++ ys) (length xs + i) ≡ slice_get ys i
+  slice_get-append [] ys i = let none : zero + i ≡ i = omega arith in ap (slice_get ys) none
+  slice_get-append (x ∷ xs) ys i = let next : suc (length xs) + i ≡ suc (length xs + i) = omega arith in ap (slice_get (x ∷ xs ++ ys)) next ∙ slice_get-append xs ys i
 
   -- a place of the first list is one of both
   pub slice_get-append_left : (xs ys : List X) (i : ℕ) (x : X) → slice_get xs i ≡ Some x → slice_get (xs ++ ys) i ≡ Some x

@@ -24,4 +24,5 @@ pub mod Levels
 pub mod Rearrangements
 pub mod Pieces
 pub mod Done
+pub mod Sound
 pub mod Faults

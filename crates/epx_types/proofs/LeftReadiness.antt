@@ -1,0 +1,69 @@
+-- What is left of a committed map is ready as it is in the whole map.
+use Rattle.std.proofs.Common.{◌↔◌, List, [], ◌∷◌, Contains, subst, inl, inr}
+use Rattle.epx_types.specs.declared.id.Id.{Id}
+use Rattle.epx_types.specs.Instances.{Instance}
+use Rattle.epx_types.specs.CommittedMap.{IsCommitted}
+use Rattle.epx_types.specs.Done.{remaining}
+use Rattle.epx_types.specs.Reaching.{IsPath, Reaches}
+use Rattle.epx_types.specs.Readiness.{IsReady}
+use Rattle.epx_types.proofs.DoneLemmas.{Contains-remaining_iff, DependsOn-remaining, is_among_cases}
+use Rattle.epx_types.proofs.Reaching.{Reaches-trans, Reaches-dependency}
+
+module _ (done : List Id) (m : List Instance) where
+  -- ---- what is left reaches what it reached, and that is not done
+
+  path_left : (x : Id) (via : List Id) (y : Id) → IsPath (remaining done m) x via y → Reaches m x y × (¬ Contains done y)
+  path_left x [] y path =
+      let d = (DependsOn-remaining done m x y).0 path in
+      (Reaches-dependency m x y d.0, d.2)
+  path_left x (z ∷ via) y path =
+      let d = (DependsOn-remaining done m x z).0 path.0 in
+      let rest = path_left z via y path.1 in
+      (Reaches-trans m x z y (Reaches-dependency m x z d.0) rest.0, rest.1)
+
+  pub Reaches-from_left : (x y : Id) → ¬ Contains done x → Reaches (remaining done m) x y → Reaches m x y × (¬ Contains done y)
+  Reaches-from_left x y left (inl same) = (inl same, subst (λ (z : Id). ¬ Contains done z) same left)
+  Reaches-from_left x y left (inr path) = path_left x path.0 y path.1
+
+  -- ---- ready in what is left, and in the whole map
+
+  pub ready_left : (x : Id) → ¬ Contains done x → IsReady m x → IsReady (remaining done m) x
+  ready_left x left ready = record {
+    committed = (Contains-remaining_iff done m x).1 (ready.committed, left);
+    complete = λ y there.
+        let reached = Reaches-from_left x y left there in
+        (Contains-remaining_iff done m y).1 (ready.complete y reached.0, reached.1);
+  }
+
+  module _ (all_ready : (x : Id) → Contains done x → IsReady m x) where
+    -- a path from what is ready among what is left ends at a committed instance, by way of a done one too
+    path_complete : (x : Id) (via : List Id) (y : Id) → IsReady (remaining done m) x → IsPath m x via y → IsCommitted m y
+    path_complete x [] y ready step =
+        elim (is_among_cases done y) [
+          | inl found ↦ (all_ready y found.1).committed
+          | inr other ↦
+              let left = ((Contains-remaining_iff done m x).0 ready.committed).1 in
+              let d = (DependsOn-remaining done m x y).1 (step, left, other.1) in
+              ((Contains-remaining_iff done m y).0 (ready.complete y (Reaches-dependency (remaining done m) x y d))).0
+        ]
+    path_complete x (z ∷ via) y ready path =
+        elim (is_among_cases done z) [
+          | inl found ↦ (all_ready z found.1).complete y (inr (via, path.1))
+          | inr other ↦
+              let left = ((Contains-remaining_iff done m x).0 ready.committed).1 in
+              let d = (DependsOn-remaining done m x z).1 (path.0, left, other.1) in
+              let there = Reaches-dependency (remaining done m) x z d in
+              path_complete z via y (record { committed = ready.complete z there; complete = λ w on. ready.complete w (Reaches-trans (remaining done m) x z w there on) }) path.1
+        ]
+
+    pub ready_from_left : (x : Id) → IsReady (remaining done m) x → IsReady m x
+    ready_from_left x ready =
+        let committed = ((Contains-remaining_iff done m x).0 ready.committed).0 in
+        record { committed = committed; complete = complete committed } where
+          complete : IsCommitted m x → (y : Id) → Reaches m x y → IsCommitted m y
+          complete here y (inl same) = subst (IsCommitted m) same here
+          complete here y (inr path) = path_complete x path.0 y ready path.1
+
+-- where all that is done is ready, what is not done is ready in what is left exactly where it is ready in the whole map
+pub left_is_ready_alike : (done : List Id) (m : List Instance) → ((x : Id) → Contains done x → IsReady m x) → (x : Id) → ¬ Contains done x → IsReady (remaining done m) x ↔ IsReady m x
+left_is_ready_alike done m all_ready x left = (ready_from_left done m all_ready x, ready_left done m x left)
