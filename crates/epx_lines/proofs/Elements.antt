@@ -18,7 +18,7 @@ pub list_of-items_view : (vs : List Value) → list_of (items_view vs) ≡ map v
 list_of-items_view [] = refl
 list_of-items_view (v ∷ vs) = ap (λ ds. view v ∷ ds) (list_of-items_view vs)
 
-length-list_of : (vs : List Value) → length (list_of (items_view vs)) ≡ length vs
+pub length-list_of : (vs : List Value) → length (list_of (items_view vs)) ≡ length vs
 length-list_of [] = refl
 length-list_of (v ∷ vs) = ap suc (length-list_of vs)
 

@@ -19,7 +19,7 @@ first_below : (found : List Id) (y x : Id) (xs : List Id) → BelowAll y (found 
 first_below [] y x xs h = h.0
 first_below (z ∷ found) y x xs h = first_below found y x xs h.1
 
-insert_last : (found : List Id) (x : Id) (xs : List Id) → IsRising (found ++ x ∷ xs) → insert_key id_cmp found x ≡ found ++ x ∷ []
+pub insert_last : (found : List Id) (x : Id) (xs : List Id) → IsRising (found ++ x ∷ xs) → insert_key id_cmp found x ≡ found ++ x ∷ []
 insert_last [] x xs h = refl
 insert_last (y ∷ found) x xs h = rw (above x y (first_below found y x xs h.0)) (ap (λ l. y ∷ l) (insert_last found x xs h.1))
 

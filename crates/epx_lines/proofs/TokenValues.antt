@@ -1,24 +1,25 @@
 -- Values at the front of tokens, and lists and objects built of them.
-use Rattle.std.proofs.Common.{◌≡◌, ℕ, suc, ◌-◌, ◌<◌, ◌≤◌, List, [], ◌∷◌, ◌++◌, length, Option, Some, None, IfSome, ltb, option_map, option_and_then, refl, sym, ap, ◌∙◌, subst, arith, append-nil, lt-ltb, ◌^◌}
+use Rattle.std.proofs.Common.{◌≡◌, ℕ, ℤ, suc, ◌-◌, ◌<◌, ◌≤◌, List, [], ◌∷◌, ◌++◌, length, Option, Some, None, IfSome, ltb, option_map, option_and_then, refl, sym, ap, ◌∙◌, subst, arith, append-nil, lt-ltb, ◌^◌}
 use Rattle.std.proofs.lemmas.Option.{cond_some}
+use Rattle.std.specs.Int.{w64}
+use Rattle.std.specs.Int.RustNames.{FitsSigned}
 use Rattle.json.specs.Token.{Token}
 use Rattle.json.specs.Json as json
 use Rattle.json.specs.Lex.{tokens}
 use Rattle.json.specs.Json.{Parse, parse_map, after_end_array, read_key, items, members, value, if_last}
 use Rattle.json.proofs.Grammar.{value_is, value-begin_array, value-begin_object, items_end, items_more, members_end, members_more, left, skip_value-shorter, read_key-shorter}
 use Rattle.serde_json.specs.Data.{Data, null, unsigned, number, string, array, object, item, Members, no_members, put}
-use Rattle.serde_json.specs.Find.{as_number, as_u64}
+use Rattle.serde_json.specs.Find.{as_number, as_u64, of_integer}
 use Rattle.serde_json.specs.Read.{number_of, of_json, of_items, of_members, converted, max_depth, read}
 use Rattle.serde_json.specs.View.{items_of}
-use Rattle.epx_lines.specs.Tokens.{BeginsWith, Gives}
-use Rattle.epx_types.specs.Keys.{FitsKey}
+use Rattle.epx_lines.specs.Tokens.{BeginsWith, Gives, BeginsInTurn, GivesInTurn}
 use Rattle.epx_types.specs.declared.op.Op.{Op}
-use Rattle.epx_lines.specs.DependencyList.{id_of}
-use Rattle.epx_lines.specs.OperationList.{op_with_key, op_with_value, op_of}
-use Rattle.epx_lines.specs.Elements.{below, whole, list_of, at_most, every, each_of_at_most}
+use Rattle.epx_lines.specs.DependencyList.{id_of_pair}
+use Rattle.epx_lines.specs.OperationList.{key_of, op_with_key, op_with_value, op_of_list}
+use Rattle.epx_lines.specs.Elements.{below, whole, signed, list_of, elements, at_most, every, each_of_at_most}
 use Rattle.epx_lines.proofs.Elements.{at_most-within}
 use Rattle.epx_lines.proofs.WellFormed.{length-every}
-use Rattle.epx_lines.proofs.WrittenParts.{whole-fits, key_of-fits}
+use Rattle.epx_lines.proofs.WrittenParts.{whole-fits, FitsValue-from_range}
 
 -- ---- values that hold no other
 
@@ -43,6 +44,9 @@ Gives-found n f ts rest d (Some x) h e = (d, h, sym e)
 
 pub Gives-number : (s : List ℕ) (n : ℕ) (rest : List Token) → number_of s ≡ Some (unsigned n) → n < 2 ^ 64 → Gives 0 (whole (2 ^ 64)) (Token.number s ∷ rest) n rest
 Gives-number s n rest is l = (number (unsigned n), BeginsWith-number s _ rest (ap (option_map number) is), whole-fits (2 ^ 64) n l)
+
+pub Gives-signed : (s : List ℕ) (z y : ℤ) (rest : List Token) → number_of s ≡ Some (of_integer z) → FitsSigned w64 z → y ≡ z → Gives 0 signed (Token.number s ∷ rest) y rest
+Gives-signed s z y rest is l same = let fits = FitsValue-from_range z l in (number (of_integer z), BeginsWith-number s _ rest (ap (option_map number) is), fits.reads ∙ ap Some (sym same))
 
 narrower : (b c n : ℕ) (o : Option ℕ) → option_and_then (below b) o ≡ Some n → n < c → option_and_then (below c) o ≡ Some n
 narrower b c n None e l = absurd (cc e)
@@ -92,6 +96,25 @@ abbrev pub AreItems : ℕ → List Token → List Data → List Token → Type 0
 AreItems n ts [] rest = after_end_array ts ≡ Some rest
 AreItems n ts (d ∷ ds) rest = (mid : List Token) × BeginsWith n ts d mid × AreItems n mid ds rest
 
+-- ---- values one after another
+
+pub BeginsInTurn-deeper : (n m : ℕ) (ts : List Token) (ds : List Data) (rest : List Token) → n ≤ m → BeginsInTurn n ts ds rest → BeginsInTurn m ts ds rest
+BeginsInTurn-deeper n m ts [] rest l same = same
+BeginsInTurn-deeper n m ts (d ∷ ds) rest l (mid, first, more) = (mid, BeginsWith-deeper n m ts d mid l first, BeginsInTurn-deeper n m mid ds rest l more)
+
+pub BeginsInTurn-append : (n : ℕ) (ts : List Token) (xs ys : List Data) (mid rest : List Token) → BeginsInTurn n ts xs mid → BeginsInTurn n mid ys rest → BeginsInTurn n ts (xs ++ ys) rest
+BeginsInTurn-append n ts [] ys mid rest same h = rw same h
+BeginsInTurn-append n ts (x ∷ xs) ys mid rest (next, first, more) h = (next, first, BeginsInTurn-append n next xs ys mid rest more h)
+
+-- one value before the others
+pub GivesInTurn-more : {A : Type 0} (n : ℕ) (f : List Data → Option A) (ts : List Token) (d : Data) (mid : List Token) (x : A) (rest : List Token)
+    → BeginsWith n ts d mid → GivesInTurn n (λ ds. f (d ∷ ds)) mid x rest → GivesInTurn n f ts x rest
+GivesInTurn-more n f ts d mid x rest first g = (d ∷ g.0, (mid, first, g.1), g.2)
+
+AreItems-in_turn : (n : ℕ) (ts : List Token) (ds : List Data) (mid rest : List Token) → BeginsInTurn n ts ds mid → after_end_array mid ≡ Some rest → AreItems n ts ds rest
+AreItems-in_turn n ts [] mid rest same end = rw same end
+AreItems-in_turn n ts (d ∷ ds) mid rest (next, first, more) end = (next, first, AreItems-in_turn n next ds mid rest more end)
+
 twice : {A B : Type 0} (g : A → B) (r : List Token) (x : Option A) → option_map (λ b. (b, r)) (option_map g x) ≡ parse_map g (option_map (λ a. (a, r)) x)
 twice g r None = refl
 twice g r (Some a) = refl
@@ -119,6 +142,15 @@ BeginsWith-array n ts ds rest h depth deep =
 pub list_of-items_of : (ds : List Data) → list_of (items_of ds) ≡ ds
 list_of-items_of [] = refl
 list_of-items_of (d ∷ ds) = ap (λ more. d ∷ more) (list_of-items_of ds)
+
+-- an array of values for which f gives x
+pub GivesInTurn-array : {A : Type 0} (n : ℕ) (f : List Data → Option A) (ts : List Token) (x : A) (mid rest : List Token)
+    → GivesInTurn n f ts x mid → after_end_array mid ≡ Some rest → Gives (suc n) (λ d. option_and_then f (elements d)) (Token.begin_array ∷ ts) x rest
+GivesInTurn-array n f ts x mid rest g end = (
+  array (items_of g.0),
+  BeginsWith-array n ts g.0 rest (AreItems-in_turn n ts g.0 mid rest g.1 end),
+  rw (list_of-items_of g.0) g.2,
+)
 
 -- ---- a list that grows by what f gives for each item
 
@@ -236,14 +268,11 @@ read-from_tokens text d h =
 
 -- ---- what lists of scalars mean
 
-pub id_of-pair : (a b : Data) (r i : ℕ) → whole 256 a ≡ Some r → whole (2 ^ 64) b ≡ Some i → id_of (array (items_of (a ∷ b ∷ []))) ≡ Some (record { replica = r; number = i })
-unfolding id_of
-id_of-pair a b r i r_is i_is = rw (r_is, i_is)
+pub id_of_pair-scalars : (a b : Data) (r i : ℕ) → whole 256 a ≡ Some r → whole (2 ^ 64) b ≡ Some i → id_of_pair (a ∷ b ∷ []) ≡ Some (record { replica = r; number = i })
+id_of_pair-scalars a b r i r_is i_is = rw (r_is, i_is)
 
-pub op_of-keyed : (name k : List ℕ) (op : Op) → FitsKey k → op_with_key name k ≡ Some op → op_of (array (items_of (string name ∷ string k ∷ []))) ≡ Some op
-unfolding op_of
-op_of-keyed name k op h e = rw (key_of-fits k h, e)
+pub op_of_list-keyed : (name : List ℕ) (a : Data) (k : List ℕ) (op : Op) → key_of a ≡ Some k → op_with_key name k ≡ Some op → op_of_list (string name ∷ a ∷ []) ≡ Some op
+op_of_list-keyed name a k op is e = rw (is, e)
 
-pub op_of-keyed_with : (name k : List ℕ) (d : Data) (op : Op) → FitsKey k → op_with_value name k d ≡ Some op → op_of (array (items_of (string name ∷ string k ∷ d ∷ []))) ≡ Some op
-unfolding op_of
-op_of-keyed_with name k d op h e = rw (key_of-fits k h, e)
+pub op_of_list-keyed_with : (name : List ℕ) (a : Data) (k : List ℕ) (d : Data) (op : Op) → key_of a ≡ Some k → op_with_value name k d ≡ Some op → op_of_list (string name ∷ a ∷ d ∷ []) ≡ Some op
+op_of_list-keyed_with name a k d op is e = rw (is, e)

@@ -44,11 +44,11 @@ IsRising-at Less k y ys rest e h below r = let first : Below k y = ap is_lt e in
 IsRising-at Equal k y ys rest e h below r = h
 IsRising-at Greater k y ys rest e h below r = (below (Below-turned k y e), r)
 
-IsRising-insert : (k : Id) (ys : List Id) → IsRising ys → IsRising (insert_key id_cmp ys k)
+pub IsRising-insert : (k : Id) (ys : List Id) → IsRising ys → IsRising (insert_key id_cmp ys k)
 IsRising-insert k [] h = (tt, tt)
 IsRising-insert k (y ∷ ys) h = IsRising-at (id_cmp k y) k y ys _ refl h (λ p. BelowAll-insert y k ys p h.0) (IsRising-insert k ys h.1)
 
-IsRising-fold : (found xs : List Id) → IsRising found → IsRising (fold (insert_key id_cmp) found xs)
+pub IsRising-fold : (found xs : List Id) → IsRising found → IsRising (fold (insert_key id_cmp) found xs)
 IsRising-fold found [] h = h
 IsRising-fold found (x ∷ xs) h = IsRising-fold (insert_key id_cmp found x) xs (IsRising-insert x found h)
 

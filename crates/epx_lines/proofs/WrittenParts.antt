@@ -51,7 +51,7 @@ length-escape : (s : List ℕ) → length (escape s) ≤ 6 * length s
 length-escape [] = omega arith
 length-escape (x ∷ s) = omega (arith, length-append (escape_byte x) (escape s), length-escape_byte x, length-escape s)
 
-length-quoted : (k : List ℕ) → FitsKey k → length (quoted k) ≤ 386
+pub length-quoted : (k : List ℕ) → FitsKey k → length (quoted k) ≤ 386
 length-quoted k h = omega (arith, length-append (escape k) (34 ∷ []), length-escape k, h.1)
 
 -- ---- dependencies

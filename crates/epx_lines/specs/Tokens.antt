@@ -1,5 +1,5 @@
--- Values at the front of a line's tokens; for private clauses.
-use Rattle.std.specs.Prelude.{◌≡◌, ℕ, ◌^◌, ◌≤◌, List, true, codes, Option, Some, IfSome, option_map}
+-- Values at the front of a line's tokens.
+use Rattle.std.specs.Prelude.{◌≡◌, ℕ, ◌^◌, ◌≤◌, List, [], ◌∷◌, true, codes, Option, Some, IfSome, option_map}
 use Rattle.std.specs.Str.Parse.{IsNumeral, digits_value}
 use Rattle.json.specs.Token.{Token}
 use Rattle.json.specs.Json.{value}
@@ -23,6 +23,15 @@ BeginsWith n ts d rest = (depth : ℕ) → n ≤ depth → converted of_json (va
 -- with one for which f gives x
 abbrev pub Gives : {A : Type 0} → ℕ → (Data → Option A) → List Token → A → List Token → Type 0
 Gives n f ts x rest = (d : Data) × BeginsWith n ts d rest × (f d ≡ Some x)
+
+-- the tokens begin with the values ds, one after another
+abbrev pub BeginsInTurn : ℕ → List Token → List Data → List Token → Type 0
+BeginsInTurn n ts [] rest = ts ≡ rest
+BeginsInTurn n ts (d ∷ ds) rest = (mid : List Token) × BeginsWith n ts d mid × BeginsInTurn n mid ds rest
+
+-- with some for which f gives x
+abbrev pub GivesInTurn : {A : Type 0} → ℕ → (List Data → Option A) → List Token → A → List Token → Type 0
+GivesInTurn n f ts x rest = (ds : List Data) × BeginsInTurn n ts ds rest × (f ds ≡ Some x)
 
 -- what an object gives for a member, if the part is known
 abbrev pub IsMember : {A : Type 0} → List ℕ → (Data → Option A) → Members → Option A → Type 0

@@ -1,8 +1,8 @@
 //! Dependencies of a line.
-ghost use Rattle.std.specs.Prelude.{◌≡◌, ◌^◌, IfOk, option_map};
+ghost use Rattle.std.specs.Prelude.{◌≡◌, ◌^◌, [], ◌∷◌, IfOk, option_map};
 ghost use Rattle.serde_json.specs.View.{view};
 ghost use Rattle.epx_lines.specs.Elements.{whole};
-ghost use Rattle.epx_lines.specs.DependencyList.{id_of, rising_others, deps_of};
+ghost use Rattle.epx_lines.specs.DependencyList.{id_of_pair, id_of, rising_others, deps_of};
 
 use epx_types::entry::{MAX_DEPS, is_rising};
 use epx_types::{Id, Memory};
@@ -27,6 +27,16 @@ pub fn read_number(value: &Value) -> Option<u64>
     value.as_u64()
 }
 
+/// The instance that a replica and a number name.
+pub fn read_id_parts(replica: &Value, number: &Value) -> Option<Id>
+    ensures { result ≡ id_of_pair (view replica.now ∷ view number.now ∷ []) }
+{
+    Some(Id {
+        replica: read_replica(replica)?,
+        number: read_number(number)?,
+    })
+}
+
 #[tactic(auto, unfolding(crate::specs::DependencyList::id_of))]
 fn read_id(value: &Value) -> Option<Id>
     ensures { result ≡ id_of (view value.now) }
@@ -35,10 +45,7 @@ fn read_id(value: &Value) -> Option<Id>
     let [replica, number] = parts.as_slice() else {
         return None;
     };
-    Some(Id {
-        replica: read_replica(replica)?,
-        number: read_number(number)?,
-    })
+    read_id_parts(replica, number)
 }
 
 /// The rising list of these, each once, without the instance itself. A list that is so stays.

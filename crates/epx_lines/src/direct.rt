@@ -12,9 +12,10 @@ ghost use Rattle.epx_lines.specs.OperationList.{op_with_value, op_of, ops_of};
 ghost use Rattle.epx_lines.specs.Tokens.{BeginsWith, Gives, HoldsParts, AddsMember};
 
 use crate::deps::other_ids;
-use crate::digits::{signed_number, unsigned_number};
+use crate::digits::signed_number;
 use crate::ops::{op_named, op_with_absence, op_with_number, op_with_target};
 use crate::status::committed_by;
+use crate::tokens::{take_id_parts, take_key, take_number, take_replica, take_text};
 use epx_types::entry::{MAX_DEPS, MAX_OPS};
 use epx_types::{Entry, Id, Key, Op};
 use json::{Reader, Scratch, Token};
@@ -47,33 +48,17 @@ impl Lists {
     }
 }
 
-fn take_number(reader: &mut Reader<'_>) -> Option<u64>
-    ensures { IfSome result (λ n. Gives 0 (whole (2 ^ 64)) reader.old n reader.new) }
-{
-    let Token::Number(text) = reader.next()? else {
-        return None;
-    };
-    Some(unsigned_number(text)?)
-}
-
-fn take_replica(reader: &mut Reader<'_>) -> Option<u8>
-    ensures { IfSome result (λ r. Gives 0 (whole 256) reader.old r reader.new) }
-{
-    Some(u8::try_from(take_number(reader)?).ok()?)
-}
-
 fn take_id(reader: &mut Reader<'_>) -> Option<Id>
     ensures { IfSome result (λ x. Gives 1 id_of reader.old x reader.new) }
 {
     let Token::BeginArray = reader.next()? else {
         return None;
     };
-    let replica = take_replica(reader)?;
-    let number = take_number(reader)?;
+    let id = take_id_parts(reader)?;
     if !reader.take_end_array() {
         return None;
     }
-    Some(Id { replica, number })
+    Some(id)
 }
 
 /// What was gathered, moved into a vector that has room for it and no more.
@@ -120,13 +105,8 @@ fn take_op(alloc: Global, reader: &mut Reader<'_>) -> Option<Op>
     let Token::BeginArray = reader.next()? else {
         return None;
     };
-    let Token::String(name) = reader.next()? else {
-        return None;
-    };
-    let Token::String(key) = reader.next()? else {
-        return None;
-    };
-    let key = Key::new(alloc, key).ok()??;
+    let name = take_text(reader)?;
+    let key = take_key(alloc, reader)?;
     if reader.take_end_array() {
         return Some(op_named(name, key)?);
     }
@@ -158,10 +138,11 @@ fn take_committed(reader: &mut Reader<'_>) -> Option<()>
     ensures { IfSome result
         (λ _. Gives 0 (λ d. is_committed (Some d)) reader.old true reader.new) }
 {
-    let Token::String(text) = reader.next()? else {
-        return None;
-    };
-    if committed_by(text)? { Some(()) } else { None }
+    if committed_by(take_text(reader)?)? {
+        Some(())
+    } else {
+        None
+    }
 }
 
 /// The value of the member of this name.

@@ -10,12 +10,18 @@ mod laws;
 mod ops;
 mod read;
 mod status;
+mod tokens;
 mod write;
 
 pub use cut::{cut_line, cut_lines};
+pub use deps::{read_id_parts, read_number};
 use epx_types::{Entry, Memory, Why};
 pub use laws::{lines_are_one, lines_make_up_the_bytes};
-pub use read::{LineReader, is_blank_line, read_line};
+pub use ops::{read_key, read_value_or_null};
+pub use read::{LineReader, MAX_LINE_BYTES, is_blank_line, read_json, read_line};
+pub use tokens::{
+    take_id_parts, take_key, take_number, take_replica, take_signed, take_text, take_value_or_null,
+};
 pub use write::write_line;
 
 /// What a line of a log means.

@@ -2,7 +2,7 @@
 ghost use Rattle.std.specs.Prelude.{◌≡◌, Some, IfOk, option_map};
 ghost use Rattle.serde_json.specs.Data.{Data, null};
 ghost use Rattle.serde_json.specs.View.{view};
-ghost use Rattle.epx_lines.specs.OperationList.{key_of, op_with_key, op_with_value, op_of, ops_of};
+ghost use Rattle.epx_lines.specs.OperationList.{key_of, value_or_null, op_with_key, op_with_value, op_of, ops_of};
 ghost use Rattle.epx_lines.specs.Elements.{signed};
 
 use epx_types::entry::MAX_OPS;
@@ -10,14 +10,26 @@ use epx_types::{Key, Memory, Op};
 use serde_json::Value;
 use std::alloc::Global;
 
+/// A key: a text of 1 to 64 bytes.
 #[tactic(auto, unfolding(crate::specs::OperationList::key_of))]
-fn read_key(alloc: Global, value: &Value) -> Result<Option<Key>, Memory>
+pub fn read_key(alloc: Global, value: &Value) -> Result<Option<Key>, Memory>
     ensures { IfOk result (λ o. o ≡ key_of (view value.now)) }
 {
     let Some(text) = value.as_str() else {
         return Ok(None);
     };
     Ok(Key::new(alloc, text)?)
+}
+
+/// A value of 64 bits, or null for absence.
+#[tactic(auto, unfolding(crate::specs::OperationList::value_or_null))]
+pub fn read_value_or_null(value: &Value) -> Option<Option<i64>>
+    ensures { result ≡ value_or_null (view value.now) }
+{
+    if value.is_null() {
+        return Some(None);
+    }
+    Some(Some(value.as_i64()?))
 }
 
 #[tactic(auto, unfolding(crate::specs::OperationList::op_with_key))]

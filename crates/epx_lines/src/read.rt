@@ -91,7 +91,7 @@ fn read_object(alloc: Global, value: &Value) -> Result<Line, LineFault>
 }
 
 /// The value of a JSON text, if it is one.
-fn read_json(alloc: Global, bytes: &[u8]) -> Result<Option<Value>, Memory>
+pub fn read_json(alloc: Global, bytes: &[u8]) -> Result<Option<Value>, Memory>
     ensures { IfOk result (λ o. option_map view o ≡ json_of bytes.now) }
 {
     match Value::from_slice(alloc, bytes) {

@@ -1,6 +1,6 @@
 use Rattle.std.proofs.Common.{◌≡◌, arith}
 use Rattle.epx_lines.proofs.TokenValues.{Gives-replica}
-use Rattle.epx_lines.proofs.direct.take_replica.Goals as goal
+use Rattle.epx_lines.proofs.tokens.take_replica.Goals as goal
 
 pub returns : goal.returns
 returns c =

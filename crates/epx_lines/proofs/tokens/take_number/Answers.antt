@@ -2,7 +2,7 @@ use Rattle.std.proofs.Common.{◌≡◌, ◌∷◌, arith}
 use Rattle.json.specs.Token.{Token}
 use Rattle.json.specs.Reads.{token_of}
 use Rattle.epx_lines.proofs.TokenValues.{Gives-number}
-use Rattle.epx_lines.proofs.direct.take_number.Goals as goal
+use Rattle.epx_lines.proofs.tokens.take_number.Goals as goal
 
 pub returns : goal.returns
 returns c =

@@ -1,0 +1,78 @@
+//! Parts of a line, each taken from the front of the line's tokens with no value in between. None says
+//! nothing of the line: it is then read as a value.
+ghost use Rattle.std.specs.Prelude.{◌≡◌, ◌^◌, IfSome};
+ghost use Rattle.serde_json.specs.Data.{string};
+ghost use Rattle.epx_lines.specs.DependencyList.{id_of_pair};
+ghost use Rattle.epx_lines.specs.Elements.{whole, signed};
+ghost use Rattle.epx_lines.specs.OperationList.{key_of, value_or_null};
+ghost use Rattle.epx_lines.specs.Tokens.{BeginsWith, Gives, GivesInTurn};
+
+use crate::digits::{signed_number, unsigned_number};
+use epx_types::{Id, Key};
+use json::{Reader, Token};
+use std::alloc::Global;
+
+/// A whole number of 64 bits.
+pub fn take_number(reader: &mut Reader<'_>) -> Option<u64>
+    ensures { IfSome result (λ n. Gives 0 (whole (2 ^ 64)) reader.old n reader.new) }
+{
+    let Token::Number(text) = reader.next()? else {
+        return None;
+    };
+    Some(unsigned_number(text)?)
+}
+
+/// The number of a replica.
+pub fn take_replica(reader: &mut Reader<'_>) -> Option<u8>
+    ensures { IfSome result (λ r. Gives 0 (whole 256) reader.old r reader.new) }
+{
+    Some(u8::try_from(take_number(reader)?).ok()?)
+}
+
+/// The instance that a replica and a number name, one after the other.
+pub fn take_id_parts(reader: &mut Reader<'_>) -> Option<Id>
+    ensures { IfSome result (λ x. GivesInTurn 0 id_of_pair reader.old x reader.new) }
+{
+    let replica = take_replica(reader)?;
+    let number = take_number(reader)?;
+    Some(Id { replica, number })
+}
+
+/// A whole number of 64 bits with a sign.
+pub fn take_signed(reader: &mut Reader<'_>) -> Option<i64>
+    ensures { IfSome result (λ z. Gives 0 signed reader.old z reader.new) }
+{
+    let Token::Number(text) = reader.next()? else {
+        return None;
+    };
+    Some(signed_number(text)?)
+}
+
+/// A value of 64 bits, or null for absence.
+pub fn take_value_or_null(reader: &mut Reader<'_>) -> Option<Option<i64>>
+    ensures { IfSome result (λ v. Gives 0 value_or_null reader.old v reader.new) }
+{
+    match reader.next()? {
+        Token::Number(text) => Some(Some(signed_number(text)?)),
+        Token::Null => Some(None),
+        _ => None,
+    }
+}
+
+/// A text, borrowed from the line or from the reader's scratch.
+pub fn take_text<'a>(reader: &mut Reader<'a>) -> Option<&'a str>
+    ensures { IfSome result (λ s. BeginsWith 0 reader.old (string s.now) reader.new) }
+{
+    match reader.next()? {
+        Token::String(text) => Some(text),
+        _ => None,
+    }
+}
+
+/// A key: a text of 1 to 64 bytes.
+pub fn take_key(alloc: Global, reader: &mut Reader<'_>) -> Option<Key>
+    ensures { IfSome result (λ k. Gives 0 key_of reader.old k reader.new) }
+{
+    let text = take_text(reader)?;
+    Some(Key::new(alloc, text).ok()??)
+}
