@@ -7,6 +7,8 @@
 #[cfg(test)]
 mod applying;
 #[cfg(test)]
+mod bases;
+#[cfg(test)]
 mod claims;
 #[cfg(test)]
 mod devices;

@@ -1,0 +1,13 @@
+pub mod ValueLists
+pub mod NamedForms
+pub mod Arrays
+pub mod BaseLaws
+pub mod Readings
+pub mod Unbroken
+pub mod WrittenData
+pub mod ReportForms
+pub mod ReportReadings
+pub mod DoneLists
+pub mod ReportBases
+pub mod DoneRise
+pub mod IdSets

@@ -1,0 +1,5 @@
+use Rattle.epx_base.proofs.BaseLaws.{base_or_bad_base}
+use Rattle.epx_base.proofs.laws.base_or_bad_base.Goals as goal
+
+pub returns : goal.returns
+returns c = base_or_bad_base

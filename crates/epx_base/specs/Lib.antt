@@ -1,0 +1,9 @@
+pub mod Forms
+pub mod Seen
+pub mod IdSets
+pub mod DoneAndStored
+pub mod Bases
+pub mod Laws
+pub mod ReportLines
+pub mod ReportReadings
+pub mod ReportBases

@@ -1,0 +1,32 @@
+-- A report whose lines stand in order is a base, of the instances that are done after it and of its store.
+use Rattle.std.specs.Prelude.{◌≡◌, ◌≢◌, ◌⊎◌, ◌↔◌, List, map, Contains, AllPairs}
+use Rattle.std.specs.FinMap as contents
+use Rattle.epx_types.specs.declared.id.Id.{Id}
+use Rattle.epx_types.specs.declared.reply.Reply.{Reply}
+use Rattle.epx_types.specs.Ids.{IsRising}
+use Rattle.epx_types.specs.Contents.{Contents}
+use Rattle.epx_types.specs.WaitingLists.{waiting_ids}
+use Rattle.epx_base.specs.Bases.{IsBase}
+use Rattle.epx_base.specs.ReportReadings.{Reported, reported_text, FitsReported}
+
+abbrev pub replied_ids : List (Id × Reply) → List Id
+replied_ids replies = map (λ p. p.0) replies
+
+pub record IsInOrder (r : Reported) : Type 0 where
+  pub done_rise : IsRising r.done
+  pub replied_once : AllPairs (λ x y. x ≢ y) (replied_ids r.replies)
+  pub replied_new : (x : Id) → Contains (replied_ids r.replies) x → ¬ Contains r.done x
+  pub waiting_rise : IsRising (waiting_ids r.waiting)
+  pub waiting_left : (x : Id) → Contains (waiting_ids r.waiting) x → (¬ Contains r.done x) × (¬ Contains (replied_ids r.replies) x)
+
+-- the instances that were done before or are replied to, each once, by rising Id
+pub record AreDoneAfter (r : Reported) (done : List Id) : Type 0 where
+  pub rising : IsRising done
+  pub each : (x : Id) → Contains done x ↔ Contains r.done x ⊎ Contains (replied_ids r.replies) x
+
+abbrev pub DoneAfterExists : Type 0
+DoneAfterExists = (r : Reported) → IsRising r.done → (done : List Id) × AreDoneAfter r done
+
+-- the store lines are those of the contents
+abbrev pub ReportIsBase : Type 0
+ReportIsBase = (r : Reported) (done : List Id) (stored : Contents) → FitsReported r → IsInOrder r → AreDoneAfter r done → r.stored ≡ contents.entries stored → IsBase (reported_text r) done stored

@@ -1,0 +1,66 @@
+-- A report, and what its lines say when it is read as a base.
+use Rattle.std.specs.Prelude.{◌≡◌, ℕ, ℤ, ◌+◌, ◌^◌, ◌<◌, ◌≤◌, List, [], ◌∷◌, ◌++◌, length, map, flat_map, All, Option, IfSome, IsUtf8, Result, Ok, Err, if◌then◌else◌}
+use Rattle.std.specs.Int.{w64}
+use Rattle.std.specs.Int.RustNames.{FitsSigned}
+use Rattle.epx_types.specs.declared.id.Id.{Id}
+use Rattle.epx_types.specs.declared.reply.Reply.{Reply}
+use Rattle.epx_types.specs.declared.reply.Reply.TheVariants.{Values, Abort}
+use Rattle.epx_types.specs.WaitingLists.{Waiting}
+use Rattle.epx_types.specs.Keys.{FitsKey}
+use Rattle.epx_base.specs.declared.form.BaseLine.{BaseLine}
+use Rattle.epx_base.specs.declared.form.BaseLine.TheVariants as line
+use Rattle.epx_base.specs.Seen.{Seen, nothing_seen, after, is_whole}
+use Rattle.epx_base.specs.Bases.{or_bad, base_reading}
+use Rattle.epx_base.specs.ReportLines.{header_line, done_line, reply_line, waiting_line, store_line}
+
+-- ---- a report
+
+-- what a report is written of
+pub record Reported : Type 0 where
+  pub components : ℕ
+  pub done : List Id
+  pub replies : List (Id × Reply)
+  pub waiting : List Waiting
+  pub stored : List (List ℕ × ℤ)
+
+abbrev pub reported_text : Reported → List ℕ
+reported_text r =
+    header_line (length r.replies) (length r.waiting) r.components
+    ++ (flat_map done_line r.done ++ (flat_map reply_line r.replies ++ (flat_map waiting_line r.waiting ++ flat_map store_line r.stored)))
+
+-- what its lines say, one after another
+abbrev pub said : Reported → List BaseLine
+said r =
+    line.Header (record { executed = length r.replies; waiting = length r.waiting })
+    ∷ (map line.Done r.done ++ (map (λ p. line.Reply p.0) r.replies ++ (map (λ w. line.Waiting w.id) r.waiting ++ map (λ p. line.Store p.0 p.1) r.stored)))
+
+-- ---- the numbers and texts of a report are within their limits
+
+abbrev pub FitsNumbers : Id → Type 0
+FitsNumbers x = (x.replica < 256) × (x.number < 2 ^ 64)
+
+abbrev pub IsHeld : Option ℤ → Type 0
+IsHeld o = IfSome o (FitsSigned w64)
+
+abbrev pub FitsReply : Reply → Type 0
+FitsReply (Values vs) = (length vs ≤ 64) × All IsHeld vs
+FitsReply (Abort j) = j < 64
+
+pub record FitsReported (r : Reported) : Type 0 where
+  pub replies_counted : length r.replies < 2 ^ 64
+  pub waiting_counted : length r.waiting < 2 ^ 64
+  pub few_components : r.components ≤ length r.replies
+  pub done_fit : All FitsNumbers r.done
+  pub replies_fit : All (λ p. FitsNumbers p.0 × FitsReply p.1) r.replies
+  pub waiting_fit : All (λ w. FitsNumbers w.id × FitsNumbers w.missing) r.waiting
+  pub stored_fit : All (λ p. FitsKey p.0 × IsUtf8 p.0 × FitsSigned w64 p.1) r.stored
+
+-- ---- the reading of what lines say
+
+abbrev pub saying : Seen → ℕ → List BaseLine → Result Seen ℕ
+saying s n [] = if is_whole s then Ok s else Err n
+saying s n (l ∷ ls) = or_bad n (after s l) (λ t. saying t (n + 1) ls)
+
+-- the text of a report is read as what its lines say
+abbrev pub ReportIsReadAsItSays : Type 0
+ReportIsReadAsItSays = (r : Reported) → FitsReported r → base_reading (reported_text r) ≡ saying nothing_seen 1 (said r)

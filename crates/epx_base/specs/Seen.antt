@@ -1,0 +1,93 @@
+-- What the lines before a line of a base say, and where each line may stand.
+use Rattle.std.specs.Prelude.{ℕ, ℤ, ◌+◌, ◌-◌, ◌==◌, ◌&&◌, Bool, true, false, not, nat_lt, List, [], ◌∷◌, ◌++◌, length, slice_get, Option, Some, None, option_map, if◌then◌else◌}
+use Rattle.std.specs.BTreeSet.{insert_key}
+use Rattle.std.specs.Ordering.{is_lt}
+use Rattle.std.specs.declared.cmp.Ordering.{Ordering}
+use Rattle.epx_types.specs.declared.id.Id.{Id}
+use Rattle.epx_types.specs.Ids.{id_cmp}
+use Rattle.epx_types.specs.Keys.{key_cmp}
+use Rattle.epx_types.specs.Done.{is_among}
+use Rattle.epx_base.specs.declared.form.Counts.{Counts}
+use Rattle.epx_base.specs.declared.form.BaseLine.{BaseLine}
+use Rattle.epx_base.specs.declared.form.BaseLine.TheVariants.{Header, Done, Reply, Waiting, Store}
+
+-- what the lines so far say
+pub record Seen : Type 0 where
+  -- those of the first line; none before it
+  pub counts : Option Counts
+  -- the instances of done lines and of reply lines, rising
+  pub done : List Id
+  -- how many reply lines there were
+  pub replies : ℕ
+  -- the instances of waiting lines, in order
+  pub waiting : List Id
+  -- what the store lines say, in order
+  pub stored : List (List ℕ × ℤ)
+
+-- before the first line
+abbrev pub nothing_seen : Seen
+nothing_seen = record { counts = None; done = []; replies = 0; waiting = []; stored = [] }
+
+-- what follows a line: the next of what was seen, where the line may stand there
+abbrev pub next_if : Bool → Seen → Option Seen
+next_if stands next = if stands then Some next else None
+
+-- ---- rising lists
+
+abbrev pub last : {A : Type 0} → List A → Option A
+last xs = slice_get xs (length xs - 1)
+
+-- greater than the last one, if there is one
+abbrev pub is_past : {A : Type 0} → (A → A → Ordering) → Option A → A → Bool
+is_past cmp None x = true
+is_past cmp (Some y) x = is_lt (cmp y x)
+
+-- ---- after a line of each kind, if it may stand there
+
+-- before any reply, waiting and store line, and with a greater Id than the done line before it
+abbrev pub after_done : Seen → Id → Option Seen
+after_done s x =
+    if (s.replies == 0) && (length s.waiting == 0) && (length s.stored == 0) && is_past id_cmp (last s.done) x
+    then Some (record s { done = insert_key id_cmp s.done x }) else None
+
+-- while replies are left (so that no waiting line and no store line came), for an instance that is not done yet
+abbrev pub after_reply : Counts → Seen → Id → Option Seen
+after_reply c s x =
+    if nat_lt s.replies c.executed && not (is_among s.done x)
+    then Some (record s { done = insert_key id_cmp s.done x; replies = s.replies + 1 }) else None
+
+-- after all replies, while waiting lines are left (so that no store line came), for an instance that is not done, and
+-- with a greater Id than the waiting line before it
+abbrev pub after_waiting : Counts → Seen → Id → Option Seen
+after_waiting c s x =
+    if (s.replies == c.executed) && nat_lt (length s.waiting) c.waiting && is_past id_cmp (last s.waiting) x && not (is_among s.done x)
+    then Some (record s { waiting = s.waiting ++ x ∷ [] }) else None
+
+-- after all replies and all waiting lines, and with a greater key than the store line before it
+abbrev pub after_store : Counts → Seen → List ℕ → ℤ → Option Seen
+after_store c s k v =
+    if (s.replies == c.executed) && (length s.waiting == c.waiting) && is_past key_cmp (option_map (λ p. p.0) (last s.stored)) k
+    then Some (record s { stored = s.stored ++ (k, v) ∷ [] }) else None
+
+-- the header stands first and nowhere else
+abbrev pub after_with : Option Counts → Seen → BaseLine → Option Seen
+after_with None s (Header c) = Some (record s { counts = Some c })
+after_with None s line = None
+after_with (Some c) s (Header d) = None
+after_with (Some c) s (Done x) = after_done s x
+after_with (Some c) s (Reply x) = after_reply c s x
+after_with (Some c) s (Waiting x) = after_waiting c s x
+after_with (Some c) s (Store k v) = after_store c s k v
+
+unfoldable pub after : Seen → BaseLine → Option Seen
+after s line = after_with s.counts s line
+
+-- ---- the end
+
+abbrev pub is_whole_with : Option Counts → Seen → Bool
+is_whole_with None s = false
+is_whole_with (Some c) s = (s.replies == c.executed) && (length s.waiting == c.waiting)
+
+-- no line is missing
+abbrev pub is_whole : Seen → Bool
+is_whole s = is_whole_with s.counts s

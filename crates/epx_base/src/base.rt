@@ -1,0 +1,112 @@
+//! Reading a base.
+ghost use Rattle.std.specs.Prelude.{◌≡◌, IfOk, IfErr};
+ghost use Rattle.epx_base.specs.Bases.{IsBase, IsBaseFault};
+
+use crate::progress::Progress;
+use crate::read::BaseLineReader;
+use epx_lines::cut_line;
+use epx_txn::Store;
+use epx_types::{Fault, Id, Memory};
+use std::alloc::Global;
+use std::marker::Model;
+
+/// What an earlier report leaves to go on from. Contracts see it as the done instances by rising Id
+/// and the contents of the store.
+#[derive(Debug, Drop)]
+pub struct Base {
+    done: Vec<Id>,
+    store: Store,
+}
+
+impl Model for Base {
+    ghost use Rattle.epx_base.specs.DoneAndStored.{DoneAndStored, done_and_stored_code};
+
+    ghost Value = { DoneAndStored };
+
+    ghost coded = { done_and_stored_code };
+
+    ghost view = { λ b. record { done = b.done.items; stored = b.store } };
+}
+
+impl Base {
+    pub(crate) fn new(done: Vec<Id>, store: Store) -> Base
+        ensures done { result.done ≡ done.items }
+        ensures stored { result.stored ≡ store }
+    {
+        Base { done, store }
+    }
+
+    /// The instances that are done, by rising Id.
+    pub fn done(&self) -> &[Id]
+        ensures { result.now ≡ self.now.done }
+    {
+        self.done.as_slice()
+    }
+
+    /// The instances that are done, by rising Id, and the store.
+    pub fn into_parts(self) -> (Vec<Id>, Store)
+        ensures done { result.0.items ≡ self.done }
+        ensures store { result.1 ≡ self.stored }
+    {
+        (self.done, self.store)
+    }
+}
+
+/// Why bytes were not read as a base.
+#[derive(Clone, Copy, Debug, PartialEq, Eq)]
+pub enum BaseFault {
+    /// A growth was refused.
+    Memory,
+    /// The first line that may not stand where it stands, counted from 1; or one more than the number
+    /// of lines, where the text ends too early.
+    Bad { line: usize },
+}
+
+impl From<Memory> for BaseFault {
+    ghost use Rattle.std.specs.Prelude.{◌≡◌};
+    ghost use Rattle.epx_base.specs.declared.base.BaseFault.TheVariants as fault;
+
+    ghost from_gives = { λ _ f. f ≡ fault.Memory };
+
+    fn from(_memory: Memory) -> BaseFault {
+        BaseFault::Memory
+    }
+}
+
+impl From<BaseFault> for Fault {
+    ghost use Rattle.std.specs.Prelude.{◌≡◌};
+    ghost use Rattle.epx_base.specs.Bases.{fault_of};
+
+    ghost from_gives = { λ base_fault fault. fault ≡ fault_of base_fault };
+
+    fn from(fault: BaseFault) -> Fault {
+        match fault {
+            BaseFault::Memory => Fault::Memory,
+            BaseFault::Bad { line } => Fault::BadBase { line },
+        }
+    }
+}
+
+/// What an earlier report says is done and stored, in time in proportion to n log n for n bytes.
+/// `Memory` comes only where a growth was refused.
+pub fn read_base(alloc: Global, bytes: &[u8]) -> Result<Base, BaseFault>
+    ensures base { IfOk result (λ b. IsBase bytes.now b.done b.stored) }
+    ensures bad { IfErr result (λ f. IsBaseFault bytes.now f) }
+{
+    let mut progress = Progress::new(alloc);
+    let mut reader = BaseLineReader::new(alloc);
+    let mut rest = bytes;
+    let mut line = 1;
+    while !rest.is_empty() {
+        let (next, more) = cut_line(rest);
+        if !progress.take_line(alloc, &mut reader, next)? {
+            return Err(BaseFault::Bad { line });
+        }
+        rest = more;
+        line += 1;
+    }
+    if !progress.is_whole() {
+        return Err(BaseFault::Bad { line });
+    }
+    Ok(progress.into_base(alloc)?)
+}

@@ -1,0 +1,114 @@
+//! A set of instances that mostly come by rising Id.
+ghost use Rattle.std.specs.Prelude.{◌≡◌, [], not, IfOk, OnOk, option_copied};
+ghost use Rattle.std.specs.BTreeSet.{insert_key};
+ghost use Rattle.epx_types.specs.Ids.{id_cmp, IsRising};
+ghost use Rattle.epx_types.specs.Done.{is_among};
+ghost use Rattle.epx_base.specs.Seen.{last, is_past};
+
+use epx_types::{Id, Memory};
+use std::alloc::Global;
+use std::collections::BTreeSet;
+use std::marker::Model;
+
+/// Greater than the last one, if there is one.
+pub(crate) fn is_past<T: Ord>(last: Option<&T>, item: &T) -> bool
+    ensures { result ≡ is_past T.cmp (option_copied last.entry) item.now }
+{
+    match last {
+        Some(last) => last.cmp(item).is_lt(),
+        None => true,
+    }
+}
+
+/// Whether the Id is among rising ones, by halving.
+fn is_found(rising: &[Id], id: &Id) -> bool
+    requires { IsRising rising.now }
+    ensures { result ≡ is_among rising.now id.now }
+{
+    match rising.binary_search(id) {
+        Ok(_) => true,
+        Err(_) => false,
+    }
+}
+
+/// Contracts see it as its Ids, rising. An Id past all that came before costs a push, and no more.
+#[derive(Debug, Drop)]
+pub(crate) struct IdSet {
+    /// Those that were past all that came before them.
+    rising: Vec<Id>,
+    /// The others.
+    late: BTreeSet<Id>,
+}
+
+impl Model for IdSet {
+    ghost use Rattle.std.specs.Prelude.{List};
+    ghost use Rattle.std.specs.Coded.{coded_list};
+    ghost use Rattle.epx_types.specs.declared.id.Id.{Id};
+    ghost use Rattle.epx_base.specs.DoneAndStored.{id_code};
+    ghost use Rattle.epx_base.specs.IdSets.{AreRisingAndLate, with_late};
+
+    ghost Value = { List Id };
+
+    ghost coded = { coded_list id_code };
+
+    ghost view = { λ s. with_late s.rising.items s.late.keys };
+
+    ghost invariant = { λ s. AreRisingAndLate s.rising.items s.late.keys };
+}
+
+impl IdSet {
+    pub(crate) fn new(alloc: Global) -> IdSet
+        ensures { result ≡ [] }
+    {
+        IdSet {
+            rising: Vec::new(alloc),
+            late: BTreeSet::new(alloc),
+        }
+    }
+
+    pub(crate) fn last(&self) -> Option<&Id>
+        ensures { option_copied result ≡ last self.now }
+    {
+        self.rising.last()
+    }
+
+    pub(crate) fn contains(&self, id: &Id) -> bool
+        ensures { result ≡ is_among self.now id.now }
+    {
+        is_found(&self.rising, id) || self.late.contains(id)
+    }
+
+    /// Whether the Id was not there before.
+    pub(crate) fn insert(&mut self, id: Id) -> Result<bool, Memory>
+        ensures added { IfOk result (λ added. added ≡ not (is_among self.old id)) }
+        ensures ids { OnOk result (self.new ≡ insert_key id_cmp self.old id) }
+    {
+        if is_past(self.rising.last(), &id) {
+            self.rising.push(id)?;
+            return Ok(true);
+        }
+        if is_found(&self.rising, &id) {
+            return Ok(false);
+        }
+        Ok(self.late.insert(id)?)
+    }
+
+    /// The Ids, rising; where all came so, without a look at them.
+    pub(crate) fn into_vec(self) -> Result<Vec<Id>, Memory>
+        ensures { IfOk result (λ ids. ids.items ≡ self) }
+    {
+        let IdSet {
+            rising: mut ids,
+            late,
+        } = self;
+        if late.is_empty() {
+            return Ok(ids);
+        }
+        for id in late {
+            ids.push(id)?;
+        }
+        ids.sort()?;
+        ids.dedup();
+        Ok(ids)
+    }
+}

@@ -1,0 +1,178 @@
+//! What the lines of a base say, as they are read one after another.
+ghost use Rattle.std.specs.Prelude.{◌≡◌, None, IfOk};
+ghost use Rattle.std.specs.FinMap as contents;
+ghost use Rattle.epx_base.specs.Seen.{nothing_seen, after_done, after_reply, after_waiting, after_store, after_with, after, next_if, is_whole};
+ghost use Rattle.epx_base.specs.Bases.{after_line, put_pairs};
+
+use crate::base::Base;
+use crate::form::{BaseLine, Counts};
+use crate::id_set::{IdSet, is_past};
+use crate::read::BaseLineReader;
+use epx_txn::Store;
+use epx_types::{Id, Key, Memory};
+use std::alloc::Global;
+use std::marker::Model;
+
+/// The store of these values, put in one after another.
+fn store_of(alloc: Global, pairs: Vec<(Key, i64)>) -> Result<Store, Memory>
+    ensures { IfOk result (λ s. s ≡ put_pairs pairs.items contents.empty) }
+{
+    let mut store = Store::new(alloc);
+    for (key, value) in pairs {
+        store.put(key, value)?;
+    }
+    Ok(store)
+}
+
+/// What the lines so far say.
+#[derive(Debug, Drop)]
+pub(crate) struct Progress {
+    /// Those of the first line; None before it.
+    counts: Option<Counts>,
+    /// The instances of done lines and of reply lines.
+    done: IdSet,
+    /// How many reply lines there were.
+    replies: u64,
+    /// The instances of waiting lines, in order.
+    waiting: Vec<Id>,
+    /// What the store lines say, in order.
+    stored: Vec<(Key, i64)>,
+}
+
+impl Model for Progress {
+    ghost use Rattle.epx_base.specs.Seen.{Seen};
+
+    ghost Value = { Seen };
+
+    ghost view = { λ p. record { counts = p.counts; done = p.done; replies = p.replies; waiting = p.waiting.items; stored = p.stored.items } };
+}
+
+impl Progress {
+    /// Before the first line.
+    pub(crate) fn new(alloc: Global) -> Progress
+        ensures { result ≡ nothing_seen }
+    {
+        Progress {
+            counts: None,
+            done: IdSet::new(alloc),
+            replies: 0,
+            waiting: Vec::new(alloc),
+            stored: Vec::new(alloc),
+        }
+    }
+
+    /// One more done line; false where it may not stand there. So with the lines below.
+    fn take_done(&mut self, id: Id) -> Result<bool, Memory>
+        ensures { IfOk result (λ stands. after_done self.old id ≡ next_if stands self.new) }
+    {
+        if self.replies != 0 || !self.waiting.is_empty() || !self.stored.is_empty() {
+            return Ok(false);
+        }
+        if !is_past(self.done.last(), &id) {
+            return Ok(false);
+        }
+        self.done.insert(id)?;
+        Ok(true)
+    }
+
+    fn take_reply(&mut self, counts: Counts, id: Id) -> Result<bool, Memory>
+        ensures { IfOk result (λ stands. after_reply counts self.old id ≡ next_if stands self.new) }
+    {
+        if self.replies >= counts.executed || !self.done.insert(id)? {
+            return Ok(false);
+        }
+        self.replies += 1;
+        Ok(true)
+    }
+
+    fn take_waiting(&mut self, counts: Counts, id: Id) -> Result<bool, Memory>
+        ensures { IfOk result (λ stands. after_waiting counts self.old id ≡ next_if stands self.new) }
+    {
+        if self.replies != counts.executed || self.waiting.len() as u64 >= counts.waiting {
+            return Ok(false);
+        }
+        if !is_past(self.waiting.last(), &id) || self.done.contains(&id) {
+            return Ok(false);
+        }
+        self.waiting.push(id)?;
+        Ok(true)
+    }
+
+    fn take_store(&mut self, counts: Counts, key: Key, value: i64) -> Result<bool, Memory>
+        ensures { IfOk result (λ stands. after_store counts self.old key value ≡ next_if stands self.new) }
+    {
+        if self.replies != counts.executed || self.waiting.len() as u64 != counts.waiting {
+            return Ok(false);
+        }
+        if !is_past(self.stored.last().map(|pair| &pair.0), &key) {
+            return Ok(false);
+        }
+        self.stored.push((key, value))?;
+        Ok(true)
+    }
+
+    fn take_first(&mut self, line: BaseLine) -> bool
+        ensures { after_with None self.old line ≡ next_if result self.new }
+    {
+        match line {
+            BaseLine::Header(counts) => {
+                self.counts = Some(counts);
+                true
+            }
+            _ => false,
+        }
+    }
+
+    /// One more line that says this; false where it may not stand there.
+    #[tactic(auto, unfolding(crate::specs::Seen::after))]
+    pub(crate) fn take(&mut self, line: BaseLine) -> Result<bool, Memory>
+        ensures { IfOk result (λ stands. after self.old line ≡ next_if stands self.new) }
+    {
+        let Some(counts) = self.counts else {
+            return Ok(self.take_first(line));
+        };
+        match line {
+            BaseLine::Header(_) => Ok(false),
+            BaseLine::Done(id) => self.take_done(id),
+            BaseLine::Reply(id) => self.take_reply(counts, id),
+            BaseLine::Waiting(id) => self.take_waiting(counts, id),
+            BaseLine::Store { key, value } => self.take_store(counts, key, value),
+        }
+    }
+
+    /// One more line; false where it may not stand there.
+    pub(crate) fn take_line(
+        &mut self,
+        alloc: Global,
+        reader: &mut BaseLineReader,
+        bytes: &[u8],
+    ) -> Result<bool, Memory>
+        ensures { IfOk result (λ stands. after_line self.old bytes.now ≡ next_if stands self.new) }
+    {
+        match reader.read(alloc, bytes)? {
+            Some(line) => self.take(line),
+            None => Ok(false),
+        }
+    }
+
+    /// No line is missing.
+    pub(crate) fn is_whole(&self) -> bool
+        ensures { result ≡ is_whole self.now }
+    {
+        match self.counts {
+            Some(counts) => {
+                self.replies == counts.executed && self.waiting.len() as u64 == counts.waiting
+            }
+            None => false,
+        }
+    }
+
+    /// The done instances and the store.
+    pub(crate) fn into_base(self, alloc: Global) -> Result<Base, Memory>
+        ensures done { IfOk result (λ b. b.done ≡ self.done) }
+        ensures stored { IfOk result (λ b. b.stored ≡ put_pairs self.stored contents.empty) }
+    {
+        let Progress { done, stored, .. } = self;
+        Ok(Base::new(done.into_vec()?, store_of(alloc, stored)?))
+    }
+}

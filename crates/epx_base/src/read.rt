@@ -1,0 +1,49 @@
+//! Reading the lines of a base.
+ghost use Rattle.std.specs.Prelude.{◌≡◌, IfOk, option_and_then};
+ghost use Rattle.epx_lines.specs.Meaning.{json_of};
+ghost use Rattle.epx_base.specs.Forms.{form_of, base_line_of};
+
+use crate::direct::direct_line;
+use crate::form::{BaseLine, read_form};
+use epx_lines::{MAX_LINE_BYTES, read_json};
+use epx_types::Memory;
+use json::Scratch;
+use std::alloc::Global;
+
+/// What a line says that is not too long, by its value.
+fn read_whole(alloc: Global, bytes: &[u8]) -> Result<Option<BaseLine>, Memory>
+    ensures { IfOk result (λ o. o ≡ option_and_then form_of (json_of bytes.now)) }
+{
+    let Some(value) = read_json(alloc, bytes)? else {
+        return Ok(None);
+    };
+    read_form(alloc, &value)
+}
+
+/// Reads lines one after another, over memory that it keeps.
+#[derive(Drop)]
+pub(crate) struct BaseLineReader {
+    scratch: Scratch,
+}
+
+impl BaseLineReader {
+    pub(crate) fn new(alloc: Global) -> BaseLineReader {
+        BaseLineReader {
+            scratch: Scratch::new(alloc),
+        }
+    }
+
+    /// What a line of a base says, without its line feed; None where it is none of a base's lines.
+    #[tactic(auto, unfolding(crate::specs::Forms::base_line_of))]
+    pub(crate) fn read(&mut self, alloc: Global, bytes: &[u8]) -> Result<Option<BaseLine>, Memory>
+        ensures { IfOk result (λ o. o ≡ base_line_of bytes.now) }
+    {
+        if bytes.len() > MAX_LINE_BYTES {
+            return Ok(None);
+        }
+        if let Some(line) = direct_line(alloc, &mut self.scratch, bytes) {
+            return Ok(Some(line));
+        }
+        read_whole(alloc, bytes)
+    }
+}
