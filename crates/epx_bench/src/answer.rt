@@ -1,5 +1,5 @@
 //! Whole answers, and the layers that make them, over logs of several shapes.
-ghost use Rattle.epx_graph.specs.GraphOf.{IsGraphOf};
+ghost use Rattle.epx_graph.specs.GraphOf.{IsGraphAfter};
 ghost use Rattle.std.specs.Prelude.{IfOk};
 
 use crate::clock::{now, passed, tell};
@@ -128,7 +128,7 @@ fn building<R: Threads + Sync + Clock>(
     merged: &Merged,
     plan: Plan,
 ) -> Result<(Graph, u128), Memory>
-    ensures { IfOk result (λ built. IsGraphOf merged.now built.0) }
+    ensures { IfOk result (λ built. IsGraphAfter merged.now built.0) }
 {
     let start = now(rt)?;
     let graph = build(rt, alloc, merged, plan)?;
@@ -149,7 +149,7 @@ fn ordering<R: Threads + Sync + Clock>(
     merged: &Merged,
     graph: &Graph,
 ) -> Result<u128, Memory>
-    requires { IsGraphOf merged.now graph.now }
+    requires { IsGraphAfter merged.now graph.now }
 {
     let start = now(rt)?;
     let _order = order(rt, alloc, merged, graph)?;

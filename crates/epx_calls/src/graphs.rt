@@ -1,7 +1,10 @@
 //! Maps as logs: their graphs, and the instances that wait.
+ghost use Rattle.epx_types.specs.Ids.{IsRising};
+
 use crate::given::{id, logs_of, merged_of, plan, push_line};
-use epx_graph::{Graph, Waiter, build, waiting};
+use epx_graph::{Graph, Waiter, build, build_after, waiting};
 use epx_types::Id;
+use epx_types::entry::is_rising;
 use std::alloc::Global;
 use std::process::Abort;
 use std::random::RandomSource;
@@ -20,6 +23,19 @@ fn graph_of_texts<R: Abort + Threads + RandomSource + Sync>(
 ) -> Result<Graph, Fail> {
     let merged = merged_of(rt, alloc, &logs_of(alloc, texts)?)?;
     Ok(build(rt, alloc, &merged, plan(rt))?)
+}
+
+/// The graph of what is left of a log of this text.
+fn graph_after<R: Abort + Threads + RandomSource + Sync>(
+    rt: &R,
+    alloc: Global,
+    text: &str,
+    done: &[Id],
+) -> Result<Graph, Fail>
+    requires { IsRising done.now }
+{
+    let merged = merged_of(rt, alloc, &logs_of(alloc, &[text])?)?;
+    Ok(build_after(rt, alloc, &merged, done, plan(rt))?)
 }
 
 /// The nodes are these, and so many are committed.
@@ -52,11 +68,13 @@ fn waiters_are(
     Ok(())
 }
 
+/// 2.1 depends on 2.0, and 2.0 on 1.3 and 0.8, which are missing.
+const TWO_MISSING: &str = r#"{"r":2,"i":1,"seq":2,"deps":[[2,0]],"ops":[]}
+{"r":2,"i":0,"seq":1,"deps":[[1,3],[0,8]],"ops":[]}"#;
+
 #[test]
 fn least_missing(rt: HostRuntime) -> Result<(), Fail> {
-    let text = r#"{"r":2,"i":1,"seq":2,"deps":[[2,0]],"ops":[]}
-{"r":2,"i":0,"seq":1,"deps":[[1,3],[0,8]],"ops":[]}"#;
-    let graph = graph_of_texts(&rt, rt.alloc(), &[text])?;
+    let graph = graph_of_texts(&rt, rt.alloc(), &[TWO_MISSING])?;
     nodes_are(&rt, &graph, &[id(2, 0), id(2, 1), id(0, 8), id(1, 3)], 2);
     assert!(rt; graph.node(id(2, 2)).is_none() && graph.node(id(0, 7)).is_none());
     edges_are(&rt, &graph, 0, &[2, 3]);
@@ -65,6 +83,28 @@ fn least_missing(rt: HostRuntime) -> Result<(), Fail> {
     let least = id(0, 8);
     let waiters = [waiter(id(2, 0), least), waiter(id(2, 1), least)];
     waiters_are(&rt, rt.alloc(), &graph, &waiters)
+}
+
+#[test]
+fn a_done_instance_is_not_missing(rt: HostRuntime) -> Result<(), Fail> {
+    let graph = graph_after(&rt, rt.alloc(), TWO_MISSING, &[id(0, 8)])?;
+    nodes_are(&rt, &graph, &[id(2, 0), id(2, 1), id(1, 3)], 2);
+    assert!(rt; graph.node(id(0, 8)).is_none());
+    edges_are(&rt, &graph, 0, &[2]);
+    edges_are(&rt, &graph, 1, &[0]);
+    edges_are(&rt, &graph, 2, &[]);
+    let least = id(1, 3);
+    let waiters = [waiter(id(2, 0), least), waiter(id(2, 1), least)];
+    waiters_are(&rt, rt.alloc(), &graph, &waiters)
+}
+
+#[test]
+fn a_done_instance_has_no_node(rt: HostRuntime) -> Result<(), Fail> {
+    let graph = graph_after(&rt, rt.alloc(), TWO_MISSING, &[id(2, 0)])?;
+    nodes_are(&rt, &graph, &[id(2, 1)], 1);
+    assert!(rt; graph.node(id(2, 0)).is_none());
+    edges_are(&rt, &graph, 0, &[]);
+    waiters_are(&rt, rt.alloc(), &graph, &[])
 }
 
 #[test]
@@ -114,6 +154,33 @@ fn many_instances(rt: HostRuntime) -> Result<(), Fail> {
     for node in 1..10_000 {
         if node == 7_000 {
             edges_are(&rt, &graph, node, &[6_999, 10_000]);
+        } else {
+            edges_are(&rt, &graph, node, &[node - 1]);
+        }
+    }
+    assert!(rt; waiting(rt.alloc(), &graph)?.len() == 3_000);
+    Ok(())
+}
+
+/// What is left of so many: the done ones are those below 5,000.
+#[test]
+fn many_instances_are_left(rt: HostRuntime) -> Result<(), Fail> {
+    let mut logs = Vec::new(rt.alloc());
+    logs.push(chain(rt.alloc(), 10_000, 7_000)?)?;
+    let merged = merged_of(&rt, rt.alloc(), &logs)?;
+    let mut done = Vec::new(rt.alloc());
+    for number in 0..5_000 {
+        done.push(id(0, number))?;
+    }
+    let done = done.as_slice();
+    assert!(rt; is_rising(done));
+    let graph = build_after(&rt, rt.alloc(), &merged, done, plan(&rt))?;
+    assert!(rt; graph.len() == 5_001);
+    assert!(rt; graph.committed_len() == 5_000);
+    edges_are(&rt, &graph, 0, &[]);
+    for node in 1..5_000 {
+        if node == 2_000 {
+            edges_are(&rt, &graph, node, &[1_999, 5_000]);
         } else {
             edges_are(&rt, &graph, node, &[node - 1]);
         }

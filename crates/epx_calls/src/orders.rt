@@ -1,5 +1,5 @@
 //! Small graphs with their components and orders worked out by hand.
-ghost use Rattle.epx_graph.specs.GraphOf.{IsGraphOf};
+ghost use Rattle.epx_graph.specs.GraphOf.{IsGraphAfter};
 ghost use Rattle.std.specs.Prelude.{IfOk};
 
 use crate::given::{id, merged_of, plan, push_line};
@@ -19,7 +19,7 @@ fn read<R: Abort + Threads + RandomSource + Sync>(
     alloc: Global,
     log: Vec<u8>,
 ) -> Result<(Merged, Graph), Fail>
-    ensures { IfOk result (λ found. IsGraphOf found.0 found.1) }
+    ensures { IfOk result (λ found. IsGraphAfter found.0 found.1) }
 {
     let mut logs = Vec::new(alloc);
     logs.push(log)?;

@@ -1,7 +1,7 @@
 -- What is gathered of the dependencies, Id by Id and instance by instance.
 use Rattle.std.proofs.Common.{◌≡◌, ℕ, suc, ◌+◌, ◌-◌, ◌<◌, ◌≤◌, not, is_some, List, [], ◌∷◌, ◌++◌, length, take, drop, drop-cons, get_or, Some, None, slice_get, Contains, All, AllPairs, sym, ap, subst, ◌∙◌, append-nil, arith}
 use Rattle.std.specs.List.{cons_option}
-use Rattle.std.proofs.lemmas.List.{length-map, length-append, take_more, map_push, take_at, drop_at}
+use Rattle.std.proofs.lemmas.List.{length-map, length-append, take_at, drop_at}
 use Rattle.std.proofs.lemmas.List.Elements.{All-contains, All-contains_itself, All-weaker, filter_map-append}
 use Rattle.std.proofs.lemmas.List.Kept.{AllPairs-filter}
 use Rattle.std.proofs.lemmas.Option.{slice_get_within, get_or_from_slice_get}
@@ -19,20 +19,15 @@ use Rattle.epx_graph.proofs.RisingRows.{positions_count, row_joined}
 
 -- ---- Ids gathered one after another
 
-pub positions_skip : (m : List Instance) (xs : List Id) (i : ℕ) (d : Id) → i < length xs → position_of m (get_or xs i d) ≡ None → positions_of m (take (i + 1) xs) ≡ positions_of m (take i xs)
-positions_skip m xs i d l none =
-    ap (positions_of m) (take_more xs i d l) ∙ filter_map-append (position_of m) (take i xs) (get_or xs i d ∷ []) ∙ ap (λ o. positions_of m (take i xs) ++ cons_option o []) none ∙ append-nil (positions_of m (take i xs))
+pub positions_skip : (m : List Instance) (xs : List Id) (x : Id) → position_of m x ≡ None → positions_of m (xs ++ x ∷ []) ≡ positions_of m xs
+positions_skip m xs x none =
+    filter_map-append (position_of m) xs (x ∷ []) ∙ ap (λ o. positions_of m xs ++ cons_option o []) none ∙ append-nil (positions_of m xs)
 
-pub positions_take : (m : List Instance) (xs : List Id) (i : ℕ) (d : Id) (p : ℕ) → i < length xs → position_of m (get_or xs i d) ≡ Some p → positions_of m (take (i + 1) xs) ≡ positions_of m (take i xs) ++ p ∷ []
-positions_take m xs i d p l some =
-    ap (positions_of m) (take_more xs i d l) ∙ filter_map-append (position_of m) (take i xs) (get_or xs i d ∷ []) ∙ ap (λ o. positions_of m (take i xs) ++ cons_option o []) some
+pub positions_take : (m : List Instance) (xs : List Id) (x : Id) (p : ℕ) → position_of m x ≡ Some p → positions_of m (xs ++ x ∷ []) ≡ positions_of m xs ++ p ∷ []
+positions_take m xs x p some =
+    filter_map-append (position_of m) xs (x ∷ []) ∙ ap (λ o. positions_of m xs ++ cons_option o []) some
 
 -- ---- instance by instance
-
-pub all_positions_more : (m : List Instance) (i : ℕ) (e : Instance) → slice_get m i ≡ Some e → all_positions m (take (i + 1) m) ≡ all_positions m (take i m) ++ positions_of m e.deps ∷ []
-all_positions_more m i e at =
-    let same : get_or m i e ≡ e = get_or_from_slice_get m i e e at in
-    ap (all_positions m) (take_more m i e (slice_get_within m i e at)) ∙ map_push (λ (d : Instance). positions_of m d.deps) (take i m) (get_or m i e) ∙ ap (λ (d : Instance). all_positions m (take i m) ++ positions_of m d.deps ∷ []) same
 
 -- the row of an instance
 pub row_gathered : (m : List Instance) (rows : List (List ℕ)) (i : ℕ) (e : Instance) → rows ≡ all_positions m m → slice_get m i ≡ Some e → row_of rows i ≡ positions_of m e.deps
@@ -77,12 +72,12 @@ module _ (m : List Instance) (rows : List (List ℕ)) (ids : List Id) (is : IsGa
   pub row_short : length (row_of rows i) ≤ length e.deps
   row_short = omega (arith, ap length (row_gathered m rows i e is.all.committed at), positions_count m e.deps)
 
-  pub begins_with_these : (row : List ℕ) (deps left : List Id) → row ≡ row_of rows i → deps ≡ e.deps → left ≡ all_lacking m (drop i m) → BeginsWithThese m i e row left (length deps - length row)
-  begins_with_these row deps left row_is deps_are rest =
-      let short = length deps - length row in
+  pub begins_with_these : (row : List ℕ) (count : ℕ) (left : List Id) → row ≡ row_of rows i → count ≡ length e.deps → left ≡ all_lacking m (drop i m) → BeginsWithThese m i e row left (count - length row)
+  begins_with_these row count left row_is all rest =
+      let short = count - length row in
       let known : row ≡ positions_of m e.deps = row_is ∙ row_gathered m rows i e is.all.committed at in
       let whole : left ≡ lacking m e.deps ++ all_lacking m (drop (i + 1) m) = rest ∙ lacking_next m i e at in
-      let many : length (lacking m e.deps) ≡ short = omega (arith, ap length known, ap length deps_are, positions_count m e.deps) in
+      let many : length (lacking m e.deps) ≡ short = omega (arith, ap length known, all, positions_count m e.deps) in
       record {
         known = known;
         within = omega (arith, ap length whole, length-append (lacking m e.deps) (all_lacking m (drop (i + 1) m)));

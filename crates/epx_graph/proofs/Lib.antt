@@ -7,6 +7,7 @@ mod RowsJoined
 mod Filled
 mod Finding
 mod MissingIds
+mod LeftInstances
 mod Numbering
 mod RisingRows
 mod GatheredParts

@@ -1,5 +1,5 @@
 -- The missing instances of a map, gathered, sorted and each kept once.
-use Rattle.std.proofs.Common.{◌≡◌, ◌↔◌, inl, inr, ℕ, ◌+◌, ◌<◌, true, false, not, cond, List, [], ◌∷◌, ◌++◌, length, take, get_or, position, Option, Some, None, is_some, slice_get, Contains, nat_lt, Less, refl, sym, ap, subst, ◌∙◌, append-nil, arith}
+use Rattle.std.proofs.Common.{◌≡◌, ◌↔◌, inl, inr, ℕ, ◌+◌, true, not, cond, List, [], ◌∷◌, ◌++◌, length, take, get_or, position, Option, Some, None, is_some, slice_get, Contains, nat_lt, Less, refl, sym, ap, subst, ◌∙◌, append-nil, arith}
 use Rattle.std.specs.List.{position_or_len, AllByRecursion, dedup}
 use Rattle.std.specs.List.Sorted.{IsSorted, IsPermutation, IsStrictlySortedBy}
 use Rattle.std.specs.List.Retain.{IsFiltered, DiffersFromLast}
@@ -8,8 +8,7 @@ use Rattle.std.specs.Cmp.{Equal-is, IsEquivalence, tied_itself, eq_by_cmp_equiv}
 use Rattle.std.proofs.lemmas.Bool.{cases_lt}
 use Rattle.std.proofs.lemmas.Bool.Decides.{nat_tests}
 use Rattle.std.proofs.lemmas.List.{take_more, map_push}
-use Rattle.std.proofs.lemmas.List.Concat.{flat_map-append}
-use Rattle.std.proofs.lemmas.List.Elements.{All-contains, filter_passes, filter_more}
+use Rattle.std.proofs.lemmas.List.Elements.{All-contains, filter_passes, filter-append}
 use Rattle.std.proofs.lemmas.List.Filters.{dedup_is}
 use Rattle.std.proofs.lemmas.List.Kept.{IsStrictlySortedBy-dedup, Contains-dedup, Contains-from_dedup}
 use Rattle.std.proofs.lemmas.List.Sorted.{Contains-permutation, IsPermutation-sym}
@@ -52,11 +51,14 @@ some_position m x i some =
     let at = position_of-stands m x i some in
     subst (IsCommitted m) at.2 (IsCommitted-from_Contains m at.0 (Contains-slice_get m i at.0 at.1))
 
-pub lacks-from_missing : (m : List Instance) (x : Id) → ¬ IsCommitted m x → not (is_some (position_of m x)) ≡ true
-lacks-from_missing m x missing = by (position_of m x) refl where
-  by : (o : Option ℕ) → position_of m x ≡ o → not (is_some o) ≡ true
+pub none_position : (m : List Instance) (x : Id) → ¬ IsCommitted m x → position_of m x ≡ None
+none_position m x missing = by (position_of m x) refl where
+  by : (o : Option ℕ) → position_of m x ≡ o → o ≡ None
   by None e = refl
   by (Some i) e = absurd (missing (some_position m x i e))
+
+pub lacks-from_missing : (m : List Instance) (x : Id) → ¬ IsCommitted m x → not (is_some (position_of m x)) ≡ true
+lacks-from_missing m x missing = ap (λ o. not (is_some o)) (none_position m x missing)
 
 missing-from_lacks : (m : List Instance) (x : Id) → not (is_some (position_of m x)) ≡ true → ¬ IsCommitted m x
 missing-from_lacks m x passes = by (position_of m x) refl passes where
@@ -85,22 +87,15 @@ Contains-all_lacking m x = (there, back) where
       Contains-flat_map (λ (e : Instance). lacking m e.deps) m d.0 x d.1 (Contains-filter (λ (y : Id). not (is_some (position_of m y))) d.0.deps x d.3 (lacks-from_missing m x h.1))
 
 -- one Id more
-pub lacking_skip : (m : List Instance) (xs : List Id) (i : ℕ) (d : Id) → i < length xs → is_some (position_of m (get_or xs i d)) ≡ true → lacking m (take (i + 1) xs) ≡ lacking m (take i xs)
-lacking_skip m xs i d l some =
+pub lacking_skip : (m : List Instance) (xs : List Id) (x : Id) (i : ℕ) → position_of m x ≡ Some i → lacking m (xs ++ x ∷ []) ≡ lacking m xs
+lacking_skip m xs x i some =
     let p = λ (y : Id). not (is_some (position_of m y)) in
-    filter_more p xs i d l ∙ ap (λ b. lacking m (take i xs) ++ cond (not b) (get_or xs i d ∷ []) []) some ∙ append-nil (lacking m (take i xs))
+    filter-append p xs (x ∷ []) ∙ ap (λ o. lacking m xs ++ cond (not (is_some o)) (x ∷ []) []) some ∙ append-nil (lacking m xs)
 
-pub lacking_take : (m : List Instance) (xs : List Id) (i : ℕ) (d : Id) → i < length xs → is_some (position_of m (get_or xs i d)) ≡ false → lacking m (take (i + 1) xs) ≡ lacking m (take i xs) ++ get_or xs i d ∷ []
-lacking_take m xs i d l none =
+pub lacking_take : (m : List Instance) (xs : List Id) (x : Id) → position_of m x ≡ None → lacking m (xs ++ x ∷ []) ≡ lacking m xs ++ x ∷ []
+lacking_take m xs x none =
     let p = λ (y : Id). not (is_some (position_of m y)) in
-    filter_more p xs i d l ∙ ap (λ b. lacking m (take i xs) ++ cond (not b) (get_or xs i d ∷ []) []) none
-
--- one instance more
-pub all_lacking_more : (m : List Instance) (i : ℕ) (e : Instance) → slice_get m i ≡ Some e → all_lacking m (take (i + 1) m) ≡ all_lacking m (take i m) ++ lacking m e.deps
-all_lacking_more m i e at =
-    let f = λ (d : Instance). lacking m d.deps in
-    let same : get_or m i e ≡ e = get_or_from_slice_get m i e e at in
-    ap (all_lacking m) (take_more m i e (slice_get_within m i e at)) ∙ flat_map-append f (take i m) (get_or m i e ∷ []) ∙ ap (λ l. all_lacking m (take i m) ++ l) (append-nil (f (get_or m i e)) ∙ ap f same)
+    filter-append p xs (x ∷ []) ∙ ap (λ o. lacking m xs ++ cond (not (is_some o)) (x ∷ []) []) none
 
 -- ---- sorted, and each once
 

@@ -3,6 +3,7 @@ use Rattle.std.specs.Prelude.{◌≡◌, ◌↔◌, ℕ, List, Contains, Some, s
 use Rattle.epx_types.specs.declared.id.Id.{Id}
 use Rattle.epx_types.specs.Instances.{Instance}
 use Rattle.epx_types.specs.CommittedMap.{ids_of, IsCommitted}
+use Rattle.epx_types.specs.Done.{remaining}
 use Rattle.epx_types.specs.Reaching.{DependsOn}
 use Rattle.epx_graph.specs.Graphs.{DependencyGraph, edges_of, committed_ids, missing_ids, IsGraph}
 
@@ -16,3 +17,7 @@ pub record IsGraphOf (m : List Instance) (g : DependencyGraph) : Type 0 where
   pub committed : committed_ids g ≡ ids_of m
   pub missing : (x : Id) → Contains (missing_ids g) x ↔ IsMissing m x
   pub edges : (k j : ℕ) (x y : Id) → slice_get g.ids k ≡ Some x → slice_get g.ids j ≡ Some y → Contains (edges_of g k) j ↔ DependsOn m x y
+
+-- the graph of what is left of the map, whatever is done
+abbrev pub IsGraphAfter : List Instance → DependencyGraph → Type 0
+IsGraphAfter m g = (done : List Id) × IsGraphOf (remaining done m) g

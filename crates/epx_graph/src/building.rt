@@ -1,14 +1,17 @@
-//! The graph of a committed map.
+//! The graph of a committed map, and of what is left of one.
 ghost use Rattle.std.specs.Prelude.{◌≡◌, ◌↔◌, ◌++◌, length, All, AllPairs, Contains, IfOk, OnOk};
 ghost use Rattle.epx_types.specs.declared.id.Id.{Id};
 ghost use Rattle.epx_types.specs.Ids.{Below, IsRising};
 ghost use Rattle.epx_types.specs.CommittedMap.{ids_of, IsCommitted};
-ghost use Rattle.epx_graph.specs.GraphOf.{IsGraphOf};
+ghost use Rattle.epx_types.specs.Done.{remaining};
+ghost use Rattle.epx_graph.specs.GraphOf.{IsGraphAfter, IsGraphOf};
+ghost use Rattle.epx_graph.specs.Left.{left_of};
 ghost use Rattle.epx_graph.specs.Nodes.{AreNodesOf, ArePlacesOf, AreRowsOf, IsGathered};
 
 use crate::committed::{Gathered, committed_rows};
 use crate::find::find;
 use crate::graph::Graph;
+use crate::left::Left;
 use crate::rows::Rows;
 use epx_merge::Merged;
 use epx_types::{Id, Memory, Plan};
@@ -27,42 +30,42 @@ fn each_once(alloc: Global, ids: &[Id]) -> Result<Vec<Id>, Memory>
     Ok(kept)
 }
 
-/// The committed Ids, with room for more.
-fn committed_ids(alloc: Global, merged: &Merged, more: usize) -> Result<Vec<Id>, Memory>
-    ensures { IfOk result (λ ids. ids.items ≡ ids_of merged.now) }
+/// The Ids of what is left, with room for more.
+fn committed_ids(alloc: Global, left: &Left, more: usize) -> Result<Vec<Id>, Memory>
+    ensures { IfOk result (λ ids. ids.items ≡ ids_of (left_of left.now)) }
 {
-    let mut ids = Vec::with_capacity(alloc, merged.len().saturating_add(more))?;
-    for position in 0..merged.len() {
-        ids.push(merged.id_at(position))?;
+    let mut ids = Vec::with_capacity(alloc, left.len().saturating_add(more))?;
+    for place in 0..left.len() {
+        ids.push(left.id_at(place))?;
     }
     Ok(ids)
 }
 
-/// The committed instances, and then the missing ones.
-fn nodes(alloc: Global, merged: &Merged, gathered: &Gathered) -> Result<Vec<Id>, Memory>
-    requires { IsGathered merged.now gathered.now.rows gathered.now.missing.items }
-    ensures { IfOk result (λ ids. AreNodesOf merged.now ids.items) }
+/// The instances that are left, and then the missing ones.
+fn nodes(alloc: Global, left: &Left, gathered: &Gathered) -> Result<Vec<Id>, Memory>
+    requires { IsGathered (left_of left.now) gathered.now.rows gathered.now.missing.items }
+    ensures { IfOk result (λ ids. AreNodesOf (left_of left.now) ids.items) }
 {
     let missing = each_once(alloc, &gathered.missing)?;
-    let mut ids = committed_ids(alloc, merged, missing.len())?;
+    let mut ids = committed_ids(alloc, left, missing.len())?;
     ids.extend_from_slice(&missing)?;
     Ok(ids)
 }
 
 /// The numbers of missing nodes, in `row`.
 fn number_missing(
-    merged: &Merged,
+    left: &Left,
     ids: &[Id],
     missing: &[Id],
     row: &mut Vec<usize>,
 ) -> Result<(), Memory>
-    requires nodes { AreNodesOf merged.now ids.now }
+    requires nodes { AreNodesOf (left_of left.now) ids.now }
     requires rising { AllPairs Below missing.now }
-    requires missing { All (λ x. ¬ IsCommitted merged.now x) missing.now }
+    requires missing { All (λ x. ¬ IsCommitted (left_of left.now) x) missing.now }
     ensures { OnOk result (ArePlacesOf ids.now missing.now row.new.items) }
 {
     row.clear();
-    let (committed, nodes) = ids.split_at(merged.len());
+    let (committed, nodes) = ids.split_at(left.len());
     for id in missing {
         if let Some(place) = find(nodes, *id) {
             row.push(committed.len() + place)?;
@@ -71,57 +74,77 @@ fn number_missing(
     Ok(())
 }
 
-/// The edges of the committed nodes: what was gathered of each, and then its missing dependencies.
+/// The edges of the nodes that are left: what was gathered of each, and then its missing dependencies.
 fn numbered_rows(
     alloc: Global,
-    merged: &Merged,
+    left: &Left,
     ids: &[Id],
     gathered: &Gathered,
 ) -> Result<Rows, Memory>
-    requires nodes { AreNodesOf merged.now ids.now }
-    requires gathered { IsGathered merged.now gathered.now.rows gathered.now.missing.items }
-    ensures { IfOk result (λ rows. AreRowsOf merged.now ids.now rows (length merged.now)) }
+    requires nodes { AreNodesOf (left_of left.now) ids.now }
+    requires gathered { IsGathered (left_of left.now) gathered.now.rows gathered.now.missing.items }
+    ensures { IfOk result (λ rows. AreRowsOf (left_of left.now) ids.now rows (length (left_of left.now))) }
 {
     let mut rows = gathered.rows.room(alloc, gathered.missing.len())?;
     let mut missing = gathered.missing.as_slice();
     let mut row = Vec::new(alloc);
-    for position in 0..merged.len() {
-        let known = gathered.rows.row(position);
-        let lacks = merged.entry_at(position).deps().len() - known.len();
+    for place in 0..left.len() {
+        let known = gathered.rows.row(place);
+        let lacks = left.count_undone(left.entry_at(place).deps()) - known.len();
         let (here, later) = missing.split_at(lacks);
-        number_missing(merged, ids, here, &mut row)?;
+        number_missing(left, ids, here, &mut row)?;
         rows = rows.push_row(known, &row)?;
         missing = later;
     }
     Ok(rows)
 }
 
-/// The edges of the committed nodes.
-fn rows(alloc: Global, merged: &Merged, ids: &[Id], gathered: Gathered) -> Result<Rows, Memory>
-    requires nodes { AreNodesOf merged.now ids.now }
-    requires gathered { IsGathered merged.now gathered.rows gathered.missing.items }
-    ensures { IfOk result (λ rows. AreRowsOf merged.now ids.now rows (length merged.now)) }
+/// The edges of the nodes that are left.
+fn rows(alloc: Global, left: &Left, ids: &[Id], gathered: Gathered) -> Result<Rows, Memory>
+    requires nodes { AreNodesOf (left_of left.now) ids.now }
+    requires gathered { IsGathered (left_of left.now) gathered.rows gathered.missing.items }
+    ensures { IfOk result (λ rows. AreRowsOf (left_of left.now) ids.now rows (length (left_of left.now))) }
 {
     if gathered.missing.is_empty() {
         let Gathered { rows, missing: _ } = gathered;
         return Ok(rows);
     }
-    numbered_rows(alloc, merged, ids, &gathered)
+    numbered_rows(alloc, left, ids, &gathered)
 }
 
-/// The graph of a map, in time n log n in its instances and dependencies.
+/// The graph of a map, in time n log n in its instances and dependencies: of a map of which nothing is done.
 ///
-/// The plan's workers look the dependencies up. The graph is the same for every plan.
+/// The node of a committed instance is its position in the map. The plan's workers look the
+/// dependencies up. The graph is the same for every plan.
 pub fn build<R: Threads + Sync>(
     rt: &R,
     alloc: Global,
     merged: &Merged,
     plan: Plan,
 ) -> Result<Graph, Memory>
-    ensures { IfOk result (λ graph. IsGraphOf merged.now graph) }
+    ensures graph { IfOk result (λ graph. IsGraphOf merged.now graph) }
+    ensures after { IfOk result (λ graph. IsGraphAfter merged.now graph) }
 {
-    let gathered = committed_rows(rt, alloc, merged, plan)?;
-    let ids = nodes(alloc, merged, &gathered)?;
-    let rows = rows(alloc, merged, &ids, gathered)?;
+    build_after(rt, alloc, merged, &[], plan)
+}
+
+/// The graph of what is left of a map once some instances are done, given by rising Id: a done instance
+/// has no node, and nothing waits for it. An Id that is done need not be in the map.
+///
+/// A node is then no position of the map. The time is n log n in all instances, done Ids and dependencies.
+pub fn build_after<R: Threads + Sync>(
+    rt: &R,
+    alloc: Global,
+    merged: &Merged,
+    done: &[Id],
+    plan: Plan,
+) -> Result<Graph, Memory>
+    requires { IsRising done.now }
+    ensures { IfOk result (λ graph. IsGraphOf (remaining done.now merged.now) graph) }
+{
+    let left = Left::new(alloc, merged, done)?;
+    let gathered = committed_rows(rt, alloc, &left, plan)?;
+    let ids = nodes(alloc, &left, &gathered)?;
+    let rows = rows(alloc, &left, &ids, gathered)?;
     Ok(Graph::new(ids, rows))
 }

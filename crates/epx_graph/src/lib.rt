@@ -1,4 +1,4 @@
-//! The graph of dependencies of a committed map, and the instances that wait.
+//! The graph of dependencies of a committed map or of what is left of one, and the instances that wait.
 #![tactic(auto)]
 
 mod building;
@@ -6,12 +6,13 @@ mod committed;
 mod find;
 mod graph;
 pub mod laws;
+mod left;
 mod part;
 mod rows;
 mod search;
 mod turned;
 mod waiters;
 
-pub use building::build;
+pub use building::{build, build_after};
 pub use graph::Graph;
 pub use waiters::{Waiter, waiting};

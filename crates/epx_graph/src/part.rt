@@ -1,4 +1,4 @@
-//! Parts of the committed instances.
+//! Parts of the instances that are left.
 ghost use Rattle.std.specs.Prelude.{◌≡◌, ◌≤◌, [], IfOk};
 
 use crate::rows::Rows;

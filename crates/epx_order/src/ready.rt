@@ -1,9 +1,11 @@
 //! The ranks of the ready instances.
-ghost use Rattle.std.specs.Prelude.{◌≡◌, ◌<◌, Some, slice_get, IfNone, IfOk, IfSome};
+ghost use Rattle.std.specs.Prelude.{◌≡◌, ◌<◌, List, Contains, Some, slice_get, IfNone, IfOk, IfSome};
 ghost use Rattle.epx_types.specs.declared.id.Id.{Id};
+ghost use Rattle.epx_types.specs.CommittedMap.{IsCommitted};
+ghost use Rattle.epx_types.specs.Done.{remaining};
 ghost use Rattle.epx_types.specs.ExecutionOrder.{IsRanked};
 ghost use Rattle.epx_types.specs.Readiness.{IsReady};
-ghost use Rattle.epx_graph.specs.GraphOf.{IsGraphOf};
+ghost use Rattle.epx_graph.specs.GraphOf.{IsGraphAfter, IsGraphOf};
 ghost use Rattle.epx_order.specs.Ranks.{ranked, AreReadyRanks};
 ghost use Rattle.epx_order.specs.Standings.{IsStanding};
 
@@ -11,17 +13,18 @@ use crate::rank::Rank;
 use crate::standings::{Standing, Standings};
 use epx_graph::Graph;
 use epx_merge::Merged;
-use epx_types::Memory;
+use epx_types::{Entry, Id, Memory};
 use std::alloc::Global;
 
-/// The ranks of the ready instances, in time linear in the instances and their dependencies.
+/// The ranks of the ready instances of what is left of a map, in time linear in the dependencies and, where something is
+/// done, n log n in the instances.
 pub(crate) fn ready_ranks(
     alloc: Global,
     merged: &Merged,
     graph: &Graph,
 ) -> Result<Vec<Rank>, Memory>
-    requires { IsGraphOf merged.now graph.now }
-    ensures { IfOk result (λ ranks. AreReadyRanks merged.now ranks.items) }
+    requires { IsGraphAfter merged.now graph.now }
+    ensures { IfOk result (λ ranks. (done : List Id) → IsGraphOf (remaining done merged.now) graph.now → AreReadyRanks (remaining done merged.now) ranks.items) }
 {
     let standings = Standings::of(alloc, graph)?;
     let mut ranks = Vec::new(alloc);
@@ -35,20 +38,40 @@ pub(crate) fn ready_ranks(
 
 /// The rank of the instance of a committed node, if it is ready.
 fn rank_of(merged: &Merged, graph: &Graph, node: usize, standing: Standing) -> Option<Rank>
-    requires graph { IsGraphOf merged.now graph.now }
+    requires graph { IsGraphAfter merged.now graph.now }
     requires committed { node < graph.now.committed }
     requires standing { IsStanding graph.now node standing }
-    ensures rank { IfSome result (λ rank. (slice_get graph.now.ids node ≡ Some rank.id) × IsRanked merged.now (ranked rank)) }
-    ensures none { IfNone result ((x : Id) → slice_get graph.now.ids node ≡ Some x → ¬ IsReady merged.now x) }
+    ensures id { IfSome result (λ rank. slice_get graph.now.ids node ≡ Some rank.id) }
+    ensures rank { IfSome result (λ rank. (done : List Id) → IsGraphOf (remaining done merged.now) graph.now → IsRanked (remaining done merged.now) (ranked rank)) }
+    ensures none { IfNone result ((done : List Id) (x : Id) → IsGraphOf (remaining done merged.now) graph.now → slice_get graph.now.ids node ≡ Some x → ¬ IsReady (remaining done merged.now) x) }
 {
     if standing.reaches_missing {
         return None;
     }
-    let entry = merged.entry_at(node);
+    let id = graph.id(node);
     Some(Rank {
         depth: standing.depth,
         leader: graph.id(standing.leader),
-        seq: entry.seq(),
-        id: entry.id(),
+        seq: entry_of(merged, node, id).seq(),
+        id,
     })
+}
+
+/// The entry of a committed instance. Where nothing is done it stands at the number of its node, and no
+/// Id is looked up.
+fn entry_of(merged: &Merged, node: usize, id: Id) -> &Entry
+    requires { IsCommitted merged.now id }
+    ensures among { Contains merged.now result.now }
+    ensures id { result.now.id ≡ id }
+{
+    if node < merged.len() {
+        let entry = merged.entry_at(node);
+        if entry.id() == id {
+            return entry;
+        }
+    }
+    match merged.get(id) {
+        Some(entry) => entry,
+        None => unreachable!(),
+    }
 }

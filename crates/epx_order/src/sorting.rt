@@ -1,8 +1,10 @@
 //! The execution order.
-ghost use Rattle.std.specs.Prelude.{IfOk};
+ghost use Rattle.std.specs.Prelude.{List, IfOk};
+ghost use Rattle.epx_types.specs.declared.id.Id.{Id};
+ghost use Rattle.epx_types.specs.Done.{remaining};
 ghost use Rattle.epx_types.specs.ExecutionOrder.{ranked_ids, IsExecutionOrder};
 ghost use Rattle.epx_types.specs.LawfulOrders.{IsLawful};
-ghost use Rattle.epx_graph.specs.GraphOf.{IsGraphOf};
+ghost use Rattle.epx_graph.specs.GraphOf.{IsGraphAfter, IsGraphOf};
 
 use crate::order_list::OrderList;
 use crate::ready::ready_ranks;
@@ -13,8 +15,10 @@ use rayon::prelude::*;
 use std::alloc::Global;
 use std::thread::Threads;
 
-/// The order in which the ready instances of a committed map are executed, in time n log n in the
-/// instances and linear in their dependencies.
+/// The order in which the ready instances are executed of a committed map, or of what is left of one
+/// once those that have no node are done.
+///
+/// It takes time n log n in the instances and linear in their dependencies.
 ///
 /// A component stands after each that it reaches: components go by rising depth, and those of one
 /// depth by their least members. Inside a component instances go by rising sequence number, and a
@@ -25,9 +29,12 @@ pub fn order<R: Threads + Sync>(
     merged: &Merged,
     graph: &Graph,
 ) -> Result<OrderList, Memory>
-    requires { IsGraphOf merged.now graph.now }
-    ensures order { IfOk result (λ order. IsExecutionOrder merged.now order) }
-    ensures lawful { IfOk result (λ order. IsLawful merged.now (ranked_ids order)) }
+    requires { IsGraphAfter merged.now graph.now }
+    ensures order { IfOk result (λ order. (done : List Id) → IsGraphOf (remaining done merged.now) graph.now → IsExecutionOrder (remaining done merged.now) order) }
+    ensures lawful { IfOk result (λ order. (done : List Id) → IsGraphOf (remaining done merged.now) graph.now → IsLawful (remaining done merged.now) (ranked_ids order)) }
+    // Where nothing is done, it is the order of the whole map.
+    ensures whole { IfOk result (λ order. IsGraphOf merged.now graph.now → IsExecutionOrder merged.now order) }
+    ensures whole_lawful { IfOk result (λ order. IsGraphOf merged.now graph.now → IsLawful merged.now (ranked_ids order)) }
 {
     let mut ranks = ready_ranks(alloc, merged, graph)?;
     par_sort(rt, alloc, &mut ranks)?;

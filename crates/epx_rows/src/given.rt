@@ -1,6 +1,6 @@
 //! Logs from their instances, and the check that their answer is the wanted one. The tests stand on
 //! these few calls, so that each of them is proved fast.
-use epx_tool::{Ask, answer, view};
+use epx_tool::{Ask, answer, resume, view};
 use epx_types::{Fault, Plan};
 use std::alloc::{AllocError, Global};
 use std::process::Abort;
@@ -67,6 +67,20 @@ pub(crate) fn answered<R: Abort + Threads + RandomSource + Sync>(
     logs: &[Vec<u8>],
 ) -> Result<String, Fail> {
     told(rt, alloc, answer(rt, alloc, logs, plan(rt)))
+}
+
+/// The report that goes on from a base over the logs, or the text of their fault.
+pub(crate) fn resumed<R: Abort + Threads + RandomSource + Sync>(
+    rt: &R,
+    alloc: Global,
+    base: &str,
+    logs: &[Vec<u8>],
+) -> Result<String, Fail> {
+    told(
+        rt,
+        alloc,
+        resume(rt, alloc, base.as_bytes(), logs, plan(rt)),
+    )
 }
 
 /// The execution order of the logs, or the text of their fault.

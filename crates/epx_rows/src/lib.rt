@@ -17,6 +17,8 @@ mod reading;
 #[cfg(test)]
 mod refusing;
 #[cfg(test)]
+mod resuming;
+#[cfg(test)]
 mod statuses;
 #[cfg(test)]
 mod waiting;

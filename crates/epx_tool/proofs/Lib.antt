@@ -3,8 +3,15 @@ mod Pairs
 mod SourcesTaken
 mod SourcesRead
 mod OneAnswer
+mod LogsBeside
+mod OneAnswerBeside
 mod AnswersExist
 mod OrderedInstances
 mod AcceptedLogs
+mod OrderedCommands
+mod LeftCommands
 mod Reports
+mod ResumptionsExist
+mod ReportsAreBases
+mod KnownTexts
 mod OrderLines

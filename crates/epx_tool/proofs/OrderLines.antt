@@ -5,7 +5,7 @@ use Rattle.std.proofs.lemmas.Option.{slice_get_within, get_or_from_slice_get}
 use Rattle.epx_types.specs.declared.id.Id.{Id}
 use Rattle.epx_types.specs.ExecutionOrder.{Ranked, ranked_ids}
 use Rattle.epx_types.proofs.Places.{slice_get-map}
-use Rattle.epx_tool.specs.ReportLines.{line_of}
+use Rattle.epx_base.specs.ReportLines.{line_of}
 use Rattle.epx_tool.specs.OrderText.{order_data, order_line}
 
 -- the parts of a line, each looked up by its place, are those of one instance

@@ -1,5 +1,5 @@
 -- The report, the order and the levels of a committed map, from what the layers below answer.
-use Rattle.std.proofs.Common.{◌≡◌, ◌≤◌, ◌^◌, ◌++◌, ℕ, List, [], ◌∷◌, map, length, flat_map, zip, refl, sym, ap, ap₂, ◌∙◌, subst, arith}
+use Rattle.std.proofs.Common.{◌≡◌, ◌≤◌, ◌^◌, ◌++◌, ℕ, List, [], ◌∷◌, map, length, flat_map, zip, refl, sym, ap, ap₂, ◌∙◌, subst, arith, Contains}
 use Rattle.std.specs.FinMap as contents
 use Rattle.std.proofs.lemmas.List.{length-map}
 use Rattle.epx_types.specs.declared.id.Id.{Id}
@@ -8,53 +8,60 @@ use Rattle.epx_types.specs.declared.reply.Reply.{Reply}
 use Rattle.epx_types.specs.Contents.{Contents}
 use Rattle.epx_types.specs.Instances.{Instance}
 use Rattle.epx_types.specs.CommittedMap.{instance_of}
+use Rattle.epx_types.specs.Done.{remaining}
 use Rattle.epx_types.specs.Execution.{execute}
 use Rattle.epx_types.specs.ExecutionOrder.{Ranked, IsExecutionOrder, ranked_ids, component_count}
 use Rattle.epx_types.specs.WaitingLists.{Waiting, IsWaitingList}
 use Rattle.epx_types.specs.Levels.{AreLevels}
 use Rattle.epx_merge.specs.Limits.{max_instances}
-use Rattle.epx_tool.specs.ReportLines.{header_line, reply_line, waiting_line, store_line}
-use Rattle.epx_tool.specs.Report.{IsReport, ops_of, commands_of}
+use Rattle.epx_base.specs.ReportLines.{header_line, reply_line, waiting_line, store_line}
+use Rattle.epx_tool.specs.Report.{IsReport, ops_of, commands_of, report_text}
+use Rattle.epx_tool.specs.ResumedReport.{IsReportAfter, resumed_text}
 use Rattle.epx_tool.specs.LevelText.{IsLevelText, level_text}
+use Rattle.epx_types.proofs.DoneLemmas.{Contains-remaining_iff, remaining-nil}
+use Rattle.epx_types.proofs.ExecutionOrders.{IsExecutionOrder-IsLawful}
 use Rattle.epx_tool.proofs.OrderedInstances.{ordered_are_few}
+use Rattle.epx_tool.proofs.OrderedCommands.{commands_by_id, commands_are}
+use Rattle.epx_tool.proofs.LeftCommands.{commands-left, length-remaining}
 
--- the commands of the instances of a list
-abbrev pub commands_by_id : List Instance → List Id → List (List Op)
-commands_by_id m ids = map (λ x. ops_of (instance_of m x)) ids
+module _ (done : List Id) (m : List Instance) (order : List Ranked) (ordered : IsExecutionOrder (remaining done m) order) (ids : List Id) (are : ids ≡ ranked_ids order) where
+  pub few_commands : length m ≤ max_instances → {C : Type 0} (ops : C → List Op) (commands : List C) → map ops commands ≡ commands_by_id m ids → length commands ≤ 2 ^ 40
+  few_commands few ops commands e =
+      let many : length commands ≡ length order =
+      sym (length-map commands ops) ∙ ap length e ∙ length-map ids (λ x. ops_of (instance_of m x)) ∙ ap length are ∙ length-map order (λ (r : Ranked). r.id) in
+      omega (arith, many, few, ordered_are_few (remaining done m) order ordered, length-remaining done m)
 
-commands_of-by_id : (m : List Instance) (order : List Ranked) → commands_of m order ≡ commands_by_id m (ranked_ids order)
-commands_of-by_id m [] = refl
-commands_of-by_id m (r ∷ order) = ap (λ rest. ops_of (instance_of m r.id) ∷ rest) (commands_of-by_id m order)
+  -- an instance that is executed is not done
+  pub executed_is_left : (x : Id) → Contains ids x → ¬ Contains done x
+  executed_is_left x there =
+      let ready = (IsExecutionOrder-IsLawful (remaining done m) order ordered).only x (subst (λ (xs : List Id). Contains xs x) are there) in
+      ((Contains-remaining_iff done m x).0 ready.committed).1
 
-commands_are : (m : List Instance) (order : List Ranked) (ids : List Id) (commands : List (List Op)) → ids ≡ ranked_ids order → commands ≡ commands_by_id m ids → commands ≡ commands_of m order
-commands_are m order ids commands e_ids e = e ∙ ap (commands_by_id m) e_ids ∙ sym (commands_of-by_id m order)
+  pub IsReportAfter-printed : (stored : Contents) (waiting : List Waiting) (commands : List (List Op)) (replies : List Reply) (final : Contents) (text : List ℕ)
+      → IsWaitingList (remaining done m) waiting → commands ≡ commands_by_id m ids
+      → replies ≡ (execute commands stored).replies → final ≡ (execute commands stored).final
+      → text ≡ resumed_text done order waiting (record { replies = replies; final = final }) → IsReportAfter done stored m text
+  IsReportAfter-printed stored waiting commands replies final text listed e_commands e_replies e_final e_text = record {
+    order = order;
+    waiting = waiting;
+    ordered = ordered;
+    listed = listed;
+    printed = e_text ∙ ap₂ (λ rs f. resumed_text done order waiting (record { replies = rs; final = f }))
+        (e_replies ∙ ap (λ cs. (execute cs stored).replies) all) (e_final ∙ ap (λ cs. (execute cs stored).final) all);
+  } where
+    all : commands ≡ commands_of (remaining done m) order
+    all = commands_are (remaining done m) order ids commands are (e_commands ∙ sym (commands-left done m ids executed_is_left))
 
-pub few_commands : (m : List Instance) (order : List Ranked) → IsExecutionOrder m order → length m ≤ max_instances → (ids : List Id) → ids ≡ ranked_ids order
-    → {C : Type 0} (ops : C → List Op) (commands : List C) → map ops commands ≡ commands_by_id m ids → length commands ≤ 2 ^ 40
-few_commands m order ordered few ids is ops commands e =
-    let many : length commands ≡ length order =
-    sym (length-map commands ops) ∙ ap length e ∙ length-map ids (λ x. ops_of (instance_of m x)) ∙ ap length is ∙ length-map order (λ (r : Ranked). r.id) in
-    omega (arith, many, few, ordered_are_few m order ordered)
-
--- what is printed
-abbrev pub printed : List Ranked → List Id → List Waiting → List Reply → Contents → List ℕ
-printed order ids waiting replies final =
-    header_line (length order) (length waiting) (component_count order)
-    ++ (flat_map reply_line (zip ids replies) ++ (flat_map waiting_line waiting ++ flat_map store_line (contents.entries final)))
-
-pub IsReport-printed : (m : List Instance) (order : List Ranked) (waiting : List Waiting) (commands : List (List Op)) (ids : List Id) (replies : List Reply) (final : Contents) (text : List ℕ)
-    → IsExecutionOrder m order → IsWaitingList m waiting → ids ≡ ranked_ids order → commands ≡ commands_by_id m ids
-    → replies ≡ (execute commands contents.empty).replies → final ≡ (execute commands contents.empty).final
-    → text ≡ printed order (ranked_ids order) waiting replies final → IsReport m text
-IsReport-printed m order waiting commands ids replies final text ordered listed e_ids e_commands e_replies e_final e_text = record {
-  order = order;
-  waiting = waiting;
-  ordered = ordered;
-  listed = listed;
-  printed = e_text ∙ ap₂ (λ rs f. printed order (ranked_ids order) waiting rs f) (e_replies ∙ ap (λ cs. (execute cs contents.empty).replies) all) (e_final ∙ ap (λ cs. (execute cs contents.empty).final) all);
-} where
-  all : commands ≡ commands_of m order
-  all = commands_are m order ids commands e_ids e_commands
+-- a report after nothing is done, from the empty store, is the report of the map
+pub IsReport-after_nothing : (m : List Instance) (text : List ℕ) → IsReportAfter [] contents.empty m text → IsReport m text
+IsReport-after_nothing m text p =
+    let whole = remaining-nil m in record {
+      order = p.order;
+      waiting = p.waiting;
+      ordered = subst (λ (l : List Instance). IsExecutionOrder l p.order) whole p.ordered;
+      listed = subst (λ (l : List Instance). IsWaitingList l p.waiting) whole p.listed;
+      printed = p.printed ∙ ap (λ (l : List Instance). report_text p.order p.waiting (execute (commands_of l p.order) contents.empty)) whole;
+    }
 
 pub IsLevelText-printed : (m : List Instance) (order : List Ranked) (waiting : List Waiting) (commands : List (List Op)) (ids : List Id) (levels : List ℕ) (text : List ℕ)
     → IsExecutionOrder m order → IsWaitingList m waiting → ids ≡ ranked_ids order → commands ≡ commands_by_id m ids → AreLevels commands levels

@@ -7,7 +7,7 @@ use Rattle.std.proofs.lemmas.List.Elements.{All-set, All-push}
 use Rattle.std.proofs.lemmas.Option.{slice_get_within, slice_get-get_or, get_or_from_slice_get}
 use Rattle.std.specs.Io.KnownBytes.{Consumes, IsAtEnd}
 use Rattle.epx_types.specs.declared.fault.Fault.{Fault}
-use Rattle.epx_types.specs.declared.fault.Fault.TheVariants.{Memory, TooManyLogs, LogTooLong, BadLine, TooManyInstances, Disagree, Read, Write}
+use Rattle.epx_types.specs.declared.fault.Fault.TheVariants.{Memory, TooManyLogs, LogTooLong, BadLine, TooManyInstances, Disagree, Read, Write, BadBase}
 use Rattle.epx_types.proofs.Places.{slice_get-map, slice_get-from_map}
 use Rattle.epx_merge.specs.Limits.{max_logs, max_log_bytes}
 use Rattle.epx_merge.specs.Refusals.{Fits}
@@ -27,6 +27,11 @@ pub record HaveBeenRead {S : Type 0} (remaining : S → Option (List ℕ)) (has_
   pub count : length read ≡ n
   pub taken : EachConsumesUpTo remaining first now (max_log_bytes + 1)
   pub ended : All (λ s. IsAtEnd (remaining s)) (take n now)
+
+-- bytes that begin with others are as many at least
+pub longer : (later : Option (List ℕ)) (bytes start : List ℕ) → Consumes (Some bytes) later start → length start ≤ length bytes
+longer None bytes start h = absurd h
+longer (Some rest) bytes start h = omega (arith, ap length h, length-append start rest)
 
 module _ {S : Type 0} (remaining : S → Option (List ℕ)) (has_failed : S → Bool) where
   pub none_read : (first : List S) → All (λ s. has_failed s ≡ false) first → HaveBeenRead remaining has_failed first first 0 []
@@ -60,11 +65,6 @@ module _ {S : Type 0} (remaining : S → Option (List ℕ)) (has_failed : S → 
   pub read_well : {T : Type 0} (failed : Bool) (x : T) (log : ℕ) → IsErrOf {T = T} (Ok x) (Read log) ↔ (failed ≡ true) → failed ≡ false
   read_well true x log h = absurd (cc (h.1 refl))
   read_well false x log h = refl
-
-  -- bytes that begin with others are as many at least
-  longer : (later : Option (List ℕ)) (bytes start : List ℕ) → Consumes (Some bytes) later start → length start ≤ length bytes
-  longer None bytes start h = absurd h
-  longer (Some rest) bytes start h = omega (arith, ap length h, length-append start rest)
 
   module _ (first now : List S) (n : ℕ) (read : List (List ℕ)) (h : HaveBeenRead remaining has_failed first now n read) where
     -- the next source is as it was at first
@@ -128,8 +128,9 @@ module _ {S : Type 0} (remaining : S → Option (List ℕ)) (has_failed : S → 
     reading_refusal l few d later (Disagree id one other) of_log long logs e = absurd of_log
     reading_refusal l few d later (Read log) of_log long logs e =
         let P : ℕ → Type 0 = λ k. IsReadingRefusal logs (Read k) in
-        subst P (sym of_log) (omega (arith, few, as_many_logs first logs e), short_before l logs e)
+        subst P (sym of_log) (omega (arith, few, as_many_logs first logs e), omega (arith, l, as_many_logs first logs e), short_before l logs e)
     reading_refusal l few d later Write of_log long logs e = absurd of_log
+    reading_refusal l few d later (BadBase line) of_log long logs e = absurd of_log
 
     -- logs that were all read fit
     pub all_fit : length first ≤ n → length first ≤ max_logs → Fits read

@@ -7,7 +7,7 @@ use Rattle.epx_types.specs.ExecutionOrder.{Ranked, IsExecutionOrder, ranked_ids,
 use Rattle.epx_types.specs.Levels.{AreLevels}
 use Rattle.epx_types.specs.WaitingLists.{Waiting, IsWaitingList}
 use Rattle.epx_tool.specs.Report.{commands_of}
-use Rattle.epx_tool.specs.ReportLines.{data_of_number, line_of, header_line, waiting_line}
+use Rattle.epx_base.specs.ReportLines.{data_of_number, line_of, header_line, waiting_line}
 
 -- an instance and the level of its command
 abbrev pub level_data : Id → ℕ → List Data

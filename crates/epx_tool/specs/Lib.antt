@@ -1,11 +1,16 @@
-pub mod ReportLines
+pub use Rattle.epx_base.specs.ReportLines
 pub mod Report
+pub mod ResumedReport
 pub mod OrderText
 pub mod LevelText
 pub mod Views
 pub mod Answer
+pub mod Beside
+pub mod Resumption
 pub mod AnswerLaws
+pub mod ResumptionLaws
 pub mod Runs
+pub mod BesideRuns
 pub mod Sources
 pub use Rattle.epx_devices.specs.Devices
 pub use Rattle.epx_devices.specs.MemorySink

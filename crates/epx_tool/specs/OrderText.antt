@@ -5,7 +5,7 @@ use Rattle.epx_types.specs.declared.id.Id.{Id}
 use Rattle.epx_types.specs.Instances.{Instance}
 use Rattle.epx_types.specs.ExecutionOrder.{Ranked, IsExecutionOrder, component_count}
 use Rattle.epx_types.specs.WaitingLists.{Waiting, IsWaitingList}
-use Rattle.epx_tool.specs.ReportLines.{data_of_number, line_of, header_line, waiting_line}
+use Rattle.epx_base.specs.ReportLines.{data_of_number, line_of, header_line, waiting_line}
 
 -- an instance, its depth and its leader
 abbrev pub order_data : Id → ℕ → Id → List Data

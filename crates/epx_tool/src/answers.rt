@@ -1,18 +1,20 @@
 //! The answer to logs.
 ghost use Rattle.std.specs.Prelude.{◌≡◌, ◌≤◌, length, map, IfOk, MatchResult, Ok, Err};
 ghost use Rattle.epx_types.specs.CommittedMap.{instance_of};
+ghost use Rattle.epx_types.specs.Ids.{IsRising};
 ghost use Rattle.epx_merge.specs.Limits.{max_instances};
 ghost use Rattle.epx_tool.specs.Answer.{Answers, IsAnswer};
 ghost use Rattle.epx_tool.specs.OrderText.{IsOrderText};
 ghost use Rattle.epx_tool.specs.LevelText.{IsLevelText};
-ghost use Rattle.epx_tool.specs.Report.{ops_of, report_text, IsReport};
+ghost use Rattle.epx_tool.specs.Report.{ops_of, IsReport};
+ghost use Rattle.epx_tool.specs.ResumedReport.{resumed_text, IsReportAfter};
 ghost use Rattle.epx_tool.specs.Views.{IsViewed};
 
 use crate::ask::Ask;
 use crate::report::{level_report, order_report, report};
 use epx_apply::{levels, run_order};
 use epx_claims::FreeGate;
-use epx_graph::{Waiter, build, waiting};
+use epx_graph::{Waiter, build, build_after, waiting};
 use epx_merge::{Merged, read_logs};
 use epx_order::{OrderList, order};
 use epx_txn::Store;
@@ -36,36 +38,62 @@ fn commands<'a>(alloc: Global, merged: &'a Merged, ids: &[Id]) -> Result<Vec<Com
     Ok(commands)
 }
 
-/// The report of a run. The map is not needed for it, and is freed at the same time by a thread of its own
+/// The report of what was executed. The map is not needed for it, and is freed at the same time by a thread of its own
 /// where there are several workers.
 fn report_alone<R: Threads + Sync>(
     rt: &R,
     alloc: Global,
     plan: Plan,
     merged: Merged,
+    done: &[Id],
     order: &OrderList,
     waiters: &[Waiter],
     replies: &[Reply],
     store: &Store,
 ) -> Result<Vec<u8>, Memory>
-    ensures { IfOk result (λ text. text.items ≡ report_text order.now waiters.now (record { replies = replies.now; final = store.now })) }
+    ensures { IfOk result (λ text. text.items ≡ resumed_text done.now order.now waiters.now (record { replies = replies.now; final = store.now })) }
 {
     if plan.workers() == 1 {
         drop(merged);
-        return report(alloc, order, waiters, replies, store);
+        return report(alloc, done, order, waiters, replies, store);
     }
     let (_, text) = join(
         rt,
         move || drop(merged),
         || -> Result<Vec<u8>, Memory>
-            ensures { IfOk result (λ text. text.items ≡ report_text order.entry.now waiters.entry.now (record { replies = replies.entry.now; final = store.entry.now })) }
-        { report(alloc, order, waiters, replies, store) },
+            ensures { IfOk result (λ text. text.items ≡ resumed_text done.entry.now order.entry.now waiters.entry.now (record { replies = replies.entry.now; final = store.entry.now })) }
+        { report(alloc, done, order, waiters, replies, store) },
     );
     text
 }
 
-/// The report of a committed map.
-fn report_of<R: Threads + RandomSource + Sync>(
+/// The report of what is left of a committed map once some instances are done, given by rising Id, from a store.
+pub(crate) fn report_of<R: Threads + RandomSource + Sync>(
+    rt: &R,
+    alloc: Global,
+    merged: Merged,
+    done: &[Id],
+    mut store: Store,
+    plan: Plan,
+) -> Result<Vec<u8>, Memory>
+    requires few { length merged ≤ max_instances }
+    requires rising { IsRising done.now }
+    ensures { IfOk result (λ text. IsReportAfter done.now store merged text.items) }
+{
+    let graph = build_after(rt, alloc, &merged, done, plan)?;
+    let order = order(rt, alloc, &merged, &graph)?;
+    let waiters = waiting(alloc, &graph)?;
+    drop(graph);
+    let commands = commands(alloc, &merged, order.ids())?;
+    let replies = run_order(rt, alloc, &mut store, &commands, plan, &FreeGate)?;
+    drop(commands);
+    report_alone(
+        rt, alloc, plan, merged, done, &order, &waiters, &replies, &store,
+    )
+}
+
+/// The report of a committed map, of which nothing is done.
+fn report_whole<R: Threads + RandomSource + Sync>(
     rt: &R,
     alloc: Global,
     merged: Merged,
@@ -74,15 +102,7 @@ fn report_of<R: Threads + RandomSource + Sync>(
     requires few { length merged ≤ max_instances }
     ensures { IfOk result (λ text. IsReport merged text.items) }
 {
-    let graph = build(rt, alloc, &merged, plan)?;
-    let order = order(rt, alloc, &merged, &graph)?;
-    let waiters = waiting(alloc, &graph)?;
-    drop(graph);
-    let commands = commands(alloc, &merged, order.ids())?;
-    let mut store = Store::new(alloc);
-    let replies = run_order(rt, alloc, &mut store, &commands, plan, &FreeGate)?;
-    drop(commands);
-    report_alone(rt, alloc, plan, merged, &order, &waiters, &replies, &store)
+    report_of(rt, alloc, merged, &[], Store::new(alloc), plan)
 }
 
 /// The execution order of a committed map, as text.
@@ -131,7 +151,7 @@ pub fn answer<R: Threads + RandomSource + Sync>(
         Ok(merged) => merged,
         Err(fault) => return Err(fault),
     };
-    Ok(report_of(rt, alloc, merged, plan)?)
+    Ok(report_whole(rt, alloc, merged, plan)?)
 }
 
 /// As `answer`, of logs that are freed once they are read.
@@ -149,7 +169,7 @@ pub(crate) fn answer_once<R: Threads + RandomSource + Sync>(
         Err(fault) => return Err(fault),
     };
     drop(logs);
-    let text = report_of(rt, alloc, merged, plan)?;
+    let text = report_whole(rt, alloc, merged, plan)?;
     Ok(text)
 }
 

@@ -1,5 +1,6 @@
 //! Laws of answers.
 ghost use Rattle.epx_tool.specs.AnswerLaws.{ReportExists, ViewTextExists, ReportIsOne, OrderTextIsOne, LevelTextIsOne, AnswerExists, ViewExists, AnswerIsOne, ViewIsOne};
+ghost use Rattle.epx_tool.specs.ResumptionLaws.{ReportIsAfterNothing, ReportIsBase, ResumptionExists, ResumptionIsOne};
 
 /// A committed map has a report.
 pub fn report_exists()
@@ -44,4 +45,24 @@ pub fn answer_is_one()
 /// Logs have one answer that shows the order, and one that shows the levels, want of memory aside.
 pub fn view_is_one()
     ensures { ViewIsOne }
+{}
+
+/// A base and logs have an answer other than want of memory.
+pub fn resumption_exists()
+    ensures { ResumptionExists }
+{}
+
+/// A base and logs have one answer, want of memory aside.
+pub fn resumption_is_one()
+    ensures { ResumptionIsOne }
+{}
+
+/// A report is one after nothing is done, from the empty store.
+pub fn report_is_after_nothing()
+    ensures { ReportIsAfterNothing }
+{}
+
+/// A report, and a resumed one, is a base: of what is done after it, and of its final store.
+pub fn report_is_base()
+    ensures { ReportIsBase }
 {}

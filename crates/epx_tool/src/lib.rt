@@ -4,9 +4,13 @@
 
 mod answers;
 mod ask;
+mod beside;
 pub mod laws;
 mod report;
+mod resumed_runs;
+mod resuming;
 mod runs;
+mod sources;
 
 pub use answers::{answer, view};
 pub use ask::Ask;
@@ -15,4 +19,6 @@ pub use epx_devices::{
     StdSource, read_log, write_out,
 };
 pub use epx_words::{Task, Words, read_words};
+pub use resumed_runs::run_resume;
+pub use resuming::resume;
 pub use runs::{run, show};

@@ -5,8 +5,8 @@ ghost use Rattle.std.specs.FinMap as contents;
 ghost use Rattle.json.specs.Token.{begin_array, end_array, string};
 ghost use Rattle.json.specs.Print.{print};
 ghost use Rattle.epx_tool.specs.LineTokens.{name_tokens, value_token, reply_tokens};
-ghost use Rattle.epx_tool.specs.ReportLines.{line_feed, line_of, header_line, reply_line, store_line, waiting_line};
-ghost use Rattle.epx_tool.specs.Report.{report_text};
+ghost use Rattle.epx_base.specs.ReportLines.{line_feed, line_of, done_line, header_line, reply_line, store_line, waiting_line};
+ghost use Rattle.epx_tool.specs.ResumedReport.{resumed_text};
 ghost use Rattle.epx_tool.specs.OrderText.{order_data, order_line, order_text};
 ghost use Rattle.epx_tool.specs.LevelText.{level_line, level_text};
 ghost use Rattle.epx_types.specs.ExecutionOrder.{component_count, ranked_ids};
@@ -112,6 +112,19 @@ fn append_header(
     end_line(text, line, out)
 }
 
+fn append_done_instance(
+    alloc: Global,
+    text: &mut Vec<u8>,
+    line: &mut Vec<u8>,
+    id: Id,
+) -> Result<(), AllocError>
+    ensures { OnOk result (text.new.items ≡ text.old.items ++ done_line id) }
+{
+    let mut out = begin_line(alloc, line, "done")?;
+    write_name(&mut out, id)?;
+    end_line(text, line, out)
+}
+
 fn append_reply(
     alloc: Global,
     text: &mut Vec<u8>,
@@ -188,6 +201,16 @@ fn append_level(
     end_line(text, line, out)
 }
 
+fn append_done(alloc: Global, text: &mut Vec<u8>, done: &[Id]) -> Result<(), AllocError>
+    ensures { OnOk result (text.new.items ≡ text.old.items ++ flat_map done_line done.now) }
+{
+    let mut line = Vec::new(alloc);
+    for id in done {
+        append_done_instance(alloc, text, &mut line, *id)?;
+    }
+    Ok(())
+}
+
 fn append_replies(
     alloc: Global,
     text: &mut Vec<u8>,
@@ -250,16 +273,17 @@ fn append_levels(
     Ok(())
 }
 
-/// The header, the replies in execution order, the instances that wait, and the store by byte order
-/// of its keys.
+/// The header, the instances that were done before, the replies in execution order, the instances that wait,
+/// and the store by byte order of its keys.
 pub(crate) fn report(
     alloc: Global,
+    done: &[Id],
     order: &OrderList,
     waiters: &[Waiter],
     replies: &[Reply],
     store: &Store,
 ) -> Result<Vec<u8>, Memory>
-    ensures { IfOk result (λ text. text.items ≡ report_text order.now waiters.now (record { replies = replies.now; final = store.now })) }
+    ensures { IfOk result (λ text. text.items ≡ resumed_text done.now order.now waiters.now (record { replies = replies.now; final = store.now })) }
 {
     let mut text = Vec::new(alloc);
     append_header(
@@ -269,6 +293,7 @@ pub(crate) fn report(
         waiters.len(),
         order.component_count(),
     )?;
+    append_done(alloc, &mut text, done)?;
     append_replies(alloc, &mut text, order.ids(), replies)?;
     append_waiting(alloc, &mut text, waiters)?;
     append_store(alloc, &mut text, store)?;

@@ -12,44 +12,13 @@ ghost use Rattle.epx_devices.specs.Transfers.{AppendsPrefix};
 
 use crate::answers::{answer_once, view};
 use crate::ask::Ask;
-use epx_devices::{Sink, Source, read_log, write_out};
+use crate::sources::read_sources;
+use epx_devices::{Sink, Source, write_out};
 use epx_merge::MAX_LOGS;
 use epx_types::{Fault, Plan};
 use std::alloc::Global;
 use std::random::RandomSource;
 use std::thread::Threads;
-
-/// The bytes of all sources, read in order.
-fn read_sources<S: Source>(alloc: Global, sources: &mut [S]) -> Result<Vec<Vec<u8>>, Fault>
-    requires { All (λ s. S.has_failed s ≡ false) sources.old }
-    ensures bytes { IfOk result (λ v. (logs : _) → AreBytesOf S.remaining sources.old logs → map (λ log. log.items) v.items ≡ logs) }
-    ensures each { IfOk result (λ v. length v.items ≡ length sources.old) }
-    ensures refusal { IfErr result (λ fault. (logs : _) → AreBytesOf S.remaining sources.old logs → IsReadingRefusal logs fault) }
-    ensures nothing_written { ¬ IsErrOf result Fault.Write }
-    ensures failed { (log : _) (source : _) → slice_get sources.new log ≡ Some source → IsErrOf result (Fault.Read log) ↔ (S.has_failed source ≡ true) }
-    ensures fit { IfOk result (λ v. Fits (map (λ log. log.items) v.items)) }
-
-    ensures taken { EachConsumesUpTo S.remaining sources.old sources.new (max_log_bytes + 1) }
-    ensures ended { OnOk result (All (λ s. IsAtEnd (S.remaining s)) sources.new) }
-    ensures no_further { (log : ℕ) → StopsAt result log → drop (log + 1) sources.new ≡ drop (log + 1) sources.old }
-    ensures too_many { IsErrOf result Fault.TooManyLogs ↔ (MAX_LOGS < length sources.old) }
-    ensures none_read { IsErrOf result Fault.TooManyLogs → sources.new ≡ sources.old }
-{
-    if sources.len() > MAX_LOGS {
-        return Err(Fault::TooManyLogs);
-    }
-    let mut logs = Vec::new(alloc);
-    for log in 0..sources.len() {
-        let bytes = match read_log(alloc, log, &mut sources[log]) {
-            Ok(bytes) => bytes,
-            Err(fault) => return Err(fault),
-        };
-        let Ok(()) = logs.push(bytes) else {
-            return Err(Fault::Memory);
-        };
-    }
-    Ok(logs)
-}
 
 /// Reads the logs from the sources in order, and writes the answer to them to the sink, whole or not
 /// at all; a sink that fails has taken a prefix.

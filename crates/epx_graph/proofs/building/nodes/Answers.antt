@@ -1,5 +1,6 @@
 use Rattle.std.proofs.Common.{◌≡◌, ◌++◌, sym, ap, subst, ◌∙◌}
 use Rattle.epx_types.specs.CommittedMap.{ids_of}
+use Rattle.epx_graph.specs.Left.{left_of}
 use Rattle.epx_graph.specs.Nodes.{AreNodesOf}
 use Rattle.epx_graph.proofs.MissingIds.{missing_kept}
 use Rattle.epx_graph.proofs.Numbering.{nodes_joined}
@@ -7,7 +8,7 @@ use Rattle.epx_graph.proofs.building.nodes.Goals as goal
 
 pub returns : goal.returns
 returns c =
-    let m = c.args.merged.now in
+    let m = left_of c.args.left.now in
     let missing = c.in_ok-missing.missing.items in
     let is : c.extend_from_slice.new.self.items ≡ ids_of m ++ missing =
     c.in_ok-extend_from_slice.ensures.items ∙ ap (λ l. l ++ c.deref-2.result.now) c.in_ok-ids.ensures ∙ ap (λ l. ids_of m ++ l) c.deref-2.ensures.value in

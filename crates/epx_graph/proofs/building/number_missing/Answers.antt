@@ -1,5 +1,6 @@
 use Rattle.std.proofs.Common.{◌≡◌, ◌++◌, ◌∷◌, [], ◌+◌, List, Some, slice_get, Contains, length, take, drop, get_or, sym, ap, subst, ◌∙◌}
 use Rattle.epx_types.specs.declared.id.Id.{Id}
+use Rattle.epx_graph.specs.Left.{left_of}
 use Rattle.epx_graph.specs.Nodes.{ArePlacesOf}
 use Rattle.epx_graph.proofs.RisingRows.{missing_skip, missing_more}
 use Rattle.epx_graph.proofs.building.number_missing.Goals as goal
@@ -7,7 +8,7 @@ use Rattle.epx_graph.proofs.building.number_missing.Goals.{in-Some+in_ok-push, i
 
 pub loop-id-preserved : goal.loop-id-preserved
 loop-id-preserved c =
-    let m = c.args.merged.now in
+    let m = left_of c.args.left.now in
     let ids = c.args.ids.now in
     let xs = c.args.missing.now in
     let i = c.loop-id.id-index in

@@ -1,9 +1,10 @@
 use Rattle.std.proofs.Common.{◌≡◌, drop}
+use Rattle.epx_graph.specs.Left.{left_of}
 use Rattle.epx_graph.specs.Nodes.{all_lacking, AreRowsOf}
 use Rattle.epx_graph.proofs.building.numbered_rows.Given as goal
 
-abbrev pub invariant-loop-position : goal.invariant-loop-position
-invariant-loop-position l = record {
-  rows : AreRowsOf l.merged l.ids l.rows l.position;
-  missing : l.missing ≡ all_lacking l.merged (drop l.position l.merged);
+abbrev pub invariant-loop-place : goal.invariant-loop-place
+invariant-loop-place l = record {
+  rows : AreRowsOf (left_of l.left) l.ids l.rows l.place;
+  missing : l.missing ≡ all_lacking (left_of l.left) (drop l.place (left_of l.left));
 }

@@ -1,12 +1,13 @@
 use Rattle.std.proofs.Common.{◌≡◌, length, ap, subst, ◌∙◌, arith, slice_range}
 use Rattle.std.proofs.lemmas.Result.{IfOk-weaker}
+use Rattle.epx_graph.specs.Left.{left_of}
 use Rattle.epx_graph.specs.Nodes.{IsGatheredOf}
 use Rattle.epx_graph.proofs.GatheredParts.{whole_range}
 use Rattle.epx_graph.proofs.committed.committed_rows.Goals as goal
 
 pub returns : goal.returns
 returns g c =
-    let m = c.args.merged.now in
+    let m = left_of c.args.left.now in
     let part = c.whole-part.result in
     let end : part.end ≡ length m = c.whole-part.ensures.end ∙ c.len.ensures.len in
     let all : slice_range m part.start part.end ≡ m = ap (λ a. slice_range m a part.end) c.whole-part.ensures.start ∙ whole_range m part.end (omega (arith, end)) in

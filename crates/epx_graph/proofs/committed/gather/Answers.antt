@@ -1,42 +1,28 @@
-use Rattle.std.proofs.Common.{◌++◌, ◌∷◌, [], take, get_or, is_some, sym, ap, ◌∙◌}
-use Rattle.std.proofs.lemmas.List.{append_assoc}
+use Rattle.std.proofs.Common.{sym, ap, ◌∙◌, append-nil}
 use Rattle.epx_types.specs.declared.id.Id.{Id}
-use Rattle.epx_graph.specs.Nodes.{positions_of, lacking}
-use Rattle.epx_graph.proofs.MissingIds.{lacking_skip, lacking_take}
-use Rattle.epx_graph.proofs.GatheredRows.{positions_skip, positions_take}
+use Rattle.epx_graph.specs.declared.left.Found.TheVariants as found
+use Rattle.epx_graph.proofs.LeftInstances.{gathered_next}
 use Rattle.epx_graph.proofs.committed.gather.Goals as goal
-
-pub loop-id-preserved-in-Some : goal.loop-id-preserved-in-Some
-loop-id-preserved-in-Some c =
-    let m = c.args.merged.now in
-    let deps = c.args.deps.now in
-    let i = c.loop-id.id-index in
-    let p = c.in-Some.position in
-    let d : Id = record { replica = 0; number = 0 } in
-    let some = sym c.position.ensures ∙ c.in-Some.is in
-    let old = c.args.numbers.now.items in
-    record {
-      numbers =
-          c.in_ok-push.ensures.items
-          ∙ ap (λ l. l ++ p ∷ []) c.loop-id.invariant.numbers
-          ∙ append_assoc old (positions_of m (take i deps)) (p ∷ [])
-          ∙ ap (λ l. old ++ l) (sym (positions_take m deps i d p c.loop-id-test.true some));
-      missing = c.loop-id.invariant.missing ∙ ap (λ l. c.args.missing.now.items ++ l) (sym (lacking_skip m deps i d c.loop-id-test.true (ap is_some some)));
-    }
+use Rattle.epx_graph.proofs.committed.gather.Goals.{in-Left+in_ok-push-in-Left, in-Done, in-Missing+in_ok-push-in-Missing}
 
 pub loop-id-preserved : goal.loop-id-preserved
 loop-id-preserved c =
-    let m = c.args.merged.now in
-    let deps = c.args.deps.now in
-    let i = c.loop-id.id-index in
     let d : Id = record { replica = 0; number = 0 } in
-    let none = sym c.in_default.ensures in
-    let old = c.args.missing.now.items in
-    record {
-      numbers = c.loop-id.invariant.numbers ∙ ap (λ l. c.args.numbers.now.items ++ l) (sym (positions_skip m deps i d c.loop-id-test.true none));
-      missing =
-          c.in_ok-push-2.ensures.items
-          ∙ ap (λ l. l ++ get_or deps i d ∷ []) c.loop-id.invariant.missing
-          ∙ append_assoc old (lacking m (take i deps)) (get_or deps i d ∷ [])
-          ∙ ap (λ l. old ++ l) (sym (lacking_take m deps i d c.loop-id-test.true (ap is_some none)));
-    }
+    let numbers = c.loop-id.numbers.items in
+    let missing = c.loop-id.missing.items in
+    let old = c.loop-id.invariant in
+    let next = gathered_next c.args.left.now c.args.deps.now c.loop-id.id-index d c.loop-id-test.true in
+    elim c.match-look_up.branch [
+      | in-Left+in_ok-push-in-Left w ↦
+          let more = next (found.Left w.in-Left.place) w.in-Left.ensures _ numbers c.match-look_up.numbers.items _ missing c.match-look_up.missing.items old.numbers old.missing
+          (ap (λ v. v.items) w.numbers-is ∙ w.in_ok-push-in-Left.ensures.items) (ap (λ v. v.items) w.missing-is ∙ sym (append-nil missing)) in
+          record { numbers = more.0; missing = more.1 }
+      | in-Done w ↦
+          let more = next found.Done w.in-Done.ensures _ numbers c.match-look_up.numbers.items _ missing c.match-look_up.missing.items old.numbers old.missing
+          (ap (λ v. v.items) w.numbers-is ∙ sym (append-nil numbers)) (ap (λ v. v.items) w.missing-is ∙ sym (append-nil missing)) in
+          record { numbers = more.0; missing = more.1 }
+      | in-Missing+in_ok-push-in-Missing w ↦
+          let more = next found.Missing w.in-Missing.ensures _ numbers c.match-look_up.numbers.items _ missing c.match-look_up.missing.items old.numbers old.missing
+          (ap (λ v. v.items) w.numbers-is ∙ sym (append-nil numbers)) (ap (λ v. v.items) w.missing-is ∙ w.in_ok-push-in-Missing.ensures.items) in
+          record { numbers = more.0; missing = more.1 }
+    ]

@@ -1,26 +1,31 @@
 use Rattle.std.proofs.Common.{◌≡◌, ◌+◌, ◌++◌, ◌∷◌, [], List, ℕ, sym, ap, subst, ◌∙◌, slice_range, arith}
+use Rattle.epx_types.specs.Done.{without_deps, rest_of}
+use Rattle.epx_graph.specs.Left.{left_of}
 use Rattle.epx_graph.specs.Nodes.{positions_of, lacking, IsGatheredOf}
 use Rattle.epx_graph.proofs.GatheredParts.{gathered_none, gathered_more}
+use Rattle.epx_graph.proofs.LeftInstances.{rest_rises}
 use Rattle.epx_graph.proofs.committed.gather_part.Goals as goal
 
-pub loop-position-init : goal.loop-position-init
-loop-position-init c = gathered_none c.args.merged.now c.args.part.start c.in_ok-rows.rows c.new-missing.result.items c.in_ok-rows.ensures c.new-missing.ensures.items
+pub loop-place-init : goal.loop-place-init
+loop-place-init c = gathered_none (left_of c.args.left.now) c.args.part.start c.in_ok-rows.rows c.new-missing.result.items c.in_ok-rows.ensures c.new-missing.ensures.items
 
-pub loop-position-preserved : goal.loop-position-preserved
-loop-position-preserved c =
-    let m = c.args.merged.now in
+pub loop-place-preserved : goal.loop-place-preserved
+loop-place-preserved c =
+    let m = left_of c.args.left.now in
+    let done = c.args.left.now.done in
     let e = c.entry_at.result.now in
-    let rows = c.loop-position.rows in
-    let missing = c.loop-position.missing.items in
-    let part = slice_range m c.args.part.start (c.loop-position.position + 1) in
-    let rows_are : rows ++ positions_of m e.deps ∷ [] ≡ c.in_ok-rows-2.rows = ap (λ xs. rows ++ positions_of m xs ∷ []) (sym c.deps.ensures.deps) ∙ sym c.in_ok-rows-2.ensures.rows in
-    let missing_are : missing ++ lacking m e.deps ≡ c.push_committed.new.missing.items = ap (λ xs. missing ++ lacking m xs) (sym c.deps.ensures.deps) ∙ sym c.in_ok-rows-2.ensures.missing in
+    let deps = rest_of done e.deps in
+    let rows = c.loop-place.rows in
+    let missing = c.loop-place.missing.items in
+    let part = slice_range m c.args.part.start (c.loop-place.place + 1) in
+    let rows_are : rows ++ positions_of m deps ∷ [] ≡ c.in_ok-rows-2.rows = ap (λ xs. rows ++ positions_of m (rest_of done xs) ∷ []) (sym c.deps.ensures.deps) ∙ sym c.in_ok-rows-2.ensures.rows in
+    let missing_are : missing ++ lacking m deps ≡ c.push_committed.new.missing.items = ap (λ xs. missing ++ lacking m (rest_of done xs)) (sym c.deps.ensures.deps) ∙ sym c.in_ok-rows-2.ensures.missing in
     subst (IsGatheredOf m part c.in_ok-rows-2.rows) missing_are
-    (subst (λ (r : List (List ℕ)). IsGatheredOf m part r (missing ++ lacking m e.deps)) rows_are
-    (gathered_more m c.args.part.start c.loop-position.position e rows missing c.loop-position.auto.position c.entry_at.ensures c.deps.ensures.fits.rising c.loop-position.invariant))
+    (subst (λ (r : List (List ℕ)). IsGatheredOf m part r (missing ++ lacking m deps)) rows_are
+    (gathered_more m c.args.part.start c.loop-place.place (without_deps done e) rows missing c.loop-place.auto.place c.entry_at.ensures (rest_rises done e.deps c.deps.ensures.fits.rising) c.loop-place.invariant))
 
 pub returns : goal.returns
 returns c =
-    let m = c.args.merged.now in
-    let last : c.loop-position.position ≡ c.args.part.end = omega (arith, c.loop-position-test.false, c.loop-position.auto.position-end, c.loop-position.auto.position, c.requires.start) in
-    subst (λ n. IsGatheredOf m (slice_range m c.args.part.start n) c.loop-position.rows c.loop-position.missing.items) last c.loop-position.invariant
+    let m = left_of c.args.left.now in
+    let last : c.loop-place.place ≡ c.args.part.end = omega (arith, c.loop-place-test.false, c.loop-place.auto.place-end, c.loop-place.auto.place, c.requires.start) in
+    subst (λ n. IsGatheredOf m (slice_range m c.args.part.start n) c.loop-place.rows c.loop-place.missing.items) last c.loop-place.invariant

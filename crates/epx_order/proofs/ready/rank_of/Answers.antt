@@ -1,18 +1,25 @@
-use Rattle.std.proofs.Common.{Some, sym, ap, ◌∙◌}
+use Rattle.std.proofs.Common.{sym, ◌∙◌}
 use Rattle.std.proofs.lemmas.Bool.{false≢true}
-use Rattle.epx_order.proofs.NodeRanks.{node_of_place, rank_from_node}
+use Rattle.epx_types.specs.Done.{remaining}
+use Rattle.epx_types.proofs.DoneLemmas.{Contains-remaining_iff}
+use Rattle.epx_graph.proofs.MapPaths.{node_committed}
+use Rattle.epx_order.proofs.NodeRanks.{rank_left}
 use Rattle.epx_order.proofs.ReadyNodes.{node_from_ready}
 use Rattle.epx_order.proofs.ready.rank_of.Goals as goal
 
 pub returns-then-standing-clause-none : goal.returns-then-standing-clause-none
-returns-then-standing-clause-none c x at ready =
-    node_from_ready c.args.merged.now c.args.graph.now c.requires.graph c.args.node x at ready (c.requires.standing.missing.0 c.if-standing.true)
+returns-then-standing-clause-none c done x is at ready =
+    node_from_ready (remaining done c.args.merged.now) c.args.graph.now is c.args.node x at ready (c.requires.standing.missing.0 c.if-standing.true)
+
+pub entry_of-requires : goal.entry_of-requires
+entry_of-requires c =
+    let m = c.args.merged.now in
+    let done = c.requires.graph.0 in
+    let left = (node_committed (remaining done m) c.args.graph.now c.requires.graph.1 c.args.node c.id-id.result c.id-id.ensures).0 c.requires.committed in
+    ((Contains-remaining_iff done m c.id-id.result).0 left).0
 
 pub returns-clause-rank : goal.returns-clause-rank
-returns-clause-rank c =
-    let m = c.args.merged.now in
-    let g = c.args.graph.now in
-    let e = c.entry_at-entry.result.now in
-    let node = node_of_place m g c.requires.graph c.args.node e c.entry_at-entry.ensures c.requires.committed in
-    let rank = rank_from_node m g c.requires.graph c.args.node e c.args.standing c.id.result c.entry_at-entry.ensures c.requires.committed c.requires.standing (λ waits. false≢true (sym c.if-standing.false ∙ waits)) c.id.ensures in
-    (node ∙ ap Some (sym c.id-2.ensures), rw (c.id-2.ensures, c.seq.ensures) rank)
+returns-clause-rank c done is =
+    let e = c.entry_of.result.now in
+    rw c.seq.ensures (rank_left done c.args.merged.now c.args.graph.now is c.args.node c.id-id.result e c.args.standing c.id.result c.id-id.ensures c.entry_of.ensures.among c.entry_of.ensures.id c.requires.committed c.requires.standing
+    (λ waits. false≢true (sym c.if-standing.false ∙ waits)) c.id.ensures)

@@ -1,5 +1,5 @@
 use Rattle.std.proofs.Common.{inl, inr}
-use Rattle.epx_tool.specs.ReportLines.{reply_line}
+use Rattle.epx_base.specs.ReportLines.{reply_line}
 use Rattle.epx_tool.proofs.Pairs.{printed_to_end}
 use Rattle.epx_tool.proofs.report.append_replies.Goals as goal
 

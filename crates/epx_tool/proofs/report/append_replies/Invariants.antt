@@ -1,5 +1,5 @@
 use Rattle.std.proofs.Common.{◌≡◌, ◌++◌, flat_map, zip}
-use Rattle.epx_tool.specs.ReportLines.{reply_line}
+use Rattle.epx_base.specs.ReportLines.{reply_line}
 use Rattle.epx_tool.proofs.report.append_replies.Given as goal
 
 abbrev pub invariant-loop-id : goal.invariant-loop-id

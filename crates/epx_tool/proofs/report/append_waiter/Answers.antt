@@ -3,7 +3,7 @@ use Rattle.std.proofs.lemmas.Grind.{common_steps}
 use Rattle.std.proofs.lemmas.Result.{on_ok_weaker}
 use Rattle.json.specs.Token.{begin_array, string}
 use Rattle.epx_tool.specs.LineTokens.{name_tokens}
-use Rattle.epx_tool.specs.ReportLines.{waiting_data}
+use Rattle.epx_base.specs.ReportLines.{waiting_data}
 use Rattle.epx_tool.proofs.LineTexts.{line_written}
 use Rattle.epx_tool.proofs.report.append_waiter.Goals as goal
 

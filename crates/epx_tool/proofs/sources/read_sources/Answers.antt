@@ -2,7 +2,7 @@ use Rattle.std.proofs.Common.{refl, map, ap, ◌∙◌, sym, subst}
 use Rattle.std.proofs.lemmas.List.{length-map, map-append}
 use Rattle.epx_tool.proofs.SourcesTaken.{none_consumed}
 use Rattle.epx_tool.proofs.SourcesRead.{HaveBeenRead, none_read, read_well, read_one_more, reading_refusal, taken_further, all_fit, each_read, all_ended, none_failed, none_failed_after, one_failed}
-use Rattle.epx_tool.proofs.runs.read_sources.Goals as goal
+use Rattle.epx_tool.proofs.sources.read_sources.Goals as goal
 
 pub returns-in-Err-clause-refusal : goal.returns-in-Err-clause-refusal
 returns-in-Err-clause-refusal g c =

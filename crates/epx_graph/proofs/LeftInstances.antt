@@ -1,0 +1,217 @@
+-- What is left of a map: where its instances and other Ids stand.
+use Rattle.std.proofs.Common.{◌≡◌, ◌↔◌, ℕ, zero, suc, ◌+◌, ◌<◌, List, [], ◌∷◌, ◌++◌, length, take, Option, Some, None, MatchOption, IsTrue, cond, not, is_some, get_or, slice_get, Contains, refl, sym, ap, ◌∙◌, subst, inl, inr, append-nil, arith}
+use Rattle.std.proofs.lemmas.Bool.{cases_lt}
+use Rattle.std.proofs.lemmas.List.{append_assoc, length_push, nil_from_length, get_or_append_left, get_or_push, get_or_read, take_all, take_more}
+use Rattle.std.proofs.lemmas.List.Elements.{filter-append}
+use Rattle.std.proofs.lemmas.List.Kept.{AllPairs-filter}
+use Rattle.std.proofs.lemmas.Option.{slice_get_within, slice_get-get_or}
+use Rattle.epx_types.specs.declared.id.Id.{Id}
+use Rattle.epx_types.specs.Ids.{Below, IsRising}
+use Rattle.epx_types.specs.Instances.{Instance}
+use Rattle.epx_types.specs.CommittedMap.{ids_of, position_of}
+use Rattle.epx_types.specs.Done.{is_among, without_deps, remaining, rest_of}
+use Rattle.epx_types.proofs.DoneLemmas.{Contains-remaining_iff, IsRising-remaining, is_among_cases, not_among, remaining-nil}
+use Rattle.epx_types.proofs.LeftPlaces.{remaining_skip, remaining_more, left_place}
+use Rattle.epx_types.proofs.Membership.{Contains-nil}
+use Rattle.epx_types.proofs.Places.{Contains-slice_get, slice_get-map}
+use Rattle.epx_types.proofs.PositionLemmas.{position_of-stands, position_of-found}
+use Rattle.epx_types.proofs.Rising.{AllPairs-from_IsRising, IsRising-from_AllPairs}
+use Rattle.epx_graph.specs.Left.{Remains, left_of, IsFound, StandsAt, IsPlaceLeft, AreTables}
+use Rattle.epx_graph.specs.Nodes.{lacking, positions_of}
+use Rattle.epx_graph.specs.declared.left.Found.{Found}
+use Rattle.epx_graph.specs.declared.left.Found.TheVariants as found
+use Rattle.epx_graph.proofs.GatheredRows.{positions_skip, positions_take}
+use Rattle.epx_graph.proofs.MissingIds.{no_position, none_position, lacking_skip, lacking_take}
+
+-- an Id is done where it is found among those that are done
+pub done_test : (done : List Id) (x : Id) (o : Option ℕ) → MatchOption o (¬ Contains done x) (λ k. slice_get done k ≡ Some x) → IsTrue (is_some o) ↔ Contains done x
+done_test done x None missed = (λ e. absurd (cc e), λ h. absurd (missed h))
+done_test done x (Some k) at = (λ _. Contains-slice_get done k x at, λ _. refl)
+
+-- ---- the Ids of a list that are not done
+
+module _ (done : List Id) where
+  rest_push : (xs : List Id) (x : Id) → rest_of done (xs ++ x ∷ []) ≡ rest_of done xs ++ cond (not (is_among done x)) (x ∷ []) []
+  rest_push xs x = filter-append (λ y. not (is_among done y)) xs (x ∷ [])
+
+  pub rest_skip : (xs : List Id) (x : Id) → Contains done x → rest_of done (xs ++ x ∷ []) ≡ rest_of done xs
+  rest_skip xs x among =
+      elim (is_among_cases done x) [
+        | inl found ↦ rest_push xs x ∙ ap (λ b. rest_of done xs ++ cond (not b) (x ∷ []) []) found.0 ∙ append-nil (rest_of done xs)
+        | inr other ↦ absurd (other.1 among)
+      ]
+
+  pub rest_more : (xs : List Id) (x : Id) → ¬ Contains done x → rest_of done (xs ++ x ∷ []) ≡ rest_of done xs ++ x ∷ []
+  rest_more xs x left = rest_push xs x ∙ ap (λ b. rest_of done xs ++ cond (not b) (x ∷ []) []) (not_among done x left)
+
+  -- one Id more of a list
+  pub count_skip : (xs : List Id) (i : ℕ) (d : Id) → i < length xs → Contains done (get_or xs i d) → length (rest_of done (take (i + 1) xs)) ≡ length (rest_of done (take i xs))
+  count_skip xs i d l among = ap (λ ys. length (rest_of done ys)) (take_more xs i d l) ∙ ap length (rest_skip (take i xs) (get_or xs i d) among)
+
+  pub count_more : (xs : List Id) (i : ℕ) (d : Id) → i < length xs → ¬ Contains done (get_or xs i d) → length (rest_of done (take (i + 1) xs)) ≡ length (rest_of done (take i xs)) + 1
+  count_more xs i d l left = ap (λ ys. length (rest_of done ys)) (take_more xs i d l) ∙ ap length (rest_more (take i xs) (get_or xs i d) left) ∙ length_push (rest_of done (take i xs)) (get_or xs i d)
+
+  pub rest_rises : (xs : List Id) → IsRising xs → IsRising (rest_of done xs)
+  rest_rises xs rising = IsRising-from_AllPairs (rest_of done xs) (AllPairs-filter Below (λ x. not (is_among done x)) xs (AllPairs-from_IsRising xs rising))
+
+-- ---- where nothing is done
+
+rest-nil : (xs : List Id) → rest_of [] xs ≡ xs
+rest-nil [] = refl
+rest-nil (x ∷ xs) = ap (λ ys. x ∷ ys) (rest-nil xs)
+
+pub all_rest : (done xs : List Id) → length done ≡ 0 → rest_of done xs ≡ xs
+all_rest done xs none = ap (λ ds. rest_of ds xs) (nil_from_length done none) ∙ rest-nil xs
+
+stands-nil : (m : List Instance) (p : ℕ) (e : Instance) → slice_get m p ≡ Some e → slice_get (remaining [] m) p ≡ Some (without_deps [] e)
+stands-nil [] p e at = absurd (cc at)
+stands-nil (d ∷ m) zero e at = let same : d ≡ e = cc at in ap (λ (x : Instance). Some (without_deps [] x)) same
+stands-nil (d ∷ m) (suc p) e at = stands-nil m p e at
+
+module _ (r : Remains) (none : length r.done ≡ 0) where
+  pub all_left : left_of r ≡ r.whole
+  all_left = ap (λ done. remaining done r.whole) (nil_from_length r.done none) ∙ remaining-nil r.whole
+
+  -- each instance stands where it stood
+  pub stands_there : (p : ℕ) → p < length (left_of r) → StandsAt r p p
+  stands_there p l =
+      let d : Instance = record { id = record { replica = 0; number = 0 }; seq = 0; deps = []; ops = [] } in
+      let at = slice_get-get_or r.whole p d (omega (arith, l, ap length all_left)) in
+      (get_or r.whole p d, at, subst (λ (done : List Id). slice_get (remaining done r.whole) p ≡ Some (without_deps done (get_or r.whole p d))) (sym (nil_from_length r.done none)) (stands-nil r.whole p (get_or r.whole p d) at))
+
+  pub found_there : (x : Id) (p : ℕ) → position_of r.whole x ≡ Some p → IsFound r x (found.Left p)
+  found_there x p at = (λ h. Contains-nil x (subst (λ (ds : List Id). Contains ds x) (nil_from_length r.done none) h), ap (λ m. position_of m x) all_left ∙ at)
+
+-- ---- the tables
+
+pub tables_none : (r : Remains) → AreTables r [] [] 0
+tables_none r = record {
+  many = refl;
+  stand = λ k l. absurd (omega (arith, l));
+  all = refl;
+  places_left = λ p e l at. absurd (omega (arith, l));
+}
+
+module _ (r : Remains) (positions : List ℕ) (places : List (Option ℕ)) (n : ℕ) (e : Instance) (at : slice_get r.whole n ≡ Some e) (are : AreTables r positions places n) where
+  place_more : (place : Option ℕ) → IsPlaceLeft r e place → (p : ℕ) (d : Instance) → p < n + 1 → slice_get r.whole p ≡ Some d → IsPlaceLeft r d (get_or (places ++ place ∷ []) p None)
+  place_more place is p d l there =
+      elim (cases_lt p n) [
+        | inl lower ↦ subst (IsPlaceLeft r d) (sym (get_or_append_left places (place ∷ []) None p (omega (arith, are.all)))) (are.places_left p d lower there)
+        | inr not_lower ↦
+            let same : p ≡ n = omega arith in
+            let one : Some d ≡ Some e = sym there ∙ ap (slice_get r.whole) same ∙ at in
+            let of : d ≡ e = cc one in
+            let last : get_or (places ++ place ∷ []) p None ≡ place = get_or_push places place None p (omega (arith, are.all)) in
+            subst (IsPlaceLeft r d) (sym last) (subst (λ (i : Instance). IsPlaceLeft r i place) (sym of) is)
+      ]
+
+  -- with a done instance more
+  pub tables_skip : Contains r.done e.id → AreTables r positions (places ++ None ∷ []) (n + 1)
+  tables_skip among = record {
+    many = are.many ∙ ap length (sym (remaining_skip r.done r.whole n e at among));
+    stand = are.stand;
+    all = length_push places None ∙ ap (λ k. k + 1) are.all;
+    places_left = place_more None among;
+  }
+
+  -- with one more that is left
+  pub tables_more : ¬ Contains r.done e.id → AreTables r (positions ++ n ∷ []) (places ++ Some (length positions) ∷ []) (n + 1)
+  tables_more left = record {
+    many = length_push positions n ∙ ap (λ k. k + 1) are.many ∙ sym (ap length (remaining_more r.done r.whole n e at left) ∙ length_push (remaining r.done (take n r.whole)) (without_deps r.done e));
+    stand = stand;
+    all = length_push places (Some (length positions)) ∙ ap (λ k. k + 1) are.all;
+    places_left = place_more (Some (length positions)) here;
+  } where
+    here : slice_get (left_of r) (length positions) ≡ Some (without_deps r.done e)
+    here = ap (slice_get (left_of r)) are.many ∙ left_place r.done r.whole n e at left
+
+    stand : (k : ℕ) → k < length (positions ++ n ∷ []) → StandsAt r (get_or (positions ++ n ∷ []) k 0) k
+    stand k l =
+        elim (cases_lt k (length positions)) [
+          | inl lower ↦ subst (λ p. StandsAt r p k) (sym (get_or_append_left positions (n ∷ []) 0 k lower)) (are.stand k lower)
+          | inr not_lower ↦
+              let same : length positions ≡ k = omega (arith, l, length_push positions n) in
+              subst (λ p. StandsAt r p k) (sym (get_or_push positions n 0 k same)) (e, at, ap (slice_get (left_of r)) (sym same) ∙ here)
+        ]
+
+module _ (r : Remains) (positions : List ℕ) (places : List (Option ℕ)) (are : AreTables r positions places (length r.whole)) where
+  pub tables_long : length positions ≡ length (left_of r)
+  tables_long = are.many ∙ ap (λ es. length (remaining r.done es)) (take_all (length r.whole) r.whole (omega arith))
+
+  -- what is read of the place of an instance that is left
+  pub stands_at : (k p : ℕ) → k < length (left_of r) → p ≡ get_or positions k p → StandsAt r p k
+  stands_at k p l read =
+      let within : k < length positions = omega (arith, l, tables_long) in
+      subst (λ i. StandsAt r i k) (sym (get_or_read positions k p within read 0)) (are.stand k within)
+
+  -- what is read of the instance at a position
+  place_read : (p : ℕ) (e : Instance) (place : Option ℕ) → slice_get r.whole p ≡ Some e → place ≡ get_or places p place → IsPlaceLeft r e place
+  place_read p e place at read =
+      let l = slice_get_within r.whole p e at in
+      subst (IsPlaceLeft r e) (sym (get_or_read places p place (omega (arith, are.all)) read None)) (are.places_left p e l at)
+
+  -- and of the Id that stands there
+  pub found_left : IsRising (ids_of r.whole) → (p k : ℕ) (x : Id) (place : Option ℕ) → position_of r.whole x ≡ Some p → place ≡ get_or places p place → place ≡ Some k → IsFound r x (found.Left k)
+  found_left rising p k x place at read some =
+      let e = position_of-stands r.whole x p at in
+      let there : slice_get (left_of r) k ≡ Some (without_deps r.done e.0) = subst (IsPlaceLeft r e.0) some (place_read p e.0 place e.1 read) in
+      let is = Contains-slice_get (ids_of (left_of r)) k x (slice_get-map (λ (i : Instance). i.id) (left_of r) k (without_deps r.done e.0) there ∙ ap Some e.2) in (
+        ((Contains-remaining_iff r.done r.whole x).0 is).1,
+        position_of-found (left_of r) (IsRising-remaining r.done r.whole rising) x k (without_deps r.done e.0) there e.2,
+      )
+
+  pub found_done : (p : ℕ) (x : Id) (place : Option ℕ) → position_of r.whole x ≡ Some p → place ≡ get_or places p place → place ≡ None → Contains r.done x
+  found_done p x place at read none =
+      let e = position_of-stands r.whole x p at in
+      subst (Contains r.done) e.2 (subst (IsPlaceLeft r e.0) none (place_read p e.0 place e.1 read))
+
+-- an Id without a position is not left
+pub found_missing : (r : Remains) (x : Id) → position_of r.whole x ≡ None → ¬ Contains r.done x → IsFound r x found.Missing
+found_missing r x none left = (left, none_position (left_of r) x (λ h. no_position r.whole x none ((Contains-remaining_iff r.done r.whole x).0 h).0))
+
+-- ---- Ids gathered one after another
+
+-- what an Id adds to the places, and to the missing Ids
+abbrev pub places_found : Found → List ℕ
+places_found (found.Left k) = k ∷ []
+places_found found.Done = []
+places_found found.Missing = []
+
+abbrev pub missing_found : Id → Found → List Id
+missing_found x (found.Left k) = []
+missing_found x found.Done = []
+missing_found x found.Missing = x ∷ []
+
+module _ (r : Remains) where
+  abbrev places_in : List Id → List ℕ
+  places_in xs = positions_of (left_of r) (rest_of r.done xs)
+
+  abbrev missing_in : List Id → List Id
+  missing_in xs = lacking (left_of r) (rest_of r.done xs)
+
+  gathered_push : (xs : List Id) (x : Id) (f : Found) → IsFound r x f → (places_in (xs ++ x ∷ []) ≡ places_in xs ++ places_found f) × (missing_in (xs ++ x ∷ []) ≡ missing_in xs ++ missing_found x f)
+  gathered_push xs x (found.Left k) is =
+      let rest = rest_more r.done xs x is.0 in (
+        ap (positions_of (left_of r)) rest ∙ positions_take (left_of r) (rest_of r.done xs) x k is.1,
+        ap (lacking (left_of r)) rest ∙ lacking_skip (left_of r) (rest_of r.done xs) x k is.1 ∙ sym (append-nil (missing_in xs)),
+      )
+  gathered_push xs x found.Done is =
+      let rest = rest_skip r.done xs x is in (
+        ap (positions_of (left_of r)) rest ∙ sym (append-nil (places_in xs)),
+        ap (lacking (left_of r)) rest ∙ sym (append-nil (missing_in xs)),
+      )
+  gathered_push xs x found.Missing is =
+      let rest = rest_more r.done xs x is.0 in (
+        ap (positions_of (left_of r)) rest ∙ positions_skip (left_of r) (rest_of r.done xs) x is.1 ∙ sym (append-nil (places_in xs)),
+        ap (lacking (left_of r)) rest ∙ lacking_take (left_of r) (rest_of r.done xs) x is.1,
+      )
+
+  -- one Id more
+  pub gathered_next : (xs : List Id) (i : ℕ) (d : Id) → i < length xs → (f : Found) → IsFound r (get_or xs i d) f → (old numbers new : List ℕ) (before missing after : List Id) → numbers ≡ old ++ places_in (take i xs) → missing ≡ before ++ missing_in (take i xs) → new ≡ numbers ++ places_found f → after ≡ missing ++ missing_found (get_or xs i d) f → (new ≡ old ++ places_in (take (i + 1) xs)) × (after ≡ before ++ missing_in (take (i + 1) xs))
+  gathered_next xs i d l f is old numbers new before missing after numbers_are missing_are new_is after_is =
+      let x = get_or xs i d in
+      let next = gathered_push (take i xs) x f is in
+      let more = sym (take_more xs i d l) in (
+        new_is ∙ ap (λ ks. ks ++ places_found f) numbers_are ∙ append_assoc old (places_in (take i xs)) (places_found f) ∙ ap (λ ks. old ++ ks) (sym next.0 ∙ ap places_in more),
+        after_is ∙ ap (λ ys. ys ++ missing_found x f) missing_are ∙ append_assoc before (missing_in (take i xs)) (missing_found x f) ∙ ap (λ ys. before ++ ys) (sym next.1 ∙ ap missing_in more),
+      )

@@ -1,0 +1,158 @@
+//! What is left of a committed map once some of its instances are done.
+ghost use Rattle.std.specs.Prelude.{◌≡◌, ◌↔◌, ◌<◌, length, slice_get, Contains, IsTrue, Some, IfOk};
+ghost use Rattle.epx_types.specs.CommittedMap.{ids_of};
+ghost use Rattle.epx_types.specs.Done.{rest_of, without_deps};
+ghost use Rattle.epx_types.specs.Ids.{IsRising};
+ghost use Rattle.epx_graph.specs.Left.{IsFound, StandsAt, left_of};
+
+use crate::find::find;
+use epx_merge::Merged;
+use epx_types::{Entry, Id, Memory};
+use std::alloc::Global;
+use std::marker::Model;
+
+/// Where an Id stands once some instances are done.
+#[derive(Clone, Copy, Debug)]
+pub(crate) enum Found {
+    /// At this place among the instances that are left.
+    Left(usize),
+    Done,
+    /// Neither committed nor done.
+    Missing,
+}
+
+/// A committed map, of which some instances are done.
+#[derive(Debug, Drop)]
+pub(crate) struct Left<'a> {
+    merged: &'a Merged,
+    done: &'a [Id],
+    /// The position in the map of each instance that is left. Empty where nothing is done: the map itself is left then,
+    /// and no table is looked up.
+    positions: Vec<usize>,
+    /// For each instance of the map its place among those that are left, if it is left. Empty where nothing is done.
+    places: Vec<Option<usize>>,
+}
+
+impl<'a> Model for Left<'a> {
+    ghost use Rattle.std.specs.Prelude.{◌<◌, length};
+    ghost use Rattle.epx_types.specs.CommittedMap.{ids_of};
+    ghost use Rattle.epx_types.specs.Ids.{IsRising};
+    ghost use Rattle.epx_graph.specs.Left.{AreTables, Remains};
+
+    ghost Value = { Remains };
+
+    ghost view = { λ l. record { whole = l.merged.now; done = l.done.now } };
+
+    ghost invariant = { λ l. let r : Remains = record { whole = l.merged.now; done = l.done.now } in
+        IsRising (ids_of r.whole) × IsRising r.done × (0 < length r.done → AreTables r l.positions.items l.places.items (length r.whole)) };
+}
+
+/// Whether an instance is done.
+fn is_done(done: &[Id], id: Id) -> bool
+    requires { IsRising done.now }
+    ensures { IsTrue result ↔ Contains done.now id }
+{
+    find(done, id).is_some()
+}
+
+impl<'a> Left<'a> {
+    /// What is left of a map, in time n log n where something is done and at once where nothing is.
+    pub(crate) fn new(alloc: Global, merged: &'a Merged, done: &'a [Id]) -> Result<Left<'a>, Memory>
+        requires { IsRising done.now }
+        ensures { IfOk result (λ left. left ≡ record { whole = merged.now; done = done.now }) }
+    {
+        let mut positions = Vec::new(alloc);
+        let mut places = Vec::new(alloc);
+        let all = merged.len();
+        let tabled = if done.is_empty() { 0 } else { all };
+        for position in 0..tabled {
+            if is_done(done, merged.id_at(position)) {
+                places.push(None)?;
+                continue;
+            }
+            places.push(Some(positions.len()))?;
+            positions.push(position)?;
+        }
+        Ok(Left {
+            merged,
+            done,
+            positions,
+            places,
+        })
+    }
+
+    /// How many instances are left.
+    pub(crate) fn len(&self) -> usize
+        ensures len { result ≡ length (left_of self.now) }
+        ensures rising { IsRising (ids_of (left_of self.now)) }
+    {
+        if self.done.is_empty() {
+            return self.merged.len();
+        }
+        self.positions.len()
+    }
+
+    /// The position in the map of the instance at a place.
+    fn position_at(&self, place: usize) -> usize
+        requires { place < length (left_of self.now) }
+        ensures { StandsAt self.now result place }
+    {
+        if self.done.is_empty() {
+            return place;
+        }
+        self.positions[place]
+    }
+
+    /// The name of the instance at a place, counted from 0.
+    pub(crate) fn id_at(&self, place: usize) -> Id
+        requires { place < length (left_of self.now) }
+        ensures { slice_get (ids_of (left_of self.now)) place ≡ Some result }
+    {
+        self.merged.id_at(self.position_at(place))
+    }
+
+    /// The entry at a place, counted from 0, with its done dependencies.
+    pub(crate) fn entry_at(&self, place: usize) -> &Entry
+        requires { place < length (left_of self.now) }
+        ensures { slice_get (left_of self.now) place ≡ Some (without_deps self.now.done result.now) }
+    {
+        self.merged.entry_at(self.position_at(place))
+    }
+
+    /// Where an Id stands.
+    pub(crate) fn look_up(&self, id: Id) -> Found
+        ensures { IsFound self.now id result }
+    {
+        if let Some(position) = self.merged.position(id) {
+            if self.done.is_empty() {
+                return Found::Left(position);
+            }
+            return match self.places[position] {
+                Some(place) => Found::Left(place),
+                None => Found::Done,
+            };
+        }
+        if is_done(self.done, id) {
+            Found::Done
+        } else {
+            Found::Missing
+        }
+    }
+
+    /// How many of the Ids are not done.
+    pub(crate) fn count_undone(&self, ids: &[Id]) -> usize
+        ensures { result ≡ length (rest_of self.now.done ids.now) }
+    {
+        if self.done.is_empty() {
+            return ids.len();
+        }
+        let mut count = 0;
+        for id in ids {
+            if is_done(self.done, *id) {
+                continue;
+            }
+            count += 1;
+        }
+        count
+    }
+}

@@ -1,0 +1,100 @@
+-- A base and logs have an answer, and one alone.
+use Rattle.std.proofs.Common.{◌≡◌, ◌≢◌, ◌++◌, ◌<◌, ◌≤◌, ℕ, List, [], ◌∷◌, length, Result, Ok, Err, refl, sym, ap, ap₂, ◌∙◌, subst, inl, inr, arith}
+use Rattle.std.proofs.lemmas.Bool.{cases_lt}
+use Rattle.epx_types.specs.declared.id.Id.{Id}
+use Rattle.epx_types.specs.declared.fault.Fault.{Fault}
+use Rattle.epx_types.specs.declared.fault.Fault.TheVariants.{Memory, TooManyLogs, LogTooLong, BadBase}
+use Rattle.epx_types.specs.Contents.{Contents}
+use Rattle.epx_types.specs.Ids.{IsRising}
+use Rattle.epx_types.specs.Instances.{Instance}
+use Rattle.epx_types.specs.CommittedMap.{ids_of}
+use Rattle.epx_types.specs.Done.{remaining}
+use Rattle.epx_types.specs.Execution.{execute}
+use Rattle.epx_types.proofs.DoneLemmas.{IsRising-remaining}
+use Rattle.epx_types.proofs.ExecutionOrders.{IsExecutionOrder-unique}
+use Rattle.epx_types.proofs.ListedWaiting.{IsWaitingList-unique}
+use Rattle.epx_types.proofs.OrdersExist.{execution_order_exists, waiting_list_exists}
+use Rattle.epx_base.specs.Bases.{IsBase, IsBadBase}
+use Rattle.epx_base.proofs.BaseLaws.{base_or_bad_base}
+use Rattle.epx_merge.specs.Limits.{max_logs, max_log_bytes}
+use Rattle.epx_merge.proofs.Existence.{answered_always, long_cases}
+use Rattle.epx_tool.specs.Report.{commands_of}
+use Rattle.epx_tool.specs.ResumedReport.{IsReportAfter, resumed_text}
+use Rattle.epx_tool.specs.Beside.{IsShort, IsRefusalBeside}
+use Rattle.epx_tool.specs.Resumption.{IsResumed, Resumes}
+use Rattle.epx_tool.specs.ResumptionLaws.{ResumptionExists, ResumptionIsOne}
+use Rattle.epx_tool.proofs.LogsBeside.{last_too_long, first_too_long_beside, refusal_of_logs}
+use Rattle.epx_tool.proofs.OneAnswerBeside.{AnswersBeside-unique}
+
+IsReportAfter-unique : (done : List Id) (stored : Contents) (m : List Instance) (text other : List ℕ) → IsReportAfter done stored m text → IsReportAfter done stored m other → text ≡ other
+IsReportAfter-unique done stored m text other p q =
+    let order = IsExecutionOrder-unique (remaining done m) p.order q.order p.ordered q.ordered in
+    let waiting = IsWaitingList-unique (remaining done m) p.waiting q.waiting p.listed q.listed in
+    p.printed ∙ ap₂ (λ o w. resumed_text done o w (execute (commands_of (remaining done m) o) stored)) order waiting ∙ sym q.printed
+
+report_after_exists : (done : List Id) (stored : Contents) (m : List Instance) → IsRising (ids_of m) → (text : List ℕ) × IsReportAfter done stored m text
+report_after_exists done stored m rising =
+    let left = IsRising-remaining done m rising in
+    let order = execution_order_exists (remaining done m) left in
+    let waiting = waiting_list_exists (remaining done m) left in (
+      resumed_text done order.0 waiting.0 (execute (commands_of (remaining done m) order.0) stored),
+      record { order = order.0; waiting = waiting.0; ordered = order.1; listed = waiting.1; printed = refl },
+    )
+
+-- ---- one answer
+
+module _ (base : List ℕ) where
+  bad_line_one : (line other : ℕ) → IsBadBase base line → IsBadBase base other → line ≡ other
+  bad_line_one line other p q = cc (p, q)
+
+  no_bad_base : (m : List Instance) (text : List ℕ) (line : ℕ) → IsResumed base m text → ¬ IsBadBase base line
+  no_bad_base m text line p bad = let read = p.2.read in cc (read, bad)
+
+  resumed_one : (m : List Instance) (text other : List ℕ) → IsResumed base m text → IsResumed base m other → text ≡ other
+  resumed_one m text other p q =
+      let a = p.2.read in
+      let b = q.2.read in
+      let seen : p.2.seen ≡ q.2.seen = cc (a, b) in
+      let done : p.0 ≡ q.0 = cc (seen, p.2.done_is, q.2.done_is) in
+      let stored : p.1 ≡ q.1 = cc (seen, p.2.stored_is, q.2.stored_is) in
+      let P : List Id → Contents → Type 0 = λ d s. IsReportAfter d s m text in
+      IsReportAfter-unique q.0 q.1 m text other (subst (λ (s : Contents). P q.0 s) stored (subst (λ (d : List Id). P d p.1) done p.3)) q.3
+
+pub resumption_is_one : ResumptionIsOne
+resumption_is_one base logs =
+    AnswersBeside-unique IsBadBase base logs (bad_line_one base) IsResumed (resumed_one base) (no_bad_base base)
+
+-- ---- an answer
+
+module _ (base : List ℕ) (logs : List (List ℕ)) where
+  refused_long : max_log_bytes < length base → (a : Result (List ℕ) Fault) × (a ≢ Err Memory) × Resumes base logs a
+  refused_long long =
+      elim (cases_lt max_logs (length logs)) [
+        | inl many ↦ (Err TooManyLogs, (λ same. cc same), many)
+        | inr few ↦ elim (long_cases logs) [
+          | inl none ↦ (Err (LogTooLong (length logs)), (λ same. cc same), (omega (arith, few), last_too_long logs base none long))
+          | inr first ↦ (Err (LogTooLong first.0), (λ same. cc same), (omega (arith, few), first_too_long_beside logs base first.0 first.1))
+        ]
+      ]
+
+  answered_short : IsShort base → (a : Result (List ℕ) Fault) × (a ≢ Err Memory) × Resumes base logs a
+  answered_short short =
+      elim (answered_always logs) [
+        | inl accepted ↦ elim (base_or_bad_base base) [
+          | inl is ↦
+              let text = report_after_exists is.0 is.1 accepted.0 accepted.1.committed.rising in
+              (Ok text.0, (λ same. cc same), (short, (accepted.0, accepted.1, (is.0, is.1, is.2, text.1))))
+          | inr bad ↦ (Err (BadBase bad.0), (λ same. cc same), (short, (accepted.0, accepted.1), bad.1))
+        ]
+        | inr refused ↦ (Err refused.0, (λ same. refused.1 (cc same)), refusal_of_logs logs base IsBadBase refused.0 short refused.2)
+      ]
+
+  answered_with_base : (a : Result (List ℕ) Fault) × (a ≢ Err Memory) × Resumes base logs a
+  answered_with_base =
+      elim (cases_lt max_log_bytes (length base)) [
+        | inl long ↦ refused_long long
+        | inr short ↦ answered_short (omega (arith, short))
+      ]
+
+pub resumption_exists : ResumptionExists
+resumption_exists base logs = answered_with_base base logs

@@ -1,0 +1,33 @@
+use Rattle.std.proofs.Common.{◌≡◌, ◌+◌, ℕ, List, Option, length, map, Some, Err, inr, ap, subst, sym, ◌∙◌, arith}
+use Rattle.std.proofs.lemmas.List.{length-map}
+use Rattle.std.proofs.lemmas.Option.{slice_get_within}
+use Rattle.epx_types.specs.declared.fault.Fault.TheVariants.{Read}
+use Rattle.epx_devices.specs.Transfers.{ConsumesExactly}
+use Rattle.epx_merge.specs.Limits.{max_log_bytes}
+use Rattle.epx_merge.specs.Refusals.{Fits}
+use Rattle.epx_tool.proofs.LogsBeside.{not_of_logs, refusal_of_reading_beside}
+use Rattle.epx_tool.proofs.sources.read_beside.Goals as goal
+
+pub returns-in-Err-clause-beside_failed : goal.returns-in-Err-clause-beside_failed
+returns-in-Err-clause-beside_failed g c = (
+  λ is.
+      let named : c.in-Err.fault ≡ Read (length c.args.sources.now) = cc is in
+      let within = c.in-Err.ensures.place (length c.args.sources.now) (inr (ap Err named)) in
+      absurd (omega (arith, within)),
+  λ bad. let well = c.requires.beside in absurd (cc (well, bad)),
+)
+
+pub returns-in-Err-read_log-clause-refusal : goal.returns-in-Err-read_log-clause-refusal
+returns-in-Err-read_log-clause-refusal g c before logs known are =
+    let same = c.in-Ok.ensures.bytes logs are in
+    let many : length c.read_sources.new.sources ≡ length logs =
+    omega (arith, c.read_sources.auto.sources, c.in-Ok.ensures.each, length-map c.in-Ok.logs.items (λ log. log.items), ap length same) in
+    refusal_of_reading_beside logs before (length c.read_sources.new.sources) (g.B.Source.remaining c.read_log.new.source) c.in-Err-read_log.fault many (subst Fits same c.in-Ok.ensures.fit)
+    c.in-Err-read_log.ensures.faults (λ is. subst (λ (o : Option (List ℕ)). ConsumesExactly o (g.B.Source.remaining c.read_log.new.source) (max_log_bytes + 1)) known (c.in-Err-read_log.ensures.too_long is))
+
+pub returns-in-Err-read_log-clause-failed : goal.returns-in-Err-read_log-clause-failed
+returns-in-Err-read_log-clause-failed g c log source there =
+    let here = c.in-Ok.ensures.failed log source there in (
+      λ is. absurd (not_of_logs (length c.read_sources.new.sources) c.in-Err-read_log.fault log c.in-Err-read_log.ensures.faults (cc is) (slice_get_within c.read_sources.new.sources log source there)),
+      λ bad. let never = here.1 bad in absurd (cc never),
+    )

@@ -1,0 +1,34 @@
+-- A run over logs and a text beside them: the logs are read from their sources, then the text from its own, and the answer is written to a sink.
+use Rattle.std.specs.Prelude.{◌≡◌, ℕ, ◌<◌, ◌≤◌, List, [], ◌∷◌, ◌++◌, length, Option, Ok}
+use Rattle.std.specs.Io.KnownBytes.{Appends}
+use Rattle.epx_types.specs.declared.fault.Fault.{Fault}
+use Rattle.epx_types.specs.declared.fault.Fault.TheVariants.{Memory, TooManyLogs, LogTooLong, Read, Write}
+use Rattle.epx_types.specs.Instances.{Instance}
+use Rattle.epx_merge.specs.Limits.{max_logs}
+use Rattle.epx_merge.specs.Refusals.{IsFirstTooLong}
+use Rattle.epx_tool.specs.Runs.{NoneTooLongBefore}
+use Rattle.epx_tool.specs.Beside.{AnswersBeside, IsRefusalBeside}
+
+-- the source of this number can not be read: that of a log, or that of the text, whose number is how many logs there are
+abbrev pub CanBeUnread : List ℕ → List (List ℕ) → ℕ → Type 0
+CanBeUnread beside logs log = (length logs ≤ max_logs) × (log ≤ length logs) × NoneTooLongBefore (logs ++ beside ∷ []) log
+
+-- the faults of reading the logs and then the text beside them
+abbrev pub IsReadingRefusalBeside : List ℕ → List (List ℕ) → Fault → Type 0
+IsReadingRefusalBeside beside logs Memory = Unit {0}
+IsReadingRefusalBeside beside logs TooManyLogs = max_logs < length logs
+IsReadingRefusalBeside beside logs (LogTooLong log) = (length logs ≤ max_logs) × IsFirstTooLong (logs ++ beside ∷ []) log
+IsReadingRefusalBeside beside logs (Read log) = CanBeUnread beside logs log
+IsReadingRefusalBeside beside logs _ = ⊥
+
+-- the faults of such a run: the refusal of the logs and the text, or that of a device
+abbrev pub IsRunFaultBeside : (List ℕ → ℕ → Type 0) → (List ℕ → List Instance → List ℕ → Type 0) → List ℕ → List (List ℕ) → Fault → Type 0
+IsRunFaultBeside IsBad Is beside logs (Read log) = CanBeUnread beside logs log
+IsRunFaultBeside IsBad Is beside logs Write = (text : List ℕ) × AnswersBeside IsBad Is beside logs (Ok text)
+IsRunFaultBeside IsBad Is beside logs fault = IsRefusalBeside IsBad beside logs fault
+
+-- there are so many logs and a text beside them, and an answer, by which known bytes grow
+abbrev pub AddsAnswerBeside : (List ℕ → ℕ → Type 0) → (List ℕ → List Instance → List ℕ → Type 0) → ℕ → Option (List ℕ) → Option (List ℕ) → Type 0
+AddsAnswerBeside IsBad Is count old new =
+    (beside : List ℕ) × (logs : List (List ℕ)) × (text : List ℕ)
+    × (length logs ≡ count) × AnswersBeside IsBad Is beside logs (Ok text) × Appends old new text

@@ -1,0 +1,17 @@
+-- Going on from a base: the answer to a base and logs.
+use Rattle.std.specs.Prelude.{ℕ, List, Result}
+use Rattle.epx_types.specs.declared.id.Id.{Id}
+use Rattle.epx_types.specs.declared.fault.Fault.{Fault}
+use Rattle.epx_types.specs.Contents.{Contents}
+use Rattle.epx_types.specs.Instances.{Instance}
+use Rattle.epx_base.specs.Bases.{IsBase, IsBadBase}
+use Rattle.epx_tool.specs.ResumedReport.{IsReportAfter}
+use Rattle.epx_tool.specs.Beside.{AnswersBeside}
+
+-- the report of what is left once what the base says is done, from what it says is stored
+abbrev pub IsResumed : List ℕ → List Instance → List ℕ → Type 0
+IsResumed base m text = (done : List Id) × (stored : Contents) × IsBase base done stored × IsReportAfter done stored m text
+
+-- that report, or the first refusal
+abbrev pub Resumes : List ℕ → List (List ℕ) → Result (List ℕ) Fault → Type 0
+Resumes = AnswersBeside IsBadBase IsResumed

@@ -1,0 +1,51 @@
+-- Laws of going on from a base.
+use Rattle.std.specs.Prelude.{◌≡◌, ◌≢◌, ◌⊎◌, ◌↔◌, ℕ, List, [], Contains, zip, Result, Err}
+use Rattle.std.specs.FinMap as contents
+use Rattle.epx_types.specs.declared.id.Id.{Id}
+use Rattle.epx_types.specs.declared.fault.Fault.{Fault}
+use Rattle.epx_types.specs.declared.fault.Fault.TheVariants.{Memory}
+use Rattle.epx_types.specs.Ids.{IsRising}
+use Rattle.epx_types.specs.Contents.{Contents}
+use Rattle.epx_types.specs.Instances.{Instance}
+use Rattle.epx_types.specs.Done.{remaining}
+use Rattle.epx_types.specs.Execution.{execute, Execution}
+use Rattle.epx_types.specs.ExecutionOrder.{Ranked, ranked_ids, component_count}
+use Rattle.epx_types.specs.WaitingLists.{Waiting}
+use Rattle.epx_base.specs.Bases.{IsBase}
+use Rattle.epx_base.specs.ReportReadings.{Reported, FitsReported}
+use Rattle.epx_tool.specs.Report.{IsReport, commands_of}
+use Rattle.epx_tool.specs.ResumedReport.{IsReportAfter}
+use Rattle.epx_tool.specs.Resumption.{Resumes}
+
+-- a base and logs have an answer other than want of memory
+abbrev pub ResumptionExists : Type 0
+ResumptionExists = (base : List ℕ) (logs : List (List ℕ)) → (a : Result (List ℕ) Fault) × (a ≢ Err Memory) × Resumes base logs a
+
+-- and one alone, want of memory aside
+abbrev pub ResumptionIsOne : Type 0
+ResumptionIsOne = (base : List ℕ) (logs : List (List ℕ)) (a b : Result (List ℕ) Fault) → a ≢ Err Memory → b ≢ Err Memory → Resumes base logs a → Resumes base logs b → a ≡ b
+
+-- a report is one after nothing is done, from the empty store
+abbrev pub ReportIsAfterNothing : Type 0
+ReportIsAfterNothing = (m : List Instance) (text : List ℕ) → IsReport m text ↔ IsReportAfter [] contents.empty m text
+
+-- what a report is written of
+abbrev pub reported_of : List Id → List Ranked → List Waiting → Execution → Reported
+reported_of done order waiting run = record {
+  components = component_count order;
+  done = done;
+  replies = zip (ranked_ids order) run.replies;
+  waiting = waiting;
+  stored = contents.entries run.final;
+}
+
+-- what is executed in a report
+abbrev pub run_in : (done : List Id) (stored : Contents) (m : List Instance) (text : List ℕ) → IsReportAfter done stored m text → Execution
+run_in done stored m text p = execute (commands_of (remaining done m) p.order) stored
+
+-- a report whose numbers and texts fit their types is a base: done are the instances that were done before and those that it executes,
+-- and stored is its final store
+abbrev pub ReportIsBase : Type 0
+ReportIsBase = (done : List Id) (stored : Contents) (m : List Instance) (text : List ℕ) (p : IsReportAfter done stored m text) → IsRising done →
+    FitsReported (reported_of done p.order p.waiting (run_in done stored m text p)) →
+    (now : List Id) → IsRising now → ((x : Id) → Contains now x ↔ Contains done x ⊎ Contains (ranked_ids p.order) x) → IsBase text now (run_in done stored m text p).final

@@ -1,0 +1,90 @@
+//! The bytes of sources, read before anything is done with them.
+ghost use Rattle.std.specs.Prelude.{◌≡◌, ◌↔◌, ◌+◌, ◌<◌, ℕ, List, true, false, map, drop, length, All, Some, slice_get, IfOk, OnOk, IfErr, IsErrOf};
+ghost use Rattle.std.specs.Io.KnownBytes.{IsAtEnd};
+ghost use Rattle.epx_devices.specs.Transfers.{ConsumesUpTo};
+ghost use Rattle.epx_merge.specs.Limits.{max_log_bytes};
+ghost use Rattle.epx_merge.specs.Refusals.{Fits};
+ghost use Rattle.epx_tool.specs.Runs.{AreBytesOf, IsReadingRefusal};
+ghost use Rattle.epx_tool.specs.Beside.{IsShort};
+ghost use Rattle.epx_tool.specs.BesideRuns.{IsReadingRefusalBeside};
+ghost use Rattle.epx_tool.specs.Sources.{EachConsumesUpTo, StopsAt};
+
+use epx_devices::{Source, read_log};
+use epx_merge::MAX_LOGS;
+use epx_types::Fault;
+use std::alloc::Global;
+
+/// The bytes of all sources, read in order.
+pub(crate) fn read_sources<S: Source>(
+    alloc: Global,
+    sources: &mut [S],
+) -> Result<Vec<Vec<u8>>, Fault>
+    requires { All (λ s. S.has_failed s ≡ false) sources.old }
+    ensures bytes { IfOk result (λ v. (logs : _) → AreBytesOf S.remaining sources.old logs → map (λ log. log.items) v.items ≡ logs) }
+    ensures each { IfOk result (λ v. length v.items ≡ length sources.old) }
+    ensures refusal { IfErr result (λ fault. (logs : _) → AreBytesOf S.remaining sources.old logs → IsReadingRefusal logs fault) }
+    ensures nothing_written { ¬ IsErrOf result Fault.Write }
+    ensures failed { (log : _) (source : _) → slice_get sources.new log ≡ Some source → IsErrOf result (Fault.Read log) ↔ (S.has_failed source ≡ true) }
+    ensures place { (log : ℕ) → StopsAt result log → log < length sources.old }
+    ensures fit { IfOk result (λ v. Fits (map (λ log. log.items) v.items)) }
+
+    ensures taken { EachConsumesUpTo S.remaining sources.old sources.new (max_log_bytes + 1) }
+    ensures ended { OnOk result (All (λ s. IsAtEnd (S.remaining s)) sources.new) }
+    ensures no_further { (log : ℕ) → StopsAt result log → drop (log + 1) sources.new ≡ drop (log + 1) sources.old }
+    ensures too_many { IsErrOf result Fault.TooManyLogs ↔ (MAX_LOGS < length sources.old) }
+    ensures none_read { IsErrOf result Fault.TooManyLogs → sources.new ≡ sources.old }
+{
+    if sources.len() > MAX_LOGS {
+        return Err(Fault::TooManyLogs);
+    }
+    let mut logs = Vec::new(alloc);
+    for log in 0..sources.len() {
+        let bytes = match read_log(alloc, log, &mut sources[log]) {
+            Ok(bytes) => bytes,
+            Err(fault) => return Err(fault),
+        };
+        let Ok(()) = logs.push(bytes) else {
+            return Err(Fault::Memory);
+        };
+    }
+    Ok(logs)
+}
+
+/// The bytes of all sources, read in order, and then those of a source beside them.
+pub(crate) fn read_beside<B: Source, S: Source>(
+    alloc: Global,
+    beside: &mut B,
+    sources: &mut [S],
+) -> Result<(Vec<u8>, Vec<Vec<u8>>), Fault>
+    requires beside { B.has_failed beside.old ≡ false }
+    requires sources { All (λ s. S.has_failed s ≡ false) sources.old }
+
+    ensures text { IfOk result (λ v. (before : _) → B.remaining beside.old ≡ Some before → v.0.items ≡ before) }
+    ensures bytes { IfOk result (λ v. (logs : _) → AreBytesOf S.remaining sources.old logs → map (λ log. log.items) v.1.items ≡ logs) }
+    ensures each { IfOk result (λ v. length v.1.items ≡ length sources.old) }
+    ensures short { IfOk result (λ v. IsShort v.0.items) }
+    ensures fit { IfOk result (λ v. Fits (map (λ log. log.items) v.1.items)) }
+    ensures refusal { IfErr result (λ fault. (before : _) (logs : _) → B.remaining beside.old ≡ Some before
+        → AreBytesOf S.remaining sources.old logs → IsReadingRefusalBeside before logs fault) }
+    ensures nothing_written { ¬ IsErrOf result Fault.Write }
+    ensures failed { (log : _) (source : _) → slice_get sources.new log ≡ Some source → IsErrOf result (Fault.Read log) ↔ (S.has_failed source ≡ true) }
+    ensures beside_failed { IsErrOf result (Fault.Read (length sources.old)) ↔ (B.has_failed beside.new ≡ true) }
+
+    ensures taken { EachConsumesUpTo S.remaining sources.old sources.new (max_log_bytes + 1) }
+    ensures beside_taken { ConsumesUpTo (B.remaining beside.old) (B.remaining beside.new) (max_log_bytes + 1) }
+    ensures ended { OnOk result (All (λ s. IsAtEnd (S.remaining s)) sources.new) }
+    ensures beside_ended { OnOk result (IsAtEnd (B.remaining beside.new)) }
+    ensures no_further { (log : ℕ) → StopsAt result log → drop (log + 1) sources.new ≡ drop (log + 1) sources.old }
+    ensures beside_untouched { (log : ℕ) → StopsAt result log → log < length sources.old → beside.new ≡ beside.old }
+    ensures too_many { IsErrOf result Fault.TooManyLogs ↔ (MAX_LOGS < length sources.old) }
+    ensures none_read { IsErrOf result Fault.TooManyLogs → (sources.new ≡ sources.old) × (beside.new ≡ beside.old) }
+{
+    let logs = match read_sources(alloc, sources) {
+        Ok(logs) => logs,
+        Err(fault) => return Err(fault),
+    };
+    match read_log(alloc, sources.len(), beside) {
+        Ok(text) => Ok((text, logs)),
+        Err(fault) => Err(fault),
+    }
+}
