@@ -116,6 +116,38 @@ fn a_path_may_start_with_a_hyphen(rt: HostRuntime) -> Result<(), Fail> {
 }
 
 #[test]
+fn a_base_is_the_first_path(rt: HostRuntime) -> Result<(), Fail> {
+    let cases: [(&[&str], &[&str]); 4] = [
+        (&["epx", "resume", "base"], &["base"]),
+        (
+            &["epx", "resume", "base", "b", "a", "b"],
+            &["base", "b", "a", "b"],
+        ),
+        (&["epx", "resume", "resume", "run"], &["resume", "run"]),
+        (&["epx", "resume", "-", "-"], &["-", "-"]),
+    ];
+    for (words, paths) in cases {
+        expect_logs(&rt, rt.alloc(), words, Task::Resume, paths)?;
+    }
+    Ok(())
+}
+
+#[test]
+fn options_stand_anywhere_around_a_base(rt: HostRuntime) -> Result<(), Fail> {
+    let cases: [&[&str]; 3] = [
+        &["epx", "resume", "--workers=2", "base", "--cut", "7", "a"],
+        &["epx", "resume", "base", "a", "--cut=7", "--workers=2"],
+        &["epx", "resume", "--cut=7", "--workers=2", "--", "base", "a"],
+    ];
+    for words in cases {
+        let wanted = (Task::Resume, 2, 7);
+        expect_work(&rt, rt.alloc(), words, wanted, Some(&["base", "a"]))?;
+    }
+    let words = ["epx", "resume", "--", "--base", "-a"];
+    expect_logs(&rt, rt.alloc(), &words, Task::Resume, &words[3..])
+}
+
+#[test]
 fn options_stand_anywhere(rt: HostRuntime) -> Result<(), Fail> {
     let cases: [(&[&str], usize, usize); 2] = [
         (
@@ -145,9 +177,18 @@ fn numbers_reach_the_ends_of_their_ranges(rt: HostRuntime) -> Result<(), Fail> {
     Ok(())
 }
 
+/// Why words without a base are refused.
+const RESUME_ALONE: &str = "error: the following required arguments were not provided:
+  <BASE>
+
+Usage: epx resume <BASE> [LOG]...
+
+For more information, try '--help'.
+";
+
 #[test]
 fn refused_words_are_named(rt: HostRuntime) -> Result<(), Fail> {
-    let cases: [(&[&str], &str); 15] = [
+    let cases: [(&[&str], &str); 18] = [
         (&["epx", "run", "--workers=0"], "--workers"),
         (&["epx", "run", "--workers=65"], "--workers"),
         (&["epx", "run", "--workers=many"], "--workers"),
@@ -158,11 +199,14 @@ fn refused_words_are_named(rt: HostRuntime) -> Result<(), Fail> {
         (&["epx", "order", "--cut=1.5"], "--cut"),
         (&["epx", "run", "--cut"], "--cut"),
         (&["epx", "run", "--cut=1", "--cut=2"], "--cut"),
-        (&["epx", "resume"], "resume"),
+        (&["epx", "resume"], RESUME_ALONE),
+        (&["epx", "resume", "--cut=3"], "not provided:\n  <BASE>\n"),
+        (&["epx", "resume", "--workers=0", "base"], "--workers"),
+        (&["epx", "replay"], "replay"),
         (&["epx", "run", "--fast"], "--fast"),
         (&["epx", "run", "-x"], "-x"),
         (&["epx", "--workers", "3"], "--workers"),
-        (&["epx", "help", "resume"], "resume"),
+        (&["epx", "help", "replay"], "replay"),
     ];
     expect_texts(&rt, rt.alloc(), 2, "error: ", &cases)
 }
@@ -173,8 +217,12 @@ const SHOWN: &str =
 
 #[test]
 fn help_is_a_text_that_ends_well(rt: HostRuntime) -> Result<(), Fail> {
-    let cases: [(&[&str], &str); 3] = [
+    let cases: [(&[&str], &str); 4] = [
         (&["epx", "--help"], SHOWN),
+        (
+            &["epx", "--help"],
+            "A report can be resumed over further logs.",
+        ),
         (&["epx", "help"], "1 to 64 and 4 by default"),
         (&["epx", "-h"], "epx run examples/replicas/*.jsonl"),
     ];
@@ -202,6 +250,40 @@ fn help_of_order_has_its_options(rt: HostRuntime) -> Result<(), Fail> {
         (&["epx", "order", "-h"], "--cut <M>"),
     ];
     expect_texts(&rt, rt.alloc(), 0, "Prints the execution order", &cases)
+}
+
+/// The short help of resuming, whole.
+const RESUME_HELP: &str = "Goes on from an earlier report, and prints the report
+
+Usage: epx resume [OPTIONS] <BASE> [LOG]...
+
+Arguments:
+  <BASE>    The earlier report to go on from
+  [LOG]...  The logs to read, in any order
+
+Options:
+      --workers <N>  Workers that share the work, 1 to 64 [default: 4]
+      --cut <M>      Items in a piece of work, 1 to 65536 [default: 256]
+  -h, --help         Print help (see more with '--help')
+
+Example:
+  epx resume earlier.report examples/replicas/*.jsonl
+";
+
+#[test]
+fn help_of_resume_has_its_base(rt: HostRuntime) -> Result<(), Fail> {
+    let cases: [(&[&str], &str); 3] = [
+        (&["epx", "resume", "--help"], "<BASE>"),
+        (
+            &["epx", "resume", "--help"],
+            "A base is what epx run or epx resume printed",
+        ),
+        (&["epx", "help", "resume"], "[default: 256]"),
+    ];
+    let start = "Executes what the logs commit and an earlier report has not";
+    expect_texts(&rt, rt.alloc(), 0, start, &cases)?;
+    let short: [(&[&str], &str); 1] = [(&["epx", "resume", "-h"], RESUME_HELP)];
+    expect_texts(&rt, rt.alloc(), 0, RESUME_HELP, &short)
 }
 
 #[test]

@@ -3,7 +3,7 @@
 use crate::stage::NOT_UTF_8;
 
 /// Words of every kind, each list with the program's name.
-pub(crate) fn word_lists() -> [&'static [&'static str]; 13] {
+pub(crate) fn word_lists() -> [&'static [&'static str]; 15] {
     [
         &["epx"],
         &["epx", "--help"],
@@ -11,6 +11,8 @@ pub(crate) fn word_lists() -> [&'static [&'static str]; 13] {
         &["epx", "order", "component.jsonl"],
         &["epx", "levels", "component.jsonl"],
         &["epx", "run", "0.jsonl", "1.jsonl", "2.jsonl"],
+        &["epx", "resume", "first.report", "second.jsonl"],
+        &["epx", "resume", "second.jsonl", "second.jsonl"],
         &["epx", "run", "long.jsonl"],
         &["epx", "run", "0.jsonl", "cut_off.jsonl"],
         &["epx", "run", "0.jsonl", "other.jsonl"],

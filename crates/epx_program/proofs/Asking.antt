@@ -11,15 +11,14 @@ use Rattle.clap.specs.Words.{Text, fault_of, subcommand_of, takes}
 use Rattle.epx_types.specs.declared.memory.Memory.{Memory}
 use Rattle.epx_devices.specs.Transfers.{AppendsPrefix}
 use Rattle.epx_words.specs.App.{epx_app}
-use Rattle.epx_words.specs.Asked.{AsksWork, Fits, IfText, IfWork, task_name}
+use Rattle.epx_words.specs.Asked.{ArePathsOf, AsksWork, Fits, IfText, IfWork, task_name}
 use Rattle.epx_words.specs.Endings.{EndsAs}
-use Rattle.epx_words.specs.Given.{IsCutOf, IsWorkersOf, logs_in, name_in, rows_in}
+use Rattle.epx_words.specs.Given.{IsCutOf, IsWorkersOf, name_in, rows_in}
 use Rattle.epx_words.specs.declared.asked.Task.TheVariants.{Run}
 use Rattle.epx_words.specs.declared.asked.Words.{Words}
 use Rattle.epx_words.specs.declared.asked.Words.TheVariants.{Work, Text as text}
 use Rattle.epx_program.specs.Calls.{AreTakenFor, Asks, EndsAsAsked, EndsWithText}
-use Rattle.epx_tool.specs.Runs.{AddsAnswerTo}
-use Rattle.epx_program.specs.Endings.{EndsWith, IsAsked, IsStatus}
+use Rattle.epx_program.specs.Endings.{AddsAnswer, EndsWith, IsStatus}
 
 -- words are taken for one list of texts
 pub one_taking : (words : Result (IntoIter (String Global) Global) Error) (texts others : List Text) → AreTakenFor words texts → AreTakenFor words others → texts ≡ others
@@ -38,7 +37,7 @@ module _ (words : List Text) (n : ℕ) (as_many : n ≡ length words) where
   work_fits : (asked : Words) → IfWork (λ task plan paths. name_in (subcommand_of epx_app words) ≡ Some (task_name task)) asked
       → IfWork (λ task plan paths. IsWorkersOf (rows_in (subcommand_of epx_app words)) plan.workers) asked
       → IfWork (λ task plan paths. IsCutOf (rows_in (subcommand_of epx_app words)) plan.cut) asked
-      → IfWork (λ task plan paths. paths ≡ Some (logs_in (rows_in (subcommand_of epx_app words)))) asked
+      → IfWork (λ task plan paths. ArePathsOf task (rows_in (subcommand_of epx_app words)) paths) asked
       → IfWork (Fits (subcommand_of epx_app words)) asked
   work_fits (Work task plan paths) is_task is_workers is_cut are_paths = record { task = is_task; workers = is_workers; cut = is_cut; paths = are_paths }
   work_fits (text said status) is_task is_workers is_cut are_paths = tt
@@ -53,7 +52,7 @@ module _ (words : List Text) (n : ℕ) (as_many : n ≡ length words) where
       → (2 ≤ n → IfOk read (IfWork (λ task plan paths. name_in (subcommand_of epx_app words) ≡ Some (task_name task))))
       → (2 ≤ n → IfOk read (IfWork (λ task plan paths. IsWorkersOf (rows_in (subcommand_of epx_app words)) plan.workers)))
       → (2 ≤ n → IfOk read (IfWork (λ task plan paths. IsCutOf (rows_in (subcommand_of epx_app words)) plan.cut)))
-      → (2 ≤ n → IfOk read (IfWork (λ task plan paths. paths ≡ Some (logs_in (rows_in (subcommand_of epx_app words))))))
+      → (2 ≤ n → IfOk read (IfWork (λ task plan paths. ArePathsOf task (rows_in (subcommand_of epx_app words)) paths)))
       → (2 ≤ n → IfOk read (λ asked. AsksWork asked ↔ (fault_of epx_app words ≡ [])))
       → (2 ≤ n → IfOk read (IfText (λ status. takes epx_app words ≡ false)))
       → (2 ≤ n → IfOk read (IfText (EndsAs (fault_of epx_app words)))) → IfOk read (Asks words)
@@ -88,7 +87,7 @@ module _ {S : Type 0} (contents : S → Option (List ℕ)) (before after : S) wh
     -- what was wanted is done, by what is said of doing it
     pub ends_as_asked : (wanted : Words) → IfWork (λ task plan paths. IsStatus status) wanted
         → ((bytes : List ℕ) → input ≡ Some bytes → IfWork (λ task plan paths. paths ≡ None → EndsWith task (bytes ∷ []) status (contents before) (contents after)) wanted)
-        → IfWork (λ task plan paths. IfSome paths (λ list. status ≡ 0 → AddsAnswerTo (IsAsked task) (length list) (contents before) (contents after))) wanted
+        → IfWork (λ task plan paths. IfSome paths (λ list. status ≡ 0 → AddsAnswer task (length list) (contents before) (contents after))) wanted
         → ((said : String Global) → wanted ≡ text said 0 → status ≡ 0 → Appends (contents before) (contents after) (string_bytes said))
         → ((said : String Global) → wanted ≡ text said 0 → AppendsPrefix (contents before) (contents after) (string_bytes said))
         → IfText (λ n. n ≡ 0 → (status ≡ 0) ⊎ ((status ≡ 4) × (failed ≡ true))) wanted
@@ -97,9 +96,9 @@ module _ {S : Type 0} (contents : S → Option (List ℕ)) (before after : S) wh
         (work, λ bytes none known. over bytes known (ap (option_map (λ list. map string_bytes list.items)) none), answered paths files)
       where
         answered : (paths : Option (Vec (String Global) Global))
-            → IfSome (option_map (λ list. map string_bytes list.items) paths) (λ list. status ≡ 0 → AddsAnswerTo (IsAsked task) (length list) (contents before) (contents after))
-            → IfSome paths (λ list. status ≡ 0 → AddsAnswerTo (IsAsked task) (length list.items) (contents before) (contents after))
+            → IfSome (option_map (λ list. map string_bytes list.items) paths) (λ list. status ≡ 0 → AddsAnswer task (length list) (contents before) (contents after))
+            → IfSome paths (λ list. status ≡ 0 → AddsAnswer task (length list.items) (contents before) (contents after))
         answered None files = tt
-        answered (Some list) files = subst (λ n. status ≡ 0 → AddsAnswerTo (IsAsked task) n (contents before) (contents after)) (length-map list.items string_bytes) files
+        answered (Some list) files = subst (λ n. status ≡ 0 → AddsAnswer task n (contents before) (contents after)) (length-map list.items string_bytes) files
     ends_as_asked (text said n) work over files shown prefix well told =
         text_ends_so (string_bytes said) n (λ none. shown said (ap (text said) none)) (λ none. prefix said (ap (text said) none)) well told

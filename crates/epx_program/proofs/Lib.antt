@@ -1,3 +1,4 @@
 mod Asking
 mod Sources
 mod Statuses
+mod GoingOn

@@ -16,8 +16,7 @@ use Rattle.epx_words.specs.Endings.{EndsAs}
 use Rattle.epx_words.specs.declared.asked.Task.TheVariants.{Run}
 use Rattle.epx_words.specs.declared.asked.Words.{Words}
 use Rattle.epx_words.specs.declared.asked.Words.TheVariants as asked
-use Rattle.epx_tool.specs.Runs.{AddsAnswerTo}
-use Rattle.epx_program.specs.Endings.{EndsWith, IsAsked, IsStatus}
+use Rattle.epx_program.specs.Endings.{AddsAnswer, EndsWith, IsStatus}
 
 -- the words of the operating system are these texts; words that could not be had are none
 abbrev pub AreTakenFor : Result (IntoIter (String Global) Global) Error → List Text → Type 0
@@ -37,12 +36,12 @@ EndsWithText text zero status failed old new =
 EndsWithText text (suc n) status failed old new = (status ≡ suc n) × Keeps old new
 
 -- how it ends once it did what is wanted, over this input: with the status of the work, or of the text. Over files whose
--- bytes are not known, 0 tells that as many logs as paths are answered
+-- bytes are not known, 0 tells that as many texts as paths are answered
 abbrev pub EndsAsAsked : Option (List ℕ) → Words → ℕ → Bool → Option (List ℕ) → Option (List ℕ) → Type 0
 EndsAsAsked input (asked.Work task plan paths) status failed old new =
     IsStatus status
     × ((bytes : List ℕ) → paths ≡ None → input ≡ Some bytes → EndsWith task (bytes ∷ []) status old new)
-    × IfSome paths (λ list. status ≡ 0 → AddsAnswerTo (IsAsked task) (length list.items) old new)
+    × IfSome paths (λ list. status ≡ 0 → AddsAnswer task (length list.items) old new)
 EndsAsAsked input (asked.Text text n) status failed old new = EndsWithText (string_bytes text) n status failed old new
 
 -- it does what its words ask for; want of memory may stand in place of that

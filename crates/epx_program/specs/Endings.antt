@@ -1,40 +1,60 @@
 -- What a task writes, and with which status the program ends.
-use Rattle.std.specs.Prelude.{◌≡◌, ◌⊎◌, ℕ, List, Option, Result, Ok, Err, MatchResult}
+use Rattle.std.specs.Prelude.{◌≡◌, ◌⊎◌, ℕ, List, [], ◌∷◌, length, Option, Result, Ok, Err, MatchResult}
 use Rattle.std.specs.Io.KnownBytes.{Appends}
 use Rattle.epx_types.specs.declared.fault.Fault.{Fault}
 use Rattle.epx_types.specs.Faults.{fault_status}
-use Rattle.epx_types.specs.Instances.{Instance}
 use Rattle.epx_words.specs.declared.asked.Task.{Task}
-use Rattle.epx_words.specs.declared.asked.Task.TheVariants.{Run, Order, Levels}
+use Rattle.epx_words.specs.declared.asked.Task.TheVariants.{Run, Order, Levels, Resume}
+use Rattle.epx_base.specs.Bases.{IsBadBase}
 use Rattle.epx_tool.specs.Answer.{Answers}
+use Rattle.epx_tool.specs.BesideRuns.{IsRunFaultBeside}
 use Rattle.epx_tool.specs.Report.{IsReport}
+use Rattle.epx_tool.specs.Resumption.{IsResumed, Resumes}
 use Rattle.epx_tool.specs.Runs.{IsRunFault}
 use Rattle.epx_tool.specs.Views.{IsViewed}
 use Rattle.epx_tool.specs.declared.ask.Ask.TheVariants as ask
 
--- the text that a task asks for of a committed map
-abbrev pub IsAsked : Task → List Instance → List ℕ → Type 0
-IsAsked Run = IsReport
-IsAsked Order = IsViewed ask.Order
-IsAsked Levels = IsViewed ask.Levels
+-- a base and the logs after it; where no text is given the base is empty
+abbrev pub on_base_and_logs : (List ℕ → List (List ℕ) → Type 0) → List (List ℕ) → Type 0
+on_base_and_logs Is [] = Is [] []
+on_base_and_logs Is (base ∷ logs) = Is base logs
 
--- the text that the task asks for of these logs is added
+-- the answer that a task asks for of the texts at its paths: of logs, or of a base and then logs
+abbrev pub IsTaskAnswer : Task → List (List ℕ) → Result (List ℕ) Fault → Type 0
+IsTaskAnswer Run texts answer = Answers IsReport texts answer
+IsTaskAnswer Order texts answer = Answers (IsViewed ask.Order) texts answer
+IsTaskAnswer Levels texts answer = Answers (IsViewed ask.Levels) texts answer
+IsTaskAnswer Resume texts answer = on_base_and_logs (λ base logs. Resumes base logs answer) texts
+
+-- the faults of a task, those of devices among them
+abbrev pub IsTaskFault : Task → List (List ℕ) → Fault → Type 0
+IsTaskFault Run texts fault = IsRunFault IsReport texts fault
+IsTaskFault Order texts fault = IsRunFault (IsViewed ask.Order) texts fault
+IsTaskFault Levels texts fault = IsRunFault (IsViewed ask.Levels) texts fault
+IsTaskFault Resume texts fault = on_base_and_logs (λ base logs. IsRunFaultBeside IsBadBase IsResumed base logs fault) texts
+
+-- the text that the task asks for of these texts is added
 abbrev pub AppendsAnswer : Task → List (List ℕ) → Option (List ℕ) → Option (List ℕ) → Type 0
-AppendsAnswer task logs old new = (text : List ℕ) × Answers (IsAsked task) logs (Ok text) × Appends old new text
+AppendsAnswer task texts old new = (text : List ℕ) × IsTaskAnswer task texts (Ok text) × Appends old new text
 
--- what a task over these logs comes to
+-- there are so many texts, and the answer to them is added
+abbrev pub AddsAnswer : Task → ℕ → Option (List ℕ) → Option (List ℕ) → Type 0
+AddsAnswer task count old new =
+    (texts : List (List ℕ)) × (text : List ℕ) × (length texts ≡ count) × IsTaskAnswer task texts (Ok text) × Appends old new text
+
+-- what a task over these texts comes to
 abbrev pub ComesTo : {A : Type 0} → Task → List (List ℕ) → Result A Fault → Option (List ℕ) → Option (List ℕ) → Type 0
-ComesTo task logs done old new = MatchResult done (λ _. AppendsAnswer task logs old new) (IsRunFault (IsAsked task) logs)
+ComesTo task texts done old new = MatchResult done (λ _. AppendsAnswer task texts old new) (IsTaskFault task texts)
 
 -- 0 where the work is done, and else the status of the fault
 abbrev pub status_of : {A : Type 0} → Result A Fault → ℕ
 status_of (Ok _) = 0
 status_of (Err fault) = fault_status fault
 
--- the status with which a task over these logs ends: 0 once its answer is added, and else that of a fault
+-- the status with which a task over these texts ends: 0 once its answer is added, and else that of a fault
 abbrev pub EndsWith : Task → List (List ℕ) → ℕ → Option (List ℕ) → Option (List ℕ) → Type 0
-EndsWith task logs status old new = ((status ≡ 0) × AppendsAnswer task logs old new)
-    ⊎ ((fault : Fault) × IsRunFault (IsAsked task) logs fault × (status ≡ fault_status fault))
+EndsWith task texts status old new = ((status ≡ 0) × AppendsAnswer task texts old new)
+    ⊎ ((fault : Fault) × IsTaskFault task texts fault × (status ≡ fault_status fault))
 
 -- 0, or the status of a fault
 abbrev pub IsStatus : ℕ → Type 0

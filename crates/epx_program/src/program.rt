@@ -6,9 +6,8 @@ ghost use Rattle.std.specs.Process.{exit_status};
 ghost use Rattle.epx_types.specs.Faults.{fault_status};
 ghost use Rattle.epx_devices.specs.Transfers.{AppendsPrefix};
 ghost use Rattle.epx_words.specs.Asked.{IfText, IfWork};
-ghost use Rattle.epx_tool.specs.Runs.{AddsAnswerTo};
 ghost use Rattle.epx_program.specs.Calls.{AreTakenFor, DoesAsAsked};
-ghost use Rattle.epx_program.specs.Endings.{EndsWith, IsAsked, IsStatus};
+ghost use Rattle.epx_program.specs.Endings.{AddsAnswer, EndsWith, IsStatus};
 
 use crate::asked::asked;
 use crate::ending::{end, end_with_text};
@@ -36,7 +35,7 @@ where
     ensures input { (bytes : _) → I.remaining input ≡ Some bytes → IfWork (λ task _ paths. paths ≡ None
         → EndsWith task (bytes ∷ []) result (W.contents output.old) (W.contents output.new)) words }
     ensures paths { IfWork (λ task _ paths. IfSome paths (λ list. result ≡ 0
-        → AddsAnswerTo (IsAsked task) (length list) (W.contents output.old) (W.contents output.new))) words }
+        → AddsAnswer task (length list) (W.contents output.old) (W.contents output.new))) words }
 
     ensures shown { (text : _) → words ≡ Words.Text text 0 → result ≡ 0
         → Appends (W.contents output.old) (W.contents output.new) (string_bytes text) }

@@ -1,15 +1,43 @@
 //! The work itself: sources by the paths, and the answer that the task asks for.
 ghost use Rattle.std.specs.Prelude.{◌≡◌, ◌≢◌, ◌↔◌, true, false, [], ◌∷◌, All, map, None, Some, IfErr, IfOk, IfSome, IsErrOf, OnOk, length, string_bytes};
 ghost use Rattle.std.specs.Io.KnownBytes.{Keeps};
-ghost use Rattle.epx_program.specs.Endings.{ComesTo, IsAsked};
-ghost use Rattle.epx_tool.specs.Runs.{AddsAnswerTo, AreBytesOf};
+ghost use Rattle.epx_program.specs.Endings.{AddsAnswer, ComesTo};
+ghost use Rattle.epx_tool.specs.Runs.{AreBytesOf};
 
-use epx_tool::{Ask, PathSource, Sink, Source, Task, run, show};
+use epx_tool::{Ask, MemorySource, PathSource, Sink, Source, Task, run, run_resume, show};
 use epx_types::{Fault, Plan};
 use std::alloc::{AllocError, Global};
 use std::random::RandomSource;
 use std::rt::Files;
 use std::thread::Threads;
+
+/// Goes on from the first source over the others. Where there is none, the base is empty.
+fn go_on<R: Threads + RandomSource + Sync, S: Source, W: Sink>(
+    rt: &R,
+    alloc: Global,
+    plan: Plan,
+    sources: &mut [S],
+    output: &mut W,
+) -> Result<(), Fault>
+    requires sources { All (λ s. S.has_failed s ≡ false) sources.old }
+    requires output { W.has_failed output.old ≡ false }
+
+    ensures answer { (texts : _) → AreBytesOf S.remaining sources.old texts →
+        ComesTo Task.Resume texts result (W.contents output.old) (W.contents output.new) }
+    ensures answered { OnOk result (AddsAnswer Task.Resume (length sources.old) (W.contents output.old) (W.contents output.new)) }
+    ensures flushed { OnOk result (W.is_flushed output.new ≡ true) }
+    ensures nothing { IfErr result (λ fault. fault ≢ Fault.Write → Keeps (W.contents output.old) (W.contents output.new)) }
+    ensures written { IsErrOf result Fault.Write ↔ (W.has_failed output.new ≡ true) }
+{
+    match sources.split_first_mut() {
+        Some((base, logs)) => run_resume(rt, alloc, base, logs, plan, output),
+        None => {
+            let mut base = MemorySource::new(&[]);
+            let mut logs: [MemorySource; 0] = [];
+            run_resume(rt, alloc, &mut base, &mut logs, plan, output)
+        }
+    }
+}
 
 /// Writes what the task asks for.
 fn answer<R: Threads + RandomSource + Sync, S: Source, W: Sink>(
@@ -23,9 +51,9 @@ fn answer<R: Threads + RandomSource + Sync, S: Source, W: Sink>(
     requires sources { All (λ s. S.has_failed s ≡ false) sources.old }
     requires output { W.has_failed output.old ≡ false }
 
-    ensures answer { (logs : _) → AreBytesOf S.remaining sources.old logs →
-        ComesTo task logs result (W.contents output.old) (W.contents output.new) }
-    ensures answered { OnOk result (AddsAnswerTo (IsAsked task) (length sources.old) (W.contents output.old) (W.contents output.new)) }
+    ensures answer { (texts : _) → AreBytesOf S.remaining sources.old texts →
+        ComesTo task texts result (W.contents output.old) (W.contents output.new) }
+    ensures answered { OnOk result (AddsAnswer task (length sources.old) (W.contents output.old) (W.contents output.new)) }
     ensures flushed { OnOk result (W.is_flushed output.new ≡ true) }
     ensures nothing { IfErr result (λ fault. fault ≢ Fault.Write → Keeps (W.contents output.old) (W.contents output.new)) }
     ensures written { IsErrOf result Fault.Write ↔ (W.has_failed output.new ≡ true) }
@@ -34,6 +62,7 @@ fn answer<R: Threads + RandomSource + Sync, S: Source, W: Sink>(
         Task::Run => run(rt, alloc, sources, plan, output),
         Task::Order => show(rt, alloc, Ask::Order, sources, plan, output),
         Task::Levels => show(rt, alloc, Ask::Levels, sources, plan, output),
+        Task::Resume => go_on(rt, alloc, plan, sources, output),
     }
 }
 
@@ -54,7 +83,7 @@ fn sources_at<'a, R: Files>(
     Ok(sources)
 }
 
-/// Reads the logs at the paths, or the input where no paths are meant, and answers them.
+/// Reads the texts at the paths, or the input where no paths are meant, and answers them.
 pub(crate) fn work<R: Files + Threads + RandomSource + Sync, I: Source + Drop, W: Sink>(
     rt: &R,
     alloc: Global,
@@ -70,7 +99,7 @@ pub(crate) fn work<R: Files + Threads + RandomSource + Sync, I: Source + Drop, W
     ensures input { (bytes : _) → paths ≡ None → I.remaining input ≡ Some bytes →
         ComesTo task (bytes ∷ []) result (W.contents output.old) (W.contents output.new) }
     ensures paths { IfSome paths (λ list. OnOk result
-        (AddsAnswerTo (IsAsked task) (length list.items) (W.contents output.old) (W.contents output.new))) }
+        (AddsAnswer task (length list.items) (W.contents output.old) (W.contents output.new))) }
     ensures flushed { OnOk result (W.is_flushed output.new ≡ true) }
     ensures nothing { IfErr result (λ fault. fault ≢ Fault.Write → Keeps (W.contents output.old) (W.contents output.new)) }
     ensures written { IsErrOf result Fault.Write ↔ (W.has_failed output.new ≡ true) }

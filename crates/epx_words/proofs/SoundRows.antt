@@ -1,15 +1,18 @@
--- Rows whose numbers lie in their ranges, and what keeps them so.
+-- Rows whose numbers lie in their ranges, and whose base has a value, and what keeps them so.
 use Rattle.std.proofs.Common.{◌≡◌, ℕ, Bool, cond, true, false, ◌||◌, codes, List, [], ◌∷◌, ◌++◌, Some, None, refl, sym, subst, true≢false}
 use Rattle.std.specs.List.{AllByRecursion, find}
-use Rattle.std.specs.Prelude.{option_and_then, option_map, slice_get}
+use Rattle.std.specs.Option.{IsSome, option_map_or}
+use Rattle.std.specs.Prelude.{⊤, option_and_then, option_map, slice_get}
 use Rattle.std.specs.Str.{bytes_eq}
+use Rattle.clap.specs.Facts.{explicit_source}
+use Rattle.clap.specs.Takes.{is_given}
 use Rattle.clap.specs.Values.{IsUnsignedIn, read_as}
 use Rattle.clap.specs.Walk.{Row, Rule, Text, at_row, default_rows, has_row, more_values, reading_by, row_text, one_of, with_default, with_values, without}
 use Rattle.clap.specs.declared.builder.value_parser.Reading.{Reading}
 use Rattle.clap.specs.declared.builder.value_parser.Reading.TheVariants.{AsWritten}
 use Rattle.clap.specs.declared.parser.matches.ValueSource.{ValueSource}
 use Rattle.clap.specs.declared.parser.matches.ValueSource.TheVariants.{DefaultValue}
-use Rattle.epx_words.specs.Given.{IsNumberUpTo}
+use Rattle.epx_words.specs.Given.{IsNumberUpTo, base_in}
 
 abbrev pub IsFirstNumber : ℕ → List Text → Type 0
 IsFirstNumber most [] = ⊥
@@ -19,8 +22,13 @@ IsFirstNumber most (v ∷ vs) = IsUnsignedIn 1 most v
 abbrev pub IsNumberRow : ℕ → Row → Type 0
 IsNumberRow most r = (r.reading ≡ AsWritten) × IsFirstNumber most r.values
 
+abbrev pub HasValue : List Text → Type 0
+HasValue [] = ⊥
+HasValue (v ∷ vs) = ⊤
+
 abbrev pub IsSoundRow : Row → Type 0
-IsSoundRow r = (bytes_eq r.id (codes "workers") ≡ true → IsNumberRow 64 r) × (bytes_eq r.id (codes "cut") ≡ true → IsNumberRow 65536 r)
+IsSoundRow r =
+    (bytes_eq r.id (codes "workers") ≡ true → IsNumberRow 64 r) × (bytes_eq r.id (codes "cut") ≡ true → IsNumberRow 65536 r) × (bytes_eq r.id (codes "base") ≡ true → HasValue r.values)
 
 abbrev pub AreSound : List Row → Type 0
 AreSound rows = AllByRecursion IsSoundRow rows
@@ -45,9 +53,17 @@ first_more : (most : ℕ) (vs ws : List Text) → IsFirstNumber most vs → IsFi
 first_more most [] ws h = absurd h
 first_more most (v ∷ vs) ws h = h
 
+value_more : (vs ws : List Text) → HasValue vs → HasValue (vs ++ ws)
+value_more [] ws h = absurd h
+value_more (v ∷ vs) ws h = h
+
 more_sound : (s : ValueSource) (values : List Text) (r : Row) → IsSoundRow r → AreSound (more_values s values r)
 more_sound s values r h = (
-  (λ e. ((h.0 e).0, first_more 64 r.values values (h.0 e).1), λ e. ((h.1 e).0, first_more 65536 r.values values (h.1 e).1)),
+  (
+    λ e. ((h.0 e).0, first_more 64 r.values values (h.0 e).1),
+    λ e. ((h.1 e).0, first_more 65536 r.values values (h.1 e).1),
+    λ e. value_more r.values values (h.2 e),
+  ),
   tt,
 )
 
@@ -139,4 +155,19 @@ number_read id most (r ∷ rs) f h has = go (bytes_eq r.id id) refl (λ e. numbe
     go : (b : Bool) → bytes_eq r.id id ≡ b → (has_row id rs ≡ true → IsNumberUpTo most (one_of id rs)) → (b || has_row id rs) ≡ true
         → IsNumberUpTo most (option_and_then row_text (cond b (Some r) (find (λ x. bytes_eq x.id id) rs)))
     go true t rest e = row_number most r.reading r.values (f r h.0 t).0 (f r h.0 t).1
+    go false t rest e = rest e
+
+first_there : (values : List Text) → HasValue values → IsSome (slice_get values 0)
+first_there [] h = absurd h
+first_there (v ∷ vs) h = refl
+
+-- a base that is given has a value
+pub base_read : (rows : List Row) → AreSound rows → is_given (codes "base") rows ≡ true → IsSome (base_in rows)
+base_read [] ok given = absurd (true≢false (sym given))
+base_read (r ∷ rs) ok given = go (bytes_eq r.id (codes "base")) refl (λ e. base_read rs ok.1 e) given
+  where
+    go : (b : Bool) → bytes_eq r.id (codes "base") ≡ b → (is_given (codes "base") rs ≡ true → IsSome (base_in rs))
+        → option_map_or (λ x. explicit_source x.source) (cond b (Some r) (find (λ x. bytes_eq x.id (codes "base")) rs)) false ≡ true
+        → IsSome (option_and_then (λ x. slice_get x.values 0) (cond b (Some r) (find (λ x. bytes_eq x.id (codes "base")) rs)))
+    go true t rest e = first_there r.values (ok.0.2 t)
     go false t rest e = rest e

@@ -1,23 +1,25 @@
--- Each argument of a subcommand keeps the rows sound, and with the defaults both numbers are there.
-use Rattle.std.proofs.Common.{◌≡◌, ◌==◌, ◌∙◌, ℕ, Bool, cond, true, false, codes, List, [], ◌∷◌, length, refl, sym, subst, true≢false, eqb-true, arith}
+-- Each argument of a subcommand keeps the rows sound, and with the defaults both numbers are there, and the base that has to be.
+use Rattle.std.proofs.Common.{◌≡◌, ◌==◌, ◌∙◌, ◌||◌, ℕ, Bool, cond, true, false, not, codes, List, [], ◌∷◌, length, refl, sym, subst, true≢false, eqb-true, arith}
 use Rattle.std.specs.List.{AllByRecursion, fold}
+use Rattle.std.specs.Option.{IsSome}
 use Rattle.clap.specs.Kinds.{range_kinds, value_kinds}
 use Rattle.clap.specs.Faults.{action_fault, level_fault, repeat_fault, settle_fault, walk_fault}
 use Rattle.clap.specs.Simple.{Shape, filled, help_rule, with_index}
+use Rattle.clap.specs.Takes.{is_given}
 use Rattle.clap.specs.ValueTests.{is_unsigned_in}
 use Rattle.clap.specs.Values.{IsUnsignedIn}
 use Rattle.clap.specs.Walk.{Row, Rule, Text, nothing_held, one_of, settled, values_or_missing, used, walk, walk_from, with_default, without}
 use Rattle.clap.specs.declared.builder.action.ArgAction.TheVariants.{Set}
 use Rattle.clap.specs.declared.builder.value_parser.Reading.TheVariants.{AsWritten}
 use Rattle.clap.specs.declared.builder.value_parser.ValueParser.TheVariants.{Unsigned}
-use Rattle.clap.specs.declared.error.kind.ErrorKind.TheVariants.{InvalidValue, ValueValidation, WrongNumberOfValues}
+use Rattle.clap.specs.declared.error.kind.ErrorKind.TheVariants.{InvalidValue, MissingRequiredArgument, ValueValidation, WrongNumberOfValues}
 use Rattle.clap.specs.declared.parser.matches.ValueSource.{ValueSource}
 use Rattle.clap.specs.declared.parser.matches.ValueSource.TheVariants.{CommandLine, DefaultValue}
 use Rattle.clap.proofs.ValueTestLemmas.{accepts-Accepts}
-use Rattle.epx_words.specs.App.{logs_rule, number_rule}
-use Rattle.epx_words.specs.Given.{IsNumberUpTo}
+use Rattle.epx_words.specs.App.{base_rule, logs_rule, number_rule}
+use Rattle.epx_words.specs.Given.{IsNumberUpTo, base_in}
 use Rattle.epx_words.proofs.NoKinds.{none_after, none_first}
-use Rattle.epx_words.proofs.SoundRows.{AreSound, IsSoundRow, default_has_row, default_keeps_row, default_sound, new_row, no_default, number_read, values_sound, without_sound}
+use Rattle.epx_words.proofs.SoundRows.{AreSound, IsSoundRow, base_read, default_has_row, default_keeps_row, default_sound, new_row, no_default, number_read, values_sound, without_sound}
 use Rattle.epx_words.proofs.SoundWalk.{KeepsSound, settled_sound, walk_sound}
 
 -- the arguments of a subcommand, as clap fills them in
@@ -27,11 +29,20 @@ workers_leaf = filled (number_rule (codes "workers") (codes "4") 64)
 abbrev cut_leaf : Rule
 cut_leaf = filled (number_rule (codes "cut") (codes "256") 65536)
 
-abbrev logs_leaf : Rule
-logs_leaf = with_index 1 (filled logs_rule)
+abbrev base_leaf : Rule
+base_leaf = with_index 1 (filled base_rule)
 
-abbrev pub leaf_rules : List Rule
-leaf_rules = workers_leaf ∷ cut_leaf ∷ logs_leaf ∷ filled help_rule ∷ []
+abbrev logs_leaf : ℕ → Rule
+logs_leaf i = with_index i (filled logs_rule)
+
+abbrev numbers_and : List Rule → List Rule
+numbers_and rest = workers_leaf ∷ cut_leaf ∷ rest
+
+abbrev pub after_numbers : List Rule
+after_numbers = logs_leaf 1 ∷ filled help_rule ∷ []
+
+abbrev pub after_numbers_resumed : List Rule
+after_numbers_resumed = base_leaf ∷ logs_leaf 2 ∷ filled help_rule ∷ []
 
 -- ---- a number
 
@@ -56,10 +67,10 @@ abbrev Fits : Text → ℕ → Type 0
 Fits name most = (s : ValueSource) (v : Text) → IsUnsignedIn 1 most v → IsSoundRow (new_row name AsWritten s (v ∷ []))
 
 workers_fit : Fits (codes "workers") 64
-workers_fit s v h = (λ e. (refl, h), λ e. absurd (true≢false (sym e)))
+workers_fit s v h = (λ e. (refl, h), λ e. absurd (true≢false (sym e)), λ e. tt)
 
 cut_fits : Fits (codes "cut") 65536
-cut_fits s v h = (λ e. absurd (true≢false (sym e)), λ e. (refl, h))
+cut_fits s v h = (λ e. absurd (true≢false (sym e)), λ e. (refl, h), λ e. tt)
 
 module _ (name default : Text) (most : ℕ) (fits : Fits name most) (again : Bool) where
   abbrev leaf : Rule
@@ -80,18 +91,32 @@ module _ (name default : Text) (most : ℕ) (fits : Fits name most) (again : Boo
 
 -- ---- the other arguments
 
-logs_keep : (again : Bool) → KeepsSound again logs_leaf
-logs_keep again values rows none ok =
-    values_sound (codes "logs") AsWritten CommandLine (values_or_missing logs_leaf values) rows (λ e. absurd (true≢false (sym e)), λ e. absurd (true≢false (sym e))) ok
+logs_keep : (again : Bool) (i : ℕ) → KeepsSound again (logs_leaf i)
+logs_keep again i values rows none ok =
+    values_sound (codes "logs") AsWritten CommandLine (values_or_missing (logs_leaf i) values) rows
+    (λ e. absurd (true≢false (sym e)), λ e. absurd (true≢false (sym e)), λ e. absurd (true≢false (sym e))) ok
+
+base_kept : (values : List Text) (rows : List Row) → length values ≡ 1 → AreSound rows → AreSound (used base_leaf values rows)
+base_kept [] rows one ok = absurd (omega arith)
+base_kept (v ∷ w ∷ vs) rows one ok = absurd (omega arith)
+base_kept (v ∷ []) rows one ok =
+    values_sound (codes "base") AsWritten CommandLine (v ∷ []) (without (codes "base") rows) (λ e. absurd (true≢false (sym e)), λ e. absurd (true≢false (sym e)), λ e. tt)
+    (without_sound (codes "base") rows ok)
+
+base_keeps : (again : Bool) → KeepsSound again base_leaf
+base_keeps again values rows none ok = base_kept values rows (one_value (length values) (none_first (range_kinds 1 1 (length values)) _ none)) ok
 
 help_keeps : (again : Bool) → KeepsSound again (filled help_rule)
 help_keeps again values rows none ok = ok
 
-pub leaf_keeps : (again : Bool) → AllByRecursion (KeepsSound again) leaf_rules
-leaf_keeps again = (
-  number_keeps (codes "workers") (codes "4") 64 workers_fit again,
-  (number_keeps (codes "cut") (codes "256") 65536 cut_fits again, (logs_keep again, (help_keeps again, tt))),
-)
+numbers_and_keep : (again : Bool) (rest : List Rule) → AllByRecursion (KeepsSound again) rest → AllByRecursion (KeepsSound again) (numbers_and rest)
+numbers_and_keep again rest keep = (number_keeps (codes "workers") (codes "4") 64 workers_fit again, (number_keeps (codes "cut") (codes "256") 65536 cut_fits again, keep))
+
+pub leaf_keeps : (again : Bool) → AllByRecursion (KeepsSound again) (numbers_and after_numbers)
+leaf_keeps again = numbers_and_keep again after_numbers (logs_keep again 1, (help_keeps again, tt))
+
+pub resumed_keeps : (again : Bool) → AllByRecursion (KeepsSound again) (numbers_and after_numbers_resumed)
+resumed_keeps again = numbers_and_keep again after_numbers_resumed (base_keeps again, (logs_keep again 2, (help_keeps again, tt)))
 
 -- ---- the end of a level
 
@@ -104,21 +129,34 @@ level_sound s keeps words none =
     settled_sound s keeps end (none_first (settle_fault s.rules s.args_override_self end) _ (none_after walked _ none))
     (walk_sound s keeps [] (walk_from nothing_held) words (none_first walked _ none) tt)
 
+-- the rows are sound, and both numbers are there
 pub record HasNumbers (rows : List Row) : Type 0 where
   pub workers : IsNumberUpTo 64 (one_of (codes "workers") rows)
   pub cut : IsNumberUpTo 65536 (one_of (codes "cut") rows)
+  pub sound : AreSound rows
 
-pub numbers_there : (rows : List Row) → AreSound rows → HasNumbers (fold with_default rows leaf_rules)
-numbers_there rows ok =
+no_defaults : (rest : List Rule) (rows : List Row) → AllByRecursion (λ a. a.defaults ≡ []) rest → fold with_default rows rest ≡ rows
+no_defaults [] rows none = refl
+no_defaults (a ∷ rest) rows none = no_defaults rest (with_default rows a) none.1 ∙ no_default a rows none.0
+
+pub numbers_there : (rest : List Rule) → AllByRecursion (λ a. a.defaults ≡ []) rest → (rows : List Row) → AreSound rows → HasNumbers (fold with_default rows (numbers_and rest))
+numbers_there rest none rows ok =
     let one = with_default rows workers_leaf in
     let two = with_default one cut_leaf in
-    let three = with_default two logs_leaf in
     let one_sound = default_sound workers_leaf (codes "4") [] rows refl (workers_fit DefaultValue (codes "4") (accepts-Accepts false (Unsigned 1 64) (codes "4") refl)) ok in
     let two_sound = default_sound cut_leaf (codes "256") [] one refl (cut_fits DefaultValue (codes "256") (accepts-Accepts false (Unsigned 1 65536) (codes "256") refl)) one_sound in
-    let end_is = no_default (filled help_rule) three refl ∙ no_default logs_leaf two refl in
     let workers_has = default_keeps_row (codes "workers") cut_leaf one (default_has_row workers_leaf (codes "4") [] rows refl refl) in
     let cut_has = default_has_row cut_leaf (codes "256") [] one refl refl in
-    subst HasNumbers (sym end_is) (record {
+    subst HasNumbers (sym (no_defaults rest two none)) (record {
       workers = number_read (codes "workers") 64 two (λ r h e. h.0 e) two_sound workers_has;
       cut = number_read (codes "cut") 65536 two (λ r h e. h.1 e) two_sound cut_has;
+      sound = two_sound;
     })
+
+required_given : (given : Bool) → cond (not given || false) (MissingRequiredArgument ∷ []) [] ≡ [] → given ≡ true
+required_given true none = refl
+required_given false none = cc
+
+-- where it is not missed, the base is there
+pub base_there : (rows : List Row) → cond (not (is_given (codes "base") rows) || false) (MissingRequiredArgument ∷ []) [] ≡ [] → AreSound rows → IsSome (base_in rows)
+base_there rows none ok = base_read rows ok (required_given (is_given (codes "base") rows) none)

@@ -1,4 +1,4 @@
--- The program as clap knows it: three subcommands, each with two numbers and any number of logs.
+-- The program as clap knows it: four subcommands, each with two numbers and any number of logs, and one of them with a base.
 use Rattle.std.specs.Prelude.{ℕ, true, Some, [], ◌∷◌, codes}
 use Rattle.clap.specs.Simple.{on_top}
 use Rattle.clap.specs.Words.{App, Rule, Text, new_app, new_rule, with_rule, with_subcommand}
@@ -19,10 +19,22 @@ number_rule name default most = record (new_rule name) {
 abbrev pub logs_rule : Rule
 logs_rule = record (new_rule (codes "logs")) { action = Some Append; value_names = 1 }
 
--- a subcommand
+-- the base, which has to be given
+abbrev pub base_rule : Rule
+base_rule = record (new_rule (codes "base")) { action = Some Set; value_names = 1; required = true }
+
+-- a subcommand with its two numbers
+abbrev pub numbers_app : Text → App
+numbers_app name =
+    with_rule (with_rule (new_app name) (number_rule (codes "workers") (codes "4") 64)) (number_rule (codes "cut") (codes "256") 65536)
+
+-- a subcommand over logs
 abbrev pub work_app : Text → App
-work_app name = with_rule (with_rule (with_rule (new_app name) (number_rule (codes "workers") (codes "4") 64))
-    (number_rule (codes "cut") (codes "256") 65536)) logs_rule
+work_app name = with_rule (numbers_app name) logs_rule
+
+-- the subcommand over a base and logs
+abbrev pub resume_app : App
+resume_app = with_rule (with_rule (numbers_app (codes "resume")) base_rule) logs_rule
 
 -- the program without its subcommands
 abbrev pub epx_start : App
@@ -30,4 +42,5 @@ epx_start = on_top (λ shape. record shape { has_version = true; subcommand_requ
 
 -- the program
 abbrev pub epx_app : App
-epx_app = with_subcommand (with_subcommand (with_subcommand epx_start (work_app (codes "run")).top) (work_app (codes "order")).top) (work_app (codes "levels")).top
+epx_app = with_subcommand (with_subcommand (with_subcommand (with_subcommand epx_start (work_app (codes "run")).top) (work_app (codes "order")).top)
+    (work_app (codes "levels")).top) resume_app.top

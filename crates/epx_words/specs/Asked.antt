@@ -1,18 +1,24 @@
 -- What words come to, by cases.
-use Rattle.std.specs.Prelude.{◌≡◌, ⊤, ℕ, List, Option, Some, codes, map, option_map, string_bytes}
-use Rattle.clap.specs.Words.{Text}
+use Rattle.std.specs.Prelude.{◌≡◌, ⊤, ℕ, List, ◌∷◌, Option, Some, codes, map, option_map, string_bytes}
+use Rattle.clap.specs.Words.{Row, Text}
 use Rattle.epx_types.specs.Pieces.{Cutting}
 use Rattle.epx_words.specs.declared.asked.Task.{Task}
 use Rattle.epx_words.specs.declared.asked.Task.TheVariants as task
 use Rattle.epx_words.specs.declared.asked.Words.{Words}
 use Rattle.epx_words.specs.declared.asked.Words.TheVariants as words
-use Rattle.epx_words.specs.Given.{Given, IsCutOf, IsWorkersOf, logs_in, name_in, rows_in}
+use Rattle.epx_words.specs.Given.{Given, IsCutOf, IsWorkersOf, base_in, logs_in, name_in, rows_in}
 
 -- the subcommand of a task
 abbrev pub task_name : Task → Text
 task_name task.Run = codes "run"
 task_name task.Order = codes "order"
 task_name task.Levels = codes "levels"
+task_name task.Resume = codes "resume"
+
+-- the paths of a task: of the base that it goes on from, where it does, and then of its logs
+abbrev pub ArePathsOf : Task → List Row → Option (List Text) → Type 0
+ArePathsOf task.Resume rows paths = (base : Text) × (base_in rows ≡ Some base) × (paths ≡ Some (base ∷ logs_in rows))
+ArePathsOf _ rows paths = paths ≡ Some (logs_in rows)
 
 -- the words ask for work, and this holds of the task, the plan and the paths
 abbrev pub IfWork : (Task → Cutting → Option (List Text) → Type 0) → Words → Type 0
@@ -34,7 +40,7 @@ pub record Fits (given : Given) (asked : Task) (cutting : Cutting) (logs : Optio
   pub task : name_in given ≡ Some (task_name asked)
   pub workers : IsWorkersOf (rows_in given) cutting.workers
   pub cut : IsCutOf (rows_in given) cutting.cut
-  pub paths : logs ≡ Some (logs_in (rows_in given))
+  pub paths : ArePathsOf asked (rows_in given) logs
 
 -- the words ask for that work
 abbrev pub IsWorkOf : Given → Words → Type 0

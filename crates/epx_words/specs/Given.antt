@@ -1,8 +1,8 @@
--- What the rows of a subcommand give: two numbers and the logs.
+-- What the rows of a subcommand give: two numbers, the logs and a base.
 use Rattle.std.specs.Prelude.{◌≡◌, ◌⊎◌, ℕ, List, [], Option, Some, None, codes, option_map, unwrap_or}
-use Rattle.std.specs.Option.{option_map_or}
+use Rattle.std.specs.Option.{IsSome, option_map_or}
 use Rattle.std.specs.Str.Parse.{IsNumeral, digits_value, without_leading_plus}
-use Rattle.clap.specs.Words.{IsUnsignedIn, Row, Text, all_of, one_of}
+use Rattle.clap.specs.Words.{IsUnsignedIn, Row, Text, all_of, first_of, one_of}
 
 -- the subcommand that words name, with its rows
 abbrev pub Given : Type 0
@@ -32,6 +32,10 @@ IsCutOf rows n = IsNumberOf (one_of (codes "cut") rows) n
 abbrev pub logs_in : List Row → List Text
 logs_in rows = unwrap_or (all_of (codes "logs") rows) []
 
+-- the value of the base, where one is given
+abbrev pub base_in : List Row → Option Text
+base_in rows = first_of (codes "base") rows
+
 -- the text is a number from 1 to `most`
 abbrev pub IsNumberUpTo : ℕ → Option Text → Type 0
 IsNumberUpTo most None = ⊥
@@ -39,10 +43,10 @@ IsNumberUpTo most (Some text) = IsUnsignedIn 1 most text
 
 -- the name of a subcommand that asks for work
 abbrev pub IsTaskName : Text → Type 0
-IsTaskName name = (name ≡ codes "run") ⊎ ((name ≡ codes "order") ⊎ (name ≡ codes "levels"))
+IsTaskName name = (name ≡ codes "run") ⊎ ((name ≡ codes "order") ⊎ ((name ≡ codes "levels") ⊎ (name ≡ codes "resume")))
 
--- a subcommand that asks for work, with numbers in their ranges
+-- a subcommand that asks for work, with numbers in their ranges, and with a base where one is resumed
 abbrev pub GivesWork : Given → Type 0
 GivesWork None = ⊥
 GivesWork (Some p) =
-    IsTaskName p.0 × IsNumberUpTo 64 (one_of (codes "workers") p.1) × IsNumberUpTo 65536 (one_of (codes "cut") p.1)
+    IsTaskName p.0 × IsNumberUpTo 64 (one_of (codes "workers") p.1) × IsNumberUpTo 65536 (one_of (codes "cut") p.1) × (p.0 ≡ codes "resume" → IsSome (base_in p.1))

@@ -11,12 +11,15 @@ pub enum Task {
     Order,
     /// The conflict levels.
     Levels,
+    /// The report over a base, which is an earlier report.
+    Resume,
 }
 
 /// What words come to.
 #[derive(Debug, Drop)]
 pub enum Words {
-    /// Work over the logs at these paths. Without paths the one log is standard input.
+    /// Work over the logs at these paths. The first path is that of the base where one is resumed.
+    /// Without paths the one log is standard input.
     Work {
         task: Task,
         plan: Plan,

@@ -1,7 +1,7 @@
 //! The program as clap knows it.
 ghost use Rattle.std.specs.Prelude.{◌≡◌, IfOk, codes};
 ghost use Rattle.clap.specs.Words.{app_of, rule_of};
-ghost use Rattle.epx_words.specs.App.{epx_app, number_rule, work_app};
+ghost use Rattle.epx_words.specs.App.{base_rule, epx_app, logs_rule, number_rule, numbers_app, resume_app, work_app};
 
 use clap::builder::ValueParser;
 use clap::{Arg, ArgAction, Command};
@@ -15,7 +15,7 @@ const ABOUT: &str = "Executes the committed instances of EPaxos from their logs"
 const LONG_ABOUT: &str =
     "Executes the committed instances of EPaxos from their logs, which one replica
 wrote or several. What comes out is lines of JSON: the report, the execution
-order, or the conflict levels.
+order, or the conflict levels. A report can be resumed over further logs.
 
 All subcommands take --workers N, 1 to 64 and 4 by default, and --cut M, 1 to
 65536 and 256 by default. With no words at all epx prints the report of one log,
@@ -45,6 +45,13 @@ of JSON, with how many instances are ready and how many wait, each ready one in
 execution order with the level of its command, and each instance that must wait
 with the missing one that it waits for. Commands of one level do not conflict.";
 
+const RESUME_ABOUT: &str = "Goes on from an earlier report, and prints the report";
+
+const RESUME_LONG_ABOUT: &str =
+    "Executes what the logs commit and an earlier report has not executed yet, over
+the store of that report, and prints the report as run does, with a line for
+each instance that was executed before. That report can be resumed in turn.";
+
 const EXAMPLE: &str = "Example:
   epx run examples/replicas/*.jsonl";
 
@@ -58,6 +65,18 @@ committed or executed; accepted and pre-accepted ones are passed over.
 
 Example:
   epx run examples/replicas/*.jsonl";
+
+const RESUME_EXAMPLE: &str = "Example:
+  epx resume earlier.report examples/replicas/*.jsonl";
+
+const BASE_AND_EXAMPLE: &str =
+    "A base is what epx run or epx resume printed. The instances that have a reply in
+it, or are told there as done, are not executed again, and what depends on them
+does not wait for them. Those that wait in it must stand in the logs again.
+
+Example:
+  epx run examples/replicas/0.jsonl > earlier.report
+  epx resume earlier.report examples/replicas/*.jsonl";
 
 /// An option whose value is a number from 1 to `most`.
 fn number_option<'a>(
@@ -77,14 +96,14 @@ fn number_option<'a>(
         .value_parser(ValueParser::unsigned(1, most as u64))
 }
 
-/// A subcommand that works over logs. All have the same options and the same positional.
+/// A subcommand with the two options that all have.
 fn subcommand<'a>(
     alloc: Global,
     name: &'a str,
     about: &'a str,
     long_about: &'a str,
 ) -> Result<Command<'a>, AllocError>
-    ensures { IfOk result (λ c. app_of c ≡ work_app name.entry.now) }
+    ensures { IfOk result (λ c. app_of c ≡ numbers_app name.entry.now) }
 {
     let workers = number_option(alloc, "workers", "N", "4", MAX_WORKERS).help(
         "Workers that share the work, 1 to 64",
@@ -92,27 +111,68 @@ fn subcommand<'a>(
     let cut = number_option(alloc, "cut", "M", "256", MAX_CUT).help(
         "Items in a piece of work, 1 to 65536",
     );
-    let logs = Arg::new(alloc, "logs")
-        .value_name("LOG")
-        .action(ArgAction::Append)
-        .help("The logs to read, in any order");
     Command::new(alloc, name)
         .about(about)
         .long_about(long_about)
+        .arg(workers)?
+        .arg(cut)
+}
+
+/// The logs, of which there may be none.
+fn logs<'a>(alloc: Global) -> Arg<'a>
+    ensures { rule_of result ≡ logs_rule }
+{
+    Arg::new(alloc, "logs")
+        .value_name("LOG")
+        .action(ArgAction::Append)
+        .help("The logs to read, in any order")
+}
+
+/// The earlier report.
+fn base<'a>(alloc: Global) -> Arg<'a>
+    ensures { rule_of result ≡ base_rule }
+{
+    Arg::new(alloc, "base")
+        .value_name("BASE")
+        .action(ArgAction::Set)
+        .required(true)
+        .help("The earlier report to go on from")
+}
+
+/// A subcommand that works over logs alone.
+fn over_logs<'a>(
+    alloc: Global,
+    name: &'a str,
+    about: &'a str,
+    long_about: &'a str,
+) -> Result<Command<'a>, AllocError>
+    ensures { IfOk result (λ c. app_of c ≡ work_app name.entry.now) }
+{
+    subcommand(alloc, name, about, long_about)?
         .after_help(EXAMPLE)
         .after_long_help(LOGS_AND_EXAMPLE)
-        .arg(workers)?
-        .arg(cut)?
-        .arg(logs)
+        .arg(logs(alloc))
+}
+
+/// The subcommand that works over a base and logs.
+fn over_base<'a>(alloc: Global) -> Result<Command<'a>, AllocError>
+    ensures { IfOk result (λ c. app_of c ≡ resume_app) }
+{
+    subcommand(alloc, "resume", RESUME_ABOUT, RESUME_LONG_ABOUT)?
+        .after_help(RESUME_EXAMPLE)
+        .after_long_help(BASE_AND_EXAMPLE)
+        .arg(base(alloc))?
+        .arg(logs(alloc))
 }
 
 /// The whole program.
 pub(crate) fn command<'a>(alloc: Global) -> Result<Command<'a>, AllocError>
     ensures { IfOk result (λ c. app_of c ≡ epx_app) }
 {
-    let run = subcommand(alloc, "run", RUN_ABOUT, RUN_LONG_ABOUT)?;
-    let order = subcommand(alloc, "order", ORDER_ABOUT, ORDER_LONG_ABOUT)?;
-    let levels = subcommand(alloc, "levels", LEVELS_ABOUT, LEVELS_LONG_ABOUT)?;
+    let run = over_logs(alloc, "run", RUN_ABOUT, RUN_LONG_ABOUT)?;
+    let order = over_logs(alloc, "order", ORDER_ABOUT, ORDER_LONG_ABOUT)?;
+    let levels = over_logs(alloc, "levels", LEVELS_ABOUT, LEVELS_LONG_ABOUT)?;
+    let resume = over_base(alloc)?;
     Command::new(alloc, "epx")
         .version(VERSION)
         .about(ABOUT)
@@ -122,5 +182,6 @@ pub(crate) fn command<'a>(alloc: Global) -> Result<Command<'a>, AllocError>
         .subcommand_required(true)
         .subcommand(run)?
         .subcommand(order)?
-        .subcommand(levels)
+        .subcommand(levels)?
+        .subcommand(resume)
 }

@@ -1,10 +1,11 @@
 //! Words read.
 ghost use Rattle.std.specs.Prelude.{◌≡◌, ◌≤◌, ◌≢◌, ◌↔◌, [], None, Some, IfOk, MatchResult, codes, length, map, false, string_bytes, true};
+ghost use Rattle.std.specs.Option.{IsSome};
 ghost use Rattle.clap.specs.Words.{fault_of, found_of, kind_of, one_of, rows_of, subcommand_of, subcommand_rows_of, takes};
 ghost use Rattle.epx_words.specs.App.{epx_app};
-ghost use Rattle.epx_words.specs.Asked.{AsksWork, IfText, IfWork, IsText, IsWorkOf, task_name};
+ghost use Rattle.epx_words.specs.Asked.{ArePathsOf, AsksWork, IfText, IfWork, IsText, IsWorkOf, task_name};
 ghost use Rattle.epx_words.specs.Endings.{EndsAs, ending};
-ghost use Rattle.epx_words.specs.Given.{IsCutOf, IsNumberUpTo, IsTaskName, IsWorkersOf, GivesWork, logs_in, name_in, rows_in};
+ghost use Rattle.epx_words.specs.Given.{IsCutOf, IsNumberUpTo, IsTaskName, IsWorkersOf, GivesWork, base_in, logs_in, name_in, rows_in};
 
 use crate::asked::{Task, Words};
 use crate::commands::command;
@@ -25,12 +26,36 @@ fn copies(alloc: Global, texts: &[&str]) -> Result<Vec<String>, AllocError>
 }
 
 /// The paths of the logs, in their order.
-fn paths_of(alloc: Global, matches: &ArgMatches<'_>) -> Result<Vec<String>, AllocError>
-    ensures { IfOk result (λ paths. map string_bytes paths.items ≡ logs_in (rows_of (found_of matches.now))) }
+fn logs_of(alloc: Global, matches: &ArgMatches<'_>) -> Result<Vec<String>, AllocError>
+    ensures { IfOk result (λ logs. map string_bytes logs.items ≡ logs_in (rows_of (found_of matches.now))) }
 {
     match matches.get_strs("logs") {
         Some(logs) => copies(alloc, logs),
         None => Ok(Vec::new(alloc)),
+    }
+}
+
+/// The path of the base, and then those of the logs.
+fn base_and_logs(alloc: Global, matches: &ArgMatches<'_>) -> Result<Vec<String>, AllocError>
+    requires { IsSome (base_in (rows_of (found_of matches.now))) }
+    ensures { IfOk result (λ paths.
+        ArePathsOf Task.Resume (rows_of (found_of matches.now)) (Some (map string_bytes paths.items))) }
+{
+    let base = matches.get_str("base").unwrap();
+    let mut paths = logs_of(alloc, matches)?;
+    paths.insert(0, String::from_str(alloc, base)?)?;
+    Ok(paths)
+}
+
+/// The paths that the task is to read.
+fn paths_of(alloc: Global, task: Task, matches: &ArgMatches<'_>) -> Result<Vec<String>, AllocError>
+    requires { task ≡ Task.Resume → IsSome (base_in (rows_of (found_of matches.now))) }
+    ensures { IfOk result (λ paths.
+        ArePathsOf task (rows_of (found_of matches.now)) (Some (map string_bytes paths.items))) }
+{
+    match task {
+        Task::Resume => base_and_logs(alloc, matches),
+        Task::Run | Task::Order | Task::Levels => logs_of(alloc, matches),
     }
 }
 
@@ -55,6 +80,8 @@ fn task_of(name: &str) -> Task
         Task::Order
     } else if name == "levels" {
         Task::Levels
+    } else if name == "resume" {
+        Task::Resume
     } else {
         Task::Run
     }
@@ -68,10 +95,11 @@ fn work_of(alloc: Global, matches: &ArgMatches<'_>) -> Result<Words, AllocError>
     let Some((name, given)) = matches.subcommand() else {
         unreachable!();
     };
+    let task = task_of(name);
     Ok(Words::Work {
-        task: task_of(name),
+        task,
         plan: plan_of(given),
-        paths: Some(paths_of(alloc, given)?),
+        paths: Some(paths_of(alloc, task, given)?),
     })
 }
 
@@ -111,7 +139,7 @@ pub fn read_words(alloc: Global, words: &[&str]) -> Result<Words, Memory>
     ensures cut { let given = subcommand_of epx_app (map (λ w. w.now) words.now) in
         2 ≤ length words.now → IfOk result (IfWork (λ task plan paths. IsCutOf (rows_in given) plan.cut)) }
     ensures paths { let given = subcommand_of epx_app (map (λ w. w.now) words.now) in
-        2 ≤ length words.now → IfOk result (IfWork (λ task plan paths. paths ≡ Some (logs_in (rows_in given)))) }
+        2 ≤ length words.now → IfOk result (IfWork (λ task plan paths. ArePathsOf task (rows_in given) paths)) }
     ensures taken { 2 ≤ length words.now → IfOk result (λ asked.
         AsksWork asked ↔ (fault_of epx_app (map (λ w. w.now) words.now) ≡ [])) }
     ensures refused { 2 ≤ length words.now → IfOk result (IfText (λ status.

@@ -1,5 +1,5 @@
 use Rattle.std.proofs.Common.{◌∷◌, []}
-use Rattle.epx_program.proofs.Statuses.{ends-as-done, of-text, unpathed}
+use Rattle.epx_program.proofs.Statuses.{answered_paths, ends-as-done, of-text, unpathed}
 use Rattle.epx_program.proofs.program.act.Goals as goal
 
 pub returns-in-Work-clause-input : goal.returns-in-Work-clause-input
@@ -9,3 +9,6 @@ returns-in-Work-clause-input g c bytes known =
 
 pub returns-in-Text-clause-text : goal.returns-in-Text-clause-text
 returns-in-Text-clause-text g c = rw c.in-Text.is (λ zero. of-text _ (c.end_with_text.ensures.status zero))
+
+pub returns-in-Work-clause-paths : goal.returns-in-Work-clause-paths
+returns-in-Work-clause-paths g c = rw c.in-Work.is (answered_paths c.in-Work.task c.work-done.result _ _ _ c.in-Work.paths c.end.ensures c.work-done.ensures.paths)

@@ -1,4 +1,4 @@
-use Rattle.epx_words.specs.declared.asked.Task.TheVariants.{Run, Order, Levels}
+use Rattle.epx_words.specs.declared.asked.Task.TheVariants.{Run, Order, Levels, Resume}
 use Rattle.epx_program.proofs.Statuses.{comes-to}
 use Rattle.epx_program.proofs.work.answer.Goals as goal
 
@@ -19,3 +19,9 @@ returns-in-Order-clause-answered g c = rw c.in-Order.is c.show.ensures.answered
 
 pub returns-in-Levels-clause-answered : goal.returns-in-Levels-clause-answered
 returns-in-Levels-clause-answered g c = rw c.in-Levels.is c.show-in-Levels.ensures.answered
+
+pub returns-in-Resume-clause-answer : goal.returns-in-Resume-clause-answer
+returns-in-Resume-clause-answer g c = rw c.in-Resume.is c.go_on.ensures.answer
+
+pub returns-in-Resume-clause-answered : goal.returns-in-Resume-clause-answered
+returns-in-Resume-clause-answered g c = rw c.in-Resume.is c.go_on.ensures.answered

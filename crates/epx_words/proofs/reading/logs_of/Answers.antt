@@ -4,7 +4,7 @@ use Rattle.std.proofs.lemmas.Result.{IfOk-weaker}
 use Rattle.clap.specs.Words.{found_of, rows_of}
 use Rattle.clap.proofs.WalkLemmas.{raw_values-rows}
 use Rattle.epx_words.specs.Given.{logs_in}
-use Rattle.epx_words.proofs.reading.paths_of.Goals as goal
+use Rattle.epx_words.proofs.reading.logs_of.Goals as goal
 
 pub returns-in-Some : goal.returns-in-Some
 returns-in-Some c =
