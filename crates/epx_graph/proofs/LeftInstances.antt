@@ -1,5 +1,5 @@
 -- What is left of a map: where its instances and other Ids stand.
-use Rattle.std.proofs.Common.{◌≡◌, ◌↔◌, ℕ, zero, suc, ◌+◌, ◌<◌, List, [], ◌∷◌, ◌++◌, length, take, Option, Some, None, MatchOption, IsTrue, cond, not, is_some, get_or, slice_get, Contains, refl, sym, ap, ◌∙◌, subst, inl, inr, append-nil, arith}
+use Rattle.std.proofs.Common.{◌≡◌, ℕ, zero, suc, ◌+◌, ◌<◌, List, [], ◌∷◌, ◌++◌, length, take, Option, Some, None, cond, not, get_or, slice_get, Contains, refl, sym, ap, ◌∙◌, subst, inl, inr, append-nil, arith}
 use Rattle.std.proofs.lemmas.Bool.{cases_lt}
 use Rattle.std.proofs.lemmas.List.{append_assoc, length_push, nil_from_length, get_or_append_left, get_or_push, get_or_read, take_all, take_more}
 use Rattle.std.proofs.lemmas.List.Elements.{filter-append}
@@ -22,11 +22,6 @@ use Rattle.epx_graph.specs.declared.left.Found.{Found}
 use Rattle.epx_graph.specs.declared.left.Found.TheVariants as found
 use Rattle.epx_graph.proofs.GatheredRows.{positions_skip, positions_take}
 use Rattle.epx_graph.proofs.MissingIds.{no_position, none_position, lacking_skip, lacking_take}
-
--- an Id is done where it is found among those that are done
-pub done_test : (done : List Id) (x : Id) (o : Option ℕ) → MatchOption o (¬ Contains done x) (λ k. slice_get done k ≡ Some x) → IsTrue (is_some o) ↔ Contains done x
-done_test done x None missed = (λ e. absurd (cc e), λ h. absurd (missed h))
-done_test done x (Some k) at = (λ _. Contains-slice_get done k x at, λ _. refl)
 
 -- ---- the Ids of a list that are not done
 

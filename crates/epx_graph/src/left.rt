@@ -6,7 +6,7 @@ ghost use Rattle.epx_types.specs.Ids.{IsRising};
 ghost use Rattle.epx_graph.specs.Left.{IsFound, StandsAt, left_of};
 
 use crate::find::find;
-use epx_merge::Merged;
+use epx_merge::{Merged, Runs};
 use epx_types::{Entry, Id, Memory};
 use std::alloc::Global;
 use std::marker::Model;
@@ -26,6 +26,8 @@ pub(crate) enum Found {
 pub(crate) struct Left<'a> {
     merged: &'a Merged,
     done: &'a [Id],
+    /// Where the done instances of each replica begin.
+    runs: Runs,
     /// The position in the map of each instance that is left. Empty where nothing is done: the map itself is left then,
     /// and no table is looked up.
     positions: Vec<usize>,
@@ -47,12 +49,29 @@ impl<'a> Model for Left<'a> {
         IsRising (ids_of r.whole) × IsRising r.done × (0 < length r.done → AreTables r l.positions.items l.places.items (length r.whole)) };
 }
 
-/// Whether an instance is done.
-fn is_done(done: &[Id], id: Id) -> bool
+/// Where the done instances of each replica begin.
+fn runs_of(done: &[Id]) -> Runs {
+    let mut runs = Runs::new();
+    for (place, id) in done.iter().enumerate() {
+        runs.note(*id, place);
+    }
+    runs
+}
+
+/// Whether an instance stands where its replica's done instances would without gaps, so that it is done.
+fn is_guessed(done: &[Id], runs: &Runs, id: Id) -> bool
+    ensures { IsTrue result → Contains done.now id }
+{
+    let place = runs.guess(id);
+    place < done.len() && done[place] == id
+}
+
+/// Whether an instance is done: mostly it stands where it is guessed, and else is looked for by halving.
+fn is_done(done: &[Id], runs: &Runs, id: Id) -> bool
     requires { IsRising done.now }
     ensures { IsTrue result ↔ Contains done.now id }
 {
-    find(done, id).is_some()
+    is_guessed(done, runs, id) || find(done, id).is_some()
 }
 
 impl<'a> Left<'a> {
@@ -61,12 +80,13 @@ impl<'a> Left<'a> {
         requires { IsRising done.now }
         ensures { IfOk result (λ left. left ≡ record { whole = merged.now; done = done.now }) }
     {
+        let runs = runs_of(done);
         let mut positions = Vec::new(alloc);
         let mut places = Vec::new(alloc);
         let all = merged.len();
         let tabled = if done.is_empty() { 0 } else { all };
         for position in 0..tabled {
-            if is_done(done, merged.id_at(position)) {
+            if is_done(done, &runs, merged.id_at(position)) {
                 places.push(None)?;
                 continue;
             }
@@ -76,6 +96,7 @@ impl<'a> Left<'a> {
         Ok(Left {
             merged,
             done,
+            runs,
             positions,
             places,
         })
@@ -123,6 +144,10 @@ impl<'a> Left<'a> {
     pub(crate) fn look_up(&self, id: Id) -> Found
         ensures { IsFound self.now id result }
     {
+        // What is done is seldom in the map as well, and would then be searched there for nothing.
+        if is_guessed(self.done, &self.runs, id) {
+            return Found::Done;
+        }
         if let Some(position) = self.merged.position(id) {
             if self.done.is_empty() {
                 return Found::Left(position);
@@ -132,7 +157,7 @@ impl<'a> Left<'a> {
                 None => Found::Done,
             };
         }
-        if is_done(self.done, id) {
+        if is_done(self.done, &self.runs, id) {
             Found::Done
         } else {
             Found::Missing
@@ -148,7 +173,7 @@ impl<'a> Left<'a> {
         }
         let mut count = 0;
         for id in ids {
-            if is_done(self.done, *id) {
+            if is_done(self.done, &self.runs, *id) {
                 continue;
             }
             count += 1;

@@ -20,3 +20,4 @@ mod walk;
 pub use limits::{MAX_INSTANCES, MAX_LOG_BYTES, MAX_LOGS, first_too_long};
 pub use merged::Merged;
 pub use reading::read_logs;
+pub use runs::Runs;

@@ -31,12 +31,21 @@ impl Model for Merged {
     ghost invariant = { λ m. IsKeyed m.lines.items m.rows.items };
 }
 
+/// Where the rows of each replica begin.
+fn runs_of(rows: &[Row]) -> Runs {
+    let mut runs = Runs::new();
+    for (position, row) in rows.iter().enumerate() {
+        runs.note(row.id, position);
+    }
+    runs
+}
+
 impl Merged {
     pub(crate) fn new(lines: Vec<PlacedEntry>, rows: Vec<Row>) -> Merged
         requires { IsKeyed lines.items rows.items }
         ensures { result ≡ instances_at lines.items rows.items }
     {
-        let runs = Runs::of(&rows);
+        let runs = runs_of(&rows);
         Merged { lines, rows, runs }
     }
 
