@@ -1,5 +1,5 @@
 -- The report, the order and the levels of a committed map, from what the layers below answer.
-use Rattle.std.proofs.Common.{◌≡◌, ◌≤◌, ◌^◌, ◌++◌, ℕ, List, [], ◌∷◌, map, length, flat_map, zip, refl, sym, ap, ap₂, ◌∙◌, subst, arith, Contains}
+use Rattle.std.proofs.Common.{◌≡◌, ◌≤◌, ◌^◌, ℕ, List, [], map, length, sym, ap, ap₂, ◌∙◌, subst, arith, Contains}
 use Rattle.std.specs.FinMap as contents
 use Rattle.std.proofs.lemmas.List.{length-map}
 use Rattle.epx_types.specs.declared.id.Id.{Id}
@@ -10,11 +10,10 @@ use Rattle.epx_types.specs.Instances.{Instance}
 use Rattle.epx_types.specs.CommittedMap.{instance_of}
 use Rattle.epx_types.specs.Done.{remaining}
 use Rattle.epx_types.specs.Execution.{execute}
-use Rattle.epx_types.specs.ExecutionOrder.{Ranked, IsExecutionOrder, ranked_ids, component_count}
+use Rattle.epx_types.specs.ExecutionOrder.{Ranked, IsExecutionOrder, ranked_ids}
 use Rattle.epx_types.specs.WaitingLists.{Waiting, IsWaitingList}
 use Rattle.epx_types.specs.Levels.{AreLevels}
 use Rattle.epx_merge.specs.Limits.{max_instances}
-use Rattle.epx_base.specs.ReportLines.{header_line, reply_line, waiting_line, store_line}
 use Rattle.epx_tool.specs.Report.{IsReport, ops_of, commands_of, report_text}
 use Rattle.epx_tool.specs.ResumedReport.{IsReportAfter, resumed_text}
 use Rattle.epx_tool.specs.LevelText.{IsLevelText, level_text}

@@ -1,5 +1,5 @@
 -- A report is a base of what it leaves.
-use Rattle.std.proofs.Common.{◌≡◌, ◌≢◌, ◌⊎◌, ◌↔◌, ◌++◌, ℕ, List, [], ◌∷◌, length, zip, flat_map, Contains, AllPairs, refl, sym, ap, ◌∙◌, subst, inl, inr, arith}
+use Rattle.std.proofs.Common.{◌≡◌, ◌≢◌, ◌⊎◌, ◌↔◌, ◌++◌, ℕ, List, [], ◌∷◌, length, zip, flat_map, Contains, AllPairs, refl, sym, ap, ◌∙◌, subst, arith}
 use Rattle.std.specs.FinMap as contents
 use Rattle.std.proofs.lemmas.List.{length-map}
 use Rattle.epx_types.specs.declared.id.Id.{Id}
@@ -19,10 +19,10 @@ use Rattle.epx_types.proofs.Membership.{Contains-from_map}
 use Rattle.epx_base.specs.Bases.{IsBase}
 use Rattle.epx_base.specs.ReportLines.{header_line, done_line, reply_line, waiting_line, store_line}
 use Rattle.epx_base.specs.ReportBases.{replied_ids, IsInOrder, AreDoneAfter}
-use Rattle.epx_base.specs.ReportReadings.{Reported, reported_text, FitsReported}
+use Rattle.epx_base.specs.ReportReadings.{Reported, reported_text}
 use Rattle.epx_base.proofs.ReportBases.{report_is_a_base}
 use Rattle.epx_tool.specs.Report.{IsReport, commands_of, ops_of, report_text}
-use Rattle.epx_tool.specs.ResumedReport.{IsReportAfter, resumed_text}
+use Rattle.epx_tool.specs.ResumedReport.{IsReportAfter}
 use Rattle.epx_tool.specs.ResumptionLaws.{ReportIsAfterNothing, ReportIsBase, reported_of, run_in}
 use Rattle.epx_tool.proofs.Reports.{executed_is_left, IsReport-after_nothing}
 

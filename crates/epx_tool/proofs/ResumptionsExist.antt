@@ -1,5 +1,5 @@
 -- A base and logs have an answer, and one alone.
-use Rattle.std.proofs.Common.{◌≡◌, ◌≢◌, ◌++◌, ◌<◌, ◌≤◌, ℕ, List, [], ◌∷◌, length, Result, Ok, Err, refl, sym, ap, ap₂, ◌∙◌, subst, inl, inr, arith}
+use Rattle.std.proofs.Common.{◌≡◌, ◌≢◌, ◌<◌, ℕ, List, length, Result, Ok, Err, refl, sym, ap₂, ◌∙◌, subst, inl, inr, arith}
 use Rattle.std.proofs.lemmas.Bool.{cases_lt}
 use Rattle.epx_types.specs.declared.id.Id.{Id}
 use Rattle.epx_types.specs.declared.fault.Fault.{Fault}
@@ -14,13 +14,13 @@ use Rattle.epx_types.proofs.DoneLemmas.{IsRising-remaining}
 use Rattle.epx_types.proofs.ExecutionOrders.{IsExecutionOrder-unique}
 use Rattle.epx_types.proofs.ListedWaiting.{IsWaitingList-unique}
 use Rattle.epx_types.proofs.OrdersExist.{execution_order_exists, waiting_list_exists}
-use Rattle.epx_base.specs.Bases.{IsBase, IsBadBase}
+use Rattle.epx_base.specs.Bases.{IsBadBase}
 use Rattle.epx_base.proofs.BaseLaws.{base_or_bad_base}
 use Rattle.epx_merge.specs.Limits.{max_logs, max_log_bytes}
 use Rattle.epx_merge.proofs.Existence.{answered_always, long_cases}
 use Rattle.epx_tool.specs.Report.{commands_of}
 use Rattle.epx_tool.specs.ResumedReport.{IsReportAfter, resumed_text}
-use Rattle.epx_tool.specs.Beside.{IsShort, IsRefusalBeside}
+use Rattle.epx_tool.specs.Beside.{IsShort}
 use Rattle.epx_tool.specs.Resumption.{IsResumed, Resumes}
 use Rattle.epx_tool.specs.ResumptionLaws.{ResumptionExists, ResumptionIsOne}
 use Rattle.epx_tool.proofs.LogsBeside.{last_too_long, first_too_long_beside, refusal_of_logs}

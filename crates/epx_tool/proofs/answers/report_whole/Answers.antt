@@ -1,4 +1,4 @@
-use Rattle.std.proofs.Common.{[], subst, ◌∙◌, sym}
+use Rattle.std.proofs.Common.{[], subst}
 use Rattle.std.proofs.lemmas.Result.{IfOk-weaker}
 use Rattle.epx_types.specs.Contents.{Contents}
 use Rattle.epx_tool.specs.ResumedReport.{IsReportAfter}
