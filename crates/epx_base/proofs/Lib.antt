@@ -2,6 +2,7 @@ pub mod ValueLists
 pub mod NamedForms
 pub mod Arrays
 pub mod BaseLaws
+pub mod ListLaws
 pub mod Readings
 pub mod Unbroken
 pub mod WrittenData

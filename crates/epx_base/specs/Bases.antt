@@ -16,7 +16,7 @@ abbrev pub after_line : Seen → List ℕ → Option Seen
 after_line s bytes = option_and_then (after s) (base_line_of bytes)
 
 -- next of what was seen, if a line may stand where it stands, and else its number
-abbrev pub or_bad : ℕ → Option Seen → (Seen → Result Seen ℕ) → Result Seen ℕ
+abbrev pub or_bad : {S : Type 0} → ℕ → Option S → (S → Result S ℕ) → Result S ℕ
 or_bad n None next = Err n
 or_bad n (Some s) next = next s
 

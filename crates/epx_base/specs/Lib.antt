@@ -4,6 +4,8 @@ pub mod IdSets
 pub mod DoneAndStored
 pub mod Bases
 pub mod Laws
+pub mod Lists
+pub mod ListLaws
 pub mod ReportLines
 pub mod ReportReadings
 pub mod ReportBases

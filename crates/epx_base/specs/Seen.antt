@@ -29,7 +29,7 @@ abbrev pub nothing_seen : Seen
 nothing_seen = record { counts = None; done = []; replies = 0; waiting = []; stored = [] }
 
 -- what follows a line: the next of what was seen, where the line may stand there
-abbrev pub next_if : Bool → Seen → Option Seen
+abbrev pub next_if : {S : Type 0} → Bool → S → Option S
 next_if stands next = if stands then Some next else None
 
 -- ---- rising lists

@@ -1,5 +1,6 @@
 //! Laws of the definitions.
 ghost use Rattle.epx_base.specs.Laws.{BaseOrBadBase, BaseIsNoBadBase, BaseSaysOneThing, BadBaseIsBadAtOneLine};
+ghost use Rattle.epx_base.specs.ListLaws.{ListOrBadList, ListIsNoBadList, ListNamesOneList, BadListIsBadAtOneLine};
 ghost use Rattle.epx_base.specs.ReportReadings.{ReportIsReadAsItSays};
 ghost use Rattle.epx_base.specs.ReportBases.{DoneAfterExists, ReportIsBase};
 
@@ -36,4 +37,24 @@ pub fn done_after_exists()
 /// A report whose lines stand in order is a base, of what is done after it and of its store.
 pub fn report_is_a_base()
     ensures { ReportIsBase }
+{}
+
+/// Bytes are a list or a bad list.
+pub fn list_or_bad_list()
+    ensures { ListOrBadList }
+{}
+
+/// A list is no bad list.
+pub fn list_is_no_bad_list()
+    ensures { ListIsNoBadList }
+{}
+
+/// A list names its instances in one order.
+pub fn list_names_one_list()
+    ensures { ListNamesOneList }
+{}
+
+/// A bad list is bad at one line.
+pub fn bad_list_is_bad_at_one_line()
+    ensures { BadListIsBadAtOneLine }
 {}

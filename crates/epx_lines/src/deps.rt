@@ -37,8 +37,9 @@ pub fn read_id_parts(replica: &Value, number: &Value) -> Option<Id>
     })
 }
 
+/// The instance that `[r,i]` names.
 #[tactic(auto, unfolding(crate::specs::DependencyList::id_of))]
-fn read_id(value: &Value) -> Option<Id>
+pub fn read_id(value: &Value) -> Option<Id>
     ensures { result ≡ id_of (view value.now) }
 {
     let parts = value.as_array()?;

@@ -14,7 +14,7 @@ mod tokens;
 mod write;
 
 pub use cut::{cut_line, cut_lines};
-pub use deps::{read_id_parts, read_number};
+pub use deps::{read_id, read_id_parts, read_number};
 use epx_types::{Entry, Memory, Why};
 pub use laws::{lines_are_one, lines_make_up_the_bytes};
 pub use ops::{read_key, read_value_or_null};
