@@ -23,6 +23,8 @@ mod graphs;
 #[cfg(test)]
 mod lines;
 #[cfg(test)]
+mod lists;
+#[cfg(test)]
 mod merging;
 #[cfg(test)]
 mod orders;

@@ -23,3 +23,11 @@ pub mod RankLists
 pub mod NodeRanks
 pub mod GatheredRanks
 pub mod SortedRanks
+pub mod MarkedReady
+pub mod EndLemmas
+pub mod TurnLemmas
+pub mod ListingLemmas
+pub mod ListedNodes
+pub mod LawfulLists
+pub mod PlacedNodes
+pub mod OneFault

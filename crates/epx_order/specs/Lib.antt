@@ -10,3 +10,9 @@ pub mod SearchStates
 pub mod SearchInvariants
 pub mod SearchSteps
 pub mod SearchWork
+pub mod ReadyMarks
+pub mod Listings
+pub mod Ends
+pub mod Turns
+pub mod OrderFaults
+pub mod OrderFaultLaws

@@ -1,11 +1,17 @@
 //! The order in which committed instances are executed, from the graph of their dependencies: its
-//! strongly connected components with their leaders and depths, and the ready instances by rank.
+//! strongly connected components with their leaders and depths, and the ready instances by rank. And
+//! lists of instances, checked against the orders that the protocol allows.
 #![tactic(auto)]
 
+mod check;
 mod component_map;
 mod depths;
+mod ends;
+pub mod laws;
 mod leaders;
+mod listing;
 mod missing;
+mod order_fault;
 mod order_list;
 mod partition;
 mod place;
@@ -15,7 +21,10 @@ mod search;
 mod sorting;
 mod standings;
 mod starts;
+mod turn;
 
+pub use check::check_order;
 pub use component_map::{ComponentMap, components};
+pub use order_fault::OrderFault;
 pub use order_list::OrderList;
 pub use sorting::order;

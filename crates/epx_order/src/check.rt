@@ -1,0 +1,92 @@
+//! Lists of instances, checked against the orders that the protocol allows.
+ghost use Rattle.std.specs.Prelude.{◌≡◌, ◌<◌, ◌↔◌, length, replicate, None, All, IfOk, IsTrue, MatchResult};
+ghost use Rattle.epx_types.specs.LawfulOrders.{IsLawful};
+ghost use Rattle.epx_graph.specs.GraphOf.{IsGraphOf};
+ghost use Rattle.epx_order.specs.OrderFaults.{IsOrderFault};
+ghost use Rattle.epx_order.specs.Partitions.{parts};
+ghost use Rattle.epx_order.specs.Turns.{ComesBefore, NoneAside, IsPlaceFault};
+
+use crate::ends::{find_ends, find_ends_below};
+use crate::listing::{first_left_out, list_nodes, ready_nodes};
+use crate::order_fault::OrderFault;
+use crate::partition::Partition;
+use crate::search::find_components;
+use crate::turn::Turn;
+use epx_graph::Graph;
+use epx_merge::Merged;
+use epx_types::{Id, Memory};
+use std::alloc::Global;
+
+/// Whether a list is an order that the protocol allows, in time linear in the instances and their
+/// dependencies, but for finding the node of each Id of the list by halving.
+///
+/// A list that is not has one fault: the least place that is wrong by itself, a `Stranger` or a `Repeat`;
+/// else the least ready instance that is `Missing`; else the least place that is wrong by order, `Early`
+/// before `Sequence`.
+pub fn check_order(
+    alloc: Global,
+    merged: &Merged,
+    graph: &Graph,
+    ids: &[Id],
+) -> Result<(), OrderFault>
+    requires { IsGraphOf merged.now graph.now }
+    ensures { MatchResult result (λ _. IsLawful merged.now ids.now) (IsOrderFault merged.now ids.now) }
+{
+    let partition = find_components(alloc, graph)?;
+    let ready = ready_nodes(alloc, graph, &partition)?;
+    let listing = list_nodes(alloc, graph, &ready, ids)?;
+    if let Some(node) = first_left_out(&ready, &listing.marks) {
+        return Err(OrderFault::Missing { id: graph.id(node) });
+    }
+    let ends = find_ends(alloc, &partition, &listing.nodes)?;
+    let below = find_ends_below(alloc, graph, &partition, &ends)?;
+    check_places(alloc, merged, &partition, &below, &listing.nodes)
+}
+
+/// The least place of a list of ready nodes, each once, that is wrong by order.
+fn check_places(
+    alloc: Global,
+    merged: &Merged,
+    partition: &Partition,
+    below: &[usize],
+    nodes: &[usize],
+) -> Result<(), OrderFault>
+    requires counted { All (λ c. c < (parts partition.now).count) (parts partition.now).component }
+    requires nodes { All (λ k. k < length (parts partition.now).component) nodes.now }
+    requires committed { All (λ k. k < length merged.now) nodes.now }
+    requires below { length below.now ≡ (parts partition.now).count }
+    ensures { MatchResult result
+        (λ _. NoneAside merged.now (parts partition.now) below.now nodes.now (length nodes.now))
+        (IsPlaceFault merged.now (parts partition.now) below.now nodes.now) }
+{
+    let mut latest = no_turns(alloc, partition.count)?;
+    for (place, node) in nodes.iter().enumerate() {
+        let own = partition.component[*node];
+        if below[own] > place {
+            return Err(OrderFault::Early { place });
+        }
+        let turn = Turn::of(merged.entry_at(*node));
+        if comes_before(turn, latest[own]) {
+            return Err(OrderFault::Sequence { place });
+        }
+        latest[own] = Some(turn);
+    }
+    Ok(())
+}
+
+/// No turn for each of some components.
+fn no_turns(alloc: Global, components: usize) -> Result<Vec<Option<Turn>>, Memory>
+    ensures { IfOk result (λ turns. turns.items ≡ replicate components None) }
+{
+    Ok(vec![in alloc; None; components]?)
+}
+
+/// Whether a turn comes before another one, if there is one.
+fn comes_before(turn: Turn, last: Option<Turn>) -> bool
+    ensures { IsTrue result ↔ ComesBefore turn last }
+{
+    match last {
+        Some(last) => turn < last,
+        None => false,
+    }
+}
