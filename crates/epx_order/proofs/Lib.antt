@@ -15,6 +15,7 @@ pub mod PartitionLemmas
 pub mod LeaderLemmas
 pub mod DepthLemmas
 pub mod MissingLemmas
+pub mod ReachedMarks
 pub mod StandingLemmas
 pub mod ReadyNodes
 pub mod InstanceLeaders
@@ -31,3 +32,13 @@ pub mod ListedNodes
 pub mod LawfulLists
 pub mod PlacedNodes
 pub mod OneFault
+pub mod SharedKeys
+pub mod Partners
+pub mod UncoveredPairs
+pub mod OnePair
+pub mod TouchLemmas
+pub mod WayLemmas
+pub mod LinkLemmas
+pub mod LinkedMaps
+pub mod LinkedNodes
+pub mod UncoveredExists

@@ -16,3 +16,9 @@ pub mod Ends
 pub mod Turns
 pub mod OrderFaults
 pub mod OrderFaultLaws
+pub mod Uncovered
+pub mod NodeConflicts
+pub mod UncoveredLaws
+pub mod Touches
+pub mod Ways
+pub mod Links

@@ -2,6 +2,10 @@
 use Rattle.std.specs.Prelude.{ℕ, ◌≤◌, List}
 use Rattle.epx_graph.specs.NodePaths.{NodeReaches}
 
+-- k reaches one of some nodes
+abbrev pub ReachesSome : (ℕ → List ℕ) → (ℕ → Type 0) → ℕ → Type 0
+ReachesSome edges P k = (j : ℕ) × P j × NodeReaches edges k j
+
 -- k reaches a node from this number on
 abbrev pub ReachesMissing : (ℕ → List ℕ) → ℕ → ℕ → Type 0
 ReachesMissing edges committed k = (j : ℕ) × (committed ≤ j) × NodeReaches edges k j

@@ -1,5 +1,7 @@
-//! What shows that the faults of orders mean what they should: each function's contract is a law.
+//! What shows that the faults of orders and the pairs that are not covered mean what they should: each
+//! function's contract is a law.
 ghost use Rattle.epx_order.specs.OrderFaultLaws.{LawfulOrderHasNoFault, OrderFaultIsOne};
+ghost use Rattle.epx_order.specs.UncoveredLaws.{CoveredOrLeastUncovered, LeastUncoveredPairIsOne, UncoveredPairShowsNotCovered};
 
 /// A list has at most one fault, want of memory aside.
 pub fn order_fault_is_one()
@@ -9,4 +11,19 @@ pub fn order_fault_is_one()
 /// A lawful order has no fault, want of memory aside.
 pub fn lawful_order_has_no_fault()
     ensures { LawfulOrderHasNoFault }
+{}
+
+/// A map with an uncovered pair is not covered.
+pub fn uncovered_pair_shows_not_covered()
+    ensures { UncoveredPairShowsNotCovered }
+{}
+
+/// A map has at most one least uncovered pair.
+pub fn least_uncovered_pair_is_one()
+    ensures { LeastUncoveredPairIsOne }
+{}
+
+/// A map is covered, or has a least pair that is not.
+pub fn covered_or_least_uncovered()
+    ensures { CoveredOrLeastUncovered }
 {}

@@ -47,7 +47,7 @@ fn leads_to_missing(graph: &Graph, node: usize, component: &[usize], marks: &[bo
 }
 
 /// Whether an edge leads to a component that is marked.
-fn any_marked(targets: &[usize], component: &[usize], marks: &[bool]) -> bool
+pub(crate) fn any_marked(targets: &[usize], component: &[usize], marks: &[bool]) -> bool
     requires targets { All (λ j. j < length component.now) targets.now }
     requires counted { All (λ c. c < length marks.now) component.now }
     ensures { IsTrue result ↔ LeadsToMarked component.now marks.now targets.now }

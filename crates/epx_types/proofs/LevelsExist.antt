@@ -21,7 +21,7 @@ Contains-key_cases = Contains-cases (λ q k. elim (key_cases q k) [ inl same ↦
 shared_cases : (ks qs : List (List ℕ)) → ((k : List ℕ) × Contains ks k × Contains qs k) ⊎ ((k : List ℕ) → Contains ks k → ¬ Contains qs k)
 shared_cases ks qs = some_or_none (Contains qs) (Contains-key_cases qs) ks
 
-Conflict-cases : (a b : List Op) → Conflict a b ⊎ (¬ Conflict a b)
+pub Conflict-cases : (a b : List Op) → Conflict a b ⊎ (¬ Conflict a b)
 Conflict-cases a b =
     elim (shared_cases (written_keys a) (touched_keys b)) [
       | inl found ↦ inl (found.0, inl (found.1, found.2))

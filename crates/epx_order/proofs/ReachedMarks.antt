@@ -1,0 +1,94 @@
+-- The marks of the components that a node reaches, from the component that was finished last down.
+use Rattle.std.proofs.Common.{◌≡◌, ◌≢◌, ℕ, ◌+◌, ◌<◌, ◌≤◌, ◌↔◌, ◌⊎◌, inl, inr, Bool, true, false, List, [], ◌∷◌, length, get_or, set, replicate, refl, sym, subst, ◌∙◌, ap, arith, Contains, IsTrue}
+use Rattle.std.proofs.lemmas.Bool.{cases_lt, false≢true}
+use Rattle.std.proofs.lemmas.List.{get_or_default, get_or-replicate, get_or_past, length-replicate}
+use Rattle.std.proofs.lemmas.List.Elements.{Contains-get_or}
+use Rattle.epx_graph.specs.NodePaths.{IsNodePath, NodeReaches}
+use Rattle.epx_order.specs.Partitions.{Parts, IsPartition, component_of, node_at, mark_for}
+use Rattle.epx_order.proofs.NodePathLemmas.{reaches_edge, reaches_on}
+use Rattle.epx_order.proofs.PartitionLemmas.{node_below, set_for}
+
+-- the marks after the nodes of the order from n on
+pub record AreReached (edges : ℕ → List ℕ) (p : Parts) (root : ℕ) (marks : List Bool) (n : ℕ) : Type 0 where
+  pub reason : (k : ℕ) → k < length p.component → IsTrue (mark_for p marks k) → NodeReaches edges root k
+  pub itself : IsTrue (mark_for p marks root)
+  pub edge : (q j : ℕ) → n ≤ q → q < length p.order → Contains (edges (node_at p q)) j → IsTrue (mark_for p marks (node_at p q)) → IsTrue (mark_for p marks j)
+
+module _ (edges : ℕ → List ℕ) (p : Parts) (is : IsPartition edges p) (root : ℕ) where
+  pub reached_first : root < length p.component → component_of p root < p.count → AreReached edges p root (set (replicate p.count false) (component_of p root) true) (length p.order)
+  reached_first l in' = record {
+    reason = λ k lk h. elim (at k) [
+      | inl here ↦ is.joined root k l lk (sym here.0)
+      | inr there ↦ let none = no_mark (component_of p k) in absurd (false≢true (sym none ∙ (sym there.1 ∙ h)))
+    ];
+    itself = elim (at root) [ inl here ↦ here.1 | inr there ↦ absurd (there.0 refl) ];
+    edge = λ q j le lt. absurd (omega arith);
+  } where
+    no_mark : (c : ℕ) → ◌≡◌ {A = Bool} (get_or (replicate p.count false) c false) false
+    no_mark c = elim (cases_lt c p.count) [
+      | inl below ↦ get_or-replicate p.count c false false below
+      | inr past ↦ get_or_past (replicate p.count false) c false (omega (arith, length-replicate {A = Bool} p.count false))
+    ]
+
+    at : (k : ℕ) → ((component_of p k ≡ component_of p root) × (mark_for p (set (replicate p.count false) (component_of p root) true) k ≡ true)) ⊎ ((component_of p k ≢ component_of p root) × (mark_for p (set (replicate p.count false) (component_of p root) true) k ≡ mark_for p (replicate p.count false) k))
+    at = set_for false p (replicate p.count false) root true (omega (arith, length-replicate {A = Bool} p.count false))
+
+  pub reached_skip : (marks : List Bool) (n : ℕ) → ¬ IsTrue (mark_for p marks (node_at p n)) → AreReached edges p root marks (n + 1) → AreReached edges p root marks n
+  reached_skip marks n unmarked old = record {
+    reason = old.reason;
+    itself = old.itself;
+    edge = λ q j le lt h marked. elim (cases_lt n q) [
+      | inl past ↦ old.edge q j (omega arith) lt h marked
+      | inr now ↦
+          let same : q ≡ n = omega arith in
+          absurd (unmarked (subst (λ q. IsTrue (mark_for p marks (node_at p q))) same marked))
+    ];
+  }
+
+  pub reached_step : (marks new : List Bool) (n : ℕ) → n < length p.order → IsTrue (mark_for p marks (node_at p n)) → ((c : ℕ) → IsTrue (get_or new c false) ↔ (IsTrue (get_or marks c false) ⊎ ((i : ℕ) × (i < length (edges (node_at p n))) × (get_or p.component (get_or (edges (node_at p n)) i 0) 0 ≡ c)))) → AreReached edges p root marks (n + 1) → AreReached edges p root new n
+  reached_step marks new n l marked marks_new old = record {
+    reason = λ k lk h. elim ((marks_new (component_of p k)).0 h) [
+      | inl was ↦ old.reason k lk was
+      | inr (i, below, same) ↦
+          let j = get_or (edges b) i 0 in
+          let h : Contains (edges b) j = Contains-get_or (edges b) i 0 below in
+          let to = reaches_on edges root b j (old.reason b lb marked) (reaches_edge edges b j h) in
+          reaches_on edges root j k to (is.joined j k (is.within b j h) lk same)
+    ];
+    itself = (marks_new (component_of p root)).1 (inl old.itself);
+    edge = λ q j le lt h was. elim (cases_lt n q) [
+      | inl past ↦ (marks_new (component_of p j)).1 (inl (old.edge q j (omega arith) lt h (before q le lt was)))
+      | inr now ↦
+          let same : q ≡ n = omega arith in
+          let target : Contains (edges b) j = subst (λ q. Contains (edges (node_at p q)) j) same h in
+          let at : get_or (edges b) target.0 0 ≡ j = get_or_default (edges b) target.0 0 j target.1 ∙ target.2 in
+          (marks_new (component_of p j)).1 (inr (target.0, target.1, ap (component_of p) at))
+    ];
+  } where
+    b : ℕ
+    b = node_at p n
+
+    lb : b < length p.component
+    lb = node_below edges p is n l
+
+    -- what is marked now of the later nodes was marked already
+    before : (q : ℕ) → n ≤ q → q < length p.order → IsTrue (mark_for p new (node_at p q)) → IsTrue (mark_for p marks (node_at p q))
+    before q le lt h = elim ((marks_new (component_of p (node_at p q))).0 h) [
+      | inl was ↦ was
+      | inr (i, below, same) ↦
+          let down = is.falls b (get_or (edges b) i 0) (Contains-get_or (edges b) i 0 below) in
+          let up : component_of p b ≤ component_of p (node_at p q) = is.sorted n q le lt in
+          let one : component_of p b ≡ component_of p (node_at p q) = omega (arith, down, up, same) in
+          subst (λ c. IsTrue (get_or marks c false)) one marked
+    ]
+
+  path_reached : (marks : List Bool) → AreReached edges p root marks 0 → (k j : ℕ) (cs : List ℕ) → k < length p.component → IsTrue (mark_for p marks k) → IsNodePath edges k cs j → IsTrue (mark_for p marks j)
+  path_reached marks all k j [] l marked path = subst (λ k. IsTrue (mark_for p marks k)) path marked
+  path_reached marks all k j (c ∷ cs) l marked path =
+      let q = is.listed k l in
+      let at : node_at p q.0 ≡ k = get_or_default p.order q.0 0 k q.1 ∙ q.2 in
+      let next = (rw at at (all.edge q.0 c (omega arith) q.1)) path.0 marked in
+      path_reached marks all c j cs (is.within k c path.0) next path.1
+
+  pub reached_all : (marks : List Bool) → AreReached edges p root marks 0 → root < length p.component → (k : ℕ) → k < length p.component → IsTrue (mark_for p marks k) ↔ NodeReaches edges root k
+  reached_all marks all l k lk = (all.reason k lk, λ there. path_reached marks all root k there.0 l all.itself there.1)

@@ -1,0 +1,39 @@
+-- Nodes of ready instances that conflict, related or not.
+use Rattle.std.specs.Prelude.{◌≡◌, ◌⊎◌, ℕ, ◌<◌, List, Bool, slice_get, slice_index, Some, Contains, IsTrue}
+use Rattle.epx_types.specs.CommandKeys.{touched_keys, written_keys}
+use Rattle.epx_types.specs.Conflicts.{Conflict}
+use Rattle.epx_types.specs.Instances.{Instance}
+use Rattle.epx_graph.specs.NodePaths.{NodeReaches}
+use Rattle.epx_order.specs.ReadyMarks.{is_marked}
+
+-- the keys that a command touches, and those that it writes
+pub record KeyLists : Type 0 where
+  pub touched : List (List ℕ)
+  pub written : List (List ℕ)
+
+abbrev pub keys_of : Instance → KeyLists
+keys_of d = record { touched = touched_keys d.ops; written = written_keys d.ops }
+
+-- one writes a key that the other touches
+abbrev pub KeysConflict : KeyLists → KeyLists → Type 0
+KeysConflict v w = (k : List ℕ) × ((Contains v.written k × Contains w.touched k) ⊎ (Contains v.touched k × Contains w.written k))
+
+-- where the nodes are those of ready instances that conflict, one reaches the other
+abbrev pub IsSettled : List Instance → (ℕ → List ℕ) → List Bool → ℕ → ℕ → Type 0
+IsSettled m edges ready k j = (d e : Instance) → slice_get m k ≡ Some d → slice_get m j ≡ Some e → IsTrue (is_marked ready k) → IsTrue (is_marked ready j) → Conflict d.ops e.ops → NodeReaches edges k j ⊎ NodeReaches edges j k
+
+-- the nodes are those of ready instances that conflict, and neither reaches the other
+pub record IsUnsettled (m : List Instance) (edges : ℕ → List ℕ) (ready : List Bool) (k j : ℕ) : Type 0 where
+  pub conflict : (d e : Instance) × (slice_get m k ≡ Some d) × (slice_get m j ≡ Some e) × Conflict d.ops e.ops
+  pub both_ready : IsTrue (is_marked ready k) × IsTrue (is_marked ready j)
+  pub apart : (¬ NodeReaches edges k j) × (¬ NodeReaches edges j k)
+
+-- the least node above k that is not settled with it
+pub record IsPartner (m : List Instance) (edges : ℕ → List ℕ) (ready : List Bool) (k j : ℕ) : Type 0 where
+  pub above : k < j
+  pub unsettled : IsUnsettled m edges ready k j
+  pub least : (i : ℕ) → k < i → i < j → IsSettled m edges ready k i
+
+-- a ready node that a node neither reaches nor is reached from, by the marks of the components
+abbrev pub IsApart : List ℕ → List Bool → List Bool → List Bool → ℕ → Type 0
+IsApart component ready reached reaching j = IsTrue (is_marked ready j) × (¬ IsTrue (is_marked reached (slice_index component j))) × (¬ IsTrue (is_marked reaching (slice_index component j)))

@@ -1,0 +1,37 @@
+-- How commands touch keys, with keys told apart by their hashes alone.
+use Rattle.std.specs.Prelude.{◌≡◌, ℕ, ◌<◌, Bool, true, false, List, [], ◌∷◌, fold, flat_map, slice_get, slice_index, Some, Contains}
+use Rattle.std.specs.declared.hash.DefaultHasher.{DefaultHasher}
+use Rattle.std.specs.Hash as fed
+use Rattle.std.specs.Hash.DefaultHasher as sip
+use Rattle.epx_types.specs.declared.op.Op.{Op}
+use Rattle.epx_types.specs.declared.op.Op.TheVariants.{Get, Put, Del, Add, Is, Floor, Copy}
+use Rattle.epx_types.specs.Instances.{Instance}
+use Rattle.epx_order.specs.declared.touches.Touch.{Touch}
+
+-- the hash of a key, from a hasher that has taken in something before
+abbrev pub hash_of : DefaultHasher → List ℕ → ℕ
+hash_of start key = sip.finish (fold sip.write start (fed.str key))
+
+-- the command at a place touches a key
+abbrev pub touch : DefaultHasher → ℕ → List ℕ → Bool → Touch
+touch start place key writes = record { hash = hash_of start key; place = place; writes = writes }
+
+abbrev pub touches_by : DefaultHasher → ℕ → Op → List Touch
+touches_by start place (Get k) = touch start place k false ∷ []
+touches_by start place (Put k v) = touch start place k true ∷ []
+touches_by start place (Del k) = touch start place k true ∷ []
+touches_by start place (Add k n) = touch start place k true ∷ []
+touches_by start place (Is k v) = touch start place k false ∷ []
+touches_by start place (Floor k least) = touch start place k false ∷ []
+touches_by start place (Copy k j) = touch start place k false ∷ touch start place j true ∷ []
+
+abbrev pub touches_of : DefaultHasher → ℕ → List Op → List Touch
+touches_of start place ops = flat_map (touches_by start place) ops
+
+-- the touches of the commands at the first n places, each of which holds a node
+abbrev pub HoldTouches : DefaultHasher → List Instance → List ℕ → ℕ → List Touch → Type 0
+HoldTouches start m nodes n touches = (p : ℕ) (e : Instance) (t : Touch) → p < n → slice_get m (slice_index nodes p) ≡ Some e → Contains (touches_of start p e.ops) t → Contains touches t
+
+-- each is of one of the first n places
+abbrev pub ArePlaced : ℕ → List Touch → Type 0
+ArePlaced n touches = (t : Touch) → Contains touches t → t.place < n

@@ -1,0 +1,118 @@
+//! How the commands of an order touch keys.
+ghost use Rattle.std.specs.Prelude.{◌≡◌, ◌<◌, [], ◌∷◌, ◌++◌, length, All, IfOk, OnOk};
+ghost use Rattle.epx_order.specs.Touches.{hash_of, touch, touches_by, touches_of, ArePlaced, HoldTouches};
+
+use epx_merge::Merged;
+use epx_seed::Seed;
+use epx_types::{Key, Memory, Op};
+use std::alloc::Global;
+use std::hash::{BuildHasher, DefaultHasher, Hash, Hasher};
+
+/// A key that a command touches, by its hash. Keys that share a hash pass for one: then more is asked of
+/// the commands than need be.
+#[derive(Clone, Copy, Debug, PartialEq, Eq, PartialOrd, Ord)]
+pub(crate) struct Touch {
+    pub(crate) hash: u64,
+    /// The command's place in the order.
+    pub(crate) place: usize,
+    pub(crate) writes: bool,
+}
+
+fn hash_of(start: DefaultHasher, key: &Key) -> u64
+    ensures { result ≡ hash_of start key.now }
+{
+    let mut hasher = start;
+    key.text().hash(&mut hasher);
+    hasher.finish()
+}
+
+/// Adds what the command at a place does to a key.
+fn add_key(
+    touches: &mut Vec<Touch>,
+    start: DefaultHasher,
+    place: usize,
+    key: &Key,
+    writes: bool,
+) -> Result<(), Memory>
+    ensures { OnOk result (touches.new.items ≡ touches.old.items ++ touch start place key.now writes ∷ []) }
+{
+    let hash = hash_of(start, key);
+    touches.push(Touch {
+        hash,
+        place,
+        writes,
+    })?;
+    Ok(())
+}
+
+/// Adds what an operation of the command at a place does.
+fn add_operation(
+    touches: &mut Vec<Touch>,
+    start: DefaultHasher,
+    place: usize,
+    op: &Op,
+) -> Result<(), Memory>
+    ensures { OnOk result (touches.new.items ≡ touches.old.items ++ touches_by start place op.now) }
+{
+    match op {
+        Op::Get { key } | Op::Is { key, .. } | Op::Floor { key, .. } => {
+            add_key(touches, start, place, key, false)
+        }
+        Op::Put { key, .. } | Op::Del { key } | Op::Add { key, .. } => {
+            add_key(touches, start, place, key, true)
+        }
+        Op::Copy { source, target } => {
+            add_key(touches, start, place, source, false)?;
+            add_key(touches, start, place, target, true)
+        }
+    }
+}
+
+/// Adds what the command at a place does.
+fn add_command(
+    touches: &mut Vec<Touch>,
+    start: DefaultHasher,
+    place: usize,
+    ops: &[Op],
+) -> Result<(), Memory>
+    ensures { OnOk result (touches.new.items ≡ touches.old.items ++ touches_of start place ops.now) }
+{
+    for op in ops {
+        add_operation(touches, start, place, op)?;
+    }
+    Ok(())
+}
+
+/// A hasher that follows from all keys of a map, so that nobody can write keys of which two share a hash.
+pub(crate) fn start_of(alloc: Global, merged: &Merged) -> Result<DefaultHasher, Memory> {
+    let mut keys = DefaultHasher::new();
+    let mut touches = Vec::new(alloc);
+    for position in 0..merged.len() {
+        touches.clear();
+        let ops = merged.entry_at(position).ops();
+        add_command(&mut touches, DefaultHasher::new(), position, ops)?;
+        for touch in &touches {
+            keys.write_u64(touch.hash);
+        }
+    }
+    Ok(Seed::after(keys).build_hasher())
+}
+
+/// The touches of the commands of an order, given as nodes, by rising hash and then by rising place.
+pub(crate) fn find_touches(
+    alloc: Global,
+    merged: &Merged,
+    nodes: &[usize],
+    start: DefaultHasher,
+) -> Result<Vec<Touch>, Memory>
+    requires { All (λ k. k < length merged.now) nodes.now }
+    ensures placed { IfOk result (λ touches. ArePlaced (length nodes.now) touches.items) }
+    ensures whole { IfOk result (λ touches. HoldTouches start merged.now nodes.now (length nodes.now) touches.items) }
+{
+    let mut touches = Vec::new(alloc);
+    for (place, node) in nodes.iter().enumerate() {
+        add_command(&mut touches, start, place, merged.entry_at(*node).ops())?;
+    }
+    touches.sort()?;
+    Ok(touches)
+}
