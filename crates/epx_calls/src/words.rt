@@ -100,13 +100,16 @@ fn no_words_are_a_run_over_standard_input(rt: HostRuntime) -> Result<(), Fail> {
 fn a_subcommand_alone_has_no_logs(rt: HostRuntime) -> Result<(), Fail> {
     expect_logs(&rt, rt.alloc(), &["epx", "run"], Task::Run, &[])?;
     expect_logs(&rt, rt.alloc(), &["epx", "order"], Task::Order, &[])?;
-    expect_logs(&rt, rt.alloc(), &["epx", "levels"], Task::Levels, &[])
+    expect_logs(&rt, rt.alloc(), &["epx", "levels"], Task::Levels, &[])?;
+    expect_logs(&rt, rt.alloc(), &["epx", "audit"], Task::Audit, &[])
 }
 
 #[test]
 fn logs_keep_their_order(rt: HostRuntime) -> Result<(), Fail> {
     let words = ["epx", "order", "b", "a", "b", "run"];
-    expect_logs(&rt, rt.alloc(), &words, Task::Order, &words[2..])
+    expect_logs(&rt, rt.alloc(), &words, Task::Order, &words[2..])?;
+    let words = ["epx", "audit", "check", "b", "check"];
+    expect_logs(&rt, rt.alloc(), &words, Task::Audit, &words[2..])
 }
 
 #[test]
@@ -128,6 +131,37 @@ fn a_base_is_the_first_path(rt: HostRuntime) -> Result<(), Fail> {
     ];
     for (words, paths) in cases {
         expect_logs(&rt, rt.alloc(), words, Task::Resume, paths)?;
+    }
+    Ok(())
+}
+
+#[test]
+fn a_list_is_the_first_path(rt: HostRuntime) -> Result<(), Fail> {
+    let cases: [(&[&str], &[&str]); 4] = [
+        (&["epx", "check", "list"], &["list"]),
+        (
+            &["epx", "check", "list", "b", "a", "b"],
+            &["list", "b", "a", "b"],
+        ),
+        (&["epx", "check", "check", "audit"], &["check", "audit"]),
+        (&["epx", "check", "--", "--list", "-a"], &["--list", "-a"]),
+    ];
+    for (words, paths) in cases {
+        expect_logs(&rt, rt.alloc(), words, Task::Check, paths)?;
+    }
+    Ok(())
+}
+
+#[test]
+fn options_stand_anywhere_around_a_list(rt: HostRuntime) -> Result<(), Fail> {
+    let cases: [&[&str]; 3] = [
+        &["epx", "check", "--workers=2", "list", "--cut", "7", "a"],
+        &["epx", "check", "list", "a", "--cut=7", "--workers=2"],
+        &["epx", "check", "--cut=7", "--workers=2", "--", "list", "a"],
+    ];
+    for words in cases {
+        let wanted = (Task::Check, 2, 7);
+        expect_work(&rt, rt.alloc(), words, wanted, Some(&["list", "a"]))?;
     }
     Ok(())
 }
@@ -174,7 +208,9 @@ fn numbers_reach_the_ends_of_their_ranges(rt: HostRuntime) -> Result<(), Fail> {
         let wanted = (Task::Run, workers, cut);
         expect_work(&rt, rt.alloc(), words, wanted, Some(&[]))?;
     }
-    Ok(())
+    let words = ["epx", "audit", "--workers=64", "--cut=65536"];
+    let wanted = (Task::Audit, 64, 65_536);
+    expect_work(&rt, rt.alloc(), &words, wanted, Some(&[]))
 }
 
 /// Why words without a base are refused.
@@ -186,9 +222,18 @@ Usage: epx resume <BASE> [LOG]...
 For more information, try '--help'.
 ";
 
+/// Why words without a list are refused.
+const CHECK_ALONE: &str = "error: the following required arguments were not provided:
+  <LIST>
+
+Usage: epx check <LIST> [LOG]...
+
+For more information, try '--help'.
+";
+
 #[test]
 fn refused_words_are_named(rt: HostRuntime) -> Result<(), Fail> {
-    let cases: [(&[&str], &str); 18] = [
+    let cases: [(&[&str], &str); 24] = [
         (&["epx", "run", "--workers=0"], "--workers"),
         (&["epx", "run", "--workers=65"], "--workers"),
         (&["epx", "run", "--workers=many"], "--workers"),
@@ -202,6 +247,12 @@ fn refused_words_are_named(rt: HostRuntime) -> Result<(), Fail> {
         (&["epx", "resume"], RESUME_ALONE),
         (&["epx", "resume", "--cut=3"], "not provided:\n  <BASE>\n"),
         (&["epx", "resume", "--workers=0", "base"], "--workers"),
+        (&["epx", "check"], CHECK_ALONE),
+        (&["epx", "check", "--cut=3"], "not provided:\n  <LIST>\n"),
+        (&["epx", "check", "--workers=65", "list"], "--workers"),
+        (&["epx", "check", "--first=list"], "--first"),
+        (&["epx", "audit", "--cut=0"], "--cut"),
+        (&["epx", "audit", "--list", "a"], "--list"),
         (&["epx", "replay"], "replay"),
         (&["epx", "run", "--fast"], "--fast"),
         (&["epx", "run", "-x"], "-x"),
@@ -217,11 +268,15 @@ const SHOWN: &str =
 
 #[test]
 fn help_is_a_text_that_ends_well(rt: HostRuntime) -> Result<(), Fail> {
-    let cases: [(&[&str], &str); 4] = [
+    let cases: [(&[&str], &str); 5] = [
         (&["epx", "--help"], SHOWN),
         (
             &["epx", "--help"],
             "A report can be resumed over further logs.",
+        ),
+        (
+            &["epx", "--help"],
+            "  audit   Tells whether the logs are covered\n",
         ),
         (&["epx", "help"], "1 to 64 and 4 by default"),
         (&["epx", "-h"], "epx run examples/replicas/*.jsonl"),
@@ -284,6 +339,73 @@ fn help_of_resume_has_its_base(rt: HostRuntime) -> Result<(), Fail> {
     expect_texts(&rt, rt.alloc(), 0, start, &cases)?;
     let short: [(&[&str], &str); 1] = [(&["epx", "resume", "-h"], RESUME_HELP)];
     expect_texts(&rt, rt.alloc(), 0, RESUME_HELP, &short)
+}
+
+/// The short help of an audit, whole.
+const AUDIT_HELP: &str = "Tells whether the logs are covered
+
+Usage: epx audit [OPTIONS] [LOG]...
+
+Arguments:
+  [LOG]...  The logs to read, in any order
+
+Options:
+      --workers <N>  Workers that share the work, 1 to 64 [default: 4]
+      --cut <M>      Items in a piece of work, 1 to 65536 [default: 256]
+  -h, --help         Print help (see more with '--help')
+
+Example:
+  epx audit examples/replicas/*.jsonl
+";
+
+#[test]
+fn help_of_audit_has_its_answers(rt: HostRuntime) -> Result<(), Fail> {
+    let cases: [(&[&str], &str); 3] = [
+        (&["epx", "audit", "--help"], "\n  [\"covered\"]\n"),
+        (&["epx", "audit", "--help"], "\n  [\"uncovered\",0,7,1,0]\n"),
+        (&["epx", "help", "audit"], "[default: 256]"),
+    ];
+    let start = "Tells whether the logs are covered, and executes nothing";
+    expect_texts(&rt, rt.alloc(), 0, start, &cases)?;
+    let short: [(&[&str], &str); 1] = [(&["epx", "audit", "-h"], AUDIT_HELP)];
+    expect_texts(&rt, rt.alloc(), 0, AUDIT_HELP, &short)
+}
+
+/// The short help of a check, whole.
+const CHECK_HELP: &str = "Tells whether a list of instances is an order that the protocol allows
+
+Usage: epx check [OPTIONS] <LIST> [LOG]...
+
+Arguments:
+  <LIST>    The list to check
+  [LOG]...  The logs to read, in any order
+
+Options:
+      --workers <N>  Workers that share the work, 1 to 64 [default: 4]
+      --cut <M>      Items in a piece of work, 1 to 65536 [default: 256]
+  -h, --help         Print help (see more with '--help')
+
+Example:
+  epx check executed.list examples/replicas/*.jsonl
+";
+
+#[test]
+fn help_of_check_has_its_list_and_answers(rt: HostRuntime) -> Result<(), Fail> {
+    let cases: [(&[&str], &str); 9] = [
+        (&["epx", "check", "--help"], "<LIST>"),
+        (&["epx", "check", "--help"], "\n  [0,7]\n"),
+        (&["epx", "check", "--help"], "  [\"lawful\"] "),
+        (&["epx", "check", "--help"], "  [\"stranger\",p] "),
+        (&["epx", "check", "--help"], "  [\"repeat\",p] "),
+        (&["epx", "check", "--help"], "  [\"missing\",r,i] "),
+        (&["epx", "check", "--help"], "  [\"early\",p] "),
+        (&["epx", "check", "--help"], "  [\"sequence\",p] "),
+        (&["epx", "help", "check"], "[default: 256]"),
+    ];
+    let start = "Tells whether a list of instances is an order that the protocol allows for";
+    expect_texts(&rt, rt.alloc(), 0, start, &cases)?;
+    let short: [(&[&str], &str); 1] = [(&["epx", "check", "-h"], CHECK_HELP)];
+    expect_texts(&rt, rt.alloc(), 0, CHECK_HELP, &short)
 }
 
 #[test]

@@ -37,6 +37,24 @@ fn an_order_by_two_workers(rt: HostRuntime) -> Result<(), Fail> {
 }
 
 #[test]
+fn an_audit_of_two_logs(rt: HostRuntime) -> Result<(), Fail> {
+    let words = ["epx", "audit", "--cut", "9", "a", "b"];
+    ask_for(&rt, rt.alloc(), &words, (Task::Audit, 4, 9), &["a", "b"])
+}
+
+#[test]
+fn a_check_of_a_list(rt: HostRuntime) -> Result<(), Fail> {
+    let words = ["epx", "check", "list", "a"];
+    ask_for(
+        &rt,
+        rt.alloc(),
+        &words,
+        (Task::Check, 4, 256),
+        &["list", "a"],
+    )
+}
+
+#[test]
 fn a_cut_of_nothing(rt: HostRuntime) -> Result<(), Fail> {
     let words = ["epx", "run", "--cut", "0"];
     let Words::Text { status, .. } = read_words(rt.alloc(), &words)? else {

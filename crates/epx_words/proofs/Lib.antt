@@ -5,5 +5,6 @@ mod SoundWalk
 mod SoundUses
 mod NamedTasks
 mod NoFault
+mod FoundWork
 mod NumbersRead
 mod Refusals

@@ -1,4 +1,4 @@
--- Words in which clap finds no fault name a task, with both numbers in their ranges and the base that it has to have.
+-- Words in which clap finds no fault name a task, with both numbers in their ranges and the first text that it has to have.
 use Rattle.std.proofs.Common.{◌≡◌, Bool, true, false, codes, List, [], Option, Some, None, refl, sym, subst, inl, inr, is_some, true≢false}
 use Rattle.std.specs.List.{AllByRecursion}
 use Rattle.std.specs.Option.{IsSome}
@@ -7,11 +7,11 @@ use Rattle.clap.specs.Faults.{check_fault, defaults_fault, entered_fault, fault_
 use Rattle.clap.specs.Simple.{App, Shape, argument_words, built, built_leaf, entered, inherited, is_simple, marked_built, names_of, subcommand_of, with_leaf_noted}
 use Rattle.clap.specs.Walk.{Row, Text, finished, nothing_held, rows_after, settled, stop_after, walk, walk_from}
 use Rattle.clap.proofs.OnLiterals.{clap_on_literals}
-use Rattle.epx_words.specs.App.{epx_app, resume_app, work_app}
-use Rattle.epx_words.specs.Given.{GivesWork, IsTaskName, base_in}
+use Rattle.epx_words.specs.App.{epx_app, first_app, work_app}
+use Rattle.epx_words.specs.Given.{GivesWork, HasFirst, IsTaskName, first_in}
 use Rattle.epx_words.proofs.NoKinds.{none_after, none_first}
 use Rattle.epx_words.proofs.NamedTasks.{IsKnownName, StopsAtTask, walk_task}
-use Rattle.epx_words.proofs.SoundUses.{HasNumbers, after_numbers, after_numbers_resumed, base_there, leaf_keeps, level_sound, numbers_there, resumed_keeps}
+use Rattle.epx_words.proofs.SoundUses.{HasNumbers, after_numbers, after_numbers_and_first, first_there, leaf_keeps, leaf_with_first_keeps, level_sound, numbers_there}
 
 pub epx_is_simple : is_simple epx_app ≡ true
 unfolding clap_on_literals
@@ -32,66 +32,73 @@ leaf_of work = built_leaf (inherited (with_leaf_noted (marked_built epx_app.top)
 abbrev leaf : Text → Shape
 leaf name = leaf_of (work_app name)
 
--- the task over a base
-abbrev resumed : Shape
-resumed = leaf_of resume_app
+-- a task over a first text and logs
+abbrev leaf_with_first : Text → Shape
+leaf_with_first name = leaf_of (first_app name)
 
 numbers_of : (name : Text) (rest : List Text) → level_fault (leaf name) [] nothing_held rest false [] ≡ [] → HasNumbers (rows_after (leaf name).rules [] rest)
 numbers_of name rest none =
     numbers_there after_numbers (refl, (refl, tt)) (settled (leaf name).rules (walk (leaf name).rules [] nothing_held rest).held).rows (level_sound (leaf name) (leaf_keeps false) rest none)
 
-numbers_of_resumed : (rest : List Text) → level_fault resumed [] nothing_held rest false [] ≡ [] → HasNumbers (rows_after resumed.rules [] rest)
-numbers_of_resumed rest none =
-    numbers_there after_numbers_resumed (refl, (refl, (refl, tt))) (settled resumed.rules (walk resumed.rules [] nothing_held rest).held).rows (level_sound resumed (resumed_keeps false) rest none)
+module _ (name : Text) (rest : List Text) (none : level_fault (leaf_with_first name) [] nothing_held rest false [] ≡ []) where
+  abbrev shape : Shape
+  shape = leaf_with_first name
 
-base_of_resumed : (rest : List Text) → level_fault resumed [] nothing_held rest false [] ≡ [] → IsSome (base_in (rows_after resumed.rules [] rest))
-base_of_resumed rest none =
-    let end = (walk resumed.rules [] nothing_held rest).held in
-    let walked = walk_fault resumed [] (walk_from nothing_held) rest in
-    let settles = settle_fault resumed.rules resumed.args_override_self end in
-    let defaults = defaults_fault (settled resumed.rules end).rows resumed.rules in
-    let last = none_after defaults _ (none_after settles _ (none_after walked _ none)) in
-    base_there (rows_after resumed.rules [] rest) last (numbers_of_resumed rest none).sound
+  numbers_with_first : HasNumbers (rows_after shape.rules [] rest)
+  numbers_with_first =
+      numbers_there after_numbers_and_first (refl, (refl, (refl, tt))) (settled shape.rules (walk shape.rules [] nothing_held rest).held).rows
+      (level_sound shape (leaf_with_first_keeps false) rest none)
 
-is_other : (name : Text) → bytes_eq name (codes "resume") ≡ false → ¬ (name ≡ codes "resume")
-is_other name other is = true≢false (subst (λ n. bytes_eq n (codes "resume") ≡ false) is other)
+  first_given : IsSome (first_in (rows_after shape.rules [] rest))
+  first_given =
+      let end = (walk shape.rules [] nothing_held rest).held in
+      let walked = walk_fault shape [] (walk_from nothing_held) rest in
+      let settles = settle_fault shape.rules shape.args_override_self end in
+      let defaults = defaults_fault (settled shape.rules end).rows shape.rules in
+      let last = none_after defaults _ (none_after settles _ (none_after walked _ none)) in
+      first_there (rows_after shape.rules [] rest) last numbers_with_first.sound
 
-run_works : (rest : List Text) → entered_fault app (Some (codes "run", rest)) ≡ [] → GivesWork (entered app (Some (codes "run", rest)))
-run_works rest none =
-    let numbers = numbers_of (codes "run") rest none in
-    (inl refl, numbers.workers, numbers.cut, λ is. absurd (is_other (codes "run") refl is))
+  first_works : IsTaskName name → GivesWork (Some (name, rows_after shape.rules [] rest))
+  first_works is = (is, numbers_with_first.workers, numbers_with_first.cut, λ has. first_given)
 
-order_works : (rest : List Text) → entered_fault app (Some (codes "order", rest)) ≡ [] → GivesWork (entered app (Some (codes "order", rest)))
-order_works rest none =
-    let numbers = numbers_of (codes "order") rest none in
-    (inr (inl refl), numbers.workers, numbers.cut, λ is. absurd (is_other (codes "order") refl is))
+has_none : (name : Text) → bytes_eq name (codes "resume") ≡ false → bytes_eq name (codes "check") ≡ false → ¬ HasFirst name
+has_none name goes_on checks (inl is) = true≢false (subst (λ n. bytes_eq n (codes "resume") ≡ false) is goes_on)
+has_none name goes_on checks (inr is) = true≢false (subst (λ n. bytes_eq n (codes "check") ≡ false) is checks)
 
-levels_works : (rest : List Text) → entered_fault app (Some (codes "levels", rest)) ≡ [] → GivesWork (entered app (Some (codes "levels", rest)))
-levels_works rest none =
-    let numbers = numbers_of (codes "levels") rest none in
-    (inr (inr (inl refl)), numbers.workers, numbers.cut, λ is. absurd (is_other (codes "levels") refl is))
+logs_work : (name : Text) (rest : List Text) → ¬ HasFirst name → IsTaskName name → level_fault (leaf name) [] nothing_held rest false [] ≡ []
+    → GivesWork (Some (name, rows_after (leaf name).rules [] rest))
+logs_work name rest no_first is none =
+    let numbers = numbers_of name rest none in
+    (is, numbers.workers, numbers.cut, λ has. absurd (no_first has))
 
-resume_works : (rest : List Text) → entered_fault app (Some (codes "resume", rest)) ≡ [] → GivesWork (entered app (Some (codes "resume", rest)))
-resume_works rest none =
-    let numbers = numbers_of_resumed rest none in
-    (inr (inr (inr refl)), numbers.workers, numbers.cut, λ is. base_of_resumed rest none)
+-- a name that is known gives work where the known one does
+named : (name known : Text) (rest : List Text) → name ≡ known → (entered_fault app (Some (known, rest)) ≡ [] → GivesWork (entered app (Some (known, rest))))
+    → entered_fault app (Some (name, rest)) ≡ [] → GivesWork (entered app (Some (name, rest)))
+named name known rest is works none =
+    subst (λ n. GivesWork (entered app (Some (n, rest)))) (sym is) (works (subst (λ n. entered_fault app (Some (n, rest)) ≡ []) is none))
 
 task_works : (name : Text) (rest : List Text) → IsTaskName name → entered_fault app (Some (name, rest)) ≡ [] → GivesWork (entered app (Some (name, rest)))
-task_works name rest (inl is) none =
-    subst (λ n. GivesWork (entered app (Some (n, rest)))) (sym is) (run_works rest (subst (λ n. entered_fault app (Some (n, rest)) ≡ []) is none))
-task_works name rest (inr (inl is)) none =
-    subst (λ n. GivesWork (entered app (Some (n, rest)))) (sym is) (order_works rest (subst (λ n. entered_fault app (Some (n, rest)) ≡ []) is none))
-task_works name rest (inr (inr (inl is))) none =
-    subst (λ n. GivesWork (entered app (Some (n, rest)))) (sym is) (levels_works rest (subst (λ n. entered_fault app (Some (n, rest)) ≡ []) is none))
-task_works name rest (inr (inr (inr is))) none =
-    subst (λ n. GivesWork (entered app (Some (n, rest)))) (sym is) (resume_works rest (subst (λ n. entered_fault app (Some (n, rest)) ≡ []) is none))
+task_works name rest (inl is) = named name (codes "run") rest is (λ none. logs_work (codes "run") rest (has_none (codes "run") refl refl) (inl refl) none)
+task_works name rest (inr (inl is)) = named name (codes "order") rest is (λ none. logs_work (codes "order") rest (has_none (codes "order") refl refl) (inr (inl refl)) none)
+task_works name rest (inr (inr (inl is))) =
+    named name (codes "levels") rest is (λ none. logs_work (codes "levels") rest (has_none (codes "levels") refl refl) (inr (inr (inl refl))) none)
+task_works name rest (inr (inr (inr (inl is)))) = named name (codes "resume") rest is (λ none. first_works (codes "resume") rest none (inr (inr (inr (inl refl)))))
+task_works name rest (inr (inr (inr (inr (inl is))))) =
+    named name (codes "audit") rest is (λ none. logs_work (codes "audit") rest (has_none (codes "audit") refl refl) (inr (inr (inr (inr (inl refl))))) none)
+task_works name rest (inr (inr (inr (inr (inr is))))) = named name (codes "check") rest is (λ none. first_works (codes "check") rest none (inr (inr (inr (inr (inr refl))))))
 
 stop_works : (stop : Option (Text × List Text)) → StopsAtTask stop → is_some (entered app stop) ≡ true → entered_fault app stop ≡ [] → GivesWork (entered app stop)
 stop_works None task there none = cc
 stop_works (Some p) task there none = task_works p.0 p.1 task none
 
 known : AllByRecursion (λ (l : Text × List Text). IsKnownName l.0) (names_of app)
-known = (inl (inl refl), (inl (inr (inl refl)), (inl (inr (inr (inl refl))), (inl (inr (inr (inr refl))), (inr refl, tt)))))
+known = (
+  inl (inl refl),
+  (
+    inl (inr (inl refl)),
+    (inl (inr (inr (inl refl))), (inl (inr (inr (inr (inl refl)))), (inl (inr (inr (inr (inr (inl refl))))), (inl (inr (inr (inr (inr (inr refl))))), (inr refl, tt))))),
+  ),
+)
 
 subcommand_there : (rows : List Row) (there : Bool) → check_fault app.top rows there ≡ [] → there ≡ true
 subcommand_there rows true none = refl

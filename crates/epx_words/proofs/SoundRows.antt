@@ -1,4 +1,4 @@
--- Rows whose numbers lie in their ranges, and whose base has a value, and what keeps them so.
+-- Rows whose numbers lie in their ranges, and whose first text has a value, and what keeps them so.
 use Rattle.std.proofs.Common.{◌≡◌, ℕ, Bool, cond, true, false, ◌||◌, codes, List, [], ◌∷◌, ◌++◌, Some, None, refl, sym, subst, true≢false}
 use Rattle.std.specs.List.{AllByRecursion, find}
 use Rattle.std.specs.Option.{IsSome, option_map_or}
@@ -12,7 +12,7 @@ use Rattle.clap.specs.declared.builder.value_parser.Reading.{Reading}
 use Rattle.clap.specs.declared.builder.value_parser.Reading.TheVariants.{AsWritten}
 use Rattle.clap.specs.declared.parser.matches.ValueSource.{ValueSource}
 use Rattle.clap.specs.declared.parser.matches.ValueSource.TheVariants.{DefaultValue}
-use Rattle.epx_words.specs.Given.{IsNumberUpTo, base_in}
+use Rattle.epx_words.specs.Given.{IsNumberUpTo, first_in}
 
 abbrev pub IsFirstNumber : ℕ → List Text → Type 0
 IsFirstNumber most [] = ⊥
@@ -28,7 +28,7 @@ HasValue (v ∷ vs) = ⊤
 
 abbrev pub IsSoundRow : Row → Type 0
 IsSoundRow r =
-    (bytes_eq r.id (codes "workers") ≡ true → IsNumberRow 64 r) × (bytes_eq r.id (codes "cut") ≡ true → IsNumberRow 65536 r) × (bytes_eq r.id (codes "base") ≡ true → HasValue r.values)
+    (bytes_eq r.id (codes "workers") ≡ true → IsNumberRow 64 r) × (bytes_eq r.id (codes "cut") ≡ true → IsNumberRow 65536 r) × (bytes_eq r.id (codes "first") ≡ true → HasValue r.values)
 
 abbrev pub AreSound : List Row → Type 0
 AreSound rows = AllByRecursion IsSoundRow rows
@@ -157,17 +157,17 @@ number_read id most (r ∷ rs) f h has = go (bytes_eq r.id id) refl (λ e. numbe
     go true t rest e = row_number most r.reading r.values (f r h.0 t).0 (f r h.0 t).1
     go false t rest e = rest e
 
-first_there : (values : List Text) → HasValue values → IsSome (slice_get values 0)
-first_there [] h = absurd h
-first_there (v ∷ vs) h = refl
+value_there : (values : List Text) → HasValue values → IsSome (slice_get values 0)
+value_there [] h = absurd h
+value_there (v ∷ vs) h = refl
 
--- a base that is given has a value
-pub base_read : (rows : List Row) → AreSound rows → is_given (codes "base") rows ≡ true → IsSome (base_in rows)
-base_read [] ok given = absurd (true≢false (sym given))
-base_read (r ∷ rs) ok given = go (bytes_eq r.id (codes "base")) refl (λ e. base_read rs ok.1 e) given
+-- a first text that is given has a value
+pub first_read : (rows : List Row) → AreSound rows → is_given (codes "first") rows ≡ true → IsSome (first_in rows)
+first_read [] ok given = absurd (true≢false (sym given))
+first_read (r ∷ rs) ok given = go (bytes_eq r.id (codes "first")) refl (λ e. first_read rs ok.1 e) given
   where
-    go : (b : Bool) → bytes_eq r.id (codes "base") ≡ b → (is_given (codes "base") rs ≡ true → IsSome (base_in rs))
-        → option_map_or (λ x. explicit_source x.source) (cond b (Some r) (find (λ x. bytes_eq x.id (codes "base")) rs)) false ≡ true
-        → IsSome (option_and_then (λ x. slice_get x.values 0) (cond b (Some r) (find (λ x. bytes_eq x.id (codes "base")) rs)))
-    go true t rest e = first_there r.values (ok.0.2 t)
+    go : (b : Bool) → bytes_eq r.id (codes "first") ≡ b → (is_given (codes "first") rs ≡ true → IsSome (first_in rs))
+        → option_map_or (λ x. explicit_source x.source) (cond b (Some r) (find (λ x. bytes_eq x.id (codes "first")) rs)) false ≡ true
+        → IsSome (option_and_then (λ x. slice_get x.values 0) (cond b (Some r) (find (λ x. bytes_eq x.id (codes "first")) rs)))
+    go true t rest e = value_there r.values (ok.0.2 t)
     go false t rest e = rest e

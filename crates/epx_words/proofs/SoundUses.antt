@@ -1,4 +1,4 @@
--- Each argument of a subcommand keeps the rows sound, and with the defaults both numbers are there, and the base that has to be.
+-- Each argument of a subcommand keeps the rows sound, and with the defaults both numbers are there, and the first text that has to be.
 use Rattle.std.proofs.Common.{◌≡◌, ◌==◌, ◌∙◌, ◌||◌, ℕ, Bool, cond, true, false, not, codes, List, [], ◌∷◌, length, refl, sym, subst, true≢false, eqb-true, arith}
 use Rattle.std.specs.List.{AllByRecursion, fold}
 use Rattle.std.specs.Option.{IsSome}
@@ -16,10 +16,10 @@ use Rattle.clap.specs.declared.error.kind.ErrorKind.TheVariants.{InvalidValue, M
 use Rattle.clap.specs.declared.parser.matches.ValueSource.{ValueSource}
 use Rattle.clap.specs.declared.parser.matches.ValueSource.TheVariants.{CommandLine, DefaultValue}
 use Rattle.clap.proofs.ValueTestLemmas.{accepts-Accepts}
-use Rattle.epx_words.specs.App.{base_rule, logs_rule, number_rule}
-use Rattle.epx_words.specs.Given.{IsNumberUpTo, base_in}
+use Rattle.epx_words.specs.App.{first_rule, logs_rule, number_rule}
+use Rattle.epx_words.specs.Given.{IsNumberUpTo, first_in}
 use Rattle.epx_words.proofs.NoKinds.{none_after, none_first}
-use Rattle.epx_words.proofs.SoundRows.{AreSound, IsSoundRow, base_read, default_has_row, default_keeps_row, default_sound, new_row, no_default, number_read, values_sound, without_sound}
+use Rattle.epx_words.proofs.SoundRows.{AreSound, IsSoundRow, first_read, default_has_row, default_keeps_row, default_sound, new_row, no_default, number_read, values_sound, without_sound}
 use Rattle.epx_words.proofs.SoundWalk.{KeepsSound, settled_sound, walk_sound}
 
 -- the arguments of a subcommand, as clap fills them in
@@ -29,8 +29,8 @@ workers_leaf = filled (number_rule (codes "workers") (codes "4") 64)
 abbrev cut_leaf : Rule
 cut_leaf = filled (number_rule (codes "cut") (codes "256") 65536)
 
-abbrev base_leaf : Rule
-base_leaf = with_index 1 (filled base_rule)
+abbrev first_leaf : Rule
+first_leaf = with_index 1 (filled first_rule)
 
 abbrev logs_leaf : ℕ → Rule
 logs_leaf i = with_index i (filled logs_rule)
@@ -41,8 +41,8 @@ numbers_and rest = workers_leaf ∷ cut_leaf ∷ rest
 abbrev pub after_numbers : List Rule
 after_numbers = logs_leaf 1 ∷ filled help_rule ∷ []
 
-abbrev pub after_numbers_resumed : List Rule
-after_numbers_resumed = base_leaf ∷ logs_leaf 2 ∷ filled help_rule ∷ []
+abbrev pub after_numbers_and_first : List Rule
+after_numbers_and_first = first_leaf ∷ logs_leaf 2 ∷ filled help_rule ∷ []
 
 -- ---- a number
 
@@ -96,15 +96,15 @@ logs_keep again i values rows none ok =
     values_sound (codes "logs") AsWritten CommandLine (values_or_missing (logs_leaf i) values) rows
     (λ e. absurd (true≢false (sym e)), λ e. absurd (true≢false (sym e)), λ e. absurd (true≢false (sym e))) ok
 
-base_kept : (values : List Text) (rows : List Row) → length values ≡ 1 → AreSound rows → AreSound (used base_leaf values rows)
-base_kept [] rows one ok = absurd (omega arith)
-base_kept (v ∷ w ∷ vs) rows one ok = absurd (omega arith)
-base_kept (v ∷ []) rows one ok =
-    values_sound (codes "base") AsWritten CommandLine (v ∷ []) (without (codes "base") rows) (λ e. absurd (true≢false (sym e)), λ e. absurd (true≢false (sym e)), λ e. tt)
-    (without_sound (codes "base") rows ok)
+first_kept : (values : List Text) (rows : List Row) → length values ≡ 1 → AreSound rows → AreSound (used first_leaf values rows)
+first_kept [] rows one ok = absurd (omega arith)
+first_kept (v ∷ w ∷ vs) rows one ok = absurd (omega arith)
+first_kept (v ∷ []) rows one ok =
+    values_sound (codes "first") AsWritten CommandLine (v ∷ []) (without (codes "first") rows) (λ e. absurd (true≢false (sym e)), λ e. absurd (true≢false (sym e)), λ e. tt)
+    (without_sound (codes "first") rows ok)
 
-base_keeps : (again : Bool) → KeepsSound again base_leaf
-base_keeps again values rows none ok = base_kept values rows (one_value (length values) (none_first (range_kinds 1 1 (length values)) _ none)) ok
+first_keeps : (again : Bool) → KeepsSound again first_leaf
+first_keeps again values rows none ok = first_kept values rows (one_value (length values) (none_first (range_kinds 1 1 (length values)) _ none)) ok
 
 help_keeps : (again : Bool) → KeepsSound again (filled help_rule)
 help_keeps again values rows none ok = ok
@@ -115,8 +115,8 @@ numbers_and_keep again rest keep = (number_keeps (codes "workers") (codes "4") 6
 pub leaf_keeps : (again : Bool) → AllByRecursion (KeepsSound again) (numbers_and after_numbers)
 leaf_keeps again = numbers_and_keep again after_numbers (logs_keep again 1, (help_keeps again, tt))
 
-pub resumed_keeps : (again : Bool) → AllByRecursion (KeepsSound again) (numbers_and after_numbers_resumed)
-resumed_keeps again = numbers_and_keep again after_numbers_resumed (base_keeps again, (logs_keep again 2, (help_keeps again, tt)))
+pub leaf_with_first_keeps : (again : Bool) → AllByRecursion (KeepsSound again) (numbers_and after_numbers_and_first)
+leaf_with_first_keeps again = numbers_and_keep again after_numbers_and_first (first_keeps again, (logs_keep again 2, (help_keeps again, tt)))
 
 -- ---- the end of a level
 
@@ -157,6 +157,6 @@ required_given : (given : Bool) → cond (not given || false) (MissingRequiredAr
 required_given true none = refl
 required_given false none = cc
 
--- where it is not missed, the base is there
-pub base_there : (rows : List Row) → cond (not (is_given (codes "base") rows) || false) (MissingRequiredArgument ∷ []) [] ≡ [] → AreSound rows → IsSome (base_in rows)
-base_there rows none ok = base_read rows ok (required_given (is_given (codes "base") rows) none)
+-- where it is not missed, the first text is there
+pub first_there : (rows : List Row) → cond (not (is_given (codes "first") rows) || false) (MissingRequiredArgument ∷ []) [] ≡ [] → AreSound rows → IsSome (first_in rows)
+first_there rows none ok = first_read rows ok (required_given (is_given (codes "first") rows) none)

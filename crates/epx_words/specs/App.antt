@@ -1,4 +1,4 @@
--- The program as clap knows it: four subcommands, each with two numbers and any number of logs, and one of them with a base.
+-- The program as clap knows it: six subcommands, each with two numbers and any number of logs, and two of them with a text before these.
 use Rattle.std.specs.Prelude.{ℕ, true, Some, [], ◌∷◌, codes}
 use Rattle.clap.specs.Simple.{on_top}
 use Rattle.clap.specs.Words.{App, Rule, Text, new_app, new_rule, with_rule, with_subcommand}
@@ -19,9 +19,9 @@ number_rule name default most = record (new_rule name) {
 abbrev pub logs_rule : Rule
 logs_rule = record (new_rule (codes "logs")) { action = Some Append; value_names = 1 }
 
--- the base, which has to be given
-abbrev pub base_rule : Rule
-base_rule = record (new_rule (codes "base")) { action = Some Set; value_names = 1; required = true }
+-- the text before the logs, which has to be given
+abbrev pub first_rule : Rule
+first_rule = record (new_rule (codes "first")) { action = Some Set; value_names = 1; required = true }
 
 -- a subcommand with its two numbers
 abbrev pub numbers_app : Text → App
@@ -32,15 +32,18 @@ numbers_app name =
 abbrev pub work_app : Text → App
 work_app name = with_rule (numbers_app name) logs_rule
 
--- the subcommand over a base and logs
-abbrev pub resume_app : App
-resume_app = with_rule (with_rule (numbers_app (codes "resume")) base_rule) logs_rule
+-- a subcommand over a first text and logs
+abbrev pub first_app : Text → App
+first_app name = with_rule (with_rule (numbers_app name) first_rule) logs_rule
 
 -- the program without its subcommands
 abbrev pub epx_start : App
 epx_start = on_top (λ shape. record shape { has_version = true; subcommand_required = true }) (new_app (codes "epx"))
 
+-- the program with the subcommands that execute or order
+abbrev pub runs_app : App
+runs_app = with_subcommand (with_subcommand (with_subcommand epx_start (work_app (codes "run")).top) (work_app (codes "order")).top) (work_app (codes "levels")).top
+
 -- the program
 abbrev pub epx_app : App
-epx_app = with_subcommand (with_subcommand (with_subcommand (with_subcommand epx_start (work_app (codes "run")).top) (work_app (codes "order")).top)
-    (work_app (codes "levels")).top) resume_app.top
+epx_app = with_subcommand (with_subcommand (with_subcommand runs_app (first_app (codes "resume")).top) (work_app (codes "audit")).top) (first_app (codes "check")).top

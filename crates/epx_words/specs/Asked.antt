@@ -6,7 +6,7 @@ use Rattle.epx_words.specs.declared.asked.Task.{Task}
 use Rattle.epx_words.specs.declared.asked.Task.TheVariants as task
 use Rattle.epx_words.specs.declared.asked.Words.{Words}
 use Rattle.epx_words.specs.declared.asked.Words.TheVariants as words
-use Rattle.epx_words.specs.Given.{Given, IsCutOf, IsWorkersOf, base_in, logs_in, name_in, rows_in}
+use Rattle.epx_words.specs.Given.{Given, IsCutOf, IsWorkersOf, first_in, logs_in, name_in, rows_in}
 
 -- the subcommand of a task
 abbrev pub task_name : Task → Text
@@ -14,10 +14,17 @@ task_name task.Run = codes "run"
 task_name task.Order = codes "order"
 task_name task.Levels = codes "levels"
 task_name task.Resume = codes "resume"
+task_name task.Audit = codes "audit"
+task_name task.Check = codes "check"
 
--- the paths of a task: of the base that it goes on from, where it does, and then of its logs
+-- the paths of a first text and then of the logs
+abbrev pub AreFirstAndLogs : List Row → Option (List Text) → Type 0
+AreFirstAndLogs rows paths = (first : Text) × (first_in rows ≡ Some first) × (paths ≡ Some (first ∷ logs_in rows))
+
+-- the paths of a task: of the base that it goes on from, or of the list that it checks, and then of its logs
 abbrev pub ArePathsOf : Task → List Row → Option (List Text) → Type 0
-ArePathsOf task.Resume rows paths = (base : Text) × (base_in rows ≡ Some base) × (paths ≡ Some (base ∷ logs_in rows))
+ArePathsOf task.Resume rows paths = AreFirstAndLogs rows paths
+ArePathsOf task.Check rows paths = AreFirstAndLogs rows paths
 ArePathsOf _ rows paths = paths ≡ Some (logs_in rows)
 
 -- the words ask for work, and this holds of the task, the plan and the paths

@@ -1,4 +1,4 @@
--- What the rows of a subcommand give: two numbers, the logs and a base.
+-- What the rows of a subcommand give: two numbers, the logs and a text before them.
 use Rattle.std.specs.Prelude.{◌≡◌, ◌⊎◌, ℕ, List, [], Option, Some, None, codes, option_map, unwrap_or}
 use Rattle.std.specs.Option.{IsSome, option_map_or}
 use Rattle.std.specs.Str.Parse.{IsNumeral, digits_value, without_leading_plus}
@@ -32,9 +32,9 @@ IsCutOf rows n = IsNumberOf (one_of (codes "cut") rows) n
 abbrev pub logs_in : List Row → List Text
 logs_in rows = unwrap_or (all_of (codes "logs") rows) []
 
--- the value of the base, where one is given
-abbrev pub base_in : List Row → Option Text
-base_in rows = first_of (codes "base") rows
+-- the value of the text before the logs, where one is given
+abbrev pub first_in : List Row → Option Text
+first_in rows = first_of (codes "first") rows
 
 -- the text is a number from 1 to `most`
 abbrev pub IsNumberUpTo : ℕ → Option Text → Type 0
@@ -43,10 +43,14 @@ IsNumberUpTo most (Some text) = IsUnsignedIn 1 most text
 
 -- the name of a subcommand that asks for work
 abbrev pub IsTaskName : Text → Type 0
-IsTaskName name = (name ≡ codes "run") ⊎ ((name ≡ codes "order") ⊎ ((name ≡ codes "levels") ⊎ (name ≡ codes "resume")))
+IsTaskName name = (name ≡ codes "run") ⊎ ((name ≡ codes "order") ⊎ ((name ≡ codes "levels") ⊎ ((name ≡ codes "resume") ⊎ ((name ≡ codes "audit") ⊎ (name ≡ codes "check")))))
 
--- a subcommand that asks for work, with numbers in their ranges, and with a base where one is resumed
+-- the name of a subcommand that reads a text before the logs: a base, or a list
+abbrev pub HasFirst : Text → Type 0
+HasFirst name = (name ≡ codes "resume") ⊎ (name ≡ codes "check")
+
+-- a subcommand that asks for work, with numbers in their ranges, and with the first text that it has to have
 abbrev pub GivesWork : Given → Type 0
 GivesWork None = ⊥
 GivesWork (Some p) =
-    IsTaskName p.0 × IsNumberUpTo 64 (one_of (codes "workers") p.1) × IsNumberUpTo 65536 (one_of (codes "cut") p.1) × (p.0 ≡ codes "resume" → IsSome (base_in p.1))
+    IsTaskName p.0 × IsNumberUpTo 64 (one_of (codes "workers") p.1) × IsNumberUpTo 65536 (one_of (codes "cut") p.1) × (HasFirst p.0 → IsSome (first_in p.1))

@@ -13,13 +13,17 @@ pub enum Task {
     Levels,
     /// The report over a base, which is an earlier report.
     Resume,
+    /// Whether the logs are covered.
+    Audit,
+    /// Whether a list of instances is a lawful order.
+    Check,
 }
 
 /// What words come to.
 #[derive(Debug, Drop)]
 pub enum Words {
-    /// Work over the logs at these paths. The first path is that of the base where one is resumed.
-    /// Without paths the one log is standard input.
+    /// Work over the logs at these paths. The first path is that of the base where one is resumed, and that of the
+    /// list where one is checked. Without paths the one log is standard input.
     Work {
         task: Task,
         plan: Plan,

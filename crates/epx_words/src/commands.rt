@@ -1,7 +1,7 @@
 //! The program as clap knows it.
 ghost use Rattle.std.specs.Prelude.{◌≡◌, IfOk, codes};
-ghost use Rattle.clap.specs.Words.{app_of, rule_of};
-ghost use Rattle.epx_words.specs.App.{base_rule, epx_app, logs_rule, number_rule, numbers_app, resume_app, work_app};
+ghost use Rattle.clap.specs.Words.{app_of, new_app, rule_of};
+ghost use Rattle.epx_words.specs.App.{epx_app, epx_start, first_app, first_rule, logs_rule, number_rule, numbers_app, runs_app, work_app};
 
 use clap::builder::ValueParser;
 use clap::{Arg, ArgAction, Command};
@@ -10,47 +10,14 @@ use std::alloc::{AllocError, Global};
 
 const VERSION: &str = "0.1.0";
 
-const ABOUT: &str = "Executes the committed instances of EPaxos from their logs";
-
-const LONG_ABOUT: &str =
-    "Executes the committed instances of EPaxos from their logs, which one replica
-wrote or several. What comes out is lines of JSON: the report, the execution
-order, or the conflict levels. A report can be resumed over further logs.
-
-All subcommands take --workers N, 1 to 64 and 4 by default, and --cut M, 1 to
-65536 and 256 by default. With no words at all epx prints the report of one log,
-which it reads from standard input.";
-
-const RUN_ABOUT: &str = "Prints the report: replies, what must wait, the final store";
-
-const RUN_LONG_ABOUT: &str =
-    "Executes what the logs commit, and prints the report as lines of JSON: how many
-instances are executed and how many wait, the reply of each executed one in
-execution order, each instance that must wait with the missing one that it waits
-for, and the final store.";
-
-const ORDER_ABOUT: &str = "Prints the execution order";
-
-const ORDER_LONG_ABOUT: &str =
-    "Prints the execution order of what the logs commit, and executes nothing: lines
-of JSON, with how many instances are ready and how many wait, each ready one in
-execution order with its depth and leader, and each instance that must wait with
-the missing one that it waits for.";
-
-const LEVELS_ABOUT: &str = "Prints the conflict levels of the commands";
-
-const LEVELS_LONG_ABOUT: &str =
-    "Prints the conflict levels of what the logs commit, and executes nothing: lines
-of JSON, with how many instances are ready and how many wait, each ready one in
-execution order with the level of its command, and each instance that must wait
-with the missing one that it waits for. Commands of one level do not conflict.";
-
-const RESUME_ABOUT: &str = "Goes on from an earlier report, and prints the report";
-
-const RESUME_LONG_ABOUT: &str =
-    "Executes what the logs commit and an earlier report has not executed yet, over
-the store of that report, and prints the report as run does, with a line for
-each instance that was executed before. That report can be resumed in turn.";
+/// What help says of a subcommand, or of the program.
+#[derive(Clone, Copy)]
+struct Help {
+    about: &'static str,
+    long_about: &'static str,
+    after: &'static str,
+    long_after: &'static str,
+}
 
 const EXAMPLE: &str = "Example:
   epx run examples/replicas/*.jsonl";
@@ -66,17 +33,110 @@ committed or executed; accepted and pre-accepted ones are passed over.
 Example:
   epx run examples/replicas/*.jsonl";
 
-const RESUME_EXAMPLE: &str = "Example:
-  epx resume earlier.report examples/replicas/*.jsonl";
+const EPX: Help = Help {
+    about: "Executes the committed instances of EPaxos from their logs",
+    long_about: "Executes the committed instances of EPaxos from their logs, which one replica
+wrote or several. What comes out is lines of JSON: the report, the execution
+order, or the conflict levels. A report can be resumed over further logs. Logs
+can be audited, and orders of their instances checked.
 
-const BASE_AND_EXAMPLE: &str =
-    "A base is what epx run or epx resume printed. The instances that have a reply in
+All subcommands take --workers N, 1 to 64 and 4 by default, and --cut M, 1 to
+65536 and 256 by default. With no words at all epx prints the report of one log,
+which it reads from standard input.",
+    after: EXAMPLE,
+    long_after: LOGS_AND_EXAMPLE,
+};
+
+const RUN: Help = Help {
+    about: "Prints the report: replies, what must wait, the final store",
+    long_about: "Executes what the logs commit, and prints the report as lines of JSON: how many
+instances are executed and how many wait, the reply of each executed one in
+execution order, each instance that must wait with the missing one that it waits
+for, and the final store.",
+    after: EXAMPLE,
+    long_after: LOGS_AND_EXAMPLE,
+};
+
+const ORDER: Help = Help {
+    about: "Prints the execution order",
+    long_about: "Prints the execution order of what the logs commit, and executes nothing: lines
+of JSON, with how many instances are ready and how many wait, each ready one in
+execution order with its depth and leader, and each instance that must wait with
+the missing one that it waits for.",
+    after: EXAMPLE,
+    long_after: LOGS_AND_EXAMPLE,
+};
+
+const LEVELS: Help = Help {
+    about: "Prints the conflict levels of the commands",
+    long_about: "Prints the conflict levels of what the logs commit, and executes nothing: lines
+of JSON, with how many instances are ready and how many wait, each ready one in
+execution order with the level of its command, and each instance that must wait
+with the missing one that it waits for. Commands of one level do not conflict.",
+    after: EXAMPLE,
+    long_after: LOGS_AND_EXAMPLE,
+};
+
+const RESUME: Help = Help {
+    about: "Goes on from an earlier report, and prints the report",
+    long_about: "Executes what the logs commit and an earlier report has not executed yet, over
+the store of that report, and prints the report as run does, with a line for
+each instance that was executed before. That report can be resumed in turn.",
+    after: "Example:
+  epx resume earlier.report examples/replicas/*.jsonl",
+    long_after: "A base is what epx run or epx resume printed. The instances that have a reply in
 it, or are told there as done, are not executed again, and what depends on them
 does not wait for them. Those that wait in it must stand in the logs again.
 
 Example:
   epx run examples/replicas/0.jsonl > earlier.report
-  epx resume earlier.report examples/replicas/*.jsonl";
+  epx resume earlier.report examples/replicas/*.jsonl",
+};
+
+const AUDIT: Help = Help {
+    about: "Tells whether the logs are covered",
+    long_about: "Tells whether the logs are covered, and executes nothing: whether of any two
+ready instances that conflict one reaches the other by dependencies. Where they
+are, all orders that the protocol allows give each instance the same reply, and
+the same final store.",
+    after: "Example:
+  epx audit examples/replicas/*.jsonl",
+    long_after: "What comes out is one line. The second form names the least pair that conflicts
+and of which neither reaches the other, here the instances 0.7 and 1.0:
+
+  [\"covered\"]
+  [\"uncovered\",0,7,1,0]
+
+Example:
+  epx audit examples/replicas/*.jsonl",
+};
+
+const CHECK: Help = Help {
+    about: "Tells whether a list of instances is an order that the protocol allows",
+    long_about: "Tells whether a list of instances is an order that the protocol allows for what
+the logs commit, and executes nothing. Such an order is lawful: each ready
+instance stands in it once, after all that it reaches by dependencies, but for
+those of its component, which reach each other: these stand by sequence number,
+then replica, then number.",
+    after: "Example:
+  epx check executed.list examples/replicas/*.jsonl",
+    long_after: "A list has one instance a line, as replica and number; blank lines are passed
+over:
+
+  [0,7]
+
+What comes out is one line, in which places in the list count from 0:
+
+  [\"lawful\"]       the list is lawful
+  [\"stranger\",p]   the instance at place p is not ready
+  [\"repeat\",p]     the one at place p stands earlier too
+  [\"missing\",r,i]  the instance i of replica r is ready and not in the list
+  [\"early\",p]      one that it reaches, outside its component, stands later
+  [\"sequence\",p]   one of its component, which is to follow it, stands earlier
+
+Example:
+  epx check executed.list examples/replicas/*.jsonl",
+};
 
 /// An option whose value is a number from 1 to `most`.
 fn number_option<'a>(
@@ -96,13 +156,19 @@ fn number_option<'a>(
         .value_parser(ValueParser::unsigned(1, most as u64))
 }
 
+/// A command of which no more is said than its name and its help.
+fn with_help<'a>(alloc: Global, name: &'a str, help: Help) -> Command<'a>
+    ensures { app_of result ≡ new_app name.entry.now }
+{
+    Command::new(alloc, name)
+        .about(help.about)
+        .long_about(help.long_about)
+        .after_help(help.after)
+        .after_long_help(help.long_after)
+}
+
 /// A subcommand with the two options that all have.
-fn subcommand<'a>(
-    alloc: Global,
-    name: &'a str,
-    about: &'a str,
-    long_about: &'a str,
-) -> Result<Command<'a>, AllocError>
+fn subcommand<'a>(alloc: Global, name: &'a str, help: Help) -> Result<Command<'a>, AllocError>
     ensures { IfOk result (λ c. app_of c ≡ numbers_app name.entry.now) }
 {
     let workers = number_option(alloc, "workers", "N", "4", MAX_WORKERS).help(
@@ -111,11 +177,7 @@ fn subcommand<'a>(
     let cut = number_option(alloc, "cut", "M", "256", MAX_CUT).help(
         "Items in a piece of work, 1 to 65536",
     );
-    Command::new(alloc, name)
-        .about(about)
-        .long_about(long_about)
-        .arg(workers)?
-        .arg(cut)
+    with_help(alloc, name, help).arg(workers)?.arg(cut)
 }
 
 /// The logs, of which there may be none.
@@ -128,60 +190,70 @@ fn logs<'a>(alloc: Global) -> Arg<'a>
         .help("The logs to read, in any order")
 }
 
-/// The earlier report.
-fn base<'a>(alloc: Global) -> Arg<'a>
-    ensures { rule_of result ≡ base_rule }
+/// The text before the logs.
+fn first<'a>(alloc: Global, value: &'a str, help: &'a str) -> Arg<'a>
+    ensures { rule_of result ≡ first_rule }
 {
-    Arg::new(alloc, "base")
-        .value_name("BASE")
+    Arg::new(alloc, "first")
+        .value_name(value)
         .action(ArgAction::Set)
         .required(true)
-        .help("The earlier report to go on from")
+        .help(help)
 }
 
 /// A subcommand that works over logs alone.
-fn over_logs<'a>(
-    alloc: Global,
-    name: &'a str,
-    about: &'a str,
-    long_about: &'a str,
-) -> Result<Command<'a>, AllocError>
+fn over_logs<'a>(alloc: Global, name: &'a str, help: Help) -> Result<Command<'a>, AllocError>
     ensures { IfOk result (λ c. app_of c ≡ work_app name.entry.now) }
 {
-    subcommand(alloc, name, about, long_about)?
-        .after_help(EXAMPLE)
-        .after_long_help(LOGS_AND_EXAMPLE)
-        .arg(logs(alloc))
+    subcommand(alloc, name, help)?.arg(logs(alloc))
 }
 
-/// The subcommand that works over a base and logs.
-fn over_base<'a>(alloc: Global) -> Result<Command<'a>, AllocError>
-    ensures { IfOk result (λ c. app_of c ≡ resume_app) }
+/// A subcommand that works over a first text and logs.
+fn over_first<'a>(
+    alloc: Global,
+    name: &'a str,
+    help: Help,
+    first: Arg<'a>,
+) -> Result<Command<'a>, AllocError>
+    requires { rule_of first ≡ first_rule }
+    ensures { IfOk result (λ c. app_of c ≡ first_app name.entry.now) }
 {
-    subcommand(alloc, "resume", RESUME_ABOUT, RESUME_LONG_ABOUT)?
-        .after_help(RESUME_EXAMPLE)
-        .after_long_help(BASE_AND_EXAMPLE)
-        .arg(base(alloc))?
-        .arg(logs(alloc))
+    subcommand(alloc, name, help)?.arg(first)?.arg(logs(alloc))
+}
+
+/// The program without its subcommands.
+fn start<'a>(alloc: Global) -> Command<'a>
+    ensures { app_of result ≡ epx_start }
+{
+    with_help(alloc, "epx", EPX)
+        .version(VERSION)
+        .subcommand_required(true)
+}
+
+/// The program with what executes or orders.
+fn with_runs<'a>(alloc: Global) -> Result<Command<'a>, AllocError>
+    ensures { IfOk result (λ c. app_of c ≡ runs_app) }
+{
+    let run = over_logs(alloc, "run", RUN)?;
+    let order = over_logs(alloc, "order", ORDER)?;
+    let levels = over_logs(alloc, "levels", LEVELS)?;
+    start(alloc)
+        .subcommand(run)?
+        .subcommand(order)?
+        .subcommand(levels)
 }
 
 /// The whole program.
 pub(crate) fn command<'a>(alloc: Global) -> Result<Command<'a>, AllocError>
     ensures { IfOk result (λ c. app_of c ≡ epx_app) }
 {
-    let run = over_logs(alloc, "run", RUN_ABOUT, RUN_LONG_ABOUT)?;
-    let order = over_logs(alloc, "order", ORDER_ABOUT, ORDER_LONG_ABOUT)?;
-    let levels = over_logs(alloc, "levels", LEVELS_ABOUT, LEVELS_LONG_ABOUT)?;
-    let resume = over_base(alloc)?;
-    Command::new(alloc, "epx")
-        .version(VERSION)
-        .about(ABOUT)
-        .long_about(LONG_ABOUT)
-        .after_help(EXAMPLE)
-        .after_long_help(LOGS_AND_EXAMPLE)
-        .subcommand_required(true)
-        .subcommand(run)?
-        .subcommand(order)?
-        .subcommand(levels)?
-        .subcommand(resume)
+    let base = first(alloc, "BASE", "The earlier report to go on from");
+    let resume = over_first(alloc, "resume", RESUME, base)?;
+    let audit = over_logs(alloc, "audit", AUDIT)?;
+    let list = first(alloc, "LIST", "The list to check");
+    let check = over_first(alloc, "check", CHECK, list)?;
+    with_runs(alloc)?
+        .subcommand(resume)?
+        .subcommand(audit)?
+        .subcommand(check)
 }

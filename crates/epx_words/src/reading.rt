@@ -3,9 +3,9 @@ ghost use Rattle.std.specs.Prelude.{◌≡◌, ◌≤◌, ◌≢◌, ◌↔◌, 
 ghost use Rattle.std.specs.Option.{IsSome};
 ghost use Rattle.clap.specs.Words.{fault_of, found_of, kind_of, one_of, rows_of, subcommand_of, subcommand_rows_of, takes};
 ghost use Rattle.epx_words.specs.App.{epx_app};
-ghost use Rattle.epx_words.specs.Asked.{ArePathsOf, AsksWork, IfText, IfWork, IsText, IsWorkOf, task_name};
+ghost use Rattle.epx_words.specs.Asked.{AreFirstAndLogs, ArePathsOf, AsksWork, IfText, IfWork, IsText, IsWorkOf, task_name};
 ghost use Rattle.epx_words.specs.Endings.{EndsAs, ending};
-ghost use Rattle.epx_words.specs.Given.{IsCutOf, IsNumberUpTo, IsTaskName, IsWorkersOf, GivesWork, base_in, logs_in, name_in, rows_in};
+ghost use Rattle.epx_words.specs.Given.{IsCutOf, IsNumberUpTo, IsTaskName, IsWorkersOf, GivesWork, HasFirst, first_in, logs_in, name_in, rows_in};
 
 use crate::asked::{Task, Words};
 use crate::commands::command;
@@ -35,27 +35,27 @@ fn logs_of(alloc: Global, matches: &ArgMatches<'_>) -> Result<Vec<String>, Alloc
     }
 }
 
-/// The path of the base, and then those of the logs.
-fn base_and_logs(alloc: Global, matches: &ArgMatches<'_>) -> Result<Vec<String>, AllocError>
-    requires { IsSome (base_in (rows_of (found_of matches.now))) }
+/// The path of the text before the logs, and then those of the logs.
+fn first_and_logs(alloc: Global, matches: &ArgMatches<'_>) -> Result<Vec<String>, AllocError>
+    requires { IsSome (first_in (rows_of (found_of matches.now))) }
     ensures { IfOk result (λ paths.
-        ArePathsOf Task.Resume (rows_of (found_of matches.now)) (Some (map string_bytes paths.items))) }
+        AreFirstAndLogs (rows_of (found_of matches.now)) (Some (map string_bytes paths.items))) }
 {
-    let base = matches.get_str("base").unwrap();
+    let first = matches.get_str("first").unwrap();
     let mut paths = logs_of(alloc, matches)?;
-    paths.insert(0, String::from_str(alloc, base)?)?;
+    paths.insert(0, String::from_str(alloc, first)?)?;
     Ok(paths)
 }
 
 /// The paths that the task is to read.
 fn paths_of(alloc: Global, task: Task, matches: &ArgMatches<'_>) -> Result<Vec<String>, AllocError>
-    requires { task ≡ Task.Resume → IsSome (base_in (rows_of (found_of matches.now))) }
+    requires { HasFirst (task_name task) → IsSome (first_in (rows_of (found_of matches.now))) }
     ensures { IfOk result (λ paths.
         ArePathsOf task (rows_of (found_of matches.now)) (Some (map string_bytes paths.items))) }
 {
     match task {
-        Task::Resume => base_and_logs(alloc, matches),
-        Task::Run | Task::Order | Task::Levels => logs_of(alloc, matches),
+        Task::Resume | Task::Check => first_and_logs(alloc, matches),
+        Task::Run | Task::Order | Task::Levels | Task::Audit => logs_of(alloc, matches),
     }
 }
 
@@ -82,6 +82,10 @@ fn task_of(name: &str) -> Task
         Task::Levels
     } else if name == "resume" {
         Task::Resume
+    } else if name == "audit" {
+        Task::Audit
+    } else if name == "check" {
+        Task::Check
     } else {
         Task::Run
     }

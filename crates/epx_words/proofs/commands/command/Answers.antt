@@ -1,18 +1,19 @@
-use Rattle.std.proofs.Common.{◌≡◌, codes, refl, rules}
+use Rattle.std.proofs.Common.{codes, refl}
 use Rattle.std.proofs.lemmas.Result.{IfOk-weaker}
-use Rattle.clap.specs.Words.{app_of, with_subcommand}
-use Rattle.epx_words.specs.App.{epx_start, resume_app, work_app}
+use Rattle.clap.specs.Words.{App, with_subcommand}
+use Rattle.epx_words.specs.App.{first_app, runs_app, work_app}
 use Rattle.epx_words.proofs.Building.{with_command}
 use Rattle.epx_words.proofs.commands.command.Goals as goal
 
+abbrev resume : App
+resume = with_subcommand runs_app (first_app (codes "resume")).top
+
+abbrev audit : App
+audit = with_subcommand resume (work_app (codes "audit")).top
+
 pub returns : goal.returns
 returns c =
-    let run = work_app (codes "run") in
-    let order = work_app (codes "order") in
-    let levels = work_app (codes "levels") in
-    let start_is : app_of c.subcommand_required.result ≡ epx_start = search rules in
-    let one = with_command c.subcommand_required.result c.in_ok-run.run' c.in_ok-subcommand.field-0 epx_start run c.in_ok-subcommand.ensures start_is c.in_ok-run.ensures refl in
-    let two = with_command c.in_ok-subcommand.field-0 c.in_ok-order.order c.in_ok-subcommand-2.field-0 (with_subcommand epx_start run.top) order c.in_ok-subcommand-2.ensures one c.in_ok-order.ensures refl in
-    let three = with_command c.in_ok-subcommand-2.field-0 c.in_ok-levels.levels c.in_ok-subcommand-3.field-0 (with_subcommand (with_subcommand epx_start run.top) order.top) levels c.in_ok-subcommand-3.ensures two c.in_ok-levels.ensures refl in
-    IfOk-weaker c.subcommand-4.result _ _ (λ made added.
-    with_command c.in_ok-subcommand-3.field-0 c.in_ok-resume.resume made (with_subcommand (with_subcommand (with_subcommand epx_start run.top) order.top) levels.top) resume_app added three c.in_ok-resume.ensures refl) c.subcommand-4.ensures
+    let one = with_command c.in_ok-with_runs.field-0 c.in_ok-resume.resume c.in_ok-subcommand.field-0 runs_app (first_app (codes "resume")) c.in_ok-subcommand.ensures c.in_ok-with_runs.ensures c.in_ok-resume.ensures refl in
+    let two = with_command c.in_ok-subcommand.field-0 c.in_ok-audit.audit c.in_ok-subcommand-2.field-0 resume (work_app (codes "audit")) c.in_ok-subcommand-2.ensures one c.in_ok-audit.ensures refl in
+    IfOk-weaker c.subcommand-3.result _ _ (λ made added.
+    with_command c.in_ok-subcommand-2.field-0 c.in_ok-check.check made audit (first_app (codes "check")) added two c.in_ok-check.ensures refl) c.subcommand-3.ensures

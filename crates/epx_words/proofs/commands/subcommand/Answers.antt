@@ -1,6 +1,6 @@
 use Rattle.std.proofs.Common.{◌≡◌, codes, refl, rules}
 use Rattle.std.proofs.lemmas.Result.{IfOk-weaker}
-use Rattle.clap.specs.Words.{app_of, new_app, rule_of, with_rule}
+use Rattle.clap.specs.Words.{new_app, rule_of, with_rule}
 use Rattle.epx_words.specs.App.{number_rule}
 use Rattle.epx_words.proofs.Building.{with_argument}
 use Rattle.epx_words.proofs.commands.subcommand.Goals as goal
@@ -12,6 +12,5 @@ returns c =
     let cut = number_rule (codes "cut") (codes "256") 65536 in
     let workers_is : rule_of c.help-workers.result ≡ workers = search rules in
     let cut_is : rule_of c.help-cut.result ≡ cut = search rules in
-    let start_is : app_of c.long_about.result ≡ start = search rules in
-    let one = with_argument c.long_about.result c.in_ok-arg.field-0 c.help-workers.result start workers c.in_ok-arg.ensures start_is workers_is refl in
+    let one = with_argument c.with_help.result c.in_ok-arg.field-0 c.help-workers.result start workers c.in_ok-arg.ensures c.with_help.ensures workers_is refl in
     IfOk-weaker c.arg-2.result _ _ (λ made added. with_argument c.in_ok-arg.field-0 made c.help-cut.result (with_rule start workers) cut added one cut_is refl) c.arg-2.ensures

@@ -1,10 +1,11 @@
 use Rattle.std.proofs.Common.{◌∙◌, ap, map, subst, sym}
-use Rattle.clap.specs.Words.{HasKind, fault_of, is_simple, is_simple_and_free, kind_of, subcommand_rows_of, subcommand_of, takes}
+use Rattle.clap.specs.Words.{HasKind, fault_of, is_simple_and_free, kind_of, subcommand_rows_of, takes}
 use Rattle.clap.proofs.WalkLemmas.{IfOk-both}
 use Rattle.std.proofs.lemmas.Result.{IfOk-weaker}
 use Rattle.epx_words.specs.App.{epx_app}
 use Rattle.epx_words.specs.Given.{GivesWork}
-use Rattle.epx_words.proofs.NoFault.{epx_is_free, epx_is_simple, gives_work}
+use Rattle.epx_words.proofs.FoundWork.{are_paths, is_cut, is_task, is_wanted, is_workers}
+use Rattle.epx_words.proofs.NoFault.{epx_is_free, gives_work}
 use Rattle.epx_words.proofs.Refusals.{asks_nothing, asks_work, ends_so, not_taken}
 use Rattle.epx_words.proofs.reading.read_words.Goals as goal
 
@@ -13,8 +14,24 @@ work_of-requires c =
     let texts = map (λ w. w.now) c.args.words.now in
     let app_is = c.in_ok-command.ensures in
     let none = sym (ap (λ a. fault_of a texts) app_is) ∙ c.in-Ok.ensures.kinds (ap is_simple_and_free app_is ∙ epx_is_free) in
-    let rows = (c.in-Ok.ensures.matches (ap is_simple app_is ∙ epx_is_simple)).1 ∙ ap (λ a. subcommand_of a texts) app_is in
+    let rows = is_wanted _ app_is texts (subcommand_rows_of c.in-Ok.matches) c.in-Ok.ensures.matches in
     subst GivesWork (sym rows) (gives_work texts none)
+
+pub returns-in_ok-work_of-in-Ok-clause-task : goal.returns-in_ok-work_of-in-Ok-clause-task
+returns-in_ok-work_of-in-Ok-clause-task c two =
+    is_task _ c.in_ok-command.ensures (map (λ w. w.now) c.args.words.now) (subcommand_rows_of c.in-Ok.matches) c.in-Ok.ensures.matches c.in_ok-work_of-in-Ok.field-0 c.in_ok-work_of-in-Ok.ensures
+
+pub returns-in_ok-work_of-in-Ok-clause-workers : goal.returns-in_ok-work_of-in-Ok-clause-workers
+returns-in_ok-work_of-in-Ok-clause-workers c two =
+    is_workers _ c.in_ok-command.ensures (map (λ w. w.now) c.args.words.now) (subcommand_rows_of c.in-Ok.matches) c.in-Ok.ensures.matches c.in_ok-work_of-in-Ok.field-0 c.in_ok-work_of-in-Ok.ensures
+
+pub returns-in_ok-work_of-in-Ok-clause-cut : goal.returns-in_ok-work_of-in-Ok-clause-cut
+returns-in_ok-work_of-in-Ok-clause-cut c two =
+    is_cut _ c.in_ok-command.ensures (map (λ w. w.now) c.args.words.now) (subcommand_rows_of c.in-Ok.matches) c.in-Ok.ensures.matches c.in_ok-work_of-in-Ok.field-0 c.in_ok-work_of-in-Ok.ensures
+
+pub returns-in_ok-work_of-in-Ok-clause-paths : goal.returns-in_ok-work_of-in-Ok-clause-paths
+returns-in_ok-work_of-in-Ok-clause-paths c two =
+    are_paths _ c.in_ok-command.ensures (map (λ w. w.now) c.args.words.now) (subcommand_rows_of c.in-Ok.matches) c.in-Ok.ensures.matches c.in_ok-work_of-in-Ok.field-0 c.in_ok-work_of-in-Ok.ensures
 
 pub returns-in_ok-work_of-in-Ok-clause-taken : goal.returns-in_ok-work_of-in-Ok-clause-taken
 returns-in_ok-work_of-in-Ok-clause-taken c two =
