@@ -1,6 +1,6 @@
 //! Logs from their instances, and the check that their answer is the wanted one. The tests stand on
 //! these few calls, so that each of them is proved fast.
-use epx_tool::{Ask, answer, resume, view};
+use epx_tool::{Ask, answer, check, resume, view};
 use epx_types::{Fault, Plan};
 use std::alloc::{AllocError, Global};
 use std::process::Abort;
@@ -52,7 +52,11 @@ pub(crate) fn plan(rt: &impl Abort) -> Plan {
 }
 
 /// The report, or the text of the fault.
-fn told(rt: &impl Abort, alloc: Global, answer: Result<Vec<u8>, Fault>) -> Result<String, Fail> {
+pub(crate) fn told(
+    rt: &impl Abort,
+    alloc: Global,
+    answer: Result<Vec<u8>, Fault>,
+) -> Result<String, Fail> {
     match answer {
         Ok(report) => Ok(String::from_utf8(report).expect(rt, "text")),
         Err(Fault::Memory) => Err(Fail::from("want of memory")),
@@ -81,6 +85,16 @@ pub(crate) fn resumed<R: Abort + Threads + RandomSource + Sync>(
         alloc,
         resume(rt, alloc, base.as_bytes(), logs, plan(rt)),
     )
+}
+
+/// What is found of a list over the logs, or the text of their fault.
+pub(crate) fn checked<R: Abort + Threads + RandomSource + Sync>(
+    rt: &R,
+    alloc: Global,
+    list: &str,
+    logs: &[Vec<u8>],
+) -> Result<String, Fail> {
+    told(rt, alloc, check(rt, alloc, list.as_bytes(), logs, plan(rt)))
 }
 
 /// The execution order of the logs, or the text of their fault.

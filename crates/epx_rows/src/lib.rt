@@ -3,6 +3,10 @@
 #![tactic(auto)]
 
 #[cfg(test)]
+mod auditing;
+#[cfg(test)]
+mod checking;
+#[cfg(test)]
 mod devices;
 #[cfg(test)]
 mod executing;

@@ -10,11 +10,13 @@ use Rattle.epx_types.specs.Execution.{execute}
 use Rattle.epx_types.proofs.OrdersExist.{execution_order_exists, waiting_list_exists}
 use Rattle.epx_types.proofs.LevelsExist.{levels_exist}
 use Rattle.epx_merge.proofs.Existence.{answered_always}
+use Rattle.epx_order.proofs.UncoveredExists.{covered_or_not}
 use Rattle.epx_tool.specs.declared.ask.Ask.{Ask}
-use Rattle.epx_tool.specs.declared.ask.Ask.TheVariants.{Order, Levels}
+use Rattle.epx_tool.specs.declared.ask.Ask.TheVariants.{Order, Levels, Audit}
 use Rattle.epx_tool.specs.Report.{IsReport, report_text, commands_of}
 use Rattle.epx_tool.specs.OrderText.{IsOrderText, order_text}
 use Rattle.epx_tool.specs.LevelText.{IsLevelText, level_text}
+use Rattle.epx_tool.specs.AuditText.{IsAuditText, covered_line, uncovered_line}
 use Rattle.epx_tool.specs.Views.{IsViewed}
 use Rattle.epx_tool.specs.Answer.{Answers}
 
@@ -42,9 +44,16 @@ module _ (m : List Instance) (rising : IsRising (ids_of m)) where
         record { order = order.0; levels = levels.0; waiting = waiting.0; ordered = order.1; levelled = levels.1; listed = waiting.1; printed = refl },
       )
 
+  pub audit_text_exists : (text : List ℕ) × IsAuditText m text
+  audit_text_exists = elim (covered_or_not m) [
+    | inl covered ↦ (covered_line, inl (covered, refl))
+    | inr pair ↦ (uncovered_line pair.0 pair.1, inr (pair.0, pair.1, pair.2, refl))
+  ]
+
   pub view_text_exists : (ask : Ask) → (text : List ℕ) × IsViewed ask m text
   view_text_exists Order = order_text_exists
   view_text_exists Levels = level_text_exists
+  view_text_exists Audit = audit_text_exists
 
 -- where each committed map has a text, every list of logs has an answer
 pub answer_exists : (Is : List Instance → List ℕ → Type 0) → ((m : List Instance) → IsRising (ids_of m) → (text : List ℕ) × Is m text) → (logs : List (List ℕ)) → (a : Result (List ℕ) Fault) × (a ≢ Err Memory) × Answers Is logs a

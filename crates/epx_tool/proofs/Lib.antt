@@ -5,6 +5,7 @@ mod SourcesRead
 mod OneAnswer
 mod LogsBeside
 mod OneAnswerBeside
+mod AnswersBesideExist
 mod AnswersExist
 mod OrderedInstances
 mod AcceptedLogs
@@ -15,3 +16,7 @@ mod ResumptionsExist
 mod ReportsAreBases
 mod KnownTexts
 mod OrderLines
+mod ListFaults
+mod OneVerdict
+mod ListsChecked
+mod ListsExecuted

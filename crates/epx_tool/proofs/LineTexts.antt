@@ -26,6 +26,11 @@ line_written ds ts now text before whole same none is e =
     e ∙ ap (λ b. text ++ ((b ++ print (now ++ end_array ∷ [])) ++ line_feed ∷ [])) none ∙ ap (λ us. text ++ (print (us ++ end_array ∷ []) ++ line_feed ∷ [])) same
     ∙ ap (λ all. text ++ (print all ++ line_feed ∷ [])) (sym is) ∙ ap (λ t. text ++ (t ++ line_feed ∷ [])) (print-outline (array_of ds))
 
+-- the same of a text that is this line alone
+pub line_alone : (ds : List Data) (ts now : List Token) (text before whole : List ℕ) → text ≡ [] → now ≡ ts → before ≡ [] → tokens_of (array_of ds) ≡ ts ++ end_array ∷ []
+    → whole ≡ text ++ ((before ++ print (now ++ end_array ∷ [])) ++ line_feed ∷ []) → whole ≡ line_of ds
+line_alone ds ts now text before whole empty same none is e = line_written ds ts now text before whole same none is e ∙ ap (λ t. t ++ line_of ds) empty
+
 integer_tokens : (v : ℤ) → tokens_of (value.number (of_integer v)) ≡ value_token (Some v) ∷ []
 integer_tokens (pos n) = refl
 integer_tokens (negsuc n) = refl

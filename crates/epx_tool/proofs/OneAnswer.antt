@@ -1,5 +1,5 @@
 -- Logs fix their answer.
-use Rattle.std.proofs.Common.{◌≡◌, ◌≢◌, ℕ, List, Result, Ok, Err, sym, ap, ap₂, ◌∙◌, subst}
+use Rattle.std.proofs.Common.{◌≡◌, ◌≢◌, ℕ, List, Result, Ok, Err, inl, inr, sym, ap, ap₂, ◌∙◌, subst}
 use Rattle.std.specs.FinMap as contents
 use Rattle.epx_types.specs.declared.fault.Fault.{Fault}
 use Rattle.epx_types.specs.declared.fault.Fault.TheVariants.{Memory}
@@ -13,8 +13,10 @@ use Rattle.epx_merge.proofs.OneRefusal.{accepted_unique, accepted_not_refused, r
 use Rattle.epx_tool.specs.Report.{IsReport, report_text, commands_of}
 use Rattle.epx_tool.specs.OrderText.{IsOrderText, order_text}
 use Rattle.epx_tool.specs.LevelText.{IsLevelText, level_text}
+use Rattle.epx_tool.specs.AuditText.{IsAuditText, uncovered_line}
+use Rattle.epx_order.proofs.OnePair.{uncovered_not_covered, least_uncovered_is_one}
 use Rattle.epx_tool.specs.declared.ask.Ask.{Ask}
-use Rattle.epx_tool.specs.declared.ask.Ask.TheVariants.{Order, Levels}
+use Rattle.epx_tool.specs.declared.ask.Ask.TheVariants.{Order, Levels, Audit}
 use Rattle.epx_tool.specs.Views.{IsViewed}
 use Rattle.epx_tool.specs.Answer.{Answers}
 
@@ -37,9 +39,17 @@ IsLevelText-unique m text other p q =
     let levels = AreLevels-unique (commands_of m q.order) p.levels q.levels (subst (λ o. AreLevels (commands_of m o) p.levels) order p.levelled) q.levelled in
     p.printed ∙ ap₂ (λ o w. level_text o p.levels w) order waiting ∙ ap (λ ls. level_text q.order ls q.waiting) levels ∙ sym q.printed
 
+pub IsAuditText-unique : (m : List Instance) (text other : List ℕ) → IsAuditText m text → IsAuditText m other → text ≡ other
+IsAuditText-unique m text other (inl p) (inl q) = p.1 ∙ sym q.1
+IsAuditText-unique m text other (inl p) (inr q) = absurd (uncovered_not_covered m q.0 q.1 q.2.uncovered p.0)
+IsAuditText-unique m text other (inr p) (inl q) = absurd (uncovered_not_covered m p.0 p.1 p.2.uncovered q.0)
+IsAuditText-unique m text other (inr p) (inr q) =
+    let same = least_uncovered_is_one m p.0 p.1 q.0 q.1 p.2 q.2 in p.3 ∙ ap₂ uncovered_line same.0 same.1 ∙ sym q.3
+
 pub IsViewed-unique : (ask : Ask) (m : List Instance) (text other : List ℕ) → IsViewed ask m text → IsViewed ask m other → text ≡ other
 IsViewed-unique Order = IsOrderText-unique
 IsViewed-unique Levels = IsLevelText-unique
+IsViewed-unique Audit = IsAuditText-unique
 
 -- where each committed map has at most one text, logs have at most one answer, want of memory aside
 module _ (Is : List Instance → List ℕ → Type 0) (one : (m : List Instance) (text other : List ℕ) → Is m text → Is m other → text ≡ other) where

@@ -1,5 +1,5 @@
 -- The report, the order and the levels of a committed map, from what the layers below answer.
-use Rattle.std.proofs.Common.{◌≡◌, ◌≤◌, ◌^◌, ℕ, List, [], map, length, sym, ap, ap₂, ◌∙◌, subst, arith, Contains}
+use Rattle.std.proofs.Common.{◌≡◌, ◌≤◌, ◌^◌, ℕ, List, [], Option, Some, None, MatchOption, inl, inr, map, length, sym, ap, ap₂, ◌∙◌, subst, arith, Contains}
 use Rattle.std.specs.FinMap as contents
 use Rattle.std.proofs.lemmas.List.{length-map}
 use Rattle.epx_types.specs.declared.id.Id.{Id}
@@ -17,6 +17,9 @@ use Rattle.epx_merge.specs.Limits.{max_instances}
 use Rattle.epx_tool.specs.Report.{IsReport, ops_of, commands_of, report_text}
 use Rattle.epx_tool.specs.ResumedReport.{IsReportAfter, resumed_text}
 use Rattle.epx_tool.specs.LevelText.{IsLevelText, level_text}
+use Rattle.epx_tool.specs.AuditText.{IsAuditText, covered_line, uncovered_line}
+use Rattle.epx_order.specs.Uncovered.{IsLeastUncovered}
+use Rattle.epx_types.specs.Conflicts.{IsCovered}
 use Rattle.epx_types.proofs.DoneLemmas.{Contains-remaining_iff, remaining-nil}
 use Rattle.epx_types.proofs.ExecutionOrders.{IsExecutionOrder-IsLawful}
 use Rattle.epx_tool.proofs.OrderedInstances.{ordered_are_few}
@@ -74,3 +77,8 @@ IsLevelText-printed m order waiting commands ids levels text ordered listed e_id
   listed = listed;
   printed = printed;
 }
+
+pub IsAuditText-printed : (m : List Instance) (found : Option (Id × Id)) (text : List ℕ) → MatchOption found (IsCovered m) (λ p. IsLeastUncovered m p.0 p.1)
+    → MatchOption found (text ≡ covered_line) (λ p. text ≡ uncovered_line p.0 p.1) → IsAuditText m text
+IsAuditText-printed m None text covered printed = inl (covered, printed)
+IsAuditText-printed m (Some p) text least printed = inr (p.0, p.1, least, printed)

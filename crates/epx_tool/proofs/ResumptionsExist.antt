@@ -1,9 +1,6 @@
 -- A base and logs have an answer, and one alone.
-use Rattle.std.proofs.Common.{◌≡◌, ◌≢◌, ◌<◌, ℕ, List, length, Result, Ok, Err, refl, sym, ap₂, ◌∙◌, subst, inl, inr, arith}
-use Rattle.std.proofs.lemmas.Bool.{cases_lt}
+use Rattle.std.proofs.Common.{◌≡◌, ◌⊎◌, ℕ, List, refl, sym, ap₂, ◌∙◌, subst, inl, inr}
 use Rattle.epx_types.specs.declared.id.Id.{Id}
-use Rattle.epx_types.specs.declared.fault.Fault.{Fault}
-use Rattle.epx_types.specs.declared.fault.Fault.TheVariants.{Memory, TooManyLogs, LogTooLong, BadBase}
 use Rattle.epx_types.specs.Contents.{Contents}
 use Rattle.epx_types.specs.Ids.{IsRising}
 use Rattle.epx_types.specs.Instances.{Instance}
@@ -16,14 +13,11 @@ use Rattle.epx_types.proofs.ListedWaiting.{IsWaitingList-unique}
 use Rattle.epx_types.proofs.OrdersExist.{execution_order_exists, waiting_list_exists}
 use Rattle.epx_base.specs.Bases.{IsBadBase}
 use Rattle.epx_base.proofs.BaseLaws.{base_or_bad_base}
-use Rattle.epx_merge.specs.Limits.{max_logs, max_log_bytes}
-use Rattle.epx_merge.proofs.Existence.{answered_always, long_cases}
 use Rattle.epx_tool.specs.Report.{commands_of}
 use Rattle.epx_tool.specs.ResumedReport.{IsReportAfter, resumed_text}
-use Rattle.epx_tool.specs.Beside.{IsShort}
-use Rattle.epx_tool.specs.Resumption.{IsResumed, Resumes}
+use Rattle.epx_tool.specs.Resumption.{IsResumed}
 use Rattle.epx_tool.specs.ResumptionLaws.{ResumptionExists, ResumptionIsOne}
-use Rattle.epx_tool.proofs.LogsBeside.{last_too_long, first_too_long_beside, refusal_of_logs}
+use Rattle.epx_tool.proofs.AnswersBesideExist.{answer_beside_exists}
 use Rattle.epx_tool.proofs.OneAnswerBeside.{AnswersBeside-unique}
 
 IsReportAfter-unique : (done : List Id) (stored : Contents) (m : List Instance) (text other : List ℕ) → IsReportAfter done stored m text → IsReportAfter done stored m other → text ≡ other
@@ -66,35 +60,12 @@ resumption_is_one base logs =
 
 -- ---- an answer
 
-module _ (base : List ℕ) (logs : List (List ℕ)) where
-  refused_long : max_log_bytes < length base → (a : Result (List ℕ) Fault) × (a ≢ Err Memory) × Resumes base logs a
-  refused_long long =
-      elim (cases_lt max_logs (length logs)) [
-        | inl many ↦ (Err TooManyLogs, (λ same. cc same), many)
-        | inr few ↦ elim (long_cases logs) [
-          | inl none ↦ (Err (LogTooLong (length logs)), (λ same. cc same), (omega (arith, few), last_too_long logs base none long))
-          | inr first ↦ (Err (LogTooLong first.0), (λ same. cc same), (omega (arith, few), first_too_long_beside logs base first.0 first.1))
-        ]
-      ]
-
-  answered_short : IsShort base → (a : Result (List ℕ) Fault) × (a ≢ Err Memory) × Resumes base logs a
-  answered_short short =
-      elim (answered_always logs) [
-        | inl accepted ↦ elim (base_or_bad_base base) [
-          | inl is ↦
-              let text = report_after_exists is.0 is.1 accepted.0 accepted.1.committed.rising in
-              (Ok text.0, (λ same. cc same), (short, (accepted.0, accepted.1, (is.0, is.1, is.2, text.1))))
-          | inr bad ↦ (Err (BadBase bad.0), (λ same. cc same), (short, (accepted.0, accepted.1), bad.1))
-        ]
-        | inr refused ↦ (Err refused.0, (λ same. refused.1 (cc same)), refusal_of_logs logs base IsBadBase refused.0 short refused.2)
-      ]
-
-  answered_with_base : (a : Result (List ℕ) Fault) × (a ≢ Err Memory) × Resumes base logs a
-  answered_with_base =
-      elim (cases_lt max_log_bytes (length base)) [
-        | inl long ↦ refused_long long
-        | inr short ↦ answered_short (omega (arith, short))
-      ]
+report_or_bad : (base : List ℕ) → ((m : List Instance) → IsRising (ids_of m) → (text : List ℕ) × IsResumed base m text) ⊎ ((line : ℕ) × IsBadBase base line)
+report_or_bad base =
+    elim (base_or_bad_base base) [
+      | inl is ↦ inl (λ m rising. let text = report_after_exists is.0 is.1 m rising in (text.0, (is.0, is.1, is.2, text.1)))
+      | inr bad ↦ inr bad
+    ]
 
 pub resumption_exists : ResumptionExists
-resumption_exists base logs = answered_with_base base logs
+resumption_exists base logs = answer_beside_exists IsBadBase IsResumed base (report_or_bad base) logs

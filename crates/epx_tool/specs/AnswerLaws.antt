@@ -9,6 +9,7 @@ use Rattle.epx_tool.specs.declared.ask.Ask.{Ask}
 use Rattle.epx_tool.specs.Report.{IsReport}
 use Rattle.epx_tool.specs.OrderText.{IsOrderText}
 use Rattle.epx_tool.specs.LevelText.{IsLevelText}
+use Rattle.epx_tool.specs.AuditText.{IsAuditText}
 use Rattle.epx_tool.specs.Views.{IsViewed}
 use Rattle.epx_tool.specs.Answer.{Answers, IsAnswer}
 
@@ -16,7 +17,7 @@ use Rattle.epx_tool.specs.Answer.{Answers, IsAnswer}
 abbrev pub ReportExists : Type 0
 ReportExists = (m : List Instance) → IsRising (ids_of m) → (text : List ℕ) × IsReport m text
 
--- a committed map has a text of its execution order, and one of its conflict levels
+-- a committed map has a text of its execution order, one of its conflict levels, and one of whether it is covered
 abbrev pub ViewTextExists : Type 0
 ViewTextExists = (ask : Ask) (m : List Instance) → IsRising (ids_of m) → (text : List ℕ) × IsViewed ask m text
 
@@ -32,11 +33,15 @@ OrderTextIsOne = (m : List Instance) (text other : List ℕ) → IsOrderText m t
 abbrev pub LevelTextIsOne : Type 0
 LevelTextIsOne = (m : List Instance) (text other : List ℕ) → IsLevelText m text → IsLevelText m other → text ≡ other
 
+-- a committed map has one text of whether it is covered
+abbrev pub AuditTextIsOne : Type 0
+AuditTextIsOne = (m : List Instance) (text other : List ℕ) → IsAuditText m text → IsAuditText m other → text ≡ other
+
 -- every list of logs has an answer other than want of memory
 abbrev pub AnswerExists : Type 0
 AnswerExists = (logs : List (List ℕ)) → (a : Result (List ℕ) Fault) × (a ≢ Err Memory) × IsAnswer logs a
 
--- and one that shows the order, or the levels
+-- and one that shows what is asked for
 abbrev pub ViewExists : Type 0
 ViewExists = (ask : Ask) (logs : List (List ℕ)) → (a : Result (List ℕ) Fault) × (a ≢ Err Memory) × Answers (IsViewed ask) logs a
 
@@ -44,6 +49,6 @@ ViewExists = (ask : Ask) (logs : List (List ℕ)) → (a : Result (List ℕ) Fau
 abbrev pub AnswerIsOne : Type 0
 AnswerIsOne = (logs : List (List ℕ)) (a b : Result (List ℕ) Fault) → a ≢ Err Memory → b ≢ Err Memory → IsAnswer logs a → IsAnswer logs b → a ≡ b
 
--- and one that shows the order, or the levels
+-- and one that shows what is asked for
 abbrev pub ViewIsOne : Type 0
 ViewIsOne = (ask : Ask) (logs : List (List ℕ)) (a b : Result (List ℕ) Fault) → a ≢ Err Memory → b ≢ Err Memory → Answers (IsViewed ask) logs a → Answers (IsViewed ask) logs b → a ≡ b

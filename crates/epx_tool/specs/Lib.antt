@@ -3,12 +3,16 @@ pub mod Report
 pub mod ResumedReport
 pub mod OrderText
 pub mod LevelText
+pub mod AuditText
 pub mod Views
 pub mod Answer
 pub mod Beside
 pub mod Resumption
+pub mod Verdicts
+pub mod Checking
 pub mod AnswerLaws
 pub mod ResumptionLaws
+pub mod CheckingLaws
 pub mod Runs
 pub mod BesideRuns
 pub mod Sources

@@ -2,11 +2,13 @@
 use Rattle.std.specs.Prelude.{ℕ, List}
 use Rattle.epx_types.specs.Instances.{Instance}
 use Rattle.epx_tool.specs.declared.ask.Ask.{Ask}
-use Rattle.epx_tool.specs.declared.ask.Ask.TheVariants.{Order, Levels}
+use Rattle.epx_tool.specs.declared.ask.Ask.TheVariants.{Order, Levels, Audit}
 use Rattle.epx_tool.specs.OrderText.{IsOrderText}
 use Rattle.epx_tool.specs.LevelText.{IsLevelText}
+use Rattle.epx_tool.specs.AuditText.{IsAuditText}
 
 -- the text that answers a committed map
 abbrev pub IsViewed : Ask → List Instance → List ℕ → Type 0
 IsViewed Order = IsOrderText
 IsViewed Levels = IsLevelText
+IsViewed Audit = IsAuditText

@@ -6,17 +6,19 @@ ghost use Rattle.epx_merge.specs.Limits.{max_instances};
 ghost use Rattle.epx_tool.specs.Answer.{Answers, IsAnswer};
 ghost use Rattle.epx_tool.specs.OrderText.{IsOrderText};
 ghost use Rattle.epx_tool.specs.LevelText.{IsLevelText};
+ghost use Rattle.epx_tool.specs.AuditText.{IsAuditText};
 ghost use Rattle.epx_tool.specs.Report.{ops_of, IsReport};
 ghost use Rattle.epx_tool.specs.ResumedReport.{resumed_text, IsReportAfter};
 ghost use Rattle.epx_tool.specs.Views.{IsViewed};
 
 use crate::ask::Ask;
 use crate::report::{level_report, order_report, report};
+use crate::verdict::audit_line;
 use epx_apply::{levels, run_order};
 use epx_claims::FreeGate;
 use epx_graph::{Waiter, build, build_after, waiting};
 use epx_merge::{Merged, read_logs};
-use epx_order::{OrderList, order};
+use epx_order::{OrderList, audit, order};
 use epx_txn::Store;
 use epx_types::{Command, Fault, Id, Memory, Plan, Reply};
 use std::alloc::Global;
@@ -137,6 +139,21 @@ fn levels_of<R: Threads + Sync>(
     level_report(alloc, &order, &waiters, &levels)
 }
 
+/// Whether a committed map is covered, as text.
+fn audit_of<R: Threads + Sync>(
+    rt: &R,
+    alloc: Global,
+    merged: &Merged,
+    plan: Plan,
+) -> Result<Vec<u8>, Memory>
+    ensures { IfOk result (λ text. IsAuditText merged.now text.items) }
+{
+    let graph = build(rt, alloc, merged, plan)?;
+    let order = order(rt, alloc, merged, &graph)?;
+    let found = audit(alloc, merged, &graph, &order)?;
+    audit_line(alloc, found)
+}
+
 /// The report of the logs, or their first refusal. The answer is the same for every plan.
 pub fn answer<R: Threads + RandomSource + Sync>(
     rt: &R,
@@ -191,5 +208,6 @@ pub fn view<R: Threads + RandomSource + Sync>(
     match ask {
         Ask::Order => Ok(order_of(rt, alloc, &merged, plan)?),
         Ask::Levels => Ok(levels_of(rt, alloc, &merged, plan)?),
+        Ask::Audit => Ok(audit_of(rt, alloc, &merged, plan)?),
     }
 }

@@ -7,4 +7,6 @@ pub enum Ask {
     Order,
     /// The execution order, with the conflict level of each instance's command.
     Levels,
+    /// Whether the instances are covered, with the least two that show it where they are not.
+    Audit,
 }

@@ -1,5 +1,6 @@
 //! Laws of answers.
-ghost use Rattle.epx_tool.specs.AnswerLaws.{ReportExists, ViewTextExists, ReportIsOne, OrderTextIsOne, LevelTextIsOne, AnswerExists, ViewExists, AnswerIsOne, ViewIsOne};
+ghost use Rattle.epx_tool.specs.AnswerLaws.{ReportExists, ViewTextExists, ReportIsOne, OrderTextIsOne, LevelTextIsOne, AuditTextIsOne, AnswerExists, ViewExists, AnswerIsOne, ViewIsOne};
+ghost use Rattle.epx_tool.specs.CheckingLaws.{CheckExists, CheckIsOne, LawfulTextMeansLawful, LawfulListExecutesAlike};
 ghost use Rattle.epx_tool.specs.ResumptionLaws.{ReportIsAfterNothing, ReportIsBase, ResumptionExists, ResumptionIsOne};
 
 /// A committed map has a report.
@@ -7,7 +8,7 @@ pub fn report_exists()
     ensures { ReportExists }
 {}
 
-/// A committed map has a text of its execution order, and one of its conflict levels.
+/// A committed map has a text of its execution order, one of its conflict levels, and one of whether it is covered.
 pub fn view_text_exists()
     ensures { ViewTextExists }
 {}
@@ -27,12 +28,17 @@ pub fn level_text_is_one()
     ensures { LevelTextIsOne }
 {}
 
+/// A committed map has one text of whether it is covered.
+pub fn audit_text_is_one()
+    ensures { AuditTextIsOne }
+{}
+
 /// Every list of logs has an answer other than want of memory.
 pub fn answer_exists()
     ensures { AnswerExists }
 {}
 
-/// Every list of logs has an answer that shows the order, and one that shows the levels, other than want of memory.
+/// Every list of logs has an answer that shows what is asked for, other than want of memory.
 pub fn view_exists()
     ensures { ViewExists }
 {}
@@ -42,7 +48,7 @@ pub fn answer_is_one()
     ensures { AnswerIsOne }
 {}
 
-/// Logs have one answer that shows the order, and one that shows the levels, want of memory aside.
+/// Logs have one answer that shows what is asked for, want of memory aside.
 pub fn view_is_one()
     ensures { ViewIsOne }
 {}
@@ -65,4 +71,24 @@ pub fn report_is_after_nothing()
 /// A report, and a resumed one, is a base: of what is done after it, and of its final store.
 pub fn report_is_base()
     ensures { ReportIsBase }
+{}
+
+/// A list and logs have an answer other than want of memory.
+pub fn check_exists()
+    ensures { CheckExists }
+{}
+
+/// A list and logs have one answer, want of memory aside.
+pub fn check_is_one()
+    ensures { CheckIsOne }
+{}
+
+/// A list is said to be lawful exactly where it is a lawful order of what the logs commit.
+pub fn lawful_text_means_lawful()
+    ensures { LawfulTextMeansLawful }
+{}
+
+/// Over covered logs, a list that is said to be lawful executes as the report of the logs says.
+pub fn lawful_list_executes_alike()
+    ensures { LawfulListExecutesAlike }
 {}

@@ -5,15 +5,20 @@
 mod answers;
 mod ask;
 mod beside;
+mod checked_runs;
+mod checking;
 pub mod laws;
 mod report;
 mod resumed_runs;
 mod resuming;
 mod runs;
 mod sources;
+mod verdict;
 
 pub use answers::{answer, view};
 pub use ask::Ask;
+pub use checked_runs::run_check;
+pub use checking::check;
 pub use epx_devices::{
     DeviceFault, FuseSink, FuseSource, MemorySink, MemorySource, PathSource, Sink, Source, StdSink,
     StdSource, read_log, write_out,

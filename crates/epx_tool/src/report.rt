@@ -24,7 +24,11 @@ const LINE_FEED: u8 = 10;
 
 /// The array of a line, up to its first element. It is written where the last line was, and not at once behind the
 /// text, since a writer first clears the room that its text has left.
-fn begin_line(alloc: Global, line: &mut Vec<u8>, name: &str) -> Result<Writer, AllocError>
+pub(crate) fn begin_line(
+    alloc: Global,
+    line: &mut Vec<u8>,
+    name: &str,
+) -> Result<Writer, AllocError>
     ensures tokens { IfOk result (λ out. out.tokens ≡ begin_array ∷ string name.now ∷ []) }
     ensures before { IfOk result (λ out. out.before ≡ []) }
 {
@@ -36,7 +40,11 @@ fn begin_line(alloc: Global, line: &mut Vec<u8>, name: &str) -> Result<Writer, A
 }
 
 /// Text that grows by a line, whose array is ended.
-fn end_line(text: &mut Vec<u8>, line: &mut Vec<u8>, mut out: Writer) -> Result<(), AllocError>
+pub(crate) fn end_line(
+    text: &mut Vec<u8>,
+    line: &mut Vec<u8>,
+    mut out: Writer,
+) -> Result<(), AllocError>
     ensures { OnOk result (text.new.items ≡ text.old.items
         ++ ((out.before ++ print (out.tokens ++ end_array ∷ [])) ++ line_feed ∷ [])) }
 {
@@ -47,7 +55,7 @@ fn end_line(text: &mut Vec<u8>, line: &mut Vec<u8>, mut out: Writer) -> Result<(
     Ok(())
 }
 
-fn write_name(out: &mut Writer, id: Id) -> Result<(), AllocError>
+pub(crate) fn write_name(out: &mut Writer, id: Id) -> Result<(), AllocError>
     ensures tokens { OnOk result (out.new.tokens ≡ out.old.tokens ++ name_tokens id) }
     ensures before { out.new.before ≡ out.old.before }
 {

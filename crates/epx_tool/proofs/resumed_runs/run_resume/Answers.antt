@@ -6,7 +6,7 @@ use Rattle.epx_types.specs.declared.fault.Fault.TheVariants.{LogTooLong, Read}
 use Rattle.epx_base.specs.Bases.{IsBadBase}
 use Rattle.epx_devices.specs.Transfers.{AppendsPrefix}
 use Rattle.epx_tool.specs.BesideRuns.{IsRunFaultBeside}
-use Rattle.epx_tool.specs.Resumption.{IsResumed}
+use Rattle.epx_tool.specs.Resumption.{IsResumed, Resumes}
 use Rattle.epx_tool.proofs.KnownTexts.{known_answer}
 use Rattle.epx_tool.proofs.LogsBeside.{no_stop}
 use Rattle.epx_tool.proofs.resumed_runs.run_resume.Goals as goal
@@ -26,7 +26,7 @@ returns-in-Err-resume_once-clause-base_untouched g c log stops lower =
 pub returns-clause-text : goal.returns-clause-text
 returns-clause-text g c = on_ok_weaker c.write_out.result (λ written before logs known are. (
   c.in-Ok-resume_once.text.items,
-  known_answer c.in-Ok.read.0.items before (map (λ log. log.items) c.in-Ok.read.1.items) logs (Ok c.in-Ok-resume_once.text.items) (c.in-Ok.ensures.text before known) (c.in-Ok.ensures.bytes logs are) c.in-Ok-resume_once.ensures,
+  known_answer Resumes c.in-Ok.read.0.items before (map (λ log. log.items) c.in-Ok.read.1.items) logs (Ok c.in-Ok-resume_once.text.items) (c.in-Ok.ensures.text before known) (c.in-Ok.ensures.bytes logs are) c.in-Ok-resume_once.ensures,
   subst (Appends _ _) c.deref.ensures.value written,
 )) c.write_out.ensures.bytes
 
@@ -44,12 +44,12 @@ pub returns-clause-refusal : goal.returns-clause-refusal
 returns-clause-refusal g c = IfErr-weaker c.write_out.result _ _ (λ fault is before logs known are.
     subst (IsRunFaultBeside IsBadBase IsResumed before logs) (sym is) (
       c.in-Ok-resume_once.text.items,
-      known_answer c.in-Ok.read.0.items before (map (λ log. log.items) c.in-Ok.read.1.items) logs (Ok c.in-Ok-resume_once.text.items) (c.in-Ok.ensures.text before known) (c.in-Ok.ensures.bytes logs are) c.in-Ok-resume_once.ensures,
+      known_answer Resumes c.in-Ok.read.0.items before (map (λ log. log.items) c.in-Ok.read.1.items) logs (Ok c.in-Ok-resume_once.text.items) (c.in-Ok.ensures.text before known) (c.in-Ok.ensures.bytes logs are) c.in-Ok-resume_once.ensures,
     )) c.write_out.ensures.faults
 
 pub returns-clause-prefix : goal.returns-clause-prefix
 returns-clause-prefix g c is before logs known are = (
   c.in-Ok-resume_once.text.items,
-  known_answer c.in-Ok.read.0.items before (map (λ log. log.items) c.in-Ok.read.1.items) logs (Ok c.in-Ok-resume_once.text.items) (c.in-Ok.ensures.text before known) (c.in-Ok.ensures.bytes logs are) c.in-Ok-resume_once.ensures,
+  known_answer Resumes c.in-Ok.read.0.items before (map (λ log. log.items) c.in-Ok.read.1.items) logs (Ok c.in-Ok-resume_once.text.items) (c.in-Ok.ensures.text before known) (c.in-Ok.ensures.bytes logs are) c.in-Ok-resume_once.ensures,
   subst (AppendsPrefix _ _) c.deref.ensures.value c.write_out.ensures.prefix,
 )

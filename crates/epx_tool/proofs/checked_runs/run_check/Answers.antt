@@ -1,0 +1,55 @@
+use Rattle.std.proofs.Common.{◌≡◌, ◌∙◌, Ok, Err, map, inl, inr, ap, sym, subst}
+use Rattle.std.proofs.lemmas.List.{length-map}
+use Rattle.std.proofs.lemmas.Result.{on_ok_weaker, IfErr-weaker}
+use Rattle.std.specs.Io.KnownBytes.{Appends}
+use Rattle.epx_types.specs.declared.fault.Fault.TheVariants.{LogTooLong, Read}
+use Rattle.epx_base.specs.Lists.{IsBadList}
+use Rattle.epx_devices.specs.Transfers.{AppendsPrefix}
+use Rattle.epx_tool.specs.BesideRuns.{IsRunFaultBeside}
+use Rattle.epx_tool.specs.Checking.{IsChecked, Checks}
+use Rattle.epx_tool.proofs.KnownTexts.{known_answer}
+use Rattle.epx_tool.proofs.LogsBeside.{no_stop}
+use Rattle.epx_tool.proofs.checked_runs.run_check.Goals as goal
+
+pub returns-in-Err-clause-list_untouched : goal.returns-in-Err-clause-list_untouched
+returns-in-Err-clause-list_untouched g c log (inl long) lower = let named : c.in-Err.fault ≡ LogTooLong log = cc long in c.in-Err.ensures.beside_untouched log (inl (ap Err named)) lower
+returns-in-Err-clause-list_untouched g c log (inr unread) lower = let named : c.in-Err.fault ≡ Read log = cc unread in c.in-Err.ensures.beside_untouched log (inr (ap Err named)) lower
+
+pub returns-in-Err-check_once-clause-no_further : goal.returns-in-Err-check_once-clause-no_further
+returns-in-Err-check_once-clause-no_further g c log stops =
+    absurd (no_stop (map (λ log. log.items) c.in-Ok.read.1.items) c.in-Ok.read.0.items IsBadList c.in-Err-check_once.fault log c.in-Ok.ensures.fit c.in-Ok.ensures.short c.in-Err-check_once.ensures stops)
+
+pub returns-in-Err-check_once-clause-list_untouched : goal.returns-in-Err-check_once-clause-list_untouched
+returns-in-Err-check_once-clause-list_untouched g c log stops lower =
+    absurd (no_stop (map (λ log. log.items) c.in-Ok.read.1.items) c.in-Ok.read.0.items IsBadList c.in-Err-check_once.fault log c.in-Ok.ensures.fit c.in-Ok.ensures.short c.in-Err-check_once.ensures stops)
+
+pub returns-clause-text : goal.returns-clause-text
+returns-clause-text g c = on_ok_weaker c.write_out.result (λ written listed logs known are. (
+  c.in-Ok-check_once.text.items,
+  known_answer Checks c.in-Ok.read.0.items listed (map (λ log. log.items) c.in-Ok.read.1.items) logs (Ok c.in-Ok-check_once.text.items) (c.in-Ok.ensures.text listed known) (c.in-Ok.ensures.bytes logs are) c.in-Ok-check_once.ensures,
+  subst (Appends _ _) c.deref.ensures.value written,
+)) c.write_out.ensures.bytes
+
+pub returns-clause-answered : goal.returns-clause-answered
+returns-clause-answered g c = on_ok_weaker c.write_out.result (λ written. (
+  c.in-Ok.read.0.items,
+  map (λ log. log.items) c.in-Ok.read.1.items,
+  c.in-Ok-check_once.text.items,
+  length-map c.in-Ok.read.1.items (λ log. log.items) ∙ c.in-Ok.ensures.each,
+  c.in-Ok-check_once.ensures,
+  subst (Appends _ _) c.deref.ensures.value written,
+)) c.write_out.ensures.bytes
+
+pub returns-clause-refusal : goal.returns-clause-refusal
+returns-clause-refusal g c = IfErr-weaker c.write_out.result _ _ (λ fault is listed logs known are.
+    subst (IsRunFaultBeside IsBadList IsChecked listed logs) (sym is) (
+      c.in-Ok-check_once.text.items,
+      known_answer Checks c.in-Ok.read.0.items listed (map (λ log. log.items) c.in-Ok.read.1.items) logs (Ok c.in-Ok-check_once.text.items) (c.in-Ok.ensures.text listed known) (c.in-Ok.ensures.bytes logs are) c.in-Ok-check_once.ensures,
+    )) c.write_out.ensures.faults
+
+pub returns-clause-prefix : goal.returns-clause-prefix
+returns-clause-prefix g c is listed logs known are = (
+  c.in-Ok-check_once.text.items,
+  known_answer Checks c.in-Ok.read.0.items listed (map (λ log. log.items) c.in-Ok.read.1.items) logs (Ok c.in-Ok-check_once.text.items) (c.in-Ok.ensures.text listed known) (c.in-Ok.ensures.bytes logs are) c.in-Ok-check_once.ensures,
+  subst (AppendsPrefix _ _) c.deref.ensures.value c.write_out.ensures.prefix,
+)

@@ -1,0 +1,5 @@
+use Rattle.epx_tool.proofs.OneAnswer.{IsAuditText-unique}
+use Rattle.epx_tool.proofs.laws.audit_text_is_one.Goals as goal
+
+pub returns : goal.returns
+returns c = IsAuditText-unique

@@ -1,0 +1,5 @@
+use Rattle.epx_tool.proofs.ListsChecked.{check_exists}
+use Rattle.epx_tool.proofs.laws.check_exists.Goals as goal
+
+pub returns : goal.returns
+returns c = check_exists

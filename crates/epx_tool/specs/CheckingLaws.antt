@@ -1,0 +1,41 @@
+-- Laws of checking a list.
+use Rattle.std.specs.Prelude.{◌≡◌, ◌≢◌, ◌↔◌, ℕ, List, slice_get, Some, Result, Ok, Err}
+use Rattle.std.specs.FinMap as contents
+use Rattle.epx_types.specs.declared.id.Id.{Id}
+use Rattle.epx_types.specs.declared.fault.Fault.{Fault}
+use Rattle.epx_types.specs.declared.fault.Fault.TheVariants.{Memory}
+use Rattle.epx_types.specs.Instances.{Instance}
+use Rattle.epx_types.specs.Conflicts.{IsCovered}
+use Rattle.epx_types.specs.Execution.{execute, Execution}
+use Rattle.epx_types.specs.ExecutionOrder.{Ranked, IsExecutionOrder, ranked_ids}
+use Rattle.epx_types.specs.LawfulOrders.{IsLawful, commands_in}
+use Rattle.epx_merge.specs.Acceptance.{IsAccepted}
+use Rattle.epx_base.specs.Lists.{IsList}
+use Rattle.epx_tool.specs.Beside.{IsShort}
+use Rattle.epx_tool.specs.Report.{commands_of}
+use Rattle.epx_tool.specs.Verdicts.{lawful_text}
+use Rattle.epx_tool.specs.Checking.{Checks}
+
+-- a list and logs have an answer other than want of memory
+abbrev pub CheckExists : Type 0
+CheckExists = (list : List ℕ) (logs : List (List ℕ)) → (a : Result (List ℕ) Fault) × (a ≢ Err Memory) × Checks list logs a
+
+-- and one alone, want of memory aside
+abbrev pub CheckIsOne : Type 0
+CheckIsOne = (list : List ℕ) (logs : List (List ℕ)) (a b : Result (List ℕ) Fault) → a ≢ Err Memory → b ≢ Err Memory → Checks list logs a → Checks list logs b → a ≡ b
+
+-- a list is said to be lawful exactly where it is a lawful order of what the logs commit
+abbrev pub LawfulTextMeansLawful : Type 0
+LawfulTextMeansLawful = (list : List ℕ) (logs : List (List ℕ)) (ids : List Id) (m : List Instance) → IsShort list → IsList list ids → IsAccepted logs m →
+    Checks list logs (Ok lawful_text) ↔ IsLawful m ids
+
+-- the same final contents, and the same reply of each instance, wherever it stands in the two orders
+pub record ExecuteAlike (ids other : List Id) (run run' : Execution) : Type 0 where
+  pub final : run.final ≡ run'.final
+  pub replies : (i j : ℕ) (x : Id) → slice_get ids i ≡ Some x → slice_get other j ≡ Some x → slice_get run.replies i ≡ slice_get run'.replies j
+
+-- where the list is said to be lawful and the logs are covered, executing what it names, one after another from the empty store, leads to what the
+-- report of the logs says
+abbrev pub LawfulListExecutesAlike : Type 0
+LawfulListExecutesAlike = (list : List ℕ) (logs : List (List ℕ)) → Checks list logs (Ok lawful_text) → (ids : List Id) (m : List Instance) → IsList list ids → IsAccepted logs m → IsCovered m →
+    (order : List Ranked) → IsExecutionOrder m order → ExecuteAlike ids (ranked_ids order) (execute (commands_in m ids) contents.empty) (execute (commands_of m order) contents.empty)

@@ -1,0 +1,29 @@
+-- What is found of a list of instances that is checked against a committed map, as bytes.
+use Rattle.std.specs.Prelude.{◌≡◌, ◌≢◌, ◌⊎◌, ℕ, List, [], ◌∷◌, codes}
+use Rattle.serde_json.specs.Data.{Data, string}
+use Rattle.epx_types.specs.declared.id.Id.{Id}
+use Rattle.epx_types.specs.Instances.{Instance}
+use Rattle.epx_types.specs.LawfulOrders.{IsLawful}
+use Rattle.epx_base.specs.ReportLines.{data_of_number, line_of}
+use Rattle.epx_order.specs.declared.order_fault.OrderFault.{OrderFault}
+use Rattle.epx_order.specs.declared.order_fault.OrderFault.TheVariants.{Memory, Stranger, Repeat, Missing, Early, Sequence}
+use Rattle.epx_order.specs.OrderFaults.{IsOrderFault}
+
+abbrev pub lawful_text : List ℕ
+lawful_text = line_of (string (codes "lawful") ∷ [])
+
+-- the name of a fault, and its place or its instance; want of memory is no finding
+abbrev pub fault_data : OrderFault → List Data
+fault_data Memory = []
+fault_data (Stranger place) = string (codes "stranger") ∷ data_of_number place ∷ []
+fault_data (Repeat place) = string (codes "repeat") ∷ data_of_number place ∷ []
+fault_data (Missing x) = string (codes "missing") ∷ data_of_number x.replica ∷ data_of_number x.number ∷ []
+fault_data (Early place) = string (codes "early") ∷ data_of_number place ∷ []
+fault_data (Sequence place) = string (codes "sequence") ∷ data_of_number place ∷ []
+
+abbrev pub fault_text : OrderFault → List ℕ
+fault_text fault = line_of (fault_data fault)
+
+-- that the list is a lawful order, or its fault
+abbrev pub IsVerdict : List Instance → List Id → List ℕ → Type 0
+IsVerdict m ids text = (IsLawful m ids × (text ≡ lawful_text)) ⊎ ((fault : OrderFault) × (fault ≢ Memory) × IsOrderFault m ids fault × (text ≡ fault_text fault))
