@@ -3,7 +3,7 @@
 use crate::stage::NOT_UTF_8;
 
 /// Words of every kind, each list with the program's name.
-pub(crate) fn word_lists() -> [&'static [&'static str]; 15] {
+pub(crate) fn word_lists() -> [&'static [&'static str]; 20] {
     [
         &["epx"],
         &["epx", "--help"],
@@ -13,6 +13,11 @@ pub(crate) fn word_lists() -> [&'static [&'static str]; 15] {
         &["epx", "run", "0.jsonl", "1.jsonl", "2.jsonl"],
         &["epx", "resume", "first.report", "second.jsonl"],
         &["epx", "resume", "second.jsonl", "second.jsonl"],
+        &["epx", "audit", "component.jsonl"],
+        &["epx", "audit", "apart.jsonl"],
+        &["epx", "check", "lawful.list", "component.jsonl"],
+        &["epx", "check", "early.list", "component.jsonl"],
+        &["epx", "check", "cut_off.list", "component.jsonl"],
         &["epx", "run", "long.jsonl"],
         &["epx", "run", "0.jsonl", "cut_off.jsonl"],
         &["epx", "run", "0.jsonl", "other.jsonl"],

@@ -1,4 +1,4 @@
 mod Asking
 mod Sources
 mod Statuses
-mod GoingOn
+mod FirstTexts

@@ -4,34 +4,47 @@ use Rattle.std.specs.Io.KnownBytes.{Appends}
 use Rattle.epx_types.specs.declared.fault.Fault.{Fault}
 use Rattle.epx_types.specs.Faults.{fault_status}
 use Rattle.epx_words.specs.declared.asked.Task.{Task}
-use Rattle.epx_words.specs.declared.asked.Task.TheVariants.{Run, Order, Levels, Resume}
+use Rattle.epx_words.specs.declared.asked.Task.TheVariants.{Run, Order, Levels, Resume, Audit, Check}
 use Rattle.epx_base.specs.Bases.{IsBadBase}
+use Rattle.epx_base.specs.Lists.{IsBadList}
 use Rattle.epx_tool.specs.Answer.{Answers}
 use Rattle.epx_tool.specs.BesideRuns.{IsRunFaultBeside}
+use Rattle.epx_tool.specs.Checking.{Checks, IsChecked}
 use Rattle.epx_tool.specs.Report.{IsReport}
 use Rattle.epx_tool.specs.Resumption.{IsResumed, Resumes}
 use Rattle.epx_tool.specs.Runs.{IsRunFault}
 use Rattle.epx_tool.specs.Views.{IsViewed}
 use Rattle.epx_tool.specs.declared.ask.Ask.TheVariants as ask
+use Rattle.epx_program.specs.declared.work.FirstText.{FirstText}
+use Rattle.epx_program.specs.declared.work.FirstText.TheVariants as first
 
--- a base and the logs after it; where no text is given the base is empty
-abbrev pub on_base_and_logs : (List ℕ → List (List ℕ) → Type 0) → List (List ℕ) → Type 0
-on_base_and_logs Is [] = Is [] []
-on_base_and_logs Is (base ∷ logs) = Is base logs
+-- the task that reads this text before its logs
+abbrev pub task_over : FirstText → Task
+task_over first.Base = Resume
+task_over first.List = Check
 
--- the answer that a task asks for of the texts at its paths: of logs, or of a base and then logs
+-- a first text and the logs after it; where no text is given the first one is empty
+abbrev pub on_first_and_logs : (List ℕ → List (List ℕ) → Type 0) → List (List ℕ) → Type 0
+on_first_and_logs Is [] = Is [] []
+on_first_and_logs Is (text ∷ logs) = Is text logs
+
+-- the answer that a task asks for of the texts at its paths: of logs, or of a base or a list and then logs
 abbrev pub IsTaskAnswer : Task → List (List ℕ) → Result (List ℕ) Fault → Type 0
 IsTaskAnswer Run texts answer = Answers IsReport texts answer
 IsTaskAnswer Order texts answer = Answers (IsViewed ask.Order) texts answer
 IsTaskAnswer Levels texts answer = Answers (IsViewed ask.Levels) texts answer
-IsTaskAnswer Resume texts answer = on_base_and_logs (λ base logs. Resumes base logs answer) texts
+IsTaskAnswer Audit texts answer = Answers (IsViewed ask.Audit) texts answer
+IsTaskAnswer Resume texts answer = on_first_and_logs (λ base logs. Resumes base logs answer) texts
+IsTaskAnswer Check texts answer = on_first_and_logs (λ list logs. Checks list logs answer) texts
 
 -- the faults of a task, those of devices among them
 abbrev pub IsTaskFault : Task → List (List ℕ) → Fault → Type 0
 IsTaskFault Run texts fault = IsRunFault IsReport texts fault
 IsTaskFault Order texts fault = IsRunFault (IsViewed ask.Order) texts fault
 IsTaskFault Levels texts fault = IsRunFault (IsViewed ask.Levels) texts fault
-IsTaskFault Resume texts fault = on_base_and_logs (λ base logs. IsRunFaultBeside IsBadBase IsResumed base logs fault) texts
+IsTaskFault Audit texts fault = IsRunFault (IsViewed ask.Audit) texts fault
+IsTaskFault Resume texts fault = on_first_and_logs (λ base logs. IsRunFaultBeside IsBadBase IsResumed base logs fault) texts
+IsTaskFault Check texts fault = on_first_and_logs (λ list logs. IsRunFaultBeside IsBadList IsChecked list logs fault) texts
 
 -- the text that the task asks for of these texts is added
 abbrev pub AppendsAnswer : Task → List (List ℕ) → Option (List ℕ) → Option (List ℕ) → Type 0

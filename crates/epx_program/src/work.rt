@@ -1,20 +1,59 @@
 //! The work itself: sources by the paths, and the answer that the task asks for.
-ghost use Rattle.std.specs.Prelude.{◌≡◌, ◌≢◌, ◌↔◌, true, false, [], ◌∷◌, All, map, None, Some, IfErr, IfOk, IfSome, IsErrOf, OnOk, length, string_bytes};
+ghost use Rattle.std.specs.Prelude.{◌≡◌, ◌≢◌, ◌↔◌, ◌+◌, true, false, [], ◌∷◌, All, map, None, Some, IfErr, IfOk, IfSome, IsErrOf, OnOk, length, string_bytes};
 ghost use Rattle.std.specs.Io.KnownBytes.{Keeps};
-ghost use Rattle.epx_program.specs.Endings.{AddsAnswer, ComesTo};
+ghost use Rattle.epx_program.specs.Endings.{AddsAnswer, ComesTo, task_over};
 ghost use Rattle.epx_tool.specs.Runs.{AreBytesOf};
 
-use epx_tool::{Ask, MemorySource, PathSource, Sink, Source, Task, run, run_resume, show};
+use epx_tool::{
+    Ask, MemorySource, PathSource, Sink, Source, Task, run, run_check, run_resume, show,
+};
 use epx_types::{Fault, Plan};
 use std::alloc::{AllocError, Global};
 use std::random::RandomSource;
 use std::rt::Files;
 use std::thread::Threads;
 
-/// Goes on from the first source over the others. Where there is none, the base is empty.
-fn go_on<R: Threads + RandomSource + Sync, S: Source, W: Sink>(
+/// The text that a task reads before its logs.
+#[derive(Clone, Copy)]
+enum FirstText {
+    /// The base that it goes on from.
+    Base,
+    /// The list that it checks.
+    List,
+}
+
+/// Goes on from the first text over the logs, or checks it against them.
+fn answer_beside<R: Threads + RandomSource + Sync, F: Source, S: Source, W: Sink>(
     rt: &R,
     alloc: Global,
+    kind: FirstText,
+    plan: Plan,
+    first: &mut F,
+    logs: &mut [S],
+    output: &mut W,
+) -> Result<(), Fault>
+    requires first { F.has_failed first.old ≡ false }
+    requires logs { All (λ s. S.has_failed s ≡ false) logs.old }
+    requires output { W.has_failed output.old ≡ false }
+
+    ensures answer { (text : _) (texts : _) → F.remaining first.old ≡ Some text → AreBytesOf S.remaining logs.old texts →
+        ComesTo (task_over kind) (text ∷ texts) result (W.contents output.old) (W.contents output.new) }
+    ensures answered { OnOk result (AddsAnswer (task_over kind) (length logs.old + 1) (W.contents output.old) (W.contents output.new)) }
+    ensures flushed { OnOk result (W.is_flushed output.new ≡ true) }
+    ensures nothing { IfErr result (λ fault. fault ≢ Fault.Write → Keeps (W.contents output.old) (W.contents output.new)) }
+    ensures written { IsErrOf result Fault.Write ↔ (W.has_failed output.new ≡ true) }
+{
+    match kind {
+        FirstText::Base => run_resume(rt, alloc, first, logs, plan, output),
+        FirstText::List => run_check(rt, alloc, first, logs, plan, output),
+    }
+}
+
+/// Answers the first source and the others, which are its logs. Where there is none, the first text is empty.
+fn answer_from_first<R: Threads + RandomSource + Sync, S: Source, W: Sink>(
+    rt: &R,
+    alloc: Global,
+    kind: FirstText,
     plan: Plan,
     sources: &mut [S],
     output: &mut W,
@@ -23,18 +62,18 @@ fn go_on<R: Threads + RandomSource + Sync, S: Source, W: Sink>(
     requires output { W.has_failed output.old ≡ false }
 
     ensures answer { (texts : _) → AreBytesOf S.remaining sources.old texts →
-        ComesTo Task.Resume texts result (W.contents output.old) (W.contents output.new) }
-    ensures answered { OnOk result (AddsAnswer Task.Resume (length sources.old) (W.contents output.old) (W.contents output.new)) }
+        ComesTo (task_over kind) texts result (W.contents output.old) (W.contents output.new) }
+    ensures answered { OnOk result (AddsAnswer (task_over kind) (length sources.old) (W.contents output.old) (W.contents output.new)) }
     ensures flushed { OnOk result (W.is_flushed output.new ≡ true) }
     ensures nothing { IfErr result (λ fault. fault ≢ Fault.Write → Keeps (W.contents output.old) (W.contents output.new)) }
     ensures written { IsErrOf result Fault.Write ↔ (W.has_failed output.new ≡ true) }
 {
     match sources.split_first_mut() {
-        Some((base, logs)) => run_resume(rt, alloc, base, logs, plan, output),
+        Some((first, logs)) => answer_beside(rt, alloc, kind, plan, first, logs, output),
         None => {
-            let mut base = MemorySource::new(&[]);
+            let mut first = MemorySource::new(&[]);
             let mut logs: [MemorySource; 0] = [];
-            run_resume(rt, alloc, &mut base, &mut logs, plan, output)
+            answer_beside(rt, alloc, kind, plan, &mut first, &mut logs, output)
         }
     }
 }
@@ -62,7 +101,9 @@ fn answer<R: Threads + RandomSource + Sync, S: Source, W: Sink>(
         Task::Run => run(rt, alloc, sources, plan, output),
         Task::Order => show(rt, alloc, Ask::Order, sources, plan, output),
         Task::Levels => show(rt, alloc, Ask::Levels, sources, plan, output),
-        Task::Resume => go_on(rt, alloc, plan, sources, output),
+        Task::Audit => show(rt, alloc, Ask::Audit, sources, plan, output),
+        Task::Resume => answer_from_first(rt, alloc, FirstText::Base, plan, sources, output),
+        Task::Check => answer_from_first(rt, alloc, FirstText::List, plan, sources, output),
     }
 }
 

@@ -1,4 +1,4 @@
-use Rattle.epx_words.specs.declared.asked.Task.TheVariants.{Run, Order, Levels, Resume}
+use Rattle.epx_words.specs.declared.asked.Task.TheVariants.{Run, Order, Levels, Audit}
 use Rattle.epx_program.proofs.Statuses.{comes-to}
 use Rattle.epx_program.proofs.work.answer.Goals as goal
 
@@ -20,8 +20,20 @@ returns-in-Order-clause-answered g c = rw c.in-Order.is c.show.ensures.answered
 pub returns-in-Levels-clause-answered : goal.returns-in-Levels-clause-answered
 returns-in-Levels-clause-answered g c = rw c.in-Levels.is c.show-in-Levels.ensures.answered
 
+pub returns-in-Audit-clause-answer : goal.returns-in-Audit-clause-answer
+returns-in-Audit-clause-answer g c = rw c.in-Audit.is (comes-to g.S.Source.remaining c.args.sources.now Audit c.show-in-Audit.result (g.W.Sink.contents c.args.output.now) (g.W.Sink.contents c.show-in-Audit.new.sink) c.show-in-Audit.ensures.text c.show-in-Audit.ensures.refusal)
+
+pub returns-in-Audit-clause-answered : goal.returns-in-Audit-clause-answered
+returns-in-Audit-clause-answered g c = rw c.in-Audit.is c.show-in-Audit.ensures.answered
+
 pub returns-in-Resume-clause-answer : goal.returns-in-Resume-clause-answer
-returns-in-Resume-clause-answer g c = rw c.in-Resume.is c.go_on.ensures.answer
+returns-in-Resume-clause-answer g c = rw c.in-Resume.is c.answer_from_first.ensures.answer
 
 pub returns-in-Resume-clause-answered : goal.returns-in-Resume-clause-answered
-returns-in-Resume-clause-answered g c = rw c.in-Resume.is c.go_on.ensures.answered
+returns-in-Resume-clause-answered g c = rw c.in-Resume.is c.answer_from_first.ensures.answered
+
+pub returns-in-Check-clause-answer : goal.returns-in-Check-clause-answer
+returns-in-Check-clause-answer g c = rw c.in-Check.is c.answer_from_first-in-Check.ensures.answer
+
+pub returns-in-Check-clause-answered : goal.returns-in-Check-clause-answered
+returns-in-Check-clause-answered g c = rw c.in-Check.is c.answer_from_first-in-Check.ensures.answered
