@@ -1,5 +1,5 @@
 -- Places of what is left of a committed map.
-use Rattle.std.proofs.Common.{◌≡◌, ◌++◌, ℕ, zero, suc, ◌+◌, List, [], ◌∷◌, length, take, filter, map, get_or, slice_get, Some, Contains, refl, sym, ap, ◌∙◌, inl, inr, cond, not}
+use Rattle.std.proofs.Common.{◌≡◌, ◌++◌, ℕ, zero, suc, ◌+◌, List, [], ◌∷◌, length, take, filter, map, get_or, slice_get, Some, Contains, ap, ◌∙◌, inl, inr, cond, not}
 use Rattle.std.proofs.lemmas.List.{map-append, append-nil}
 use Rattle.std.proofs.lemmas.List.Elements.{filter_more}
 use Rattle.std.proofs.lemmas.Option.{slice_get_within, get_or_from_slice_get}
