@@ -8,6 +8,7 @@ mod Filled
 mod Finding
 mod MissingIds
 mod LeftInstances
+mod Neighbours
 mod Numbering
 mod RisingRows
 mod GatheredParts

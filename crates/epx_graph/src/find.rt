@@ -1,6 +1,7 @@
 //! Ids found among rising ones.
-ghost use Rattle.std.specs.Prelude.{◌≡◌, Contains, MatchOption, Some, slice_get};
-ghost use Rattle.epx_types.specs.Ids.{IsRising};
+ghost use Rattle.std.specs.Prelude.{◌≡◌, ◌<◌, ◌≤◌, ℕ, length, Contains, IsTrue, MatchOption, Some, slice_get, slice_index_or};
+ghost use Rattle.epx_types.specs.declared.id.Id.{Id};
+ghost use Rattle.epx_types.specs.Ids.{Below, IsRising};
 
 use epx_types::Id;
 
@@ -13,4 +14,34 @@ pub(crate) fn find(ids: &[Id], id: Id) -> Option<usize>
         Ok(place) => Some(place),
         Err(_) => None,
     }
+}
+
+/// Whether rising Ids are seen to be below one, as far as a place.
+fn is_above_before(ids: &[Id], place: usize, id: Id) -> bool
+    requires { IsRising ids.now }
+    ensures { IsTrue result → (k : ℕ) (d : Id) → k < place → Below (slice_index_or ids.now k d) id }
+{
+    if place == 0 {
+        return true;
+    }
+    place <= ids.len() && ids[place - 1] < id
+}
+
+/// Whether rising Ids are seen to be above one, from a place on.
+fn is_below_from(ids: &[Id], place: usize, id: Id) -> bool
+    requires { IsRising ids.now }
+    ensures { IsTrue result → (k : ℕ) (d : Id) → place ≤ k → k < length ids.now → Below id (slice_index_or ids.now k d) }
+{
+    if place >= ids.len() {
+        return true;
+    }
+    id < ids[place]
+}
+
+/// Whether an Id is seen to be absent from rising ones, since it would stand between the neighbours of a place.
+pub(crate) fn is_absent(ids: &[Id], place: usize, id: Id) -> bool
+    requires { IsRising ids.now }
+    ensures { IsTrue result → ¬ Contains ids.now id }
+{
+    is_above_before(ids, place, id) && is_below_from(ids, place, id)
 }

@@ -5,8 +5,8 @@ ghost use Rattle.epx_types.specs.Done.{rest_of, without_deps};
 ghost use Rattle.epx_types.specs.Ids.{IsRising};
 ghost use Rattle.epx_graph.specs.Left.{IsFound, StandsAt, left_of};
 
-use crate::find::find;
-use epx_merge::{Merged, Runs};
+use crate::find::{find, is_absent};
+use epx_merge::{Guesses, Merged};
 use epx_types::{Entry, Id, Memory};
 use std::alloc::Global;
 use std::marker::Model;
@@ -26,8 +26,8 @@ pub(crate) enum Found {
 pub(crate) struct Left<'a> {
     merged: &'a Merged,
     done: &'a [Id],
-    /// Where the done instances of each replica begin.
-    runs: Runs,
+    /// Where the done instances stand.
+    guesses: Guesses,
     /// The position in the map of each instance that is left. Empty where nothing is done: the map itself is left then,
     /// and no table is looked up.
     positions: Vec<usize>,
@@ -49,29 +49,58 @@ impl<'a> Model for Left<'a> {
         IsRising (ids_of r.whole) × IsRising r.done × (0 < length r.done → AreTables r l.positions.items l.places.items (length r.whole)) };
 }
 
-/// Where the done instances of each replica begin.
-fn runs_of(done: &[Id]) -> Runs {
-    let mut runs = Runs::new();
+/// Guesses of where done instances stand.
+fn guesses_of(alloc: Global, done: &[Id]) -> Result<Guesses, Memory> {
+    let mut guesses = Guesses::new(alloc);
     for (place, id) in done.iter().enumerate() {
-        runs.note(*id, place);
+        guesses.note(*id, place)?;
     }
-    runs
+    Ok(guesses)
 }
 
-/// Whether an instance stands where its replica's done instances would without gaps, so that it is done.
-fn is_guessed(done: &[Id], runs: &Runs, id: Id) -> bool
+/// Whether an instance stands at a place among done ones.
+fn is_at(done: &[Id], place: usize, id: Id) -> bool
     ensures { IsTrue result → Contains done.now id }
 {
-    let place = runs.guess(id);
     place < done.len() && done[place] == id
 }
 
+/// Whether an instance stands where it is guessed, so that it is done.
+fn is_guessed(done: &[Id], guesses: &Guesses, id: Id) -> bool
+    ensures { IsTrue result → Contains done.now id }
+{
+    match guesses.guess(id) {
+        Some(place) => is_at(done, place, id),
+        None => false,
+    }
+}
+
 /// Whether an instance is done: mostly it stands where it is guessed, and else is looked for by halving.
-fn is_done(done: &[Id], runs: &Runs, id: Id) -> bool
+fn is_done(done: &[Id], guesses: &Guesses, id: Id) -> bool
     requires { IsRising done.now }
     ensures { IsTrue result ↔ Contains done.now id }
 {
-    is_guessed(done, runs, id) || find(done, id).is_some()
+    is_guessed(done, guesses, id) || find(done, id).is_some()
+}
+
+/// The first place from one on whose Id is not below.
+fn first_from(done: &[Id], start: usize, id: Id) -> usize {
+    let mut place = start;
+    while place < done.len() && done[place] < id {
+        place += 1;
+    }
+    place
+}
+
+/// Whether an instance is done: mostly its neighbours at a place show it, and else it is looked for by halving.
+fn is_done_near(done: &[Id], place: usize, id: Id) -> bool
+    requires { IsRising done.now }
+    ensures { IsTrue result ↔ Contains done.now id }
+{
+    if is_at(done, place, id) {
+        return true;
+    }
+    !is_absent(done, place, id) && find(done, id).is_some()
 }
 
 impl<'a> Left<'a> {
@@ -80,13 +109,17 @@ impl<'a> Left<'a> {
         requires { IsRising done.now }
         ensures { IfOk result (λ left. left ≡ record { whole = merged.now; done = done.now }) }
     {
-        let runs = runs_of(done);
+        let guesses = guesses_of(alloc, done)?;
         let mut positions = Vec::new(alloc);
         let mut places = Vec::new(alloc);
         let all = merged.len();
         let tabled = if done.is_empty() { 0 } else { all };
+        let mut below = 0;
         for position in 0..tabled {
-            if is_done(done, &runs, merged.id_at(position)) {
+            let id = merged.id_at(position);
+            // Both rise, so the done instances are gone over once.
+            below = first_from(done, below, id);
+            if is_done_near(done, below, id) {
                 places.push(None)?;
                 continue;
             }
@@ -96,7 +129,7 @@ impl<'a> Left<'a> {
         Ok(Left {
             merged,
             done,
-            runs,
+            guesses,
             positions,
             places,
         })
@@ -145,7 +178,7 @@ impl<'a> Left<'a> {
         ensures { IsFound self.now id result }
     {
         // What is done is seldom in the map as well, and would then be searched there for nothing.
-        if is_guessed(self.done, &self.runs, id) {
+        if is_guessed(self.done, &self.guesses, id) {
             return Found::Done;
         }
         if let Some(position) = self.merged.position(id) {
@@ -157,7 +190,7 @@ impl<'a> Left<'a> {
                 None => Found::Done,
             };
         }
-        if is_done(self.done, &self.runs, id) {
+        if is_done(self.done, &self.guesses, id) {
             Found::Done
         } else {
             Found::Missing
@@ -173,7 +206,7 @@ impl<'a> Left<'a> {
         }
         let mut count = 0;
         for id in ids {
-            if is_done(self.done, &self.runs, *id) {
+            if is_done(self.done, &self.guesses, *id) {
                 continue;
             }
             count += 1;

@@ -8,7 +8,7 @@ ghost use Rattle.epx_merge.specs.Steps.{IsMerged, IsMergeFault};
 use crate::limits::MAX_INSTANCES;
 use crate::merged::Merged;
 use crate::placed::PlacedEntry;
-use crate::rows::rows_of;
+use crate::rows::{guesses_of, rows_of};
 use crate::same::same_entry;
 use epx_seed::Seed;
 use epx_types::{Fault, Id, Memory, Place};
@@ -105,6 +105,9 @@ impl Ledger {
         let Ok(rows) = rows_of(alloc, names.as_slice()) else {
             return Err(Fault::Memory);
         };
+        let Ok(guesses) = guesses_of(alloc, &rows) else {
+            return Err(Fault::Memory);
+        };
         let Ok(()) = clashes.sort_unstable_keys() else {
             return Err(Fault::Memory);
         };
@@ -117,7 +120,7 @@ impl Ledger {
                 first: clash.first,
                 second: clash.second,
             }),
-            None => Ok(Merged::new(firsts, rows)),
+            None => Ok(Merged::new(firsts, rows, guesses)),
         }
     }
 }

@@ -2,6 +2,7 @@
 #![tactic(auto)]
 
 mod front;
+mod guesses;
 pub mod laws;
 mod laying;
 mod ledger;
@@ -13,11 +14,10 @@ mod placed;
 mod reading;
 mod repeats;
 mod rows;
-mod runs;
 mod same;
 mod walk;
 
+pub use guesses::Guesses;
 pub use limits::{MAX_INSTANCES, MAX_LOG_BYTES, MAX_LOGS, first_too_long};
 pub use merged::Merged;
 pub use reading::read_logs;
-pub use runs::Runs;

@@ -4,9 +4,9 @@ ghost use Rattle.epx_types.specs.CommittedMap.{ids_of, instance_of, position_of}
 ghost use Rattle.epx_types.specs.Ids.{IsRising};
 ghost use Rattle.epx_merge.specs.Keyed.{IsKeyed, instances_at};
 
+use crate::guesses::Guesses;
 use crate::placed::PlacedEntry;
 use crate::rows::{Row, find};
-use crate::runs::Runs;
 use epx_types::{Entry, Id};
 use std::marker::Model;
 
@@ -16,7 +16,7 @@ pub struct Merged {
     lines: Vec<PlacedEntry>,
     /// The lines by rising Id.
     rows: Vec<Row>,
-    runs: Runs,
+    guesses: Guesses,
 }
 
 impl Model for Merged {
@@ -31,33 +31,27 @@ impl Model for Merged {
     ghost invariant = { λ m. IsKeyed m.lines.items m.rows.items };
 }
 
-/// Where the rows of each replica begin.
-fn runs_of(rows: &[Row]) -> Runs {
-    let mut runs = Runs::new();
-    for (position, row) in rows.iter().enumerate() {
-        runs.note(row.id, position);
-    }
-    runs
-}
-
 impl Merged {
-    pub(crate) fn new(lines: Vec<PlacedEntry>, rows: Vec<Row>) -> Merged
+    pub(crate) fn new(lines: Vec<PlacedEntry>, rows: Vec<Row>, guesses: Guesses) -> Merged
         requires { IsKeyed lines.items rows.items }
         ensures { result ≡ instances_at lines.items rows.items }
     {
-        let runs = runs_of(&rows);
-        Merged { lines, rows, runs }
+        Merged {
+            lines,
+            rows,
+            guesses,
+        }
     }
 
-    /// Where the instance stands: mostly where its replica's instances would without gaps, and else
-    /// found by halving.
+    /// Where the instance stands: mostly where it is guessed, and else found by halving.
     fn found(&self, id: Id) -> Option<usize>
         ensures position { result ≡ position_of self.now id }
         ensures rising { IsRising (ids_of self.now) }
     {
-        let position = self.runs.guess(id);
-        if position < self.rows.len() && self.rows[position].id == id {
-            return Some(position);
+        if let Some(position) = self.guesses.guess(id) {
+            if position < self.rows.len() && self.rows[position].id == id {
+                return Some(position);
+            }
         }
         find(&self.rows, id)
     }
