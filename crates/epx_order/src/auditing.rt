@@ -16,10 +16,12 @@ use crate::order_list::OrderList;
 use crate::partition::Partition;
 use crate::related::{find_reached, find_reaching};
 use crate::search::find_components;
+use crate::touches::start_of;
 use epx_graph::Graph;
 use epx_merge::Merged;
 use epx_types::{Id, Memory};
 use std::alloc::Global;
+use std::hash::DefaultHasher;
 
 /// The least two ready instances, by the lower Id and then by the other one, that conflict and of which
 /// neither reaches the other, if there are any.
@@ -33,7 +35,13 @@ pub fn audit(
     requires order { IsExecutionOrder merged.now order.now }
     ensures { IfOk result (λ found. MatchOption found (IsCovered merged.now) (λ pair. IsLeastUncovered merged.now pair.0 pair.1)) }
 {
-    if is_seen_covered(alloc, merged, graph, order)? {
+    // To make a start from all keys takes as long as the look itself, and only keys that were picked to fall
+    // together need one.
+    if is_seen_covered(alloc, merged, graph, order, DefaultHasher::new())? {
+        return Ok(None);
+    }
+    let start = start_of(alloc, merged)?;
+    if is_seen_covered(alloc, merged, graph, order, start)? {
         return Ok(None);
     }
     let partition = find_components(alloc, graph)?;

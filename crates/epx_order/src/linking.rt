@@ -11,31 +11,32 @@ ghost use Rattle.epx_order.specs.Touches.{ArePlaced};
 ghost use Rattle.epx_order.specs.Ways.{AreNodesOf, IsWays};
 
 use crate::order_list::OrderList;
-use crate::touches::{Touch, find_touches, start_of};
+use crate::touches::{Touch, find_touches};
 use crate::walk::Walk;
 use crate::ways::Ways;
 use epx_graph::Graph;
 use epx_merge::Merged;
 use epx_types::{Id, Memory};
 use std::alloc::Global;
+use std::hash::DefaultHasher;
 
 /// Whether the commands that touch a key are seen to be related, key by key: each that writes it
 /// reaches the last one that did and all that touched it since, and each that reads it reaches the
 /// last one that wrote it. The rest follows, so that about two pairs a touch are asked for.
 ///
-/// A yes is sure. A no is not: two keys may share a hash.
+/// A yes is sure. A no is not: two keys may share a hash, which is made from the start.
 pub(crate) fn is_seen_covered(
     alloc: Global,
     merged: &Merged,
     graph: &Graph,
     order: &OrderList,
+    start: DefaultHasher,
 ) -> Result<bool, Memory>
     requires graph { IsGraphOf merged.now graph.now }
     requires order { IsExecutionOrder merged.now order.now }
     ensures { IfOk result (λ yes. IsTrue yes → IsCovered merged.now) }
 {
     let nodes = order_nodes(alloc, merged, order)?;
-    let start = start_of(alloc, merged)?;
     let touches = find_touches(alloc, merged, &nodes, start)?;
     let ways = Ways::of(alloc, graph, order, nodes)?;
     are_linked(alloc, graph, &ways, &touches)

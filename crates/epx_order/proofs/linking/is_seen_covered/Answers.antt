@@ -30,7 +30,7 @@ returns c = IfOk-weaker c.are_linked.result
     (λ yes. IsTrue yes → IsCovered c.args.merged.now) (λ yes linked sure.
     let m = c.args.merged.now in
     let g = c.args.graph.now in
-    let start = c.in_ok-start.start in
+    let start = c.args.start in
     let nodes = c.in_ok-nodes.nodes.items in
     let ways = c.in_ok-ways.ways.nodes.items in
     let touches = c.in_ok-touches.touches.items in
