@@ -42,3 +42,4 @@ pub mod LinkLemmas
 pub mod LinkedMaps
 pub mod LinkedNodes
 pub mod UncoveredExists
+pub mod ListFaults

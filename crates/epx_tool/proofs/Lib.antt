@@ -16,7 +16,6 @@ mod ResumptionsExist
 mod ReportsAreBases
 mod KnownTexts
 mod OrderLines
-mod ListFaults
 mod OneVerdict
 mod ListsChecked
 mod ListsExecuted

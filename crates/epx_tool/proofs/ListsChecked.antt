@@ -10,7 +10,7 @@ use Rattle.epx_tool.specs.Checking.{IsChecked}
 use Rattle.epx_tool.specs.CheckingLaws.{CheckExists, CheckIsOne}
 use Rattle.epx_tool.specs.Verdicts.{IsVerdict, lawful_text, fault_text}
 use Rattle.epx_tool.proofs.AnswersBesideExist.{answer_beside_exists}
-use Rattle.epx_tool.proofs.ListFaults.{lawful_or_fault}
+use Rattle.epx_order.proofs.ListFaults.{lawful_or_fault}
 use Rattle.epx_tool.proofs.OneAnswerBeside.{AnswersBeside-unique}
 use Rattle.epx_tool.proofs.OneVerdict.{IsVerdict-unique}
 
