@@ -2,6 +2,7 @@
 //! a whole log and writing a whole text.
 #![tactic(auto)]
 
+mod again;
 mod device;
 mod fuse;
 mod fuse_sink;

@@ -5,14 +5,15 @@ ghost use Rattle.std.specs.Io.KnownBytes.{ReadConsumes};
 ghost use Rattle.epx_devices.specs.Devices.{failed_after};
 ghost use Rattle.epx_devices.specs.WatchedDevices.{GivesNext};
 
+use crate::again::read_again;
 use crate::device::{DeviceFault, Source};
-use std::fs;
-use std::io::{self, Read};
 use std::marker::Model;
 use std::rt::Files;
+use std::{fs, io};
 
 /// Reads the file at a path. The file is opened at the first read, so an open that fails is a read
-/// that fails, and what is never read is never opened.
+/// that fails, and what is never read is never opened. A read that was interrupted is made again, unless it is again
+/// and again.
 #[derive(Drop)]
 pub struct PathSource<'a, R: Files> {
     rt: &'a R,
@@ -55,7 +56,7 @@ impl<'a, R: Files> PathSource<'a, R> {
             Some(file) => file,
             None => fs::open(self.rt, self.path)?,
         };
-        let count = file.read(part);
+        let count = read_again(&mut file, part);
         self.file = Some(file);
         count
     }

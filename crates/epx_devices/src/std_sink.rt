@@ -1,12 +1,13 @@
 //! A sink over std's writers.
 ghost use Rattle.std.specs.Prelude.{◌≡◌, false};
 
+use crate::again::{flush_again, write_again};
 use crate::device::{DeviceFault, Sink};
 use std::io::Write;
 use std::marker::Model;
 
-/// Writes to any writer. A write that takes nothing of a part that has bytes counts as an error, and
-/// so does one that was interrupted.
+/// Writes to any writer. A write that takes nothing of a part that has bytes counts as an error. A call that was
+/// interrupted is made again, unless it is again and again.
 #[derive(Drop)]
 pub struct StdSink<W> {
     writer: W,
@@ -43,7 +44,7 @@ impl<W: Write> Sink for StdSink<W> {
 
     fn write_some(&mut self, part: &[u8]) -> Result<usize, DeviceFault> {
         self.flushed = false;
-        match self.writer.write(part) {
+        match write_again(&mut self.writer, part) {
             Ok(count) if count > 0 || part.is_empty() => Ok(count),
             _ => {
                 self.failed = true;
@@ -53,7 +54,7 @@ impl<W: Write> Sink for StdSink<W> {
     }
 
     fn flush(&mut self) -> Result<(), DeviceFault> {
-        match self.writer.flush() {
+        match flush_again(&mut self.writer) {
             Ok(()) => {
                 self.flushed = true;
                 Ok(())

@@ -1,11 +1,12 @@
 //! A source over std's readers.
 ghost use Rattle.std.specs.Prelude.{◌≡◌, false};
 
+use crate::again::read_again;
 use crate::device::{DeviceFault, Source};
 use std::io::Read;
 use std::marker::Model;
 
-/// Reads from any reader. A read that was interrupted counts as an error too.
+/// Reads from any reader. A read that was interrupted is made again, unless it is again and again.
 #[derive(Drop)]
 pub struct StdSource<R> {
     reader: R,
@@ -37,7 +38,7 @@ impl<R: Read> Source for StdSource<R> {
     ghost has_failed = { λ s. s.failed };
 
     fn read_some(&mut self, part: &mut [u8]) -> Result<usize, DeviceFault> {
-        match self.reader.read(part) {
+        match read_again(&mut self.reader, part) {
             Ok(count) => Ok(count),
             Err(_) => {
                 self.failed = true;

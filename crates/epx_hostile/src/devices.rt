@@ -2,10 +2,12 @@
 ghost use Rattle.std.specs.Prelude.{◌≡◌, ◌≤◌, false};
 
 use crate::given::{LEAST, LEAST_ORDER, LEAST_REPORT, Wanted, is_right, plan};
-use epx_tool::{Ask, FuseSink, FuseSource, MemorySink, Sink, StdSource, run, show};
+use epx_tool::{
+    Ask, FuseSink, FuseSource, MemorySink, MemorySource, Sink, StdSink, StdSource, run, show,
+};
 use epx_types::Fault;
-use std::alloc::AllocGlobal;
-use std::io::{self, Error, ErrorKind, Read};
+use std::alloc::{AllocGlobal, Global};
+use std::io::{self, Error, ErrorKind, Read, Write};
 use std::process::Abort;
 use std::random::RandomSource;
 use std::test::Fail;
@@ -120,33 +122,108 @@ fn few_bytes_at_once(rt: HostRuntime) -> Result<(), Fail> {
     Ok(())
 }
 
-/// Gives bytes one by one, and is interrupted once it has given them all.
+/// Gives or takes bytes one by one, and is interrupted so often before each call that succeeds.
 #[derive(Drop)]
 struct Interrupted<'a> {
     left: &'a [u8],
+    taken: Vec<u8>,
+    times: usize,
+    due: usize,
+}
+
+impl<'a> Interrupted<'a> {
+    fn new(alloc: Global, left: &'a [u8], times: usize) -> Interrupted<'a> {
+        Interrupted {
+            left,
+            taken: Vec::new(alloc),
+            times,
+            due: times,
+        }
+    }
+
+    /// An error where an interruption is due.
+    fn interrupt(&mut self) -> io::Result<()> {
+        if self.due > 0 {
+            self.due -= 1;
+            return Err(Error::from(ErrorKind::Interrupted));
+        }
+        self.due = self.times;
+        Ok(())
+    }
 }
 
 impl Read for Interrupted<'_> {
     fn read(&mut self, part: &mut [u8]) -> io::Result<usize> {
+        self.interrupt()?;
         let count = self.left.len().min(part.len()).min(1);
-        if count == 0 {
-            return Err(Error::from(ErrorKind::Interrupted));
+        if count == 1 {
+            part[0] = self.left[0];
+            self.left = &self.left[1..];
         }
-        part[0] = self.left[0];
-        self.left = &self.left[1..];
         Ok(count)
     }
 }
 
-#[test]
-fn a_reader_that_is_interrupted(rt: HostRuntime) -> Result<(), Fail> {
-    let reader = Interrupted {
-        left: LEAST.as_bytes(),
-    };
+impl Write for Interrupted<'_> {
+    fn write(&mut self, part: &[u8]) -> io::Result<usize> {
+        self.interrupt()?;
+        if part.is_empty() || self.taken.push(part[0]).is_err() {
+            return Ok(0);
+        }
+        Ok(1)
+    }
+
+    fn flush(&mut self) -> io::Result<()> {
+        self.interrupt()
+    }
+}
+
+/// What comes of a run over a reader that is interrupted so often before each byte.
+fn run_over_interrupted<R: AllocGlobal + Threads + RandomSource + Sync>(
+    rt: &R,
+    times: usize,
+    wanted: Wanted,
+) -> Result<bool, Fail> {
+    let reader = Interrupted::new(rt.alloc(), LEAST.as_bytes(), times);
     let mut sources = [StdSource::new(reader)];
     let mut sink = MemorySink::new(rt.alloc());
-    let outcome = run(&rt, rt.alloc(), &mut sources, plan()?, &mut sink);
-    let wanted: Wanted = Err(Fault::Read { log: 0 });
-    assert!(rt; is_right(outcome, sink.bytes(), wanted)?);
+    let outcome = run(rt, rt.alloc(), &mut sources, plan()?, &mut sink);
+    is_right(outcome, sink.bytes(), wanted)
+}
+
+#[test]
+fn interrupted_reads_are_made_again(rt: HostRuntime) -> Result<(), Fail> {
+    assert!(rt; run_over_interrupted(&rt, 3, Ok(LEAST_REPORT))?);
+    Ok(())
+}
+
+#[test]
+fn a_reader_that_is_always_interrupted(rt: HostRuntime) -> Result<(), Fail> {
+    assert!(rt; run_over_interrupted(&rt, usize::MAX, Err(Fault::Read { log: 0 }))?);
+    Ok(())
+}
+
+/// What comes of a run to a writer that is interrupted so often before each byte, and what it took.
+fn run_to_interrupted<R: AllocGlobal + Threads + RandomSource + Sync>(
+    rt: &R,
+    times: usize,
+    wanted: Wanted,
+) -> Result<bool, Fail> {
+    let mut writer = Interrupted::new(rt.alloc(), &[], times);
+    let mut sources = [MemorySource::new(LEAST.as_bytes())];
+    let mut sink = StdSink::new(&mut writer);
+    let outcome = run(rt, rt.alloc(), &mut sources, plan()?, &mut sink);
+    is_right(outcome, &writer.taken, wanted)
+}
+
+#[test]
+fn interrupted_writes_are_made_again(rt: HostRuntime) -> Result<(), Fail> {
+    assert!(rt; run_to_interrupted(&rt, 3, Ok(LEAST_REPORT))?);
+    Ok(())
+}
+
+#[test]
+fn a_writer_that_is_always_interrupted(rt: HostRuntime) -> Result<(), Fail> {
+    assert!(rt; run_to_interrupted(&rt, usize::MAX, Err(Fault::Write))?);
     Ok(())
 }

@@ -1,0 +1,65 @@
+//! Calls that a signal interrupted, made again.
+ghost use Rattle.std.specs.Io.{ReadsAtMost, WritesAtMost};
+ghost use Rattle.std.specs.Io.KnownBytes.{Keeps, ReadConsumes, WriteAppends};
+
+use std::io::{self, Error, ErrorKind, Read, Write};
+
+/// A call that is interrupted more often than this in a row fails, so that each call returns.
+const MOST_AGAIN: usize = 1_000;
+
+fn is_interrupted(error: &Error) -> bool {
+    error.kind() == ErrorKind::Interrupted
+}
+
+/// Reads, and again where that was interrupted.
+pub(crate) fn read_again<R: Read>(reader: &mut R, part: &mut [u8]) -> io::Result<usize>
+    ensures bound { ReadsAtMost result part.new }
+    ensures bytes { ReadConsumes (R.remaining reader.old) (R.remaining reader.new) result part.new }
+{
+    for _ in 0..MOST_AGAIN {
+        match reader.read(part) {
+            Ok(count) => return Ok(count),
+            Err(error) => {
+                if !is_interrupted(&error) {
+                    return Err(error);
+                }
+            }
+        }
+    }
+    reader.read(part)
+}
+
+/// Writes, and again where that was interrupted.
+pub(crate) fn write_again<W: Write>(writer: &mut W, part: &[u8]) -> io::Result<usize>
+    ensures bound { WritesAtMost result part.now }
+    ensures bytes { WriteAppends (W.contents writer.old) (W.contents writer.new) result part.now }
+{
+    for _ in 0..MOST_AGAIN {
+        match writer.write(part) {
+            Ok(count) => return Ok(count),
+            Err(error) => {
+                if !is_interrupted(&error) {
+                    return Err(error);
+                }
+            }
+        }
+    }
+    writer.write(part)
+}
+
+/// Flushes, and again where that was interrupted.
+pub(crate) fn flush_again<W: Write>(writer: &mut W) -> io::Result<()>
+    ensures { Keeps (W.contents writer.old) (W.contents writer.new) }
+{
+    for _ in 0..MOST_AGAIN {
+        match writer.flush() {
+            Ok(()) => return Ok(()),
+            Err(error) => {
+                if !is_interrupted(&error) {
+                    return Err(error);
+                }
+            }
+        }
+    }
+    writer.flush()
+}
