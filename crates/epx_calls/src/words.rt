@@ -115,7 +115,9 @@ fn logs_keep_their_order(rt: HostRuntime) -> Result<(), Fail> {
 #[test]
 fn a_path_may_start_with_a_hyphen(rt: HostRuntime) -> Result<(), Fail> {
     let words = ["epx", "run", "a", "--", "-b", "--cut"];
-    expect_logs(&rt, rt.alloc(), &words, Task::Run, &["a", "-b", "--cut"])
+    expect_logs(&rt, rt.alloc(), &words, Task::Run, &["a", "-b", "--cut"])?;
+    let words = ["epx", "run", "a", "-", "./-"];
+    expect_logs(&rt, rt.alloc(), &words, Task::Run, &words[2..])
 }
 
 #[test]
@@ -213,6 +215,15 @@ fn numbers_reach_the_ends_of_their_ranges(rt: HostRuntime) -> Result<(), Fail> {
     expect_work(&rt, rt.alloc(), &words, wanted, Some(&[]))
 }
 
+/// Why a path without a subcommand is refused, and what is meant to help.
+const UNKNOWN: &str = "error: unrecognized subcommand 'a.jsonl'
+
+Usage: epx [COMMAND]
+
+For more information, try '--help'.
+To execute logs, put 'run' before them: 'epx run LOG..'.
+";
+
 /// Why words without a base are refused.
 const RESUME_ALONE: &str = "error: the following required arguments were not provided:
   <BASE>
@@ -233,7 +244,7 @@ For more information, try '--help'.
 
 #[test]
 fn refused_words_are_named(rt: HostRuntime) -> Result<(), Fail> {
-    let cases: [(&[&str], &str); 24] = [
+    let cases: [(&[&str], &str); 25] = [
         (&["epx", "run", "--workers=0"], "--workers"),
         (&["epx", "run", "--workers=65"], "--workers"),
         (&["epx", "run", "--workers=many"], "--workers"),
@@ -254,6 +265,7 @@ fn refused_words_are_named(rt: HostRuntime) -> Result<(), Fail> {
         (&["epx", "audit", "--cut=0"], "--cut"),
         (&["epx", "audit", "--list", "a"], "--list"),
         (&["epx", "replay"], "replay"),
+        (&["epx", "a.jsonl"], UNKNOWN),
         (&["epx", "run", "--fast"], "--fast"),
         (&["epx", "run", "-x"], "-x"),
         (&["epx", "--workers", "3"], "--workers"),
@@ -266,23 +278,39 @@ fn refused_words_are_named(rt: HostRuntime) -> Result<(), Fail> {
 const SHOWN: &str =
     "{\"r\":0,\"i\":0,\"seq\":1,\"deps\":[],\"ops\":[[\"put\",\"a\",5],[\"get\",\"a\"]]}";
 
+/// The help of the program, whole: it fits a screen.
+const EPX_HELP: &str = "Executes the committed instances of EPaxos from their logs
+
+Usage: epx [COMMAND]
+
+Commands:
+  run     Prints the report: replies, what must wait, the final store
+  order   Prints the execution order
+  levels  Prints the conflict levels of the commands
+  resume  Goes on from an earlier report, and prints the report
+  audit   Tells whether the logs are covered
+  check   Tells whether a list of instances is an order that the protocol allows
+  help    Print this message or the help of the given subcommand(s)
+
+Options:
+  -h, --help     Print help
+  -V, --version  Print version
+
+A LOG has one instance a line; it is committed unless its status says otherwise:
+  {\"r\":0,\"i\":0,\"seq\":1,\"deps\":[],\"ops\":[[\"put\",\"a\",5],[\"get\",\"a\"]]}
+The LOG - is standard input, which epx alone reads too; without a LOG there are
+none. Faults count the logs from 0, and their lines from 1. Example:
+  epx run examples/replicas/*.jsonl
+";
+
 #[test]
 fn help_is_a_text_that_ends_well(rt: HostRuntime) -> Result<(), Fail> {
-    let cases: [(&[&str], &str); 5] = [
-        (&["epx", "--help"], SHOWN),
-        (
-            &["epx", "--help"],
-            "A report can be resumed over further logs.",
-        ),
-        (
-            &["epx", "--help"],
-            "  audit   Tells whether the logs are covered\n",
-        ),
-        (&["epx", "help"], "1 to 64 and 4 by default"),
-        (&["epx", "-h"], "epx run examples/replicas/*.jsonl"),
+    let cases: [(&[&str], &str); 3] = [
+        (&["epx", "--help"], EPX_HELP),
+        (&["epx", "help"], EPX_HELP),
+        (&["epx", "-h"], EPX_HELP),
     ];
-    let start = "Executes the committed instances";
-    expect_texts(&rt, rt.alloc(), 0, start, &cases)
+    expect_texts(&rt, rt.alloc(), 0, EPX_HELP, &cases)
 }
 
 #[test]
@@ -314,7 +342,7 @@ Usage: epx resume [OPTIONS] <BASE> [LOG]...
 
 Arguments:
   <BASE>    The earlier report to go on from
-  [LOG]...  The logs to read, in any order
+  [LOG]...  The logs to read, - for standard input; faults count them from 0
 
 Options:
       --workers <N>  Workers that share the work, 1 to 64 [default: 4]
@@ -347,7 +375,7 @@ const AUDIT_HELP: &str = "Tells whether the logs are covered
 Usage: epx audit [OPTIONS] [LOG]...
 
 Arguments:
-  [LOG]...  The logs to read, in any order
+  [LOG]...  The logs to read, - for standard input; faults count them from 0
 
 Options:
       --workers <N>  Workers that share the work, 1 to 64 [default: 4]
@@ -378,7 +406,7 @@ Usage: epx check [OPTIONS] <LIST> [LOG]...
 
 Arguments:
   <LIST>    The list to check
-  [LOG]...  The logs to read, in any order
+  [LOG]...  The logs to read, - for standard input; faults count them from 0
 
 Options:
       --workers <N>  Workers that share the work, 1 to 64 [default: 4]

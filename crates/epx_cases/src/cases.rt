@@ -3,7 +3,7 @@
 use crate::stage::NOT_UTF_8;
 
 /// Words of every kind, each list with the program's name.
-pub(crate) fn word_lists() -> [&'static [&'static str]; 20] {
+pub(crate) fn word_lists() -> [&'static [&'static str]; 21] {
     [
         &["epx"],
         &["epx", "--help"],
@@ -21,6 +21,7 @@ pub(crate) fn word_lists() -> [&'static [&'static str]; 20] {
         &["epx", "run", "long.jsonl"],
         &["epx", "run", "0.jsonl", "cut_off.jsonl"],
         &["epx", "run", "0.jsonl", "other.jsonl"],
+        &["epx", "0.jsonl"],
         &["epx", "run", "--workers", "65"],
         &["epx", "run", NOT_UTF_8],
         &["epx", "run", "."],

@@ -13,6 +13,10 @@ use std::env;
 use std::io::{self, ErrorKind};
 use std::process::ExitCode;
 
+/// A log that is handed to the program as its input.
+const INPUT: &str =
+    "{\"r\":9,\"i\":0,\"seq\":1,\"deps\":[],\"ops\":[[\"put\",\"a\",5],[\"get\",\"a\"]]}\n";
+
 fn main(rt: HostRuntime) -> io::Result<ExitCode> {
     for words in word_lists() {
         println!(rt; "== {words:?}")?;
@@ -27,6 +31,14 @@ fn main(rt: HostRuntime) -> io::Result<ExitCode> {
     let words: &[&str] = &too_many_logs();
     let stage = Stage { rt: &rt, words };
     let input = StdSource::new(rt.stdin());
+    let mut output = StdSink::new(rt.stdout());
+    let status = start(&stage, env::args(&stage), input, &mut output);
+    println!(rt; "== {status:?}")?;
+
+    let words: &[&str] = &["epx", "run", "apart.jsonl", "-", "-"];
+    println!(rt; "== {words:?} with a log as input")?;
+    let stage = Stage { rt: &rt, words };
+    let input = StdSource::new(INPUT.as_bytes());
     let mut output = StdSink::new(rt.stdout());
     let status = start(&stage, env::args(&stage), input, &mut output);
     println!(rt; "== {status:?}")?;

@@ -3,3 +3,4 @@ pub mod MemorySink
 pub mod WatchedDevices
 pub mod Fuses
 pub mod Transfers
+pub mod EitherSources

@@ -4,6 +4,7 @@
 
 mod again;
 mod device;
+mod either_source;
 mod fuse;
 mod fuse_sink;
 mod fuse_source;
@@ -15,6 +16,7 @@ mod std_source;
 mod transfer;
 
 pub use device::{DeviceFault, Sink, Source};
+pub use either_source::EitherSource;
 pub use fuse_sink::FuseSink;
 pub use fuse_source::FuseSource;
 pub use memory_sink::MemorySink;

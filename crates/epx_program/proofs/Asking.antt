@@ -18,6 +18,7 @@ use Rattle.epx_words.specs.declared.asked.Task.TheVariants.{Run}
 use Rattle.epx_words.specs.declared.asked.Words.{Words}
 use Rattle.epx_words.specs.declared.asked.Words.TheVariants.{Work, Text as text}
 use Rattle.epx_program.specs.Calls.{AreTakenFor, Asks, EndsAsAsked, EndsWithText}
+use Rattle.epx_program.specs.Inputs.{IsInputAlone}
 use Rattle.epx_program.specs.Endings.{AddsAnswer, EndsWith, IsStatus}
 
 -- words are taken for one list of texts
@@ -86,14 +87,14 @@ module _ {S : Type 0} (contents : S → Option (List ℕ)) (before after : S) wh
 
     -- what was wanted is done, by what is said of doing it
     pub ends_as_asked : (wanted : Words) → IfWork (λ task plan paths. IsStatus status) wanted
-        → ((bytes : List ℕ) → input ≡ Some bytes → IfWork (λ task plan paths. paths ≡ None → EndsWith task (bytes ∷ []) status (contents before) (contents after)) wanted)
+        → ((bytes : List ℕ) → input ≡ Some bytes → IfWork (λ task plan paths. IsInputAlone paths → EndsWith task (bytes ∷ []) status (contents before) (contents after)) wanted)
         → IfWork (λ task plan paths. IfSome paths (λ list. status ≡ 0 → AddsAnswer task (length list) (contents before) (contents after))) wanted
         → ((said : String Global) → wanted ≡ text said 0 → status ≡ 0 → Appends (contents before) (contents after) (string_bytes said))
         → ((said : String Global) → wanted ≡ text said 0 → AppendsPrefix (contents before) (contents after) (string_bytes said))
         → IfText (λ n. n ≡ 0 → (status ≡ 0) ⊎ ((status ≡ 4) × (failed ≡ true))) wanted
         → IfText (λ n. n ≢ 0 → (status ≡ n) × (after ≡ before)) wanted → EndsAsAsked input wanted status failed (contents before) (contents after)
     ends_as_asked (Work task plan paths) work over files shown prefix well told =
-        (work, λ bytes none known. over bytes known (ap (option_map (λ list. map string_bytes list.items)) none), answered paths files)
+        (work, λ bytes alone known. over bytes known alone, answered paths files)
       where
         answered : (paths : Option (Vec (String Global) Global))
             → IfSome (option_map (λ list. map string_bytes list.items) paths) (λ list. status ≡ 0 → AddsAnswer task (length list) (contents before) (contents after))

@@ -48,11 +48,6 @@ answered_paths task (Err fault) status old new None is h = tt
 answered_paths task (Ok x) status old new (Some list) is h = λ none. subst (λ n. AddsAnswer task n old new) (sym (length-map list.items string_bytes)) h
 answered_paths task (Err fault) status old new (Some list) is h = λ none. absurd (no_fault_ends_well fault (sym is ∙ none))
 
--- no paths are meant where they map to none
-pub unpathed : {A B : Type 0} (f : A → B) (paths : Option A) → option_map f paths ≡ None → paths ≡ None
-unpathed f None none = refl
-unpathed f (Some a) none = search rules
-
 -- a text that was asked for is shown, or the output failed
 pub of-text : {P : Type 0} (result : ℕ) → (result ≢ 0 → (result ≡ 4) × P) → (result ≡ 0) ⊎ ((result ≡ 4) × P)
 of-text zero failed = inl refl

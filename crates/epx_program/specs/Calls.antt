@@ -1,5 +1,5 @@
 -- What the program's words ask for, and how the program ends that does it.
-use Rattle.std.specs.Prelude.{◌≡◌, ◌≤◌, ◌↔◌, ◌⊎◌, ℕ, zero, suc, Bool, true, false, List, [], ◌∷◌, length, map, Option, Some, None, IfSome, Result, MatchResult, string_bytes}
+use Rattle.std.specs.Prelude.{◌≡◌, ◌≤◌, ◌↔◌, ◌⊎◌, ℕ, zero, suc, Bool, true, false, List, [], ◌∷◌, length, map, Option, Some, None, IfSome, Result, MatchResult, option_map, string_bytes}
 use Rattle.std.specs.Io.KnownBytes.{Appends, Keeps}
 use Rattle.std.specs.Vec.Iter.{into_iter_items}
 use Rattle.std.specs.declared.alloc.Global.{Global}
@@ -17,6 +17,7 @@ use Rattle.epx_words.specs.declared.asked.Task.TheVariants.{Run}
 use Rattle.epx_words.specs.declared.asked.Words.{Words}
 use Rattle.epx_words.specs.declared.asked.Words.TheVariants as asked
 use Rattle.epx_program.specs.Endings.{AddsAnswer, EndsWith, IsStatus}
+use Rattle.epx_program.specs.Inputs.{IsInputAlone}
 
 -- the words of the operating system are these texts; words that could not be had are none
 abbrev pub AreTakenFor : Result (IntoIter (String Global) Global) Error → List Text → Type 0
@@ -35,12 +36,12 @@ EndsWithText text zero status failed old new =
     ((status ≡ 0) × Appends old new text) ⊎ ((status ≡ fault_status Write) × (failed ≡ true) × AppendsPrefix old new text)
 EndsWithText text (suc n) status failed old new = (status ≡ suc n) × Keeps old new
 
--- how it ends once it did what is wanted, over this input: with the status of the work, or of the text. Over files whose
+-- how it ends once it did what is wanted, over this input: with the status of the work, or of the text. Over files, whose
 -- bytes are not known, 0 tells that as many texts as paths are answered
 abbrev pub EndsAsAsked : Option (List ℕ) → Words → ℕ → Bool → Option (List ℕ) → Option (List ℕ) → Type 0
 EndsAsAsked input (asked.Work task plan paths) status failed old new =
     IsStatus status
-    × ((bytes : List ℕ) → paths ≡ None → input ≡ Some bytes → EndsWith task (bytes ∷ []) status old new)
+    × ((bytes : List ℕ) → IsInputAlone (option_map (λ list. map string_bytes list.items) paths) → input ≡ Some bytes → EndsWith task (bytes ∷ []) status old new)
     × IfSome paths (λ list. status ≡ 0 → AddsAnswer task (length list.items) old new)
 EndsAsAsked input (asked.Text text n) status failed old new = EndsWithText (string_bytes text) n status failed old new
 

@@ -3,6 +3,7 @@
 
 mod asked;
 mod ending;
+mod inputs;
 mod program;
 mod work;
 

@@ -8,6 +8,7 @@ ghost use Rattle.epx_devices.specs.Transfers.{AppendsPrefix};
 ghost use Rattle.epx_words.specs.Asked.{IfText, IfWork};
 ghost use Rattle.epx_program.specs.Calls.{AreTakenFor, DoesAsAsked};
 ghost use Rattle.epx_program.specs.Endings.{AddsAnswer, EndsWith, IsStatus};
+ghost use Rattle.epx_program.specs.Inputs.{IsInputAlone};
 
 use crate::asked::asked;
 use crate::ending::{end, end_with_text};
@@ -32,7 +33,7 @@ where
     requires output { W.has_failed output.old ≡ false }
 
     ensures work { IfWork (λ _ _ _. IsStatus result) words }
-    ensures input { (bytes : _) → I.remaining input ≡ Some bytes → IfWork (λ task _ paths. paths ≡ None
+    ensures input { (bytes : _) → I.remaining input ≡ Some bytes → IfWork (λ task _ paths. IsInputAlone paths
         → EndsWith task (bytes ∷ []) result (W.contents output.old) (W.contents output.new)) words }
     ensures paths { IfWork (λ task _ paths. IfSome paths (λ list. result ≡ 0
         → AddsAnswer task (length list) (W.contents output.old) (W.contents output.new))) words }

@@ -1,14 +1,14 @@
 //! The work itself: sources by the paths, and the answer that the task asks for.
-ghost use Rattle.std.specs.Prelude.{◌≡◌, ◌≢◌, ◌↔◌, ◌+◌, true, false, [], ◌∷◌, All, map, None, Some, IfErr, IfOk, IfSome, IsErrOf, OnOk, length, string_bytes};
+ghost use Rattle.std.specs.Prelude.{◌≡◌, ◌≢◌, ◌↔◌, ◌+◌, true, false, [], ◌∷◌, All, map, None, Some, IfErr, IfOk, IfSome, IsErrOf, OnOk, length, option_map, string_bytes};
 ghost use Rattle.std.specs.Io.KnownBytes.{Keeps};
 ghost use Rattle.epx_program.specs.Endings.{AddsAnswer, ComesTo, task_over};
+ghost use Rattle.epx_program.specs.Inputs.{IsInputAlone};
 ghost use Rattle.epx_tool.specs.Runs.{AreBytesOf};
 
-use epx_tool::{
-    Ask, MemorySource, PathSource, Sink, Source, Task, run, run_check, run_resume, show,
-};
+use crate::inputs::sources_at;
+use epx_tool::{Ask, MemorySource, Sink, Source, Task, run, run_check, run_resume, show};
 use epx_types::{Fault, Plan};
-use std::alloc::{AllocError, Global};
+use std::alloc::Global;
 use std::random::RandomSource;
 use std::rt::Files;
 use std::thread::Threads;
@@ -107,24 +107,8 @@ fn answer<R: Threads + RandomSource + Sync, S: Source, W: Sink>(
     }
 }
 
-/// A source for each path. Nothing is opened yet.
-fn sources_at<'a, R: Files>(
-    rt: &'a R,
-    alloc: Global,
-    paths: &'a [String],
-) -> Result<Vec<PathSource<'a, R>>, AllocError>
-    ensures paths { IfOk result (λ sources. map (λ s. s.path) sources.items ≡ map string_bytes paths.now) }
-    ensures unopened { IfOk result (λ sources. All (λ s. s.file ≡ None) sources.items) }
-    ensures failed { IfOk result (λ sources. All (λ s. s.failed ≡ false) sources.items) }
-{
-    let mut sources = Vec::with_capacity(alloc, paths.len())?;
-    for path in paths {
-        sources.push(PathSource::new(rt, path.as_str()))?;
-    }
-    Ok(sources)
-}
-
-/// Reads the texts at the paths, or the input where no paths are meant, and answers them.
+/// Reads the texts at the paths, of which a hyphen is the input, or the input where no paths are meant, and answers
+/// them.
 pub(crate) fn work<R: Files + Threads + RandomSource + Sync, I: Source + Drop, W: Sink>(
     rt: &R,
     alloc: Global,
@@ -137,7 +121,7 @@ pub(crate) fn work<R: Files + Threads + RandomSource + Sync, I: Source + Drop, W
     requires input { I.has_failed input ≡ false }
     requires output { W.has_failed output.old ≡ false }
 
-    ensures input { (bytes : _) → paths ≡ None → I.remaining input ≡ Some bytes →
+    ensures input { (bytes : _) → IsInputAlone (option_map (λ list. map string_bytes list.items) paths) → I.remaining input ≡ Some bytes →
         ComesTo task (bytes ∷ []) result (W.contents output.old) (W.contents output.new) }
     ensures paths { IfSome paths (λ list. OnOk result
         (AddsAnswer task (length list.items) (W.contents output.old) (W.contents output.new))) }
@@ -152,7 +136,7 @@ pub(crate) fn work<R: Files + Threads + RandomSource + Sync, I: Source + Drop, W
         };
         return answer(rt, alloc, task, plan, &mut sources, output);
     };
-    let Ok(mut sources) = sources_at(rt, alloc, &paths) else {
+    let Ok(mut sources) = sources_at(rt, alloc, &paths, input) else {
         return Err(Fault::Memory);
     };
     answer(rt, alloc, task, plan, &mut sources, output)

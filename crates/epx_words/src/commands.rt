@@ -10,7 +10,7 @@ use std::alloc::{AllocError, Global};
 
 const VERSION: &str = "0.1.0";
 
-/// What help says of a subcommand, or of the program.
+/// What help says of a subcommand.
 #[derive(Clone, Copy)]
 struct Help {
     about: &'static str,
@@ -30,22 +30,21 @@ This is the instance 0 of replica 0, with sequence number 1 and no dependencies,
 which writes 5 to the key a and reads it. It is committed, as with the status
 committed or executed; accepted and pre-accepted ones are passed over.
 
+The LOG - is standard input; without a LOG there are no logs. A fault counts the
+logs from 0, in the order of the words, and the lines of each from 1.
+
 Example:
   epx run examples/replicas/*.jsonl";
 
-const EPX: Help = Help {
-    about: "Executes the committed instances of EPaxos from their logs",
-    long_about: "Executes the committed instances of EPaxos from their logs, which one replica
-wrote or several. What comes out is lines of JSON: the report, the execution
-order, or the conflict levels. A report can be resumed over further logs. Logs
-can be audited, and orders of their instances checked.
+/// What help says of the program itself: no more than a screen holds.
+const EPX: &str = "Executes the committed instances of EPaxos from their logs";
 
-All subcommands take --workers N, 1 to 64 and 4 by default, and --cut M, 1 to
-65536 and 256 by default. With no words at all epx prints the report of one log,
-which it reads from standard input.",
-    after: EXAMPLE,
-    long_after: LOGS_AND_EXAMPLE,
-};
+const EPX_AFTER: &str =
+    "A LOG has one instance a line; it is committed unless its status says otherwise:
+  {\"r\":0,\"i\":0,\"seq\":1,\"deps\":[],\"ops\":[[\"put\",\"a\",5],[\"get\",\"a\"]]}
+The LOG - is standard input, which epx alone reads too; without a LOG there are
+none. Faults count the logs from 0, and their lines from 1. Example:
+  epx run examples/replicas/*.jsonl";
 
 const RUN: Help = Help {
     about: "Prints the report: replies, what must wait, the final store",
@@ -156,7 +155,7 @@ fn number_option<'a>(
         .value_parser(ValueParser::unsigned(1, most as u64))
 }
 
-/// A command of which no more is said than its name and its help.
+/// A subcommand of which no more is said than its name and its help.
 fn with_help<'a>(alloc: Global, name: &'a str, help: Help) -> Command<'a>
     ensures { app_of result ≡ new_app name.entry.now }
 {
@@ -187,7 +186,7 @@ fn logs<'a>(alloc: Global) -> Arg<'a>
     Arg::new(alloc, "logs")
         .value_name("LOG")
         .action(ArgAction::Append)
-        .help("The logs to read, in any order")
+        .help("The logs to read, - for standard input; faults count them from 0")
 }
 
 /// The text before the logs.
@@ -221,11 +220,15 @@ fn over_first<'a>(
     subcommand(alloc, name, help)?.arg(first)?.arg(logs(alloc))
 }
 
-/// The program without its subcommands.
+/// The program without its subcommands. Its usage does not say that it has to have one, since without words it
+/// reads a log from standard input.
 fn start<'a>(alloc: Global) -> Command<'a>
     ensures { app_of result ≡ epx_start }
 {
-    with_help(alloc, "epx", EPX)
+    Command::new(alloc, "epx")
+        .about(EPX)
+        .after_help(EPX_AFTER)
+        .override_usage("epx [COMMAND]")
         .version(VERSION)
         .subcommand_required(true)
 }

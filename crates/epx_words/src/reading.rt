@@ -117,6 +117,9 @@ fn status_of(kind: ErrorKind) -> u8
     }
 }
 
+/// What is added where a word stands for a subcommand that there is not: it is mostly a log's path.
+const HINT: &str = "To execute logs, put 'run' before them: 'epx run LOG..'.\n";
+
 /// The text for words that give no work.
 fn text_of(alloc: Global, error: &Error) -> Result<Words, Memory>
     ensures kind { IfOk result (λ _. kind_of error.now ≢ ErrorKind.OutOfMemory) }
@@ -125,8 +128,13 @@ fn text_of(alloc: Global, error: &Error) -> Result<Words, Memory>
     if error.kind() == ErrorKind::OutOfMemory {
         return Err(Memory);
     }
+    let hint = if error.kind() == ErrorKind::InvalidSubcommand {
+        HINT
+    } else {
+        ""
+    };
     Ok(Words::Text {
-        text: format!(in alloc; "{error}")?,
+        text: format!(in alloc; "{error}{hint}")?,
         status: status_of(error.kind()),
     })
 }

@@ -1,0 +1,31 @@
+//! A source of one of two kinds.
+ghost use Rattle.epx_devices.specs.EitherSources.{told_by};
+
+use crate::device::{DeviceFault, Source};
+
+/// Sources of two kinds in one list: each is of the one or of the other.
+#[derive(Drop)]
+pub enum EitherSource<A, B> {
+    First(A),
+    Second(B),
+}
+
+impl<A: Source, B: Source> Source for EitherSource<A, B> {
+    ghost remaining = { λ s. told_by A.remaining B.remaining s };
+
+    ghost has_failed = { λ s. told_by A.has_failed B.has_failed s };
+
+    fn read_some(&mut self, part: &mut [u8]) -> Result<usize, DeviceFault> {
+        match self {
+            EitherSource::First(source) => source.read_some(part),
+            EitherSource::Second(source) => source.read_some(part),
+        }
+    }
+
+    fn failed(&self) -> bool {
+        match self {
+            EitherSource::First(source) => source.failed(),
+            EitherSource::Second(source) => source.failed(),
+        }
+    }
+}

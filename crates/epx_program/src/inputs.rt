@@ -1,0 +1,60 @@
+//! Where the texts come from that the words name: files, and the program's input.
+ghost use Rattle.std.specs.Prelude.{◌≡◌, ◌∷◌, [], All, IfOk, IfSome, None, Some, codes, false, map, string_bytes};
+ghost use Rattle.epx_devices.specs.EitherSources.{told_by};
+ghost use Rattle.epx_devices.specs.declared.either_source.EitherSource.TheVariants as either;
+ghost use Rattle.epx_program.specs.Inputs.{path_of};
+ghost use Rattle.epx_tool.specs.Runs.{AreBytesOf};
+
+use epx_devices::{EitherSource, MemorySource, PathSource, Source};
+use std::alloc::{AllocError, Global};
+use std::rt::Files;
+
+/// The path that stands for the input.
+const INPUT: &str = "-";
+
+/// The file at a path; or the input, of which nothing is left where it is named again.
+pub(crate) type Input<'a, R, I> = EitherSource<
+    PathSource<'a, R>,
+    EitherSource<I, MemorySource<'static>>,
+>;
+
+/// What a path stands for. The input is given once.
+fn source_at<'a, R: Files, I: Source>(
+    rt: &'a R,
+    path: &'a str,
+    input: &mut Option<I>,
+) -> Input<'a, R, I>
+    requires { IfSome input.old (λ i. I.has_failed i ≡ false) }
+    ensures path { path_of result ≡ path.now }
+    ensures failed { told_by (λ s. s.failed) (told_by I.has_failed (λ _. false)) result ≡ false }
+    ensures input { (given : _) → path.now ≡ codes "-" → input.old ≡ Some given → result ≡ either.Second (either.First given) }
+    ensures left { IfSome input.new (λ i. I.has_failed i ≡ false) }
+{
+    if path != INPUT {
+        return EitherSource::First(PathSource::new(rt, path));
+    }
+    match input.take() {
+        Some(given) => EitherSource::Second(EitherSource::First(given)),
+        None => EitherSource::Second(EitherSource::Second(MemorySource::new(&[]))),
+    }
+}
+
+/// A source for each path. Nothing is opened yet.
+pub(crate) fn sources_at<'a, R: Files, I: Source + Drop>(
+    rt: &'a R,
+    alloc: Global,
+    paths: &'a [String],
+    input: I,
+) -> Result<Vec<Input<'a, R, I>>, AllocError>
+    requires { I.has_failed input ≡ false }
+    ensures paths { IfOk result (λ sources. map path_of sources.items ≡ map string_bytes paths.now) }
+    ensures failed { IfOk result (λ sources. All (λ s. told_by (λ f. f.failed) (told_by I.has_failed (λ _. false)) s ≡ false) sources.items) }
+    ensures input { IfOk result (λ sources. map string_bytes paths.now ≡ codes "-" ∷ [] → sources.items ≡ either.Second (either.First input) ∷ []) }
+{
+    let mut input = Some(input);
+    let mut sources = Vec::with_capacity(alloc, paths.len())?;
+    for path in paths {
+        sources.push(source_at(rt, path.as_str(), &mut input))?;
+    }
+    Ok(sources)
+}
