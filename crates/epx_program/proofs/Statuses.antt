@@ -1,5 +1,5 @@
 -- With which status the program ends.
-use Rattle.std.proofs.Common.{◌≡◌, ◌≢◌, ◌⊎◌, ◌∙◌, ℕ, zero, suc, List, Option, Result, Ok, Err, inl, inr, refl, rules, arith, length, map, Vec, subst, sym}
+use Rattle.std.proofs.Common.{◌≡◌, ◌≢◌, ◌⊎◌, ◌∙◌, ℕ, zero, suc, List, Option, Result, Ok, Err, inl, inr, refl, arith, length, map, Vec, subst, sym}
 use Rattle.std.specs.Prelude.{None, Some, OnOk, IfErr, IfSome, option_map, string_bytes}
 use Rattle.std.specs.declared.alloc.Global.{Global}
 use Rattle.std.specs.declared.string.String.{String}

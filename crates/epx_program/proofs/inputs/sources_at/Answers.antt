@@ -1,4 +1,4 @@
-use Rattle.std.proofs.Common.{◌≡◌, false, ap, ◌∙◌, sym, codes, arith}
+use Rattle.std.proofs.Common.{◌≡◌, false, ◌∙◌, arith}
 use Rattle.std.specs.Prelude.{string_bytes}
 use Rattle.std.proofs.lemmas.List.Elements.{All-push}
 use Rattle.epx_devices.specs.EitherSources.{told_by}
