@@ -15,6 +15,8 @@ mod devices;
 #[cfg(test)]
 mod effects;
 #[cfg(test)]
+mod entries;
+#[cfg(test)]
 mod gates;
 #[cfg(test)]
 mod given;

@@ -13,6 +13,7 @@ mod Closing
 mod MovedRows
 mod KeyedRows
 pub mod PlaceOrder
+pub mod EntryOrder
 pub mod ReadLines
 mod Answered
 pub mod OneRefusal

@@ -18,7 +18,7 @@ use Rattle.epx_merge.specs.Refusals.{IsFirstSpoilt}
 earlier_log : (p q : Place) → p.log < q.log → Earlier p q
 earlier_log p q h = grind (arith, nat_tests)
 
-earlier_line : (p q : Place) → p.log ≡ q.log → p.line < q.line → Earlier p q
+pub earlier_line : (p q : Place) → p.log ≡ q.log → p.line < q.line → Earlier p q
 earlier_line p q e h = grind (arith, nat_tests)
 
 -- ---- two lists in order, of which all of the first stand before all of the second
@@ -102,7 +102,7 @@ pub placed_in_order : (logs : List (List ℕ)) → InPlaceOrder (placed_of logs)
 placed_in_order logs =
     InOrderOf-flat_map (λ (p : Placed). p.place) (λ l. placed_at l.place l.meaning) (λ l. placed_there l.place l.meaning) (λ l. placed_one l.place l.meaning) (meanings_of logs) (logs_in_order 0 logs)
 
-own_places : (lines : List Placed) → InPlaceOrder lines → HavePlacesOfTheirOwn lines
+pub own_places : (lines : List Placed) → InPlaceOrder lines → HavePlacesOfTheirOwn lines
 own_places [] order p q in_p in_q same = absurd (Contains-nil p in_p)
 own_places (x ∷ lines) order p q in_p in_q same =
     elim (Contains-cons_cases x lines p in_p) [

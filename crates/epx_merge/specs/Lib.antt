@@ -10,3 +10,4 @@ pub mod LineOrder
 pub mod ReadPieces
 pub mod Repeats
 pub mod Advances
+pub mod EntryLines

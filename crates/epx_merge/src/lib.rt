@@ -1,6 +1,7 @@
 //! Reading logs: the map that they commit, or the first refusal.
 #![tactic(auto)]
 
+mod entries;
 mod front;
 mod guesses;
 pub mod laws;
@@ -17,6 +18,7 @@ mod rows;
 mod same;
 mod walk;
 
+pub use entries::from_entries;
 pub use guesses::Guesses;
 pub use limits::{MAX_INSTANCES, MAX_LOG_BYTES, MAX_LOGS, first_too_long};
 pub use merged::Merged;

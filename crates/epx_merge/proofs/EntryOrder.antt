@@ -1,0 +1,30 @@
+-- The lines of entries in memory stand in the order of their places.
+use Rattle.std.proofs.Common.{◌≡◌, inl, inr, ℕ, suc, ◌≤◌, List, [], ◌∷◌, Contains, sym, ap, arith}
+use Rattle.epx_types.specs.Instances.{Instance}
+use Rattle.epx_types.specs.PlacedLines.{Placed, HavePlacesOfTheirOwn}
+use Rattle.epx_types.proofs.Membership.{Contains-nil, Contains-cons_cases}
+use Rattle.epx_merge.specs.EntryLines.{entry_lines, entry_lines_from}
+use Rattle.epx_merge.specs.LineOrder.{InPlaceOrder}
+use Rattle.epx_merge.proofs.PlaceOrder.{earlier_line, own_places}
+
+from_line : (n : ℕ) (es : List Instance) (p : Placed) → Contains (entry_lines_from n es) p → (p.place.log ≡ 0) × (n ≤ p.place.line)
+from_line n [] p h = absurd (Contains-nil p h)
+from_line n (e ∷ es) p h =
+    elim (Contains-cons_cases (record { place = record { log = 0; line = n }; instance = e }) (entry_lines_from (suc n) es) p h) [
+      | inl same ↦ (ap (λ (l : Placed). l.place.log) (sym same), omega (arith, ap (λ (l : Placed). l.place.line) same))
+      | inr rest ↦ let r = from_line (suc n) es p rest in (r.0, omega (arith, r.1))
+    ]
+
+in_order_from : (n : ℕ) (es : List Instance) → InPlaceOrder (entry_lines_from n es)
+in_order_from n [] = tt
+in_order_from n (e ∷ es) = (
+  (λ p h. let later = from_line (suc n) es p h in earlier_line (record { log = 0; line = n }) p.place (sym later.0) (omega (arith, later.1))),
+  in_order_from (suc n) es,
+)
+
+pub entries_in_order : (es : List Instance) → InPlaceOrder (entry_lines es)
+entries_in_order es = in_order_from 1 es
+
+-- no two of them stand at one place
+pub entries_apart : (es : List Instance) → HavePlacesOfTheirOwn (entry_lines es)
+entries_apart es = own_places (entry_lines es) (entries_in_order es)

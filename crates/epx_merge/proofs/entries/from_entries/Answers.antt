@@ -1,0 +1,10 @@
+use Rattle.std.proofs.Common.{[]}
+use Rattle.epx_merge.specs.EntryLines.{entry_lines}
+use Rattle.epx_merge.proofs.EntryOrder.{entries_in_order}
+use Rattle.epx_merge.proofs.entries.from_entries.Goals as goal
+
+-- a ledger of no lines, after the lines were noted, is a ledger of the lines
+pub returns : goal.returns
+returns c =
+    let entries = c.args.entries.items in
+    c.close.ensures (entry_lines entries) (entries_in_order entries) (c.in_ok-note_each.ensures [] c.new-ledger.ensures)
