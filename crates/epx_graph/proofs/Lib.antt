@@ -14,6 +14,6 @@ mod RisingRows
 mod GatheredParts
 mod GatheredRows
 mod Built
-mod GraphsExist
+pub mod GraphsExist
 mod Searching
 mod WaiterLists

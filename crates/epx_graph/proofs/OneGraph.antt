@@ -13,7 +13,7 @@ use Rattle.epx_graph.specs.GraphLaws.{GraphIsOne}
 use Rattle.epx_graph.proofs.GraphNodes.{edge_within, node_id}
 use Rattle.epx_graph.proofs.MapPaths.{committed_count}
 
-same_ids : (xs ys : List Id) → IsRising xs → IsRising ys → ((x : Id) → Contains xs x → Contains ys x) → ((x : Id) → Contains ys x → Contains xs x) → xs ≡ ys
+pub same_ids : (xs ys : List Id) → IsRising xs → IsRising ys → ((x : Id) → Contains xs x → Contains ys x) → ((x : Id) → Contains ys x → Contains xs x) → xs ≡ ys
 same_ids xs ys p q there back = same_rising Below (below_itself id_cmp_total) (below_trans id_cmp_total) xs ys (AllPairs-from_IsRising xs p) (AllPairs-from_IsRising ys q) there back
 
 module _ (m : List Instance) (g h : DependencyGraph) (p : IsGraphOf m g) (q : IsGraphOf m h) where

@@ -1,6 +1,6 @@
 //! The graph of dependencies.
 ghost use Rattle.std.specs.Prelude.{◌≡◌, ◌==◌, ◌↔◌, ◌<◌, length, Contains, IfOk, IsTrue, MatchOption, Some, slice_get};
-ghost use Rattle.epx_graph.specs.Graphs.{edges_of, graph_over, IsGraph};
+ghost use Rattle.epx_graph.specs.Graphs.{edges_of, graph_over, missing_ids, IsGraph};
 ghost use Rattle.epx_graph.specs.Rows.{AreTurned};
 
 use crate::find::find;
@@ -79,6 +79,13 @@ impl Graph {
         ensures { slice_get self.now.ids node ≡ Some result }
     {
         self.ids[node]
+    }
+
+    /// The missing instances, by rising Id.
+    pub fn missing(&self) -> &[Id]
+        ensures { result.now ≡ missing_ids self.now }
+    {
+        &self.ids[self.committed_len()..]
     }
 
     pub fn is_committed(&self, node: usize) -> bool

@@ -37,3 +37,4 @@ pub use component_map::{ComponentMap, components};
 pub use order_fault::OrderFault;
 pub use order_list::OrderList;
 pub use sorting::order;
+pub use standings::{Standing, Standings};

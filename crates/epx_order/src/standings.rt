@@ -13,15 +13,15 @@ use std::marker::Model;
 
 /// A node's leader, its depth, and whether it reaches a node that is not committed.
 #[derive(Clone, Copy, Debug, PartialEq, Eq)]
-pub(crate) struct Standing {
-    pub(crate) leader: usize,
-    pub(crate) depth: usize,
-    pub(crate) reaches_missing: bool,
+pub struct Standing {
+    pub leader: usize,
+    pub depth: usize,
+    pub reaches_missing: bool,
 }
 
 /// The standing of each node, which those of a component share.
 #[derive(Debug, Drop)]
-pub(crate) struct Standings {
+pub struct Standings {
     component: Vec<usize>,
     leaders: Vec<usize>,
     depths: Vec<usize>,
@@ -42,7 +42,7 @@ impl Model for Standings {
 
 impl Standings {
     /// The standings of the nodes of a graph, in time linear in nodes and edges.
-    pub(crate) fn of(alloc: Global, graph: &Graph) -> Result<Standings, Memory>
+    pub fn of(alloc: Global, graph: &Graph) -> Result<Standings, Memory>
         ensures len { IfOk result (λ found. length found ≡ length graph.now.ids) }
         ensures each { IfOk result (λ found. (k : ℕ) (standing : Standing) → slice_get found k ≡ Some standing → IsStanding graph.now k standing) }
     {
@@ -60,7 +60,7 @@ impl Standings {
     }
 
     /// The standing of a node.
-    pub(crate) fn get(&self, node: usize) -> Standing
+    pub fn get(&self, node: usize) -> Standing
         requires { node < length self.now }
         ensures { slice_get self.now node ≡ Some result }
     {

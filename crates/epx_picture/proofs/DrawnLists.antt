@@ -1,0 +1,24 @@
+-- One instance more that is shown.
+use Rattle.std.proofs.Common.{◌≡◌, ℕ, ◌+◌, List, [], ◌∷◌, ◌++◌, map, take, get_or, slice_get, Some, Contains, sym, ap, ◌∙◌, subst, inl, inr}
+use Rattle.std.proofs.lemmas.List.{map-append, take_more}
+use Rattle.std.proofs.lemmas.List.Elements.{Contains-push_cases}
+use Rattle.std.proofs.lemmas.Option.{slice_get_within, get_or_from_slice_get}
+use Rattle.epx_types.specs.Instances.{Instance}
+use Rattle.epx_types.specs.CommittedMap.{ids_of}
+use Rattle.epx_picture.specs.declared.drawn.Drawn.{Drawn}
+use Rattle.epx_picture.specs.Drawings.{IsDrawn}
+
+-- those of the first n places are shown
+pub record AreDrawn (m : List Instance) (n : ℕ) (drawn : List Drawn) : Type 0 where
+  pub named : map (λ d. d.id) drawn ≡ take n (ids_of m)
+  pub shown : (d : Drawn) → Contains drawn d → IsDrawn m d
+
+pub drawn_push : (m : List Instance) (n : ℕ) (drawn : List Drawn) (d : Drawn) → AreDrawn m n drawn → slice_get (ids_of m) n ≡ Some d.id → IsDrawn m d → AreDrawn m (n + 1) (drawn ++ d ∷ [])
+drawn_push m n drawn d old at is = record {
+  named =
+      let ids = ids_of m in
+      let next = take_more ids n d.id (slice_get_within ids n d.id at) in
+      let last : get_or ids n d.id ≡ d.id = get_or_from_slice_get ids n d.id d.id at in
+      map-append (λ (d : Drawn). d.id) drawn (d ∷ []) ∙ ap (λ xs. xs ++ d.id ∷ []) old.named ∙ ap (λ x. take n ids ++ x ∷ []) (sym last) ∙ sym next;
+  shown = λ f h. elim (Contains-push_cases drawn d f h) [ inl was ↦ old.shown f was | inr same ↦ subst (IsDrawn m) same is ];
+}

@@ -1,0 +1,60 @@
+-- Marks of the nodes that lead another one, with one standing more.
+use Rattle.std.proofs.Common.{◌≡◌, ◌⊎◌, ℕ, ◌+◌, ◌<◌, inl, inr, List, Bool, true, false, length, get_or, set, slice_get, Some, replicate, sym, ◌∙◌, ap, arith}
+use Rattle.std.proofs.lemmas.Bool.{cases_eq, cases_lt, false≢true}
+use Rattle.std.proofs.lemmas.List.{length-set, length-replicate, get_or-replicate, get_or_past, get_or-set_same, get_or-set_other}
+use Rattle.epx_order.specs.declared.standings.Standing.{Standing}
+use Rattle.epx_picture.specs.Clusters.{LeadsAmong, AreMarked}
+
+unmarked : (n l : ℕ) → get_or (replicate n false) l false ≡ false
+unmarked n l = elim (cases_lt l n) [ inl below ↦ get_or-replicate n l false false below | inr past ↦ get_or_past (replicate n false) l false (omega (arith, length-replicate n false, past)) ]
+
+pub marked_none : (standings : List Standing) (n : ℕ) → length standings ≡ n → AreMarked standings 0 (replicate n false)
+marked_none standings n long = record {
+  nodes = length-replicate n false ∙ sym long;
+  exact = λ l. (λ h. absurd (false≢true (sym (unmarked n l) ∙ h)), λ w. absurd (let l = w.2 in omega arith));
+}
+
+module _ (standings : List Standing) (n : ℕ) (marks : List Bool) (old : AreMarked standings n marks) (s : Standing) (at : slice_get standings n ≡ Some s) where
+  -- one that leads among the first leads among more
+  more : (l : ℕ) → LeadsAmong standings n l → LeadsAmong standings (n + 1) l
+  more l (k, t, below, there, leads, other) = (k, t, omega arith, there, leads, other)
+
+  -- and where it leads no more among them, it leads the next one
+  fewer : (l : ℕ) → LeadsAmong standings (n + 1) l → LeadsAmong standings n l ⊎ ((s.leader ≡ l) × ¬ (n ≡ l))
+  fewer l (k, t, below, there, leads, other) = elim (cases_lt k n) [
+    | inl past ↦ inl (k, t, past, there, leads, other)
+    | inr now ↦
+        let same : k ≡ n = omega arith in
+        let one : Some s ≡ Some t = sym at ∙ ap (slice_get standings) (sym same) ∙ there in
+        let is : s ≡ t = cc one in
+        inr (ap (λ (r : Standing). r.leader) is ∙ leads, λ e. other (same ∙ e))
+  ]
+
+  -- the next one leads itself
+  pub marked_past : s.leader ≡ n → AreMarked standings (n + 1) marks
+  marked_past own = record {
+    nodes = old.nodes;
+    exact = λ l. (
+      λ h. more l ((old.exact l).0 h),
+      λ w. elim (fewer l w) [ inl was ↦ (old.exact l).1 was | inr now ↦ absurd (now.1 (sym own ∙ now.0)) ],
+    );
+  }
+
+  -- the next one is led by another
+  pub marked_more : ¬ (s.leader ≡ n) → s.leader < length marks → AreMarked standings (n + 1) (set marks s.leader true)
+  marked_more other within = record {
+    nodes = length-set marks s.leader true ∙ old.nodes;
+    exact = λ l. (
+      λ h. elim (cases_eq l s.leader) [
+        | inl same ↦ (n, s, omega arith, at, sym same, λ e. other (sym same ∙ sym e))
+        | inr apart ↦ more l ((old.exact l).0 (sym (get_or-set_other marks s.leader l true false apart) ∙ h))
+      ],
+      λ w. elim (cases_eq l s.leader) [
+        | inl same ↦ ap (λ i. get_or (set marks s.leader true) i false) same ∙ get_or-set_same marks s.leader true false within
+        | inr apart ↦ elim (fewer l w) [
+          | inl was ↦ get_or-set_other marks s.leader l true false apart ∙ (old.exact l).1 was
+          | inr now ↦ absurd (apart (sym now.0))
+        ]
+      ],
+    );
+  }

@@ -1,0 +1,13 @@
+use Rattle.epx_picture.proofs.DrawnNodes.{own_node, drawn_from_node}
+use Rattle.epx_picture.proofs.drawing.draw.Goals as goal
+
+pub returns-clause-drawn : goal.returns-clause-drawn
+returns-clause-drawn c =
+    let m = c.args.merged.now in
+    let g = c.args.graph.now in
+    let is = c.requires.graph in
+    let k = c.args.position in
+    let e = c.entry_at-entry.result.now in
+    let at = c.entry_at-entry.ensures in
+    let node = own_node m g is k e at in
+    rw (c.id.ensures, c.seq.ensures) (drawn_from_node m g is k e at c.args.standing c.cluster_of.result c.requires.standing (c.cluster_of.ensures m e.id is node))

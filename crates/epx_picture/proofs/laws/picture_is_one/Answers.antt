@@ -1,0 +1,5 @@
+use Rattle.epx_picture.proofs.OnePicture.{picture_is_one}
+use Rattle.epx_picture.proofs.laws.picture_is_one.Goals as goal
+
+pub returns : goal.returns
+returns c = picture_is_one

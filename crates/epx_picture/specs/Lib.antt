@@ -1,0 +1,5 @@
+pub mod Drawings
+pub mod PictureText
+pub mod Pictures
+pub mod PictureLaws
+pub mod Clusters

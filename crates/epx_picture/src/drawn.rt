@@ -1,0 +1,41 @@
+//! What a picture shows of a committed instance.
+
+ghost use Rattle.std.specs.Prelude.{◌≡◌};
+ghost use Rattle.epx_picture.specs.PictureText.{style_text};
+
+use epx_types::Id;
+use std::fmt;
+
+/// What the box of a committed instance shows.
+#[derive(Clone, Copy, Debug, PartialEq, Eq)]
+pub struct Drawn {
+    pub id: Id,
+    pub seq: u64,
+    pub depth: usize,
+    /// The leader of its component, where that has another member.
+    pub cluster: Option<Id>,
+    pub waits: bool,
+}
+
+/// What stands behind the label of a box.
+fn style_of(waits: bool) -> &'static str
+    ensures { result.now ≡ style_text waits }
+{
+    if waits { ", style=dashed" } else { "" }
+}
+
+impl fmt::Display for Drawn {
+    ghost use Rattle.std.specs.Prelude.{Some};
+    ghost use Rattle.epx_picture.specs.PictureText.{box_text};
+
+    ghost output = { λ drawn. Some (box_text drawn) };
+
+    fn fmt<W: fmt::Write>(&self, f: &mut fmt::Formatter<W>) -> fmt::Result {
+        let Drawn { id, seq, depth, .. } = *self;
+        let style = style_of(self.waits);
+        write!(
+            f,
+            "\"{id}\" [label=\"{id}\\ndepth {depth}, seq {seq}\"{style}];"
+        )
+    }
+}

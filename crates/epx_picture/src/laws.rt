@@ -1,0 +1,12 @@
+//! What shows that pictures mean what they should: each function's contract is a law.
+ghost use Rattle.epx_picture.specs.PictureLaws.{PictureExists, PictureIsOne};
+
+/// A committed map has a picture.
+pub fn picture_exists()
+    ensures { PictureExists }
+{}
+
+/// A committed map has at most one picture.
+pub fn picture_is_one()
+    ensures { PictureIsOne }
+{}
