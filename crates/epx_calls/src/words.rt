@@ -101,6 +101,7 @@ fn a_subcommand_alone_has_no_logs(rt: HostRuntime) -> Result<(), Fail> {
     expect_logs(&rt, rt.alloc(), &["epx", "run"], Task::Run, &[])?;
     expect_logs(&rt, rt.alloc(), &["epx", "order"], Task::Order, &[])?;
     expect_logs(&rt, rt.alloc(), &["epx", "levels"], Task::Levels, &[])?;
+    expect_logs(&rt, rt.alloc(), &["epx", "graph"], Task::Graph, &[])?;
     expect_logs(&rt, rt.alloc(), &["epx", "audit"], Task::Audit, &[])
 }
 
@@ -108,6 +109,8 @@ fn a_subcommand_alone_has_no_logs(rt: HostRuntime) -> Result<(), Fail> {
 fn logs_keep_their_order(rt: HostRuntime) -> Result<(), Fail> {
     let words = ["epx", "order", "b", "a", "b", "run"];
     expect_logs(&rt, rt.alloc(), &words, Task::Order, &words[2..])?;
+    let words = ["epx", "graph", "a", "levels", "graph"];
+    expect_logs(&rt, rt.alloc(), &words, Task::Graph, &words[2..])?;
     let words = ["epx", "audit", "check", "b", "check"];
     expect_logs(&rt, rt.alloc(), &words, Task::Audit, &words[2..])
 }
@@ -244,7 +247,7 @@ For more information, try '--help'.
 
 #[test]
 fn refused_words_are_named(rt: HostRuntime) -> Result<(), Fail> {
-    let cases: [(&[&str], &str); 25] = [
+    let cases: [(&[&str], &str); 26] = [
         (&["epx", "run", "--workers=0"], "--workers"),
         (&["epx", "run", "--workers=65"], "--workers"),
         (&["epx", "run", "--workers=many"], "--workers"),
@@ -253,6 +256,7 @@ fn refused_words_are_named(rt: HostRuntime) -> Result<(), Fail> {
         (&["epx", "order", "--cut=0"], "--cut"),
         (&["epx", "order", "--cut=65537"], "--cut"),
         (&["epx", "order", "--cut=1.5"], "--cut"),
+        (&["epx", "graph", "--dot", "a"], "--dot"),
         (&["epx", "run", "--cut"], "--cut"),
         (&["epx", "run", "--cut=1", "--cut=2"], "--cut"),
         (&["epx", "resume"], RESUME_ALONE),
@@ -287,6 +291,7 @@ Commands:
   run     Prints the report: replies, what must wait, the final store
   order   Prints the execution order
   levels  Prints the conflict levels of the commands
+  graph   Prints the dependency graph, to be drawn by Graphviz
   resume  Goes on from an earlier report, and prints the report
   audit   Tells whether the logs are covered
   check   Tells whether a list of instances is an order that the protocol allows
@@ -333,6 +338,36 @@ fn help_of_order_has_its_options(rt: HostRuntime) -> Result<(), Fail> {
         (&["epx", "order", "-h"], "--cut <M>"),
     ];
     expect_texts(&rt, rt.alloc(), 0, "Prints the execution order", &cases)
+}
+
+/// The short help of the graph, whole.
+const GRAPH_HELP: &str = "Prints the dependency graph, to be drawn by Graphviz
+
+Usage: epx graph [OPTIONS] [LOG]...
+
+Arguments:
+  [LOG]...  The logs to read, - for standard input; faults count them from 0
+
+Options:
+      --workers <N>  Workers that share the work, 1 to 64 [default: 4]
+      --cut <M>      Items in a piece of work, 1 to 65536 [default: 256]
+  -h, --help         Print help (see more with '--help')
+
+Example:
+  epx graph examples/replicas/*.jsonl | dot -Tsvg > graph.svg
+";
+
+#[test]
+fn help_of_graph_has_what_is_drawn(rt: HostRuntime) -> Result<(), Fail> {
+    let cases: [(&[&str], &str); 3] = [
+        (&["epx", "graph", "--help"], "missing ones dotted.\n"),
+        (&["epx", "graph", "--help"], " | dot -Tsvg > graph.svg\n"),
+        (&["epx", "help", "graph"], "[default: 256]"),
+    ];
+    let start = "Prints the dependency graph of what the logs commit in DOT";
+    expect_texts(&rt, rt.alloc(), 0, start, &cases)?;
+    let short: [(&[&str], &str); 1] = [(&["epx", "graph", "-h"], GRAPH_HELP)];
+    expect_texts(&rt, rt.alloc(), 0, GRAPH_HELP, &short)
 }
 
 /// The short help of resuming, whole.

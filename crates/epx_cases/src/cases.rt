@@ -3,13 +3,14 @@
 use crate::stage::NOT_UTF_8;
 
 /// Words of every kind, each list with the program's name.
-pub(crate) fn word_lists() -> [&'static [&'static str]; 21] {
+pub(crate) fn word_lists() -> [&'static [&'static str]; 22] {
     [
         &["epx"],
         &["epx", "--help"],
         &["epx", "--version"],
         &["epx", "order", "component.jsonl"],
         &["epx", "levels", "component.jsonl"],
+        &["epx", "graph", "0.jsonl", "1.jsonl", "2.jsonl"],
         &["epx", "run", "0.jsonl", "1.jsonl", "2.jsonl"],
         &["epx", "resume", "first.report", "second.jsonl"],
         &["epx", "resume", "second.jsonl", "second.jsonl"],

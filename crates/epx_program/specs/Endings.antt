@@ -4,7 +4,7 @@ use Rattle.std.specs.Io.KnownBytes.{Appends}
 use Rattle.epx_types.specs.declared.fault.Fault.{Fault}
 use Rattle.epx_types.specs.Faults.{fault_status}
 use Rattle.epx_words.specs.declared.asked.Task.{Task}
-use Rattle.epx_words.specs.declared.asked.Task.TheVariants.{Run, Order, Levels, Resume, Audit, Check}
+use Rattle.epx_words.specs.declared.asked.Task.TheVariants.{Run, Order, Levels, Graph, Resume, Audit, Check}
 use Rattle.epx_base.specs.Bases.{IsBadBase}
 use Rattle.epx_base.specs.Lists.{IsBadList}
 use Rattle.epx_tool.specs.Answer.{Answers}
@@ -33,6 +33,7 @@ abbrev pub IsTaskAnswer : Task → List (List ℕ) → Result (List ℕ) Fault �
 IsTaskAnswer Run texts answer = Answers IsReport texts answer
 IsTaskAnswer Order texts answer = Answers (IsViewed ask.Order) texts answer
 IsTaskAnswer Levels texts answer = Answers (IsViewed ask.Levels) texts answer
+IsTaskAnswer Graph texts answer = Answers (IsViewed ask.Graph) texts answer
 IsTaskAnswer Audit texts answer = Answers (IsViewed ask.Audit) texts answer
 IsTaskAnswer Resume texts answer = on_first_and_logs (λ base logs. Resumes base logs answer) texts
 IsTaskAnswer Check texts answer = on_first_and_logs (λ list logs. Checks list logs answer) texts
@@ -42,6 +43,7 @@ abbrev pub IsTaskFault : Task → List (List ℕ) → Fault → Type 0
 IsTaskFault Run texts fault = IsRunFault IsReport texts fault
 IsTaskFault Order texts fault = IsRunFault (IsViewed ask.Order) texts fault
 IsTaskFault Levels texts fault = IsRunFault (IsViewed ask.Levels) texts fault
+IsTaskFault Graph texts fault = IsRunFault (IsViewed ask.Graph) texts fault
 IsTaskFault Audit texts fault = IsRunFault (IsViewed ask.Audit) texts fault
 IsTaskFault Resume texts fault = on_first_and_logs (λ base logs. IsRunFaultBeside IsBadBase IsResumed base logs fault) texts
 IsTaskFault Check texts fault = on_first_and_logs (λ list logs. IsRunFaultBeside IsBadList IsChecked list logs fault) texts

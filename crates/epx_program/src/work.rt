@@ -101,6 +101,7 @@ fn answer<R: Threads + RandomSource + Sync, S: Source, W: Sink>(
         Task::Run => run(rt, alloc, sources, plan, output),
         Task::Order => show(rt, alloc, Ask::Order, sources, plan, output),
         Task::Levels => show(rt, alloc, Ask::Levels, sources, plan, output),
+        Task::Graph => show(rt, alloc, Ask::Graph, sources, plan, output),
         Task::Audit => show(rt, alloc, Ask::Audit, sources, plan, output),
         Task::Resume => answer_from_first(rt, alloc, FirstText::Base, plan, sources, output),
         Task::Check => answer_from_first(rt, alloc, FirstText::List, plan, sources, output),

@@ -106,6 +106,15 @@ pub(crate) fn ordered<R: Abort + Threads + RandomSource + Sync>(
     told(rt, alloc, view(rt, alloc, Ask::Order, logs, plan(rt)))
 }
 
+/// The picture of the dependency graph of the logs, or the text of their fault.
+pub(crate) fn pictured<R: Abort + Threads + RandomSource + Sync>(
+    rt: &R,
+    alloc: Global,
+    logs: &[Vec<u8>],
+) -> Result<String, Fail> {
+    told(rt, alloc, view(rt, alloc, Ask::Graph, logs, plan(rt)))
+}
+
 /// The conflict levels of one log of these instances are the wanted text, by any of these plans.
 pub(crate) fn levels_by<R: Abort + Threads + RandomSource + Sync>(
     rt: &R,

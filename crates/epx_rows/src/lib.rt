@@ -17,6 +17,8 @@ mod levelling;
 #[cfg(test)]
 mod ordering;
 #[cfg(test)]
+mod picturing;
+#[cfg(test)]
 mod reading;
 #[cfg(test)]
 mod refusing;

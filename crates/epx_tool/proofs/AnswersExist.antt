@@ -11,8 +11,9 @@ use Rattle.epx_types.proofs.OrdersExist.{execution_order_exists, waiting_list_ex
 use Rattle.epx_types.proofs.LevelsExist.{levels_exist}
 use Rattle.epx_merge.proofs.Existence.{answered_always}
 use Rattle.epx_order.proofs.UncoveredExists.{covered_or_not}
+use Rattle.epx_picture.proofs.PicturesExist.{picture_exists}
 use Rattle.epx_tool.specs.declared.ask.Ask.{Ask}
-use Rattle.epx_tool.specs.declared.ask.Ask.TheVariants.{Order, Levels, Audit}
+use Rattle.epx_tool.specs.declared.ask.Ask.TheVariants.{Order, Levels, Audit, Graph}
 use Rattle.epx_tool.specs.Report.{IsReport, report_text, commands_of}
 use Rattle.epx_tool.specs.OrderText.{IsOrderText, order_text}
 use Rattle.epx_tool.specs.LevelText.{IsLevelText, level_text}
@@ -54,6 +55,7 @@ module _ (m : List Instance) (rising : IsRising (ids_of m)) where
   view_text_exists Order = order_text_exists
   view_text_exists Levels = level_text_exists
   view_text_exists Audit = audit_text_exists
+  view_text_exists Graph = picture_exists m rising
 
 -- where each committed map has a text, every list of logs has an answer
 pub answer_exists : (Is : List Instance → List ℕ → Type 0) → ((m : List Instance) → IsRising (ids_of m) → (text : List ℕ) × Is m text) → (logs : List (List ℕ)) → (a : Result (List ℕ) Fault) × (a ≢ Err Memory) × Answers Is logs a

@@ -14,9 +14,10 @@ use Rattle.epx_tool.specs.Report.{IsReport, report_text, commands_of}
 use Rattle.epx_tool.specs.OrderText.{IsOrderText, order_text}
 use Rattle.epx_tool.specs.LevelText.{IsLevelText, level_text}
 use Rattle.epx_tool.specs.AuditText.{IsAuditText, uncovered_line}
+use Rattle.epx_picture.proofs.OnePicture.{picture_is_one}
 use Rattle.epx_order.proofs.OnePair.{uncovered_not_covered, least_uncovered_is_one}
 use Rattle.epx_tool.specs.declared.ask.Ask.{Ask}
-use Rattle.epx_tool.specs.declared.ask.Ask.TheVariants.{Order, Levels, Audit}
+use Rattle.epx_tool.specs.declared.ask.Ask.TheVariants.{Order, Levels, Audit, Graph}
 use Rattle.epx_tool.specs.Views.{IsViewed}
 use Rattle.epx_tool.specs.Answer.{Answers}
 
@@ -50,6 +51,7 @@ pub IsViewed-unique : (ask : Ask) (m : List Instance) (text other : List ℕ) �
 IsViewed-unique Order = IsOrderText-unique
 IsViewed-unique Levels = IsLevelText-unique
 IsViewed-unique Audit = IsAuditText-unique
+IsViewed-unique Graph = picture_is_one
 
 -- where each committed map has at most one text, logs have at most one answer, want of memory aside
 module _ (Is : List Instance → List ℕ → Type 0) (one : (m : List Instance) (text other : List ℕ) → Is m text → Is m other → text ≡ other) where

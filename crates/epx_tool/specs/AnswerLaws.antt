@@ -17,7 +17,7 @@ use Rattle.epx_tool.specs.Answer.{Answers, IsAnswer}
 abbrev pub ReportExists : Type 0
 ReportExists = (m : List Instance) → IsRising (ids_of m) → (text : List ℕ) × IsReport m text
 
--- a committed map has a text of its execution order, one of its conflict levels, and one of whether it is covered
+-- a committed map has a text of its execution order, one of its conflict levels, one of whether it is covered, and a picture
 abbrev pub ViewTextExists : Type 0
 ViewTextExists = (ask : Ask) (m : List Instance) → IsRising (ids_of m) → (text : List ℕ) × IsViewed ask m text
 

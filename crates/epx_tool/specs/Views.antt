@@ -2,13 +2,15 @@
 use Rattle.std.specs.Prelude.{ℕ, List}
 use Rattle.epx_types.specs.Instances.{Instance}
 use Rattle.epx_tool.specs.declared.ask.Ask.{Ask}
-use Rattle.epx_tool.specs.declared.ask.Ask.TheVariants.{Order, Levels, Audit}
+use Rattle.epx_tool.specs.declared.ask.Ask.TheVariants.{Order, Levels, Audit, Graph}
 use Rattle.epx_tool.specs.OrderText.{IsOrderText}
 use Rattle.epx_tool.specs.LevelText.{IsLevelText}
 use Rattle.epx_tool.specs.AuditText.{IsAuditText}
+use Rattle.epx_picture.specs.Pictures.{IsPicture}
 
 -- the text that answers a committed map
 abbrev pub IsViewed : Ask → List Instance → List ℕ → Type 0
 IsViewed Order = IsOrderText
 IsViewed Levels = IsLevelText
 IsViewed Audit = IsAuditText
+IsViewed Graph = IsPicture

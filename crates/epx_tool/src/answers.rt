@@ -10,6 +10,7 @@ ghost use Rattle.epx_tool.specs.AuditText.{IsAuditText};
 ghost use Rattle.epx_tool.specs.Report.{ops_of, IsReport};
 ghost use Rattle.epx_tool.specs.ResumedReport.{resumed_text, IsReportAfter};
 ghost use Rattle.epx_tool.specs.Views.{IsViewed};
+ghost use Rattle.epx_picture.specs.Pictures.{IsPicture};
 
 use crate::ask::Ask;
 use crate::report::{level_report, order_report, report};
@@ -19,6 +20,7 @@ use epx_claims::FreeGate;
 use epx_graph::{Waiter, build, build_after, waiting};
 use epx_merge::{Merged, read_logs};
 use epx_order::{OrderList, audit, order};
+use epx_picture::picture;
 use epx_txn::Store;
 use epx_types::{Command, Fault, Id, Memory, Plan, Reply};
 use std::alloc::Global;
@@ -154,6 +156,19 @@ fn audit_of<R: Threads + Sync>(
     audit_line(alloc, found)
 }
 
+/// The dependency graph of a committed map, as a picture.
+fn picture_of<R: Threads + Sync>(
+    rt: &R,
+    alloc: Global,
+    merged: &Merged,
+    plan: Plan,
+) -> Result<Vec<u8>, Memory>
+    ensures { IfOk result (λ text. IsPicture merged.now text.items) }
+{
+    let graph = build(rt, alloc, merged, plan)?;
+    picture(alloc, merged, &graph)
+}
+
 /// The report of the logs, or their first refusal. The answer is the same for every plan.
 pub fn answer<R: Threads + RandomSource + Sync>(
     rt: &R,
@@ -209,5 +224,6 @@ pub fn view<R: Threads + RandomSource + Sync>(
         Ask::Order => Ok(order_of(rt, alloc, &merged, plan)?),
         Ask::Levels => Ok(levels_of(rt, alloc, &merged, plan)?),
         Ask::Audit => Ok(audit_of(rt, alloc, &merged, plan)?),
+        Ask::Graph => Ok(picture_of(rt, alloc, &merged, plan)?),
     }
 }

@@ -9,4 +9,6 @@ pub enum Ask {
     Levels,
     /// Whether the instances are covered, with the least two that show it where they are not.
     Audit,
+    /// The dependency graph, as a picture for Graphviz.
+    Graph,
 }

@@ -8,7 +8,7 @@ pub fn report_exists()
     ensures { ReportExists }
 {}
 
-/// A committed map has a text of its execution order, one of its conflict levels, and one of whether it is covered.
+/// A committed map has a text of its execution order, one of its conflict levels, one of whether it is covered, and a picture.
 pub fn view_text_exists()
     ensures { ViewTextExists }
 {}

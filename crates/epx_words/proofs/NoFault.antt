@@ -82,23 +82,21 @@ task_works name rest (inl is) = named name (codes "run") rest is (λ none. logs_
 task_works name rest (inr (inl is)) = named name (codes "order") rest is (λ none. logs_work (codes "order") rest (has_none (codes "order") refl refl) (inr (inl refl)) none)
 task_works name rest (inr (inr (inl is))) =
     named name (codes "levels") rest is (λ none. logs_work (codes "levels") rest (has_none (codes "levels") refl refl) (inr (inr (inl refl))) none)
-task_works name rest (inr (inr (inr (inl is)))) = named name (codes "resume") rest is (λ none. first_works (codes "resume") rest none (inr (inr (inr (inl refl)))))
+task_works name rest (inr (inr (inr (inl is)))) =
+    named name (codes "graph") rest is (λ none. logs_work (codes "graph") rest (has_none (codes "graph") refl refl) (inr (inr (inr (inl refl)))) none)
 task_works name rest (inr (inr (inr (inr (inl is))))) =
-    named name (codes "audit") rest is (λ none. logs_work (codes "audit") rest (has_none (codes "audit") refl refl) (inr (inr (inr (inr (inl refl))))) none)
-task_works name rest (inr (inr (inr (inr (inr is))))) = named name (codes "check") rest is (λ none. first_works (codes "check") rest none (inr (inr (inr (inr (inr refl))))))
+    named name (codes "resume") rest is (λ none. first_works (codes "resume") rest none (inr (inr (inr (inr (inl refl))))))
+task_works name rest (inr (inr (inr (inr (inr (inl is)))))) =
+    named name (codes "audit") rest is (λ none. logs_work (codes "audit") rest (has_none (codes "audit") refl refl) (inr (inr (inr (inr (inr (inl refl)))))) none)
+task_works name rest (inr (inr (inr (inr (inr (inr is)))))) =
+    named name (codes "check") rest is (λ none. first_works (codes "check") rest none (inr (inr (inr (inr (inr (inr refl)))))))
 
 stop_works : (stop : Option (Text × List Text)) → StopsAtTask stop → is_some (entered app stop) ≡ true → entered_fault app stop ≡ [] → GivesWork (entered app stop)
 stop_works None task there none = cc
 stop_works (Some p) task there none = task_works p.0 p.1 task none
 
 known : AllByRecursion (λ (l : Text × List Text). IsKnownName l.0) (names_of app)
-known = (
-  inl (inl refl),
-  (
-    inl (inr (inl refl)),
-    (inl (inr (inr (inl refl))), (inl (inr (inr (inr (inl refl)))), (inl (inr (inr (inr (inr (inl refl))))), (inl (inr (inr (inr (inr (inr refl))))), (inr refl, tt))))),
-  ),
-)
+known = (inl (inl refl), (inl (inr (inl refl)), (inl (inr (inr (inl refl))), (inl (inr (inr (inr (inl refl)))), (inl (inr (inr (inr (inr (inl refl))))), (inl (inr (inr (inr (inr (inr (inl refl)))))), (inl (inr (inr (inr (inr (inr (inr (refl))))))), (inr refl, tt))))))))
 
 subcommand_there : (rows : List Row) (there : Bool) → check_fault app.top rows there ≡ [] → there ≡ true
 subcommand_there rows true none = refl

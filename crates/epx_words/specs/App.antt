@@ -1,4 +1,4 @@
--- The program as clap knows it: six subcommands, each with two numbers and any number of logs, and two of them with a text before these.
+-- The program as clap knows it: seven subcommands, each with two numbers and any number of logs, and two of them with a text before these.
 use Rattle.std.specs.Prelude.{ℕ, true, Some, [], ◌∷◌, codes}
 use Rattle.clap.specs.Simple.{on_top}
 use Rattle.clap.specs.Words.{App, Rule, Text, new_app, new_rule, with_rule, with_subcommand}
@@ -40,9 +40,10 @@ first_app name = with_rule (with_rule (numbers_app name) first_rule) logs_rule
 abbrev pub epx_start : App
 epx_start = on_top (λ shape. record shape { has_version = true; subcommand_required = true }) (new_app (codes "epx"))
 
--- the program with the subcommands that execute or order
+-- the program with the subcommands that execute, order or draw
 abbrev pub runs_app : App
-runs_app = with_subcommand (with_subcommand (with_subcommand epx_start (work_app (codes "run")).top) (work_app (codes "order")).top) (work_app (codes "levels")).top
+runs_app =
+    with_subcommand (with_subcommand (with_subcommand (with_subcommand epx_start (work_app (codes "run")).top) (work_app (codes "order")).top) (work_app (codes "levels")).top) (work_app (codes "graph")).top
 
 -- the program
 abbrev pub epx_app : App

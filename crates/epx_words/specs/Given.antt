@@ -43,7 +43,8 @@ IsNumberUpTo most (Some text) = IsUnsignedIn 1 most text
 
 -- the name of a subcommand that asks for work
 abbrev pub IsTaskName : Text → Type 0
-IsTaskName name = (name ≡ codes "run") ⊎ ((name ≡ codes "order") ⊎ ((name ≡ codes "levels") ⊎ ((name ≡ codes "resume") ⊎ ((name ≡ codes "audit") ⊎ (name ≡ codes "check")))))
+IsTaskName name =
+    (name ≡ codes "run") ⊎ ((name ≡ codes "order") ⊎ ((name ≡ codes "levels") ⊎ ((name ≡ codes "graph") ⊎ ((name ≡ codes "resume") ⊎ ((name ≡ codes "audit") ⊎ (name ≡ codes "check"))))))
 
 -- the name of a subcommand that reads a text before the logs: a base, or a list
 abbrev pub HasFirst : Text → Type 0

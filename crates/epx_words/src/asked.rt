@@ -11,6 +11,8 @@ pub enum Task {
     Order,
     /// The conflict levels.
     Levels,
+    /// The dependency graph, as a picture.
+    Graph,
     /// The report over a base, which is an earlier report.
     Resume,
     /// Whether the logs are covered.

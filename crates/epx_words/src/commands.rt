@@ -76,6 +76,22 @@ with the missing one that it waits for. Commands of one level do not conflict.",
     long_after: LOGS_AND_EXAMPLE,
 };
 
+const GRAPH: Help = Help {
+    about: "Prints the dependency graph, to be drawn by Graphviz",
+    long_about: "Prints the dependency graph of what the logs commit in DOT, the language of
+Graphviz, and executes nothing: a box for each instance with its depth and
+sequence number, an arrow to each of its dependencies, a cluster for each
+component of two or more; instances that wait are dashed, missing ones dotted.",
+    after: "Example:
+  epx graph examples/replicas/*.jsonl | dot -Tsvg > graph.svg",
+    long_after: "Of two ready instances that an arrow joins, the one that it leads to is executed
+first, but for two of one cluster, which reach each other: these are executed by
+sequence number, then replica, then number.
+
+Example:
+  epx graph examples/replicas/*.jsonl | dot -Tsvg > graph.svg",
+};
+
 const RESUME: Help = Help {
     about: "Goes on from an earlier report, and prints the report",
     long_about: "Executes what the logs commit and an earlier report has not executed yet, over
@@ -233,17 +249,19 @@ fn start<'a>(alloc: Global) -> Command<'a>
         .subcommand_required(true)
 }
 
-/// The program with what executes or orders.
+/// The program with what executes, orders or draws.
 fn with_runs<'a>(alloc: Global) -> Result<Command<'a>, AllocError>
     ensures { IfOk result (λ c. app_of c ≡ runs_app) }
 {
     let run = over_logs(alloc, "run", RUN)?;
     let order = over_logs(alloc, "order", ORDER)?;
     let levels = over_logs(alloc, "levels", LEVELS)?;
+    let graph = over_logs(alloc, "graph", GRAPH)?;
     start(alloc)
         .subcommand(run)?
         .subcommand(order)?
-        .subcommand(levels)
+        .subcommand(levels)?
+        .subcommand(graph)
 }
 
 /// The whole program.

@@ -55,7 +55,9 @@ fn paths_of(alloc: Global, task: Task, matches: &ArgMatches<'_>) -> Result<Vec<S
 {
     match task {
         Task::Resume | Task::Check => first_and_logs(alloc, matches),
-        Task::Run | Task::Order | Task::Levels | Task::Audit => logs_of(alloc, matches),
+        Task::Run | Task::Order | Task::Levels | Task::Graph | Task::Audit => {
+            logs_of(alloc, matches)
+        },
     }
 }
 
@@ -80,6 +82,8 @@ fn task_of(name: &str) -> Task
         Task::Order
     } else if name == "levels" {
         Task::Levels
+    } else if name == "graph" {
+        Task::Graph
     } else if name == "resume" {
         Task::Resume
     } else if name == "audit" {

@@ -1,4 +1,4 @@
-use Rattle.epx_words.specs.declared.asked.Task.TheVariants.{Run, Order, Levels, Audit}
+use Rattle.epx_words.specs.declared.asked.Task.TheVariants.{Run, Order, Levels, Graph, Audit}
 use Rattle.epx_program.proofs.Statuses.{comes-to}
 use Rattle.epx_program.proofs.work.answer.Goals as goal
 
@@ -19,6 +19,12 @@ returns-in-Order-clause-answered g c = rw c.in-Order.is c.show.ensures.answered
 
 pub returns-in-Levels-clause-answered : goal.returns-in-Levels-clause-answered
 returns-in-Levels-clause-answered g c = rw c.in-Levels.is c.show-in-Levels.ensures.answered
+
+pub returns-in-Graph-clause-answer : goal.returns-in-Graph-clause-answer
+returns-in-Graph-clause-answer g c = rw c.in-Graph.is (comes-to g.S.Source.remaining c.args.sources.now Graph c.show-in-Graph.result (g.W.Sink.contents c.args.output.now) (g.W.Sink.contents c.show-in-Graph.new.sink) c.show-in-Graph.ensures.text c.show-in-Graph.ensures.refusal)
+
+pub returns-in-Graph-clause-answered : goal.returns-in-Graph-clause-answered
+returns-in-Graph-clause-answered g c = rw c.in-Graph.is c.show-in-Graph.ensures.answered
 
 pub returns-in-Audit-clause-answer : goal.returns-in-Audit-clause-answer
 returns-in-Audit-clause-answer g c = rw c.in-Audit.is (comes-to g.S.Source.remaining c.args.sources.now Audit c.show-in-Audit.result (g.W.Sink.contents c.args.output.now) (g.W.Sink.contents c.show-in-Audit.new.sink) c.show-in-Audit.ensures.text c.show-in-Audit.ensures.refusal)
