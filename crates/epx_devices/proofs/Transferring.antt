@@ -1,13 +1,16 @@
 -- What the two transfers keep from call to call.
-use Rattle.std.proofs.Common.{◌≡◌, ℕ, ◌+◌, ◌-◌, ◌≤◌, Bool, false, List, ◌++◌, length, take, drop, Option, arith}
-use Rattle.std.proofs.lemmas.Grind.{common_steps}
+use Rattle.std.proofs.Common.{◌≡◌, ℕ, ◌+◌, ◌-◌, ◌≤◌, Bool, false, List, [], ◌∷◌, ◌++◌, length, take, drop, flat_map, Option, refl, sym, ap, ◌∙◌, subst, arith, append-nil}
+use Rattle.std.proofs.lemmas.Grind.{common_steps, flat_map-append}
+use Rattle.epx_devices.specs.Deliveries.{ReadRelation, ReadStep, AreReads, Delivers}
 use Rattle.epx_devices.proofs.KnownBytes.{appends-then, consumes-then, take-more}
 use Rattle.std.specs.Io.KnownBytes.{Appends, Consumes}
 
 -- these bytes have come, and no call has failed
-pub record IsRead {S : Type 0} (remaining : S → Option (List ℕ)) (has_failed : S → Bool) (first now : S) (bytes : List ℕ) : Type 0 where
+pub record IsRead {S : Type 0} (remaining : S → Option (List ℕ)) (reads : ReadRelation S)
+    (has_failed : S → Bool) (first now : S) (bytes : List ℕ) : Type 0 where
   pub whole : has_failed now ≡ false
   pub come : Consumes (remaining first) (remaining now) bytes
+  pub delivered : Delivers reads first now bytes
   pub few : length bytes ≤ 67108865
 
 -- n of the bytes are taken, and no call has failed
@@ -29,9 +32,41 @@ written-further contents has_failed first now later bytes n k sofar few gone who
       gone = rw take-more at all;
     }
 
-pub read-further : {S : Type 0} (remaining : S → Option (List ℕ)) (has_failed : S → Bool) (first now later : S) (bytes part : List ℕ) → IsRead remaining has_failed first now bytes → Consumes (remaining now) (remaining later) part → length bytes + length part ≤ 67108865 → has_failed later ≡ false → IsRead remaining has_failed first later (bytes ++ part)
-read-further remaining has_failed first now later bytes part sofar come few whole = record {
-  whole = whole;
-  come = consumes-then (remaining first) (remaining now) (remaining later) bytes part sofar.come come;
-  few = grind (arith, common_steps);
-}
+module _ {S : Type 0} (reads : ReadRelation S) where
+  abbrev returned_by : List (ReadStep S) → List ℕ
+  returned_by steps = flat_map (λ (r : ReadStep S). r.bytes) steps
+
+  one_more_read : (first now : S) (steps : List (ReadStep S)) (next : ReadStep S)
+      → AreReads reads first steps now → reads now next.room next.bytes next.next
+      → AreReads reads first (steps ++ next ∷ []) next.next
+  one_more_read first now [] next before read =
+      (subst (λ (s : S). reads s next.room next.bytes next.next) (sym before) read, refl)
+  one_more_read first now (r ∷ steps) next before read =
+      (before.0, one_more_read r.next now steps next before.1 read)
+
+  -- one more read returned a part
+  delivered-then : (first now later : S) (bytes part : List ℕ) (room : ℕ)
+      → Delivers reads first now bytes → reads now room part later
+      → Delivers reads first later (bytes ++ part)
+  delivered-then first now later bytes part room sofar read =
+      let next : ReadStep S = record { room = room; bytes = part; next = later } in
+      let all = flat_map-append (λ (r : ReadStep S). r.bytes) sofar.steps (next ∷ []) in
+      let last = ap (λ bs. returned_by sofar.steps ++ bs) (append-nil part) in
+      record {
+        steps = sofar.steps ++ next ∷ [];
+        in_turn = one_more_read first now sofar.steps next sofar.in_turn read;
+        returned = ap (λ bs. bs ++ part) sofar.returned ∙ sym (all ∙ last);
+      }
+
+  module _ (remaining : S → Option (List ℕ)) (has_failed : S → Bool) where
+    pub read-further : (first now later : S) (bytes part : List ℕ) (room : ℕ)
+        → IsRead remaining reads has_failed first now bytes
+        → Consumes (remaining now) (remaining later) part → reads now room part later
+        → length bytes + length part ≤ 67108865 → has_failed later ≡ false
+        → IsRead remaining reads has_failed first later (bytes ++ part)
+    read-further first now later bytes part room sofar come read few whole = record {
+      whole = whole;
+      come = consumes-then (remaining first) _ (remaining later) bytes part sofar.come come;
+      delivered = delivered-then first now later bytes part room sofar.delivered read;
+      few = grind (arith, common_steps);
+    }

@@ -22,3 +22,9 @@ pub record WatchedPath (F : Type 0) : Type 0 where
 abbrev pub GivesNext : {F : Type 0} → (F → Option (List ℕ)) → Option F → Option F → List ℕ → Type 0
 GivesNext {F} remaining old new bytes = (before : F) × (after : F) × IfSome old (λ first. first ≡ before) × (new ≡ Some after)
     × Consumes (remaining before) (remaining after) bytes
+
+-- a read of the file at the path returned these bytes
+abbrev pub ReadsPath : {F : Type 0} → (F → Option (List ℕ))
+    → WatchedPath F → WatchedPath F → List ℕ → Type 0
+ReadsPath remaining old new bytes =
+    (new.path ≡ old.path) × GivesNext remaining old.file new.file bytes

@@ -1,5 +1,5 @@
 //! What a log is read from, and what a report is written to.
-ghost use Rattle.std.specs.Prelude.{◌≡◌, ℕ, Bool, true, List, Option, None, OnOk, IsErr};
+ghost use Rattle.std.specs.Prelude.{◌≡◌, ⊤, ℕ, Bool, true, List, Option, None, IfOk, OnOk, OnErr, IsErr, length, take};
 ghost use Rattle.std.specs.Io.{ReadsAtMost, WritesAtMost};
 ghost use Rattle.std.specs.Io.KnownBytes.{Keeps, ReadConsumes, WriteAppends};
 ghost use Rattle.epx_devices.specs.Devices.{TakesSome, failed_after};
@@ -13,6 +13,13 @@ pub trait Source {
     // The bytes that reads will give from here on, where they are known.
     ghost remaining: { Self → Option (List ℕ) } = { λ _. None };
 
+    // A read with so much room returned these bytes, and left the source so. Generic code can have
+    // this of a call of `read_some` alone, so it ties an answer to the bytes of files too.
+    ghost reads: { Self → ℕ → List ℕ → Self → Type 0 } = { λ _ _ _ _. ⊤ };
+
+    // A read failed, and left the source so.
+    ghost fails: { Self → Self → Type 0 } = { λ _ _. ⊤ };
+
     // Whether a call has answered an error.
     ghost has_failed: { Self → Bool };
 
@@ -21,6 +28,9 @@ pub trait Source {
     fn read_some(&mut self, part: &mut [u8]) -> Result<usize, DeviceFault>
         ensures bound { ReadsAtMost result part.new }
         ensures bytes { ReadConsumes (remaining self.old) (remaining self.new) result part.new }
+        ensures delivered { IfOk result (λ n.
+            reads self.old (length part.new) (take n part.new) self.new) }
+        ensures failing { OnErr result (fails self.old self.new) }
         ensures failures { has_failed self.new ≡ failed_after (has_failed self.old) result };
 
     /// Whether a call has answered an error.

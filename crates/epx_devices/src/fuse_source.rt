@@ -1,5 +1,5 @@
 //! A source over memory that fails once a set number of bytes have passed.
-ghost use Rattle.std.specs.Prelude.{◌≡◌, ◌≤◌, ◌↔◌, false, Some, IfOk, OnErr, IsErr, length, min, drop};
+ghost use Rattle.std.specs.Prelude.{◌≡◌, ◌≤◌, ◌↔◌, ◌++◌, false, Some, IfOk, OnErr, IsErr, length, min, take, drop};
 ghost use Rattle.std.specs.Io.{ReadsAtMost};
 ghost use Rattle.std.specs.Io.KnownBytes.{ReadConsumes};
 ghost use Rattle.epx_devices.specs.Devices.{failed_after};
@@ -47,11 +47,17 @@ impl<'a> FuseSource<'a> {
 impl Source for FuseSource<'_> {
     ghost remaining = { λ s. Some s.bytes };
 
+    ghost reads = { λ s _ bytes t. s.bytes ≡ bytes ++ t.bytes };
+
+    ghost fails = { λ s t. IsBlown s × (t ≡ after_failure s) };
+
     ghost has_failed = { λ s. s.failed };
 
     fn read_some(&mut self, part: &mut [u8]) -> Result<usize, DeviceFault>
         ensures bound { ReadsAtMost result part.new }
         ensures bytes { ReadConsumes (Some self.old.bytes) (Some self.new.bytes) result part.new }
+        ensures delivered { IfOk result (λ n. self.old.bytes ≡ take n part.new ++ self.new.bytes) }
+        ensures failing { OnErr result (IsBlown self.old × (self.new ≡ after_failure self.old)) }
         ensures failures { self.new.failed ≡ failed_after self.old.failed result }
 
         ensures blown { IsErr result ↔ IsBlown self.old }

@@ -1,5 +1,5 @@
 //! A source over memory, whose bytes are known.
-ghost use Rattle.std.specs.Prelude.{◌≡◌, false, List, ℕ, Some, Ok, length, min};
+ghost use Rattle.std.specs.Prelude.{◌≡◌, ◌++◌, false, List, ℕ, Some, Ok, IfOk, OnErr, length, min, take};
 ghost use Rattle.std.specs.Io.{ReadsAtMost};
 ghost use Rattle.std.specs.Io.KnownBytes.{ReadConsumes};
 ghost use Rattle.epx_devices.specs.Devices.{failed_after};
@@ -30,11 +30,17 @@ impl<'a> MemorySource<'a> {
 impl Source for MemorySource<'_> {
     ghost remaining = { λ s. Some s };
 
+    ghost reads = { λ s _ bytes t. s ≡ bytes ++ t };
+
+    ghost fails = { λ _ _. ⊥ };
+
     ghost has_failed = { λ _. false };
 
     fn read_some(&mut self, part: &mut [u8]) -> Result<usize, DeviceFault>
         ensures bound { ReadsAtMost result part.new }
         ensures bytes { ReadConsumes (Some self.old) (Some self.new) result part.new }
+        ensures delivered { IfOk result (λ n. self.old ≡ take n part.new ++ self.new) }
+        ensures failing { OnErr result ⊥ }
         ensures whole { result ≡ Ok (min (length part.new) (length self.old)) }
     {
         let count = part.len().min(self.bytes.len());

@@ -1,9 +1,9 @@
 //! A source over the file at a path.
-ghost use Rattle.std.specs.Prelude.{◌≡◌, false, take, None, IfOk, option_and_then};
+ghost use Rattle.std.specs.Prelude.{◌≡◌, true, false, take, None, IfOk, OnErr, option_and_then};
 ghost use Rattle.std.specs.Io.{ReadsAtMost};
 ghost use Rattle.std.specs.Io.KnownBytes.{ReadConsumes};
 ghost use Rattle.epx_devices.specs.Devices.{failed_after};
-ghost use Rattle.epx_devices.specs.WatchedDevices.{GivesNext};
+ghost use Rattle.epx_devices.specs.WatchedDevices.{GivesNext, ReadsPath};
 
 use crate::again::read_again;
 use crate::device::{DeviceFault, Source};
@@ -66,16 +66,23 @@ impl<'a, R: Files> Source for PathSource<'a, R> {
     // What reads of the open file will give.
     ghost remaining = { λ s. option_and_then R.File.remaining s.file };
 
+    ghost reads = { λ s _ bytes t. ReadsPath R.File.remaining s t bytes };
+
+    ghost fails = { λ s t. (t.path ≡ s.path) × (t.failed ≡ true) };
+
     ghost has_failed = { λ s. s.failed };
 
     fn read_some(&mut self, part: &mut [u8]) -> Result<usize, DeviceFault>
         ensures bound { ReadsAtMost result part.new }
         ensures bytes { let left = option_and_then R.File.remaining self.new.file in
             ReadConsumes (option_and_then R.File.remaining self.old.file) left result part.new }
+        ensures delivered { IfOk result (λ n.
+            ReadsPath R.File.remaining self.old self.new (take n part.new)) }
+        ensures failing { OnErr result
+            ((self.new.path ≡ self.old.path) × (self.new.failed ≡ true)) }
         ensures failures { self.new.failed ≡ failed_after self.old.failed result }
 
         ensures path { self.new.path ≡ self.old.path }
-        ensures given { IfOk result (λ count. GivesNext R.File.remaining self.old.file self.new.file (take count part.new)) }
     {
         match self.next_bytes(part) {
             Ok(count) => Ok(count),

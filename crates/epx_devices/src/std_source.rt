@@ -1,5 +1,6 @@
 //! A source over std's readers.
-ghost use Rattle.std.specs.Prelude.{◌≡◌, false};
+ghost use Rattle.std.specs.Prelude.{◌≡◌, true, false};
+ghost use Rattle.std.specs.Io.KnownBytes.{Consumes};
 
 use crate::again::read_again;
 use crate::device::{DeviceFault, Source};
@@ -34,6 +35,10 @@ impl<R: Read> StdSource<R> {
 
 impl<R: Read> Source for StdSource<R> {
     ghost remaining = { λ s. R.remaining s.reader };
+
+    ghost reads = { λ s _ bytes t. Consumes (R.remaining s.reader) (R.remaining t.reader) bytes };
+
+    ghost fails = { λ _ t. t.failed ≡ true };
 
     ghost has_failed = { λ s. s.failed };
 

@@ -3,7 +3,9 @@ use Rattle.epx_devices.proofs.Transferring.{IsRead}
 use Rattle.epx_devices.proofs.transfer.read_log.Given as goal
 
 abbrev pub invariant-loop-part : goal.invariant-loop-part
-invariant-loop-part g l = IsRead g.R.Source.remaining g.R.Source.has_failed l.fn.source l.source l.bytes.items
+invariant-loop-part g l =
+    let source = g.R.Source in
+    IsRead source.remaining source.reads source.has_failed l.fn.source l.source l.bytes.items
 
 abbrev pub decreases-loop-part : goal.decreases-loop-part
 decreases-loop-part g l = 67108865 - length l.bytes.items

@@ -1,0 +1,62 @@
+-- What the reads of a source delivered, whether or not its bytes were known before.
+use Rattle.std.specs.Prelude.{◌≡◌, ℕ, ◌+◌, ◌<◌, List, [], ◌∷◌, length, flat_map}
+use Rattle.epx_types.specs.declared.fault.Fault.{Fault}
+use Rattle.epx_types.specs.declared.fault.Fault.TheVariants.{Memory, LogTooLong, Read}
+use Rattle.epx_devices.specs.declared.transfer.TheConstants.{MAX_LOG_BYTES}
+
+-- that a read with so much room returned these bytes and left the source so
+abbrev pub ReadRelation : Type 0 → Type 1
+ReadRelation S = S → ℕ → List ℕ → S → Type 0
+
+-- that a read failed and left the source so
+abbrev pub FailRelation : Type 0 → Type 1
+FailRelation S = S → S → Type 0
+
+-- one read: how many bytes it had room for, those that it returned, and the source after it
+pub record ReadStep (S : Type 0) : Type 0 where
+  pub room : ℕ
+  pub bytes : List ℕ
+  pub next : S
+
+-- each read begins where the one before it left the source
+abbrev pub AreReads : {S : Type 0} → ReadRelation S → S → List (ReadStep S) → S → Type 0
+AreReads reads first [] now = first ≡ now
+AreReads reads first (r ∷ rest) now =
+    reads first r.room r.bytes r.next × AreReads reads r.next rest now
+
+-- reads of the source returned exactly these bytes
+pub record Delivers {S : Type 0} (reads : ReadRelation S)
+    (first now : S) (bytes : List ℕ) : Type 0 where
+  pub steps : List (ReadStep S)
+  pub in_turn : AreReads reads first steps now
+  pub returned : bytes ≡ flat_map (λ r. r.bytes) steps
+
+-- these are all its bytes: one more read, which had room, returned none
+pub record DeliversAll {S : Type 0} (reads : ReadRelation S)
+    (first now : S) (bytes : List ℕ) : Type 0 where
+  pub last : S
+  pub before : Delivers reads first last bytes
+  pub room : ℕ
+  pub has_room : 0 < room
+  pub ended : reads last room [] now
+
+-- reads of the source returned exactly so many bytes
+abbrev pub DeliversExactly : {S : Type 0} → ReadRelation S → S → S → ℕ → Type 0
+DeliversExactly reads first now n =
+    (bytes : List ℕ) × Delivers reads first now bytes × (length bytes ≡ n)
+
+-- reads of the source returned some bytes or none, and the one after them failed
+pub record DeliversThenFails {S : Type 0} (reads : ReadRelation S) (fails : FailRelation S)
+    (first now : S) : Type 0 where
+  pub last : S
+  pub bytes : List ℕ
+  pub before : Delivers reads first last bytes
+  pub failed : fails last now
+
+-- reading the log of this number stopped with this fault: it is too long, or a read failed
+abbrev pub StopsLog : {S : Type 0} → ReadRelation S → FailRelation S → ℕ → S → S → Fault → Type 0
+StopsLog reads fails log first now Memory = Unit {0}
+StopsLog reads fails log first now (LogTooLong k) =
+    (k ≡ log) × DeliversExactly reads first now (MAX_LOG_BYTES + 1)
+StopsLog reads fails log first now (Read k) = (k ≡ log) × DeliversThenFails reads fails first now
+StopsLog reads fails log first now _ = ⊥
