@@ -12,3 +12,8 @@ pub mod DoneLists
 pub mod ReportBases
 pub mod DoneRise
 pub mod IdSets
+pub mod ReadStrings
+pub mod ReadValues
+pub mod LineRanges
+pub mod BaseRanges
+pub mod ExecutedRanges

@@ -1,6 +1,7 @@
 //! Reading a base.
 ghost use Rattle.std.specs.Prelude.{◌≡◌, IfOk, IfErr};
 ghost use Rattle.epx_base.specs.Bases.{IsBase, IsBaseFault};
+ghost use Rattle.epx_types.specs.Ids.{IsRising};
 
 use crate::progress::Progress;
 use crate::read::BaseLineReader;
@@ -20,16 +21,20 @@ pub struct Base {
 
 impl Model for Base {
     ghost use Rattle.epx_base.specs.DoneAndStored.{DoneAndStored, done_and_stored_code};
+    ghost use Rattle.epx_types.specs.Ids.{IsRising};
 
     ghost Value = { DoneAndStored };
 
     ghost coded = { done_and_stored_code };
 
     ghost view = { λ b. record { done = b.done.items; stored = b.store } };
+
+    ghost invariant = { λ b. IsRising b.done.items };
 }
 
 impl Base {
     pub(crate) fn new(done: Vec<Id>, store: Store) -> Base
+        requires { IsRising done.items }
         ensures done { result.done ≡ done.items }
         ensures stored { result.stored ≡ store }
     {
@@ -38,7 +43,8 @@ impl Base {
 
     /// The instances that are done, by rising Id.
     pub fn done(&self) -> &[Id]
-        ensures { result.now ≡ self.now.done }
+        ensures done { result.now ≡ self.now.done }
+        ensures rising { IsRising result.now }
     {
         self.done.as_slice()
     }
@@ -46,6 +52,7 @@ impl Base {
     /// The instances that are done, by rising Id, and the store.
     pub fn into_parts(self) -> (Vec<Id>, Store)
         ensures done { result.0.items ≡ self.done }
+        ensures rising { IsRising result.0.items }
         ensures store { result.1 ≡ self.stored }
     {
         (self.done, self.store)

@@ -95,7 +95,8 @@ impl IdSet {
 
     /// The Ids, rising; where all came so, without a look at them.
     pub(crate) fn into_vec(self) -> Result<Vec<Id>, Memory>
-        ensures { IfOk result (λ ids. ids.items ≡ self) }
+        ensures ids { IfOk result (λ ids. ids.items ≡ self) }
+        ensures rising { IfOk result (λ ids. IsRising ids.items) }
     {
         let IdSet {
             rising: mut ids,
