@@ -1,0 +1,94 @@
+-- A source of one of two kinds that fails is one of that kind that fails.
+use Rattle.std.proofs.Common.{◌≡◌, ℕ, List, [], ◌∷◌, flat_map, refl, sym, subst}
+use Rattle.epx_devices.specs.declared.either_source.EitherSource.{EitherSource}
+use Rattle.epx_devices.specs.declared.either_source.EitherSource.TheVariants.{First, Second}
+use Rattle.epx_devices.specs.Deliveries.{FailRelation, ReadRelation, ReadStep, AreReads, DeliversThenFails}
+use Rattle.epx_devices.specs.EitherSources.{fails_by, reads_by}
+
+module _ {A B : Type 0} (ra : ReadRelation A) (rb : ReadRelation B) where
+  abbrev either_reads : ReadRelation (EitherSource A B)
+  either_reads = reads_by ra rb
+
+  -- reads from a source of the first kind end in one of it
+  abbrev FirstFrom : EitherSource A B → EitherSource A B → Type 0
+  FirstFrom (First a) now =
+      (steps : List (ReadStep A)) × (last : A) × (now ≡ First last) × AreReads ra a steps last
+  FirstFrom (Second b) now = Unit {0}
+
+  first_step : (a : A) (room : ℕ) (bytes : List ℕ) (next now : EitherSource A B)
+      → either_reads (First a) room bytes next → FirstFrom next now → FirstFrom (First a) now
+  first_step a room bytes (First next) now read later =
+      let step : ReadStep A = record { room = room; bytes = bytes; next = next } in
+      (step ∷ later.0, later.1, later.2, (read, later.3))
+  first_step a room bytes (Second b) now read later = absurd read
+
+  first_reads : (s : EitherSource A B) (steps : List (ReadStep (EitherSource A B)))
+      (now : EitherSource A B) → AreReads either_reads s steps now → FirstFrom s now
+  first_reads (Second b) steps now h = tt
+  first_reads (First a) [] now h = ([], a, sym h, refl)
+  first_reads (First a) (r ∷ steps) now h =
+      first_step a r.room r.bytes r.next now h.0 (first_reads r.next steps now h.1)
+
+  -- reads from a source of the second kind end in one of it
+  abbrev SecondFrom : EitherSource A B → EitherSource A B → Type 0
+  SecondFrom (First a) now = Unit {0}
+  SecondFrom (Second b) now =
+      (steps : List (ReadStep B)) × (last : B) × (now ≡ Second last) × AreReads rb b steps last
+
+  second_step : (b : B) (room : ℕ) (bytes : List ℕ) (next now : EitherSource A B)
+      → either_reads (Second b) room bytes next → SecondFrom next now → SecondFrom (Second b) now
+  second_step b room bytes (First a) now read later = absurd read
+  second_step b room bytes (Second next) now read later =
+      let step : ReadStep B = record { room = room; bytes = bytes; next = next } in
+      (step ∷ later.0, later.1, later.2, (read, later.3))
+
+  second_reads : (s : EitherSource A B) (steps : List (ReadStep (EitherSource A B)))
+      (now : EitherSource A B) → AreReads either_reads s steps now → SecondFrom s now
+  second_reads (First a) steps now h = tt
+  second_reads (Second b) [] now h = ([], b, sym h, refl)
+  second_reads (Second b) (r ∷ steps) now h =
+      second_step b r.room r.bytes r.next now h.0 (second_reads r.next steps now h.1)
+
+  module _ (fa : FailRelation A) (fb : FailRelation B) where
+    abbrev either_fails : FailRelation (EitherSource A B)
+    either_fails = fails_by fa fb
+
+    first_failed : (a : A) (now : EitherSource A B) → either_fails (First a) now
+        → (last : A) × fa a last
+    first_failed a (First last) h = (last, h)
+    first_failed a (Second b) h = absurd h
+
+    second_failed : (b : B) (now : EitherSource A B) → either_fails (Second b) now
+        → (last : B) × fb b last
+    second_failed b (First a) h = absurd h
+    second_failed b (Second last) h = (last, h)
+
+    pub first_then_fails : (a : A) (now : EitherSource A B)
+        → DeliversThenFails either_reads either_fails (First a) now
+        → (last : A) × DeliversThenFails ra fa a last
+    first_then_fails a now h =
+        let from = first_reads (First a) h.before.steps h.last h.before.in_turn in
+        let last = first_failed from.1 now (subst (λ s. either_fails s now) from.2 h.failed) in (
+          last.0,
+          record {
+            last = from.1;
+            bytes = flat_map (λ (r : ReadStep A). r.bytes) from.0;
+            before = record { steps = from.0; in_turn = from.3; returned = refl };
+            failed = last.1;
+          },
+        )
+
+    pub second_then_fails : (b : B) (now : EitherSource A B)
+        → DeliversThenFails either_reads either_fails (Second b) now
+        → (last : B) × DeliversThenFails rb fb b last
+    second_then_fails b now h =
+        let from = second_reads (Second b) h.before.steps h.last h.before.in_turn in
+        let last = second_failed from.1 now (subst (λ s. either_fails s now) from.2 h.failed) in (
+          last.0,
+          record {
+            last = from.1;
+            bytes = flat_map (λ (r : ReadStep B). r.bytes) from.0;
+            before = record { steps = from.0; in_turn = from.3; returned = refl };
+            failed = last.1;
+          },
+        )
