@@ -2,6 +2,7 @@ mod LineTexts
 mod Pairs
 mod SourcesTaken
 mod SourcesRead
+mod SourcesDelivered
 mod OneAnswer
 mod LogsBeside
 mod OneAnswerBeside
@@ -19,3 +20,5 @@ mod OrderLines
 mod OneVerdict
 mod ListsChecked
 mod ListsExecuted
+mod ReportRanges
+mod ResumableAnswersLemmas

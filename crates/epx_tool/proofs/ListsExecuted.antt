@@ -40,7 +40,7 @@ same_ops : (e : Option Instance) → ops_of e ≡ lawful.ops_of e
 same_ops None = refl
 same_ops (Some e) = refl
 
-commands_of-in : (m : List Instance) (order : List Ranked) → commands_of m order ≡ commands_in m (ranked_ids order)
+pub commands_of-in : (m : List Instance) (order : List Ranked) → commands_of m order ≡ commands_in m (ranked_ids order)
 commands_of-in m [] = refl
 commands_of-in m (r ∷ order) = ap₂ (λ (o : List Op) os. o ∷ os) (same_ops (instance_of m r.id)) (commands_of-in m order)
 

@@ -10,7 +10,7 @@ use Rattle.epx_merge.specs.Acceptance.{IsAccepted}
 use Rattle.epx_devices.specs.Transfers.{IsReadingFault, ConsumesExactly}
 use Rattle.epx_tool.specs.Runs.{NoneTooLongBefore, IsReadingRefusal}
 use Rattle.epx_tool.specs.Beside.{IsShort, IsRefusalBeside}
-use Rattle.epx_tool.specs.BesideRuns.{IsReadingRefusalBeside}
+use Rattle.epx_tool.specs.BesideRuns.{IsReadingRefusalBeside, IsRunFaultBeside}
 use Rattle.epx_tool.specs.Sources.{StopsAt}
 use Rattle.epx_tool.proofs.SourcesRead.{longer}
 
@@ -104,6 +104,15 @@ module _ (logs : List (List ℕ)) (beside : List ℕ) where
   refusal_of_reading_beside n later (BadBase line) many fits of_text long = absurd of_text
 
   module _ (IsBad : List ℕ → ℕ → Type 0) where
+    -- the faults of reading are faults of the run
+    pub run_fault_of_reading : (Is : List ℕ → List Instance → List ℕ → Type 0) (fault : Fault)
+        → IsReadingRefusalBeside beside logs fault → IsRunFaultBeside IsBad Is beside logs fault
+    run_fault_of_reading Is Memory h = h
+    run_fault_of_reading Is TooManyLogs h = h
+    run_fault_of_reading Is (LogTooLong log) h = h
+    run_fault_of_reading Is (Read log) h = h
+    run_fault_of_reading Is fault h = absurd h
+
     pub refusal_of_logs : (fault : Fault) → IsShort beside → IsRefusal logs fault → IsRefusalBeside IsBad beside logs fault
     refusal_of_logs Memory short h = h
     refusal_of_logs TooManyLogs short h = h

@@ -21,7 +21,7 @@ same_id x y = (
 )
 
 -- distinct Ids, each of the list, are no more than it has
-fewer : (xs ys : List Id) → AllPairs (λ x y. x ≢ y) xs → ((x : Id) → Contains xs x → Contains ys x) → length xs ≤ length ys
+pub fewer : (xs ys : List Id) → AllPairs (λ x y. x ≢ y) xs → ((x : Id) → Contains xs x → Contains ys x) → length xs ≤ length ys
 fewer xs ys once within =
     length-le_from_is_member (eq_by_cmp_equiv id_cmp_total) xs ys (IsDistinct-from_AllPairs same_id xs once)
     (λ q h. (is_member-Decides same_id ys q).1 (within q ((is_member-Decides same_id xs q).0 h)))

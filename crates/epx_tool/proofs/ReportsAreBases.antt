@@ -26,7 +26,7 @@ use Rattle.epx_tool.specs.ResumedReport.{IsReportAfter}
 use Rattle.epx_tool.specs.ResumptionLaws.{ReportIsAfterNothing, ReportIsBase, reported_of, run_in}
 use Rattle.epx_tool.proofs.Reports.{executed_is_left, IsReport-after_nothing}
 
-after_nothing : (m : List Instance) (text : List ℕ) → IsReport m text → IsReportAfter [] contents.empty m text
+pub after_nothing : (m : List Instance) (text : List ℕ) → IsReport m text → IsReportAfter [] contents.empty m text
 after_nothing m text p =
     let whole = sym (remaining-nil m) in record {
       order = p.order;
@@ -46,10 +46,10 @@ replied_ids-zip (x ∷ ids) [] many = absurd (omega (arith, many))
 replied_ids-zip (x ∷ ids) (r ∷ replies) many = ap (λ xs. x ∷ xs) (replied_ids-zip ids replies (omega (arith, many)))
 
 module _ (done : List Id) (stored : Contents) (m : List Instance) (text : List ℕ) (p : IsReportAfter done stored m text) where
-  abbrev run : Execution
+  abbrev pub run : Execution
   run = run_in done stored m text p
 
-  abbrev written : Reported
+  abbrev pub written : Reported
   written = reported_of done p.order p.waiting run
 
   as_many : length run.replies ≡ length (ranked_ids p.order)
@@ -57,10 +57,10 @@ module _ (done : List Id) (stored : Contents) (m : List Instance) (text : List �
       length-replies (commands_of (remaining done m) p.order) stored
       ∙ length-map p.order (λ r. ops_of (instance_of (remaining done m) r.id)) ∙ sym (length-map p.order (λ (r : Ranked). r.id))
 
-  replied : replied_ids written.replies ≡ ranked_ids p.order
+  pub replied : replied_ids written.replies ≡ ranked_ids p.order
   replied = replied_ids-zip (ranked_ids p.order) run.replies as_many
 
-  count : length written.replies ≡ length p.order
+  pub count : length written.replies ≡ length p.order
   count = sym (length-map written.replies (λ q. q.0)) ∙ ap length replied ∙ length-map p.order (λ (r : Ranked). r.id)
 
   text_is : text ≡ reported_text written

@@ -68,7 +68,7 @@ module _ {S : Type 0} (remaining : S → Option (List ℕ)) (has_failed : S → 
 
   module _ (first now : List S) (n : ℕ) (read : List (List ℕ)) (h : HaveBeenRead remaining has_failed first now n read) where
     -- the next source is as it was at first
-    same_next : (d : S) → get_or now n d ≡ get_or first n d
+    pub same_next : (d : S) → get_or now n d ≡ get_or first n d
     same_next d =
         let none : n + 0 ≡ n = omega arith in
         ap (λ k. get_or now k d) (sym none) ∙ sym (get_or-drop n now 0 d) ∙ ap (λ l. get_or l 0 d) h.rest ∙ get_or-drop n first 0 d ∙ ap (λ k. get_or first k d) none

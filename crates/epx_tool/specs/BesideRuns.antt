@@ -1,6 +1,5 @@
 -- A run over logs and a text beside them: the logs are read from their sources, then the text from its own, and the answer is written to a sink.
-use Rattle.std.specs.Prelude.{◌≡◌, ℕ, ◌<◌, ◌≤◌, List, [], ◌∷◌, ◌++◌, length, Option, Ok}
-use Rattle.std.specs.Io.KnownBytes.{Appends}
+use Rattle.std.specs.Prelude.{ℕ, ◌<◌, ◌≤◌, List, [], ◌∷◌, ◌++◌, length, Ok}
 use Rattle.epx_types.specs.declared.fault.Fault.{Fault}
 use Rattle.epx_types.specs.declared.fault.Fault.TheVariants.{Memory, TooManyLogs, LogTooLong, Read, Write}
 use Rattle.epx_types.specs.Instances.{Instance}
@@ -26,9 +25,3 @@ abbrev pub IsRunFaultBeside : (List ℕ → ℕ → Type 0) → (List ℕ → Li
 IsRunFaultBeside IsBad Is beside logs (Read log) = CanBeUnread beside logs log
 IsRunFaultBeside IsBad Is beside logs Write = (text : List ℕ) × AnswersBeside IsBad Is beside logs (Ok text)
 IsRunFaultBeside IsBad Is beside logs fault = IsRefusalBeside IsBad beside logs fault
-
--- there are so many logs and a text beside them, and an answer, by which known bytes grow
-abbrev pub AddsAnswerBeside : (List ℕ → ℕ → Type 0) → (List ℕ → List Instance → List ℕ → Type 0) → ℕ → Option (List ℕ) → Option (List ℕ) → Type 0
-AddsAnswerBeside IsBad Is count old new =
-    (beside : List ℕ) × (logs : List (List ℕ)) × (text : List ℕ)
-    × (length logs ≡ count) × AnswersBeside IsBad Is beside logs (Ok text) × Appends old new text

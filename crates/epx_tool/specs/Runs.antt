@@ -1,6 +1,5 @@
 -- A run: logs are read from sources, and the answer to them is written to a sink.
 use Rattle.std.specs.Prelude.{◌≡◌, ℕ, ◌<◌, ◌≤◌, List, map, length, slice_get, Option, Some, Ok}
-use Rattle.std.specs.Io.KnownBytes.{Appends}
 use Rattle.epx_types.specs.declared.fault.Fault.{Fault}
 use Rattle.epx_types.specs.declared.fault.Fault.TheVariants.{Memory, TooManyLogs, LogTooLong, Read, Write}
 use Rattle.epx_types.specs.Instances.{Instance}
@@ -29,8 +28,3 @@ abbrev pub IsRunFault : (List Instance → List ℕ → Type 0) → List (List �
 IsRunFault Is logs (Read log) = (length logs ≤ max_logs) × (log < length logs) × NoneTooLongBefore logs log
 IsRunFault Is logs Write = (text : List ℕ) × Answers Is logs (Ok text)
 IsRunFault Is logs fault = IsRefusal logs fault
-
--- there are so many logs and a text that answers them, and known bytes grow by it
-abbrev pub AddsAnswerTo : (List Instance → List ℕ → Type 0) → ℕ → Option (List ℕ) → Option (List ℕ) → Type 0
-AddsAnswerTo Is count old new =
-    (logs : List (List ℕ)) × (text : List ℕ) × (length logs ≡ count) × Answers Is logs (Ok text) × Appends old new text

@@ -5,8 +5,9 @@ ghost use Rattle.epx_base.specs.Lists.{IsBadList};
 ghost use Rattle.epx_merge.specs.Limits.{max_log_bytes};
 ghost use Rattle.epx_tool.specs.Checking.{IsChecked, Checks};
 ghost use Rattle.epx_tool.specs.Runs.{AreBytesOf};
-ghost use Rattle.epx_tool.specs.BesideRuns.{AddsAnswerBeside, IsRunFaultBeside};
+ghost use Rattle.epx_tool.specs.BesideRuns.{IsRunFaultBeside};
 ghost use Rattle.epx_tool.specs.Sources.{EachConsumesUpTo, StopsAt};
+ghost use Rattle.epx_tool.specs.DeliveredWithInput.{AnswersBoth, EndsWithoutBoth};
 ghost use Rattle.epx_devices.specs.Transfers.{AppendsPrefix, ConsumesUpTo};
 
 use crate::checking::check_once;
@@ -34,14 +35,21 @@ pub fn run_check<T: Threads + RandomSource + Sync, L: Source, S: Source, W: Sink
 
     ensures text { OnOk result ((listed : _) (logs : _) → L.remaining list.old ≡ Some listed → AreBytesOf S.remaining sources.old logs →
         (text : _) × Checks listed logs (Ok text) × Appends (W.contents sink.old) (W.contents sink.new) text) }
-    ensures answered { OnOk result (AddsAnswerBeside IsBadList IsChecked (length sources.old) (W.contents sink.old) (W.contents sink.new)) }
+    ensures answered { OnOk result
+        (AnswersBoth L.reads S.reads IsBadList IsChecked list.old list.new sources.old sources.new
+        (Appends (W.contents sink.old) (W.contents sink.new))) }
     ensures flushed { OnOk result (W.is_flushed sink.new ≡ true) }
 
     ensures refusal { IfErr result (λ fault. (listed : _) (logs : _) → L.remaining list.old ≡ Some listed
         → AreBytesOf S.remaining sources.old logs → IsRunFaultBeside IsBadList IsChecked listed logs fault) }
+    ensures refused { IfErr result (λ fault. fault ≢ Fault.Write → EndsWithoutBoth L.reads L.fails
+        S.reads S.fails IsBadList list.old list.new sources.old sources.new fault) }
     ensures nothing { IfErr result (λ fault. fault ≢ Fault.Write → Keeps (W.contents sink.old) (W.contents sink.new)) }
     ensures prefix { IsErrOf result Fault.Write → (listed : _) (logs : _) → L.remaining list.old ≡ Some listed → AreBytesOf S.remaining sources.old logs →
         (text : _) × Checks listed logs (Ok text) × AppendsPrefix (W.contents sink.old) (W.contents sink.new) text }
+    ensures part { IsErrOf result Fault.Write →
+        AnswersBoth L.reads S.reads IsBadList IsChecked list.old list.new sources.old sources.new
+        (AppendsPrefix (W.contents sink.old) (W.contents sink.new)) }
 
     ensures read { (log : _) (source : _) → slice_get sources.new log ≡ Some source → IsErrOf result (Fault.Read log) ↔ (S.has_failed source ≡ true) }
     ensures list_read { IsErrOf result (Fault.Read (length sources.old)) ↔ (L.has_failed list.new ≡ true) }

@@ -1,6 +1,7 @@
 //! Laws of answers.
 ghost use Rattle.epx_tool.specs.AnswerLaws.{ReportExists, ViewTextExists, ReportIsOne, OrderTextIsOne, LevelTextIsOne, AuditTextIsOne, AnswerExists, ViewExists, AnswerIsOne, ViewIsOne};
 ghost use Rattle.epx_tool.specs.CheckingLaws.{CheckExists, CheckIsOne, LawfulTextMeansLawful, LawfulListExecutesAlike};
+ghost use Rattle.epx_tool.specs.ResumableAnswers.{AnswerIsBase, ResumptionIsBase, ReportOfAPartIsSound, ResumedReportIsSound, ResumedReportRepeatsTheWhole, LastReportIsTheWhole};
 ghost use Rattle.epx_tool.specs.ResumptionLaws.{ReportIsAfterNothing, ReportIsBase, ResumptionExists, ResumptionIsOne};
 
 /// A committed map has a report.
@@ -91,4 +92,35 @@ pub fn lawful_text_means_lawful()
 /// Over covered logs, a list that is said to be lawful executes as the report of the logs says.
 pub fn lawful_list_executes_alike()
     ensures { LawfulListExecutesAlike }
+{}
+
+/// The report of logs is a base: of the instances that it executes, and of its final store.
+pub fn answer_is_base()
+    ensures { AnswerIsBase }
+{}
+
+/// The report of a resumed run is a base: of the instances that were done before or that it
+/// executes, and of its final store.
+pub fn resumption_is_base()
+    ensures { ResumptionIsBase }
+{}
+
+/// The report of a part of a committed map is a base that is sound for the whole map.
+pub fn report_of_a_part_is_sound()
+    ensures { ReportOfAPartIsSound }
+{}
+
+/// A run that resumes from a sound base gives a base that is sound for the same map.
+pub fn resumed_report_is_sound()
+    ensures { ResumedReportIsSound }
+{}
+
+/// Over covered logs, each reply of a resumed run is the one in the report of the whole.
+pub fn resumed_report_repeats_the_whole()
+    ensures { ResumedReportRepeatsTheWhole }
+{}
+
+/// Once all ready instances of covered logs are done, a sound base holds the store of their report.
+pub fn last_report_is_the_whole()
+    ensures { LastReportIsTheWhole }
 {}

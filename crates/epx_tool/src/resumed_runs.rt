@@ -5,8 +5,9 @@ ghost use Rattle.epx_base.specs.Bases.{IsBadBase};
 ghost use Rattle.epx_merge.specs.Limits.{max_log_bytes};
 ghost use Rattle.epx_tool.specs.Resumption.{IsResumed, Resumes};
 ghost use Rattle.epx_tool.specs.Runs.{AreBytesOf};
-ghost use Rattle.epx_tool.specs.BesideRuns.{AddsAnswerBeside, IsRunFaultBeside};
+ghost use Rattle.epx_tool.specs.BesideRuns.{IsRunFaultBeside};
 ghost use Rattle.epx_tool.specs.Sources.{EachConsumesUpTo, StopsAt};
+ghost use Rattle.epx_tool.specs.DeliveredWithInput.{AnswersBoth, EndsWithoutBoth};
 ghost use Rattle.epx_devices.specs.Transfers.{AppendsPrefix, ConsumesUpTo};
 
 use crate::resuming::resume_once;
@@ -35,14 +36,21 @@ pub fn run_resume<T: Threads + RandomSource + Sync, B: Source, S: Source, W: Sin
 
     ensures text { OnOk result ((before : _) (logs : _) → B.remaining base.old ≡ Some before → AreBytesOf S.remaining sources.old logs →
         (text : _) × Resumes before logs (Ok text) × Appends (W.contents sink.old) (W.contents sink.new) text) }
-    ensures answered { OnOk result (AddsAnswerBeside IsBadBase IsResumed (length sources.old) (W.contents sink.old) (W.contents sink.new)) }
+    ensures answered { OnOk result
+        (AnswersBoth B.reads S.reads IsBadBase IsResumed base.old base.new sources.old sources.new
+        (Appends (W.contents sink.old) (W.contents sink.new))) }
     ensures flushed { OnOk result (W.is_flushed sink.new ≡ true) }
 
     ensures refusal { IfErr result (λ fault. (before : _) (logs : _) → B.remaining base.old ≡ Some before
         → AreBytesOf S.remaining sources.old logs → IsRunFaultBeside IsBadBase IsResumed before logs fault) }
+    ensures refused { IfErr result (λ fault. fault ≢ Fault.Write → EndsWithoutBoth B.reads B.fails
+        S.reads S.fails IsBadBase base.old base.new sources.old sources.new fault) }
     ensures nothing { IfErr result (λ fault. fault ≢ Fault.Write → Keeps (W.contents sink.old) (W.contents sink.new)) }
     ensures prefix { IsErrOf result Fault.Write → (before : _) (logs : _) → B.remaining base.old ≡ Some before → AreBytesOf S.remaining sources.old logs →
         (text : _) × Resumes before logs (Ok text) × AppendsPrefix (W.contents sink.old) (W.contents sink.new) text }
+    ensures part { IsErrOf result Fault.Write →
+        AnswersBoth B.reads S.reads IsBadBase IsResumed base.old base.new sources.old sources.new
+        (AppendsPrefix (W.contents sink.old) (W.contents sink.new)) }
 
     ensures read { (log : _) (source : _) → slice_get sources.new log ≡ Some source → IsErrOf result (Fault.Read log) ↔ (S.has_failed source ≡ true) }
     ensures base_read { IsErrOf result (Fault.Read (length sources.old)) ↔ (B.has_failed base.new ≡ true) }

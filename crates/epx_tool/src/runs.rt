@@ -6,8 +6,9 @@ ghost use Rattle.epx_merge.specs.Refusals.{Fits};
 ghost use Rattle.epx_tool.specs.Answer.{Answers};
 ghost use Rattle.epx_tool.specs.Report.{IsReport};
 ghost use Rattle.epx_tool.specs.Views.{IsViewed};
-ghost use Rattle.epx_tool.specs.Runs.{AddsAnswerTo, AreBytesOf, IsReadingRefusal, IsRunFault};
+ghost use Rattle.epx_tool.specs.Runs.{AreBytesOf, IsReadingRefusal, IsRunFault};
 ghost use Rattle.epx_tool.specs.Sources.{EachConsumesUpTo, StopsAt};
+ghost use Rattle.epx_tool.specs.Delivered.{AnswersDelivered, EndsWithout};
 ghost use Rattle.epx_devices.specs.Transfers.{AppendsPrefix};
 
 use crate::answers::{answer_once, view};
@@ -34,13 +35,19 @@ pub fn run<T: Threads + RandomSource + Sync, S: Source, W: Sink>(
 
     ensures text { OnOk result ((logs : _) → AreBytesOf S.remaining sources.old logs →
         (text : _) × Answers IsReport logs (Ok text) × Appends (W.contents sink.old) (W.contents sink.new) text) }
-    ensures answered { OnOk result (AddsAnswerTo IsReport (length sources.old) (W.contents sink.old) (W.contents sink.new)) }
+    ensures answered { OnOk result (AnswersDelivered S.reads IsReport sources.old sources.new
+        (Appends (W.contents sink.old) (W.contents sink.new))) }
     ensures flushed { OnOk result (W.is_flushed sink.new ≡ true) }
 
     ensures refusal { IfErr result (λ fault. (logs : _) → AreBytesOf S.remaining sources.old logs → IsRunFault IsReport logs fault) }
+    ensures refused { IfErr result (λ fault. fault ≢ Fault.Write →
+        EndsWithout S.reads S.fails sources.old sources.new fault) }
     ensures nothing { IfErr result (λ fault. fault ≢ Fault.Write → Keeps (W.contents sink.old) (W.contents sink.new)) }
     ensures prefix { IsErrOf result Fault.Write → (logs : _) → AreBytesOf S.remaining sources.old logs →
         (text : _) × Answers IsReport logs (Ok text) × AppendsPrefix (W.contents sink.old) (W.contents sink.new) text }
+    ensures part { IsErrOf result Fault.Write →
+        AnswersDelivered S.reads IsReport sources.old sources.new
+        (AppendsPrefix (W.contents sink.old) (W.contents sink.new)) }
 
     ensures read { (log : _) (source : _) → slice_get sources.new log ≡ Some source → IsErrOf result (Fault.Read log) ↔ (S.has_failed source ≡ true) }
     ensures written { IsErrOf result Fault.Write ↔ (W.has_failed sink.new ≡ true) }
@@ -76,13 +83,19 @@ pub fn show<T: Threads + RandomSource + Sync, S: Source, W: Sink>(
 
     ensures text { OnOk result ((logs : _) → AreBytesOf S.remaining sources.old logs →
         (text : _) × Answers (IsViewed ask) logs (Ok text) × Appends (W.contents sink.old) (W.contents sink.new) text) }
-    ensures answered { OnOk result (AddsAnswerTo (IsViewed ask) (length sources.old) (W.contents sink.old) (W.contents sink.new)) }
+    ensures answered { OnOk result (AnswersDelivered S.reads (IsViewed ask) sources.old sources.new
+        (Appends (W.contents sink.old) (W.contents sink.new))) }
     ensures flushed { OnOk result (W.is_flushed sink.new ≡ true) }
 
     ensures refusal { IfErr result (λ fault. (logs : _) → AreBytesOf S.remaining sources.old logs → IsRunFault (IsViewed ask) logs fault) }
+    ensures refused { IfErr result (λ fault. fault ≢ Fault.Write →
+        EndsWithout S.reads S.fails sources.old sources.new fault) }
     ensures nothing { IfErr result (λ fault. fault ≢ Fault.Write → Keeps (W.contents sink.old) (W.contents sink.new)) }
     ensures prefix { IsErrOf result Fault.Write → (logs : _) → AreBytesOf S.remaining sources.old logs →
         (text : _) × Answers (IsViewed ask) logs (Ok text) × AppendsPrefix (W.contents sink.old) (W.contents sink.new) text }
+    ensures part { IsErrOf result Fault.Write →
+        AnswersDelivered S.reads (IsViewed ask) sources.old sources.new
+        (AppendsPrefix (W.contents sink.old) (W.contents sink.new)) }
 
     ensures read { (log : _) (source : _) → slice_get sources.new log ≡ Some source → IsErrOf result (Fault.Read log) ↔ (S.has_failed source ≡ true) }
     ensures written { IsErrOf result Fault.Write ↔ (W.has_failed sink.new ≡ true) }

@@ -8,6 +8,8 @@ ghost use Rattle.epx_tool.specs.Runs.{AreBytesOf, IsReadingRefusal};
 ghost use Rattle.epx_tool.specs.Beside.{IsShort};
 ghost use Rattle.epx_tool.specs.BesideRuns.{IsReadingRefusalBeside};
 ghost use Rattle.epx_tool.specs.Sources.{EachConsumesUpTo, StopsAt};
+ghost use Rattle.epx_tool.specs.Delivered.{EachDelivers, StopsReading};
+ghost use Rattle.epx_tool.specs.DeliveredWithInput.{DeliversBoth, StopsReadingBoth};
 
 use epx_devices::{Source, read_log};
 use epx_merge::MAX_LOGS;
@@ -22,7 +24,10 @@ pub(crate) fn read_sources<S: Source>(
     requires { All (λ s. S.has_failed s ≡ false) sources.old }
     ensures bytes { IfOk result (λ v. (logs : _) → AreBytesOf S.remaining sources.old logs → map (λ log. log.items) v.items ≡ logs) }
     ensures each { IfOk result (λ v. length v.items ≡ length sources.old) }
+    ensures delivered { IfOk result (λ v.
+        EachDelivers S.reads sources.old sources.new (map (λ log. log.items) v.items)) }
     ensures refusal { IfErr result (λ fault. (logs : _) → AreBytesOf S.remaining sources.old logs → IsReadingRefusal logs fault) }
+    ensures stopped { IfErr result (StopsReading S.reads S.fails sources.old sources.new) }
     ensures nothing_written { ¬ IsErrOf result Fault.Write }
     ensures failed { (log : _) (source : _) → slice_get sources.new log ≡ Some source → IsErrOf result (Fault.Read log) ↔ (S.has_failed source ≡ true) }
     ensures place { (log : ℕ) → StopsAt result log → log < length sources.old }
@@ -64,8 +69,12 @@ pub(crate) fn read_beside<B: Source, S: Source>(
     ensures each { IfOk result (λ v. length v.1.items ≡ length sources.old) }
     ensures short { IfOk result (λ v. IsShort v.0.items) }
     ensures fit { IfOk result (λ v. Fits (map (λ log. log.items) v.1.items)) }
+    ensures delivered { IfOk result (λ v. DeliversBoth B.reads S.reads beside.old beside.new
+        sources.old sources.new v.0.items (map (λ log. log.items) v.1.items)) }
     ensures refusal { IfErr result (λ fault. (before : _) (logs : _) → B.remaining beside.old ≡ Some before
         → AreBytesOf S.remaining sources.old logs → IsReadingRefusalBeside before logs fault) }
+    ensures stopped { IfErr result (StopsReadingBoth B.reads B.fails S.reads S.fails
+        beside.old beside.new sources.old sources.new) }
     ensures nothing_written { ¬ IsErrOf result Fault.Write }
     ensures failed { (log : _) (source : _) → slice_get sources.new log ≡ Some source → IsErrOf result (Fault.Read log) ↔ (S.has_failed source ≡ true) }
     ensures beside_failed { IsErrOf result (Fault.Read (length sources.old)) ↔ (B.has_failed beside.new ≡ true) }

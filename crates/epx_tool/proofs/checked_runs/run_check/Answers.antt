@@ -1,5 +1,4 @@
-use Rattle.std.proofs.Common.{◌≡◌, ◌∙◌, Ok, Err, map, inl, inr, ap, sym, subst}
-use Rattle.std.proofs.lemmas.List.{length-map}
+use Rattle.std.proofs.Common.{◌≡◌, Ok, Err, map, inl, inr, ap, sym, subst}
 use Rattle.std.proofs.lemmas.Result.{on_ok_weaker, IfErr-weaker}
 use Rattle.std.specs.Io.KnownBytes.{Appends}
 use Rattle.epx_types.specs.declared.fault.Fault.TheVariants.{LogTooLong, Read}
@@ -8,7 +7,7 @@ use Rattle.epx_devices.specs.Transfers.{AppendsPrefix}
 use Rattle.epx_tool.specs.BesideRuns.{IsRunFaultBeside}
 use Rattle.epx_tool.specs.Checking.{IsChecked, Checks}
 use Rattle.epx_tool.proofs.KnownTexts.{known_answer}
-use Rattle.epx_tool.proofs.LogsBeside.{no_stop}
+use Rattle.epx_tool.proofs.LogsBeside.{no_stop, run_fault_of_reading}
 use Rattle.epx_tool.proofs.checked_runs.run_check.Goals as goal
 
 pub returns-in-Err-clause-list_untouched : goal.returns-in-Err-clause-list_untouched
@@ -31,14 +30,14 @@ returns-clause-text g c = on_ok_weaker c.write_out.result (λ written listed log
 )) c.write_out.ensures.bytes
 
 pub returns-clause-answered : goal.returns-clause-answered
-returns-clause-answered g c = on_ok_weaker c.write_out.result (λ written. (
-  c.in-Ok.read.0.items,
-  map (λ log. log.items) c.in-Ok.read.1.items,
-  c.in-Ok-check_once.text.items,
-  length-map c.in-Ok.read.1.items (λ log. log.items) ∙ c.in-Ok.ensures.each,
-  c.in-Ok-check_once.ensures,
-  subst (Appends _ _) c.deref.ensures.value written,
-)) c.write_out.ensures.bytes
+returns-clause-answered g c = on_ok_weaker c.write_out.result (λ written. record {
+  input = c.in-Ok.read.0.items;
+  logs = map (λ log. log.items) c.in-Ok.read.1.items;
+  delivered = c.in-Ok.ensures.delivered;
+  text = c.in-Ok-check_once.text.items;
+  answer = c.in-Ok-check_once.ensures;
+  written = subst (Appends _ _) c.deref.ensures.value written;
+}) c.write_out.ensures.bytes
 
 pub returns-clause-refusal : goal.returns-clause-refusal
 returns-clause-refusal g c = IfErr-weaker c.write_out.result _ _ (λ fault is listed logs known are.
@@ -53,3 +52,34 @@ returns-clause-prefix g c is listed logs known are = (
   known_answer Checks c.in-Ok.read.0.items listed (map (λ log. log.items) c.in-Ok.read.1.items) logs (Ok c.in-Ok-check_once.text.items) (c.in-Ok.ensures.text listed known) (c.in-Ok.ensures.bytes logs are) c.in-Ok-check_once.ensures,
   subst (AppendsPrefix _ _) c.deref.ensures.value c.write_out.ensures.prefix,
 )
+
+pub returns-clause-part : goal.returns-clause-part
+returns-clause-part g c is = record {
+  input = c.in-Ok.read.0.items;
+  logs = map (λ log. log.items) c.in-Ok.read.1.items;
+  delivered = c.in-Ok.ensures.delivered;
+  text = c.in-Ok-check_once.text.items;
+  answer = c.in-Ok-check_once.ensures;
+  written = subst (AppendsPrefix _ _) c.deref.ensures.value c.write_out.ensures.prefix;
+}
+
+pub returns-in-Err-clause-refused : goal.returns-in-Err-clause-refused
+returns-in-Err-clause-refused g c other = inl c.in-Err.ensures.stopped
+
+pub returns-in-Err-check_once-clause-refused : goal.returns-in-Err-check_once-clause-refused
+returns-in-Err-check_once-clause-refused g c other = inr (record {
+  input = c.in-Ok.read.0.items;
+  logs = map (λ log. log.items) c.in-Ok.read.1.items;
+  delivered = c.in-Ok.ensures.delivered;
+  refusal = c.in-Err-check_once.ensures;
+})
+
+pub returns-clause-refused : goal.returns-clause-refused
+returns-clause-refused g c =
+    IfErr-weaker c.write_out.result _ _ (λ fault is other. absurd (other is))
+    c.write_out.ensures.faults
+
+pub returns-in-Err-clause-refusal : goal.returns-in-Err-clause-refusal
+returns-in-Err-clause-refusal g c listed logs known are =
+    run_fault_of_reading logs listed IsBadList IsChecked c.in-Err.fault
+    (c.in-Err.ensures.refusal listed logs known are)

@@ -1,11 +1,12 @@
-use Rattle.std.proofs.Common.{◌≡◌, ◌+◌, ℕ, List, Option, length, Err, inr, ap, subst, arith}
+use Rattle.std.proofs.Common.{◌≡◌, ◌+◌, ℕ, List, Option, length, map, Err, inl, inr, ap, subst, arith}
 use Rattle.std.proofs.lemmas.List.{length-map}
 use Rattle.std.proofs.lemmas.Option.{slice_get_within}
 use Rattle.epx_types.specs.declared.fault.Fault.TheVariants.{Read}
+use Rattle.epx_devices.specs.Deliveries.{StopsLog}
 use Rattle.epx_devices.specs.Transfers.{ConsumesExactly}
 use Rattle.epx_merge.specs.Limits.{max_log_bytes}
 use Rattle.epx_merge.specs.Refusals.{Fits}
-use Rattle.epx_tool.proofs.LogsBeside.{not_of_logs, refusal_of_reading_beside}
+use Rattle.epx_tool.proofs.LogsBeside.{not_of_logs, reading_refusal_beside, refusal_of_reading_beside}
 use Rattle.epx_tool.proofs.sources.read_beside.Goals as goal
 
 pub returns-in-Err-clause-beside_failed : goal.returns-in-Err-clause-beside_failed
@@ -31,3 +32,24 @@ returns-in-Err-read_log-clause-failed g c log source there =
       λ is. absurd (not_of_logs (length c.read_sources.new.sources) c.in-Err-read_log.fault log c.in-Err-read_log.ensures.faults (cc is) (slice_get_within c.read_sources.new.sources log source there)),
       λ bad. let never = here.1 bad in absurd (cc never),
     )
+
+pub returns-in-Err-clause-stopped : goal.returns-in-Err-clause-stopped
+returns-in-Err-clause-stopped g c = inl c.in-Err.ensures.stopped
+
+pub returns-in-Err-read_log-clause-stopped : goal.returns-in-Err-read_log-clause-stopped
+returns-in-Err-read_log-clause-stopped g c =
+    let many : length c.read_sources.new.sources ≡ length c.args.sources.now =
+    omega (arith, c.read_sources.auto.sources) in
+    let StopsAt : ℕ → Type 0 = λ n.
+    StopsLog g.B.Source.reads g.B.Source.fails n c.args.beside.now c.read_log.new.source
+    c.in-Err-read_log.fault in
+    inr (record {
+      logs = map (λ log. log.items) c.in-Ok.logs.items;
+      delivered = c.in-Ok.ensures.delivered;
+      short = c.in-Ok.ensures.fit.1;
+      stopped = subst StopsAt many c.in-Err-read_log.ensures.stops;
+    })
+
+pub returns-in-Err-clause-refusal : goal.returns-in-Err-clause-refusal
+returns-in-Err-clause-refusal g c before logs known are =
+    reading_refusal_beside logs before c.in-Err.fault (c.in-Err.ensures.refusal logs are)

@@ -1,0 +1,183 @@
+-- Each answer is a base, and going on from sound bases leads where the whole leads.
+use Rattle.std.proofs.Common.{◌≡◌, ◌⊎◌, ◌↔◌, ℕ, zero, suc, List, [], ◌∷◌, Contains, Some, slice_get, zip, inl, inr, sym, ap, ap₂, ◌∙◌, subst}
+use Rattle.std.specs.FinMap as contents
+use Rattle.epx_types.specs.declared.id.Id.{Id}
+use Rattle.epx_types.specs.Ids.{IsRising}
+use Rattle.epx_types.specs.Contents.{Contents}
+use Rattle.epx_types.specs.Instances.{Instance}
+use Rattle.epx_types.specs.CommittedMap.{ids_of}
+use Rattle.epx_types.specs.Done.{remaining}
+use Rattle.epx_types.specs.Execution.{execute}
+use Rattle.epx_types.specs.ExecutionOrder.{ranked_ids}
+use Rattle.epx_types.specs.LawfulOrders.{IsLawful}
+use Rattle.epx_types.specs.Readiness.{IsReady}
+use Rattle.epx_types.specs.Sound.{IsSound, HasWhatIsLeft}
+use Rattle.epx_types.proofs.DoneLemmas.{remaining-nil}
+use Rattle.epx_types.proofs.ExecutionOrders.{IsExecutionOrder-IsLawful}
+use Rattle.epx_types.proofs.Membership.{Contains-nil, Contains-head, Contains-cons, Contains-cons_cases}
+use Rattle.epx_types.proofs.ResumedExecutions.{IsSound-nothing_done, IsSound-resumed, IsSound-final, reply-resumed}
+use Rattle.epx_merge.specs.Acceptance.{IsAccepted}
+use Rattle.epx_merge.proofs.OneRefusal.{accepted_unique}
+use Rattle.epx_base.specs.Bases.{IsBase}
+use Rattle.epx_base.proofs.BaseRanges.{FitsBase, base_fits, empty_fits}
+use Rattle.epx_base.proofs.DoneLists.{same_ids}
+use Rattle.epx_base.proofs.DoneRise.{base_done_rise}
+use Rattle.epx_base.proofs.ReportBases.{done_after_exists}
+use Rattle.epx_tool.specs.Report.{commands_of}
+use Rattle.epx_tool.specs.ResumedReport.{IsReportAfter}
+use Rattle.epx_tool.specs.Resumption.{IsResumed}
+use Rattle.epx_tool.specs.ResumableAnswers.{LeavesBase, AnswerIsBase, ResumptionIsBase, IsSoundBase, ReportOfAPartIsSound, ResumedReportIsSound, ResumedReportRepeatsTheWhole, LastReportIsTheWhole}
+use Rattle.epx_tool.proofs.AcceptedLogs.{accepted_are_few}
+use Rattle.epx_tool.proofs.ListsExecuted.{commands_of-in}
+use Rattle.epx_tool.proofs.ReportsAreBases.{after_nothing, report_is_base, written, replied}
+use Rattle.epx_tool.proofs.ReportRanges.{accepted_fit, reported_fit}
+
+-- ---- each answer is a base
+
+report_leaves : (logs : List (List ℕ)) (m : List Instance) → IsAccepted logs m
+    → (done : List Id) (stored : Contents) → FitsBase done stored → IsRising done
+    → (text : List ℕ) → IsReportAfter done stored m text → LeavesBase done stored m text
+report_leaves logs m accepted done stored fits rising text p =
+    let few = accepted_are_few logs m accepted in
+    let fit = reported_fit done stored m text p (accepted_fit logs m accepted) fits few in
+    let now = done_after_exists (written done stored m text p) rising in
+    let each : (x : Id) → Contains now.0 x ↔ Contains done x ⊎ Contains (ranked_ids p.order) x =
+    λ x. subst (λ (xs : List Id). Contains now.0 x ↔ Contains done x ⊎ Contains xs x)
+    (replied done stored m text p) (now.1.each x) in
+    record {
+      order = p.order;
+      now = now.0;
+      ordered = p.ordered;
+      done_now = record { rising = now.1.rising; each = each };
+      base = report_is_base done stored m text p rising fit now.0 now.1.rising each;
+    }
+
+pub answer_is_base : AnswerIsBase
+answer_is_base logs text answer m accepted =
+    let same : answer.0 ≡ m = accepted_unique logs answer.0 m answer.1 accepted in
+    let none : FitsBase [] contents.empty =
+    record { done = λ x c. absurd (Contains-nil x c); stored = empty_fits } in
+    let report = after_nothing answer.0 text answer.2 in
+    subst (λ (m : List Instance). LeavesBase [] contents.empty m text) same
+    (report_leaves logs answer.0 answer.1 [] contents.empty none tt text report)
+
+-- a base says one thing
+base_is_one : (bytes : List ℕ) (done other : List Id) (stored held : Contents)
+    → IsBase bytes done stored → IsBase bytes other held → (done ≡ other) × (stored ≡ held)
+base_is_one bytes done other stored held p q =
+    let a = p.read in
+    let b = q.read in
+    let seen : p.seen ≡ q.seen = cc (a, b) in
+    (cc (seen, p.done_is, q.done_is), cc (seen, p.stored_is, q.stored_is))
+
+resumed_report : (base : List ℕ) (m : List Instance) (text : List ℕ) → IsResumed base m text
+    → (done : List Id) (stored : Contents) → IsBase base done stored
+    → IsReportAfter done stored m text
+resumed_report base m text p done stored is =
+    let one = base_is_one base p.0 done p.1 stored p.2 is in
+    subst (λ (s : Contents). IsReportAfter done s m text) one.1
+    (subst (λ (d : List Id). IsReportAfter d p.1 m text) one.0 p.3)
+
+pub resumption_is_base : ResumptionIsBase
+resumption_is_base base logs text resumed done stored is m accepted =
+    let same : resumed.1.0 ≡ m = accepted_unique logs resumed.1.0 m resumed.1.1 accepted in
+    let after = subst (λ (m : List Instance). IsResumed base m text) same resumed.1.2 in
+    let report = resumed_report base m text after done stored is in
+    report_leaves logs m accepted done stored (base_fits base done stored is)
+    (base_done_rise base done stored is) text report
+
+-- ---- what an answer leaves is sound
+
+left_is_sound : (m : List Instance) → IsRising (ids_of m) → (done : List Id) (stored : Contents)
+    → IsSound m done stored → (rest : List Instance) → HasWhatIsLeft m done rest
+    → (text : List ℕ) → LeavesBase done stored rest text → IsSoundBase m text
+left_is_sound m rising done stored sound rest has text left =
+    let lawful = IsExecutionOrder-IsLawful (remaining done rest) left.order left.ordered in
+    let again = IsSound-resumed m rising done stored sound rest has (ranked_ids left.order) lawful
+    left.now left.done_now.each in
+    record {
+      done = left.now;
+      stored = (execute (commands_of (remaining done rest) left.order) stored).final;
+      base = left.base;
+      sound = rw (commands_of-in (remaining done rest) left.order) again;
+    }
+
+pub report_of_a_part_is_sound : ReportOfAPartIsSound
+report_of_a_part_is_sound m rising logs part accepted within text answer =
+    left_is_sound m rising [] contents.empty (IsSound-nothing_done m) part (λ e c none. within e c)
+    text (answer_is_base logs text answer part accepted)
+
+pub resumed_report_is_sound : ResumedReportIsSound
+resumed_report_is_sound m base logs text g resumed =
+    let b = g.before in
+    let left = resumption_is_base base logs text resumed b.done b.stored b.base g.rest g.accepted in
+    left_is_sound m g.rising b.done b.stored b.sound g.rest g.has text left
+
+-- ---- where going on leads
+
+in_zip : {A B : Type 0} (xs : List A) (ys : List B) (p : A × B) → Contains (zip xs ys) p
+    → (i : ℕ) × (slice_get xs i ≡ Some p.0) × (slice_get ys i ≡ Some p.1)
+in_zip [] ys p c = absurd (Contains-nil p c)
+in_zip (x ∷ xs) [] p c = absurd (Contains-nil p c)
+in_zip (x ∷ xs) (y ∷ ys) p c =
+    elim (Contains-cons_cases (x, y) (zip xs ys) p c) [
+      | inl here ↦ (0, ap (λ q. Some q.0) here, ap (λ q. Some q.1) here)
+      | inr later ↦ let there = in_zip xs ys p later in (suc there.0, there.1, there.2)
+    ]
+
+from_zip : {A B : Type 0} (xs : List A) (ys : List B) (p : A × B) (i : ℕ)
+    → slice_get xs i ≡ Some p.0 → slice_get ys i ≡ Some p.1 → Contains (zip xs ys) p
+from_zip [] ys p i at is = absurd (cc at)
+from_zip (x ∷ xs) [] p i at is = absurd (cc is)
+from_zip (x ∷ xs) (y ∷ ys) p zero at is =
+    let first : x ≡ p.0 = cc at in
+    let second : y ≡ p.1 = cc is in
+    subst (Contains ((x, y) ∷ zip xs ys)) (ap₂ (λ a b. (a, b)) first second)
+    (Contains-head (x, y) (zip xs ys))
+from_zip (x ∷ xs) (y ∷ ys) p (suc i) at is =
+    Contains-cons (x, y) (zip xs ys) p (from_zip xs ys p i at is)
+
+pub resumed_report_repeats_the_whole : ResumedReportRepeatsTheWhole
+resumed_report_repeats_the_whole m base logs g covered text resumed whole q =
+    let b = g.before in
+    let same : resumed.1.0 ≡ g.rest =
+    accepted_unique logs resumed.1.0 g.rest resumed.1.1 g.accepted in
+    let after = subst (λ (m : List Instance). IsResumed base m text) same resumed.1.2 in
+    let p = resumed_report base g.rest text after b.done b.stored b.base in
+    let lawful = IsExecutionOrder-IsLawful (remaining b.done g.rest) p.order p.ordered in
+    let order = ranked_ids q.order in
+    let all = IsExecutionOrder-IsLawful m q.order q.ordered in
+    record {
+      report = p;
+      each = λ r c.
+          let at = in_zip (ranked_ids p.order) _ r c in
+          let is = reply-resumed m g.rising b.done b.stored b.sound g.rest g.has
+          (ranked_ids p.order) lawful covered order all at.0 r.0 at.1 in
+          let reply =
+          rw (← commands_of-in (remaining b.done g.rest) p.order, ← commands_of-in m q.order)
+          at is.2 in
+          from_zip order _ r is.0 is.1 (sym reply ∙ at.2);
+    }
+
+pub last_report_is_the_whole : LastReportIsTheWhole
+last_report_is_the_whole logs m accepted covered text b done whole answer =
+    let rising = accepted.committed.rising in
+    let w = report_of_a_part_is_sound m rising logs m accepted (λ e c. c) whole answer in
+    let left = answer_is_base logs whole answer m accepted in
+    let final = (execute (commands_of (remaining [] m) left.order) contents.empty).final in
+    let one = base_is_one whole left.now w.done final w.stored left.base w.base in
+    let lawful : IsLawful m (ranked_ids left.order) =
+    subst (λ (l : List Instance). IsLawful l (ranked_ids left.order)) (remaining-nil m)
+    (IsExecutionOrder-IsLawful (remaining [] m) left.order left.ordered) in
+    let all_done : (x : Id) → IsReady m x → Contains w.done x =
+    λ x ready. subst (λ (ids : List Id). Contains ids x) one.0
+    ((left.done_now.each x).1 (inr (lawful.whole x ready))) in
+    let ids : w.done ≡ b.done =
+    same_ids w.done b.done (base_done_rise whole w.done w.stored w.base)
+    (base_done_rise text b.done b.stored b.base) (λ x c. done x (w.sound.ready x c))
+    (λ x c. all_done x (b.sound.ready x c)) in
+    let stored : w.stored ≡ b.stored =
+    IsSound-final m rising w.done w.stored w.sound covered all_done _ lawful
+    ∙ sym (IsSound-final m rising b.done b.stored b.sound covered done _ lawful) in
+    subst (λ (s : Contents). IsBase whole b.done s) stored
+    (subst (λ (d : List Id). IsBase whole d w.stored) ids w.base)

@@ -1,0 +1,84 @@
+-- How a run ends, by what its sources delivered in it, whether or not their bytes were known before.
+use Rattle.std.specs.Prelude.{◌≡◌, ◌⊎◌, ℕ, ◌<◌, List, [], ◌∷◌, length, slice_get, Some, Ok}
+use Rattle.epx_types.specs.declared.fault.Fault.{Fault}
+use Rattle.epx_types.specs.declared.fault.Fault.TheVariants.{Memory, TooManyLogs}
+use Rattle.epx_types.specs.Instances.{Instance}
+use Rattle.epx_merge.specs.Limits.{max_logs}
+use Rattle.epx_merge.specs.Refusals.{NoneTooLong, IsRefusal}
+use Rattle.epx_devices.specs.Deliveries.{FailRelation, ReadRelation, DeliversAll, StopsLog}
+use Rattle.epx_tool.specs.Answer.{Answers}
+
+-- ---- the logs that were delivered
+
+-- the first sources delivered these logs, one each and whole
+abbrev pub FirstDeliver : {S : Type 0} → ReadRelation S
+    → List S → List S → List (List ℕ) → Type 0
+FirstDeliver reads old new [] = Unit {0}
+FirstDeliver reads (s ∷ old) (t ∷ new) (log ∷ logs) =
+    DeliversAll reads s t log × FirstDeliver reads old new logs
+FirstDeliver reads _ _ (log ∷ logs) = ⊥
+
+-- the sources delivered these logs, one each and whole
+pub record EachDelivers {S : Type 0} (reads : ReadRelation S)
+    (old new : List S) (logs : List (List ℕ)) : Type 0 where
+  pub as_many : length logs ≡ length old
+  pub whole : FirstDeliver reads old new logs
+
+-- ---- why reading stopped
+
+-- the sources before that of this log delivered a log each, none of them too long
+pub record DeliveredBefore {S : Type 0} (reads : ReadRelation S)
+    (old new : List S) (log : ℕ) : Type 0 where
+  pub within : log < length old
+  pub logs : List (List ℕ)
+  pub as_many : length logs ≡ log
+  pub whole : FirstDeliver reads old new logs
+  pub short : NoneTooLong logs
+
+-- reading stopped at a source, with this fault: its log is too long, or a read of it failed
+pub record StopsAtSource {S : Type 0} (reads : ReadRelation S) (fails : FailRelation S)
+    (old new : List S) (fault : Fault) : Type 0 where
+  pub log : ℕ
+  pub before : DeliveredBefore reads old new log
+  pub first : S
+  pub last : S
+  pub was : slice_get old log ≡ Some first
+  pub is : slice_get new log ≡ Some last
+  pub stopped : StopsLog reads fails log first last fault
+
+-- the faults that no source is the reason of: there was no memory, or there are too many sources
+abbrev pub IsOfNoSource : ℕ → Fault → Type 0
+IsOfNoSource count Memory = Unit {0}
+IsOfNoSource count TooManyLogs = max_logs < count
+IsOfNoSource count _ = ⊥
+
+-- reading the sources stopped with this fault
+abbrev pub StopsReading : {S : Type 0} → ReadRelation S → FailRelation S
+    → List S → List S → Fault → Type 0
+StopsReading reads fails old new fault =
+    IsOfNoSource (length old) fault ⊎ StopsAtSource reads fails old new fault
+
+-- ---- how a run ends
+
+-- there is an answer to the logs that the sources delivered, and it was written so
+pub record AnswersDelivered {S : Type 0} (reads : ReadRelation S)
+    (Is : List Instance → List ℕ → Type 0) (old new : List S)
+    (Written : List ℕ → Type 0) : Type 0 where
+  pub logs : List (List ℕ)
+  pub delivered : EachDelivers reads old new logs
+  pub text : List ℕ
+  pub answer : Answers Is logs (Ok text)
+  pub written : Written text
+
+-- the sources delivered logs, of which this is the refusal
+pub record RefusesDelivered {S : Type 0} (reads : ReadRelation S)
+    (old new : List S) (fault : Fault) : Type 0 where
+  pub logs : List (List ℕ)
+  pub delivered : EachDelivers reads old new logs
+  pub refusal : IsRefusal logs fault
+
+-- a run ends with this fault: reading stopped with it, or the logs that were delivered have it
+abbrev pub EndsWithout : {S : Type 0} → ReadRelation S → FailRelation S
+    → List S → List S → Fault → Type 0
+EndsWithout reads fails old new fault =
+    StopsReading reads fails old new fault ⊎ RefusesDelivered reads old new fault

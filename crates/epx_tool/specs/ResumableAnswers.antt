@@ -1,0 +1,113 @@
+-- An answer is a base to go on from, and going on leads where a run over everything leads.
+use Rattle.std.specs.Prelude.{◌⊎◌, ◌↔◌, ℕ, List, [], Contains, zip, Ok}
+use Rattle.std.specs.FinMap as contents
+use Rattle.epx_types.specs.declared.id.Id.{Id}
+use Rattle.epx_types.specs.declared.reply.Reply.{Reply}
+use Rattle.epx_types.specs.Ids.{IsRising}
+use Rattle.epx_types.specs.Contents.{Contents}
+use Rattle.epx_types.specs.Instances.{Instance}
+use Rattle.epx_types.specs.CommittedMap.{ids_of}
+use Rattle.epx_types.specs.Conflicts.{IsCovered}
+use Rattle.epx_types.specs.Done.{remaining}
+use Rattle.epx_types.specs.Execution.{execute}
+use Rattle.epx_types.specs.ExecutionOrder.{Ranked, IsExecutionOrder, ranked_ids}
+use Rattle.epx_types.specs.Readiness.{IsReady}
+use Rattle.epx_types.specs.Sound.{IsSound, HasWhatIsLeft}
+use Rattle.epx_merge.specs.Acceptance.{IsAccepted}
+use Rattle.epx_base.specs.Bases.{IsBase}
+use Rattle.epx_tool.specs.Answer.{IsAnswer}
+use Rattle.epx_tool.specs.Report.{IsReport, commands_of}
+use Rattle.epx_tool.specs.ResumedReport.{IsReportAfter}
+use Rattle.epx_tool.specs.Resumption.{Resumes}
+use Rattle.epx_tool.specs.ResumptionLaws.{run_in}
+
+-- ---- each answer is a base
+
+-- the instances that were done before or are executed now, each once, by rising Id
+pub record AreDoneInAll (done executed now : List Id) : Type 0 where
+  pub rising : IsRising now
+  pub each : (x : Id) → Contains now x ↔ Contains done x ⊎ Contains executed x
+
+-- The text is a base: of the instances that were done before or are executed now, in the execution
+-- order of what remained, and of what executing them left.
+pub record LeavesBase (done : List Id) (stored : Contents) (m : List Instance)
+    (text : List ℕ) : Type 0 where
+  pub order : List Ranked
+  pub now : List Id
+  pub ordered : IsExecutionOrder (remaining done m) order
+  pub done_now : AreDoneInAll done (ranked_ids order) now
+  pub base : IsBase text now (execute (commands_of (remaining done m) order) stored).final
+
+-- what is answered to logs is a base
+abbrev pub AnswerIsBase : Type 0
+AnswerIsBase = (logs : List (List ℕ)) (text : List ℕ) → IsAnswer logs (Ok text)
+    → (m : List Instance) → IsAccepted logs m → LeavesBase [] contents.empty m text
+
+-- and so is what is answered to a base and logs
+abbrev pub ResumptionIsBase : Type 0
+ResumptionIsBase = (base : List ℕ) (logs : List (List ℕ)) (text : List ℕ)
+    → Resumes base logs (Ok text) → (done : List Id) (stored : Contents) → IsBase base done stored
+    → (m : List Instance) → IsAccepted logs m → LeavesBase done stored m text
+
+-- ---- bases that are sound for a map
+
+-- the text is a base of instances that m executes, and of what executing them leaves
+pub record IsSoundBase (m : List Instance) (text : List ℕ) : Type 0 where
+  pub done : List Id
+  pub stored : Contents
+  pub base : IsBase text done stored
+  pub sound : IsSound m done stored
+
+-- the report of a part of a map is a base that is sound for the whole
+abbrev pub ReportOfAPartIsSound : Type 0
+ReportOfAPartIsSound = (m : List Instance) → IsRising (ids_of m) → (logs : List (List ℕ))
+    → (part : List Instance) → IsAccepted logs part
+    → ((e : Instance) → Contains part e → Contains m e)
+    → (text : List ℕ) → IsAnswer logs (Ok text) → IsSoundBase m text
+
+-- the base is sound for m, and each instance of the logs that is not done in it is one of m
+pub record GoesOn (m : List Instance) (base : List ℕ) (logs : List (List ℕ)) : Type 0 where
+  pub rising : IsRising (ids_of m)
+  pub before : IsSoundBase m base
+  pub rest : List Instance
+  pub accepted : IsAccepted logs rest
+  pub has : HasWhatIsLeft m before.done rest
+
+-- going on from a base that is sound for a map gives a base that is sound for it
+abbrev pub ResumedReportIsSound : Type 0
+ResumedReportIsSound = (m : List Instance) (base : List ℕ) (logs : List (List ℕ)) (text : List ℕ)
+    → GoesOn m base logs → Resumes base logs (Ok text) → IsSoundBase m text
+
+-- ---- where going on leads
+
+-- the replies of a report
+abbrev pub replies_in : (m : List Instance) (text : List ℕ) → IsReport m text → List (Id × Reply)
+replies_in m text p =
+    zip (ranked_ids p.order) (execute (commands_of m p.order) contents.empty).replies
+
+-- the replies of a report that goes on from a base
+abbrev pub replies_after : (done : List Id) (stored : Contents) (m : List Instance) (text : List ℕ)
+    → IsReportAfter done stored m text → List (Id × Reply)
+replies_after done stored m text p =
+    zip (ranked_ids p.order) (run_in done stored m text p).replies
+
+-- the text is the report after the base, and each of its replies is in the report of m too
+pub record RepliesAsTheWhole (m : List Instance) (base : List ℕ) (logs : List (List ℕ))
+    (g : GoesOn m base logs) (text whole : List ℕ) (q : IsReport m whole) : Type 0 where
+  pub report : IsReportAfter g.before.done g.before.stored g.rest text
+  pub each : (r : Id × Reply)
+      → Contains (replies_after g.before.done g.before.stored g.rest text report) r
+      → Contains (replies_in m whole q) r
+
+-- over covered logs, each reply of a run that goes on is the one in the report of the whole
+abbrev pub ResumedReportRepeatsTheWhole : Type 0
+ResumedReportRepeatsTheWhole =
+    (m : List Instance) (base : List ℕ) (logs : List (List ℕ)) (g : GoesOn m base logs)
+    → IsCovered m → (text : List ℕ) → Resumes base logs (Ok text)
+    → (whole : List ℕ) (q : IsReport m whole) → RepliesAsTheWhole m base logs g text whole q
+
+-- a sound base that has all ready instances of covered logs done says what their report says
+abbrev pub LastReportIsTheWhole : Type 0
+LastReportIsTheWhole = (logs : List (List ℕ)) (m : List Instance) → IsAccepted logs m → IsCovered m
+    → (text : List ℕ) (b : IsSoundBase m text) → ((x : Id) → IsReady m x → Contains b.done x)
+    → (whole : List ℕ) → IsAnswer logs (Ok whole) → IsBase whole b.done b.stored
