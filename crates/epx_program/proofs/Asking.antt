@@ -1,8 +1,7 @@
 -- What is asked, from the words that were given.
-use Rattle.std.proofs.Common.{◌≡◌, ◌≢◌, ◌≤◌, ◌↔◌, ◌⊎◌, ◌++◌, ◌∙◌, ℕ, Bool, true, false, inl, inr, zero, suc, List, [], ◌∷◌, length, map, Option, Some, None, Result, Ok, Err, IfOk, IfSome, Vec, subst, sym, ap, refl, append-nil, arith}
-use Rattle.std.specs.Prelude.{option_map, string_bytes}
-use Rattle.std.proofs.lemmas.List.{length-map}
-use Rattle.std.specs.Io.KnownBytes.{Appends, Keeps}
+use Rattle.std.proofs.Common.{◌≡◌, ◌≢◌, ◌≤◌, ◌↔◌, ◌⊎◌, ◌++◌, ◌∙◌, ℕ, Bool, true, false, inl, inr, zero, suc, List, [], ◌∷◌, length, map, Option, Some, None, Result, Ok, Err, IfOk, sym, ap, refl, append-nil, arith}
+use Rattle.std.specs.Prelude.{string_bytes}
+use Rattle.std.specs.Io.KnownBytes.{Appends}
 use Rattle.std.specs.declared.alloc.Global.{Global}
 use Rattle.std.specs.declared.io.Error.{Error}
 use Rattle.std.specs.declared.string.String.{String}
@@ -17,9 +16,8 @@ use Rattle.epx_words.specs.Given.{IsCutOf, IsWorkersOf, name_in, rows_in}
 use Rattle.epx_words.specs.declared.asked.Task.TheVariants.{Run}
 use Rattle.epx_words.specs.declared.asked.Words.{Words}
 use Rattle.epx_words.specs.declared.asked.Words.TheVariants.{Work, Text as text}
-use Rattle.epx_program.specs.Calls.{AreTakenFor, Asks, EndsAsAsked, EndsWithText}
-use Rattle.epx_program.specs.Inputs.{IsInputAlone}
-use Rattle.epx_program.specs.Endings.{AddsAnswer, EndsWith, IsStatus}
+use Rattle.epx_program.specs.Calls.{AreTakenFor, Asks, EndsAsAsked, EndsTask, EndsWithText}
+use Rattle.epx_program.proofs.KeptBytes.{kept}
 
 -- words are taken for one list of texts
 pub one_taking : (words : Result (IntoIter (String Global) Global) Error) (texts others : List Text) → AreTakenFor words texts → AreTakenFor words others → texts ≡ others
@@ -65,41 +63,36 @@ module _ (words : List Text) (n : ℕ) (as_many : n ≡ length words) where
   }
   asks (Err memory) bare is_task is_workers is_cut are_paths taken refused ends = tt
 
-keeps_same : (known : Option (List ℕ)) → Keeps known known
-keeps_same None = tt
-keeps_same (Some bytes) = refl
+module _ {S : Type 0} (contents : S → Option (List ℕ)) (before after : S)
+    (input : Option (List ℕ)) (Unread : Type 0) (status : ℕ) (failed : Bool) where
+  text_ends_so : (said : List ℕ) (n : ℕ)
+      → (n ≡ 0 → status ≡ 0 → Appends (contents before) (contents after) said)
+      → (n ≡ 0 → AppendsPrefix (contents before) (contents after) said)
+      → (n ≡ 0 → (status ≡ 0) ⊎ ((status ≡ 4) × (failed ≡ true)))
+      → (n ≢ 0 → (status ≡ n) × (after ≡ before))
+      → EndsWithText said n status failed (contents before) (contents after)
+  text_ends_so said zero shown prefix well told = go (well refl)
+    where
+      go : (status ≡ 0) ⊎ ((status ≡ 4) × (failed ≡ true))
+          → EndsWithText said 0 status failed (contents before) (contents after)
+      go (inl done) = inl (done, shown refl done)
+      go (inr bad) = inr (bad.0, bad.1, prefix refl)
+  text_ends_so said (suc n) shown prefix well told =
+      let ends = told (λ none. omega (arith, none)) in
+      (ends.0, kept contents before after ends.1)
 
--- an output that is as before has what it had
-module _ {S : Type 0} (contents : S → Option (List ℕ)) (before after : S) where
-  kept : after ≡ before → Keeps (contents before) (contents after)
-  kept same = subst (λ output. Keeps (contents output) (contents after)) same (keeps_same (contents after))
-
-  module _ (input : Option (List ℕ)) (status : ℕ) (failed : Bool) where
-    text_ends_so : (said : List ℕ) (n : ℕ) → (n ≡ 0 → status ≡ 0 → Appends (contents before) (contents after) said)
-        → (n ≡ 0 → AppendsPrefix (contents before) (contents after) said) → (n ≡ 0 → (status ≡ 0) ⊎ ((status ≡ 4) × (failed ≡ true)))
-        → (n ≢ 0 → (status ≡ n) × (after ≡ before)) → EndsWithText said n status failed (contents before) (contents after)
-    text_ends_so said zero shown prefix well told = go (well refl)
-      where
-        go : (status ≡ 0) ⊎ ((status ≡ 4) × (failed ≡ true)) → EndsWithText said 0 status failed (contents before) (contents after)
-        go (inl done) = inl (done, shown refl done)
-        go (inr bad) = inr (bad.0, bad.1, prefix refl)
-    text_ends_so said (suc n) shown prefix well told = let ends = told (λ none. omega (arith, none)) in (ends.0, kept ends.1)
-
-    -- what was wanted is done, by what is said of doing it
-    pub ends_as_asked : (wanted : Words) → IfWork (λ task plan paths. IsStatus status) wanted
-        → ((bytes : List ℕ) → input ≡ Some bytes → IfWork (λ task plan paths. IsInputAlone paths → EndsWith task (bytes ∷ []) status (contents before) (contents after)) wanted)
-        → IfWork (λ task plan paths. IfSome paths (λ list. status ≡ 0 → AddsAnswer task (length list) (contents before) (contents after))) wanted
-        → ((said : String Global) → wanted ≡ text said 0 → status ≡ 0 → Appends (contents before) (contents after) (string_bytes said))
-        → ((said : String Global) → wanted ≡ text said 0 → AppendsPrefix (contents before) (contents after) (string_bytes said))
-        → IfText (λ n. n ≡ 0 → (status ≡ 0) ⊎ ((status ≡ 4) × (failed ≡ true))) wanted
-        → IfText (λ n. n ≢ 0 → (status ≡ n) × (after ≡ before)) wanted → EndsAsAsked input wanted status failed (contents before) (contents after)
-    ends_as_asked (Work task plan paths) work over files shown prefix well told =
-        (work, λ bytes alone known. over bytes known alone, answered paths files)
-      where
-        answered : (paths : Option (Vec (String Global) Global))
-            → IfSome (option_map (λ list. map string_bytes list.items) paths) (λ list. status ≡ 0 → AddsAnswer task (length list) (contents before) (contents after))
-            → IfSome paths (λ list. status ≡ 0 → AddsAnswer task (length list.items) (contents before) (contents after))
-        answered None files = tt
-        answered (Some list) files = subst (λ n. status ≡ 0 → AddsAnswer task n (contents before) (contents after)) (length-map list.items string_bytes) files
-    ends_as_asked (text said n) work over files shown prefix well told =
-        text_ends_so (string_bytes said) n (λ none. shown said (ap (text said) none)) (λ none. prefix said (ap (text said) none)) well told
+  -- what was wanted is done, by what is said of doing it
+  pub ends_as_asked : (wanted : Words)
+      → IfWork (λ task plan paths. EndsTask input Unread task paths status failed
+      (contents before) (contents after)) wanted
+      → ((said : String Global) → wanted ≡ text said 0 → status ≡ 0
+      → Appends (contents before) (contents after) (string_bytes said))
+      → ((said : String Global) → wanted ≡ text said 0
+      → AppendsPrefix (contents before) (contents after) (string_bytes said))
+      → IfText (λ n. n ≡ 0 → (status ≡ 0) ⊎ ((status ≡ 4) × (failed ≡ true))) wanted
+      → IfText (λ n. n ≢ 0 → (status ≡ n) × (after ≡ before)) wanted
+      → EndsAsAsked input Unread wanted status failed (contents before) (contents after)
+  ends_as_asked (Work task plan paths) work shown prefix well told = work
+  ends_as_asked (text said n) work shown prefix well told =
+      text_ends_so (string_bytes said) n (λ none. shown said (ap (text said) none))
+      (λ none. prefix said (ap (text said) none)) well told

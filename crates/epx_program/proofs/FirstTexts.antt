@@ -1,44 +1,82 @@
 -- A task over a first text and logs, as a task over the texts of all sources.
-use Rattle.std.proofs.Common.{◌≡◌, ◌+◌, ℕ, List, [], ◌∷◌, length, map, Option, Some, Result, Ok, Err, refl, sym, ap, ◌∙◌, arith}
-use Rattle.std.specs.Prelude.{OnOk, IfErr, MatchResult}
-use Rattle.std.specs.Io.KnownBytes.{Appends}
+use Rattle.std.proofs.Common.{◌≡◌, ◌≢◌, ◌⊎◌, ◌+◌, ℕ, suc, List, [], ◌∷◌, length, map, Option, Some, Result, Ok, Err, IsErrOf, inl, inr, refl, sym, ap, ◌∙◌, subst, arith}
+use Rattle.std.specs.Prelude.{OnOk, IfErr}
+use Rattle.std.specs.Io.KnownBytes.{Appends, Keeps}
 use Rattle.epx_types.specs.declared.fault.Fault.{Fault}
+use Rattle.epx_types.specs.declared.fault.Fault.TheVariants.{Write}
 use Rattle.epx_types.specs.Instances.{Instance}
 use Rattle.epx_words.specs.declared.asked.Task.{Task}
+use Rattle.epx_devices.specs.Deliveries.{FailRelation, ReadRelation}
+use Rattle.epx_devices.specs.Transfers.{AppendsPrefix}
 use Rattle.epx_tool.specs.Beside.{AnswersBeside}
-use Rattle.epx_tool.specs.BesideRuns.{AddsAnswerBeside, IsRunFaultBeside}
+use Rattle.epx_tool.specs.BesideRuns.{IsRunFaultBeside}
+use Rattle.epx_tool.specs.DeliveredWithInput.{AnswersBoth}
 use Rattle.epx_tool.specs.Runs.{AreBytesOf}
 use Rattle.epx_program.specs.declared.work.FirstText.{FirstText}
 use Rattle.epx_program.specs.declared.work.FirstText.TheVariants as first
-use Rattle.epx_program.specs.Endings.{AddsAnswer, ComesTo, on_first_and_logs, task_over}
+use Rattle.epx_program.specs.Endings.{AddsAnswer, AddsPart, ComesTo, HasFault, IsTaskAnswer, IsTaskFault, task_over}
+use Rattle.epx_program.specs.Inputs.{HasFailedRead, OneHasFailedRead}
 
--- what is said of a run over a text and logs beside it, by the text and by all texts
-module _ {A : Type 0} (IsBad : List ℕ → ℕ → Type 0) (Is : List ℕ → List Instance → List ℕ → Type 0) (done : Result A Fault) (old new : Option (List ℕ)) where
-  abbrev IsDone : List ℕ → List (List ℕ) → Type 0
-  IsDone text logs = (answer : List ℕ) × AnswersBeside IsBad Is text logs (Ok answer) × Appends old new answer
+-- a run over an extra input and logs is the task over the texts of all sources
+module _ (task : Task) (IsBad : List ℕ → ℕ → Type 0)
+    (Is : List ℕ → List Instance → List ℕ → Type 0)
+    (answers : (text : List ℕ) (logs : List (List ℕ)) (answer : List ℕ)
+    → AnswersBeside IsBad Is text logs (Ok answer) → IsTaskAnswer task (text ∷ logs) (Ok answer))
+    (faults : (text : List ℕ) (logs : List (List ℕ)) (fault : Fault)
+    → IsRunFaultBeside IsBad Is text logs fault → IsTaskFault task (text ∷ logs) fault)
+    (old new : Option (List ℕ)) where
+  abbrev IsWritten : (List ℕ → Type 0) → List ℕ → List (List ℕ) → Type 0
+  IsWritten Written text logs =
+      (answer : List ℕ) × AnswersBeside IsBad Is text logs (Ok answer) × Written answer
 
-  pub comes_to : {F S : Type 0} (before : F → Option (List ℕ)) (remaining : S → Option (List ℕ)) (first : F) (sources : List S)
-      → OnOk done ((text : List ℕ) (logs : List (List ℕ)) → before first ≡ Some text → AreBytesOf remaining sources logs → IsDone text logs)
-      → IfErr done (λ fault. (text : List ℕ) (logs : List (List ℕ)) → before first ≡ Some text → AreBytesOf remaining sources logs → IsRunFaultBeside IsBad Is text logs fault)
-      → (text : List ℕ) (logs : List (List ℕ)) → before first ≡ Some text → AreBytesOf remaining sources logs
-      → MatchResult done (λ _. IsDone text logs) (λ fault. IsRunFaultBeside IsBad Is text logs fault)
-  comes_to before remaining first sources well bad text logs is are = of done well bad
-    where
-      of : (d : Result A Fault)
-          → OnOk d ((text : List ℕ) (logs : List (List ℕ)) → before first ≡ Some text → AreBytesOf remaining sources logs → IsDone text logs)
-          → IfErr d (λ fault. (text : List ℕ) (logs : List (List ℕ)) → before first ≡ Some text → AreBytesOf remaining sources logs → IsRunFaultBeside IsBad Is text logs fault)
-          → MatchResult d (λ _. IsDone text logs) (λ fault. IsRunFaultBeside IsBad Is text logs fault)
-      of (Ok x) well bad = well text logs is are
-      of (Err fault) well bad = bad text logs is are
+  -- where the bytes of all sources are known
+  module _ {F S : Type 0} (before : F → Option (List ℕ)) (remaining : S → Option (List ℕ))
+      (first : F) (sources : List S) where
+    abbrev OfKnown : (List ℕ → List (List ℕ) → Type 0) → Type 0
+    OfKnown P = (text : List ℕ) (logs : List (List ℕ)) → before first ≡ Some text
+        → AreBytesOf remaining sources logs → P text logs
 
-  pub adds_answer : (count : ℕ) → OnOk done (AddsAnswerBeside IsBad Is count old new)
-      → OnOk done ((texts : List (List ℕ)) × (answer : List ℕ) × (length texts ≡ count + 1) × on_first_and_logs (λ text logs. AnswersBeside IsBad Is text logs (Ok answer)) texts × Appends old new answer)
-  adds_answer count = of done
-    where
-      of : (d : Result A Fault) → OnOk d (AddsAnswerBeside IsBad Is count old new)
-          → OnOk d ((texts : List (List ℕ)) × (answer : List ℕ) × (length texts ≡ count + 1) × on_first_and_logs (λ text logs. AnswersBeside IsBad Is text logs (Ok answer)) texts × Appends old new answer)
-      of (Ok x) h = (h.0 ∷ h.1, h.2, omega (arith, h.3), h.4, h.5)
-      of (Err fault) h = tt
+    pub comes_to : {A : Type 0} (done : Result A Fault)
+        → OnOk done (OfKnown (IsWritten (Appends old new)))
+        → IfErr done (λ fault. OfKnown (λ text logs. IsRunFaultBeside IsBad Is text logs fault))
+        → (IsErrOf done Write → OfKnown (IsWritten (AppendsPrefix old new)))
+        → IfErr done (λ fault. fault ≢ Write → Keeps old new)
+        → OfKnown (λ text logs. ComesTo task (text ∷ logs) done old new)
+    comes_to (Ok x) well bad part nothing text logs is are =
+        let w = well text logs is are in
+        (w.0, answers text logs w.0 w.1, w.2)
+    comes_to (Err fault) well bad part nothing text logs is are = record {
+      named = faults text logs fault (bad text logs is are);
+      part = λ failed.
+          let w = part (ap Err failed) text logs is are in
+          (w.0, answers text logs w.0 w.1, w.2);
+      nothing = nothing;
+    }
+
+  -- by what their reads delivered
+  module _ {F S : Type 0} (input_reads : ReadRelation F) (reads : ReadRelation S)
+      (first last : F) (before after : List S) where
+    adds : (Written : List ℕ → Type 0)
+        → AnswersBoth input_reads reads IsBad Is first last before after Written
+        → (texts : List (List ℕ)) × (length texts ≡ length before + 1)
+        × ((text : List ℕ) × IsTaskAnswer task texts (Ok text) × Written text)
+    adds Written h = (
+      h.input ∷ h.logs,
+      omega (arith, h.delivered.of_logs.as_many),
+      (h.text, answers h.input h.logs h.text h.answer, h.written),
+    )
+
+    pub adds_answer : {A : Type 0} (done : Result A Fault)
+        → OnOk done
+        (AnswersBoth input_reads reads IsBad Is first last before after (Appends old new))
+        → OnOk done (AddsAnswer task (length before + 1) old new)
+    adds_answer (Ok x) h = adds (Appends old new) h
+    adds_answer (Err fault) h = tt
+
+    pub adds_part :
+        AnswersBoth input_reads reads IsBad Is first last before after (AppendsPrefix old new)
+        → AddsPart task (length before + 1) old new
+    adds_part h = adds (AppendsPrefix old new) h
 
 -- the texts of sources that begin with one begin with its text
 pub from_first : {S : Type 0} (remaining : S → Option (List ℕ)) (P : List (List ℕ) → Type 0) (sources rest : List S) (source : S) → sources ≡ source ∷ rest
@@ -56,13 +94,48 @@ from_nothing remaining P [] none holds [] are = holds
 from_nothing remaining P [] none holds (text ∷ logs) are = absurd (cc are)
 from_nothing remaining P (source ∷ sources) none holds texts are = absurd (cc none)
 
+without_text : (old new : Option (List ℕ)) (kind : FirstText) (fault : Fault)
+    → HasFault (task_over kind) ([] ∷ []) fault old new
+    → HasFault (task_over kind) [] fault old new
+without_text old new first.Base fault h =
+    record { named = h.named; part = h.part; nothing = h.nothing }
+without_text old new first.List fault h =
+    record { named = h.named; part = h.part; nothing = h.nothing }
+
 module _ {A : Type 0} (old new : Option (List ℕ)) where
   -- where no text is given the first one is empty
-  pub comes_of_nothing : (kind : FirstText) (done : Result A Fault) → ComesTo (task_over kind) ([] ∷ []) done old new → ComesTo (task_over kind) [] done old new
-  comes_of_nothing first.Base done h = h
-  comes_of_nothing first.List done h = h
+  pub comes_of_nothing : (kind : FirstText) (done : Result A Fault)
+      → ComesTo (task_over kind) ([] ∷ []) done old new → ComesTo (task_over kind) [] done old new
+  comes_of_nothing first.Base (Ok x) h = h
+  comes_of_nothing first.List (Ok x) h = h
+  comes_of_nothing kind (Err fault) h = without_text old new kind fault h
 
   -- an answer to no texts is added where that is what the task comes to
-  pub adds_to_nothing : (task : Task) (done : Result A Fault) → ComesTo task [] done old new → OnOk done (AddsAnswer task 0 old new)
-  adds_to_nothing task (Ok x) h = ([], h.0, refl, h.1, h.2)
+  pub adds_to_nothing : (task : Task) (done : Result A Fault) → ComesTo task [] done old new
+      → OnOk done (AddsAnswer task 0 old new)
+  adds_to_nothing task (Ok x) h = ([], refl, h)
   adds_to_nothing task (Err fault) h = tt
+
+  pub adds_part_to_nothing : (task : Task) (done : Result A Fault) → ComesTo task [] done old new
+      → IsErrOf done Write → AddsPart task 0 old new
+  adds_part_to_nothing task (Ok x) h is = absurd (cc is)
+  adds_part_to_nothing task (Err fault) h is =
+      let named : fault ≡ Write = cc is in
+      ([], refl, h.part named)
+
+-- a source that failed is the first, or one of the others
+pub failed_of_all : {S : Type 0} (reads : ReadRelation S) (fails : FailRelation S)
+    (sources rest : List S) (source : S) → sources ≡ source ∷ rest
+    → HasFailedRead reads fails source ⊎ OneHasFailedRead reads fails rest
+    → OneHasFailedRead reads fails sources
+failed_of_all reads fails sources rest source e h =
+    let all = subst (OneHasFailedRead reads fails) (sym e) in
+    elim h [
+      | inl first ↦ all (record { log = 0; source = source; there = refl; failed = first })
+      | inr one ↦ all (record {
+        log = suc one.log;
+        source = one.source;
+        there = one.there;
+        failed = one.failed;
+      })
+    ]

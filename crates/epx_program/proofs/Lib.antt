@@ -1,4 +1,6 @@
+mod KeptBytes
 mod Asking
 mod Sources
 mod Statuses
 mod FirstTexts
+mod FailedInputs

@@ -1,18 +1,23 @@
 -- With which status the program ends.
-use Rattle.std.proofs.Common.{◌≡◌, ◌≢◌, ◌⊎◌, ◌∙◌, ℕ, zero, suc, List, Option, Result, Ok, Err, inl, inr, refl, arith, length, map, Vec, subst, sym}
-use Rattle.std.specs.Prelude.{None, Some, OnOk, IfErr, IfSome, option_map, string_bytes}
-use Rattle.std.specs.declared.alloc.Global.{Global}
-use Rattle.std.specs.declared.string.String.{String}
-use Rattle.std.proofs.lemmas.List.{length-map}
+use Rattle.std.proofs.Common.{◌≡◌, ◌≢◌, ◌⊎◌, ◌↔◌, ◌∙◌, ℕ, zero, suc, Bool, true, false, List, length, Option, Result, Ok, Err, IsErrOf, inl, inr, refl, arith, ap, sym}
+use Rattle.std.specs.Prelude.{OnOk, IfErr}
+use Rattle.std.specs.Io.KnownBytes.{Appends, Keeps}
 use Rattle.epx_types.specs.Faults.{fault_status}
+use Rattle.epx_types.specs.Instances.{Instance}
 use Rattle.epx_types.specs.declared.fault.Fault.{Fault}
 use Rattle.epx_types.specs.declared.fault.Fault.TheVariants.{Memory, TooManyLogs, LogTooLong, BadLine, TooManyInstances, Disagree, Read, Write, BadBase}
 use Rattle.epx_words.specs.Asked.{IfText, IfWork}
 use Rattle.epx_words.specs.declared.asked.Task.{Task}
 use Rattle.epx_words.specs.declared.asked.Words.{Words}
 use Rattle.epx_words.specs.declared.asked.Words.TheVariants.{Work, Text}
+use Rattle.epx_devices.specs.Deliveries.{ReadRelation}
+use Rattle.epx_devices.specs.Transfers.{AppendsPrefix}
+use Rattle.epx_tool.specs.Answer.{Answers}
+use Rattle.epx_tool.specs.Delivered.{AnswersDelivered}
 use Rattle.epx_tool.specs.Runs.{AreBytesOf}
-use Rattle.epx_program.specs.Endings.{AddsAnswer, AppendsAnswer, ComesTo, EndsWith, IsStatus, IsTaskFault, status_of}
+use Rattle.epx_program.specs.Calls.{EndsTask}
+use Rattle.epx_program.specs.Endings.{AddsAnswer, AddsPart, AppendsAnswer, AppendsPart, ComesTo, EndsWith, IsStatus, IsTaskAnswer, IsTaskFault, status_of}
+use Rattle.epx_program.proofs.KeptBytes.{kept}
 
 -- the status of a task that is done, or not
 pub ends-as-done : {A : Type 0} (task : Task) (logs : List (List ℕ)) (done : Result A Fault) (old new : Option (List ℕ))
@@ -21,12 +26,44 @@ ends-as-done task logs (Ok x) old new written = inl (refl, written)
 ends-as-done task logs (Err fault) old new why = inr (fault, why, refl)
 
 -- what the task comes to, from what is said of a run that is well and of one that is not
-pub comes-to : {A S : Type 0} (remaining : S → Option (List ℕ)) (sources : List S) (task : Task) (done : Result A Fault) (old new : Option (List ℕ))
-    → OnOk done ((logs : List (List ℕ)) → AreBytesOf remaining sources logs → AppendsAnswer task logs old new)
-    → IfErr done (λ fault. (logs : List (List ℕ)) → AreBytesOf remaining sources logs → IsTaskFault task logs fault)
+pub comes-to : {A S : Type 0} (remaining : S → Option (List ℕ)) (sources : List S) (task : Task)
+    (done : Result A Fault) (old new : Option (List ℕ))
+    → OnOk done ((logs : List (List ℕ)) → AreBytesOf remaining sources logs
+    → AppendsAnswer task logs old new)
+    → IfErr done (λ fault. (logs : List (List ℕ)) → AreBytesOf remaining sources logs
+    → IsTaskFault task logs fault)
+    → (IsErrOf done Write → (logs : List (List ℕ)) → AreBytesOf remaining sources logs
+    → AppendsPart task logs old new)
+    → IfErr done (λ fault. fault ≢ Write → Keeps old new)
     → (logs : List (List ℕ)) → AreBytesOf remaining sources logs → ComesTo task logs done old new
-comes-to remaining sources task (Ok x) old new text why = text
-comes-to remaining sources task (Err fault) old new text why = why
+comes-to remaining sources task (Ok x) old new text why part nothing logs are = text logs are
+comes-to remaining sources task (Err fault) old new text why part nothing logs are = record {
+  named = why logs are;
+  part = λ failed. part (ap Err failed) logs are;
+  nothing = nothing;
+}
+
+-- the answer to what sources delivered is one to as many texts
+pub adds_answer : {A S : Type 0} (reads : ReadRelation S) (task : Task)
+    (Is : List Instance → List ℕ → Type 0)
+    (answers : (logs : List (List ℕ)) (text : List ℕ) → Answers Is logs (Ok text)
+    → IsTaskAnswer task logs (Ok text))
+    (before after : List S) (old new : Option (List ℕ)) (done : Result A Fault)
+    → OnOk done (AnswersDelivered reads Is before after (Appends old new))
+    → OnOk done (AddsAnswer task (length before) old new)
+adds_answer reads task Is answers before after old new (Ok x) h =
+    (h.logs, h.delivered.as_many, (h.text, answers h.logs h.text h.answer, h.written))
+adds_answer reads task Is answers before after old new (Err fault) h = tt
+
+pub adds_part : {S : Type 0} (reads : ReadRelation S) (task : Task)
+    (Is : List Instance → List ℕ → Type 0)
+    (answers : (logs : List (List ℕ)) (text : List ℕ) → Answers Is logs (Ok text)
+    → IsTaskAnswer task logs (Ok text))
+    (before after : List S) (old new : Option (List ℕ))
+    → AnswersDelivered reads Is before after (AppendsPrefix old new)
+    → AddsPart task (length before) old new
+adds_part reads task Is answers before after old new h =
+    (h.logs, h.delivered.as_many, (h.text, answers h.logs h.text h.answer, h.written))
 
 no_fault_ends_well : (fault : Fault) → fault_status fault ≢ 0
 no_fault_ends_well Memory e = absurd (cc e)
@@ -39,14 +76,56 @@ no_fault_ends_well (Read log) e = absurd (cc e)
 no_fault_ends_well Write e = absurd (cc e)
 no_fault_ends_well (BadBase line) e = absurd (cc e)
 
--- status 0 tells that as many texts as paths are answered
-pub answered_paths : {A : Type 0} (task : Task) (done : Result A Fault) (status : ℕ) (old new : Option (List ℕ)) (paths : Option (Vec (String Global) Global)) → status ≡ status_of done
-    → IfSome paths (λ list. OnOk done (AddsAnswer task (length list.items) old new))
-    → IfSome (option_map (λ list. map string_bytes list.items) paths) (λ list. status ≡ 0 → AddsAnswer task (length list) old new)
-answered_paths task (Ok x) status old new None is h = tt
-answered_paths task (Err fault) status old new None is h = tt
-answered_paths task (Ok x) status old new (Some list) is h = λ none. subst (λ n. AddsAnswer task n old new) (sym (length-map list.items string_bytes)) h
-answered_paths task (Err fault) status old new (Some list) is h = λ none. absurd (no_fault_ends_well fault (sym is ∙ none))
+-- status 0 comes of work that is done
+pub of_done : {A P : Type 0} (done : Result A Fault) (status : ℕ) → status ≡ status_of done
+    → OnOk done P → status ≡ 0 → P
+of_done (Ok x) status is h none = h
+of_done (Err fault) status is h none = absurd (no_fault_ends_well fault (sym is ∙ none))
+
+pub is_status : {A : Type 0} (done : Result A Fault) (status : ℕ) → status ≡ status_of done
+    → IsStatus status
+is_status (Ok x) status is = inl is
+is_status (Err fault) status is = inr (fault, is)
+
+-- status 4 is that of devices alone
+of_device : (fault : Fault) → fault_status fault ≡ 4
+    → (fault ≡ Write) ⊎ (log : ℕ) × (fault ≡ Read log)
+of_device Memory e = absurd (cc e)
+of_device TooManyLogs e = absurd (cc e)
+of_device (LogTooLong log) e = absurd (cc e)
+of_device (BadLine place why) e = absurd (cc e)
+of_device TooManyInstances e = absurd (cc e)
+of_device (Disagree id first second) e = absurd (cc e)
+of_device (Read log) e = inr (log, refl)
+of_device Write e = inl refl
+of_device (BadBase line) e = absurd (cc e)
+
+pub broken_by : {A P Q : Type 0} (done : Result A Fault) (status : ℕ) → status ≡ status_of done
+    → (IsErrOf done Write → P) → ((log : ℕ) → IsErrOf done (Read log) → Q) → status ≡ 4 → P ⊎ Q
+broken_by (Ok x) status is written read four = absurd (omega (arith, is, four))
+broken_by (Err fault) status is written read four =
+    elim (of_device fault (sym is ∙ four)) [
+      | inl write ↦ inl (written (ap Err write))
+      | inr unread ↦ inr (read unread.0 (ap Err unread.1))
+    ]
+
+-- an output that did not fail has nothing new, unless all went well
+pub kept_by_work : {A : Type 0} (done : Result A Fault) (status : ℕ) (failed : Bool)
+    (old new : Option (List ℕ)) → status ≡ status_of done
+    → IfErr done (λ fault. fault ≢ Write → Keeps old new)
+    → IsErrOf done Write ↔ (failed ≡ true) → failed ≡ false → status ≢ 0 → Keeps old new
+kept_by_work (Ok x) status failed old new is nothing written well some = absurd (some is)
+kept_by_work (Err fault) status failed old new is nothing written well some =
+    nothing (λ named. let bad = written.0 (ap Err named) in cc (well, bad))
+
+pub kept_by_text : {W : Type 0} (contents : W → Option (List ℕ)) (before after : W)
+    (status result : ℕ) (failed : Bool) → (status ≢ 0 → (result ≡ status) × (after ≡ before))
+    → (status ≡ 0 → result ≢ 0 → (result ≡ 4) × (failed ≡ true)) → failed ≡ false → result ≢ 0
+    → Keeps (contents before) (contents after)
+kept_by_text contents before after zero result failed told bad well some =
+    let is = (bad refl some).1 in absurd (cc (is, well))
+kept_by_text contents before after (suc n) result failed told bad well some =
+    kept contents before after (told (λ none. omega (arith, none))).1
 
 -- a text that was asked for is shown, or the output failed
 pub of-text : {P : Type 0} (result : ℕ) → (result ≢ 0 → (result ≡ 4) × P) → (result ≡ 0) ⊎ ((result ≡ 4) × P)
@@ -56,6 +135,13 @@ of-text (suc n) failed = inr (failed (λ none. omega (arith, none)))
 shown : {P : Type 0} (result : ℕ) → (result ≡ 0) ⊎ ((result ≡ 4) × P) → IsStatus result
 shown result (inl well) = inl well
 shown result (inr failed) = inr (Write, failed.0)
+
+pub work_status : (input : Option (List ℕ)) (Unread : Type 0) (status : ℕ) (failed : Bool)
+    (old new : Option (List ℕ)) (words : Words)
+    → IfWork (λ task plan paths. EndsTask input Unread task paths status failed old new) words
+    → IfWork (λ task plan paths. IsStatus status) words
+work_status input Unread status failed old new (Work task plan paths) h = h.ends
+work_status input Unread status failed old new (Text text said) h = tt
 
 -- whatever the words come to
 pub of-words : (P Q : Type 0) (words : Words) (result : ℕ) → IfText (λ status. (status ≡ 0) ⊎ (status ≡ 2)) words

@@ -1,5 +1,5 @@
 -- What the program's words ask for, and how the program ends that does it.
-use Rattle.std.specs.Prelude.{◌≡◌, ◌≤◌, ◌↔◌, ◌⊎◌, ℕ, zero, suc, Bool, true, false, List, [], ◌∷◌, length, map, Option, Some, None, IfSome, Result, MatchResult, option_map, string_bytes}
+use Rattle.std.specs.Prelude.{◌≡◌, ◌≤◌, ◌↔◌, ◌⊎◌, ℕ, zero, suc, Bool, true, false, List, [], ◌∷◌, length, map, Option, Some, None, Result, Vec, MatchResult, option_map, string_bytes}
 use Rattle.std.specs.Io.KnownBytes.{Appends, Keeps}
 use Rattle.std.specs.Vec.Iter.{into_iter_items}
 use Rattle.std.specs.declared.alloc.Global.{Global}
@@ -13,11 +13,12 @@ use Rattle.epx_devices.specs.Transfers.{AppendsPrefix}
 use Rattle.epx_words.specs.App.{epx_app}
 use Rattle.epx_words.specs.Asked.{AsksWork, Fits, IfText, IfWork}
 use Rattle.epx_words.specs.Endings.{EndsAs}
+use Rattle.epx_words.specs.declared.asked.Task.{Task}
 use Rattle.epx_words.specs.declared.asked.Task.TheVariants.{Run}
 use Rattle.epx_words.specs.declared.asked.Words.{Words}
 use Rattle.epx_words.specs.declared.asked.Words.TheVariants as asked
-use Rattle.epx_program.specs.Endings.{AddsAnswer, EndsWith, IsStatus}
-use Rattle.epx_program.specs.Inputs.{IsInputAlone}
+use Rattle.epx_program.specs.Endings.{AddsAnswer, AddsPart, EndsWith, IsStatus}
+use Rattle.epx_program.specs.Inputs.{IsInputAlone, how_many}
 
 -- the words of the operating system are these texts; words that could not be had are none
 abbrev pub AreTakenFor : Result (IntoIter (String Global) Global) Error → List Text → Type 0
@@ -36,16 +37,39 @@ EndsWithText text zero status failed old new =
     ((status ≡ 0) × Appends old new text) ⊎ ((status ≡ fault_status Write) × (failed ≡ true) × AppendsPrefix old new text)
 EndsWithText text (suc n) status failed old new = (status ≡ suc n) × Keeps old new
 
--- how it ends once it did what is wanted, over this input: with the status of the work, or of the text. Over files, whose
--- bytes are not known, 0 tells that as many texts as paths are answered
-abbrev pub EndsAsAsked : Option (List ℕ) → Words → ℕ → Bool → Option (List ℕ) → Option (List ℕ) → Type 0
-EndsAsAsked input (asked.Work task plan paths) status failed old new =
-    IsStatus status
-    × ((bytes : List ℕ) → IsInputAlone (option_map (λ list. map string_bytes list.items) paths) → input ≡ Some bytes → EndsWith task (bytes ∷ []) status old new)
-    × IfSome paths (λ list. status ≡ 0 → AddsAnswer task (length list.items) old new)
-EndsAsAsked input (asked.Text text n) status failed old new = EndsWithText (string_bytes text) n status failed old new
+-- How a task ends over the paths, where the input has these bytes, if they are known, and `Unread`
+-- says that a read of the input failed.
+pub record EndsTask (input : Option (List ℕ)) (Unread : Type 0) (task : Task)
+    (paths : Option (List (List ℕ))) (status : ℕ) (failed : Bool)
+    (old new : Option (List ℕ)) : Type 0 where
+  -- with 0, or the status of a fault
+  pub ends : IsStatus status
+  -- over the input alone it ends as the task over its bytes
+  pub over_input : (bytes : List ℕ) → IsInputAlone paths → input ≡ Some bytes
+      → EndsWith task (bytes ∷ []) status old new
+  -- over any sources, 0 says that the answer to as many texts is added
+  pub answered : status ≡ 0 → AddsAnswer task (how_many paths) old new
+  -- an output that failed has taken a prefix of an answer to as many texts
+  pub part : failed ≡ true → AddsPart task (how_many paths) old new
+  -- over the input alone, 4 says that the output failed, or a read of the input
+  pub broken : IsInputAlone paths → status ≡ fault_status Write → (failed ≡ true) ⊎ Unread
 
--- it does what its words ask for; want of memory may stand in place of that
-abbrev pub DoesAsAsked : Option (List ℕ) → List Text → ℕ → Bool → Option (List ℕ) → Option (List ℕ) → Type 0
-DoesAsAsked input words status failed old new =
-    (status ≡ fault_status Memory) ⊎ ((wanted : Words) × Asks words wanted × EndsAsAsked input wanted status failed old new)
+-- the paths, as bytes
+abbrev pub paths_of : Option (Vec (String Global) Global) → Option (List (List ℕ))
+paths_of paths = option_map (λ list. map string_bytes list.items) paths
+
+-- how it ends once it did what is wanted
+abbrev pub EndsAsAsked : Option (List ℕ) → Type 0 → Words → ℕ → Bool
+    → Option (List ℕ) → Option (List ℕ) → Type 0
+EndsAsAsked input Unread (asked.Work task plan paths) status failed old new =
+    EndsTask input Unread task (paths_of paths) status failed old new
+EndsAsAsked input Unread (asked.Text text n) status failed old new =
+    EndsWithText (string_bytes text) n status failed old new
+
+-- it does what its words ask for; running out of memory may stand in place of that
+abbrev pub DoesAsAsked : Option (List ℕ) → Type 0 → List Text → ℕ → Bool
+    → Option (List ℕ) → Option (List ℕ) → Type 0
+DoesAsAsked input Unread words status failed old new =
+    (status ≡ fault_status Memory)
+    ⊎ ((wanted : Words) × Asks words wanted
+    × EndsAsAsked input Unread wanted status failed old new)

@@ -1,8 +1,10 @@
 -- What a task writes, and with which status the program ends.
-use Rattle.std.specs.Prelude.{◌≡◌, ◌⊎◌, ℕ, List, [], ◌∷◌, length, Option, Result, Ok, Err, MatchResult}
-use Rattle.std.specs.Io.KnownBytes.{Appends}
+use Rattle.std.specs.Prelude.{◌≡◌, ◌≢◌, ◌⊎◌, ℕ, List, [], ◌∷◌, length, Option, Result, Ok, Err, MatchResult}
+use Rattle.std.specs.Io.KnownBytes.{Appends, Keeps}
 use Rattle.epx_types.specs.declared.fault.Fault.{Fault}
+use Rattle.epx_types.specs.declared.fault.Fault.TheVariants.{Write}
 use Rattle.epx_types.specs.Faults.{fault_status}
+use Rattle.epx_devices.specs.Transfers.{AppendsPrefix}
 use Rattle.epx_words.specs.declared.asked.Task.{Task}
 use Rattle.epx_words.specs.declared.asked.Task.TheVariants.{Run, Order, Levels, Graph, Resume, Audit, Check}
 use Rattle.epx_base.specs.Bases.{IsBadBase}
@@ -50,26 +52,50 @@ IsTaskFault Check texts fault = on_first_and_logs (λ list logs. IsRunFaultBesid
 
 -- the text that the task asks for of these texts is added
 abbrev pub AppendsAnswer : Task → List (List ℕ) → Option (List ℕ) → Option (List ℕ) → Type 0
-AppendsAnswer task texts old new = (text : List ℕ) × IsTaskAnswer task texts (Ok text) × Appends old new text
+AppendsAnswer task texts old new =
+    (text : List ℕ) × IsTaskAnswer task texts (Ok text) × Appends old new text
+
+-- a prefix of it is added
+abbrev pub AppendsPart : Task → List (List ℕ) → Option (List ℕ) → Option (List ℕ) → Type 0
+AppendsPart task texts old new =
+    (text : List ℕ) × IsTaskAnswer task texts (Ok text) × AppendsPrefix old new text
 
 -- there are so many texts, and the answer to them is added
 abbrev pub AddsAnswer : Task → ℕ → Option (List ℕ) → Option (List ℕ) → Type 0
 AddsAnswer task count old new =
-    (texts : List (List ℕ)) × (text : List ℕ) × (length texts ≡ count) × IsTaskAnswer task texts (Ok text) × Appends old new text
+    (texts : List (List ℕ)) × (length texts ≡ count) × AppendsAnswer task texts old new
+
+-- there are so many texts, and a prefix of the answer to them is added
+abbrev pub AddsPart : Task → ℕ → Option (List ℕ) → Option (List ℕ) → Type 0
+AddsPart task count old new =
+    (texts : List (List ℕ)) × (length texts ≡ count) × AppendsPart task texts old new
+
+-- a task over these texts has this fault: that of the output leaves a prefix of the answer there,
+-- and any other leaves the output as it was
+pub record HasFault (task : Task) (texts : List (List ℕ)) (fault : Fault)
+    (old new : Option (List ℕ)) : Type 0 where
+  pub named : IsTaskFault task texts fault
+  pub part : fault ≡ Write → AppendsPart task texts old new
+  pub nothing : fault ≢ Write → Keeps old new
 
 -- what a task over these texts comes to
-abbrev pub ComesTo : {A : Type 0} → Task → List (List ℕ) → Result A Fault → Option (List ℕ) → Option (List ℕ) → Type 0
-ComesTo task texts done old new = MatchResult done (λ _. AppendsAnswer task texts old new) (IsTaskFault task texts)
+abbrev pub ComesTo : {A : Type 0} → Task → List (List ℕ) → Result A Fault
+    → Option (List ℕ) → Option (List ℕ) → Type 0
+ComesTo task texts done old new =
+    MatchResult done (λ _. AppendsAnswer task texts old new)
+    (λ fault. HasFault task texts fault old new)
 
 -- 0 where the work is done, and else the status of the fault
 abbrev pub status_of : {A : Type 0} → Result A Fault → ℕ
 status_of (Ok _) = 0
 status_of (Err fault) = fault_status fault
 
--- the status with which a task over these texts ends: 0 once its answer is added, and else that of a fault
+-- the status with which a task over these texts ends: 0 once its answer is added, and else that of
+-- a fault
 abbrev pub EndsWith : Task → List (List ℕ) → ℕ → Option (List ℕ) → Option (List ℕ) → Type 0
-EndsWith task texts status old new = ((status ≡ 0) × AppendsAnswer task texts old new)
-    ⊎ ((fault : Fault) × IsTaskFault task texts fault × (status ≡ fault_status fault))
+EndsWith task texts status old new =
+    ((status ≡ 0) × AppendsAnswer task texts old new)
+    ⊎ ((fault : Fault) × HasFault task texts fault old new × (status ≡ fault_status fault))
 
 -- 0, or the status of a fault
 abbrev pub IsStatus : ℕ → Type 0

@@ -1,5 +1,6 @@
 -- The program's input among the paths of its words.
-use Rattle.std.specs.Prelude.{◌≡◌, ⊤, ℕ, List, [], ◌∷◌, Option, Some, None, codes}
+use Rattle.std.specs.Prelude.{◌≡◌, ⊤, ℕ, List, [], ◌∷◌, Option, Some, None, codes, length, slice_get}
+use Rattle.epx_devices.specs.Deliveries.{FailRelation, ReadRelation, DeliversThenFails}
 use Rattle.epx_devices.specs.EitherSources.{told_by}
 use Rattle.epx_devices.specs.WatchedDevices.{WatchedPath}
 use Rattle.epx_devices.specs.declared.either_source.EitherSource.{EitherSource}
@@ -12,3 +13,20 @@ IsInputAlone (Some paths) = paths ≡ codes "-" ∷ []
 -- the path of a log: that of its file, or a hyphen
 abbrev pub path_of : {F J : Type 0} → EitherSource (WatchedPath F) J → List ℕ
 path_of source = told_by (λ file. file.path) (λ input. codes "-") source
+
+-- how many texts are read: one where no path is given, and else one a path
+abbrev pub how_many : Option (List (List ℕ)) → ℕ
+how_many None = 1
+how_many (Some paths) = length paths
+
+-- reads of the source delivered some bytes or none, and the one after them failed
+abbrev pub HasFailedRead : {S : Type 0} → ReadRelation S → FailRelation S → S → Type 0
+HasFailedRead {S} reads fails source = (last : S) × DeliversThenFails reads fails source last
+
+-- this is so of one of these sources
+pub record OneHasFailedRead {S : Type 0} (reads : ReadRelation S) (fails : FailRelation S)
+    (sources : List S) : Type 0 where
+  pub log : ℕ
+  pub source : S
+  pub there : slice_get sources log ≡ Some source
+  pub failed : HasFailedRead reads fails source

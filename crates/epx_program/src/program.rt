@@ -1,14 +1,14 @@
 //! From the words to the exit status.
-ghost use Rattle.std.specs.Prelude.{◌≡◌, ◌≢◌, ◌⊎◌, true, false, [], ◌∷◌, IfErr, IfSome, None, Some, length, string_bytes};
+ghost use Rattle.std.specs.Prelude.{◌≡◌, ◌≢◌, ◌⊎◌, true, false, IfErr, string_bytes};
 ghost use Rattle.std.specs.Io.KnownBytes.{Appends, Keeps};
 ghost use Rattle.std.specs.IoError.{error_kind};
 ghost use Rattle.std.specs.Process.{exit_status};
 ghost use Rattle.epx_types.specs.Faults.{fault_status};
 ghost use Rattle.epx_devices.specs.Transfers.{AppendsPrefix};
 ghost use Rattle.epx_words.specs.Asked.{IfText, IfWork};
-ghost use Rattle.epx_program.specs.Calls.{AreTakenFor, DoesAsAsked};
-ghost use Rattle.epx_program.specs.Endings.{AddsAnswer, EndsWith, IsStatus};
-ghost use Rattle.epx_program.specs.Inputs.{IsInputAlone};
+ghost use Rattle.epx_program.specs.Calls.{AreTakenFor, DoesAsAsked, EndsTask};
+ghost use Rattle.epx_program.specs.Endings.{IsStatus};
+ghost use Rattle.epx_program.specs.Inputs.{HasFailedRead};
 
 use crate::asked::asked;
 use crate::ending::{end, end_with_text};
@@ -32,11 +32,9 @@ where
     requires input { I.has_failed input ≡ false }
     requires output { W.has_failed output.old ≡ false }
 
-    ensures work { IfWork (λ _ _ _. IsStatus result) words }
-    ensures input { (bytes : _) → I.remaining input ≡ Some bytes → IfWork (λ task _ paths. IsInputAlone paths
-        → EndsWith task (bytes ∷ []) result (W.contents output.old) (W.contents output.new)) words }
-    ensures paths { IfWork (λ task _ paths. IfSome paths (λ list. result ≡ 0
-        → AddsAnswer task (length list) (W.contents output.old) (W.contents output.new))) words }
+    ensures work { IfWork (λ task _ paths. EndsTask (I.remaining input)
+        (HasFailedRead I.reads I.fails input) task paths result (W.has_failed output.new)
+        (W.contents output.old) (W.contents output.new)) words }
 
     ensures shown { (text : _) → words ≡ Words.Text text 0 → result ≡ 0
         → Appends (W.contents output.old) (W.contents output.new) (string_bytes text) }
@@ -47,7 +45,8 @@ where
 
     ensures flushed { result ≡ 0 → W.is_flushed output.new ≡ true }
     ensures failed { W.has_failed output.new ≡ true → result ≡ 4 }
-    ensures nothing { result ≢ 0 → result ≢ 4 → Keeps (W.contents output.old) (W.contents output.new) }
+    ensures nothing { W.has_failed output.new ≡ false → result ≢ 0
+        → Keeps (W.contents output.old) (W.contents output.new) }
 {
     match words {
         Words::Work { task, plan, paths } => {
@@ -68,8 +67,9 @@ where
     requires input { I.has_failed input ≡ false }
     requires output { W.has_failed output.old ≡ false }
 
-    ensures asked { (texts : _) → AreTakenFor words texts → DoesAsAsked (I.remaining input) texts
-        (exit_status result) (W.has_failed output.new) (W.contents output.old) (W.contents output.new) }
+    ensures asked { (texts : _) → AreTakenFor words texts → DoesAsAsked (I.remaining input)
+        (HasFailedRead I.reads I.fails input) texts (exit_status result) (W.has_failed output.new)
+        (W.contents output.old) (W.contents output.new) }
     ensures status { IsStatus (exit_status result) ⊎ (exit_status result ≡ 2) }
 
     ensures no_text { IfErr words (λ error. error_kind error ≡ ErrorKind.InvalidData
@@ -79,7 +79,8 @@ where
 
     ensures flushed { exit_status result ≡ 0 → W.is_flushed output.new ≡ true }
     ensures failed { W.has_failed output.new ≡ true → exit_status result ≡ 4 }
-    ensures nothing { exit_status result ≢ 0 → exit_status result ≢ 4 → Keeps (W.contents output.old) (W.contents output.new) }
+    ensures nothing { W.has_failed output.new ≡ false → exit_status result ≢ 0
+        → Keeps (W.contents output.old) (W.contents output.new) }
 {
     let status = match asked(rt.alloc(), words) {
         Ok(words) => act(rt, words, input, output),

@@ -1,13 +1,14 @@
 //! The work itself: sources by the paths, and the answer that the task asks for.
-ghost use Rattle.std.specs.Prelude.{◌≡◌, ◌≢◌, ◌↔◌, ◌+◌, true, false, [], ◌∷◌, All, map, None, Some, IfErr, IfOk, IfSome, IsErrOf, OnOk, length, option_map, string_bytes};
+ghost use Rattle.std.specs.Prelude.{◌≡◌, ◌≢◌, ◌↔◌, ◌⊎◌, ◌+◌, true, false, [], ◌∷◌, All, Some, IfErr, IsErrOf, OnOk, length};
 ghost use Rattle.std.specs.Io.KnownBytes.{Keeps};
-ghost use Rattle.epx_program.specs.Endings.{AddsAnswer, ComesTo, task_over};
-ghost use Rattle.epx_program.specs.Inputs.{IsInputAlone};
+ghost use Rattle.epx_program.specs.Calls.{paths_of};
+ghost use Rattle.epx_program.specs.Endings.{AddsAnswer, AddsPart, ComesTo, task_over};
+ghost use Rattle.epx_program.specs.Inputs.{HasFailedRead, IsInputAlone, OneHasFailedRead, how_many};
 ghost use Rattle.epx_tool.specs.Runs.{AreBytesOf};
 
 use crate::inputs::sources_at;
 use epx_tool::{Ask, MemorySource, Sink, Source, Task, run, run_check, run_resume, show};
-use epx_types::{Fault, Plan};
+use epx_types::{Fault, Memory, Plan};
 use std::alloc::Global;
 use std::random::RandomSource;
 use std::rt::Files;
@@ -38,7 +39,12 @@ fn answer_beside<R: Threads + RandomSource + Sync, F: Source, S: Source, W: Sink
 
     ensures answer { (text : _) (texts : _) → F.remaining first.old ≡ Some text → AreBytesOf S.remaining logs.old texts →
         ComesTo (task_over kind) (text ∷ texts) result (W.contents output.old) (W.contents output.new) }
-    ensures answered { OnOk result (AddsAnswer (task_over kind) (length logs.old + 1) (W.contents output.old) (W.contents output.new)) }
+    ensures answered { OnOk result (AddsAnswer (task_over kind) (length logs.old + 1)
+        (W.contents output.old) (W.contents output.new)) }
+    ensures part { IsErrOf result Fault.Write → AddsPart (task_over kind) (length logs.old + 1)
+        (W.contents output.old) (W.contents output.new) }
+    ensures unread { (log : _) → IsErrOf result (Fault.Read log) →
+        HasFailedRead F.reads F.fails first.old ⊎ OneHasFailedRead S.reads S.fails logs.old }
     ensures flushed { OnOk result (W.is_flushed output.new ≡ true) }
     ensures nothing { IfErr result (λ fault. fault ≢ Fault.Write → Keeps (W.contents output.old) (W.contents output.new)) }
     ensures written { IsErrOf result Fault.Write ↔ (W.has_failed output.new ≡ true) }
@@ -63,7 +69,12 @@ fn answer_from_first<R: Threads + RandomSource + Sync, S: Source, W: Sink>(
 
     ensures answer { (texts : _) → AreBytesOf S.remaining sources.old texts →
         ComesTo (task_over kind) texts result (W.contents output.old) (W.contents output.new) }
-    ensures answered { OnOk result (AddsAnswer (task_over kind) (length sources.old) (W.contents output.old) (W.contents output.new)) }
+    ensures answered { OnOk result (AddsAnswer (task_over kind) (length sources.old)
+        (W.contents output.old) (W.contents output.new)) }
+    ensures part { IsErrOf result Fault.Write → AddsPart (task_over kind) (length sources.old)
+        (W.contents output.old) (W.contents output.new) }
+    ensures unread { (log : _) → IsErrOf result (Fault.Read log) →
+        OneHasFailedRead S.reads S.fails sources.old }
     ensures flushed { OnOk result (W.is_flushed output.new ≡ true) }
     ensures nothing { IfErr result (λ fault. fault ≢ Fault.Write → Keeps (W.contents output.old) (W.contents output.new)) }
     ensures written { IsErrOf result Fault.Write ↔ (W.has_failed output.new ≡ true) }
@@ -92,7 +103,12 @@ fn answer<R: Threads + RandomSource + Sync, S: Source, W: Sink>(
 
     ensures answer { (texts : _) → AreBytesOf S.remaining sources.old texts →
         ComesTo task texts result (W.contents output.old) (W.contents output.new) }
-    ensures answered { OnOk result (AddsAnswer task (length sources.old) (W.contents output.old) (W.contents output.new)) }
+    ensures answered { OnOk result (AddsAnswer task (length sources.old)
+        (W.contents output.old) (W.contents output.new)) }
+    ensures part { IsErrOf result Fault.Write → AddsPart task (length sources.old)
+        (W.contents output.old) (W.contents output.new) }
+    ensures unread { (log : _) → IsErrOf result (Fault.Read log) →
+        OneHasFailedRead S.reads S.fails sources.old }
     ensures flushed { OnOk result (W.is_flushed output.new ≡ true) }
     ensures nothing { IfErr result (λ fault. fault ≢ Fault.Write → Keeps (W.contents output.old) (W.contents output.new)) }
     ensures written { IsErrOf result Fault.Write ↔ (W.has_failed output.new ≡ true) }
@@ -122,19 +138,21 @@ pub(crate) fn work<R: Files + Threads + RandomSource + Sync, I: Source + Drop, W
     requires input { I.has_failed input ≡ false }
     requires output { W.has_failed output.old ≡ false }
 
-    ensures input { (bytes : _) → IsInputAlone (option_map (λ list. map string_bytes list.items) paths) → I.remaining input ≡ Some bytes →
+    ensures input { (bytes : _) → IsInputAlone (paths_of paths) → I.remaining input ≡ Some bytes →
         ComesTo task (bytes ∷ []) result (W.contents output.old) (W.contents output.new) }
-    ensures paths { IfSome paths (λ list. OnOk result
-        (AddsAnswer task (length list.items) (W.contents output.old) (W.contents output.new))) }
+    ensures answered { OnOk result (AddsAnswer task (how_many (paths_of paths))
+        (W.contents output.old) (W.contents output.new)) }
+    ensures part { IsErrOf result Fault.Write → AddsPart task (how_many (paths_of paths))
+        (W.contents output.old) (W.contents output.new) }
+    ensures unread { (log : _) → IsErrOf result (Fault.Read log) → IsInputAlone (paths_of paths) →
+        HasFailedRead I.reads I.fails input }
     ensures flushed { OnOk result (W.is_flushed output.new ≡ true) }
     ensures nothing { IfErr result (λ fault. fault ≢ Fault.Write → Keeps (W.contents output.old) (W.contents output.new)) }
     ensures written { IsErrOf result Fault.Write ↔ (W.has_failed output.new ≡ true) }
 {
     let Some(paths) = paths else {
         let mut sources = Vec::new(alloc);
-        let Ok(()) = sources.push(input) else {
-            return Err(Fault::Memory);
-        };
+        sources.push(input).map_err(Memory::from)?;
         return answer(rt, alloc, task, plan, &mut sources, output);
     };
     let Ok(mut sources) = sources_at(rt, alloc, &paths, input) else {

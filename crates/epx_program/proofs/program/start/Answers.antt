@@ -1,14 +1,17 @@
 use Rattle.std.proofs.Common.{inl, inr, refl}
 use Rattle.epx_types.specs.declared.fault.Fault.TheVariants.{Memory}
 use Rattle.epx_program.proofs.Asking.{ends_as_asked}
-use Rattle.epx_program.proofs.Statuses.{of-words}
+use Rattle.epx_program.proofs.Statuses.{of-words, work_status}
 use Rattle.epx_program.proofs.program.start.Goals as goal
 use Rattle.epx_program.proofs.program.start.Goals.{in-Ok, in-Err}
 
 pub returns-clause-status : goal.returns-clause-status
 returns-clause-status g c = rw c.from.ensures (elim c.match-asked.branch [
-  | in-Ok w ↦ let said = w.act-status.ensures in
-      rw w.status-is (of-words _ _ _ _ w.in-Ok.ensures.status said.work said.text said.told)
+  | in-Ok w ↦
+      let said = w.act-status.ensures in
+      let words = w.in-Ok.words in
+      rw w.status-is (of-words _ _ words _ w.in-Ok.ensures.status
+      (work_status _ _ _ _ _ _ words said.work) said.text said.told)
   | in-Err w ↦ rw (w.status-is, w.end-status.ensures) (inl (inr (Memory, refl)))
 ])
 
@@ -18,7 +21,8 @@ returns-clause-asked g c texts taken = rw c.from.ensures (elim c.match-asked.bra
       rw (w.status-is, w.output-is) (inr (
         w.in-Ok.words,
         w.in-Ok.ensures.asked texts taken,
-        ends_as_asked g.W.Sink.contents _ _ (g.I.Source.remaining c.args.input) _ _ w.in-Ok.words said.work said.input said.paths said.shown said.prefix said.text said.told,
+        ends_as_asked g.W.Sink.contents _ _ (g.I.Source.remaining c.args.input) _ _ _ w.in-Ok.words
+            said.work said.shown said.prefix said.text said.told,
       ))
   | in-Err w ↦ rw (w.status-is, w.end-status.ensures) (inl refl)
 ])

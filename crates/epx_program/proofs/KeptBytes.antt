@@ -1,0 +1,13 @@
+-- Outputs that are as before.
+use Rattle.std.proofs.Common.{◌≡◌, ℕ, List, Option, Some, None, refl, subst}
+use Rattle.std.specs.Io.KnownBytes.{Keeps}
+
+keeps_same : (known : Option (List ℕ)) → Keeps known known
+keeps_same None = tt
+keeps_same (Some bytes) = refl
+
+-- an output that is as before has what it had
+pub kept : {S : Type 0} (contents : S → Option (List ℕ)) (before after : S) → after ≡ before
+    → Keeps (contents before) (contents after)
+kept contents before after same =
+    subst (λ output. Keeps (contents output) (contents after)) same (keeps_same (contents after))
