@@ -5,9 +5,9 @@ use Rattle.std.proofs.lemmas.List.{get_or_default, length-set, length-replicate,
 use Rattle.std.proofs.lemmas.List.Elements.{Contains-get_or}
 use Rattle.epx_graph.specs.NodePaths.{IsNodePath, NodeReaches}
 use Rattle.epx_order.specs.Ends.{AreEnds, IsEndBelow, IsEndOver}
-use Rattle.epx_order.specs.Partitions.{Parts, IsPartition, component_of, node_at, number_for}
-use Rattle.epx_order.proofs.NodePathLemmas.{reach_falls, reaches_edge, reaches_on}
-use Rattle.epx_order.proofs.PartitionLemmas.{node_below, set_for}
+use Rattle.epx_components.specs.Partitions.{Parts, IsPartition, component_of, node_at, number_for}
+use Rattle.epx_components.proofs.NodePathLemmas.{reach_falls, reaches_edge, reaches_on}
+use Rattle.epx_components.proofs.PartitionLemmas.{node_below, set_for}
 
 -- a list of zeros has 0 everywhere
 pub zero_everywhere : (n c : ℕ) → ◌≡◌ {A = ℕ} (get_or (replicate n 0) c 0) 0

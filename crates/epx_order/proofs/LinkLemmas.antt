@@ -3,7 +3,7 @@ use Rattle.std.proofs.Common.{◌≡◌, ◌⊎◌, inl, inr, ℕ, ◌+◌, ◌<
 use Rattle.std.proofs.lemmas.Bool.{cases_Bool, cases_lt, false≢true}
 use Rattle.epx_order.specs.declared.touches.Touch.{Touch}
 use Rattle.epx_order.specs.Links.{touch_at, TouchReaches, AreLinked, IsFollowing, IsNextSince}
-use Rattle.epx_order.proofs.NodePathLemmas.{reaches_on}
+use Rattle.epx_components.proofs.NodePathLemmas.{reaches_on}
 
 -- of the first n touches, since is the last one that writes, or the first one of its hash
 pub record IsLinking (edges : ℕ → List ℕ) (nodes : List ℕ) (touches : List Touch) (since n : ℕ) : Type 0 where

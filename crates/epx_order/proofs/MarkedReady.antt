@@ -7,8 +7,8 @@ use Rattle.epx_types.specs.Instances.{Instance}
 use Rattle.epx_types.specs.Readiness.{IsReady}
 use Rattle.epx_graph.specs.Graphs.{DependencyGraph, edges_of}
 use Rattle.epx_graph.specs.GraphOf.{IsGraphOf}
-use Rattle.epx_order.proofs.NodePathLemmas.{reaches_itself}
-use Rattle.epx_order.proofs.ReadyNodes.{ready_from_node, node_from_ready}
+use Rattle.epx_components.proofs.NodePathLemmas.{reaches_itself}
+use Rattle.epx_components.proofs.ReadyNodes.{ready_from_node, node_from_ready}
 use Rattle.epx_order.specs.ReadyMarks.{is_marked, AreReadyMarks}
 
 module _ (m : List Instance) (g : DependencyGraph) (is : IsGraphOf m g) (ready : List Bool) (marks : AreReadyMarks g ready) where

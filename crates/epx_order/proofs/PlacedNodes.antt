@@ -18,13 +18,13 @@ use Rattle.epx_graph.proofs.MapPaths.{node_committed, node_instance, node_reache
 use Rattle.epx_order.specs.Ends.{AreEnds, IsEndBelow}
 use Rattle.epx_order.specs.Listings.{AreListed}
 use Rattle.epx_order.specs.OrderFaults.{IsEarlyAt, IsOvertakenAt, IsListOfReady, InOrder, IsOrderFault}
-use Rattle.epx_order.specs.Partitions.{Parts, IsPartitionOf, component_of, number_for}
+use Rattle.epx_components.specs.Partitions.{Parts, IsPartitionOf, component_of, number_for}
 use Rattle.epx_order.specs.Turns.{IsAheadAt, IsPassedAt, NoneAside, IsPlaceFault}
 use Rattle.epx_order.specs.declared.order_fault.OrderFault.{OrderFault}
 use Rattle.epx_order.specs.declared.order_fault.OrderFault.TheVariants.{Memory, Stranger, Repeat, Missing, Early, Sequence}
 use Rattle.epx_order.proofs.LawfulLists.{lawful_from_order}
-use Rattle.epx_order.proofs.NodePathLemmas.{reach_falls, reaches_on}
-use Rattle.epx_order.proofs.NodeRanks.{node_of_place}
+use Rattle.epx_components.proofs.NodePathLemmas.{reach_falls, reaches_on}
+use Rattle.epx_components.proofs.NodeRanks.{node_of_place}
 
 module _ (m : List Instance) (g : DependencyGraph) (is : IsGraphOf m g) (p : Parts) (part : IsPartitionOf g p) (ids : List Id) (nodes : List ℕ) (marks : List Bool) (listed : AreListed g ids (length ids) nodes marks) (ready : IsListOfReady m ids) where
   -- the node at a place is that of the instance there, and is committed

@@ -4,9 +4,9 @@ use Rattle.std.proofs.lemmas.Bool.{cases_lt, false≢true}
 use Rattle.std.proofs.lemmas.List.{get_or_default, get_or-replicate, get_or_past, length-replicate}
 use Rattle.std.proofs.lemmas.List.Elements.{Contains-get_or}
 use Rattle.epx_graph.specs.NodePaths.{IsNodePath, NodeReaches}
-use Rattle.epx_order.specs.Partitions.{Parts, IsPartition, component_of, node_at, mark_for}
-use Rattle.epx_order.proofs.NodePathLemmas.{reaches_edge, reaches_on}
-use Rattle.epx_order.proofs.PartitionLemmas.{node_below, set_for}
+use Rattle.epx_components.specs.Partitions.{Parts, IsPartition, component_of, node_at, mark_for}
+use Rattle.epx_components.proofs.NodePathLemmas.{reaches_edge, reaches_on}
+use Rattle.epx_components.proofs.PartitionLemmas.{node_below, set_for}
 
 -- the marks after the nodes of the order from n on
 pub record AreReached (edges : ℕ → List ℕ) (p : Parts) (root : ℕ) (marks : List Bool) (n : ℕ) : Type 0 where

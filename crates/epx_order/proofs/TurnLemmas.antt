@@ -8,9 +8,9 @@ use Rattle.epx_types.specs.Instances.{Instance}
 use Rattle.epx_types.proofs.TotalOrders.{below_itself, below_trans, below_cases}
 use Rattle.epx_types.proofs.Comparisons.{id_cmp_total, id_cmp-IsAntisymmetric, then_first, then_second}
 use Rattle.epx_order.specs.declared.turn.Turn.{Turn}
-use Rattle.epx_order.specs.Partitions.{Parts, component_of}
+use Rattle.epx_components.specs.Partitions.{Parts, component_of}
 use Rattle.epx_order.specs.Turns.{turn_of, turn_cmp, ComesBefore, IsAheadAt, IsPassedAt, NoneAside}
-use Rattle.epx_order.proofs.PartitionLemmas.{set_for}
+use Rattle.epx_components.proofs.PartitionLemmas.{set_for}
 
 abbrev pub latest_in : Parts → List (Option Turn) → ℕ → Option Turn
 latest_in p latest k = get_or latest (component_of p k) None

@@ -10,7 +10,7 @@ use Rattle.epx_graph.specs.NodePaths.{NodeReaches}
 use Rattle.epx_order.specs.declared.ways.Run.{Run}
 use Rattle.epx_order.specs.declared.ways.Ways.{Ways}
 use Rattle.epx_order.specs.Ways.{IsRun, IsWays}
-use Rattle.epx_order.proofs.NodePathLemmas.{reaches_itself, reaches_on}
+use Rattle.epx_components.proofs.NodePathLemmas.{reaches_itself, reaches_on}
 
 -- names that `==` finds equal
 pub equal_ids : (a b : Id) → id_eq.eq-value.it a b ≡ true → a ≡ b

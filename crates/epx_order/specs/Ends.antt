@@ -1,7 +1,7 @@
 -- How much of a list of nodes holds all of a component, and all that lies below it.
 use Rattle.std.specs.Prelude.{◌≡◌, ◌≢◌, ◌⊎◌, ℕ, ◌+◌, ◌<◌, ◌≤◌, List, length, slice_index}
 use Rattle.epx_graph.specs.NodePaths.{NodeReaches}
-use Rattle.epx_order.specs.Partitions.{Parts, component_of, number_for}
+use Rattle.epx_components.specs.Partitions.{Parts, component_of, number_for}
 
 -- one more than the last of the first n places at which each component has a member, or 0
 pub record AreEnds (p : Parts) (nodes : List ℕ) (n : ℕ) (ends : List ℕ) : Type 0 where

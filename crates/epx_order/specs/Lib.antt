@@ -1,15 +1,4 @@
-pub mod NodeComponents
-pub mod NodeDepths
-pub mod MissingNodes
-pub mod Standings
 pub mod Ranks
-pub mod Partitions
-pub mod Targets
-pub mod Starts
-pub mod SearchStates
-pub mod SearchInvariants
-pub mod SearchSteps
-pub mod SearchWork
 pub mod ReadyMarks
 pub mod Listings
 pub mod Ends

@@ -1,7 +1,7 @@
 -- Marks of the nodes of ready instances.
 use Rattle.std.specs.Prelude.{◌≡◌, ◌↔◌, ℕ, ◌<◌, List, Bool, false, length, slice_index_or, IsTrue}
 use Rattle.epx_graph.specs.Graphs.{DependencyGraph, edges_of}
-use Rattle.epx_order.specs.MissingNodes.{ReachesMissing}
+use Rattle.epx_components.specs.MissingNodes.{ReachesMissing}
 
 -- the mark of a node
 abbrev pub is_marked : List Bool → ℕ → Bool

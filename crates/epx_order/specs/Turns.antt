@@ -7,7 +7,7 @@ use Rattle.epx_types.specs.Instances.{Instance}
 use Rattle.epx_order.specs.declared.order_fault.OrderFault.{OrderFault}
 use Rattle.epx_order.specs.declared.order_fault.OrderFault.TheVariants.{Memory, Stranger, Repeat, Missing, Early, Sequence}
 use Rattle.epx_order.specs.declared.turn.Turn.{Turn}
-use Rattle.epx_order.specs.Partitions.{Parts, component_of, number_for}
+use Rattle.epx_components.specs.Partitions.{Parts, component_of, number_for}
 
 abbrev pub turn_of : Instance → Turn
 turn_of e = record { seq = e.seq; id = e.id }

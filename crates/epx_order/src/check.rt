@@ -3,15 +3,14 @@ ghost use Rattle.std.specs.Prelude.{◌≡◌, ◌<◌, ◌↔◌, length, repli
 ghost use Rattle.epx_types.specs.LawfulOrders.{IsLawful};
 ghost use Rattle.epx_graph.specs.GraphOf.{IsGraphOf};
 ghost use Rattle.epx_order.specs.OrderFaults.{IsOrderFault};
-ghost use Rattle.epx_order.specs.Partitions.{parts};
+ghost use Rattle.epx_components.specs.Partitions.{parts};
 ghost use Rattle.epx_order.specs.Turns.{ComesBefore, NoneAside, IsPlaceFault};
 
 use crate::ends::{find_ends, find_ends_below};
 use crate::listing::{first_left_out, list_nodes, ready_nodes};
 use crate::order_fault::OrderFault;
-use crate::partition::Partition;
-use crate::search::find_components;
 use crate::turn::Turn;
+use epx_components::{Partition, find_components};
 use epx_graph::Graph;
 use epx_merge::Merged;
 use epx_types::{Id, Memory};

@@ -2,9 +2,9 @@
 ghost use Rattle.std.specs.Prelude.{◌≡◌, ℕ, ◌<◌, ◌≤◌, length, slice_index, All, IfOk};
 ghost use Rattle.epx_graph.specs.Graphs.{edges_of};
 ghost use Rattle.epx_order.specs.Ends.{AreEnds, IsEndBelow, IsEndOver};
-ghost use Rattle.epx_order.specs.Partitions.{parts, number_for, IsPartitionOf};
+ghost use Rattle.epx_components.specs.Partitions.{parts, number_for, IsPartitionOf};
 
-use crate::partition::Partition;
+use epx_components::Partition;
 use epx_graph::Graph;
 use epx_types::Memory;
 use std::alloc::Global;

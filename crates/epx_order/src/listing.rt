@@ -5,12 +5,11 @@ ghost use Rattle.epx_types.specs.Readiness.{IsReady};
 ghost use Rattle.epx_graph.specs.GraphOf.{IsGraphOf};
 ghost use Rattle.epx_order.specs.Listings.{AreListed, IsHeld};
 ghost use Rattle.epx_order.specs.OrderFaults.{ReadyOnce, IsOrderFault};
-ghost use Rattle.epx_order.specs.Partitions.{parts, IsPartitionOf};
+ghost use Rattle.epx_components.specs.Partitions.{parts, IsPartitionOf};
 ghost use Rattle.epx_order.specs.ReadyMarks.{is_marked, AreReadyMarks};
 
-use crate::missing::find_missing;
 use crate::order_fault::OrderFault;
-use crate::partition::Partition;
+use epx_components::{Partition, find_missing};
 use epx_graph::Graph;
 use epx_types::{Id, Memory};
 use std::alloc::Global;

@@ -7,10 +7,10 @@ ghost use Rattle.epx_types.specs.ExecutionOrder.{IsRanked};
 ghost use Rattle.epx_types.specs.Readiness.{IsReady};
 ghost use Rattle.epx_graph.specs.GraphOf.{IsGraphAfter, IsGraphOf};
 ghost use Rattle.epx_order.specs.Ranks.{ranked, AreReadyRanks};
-ghost use Rattle.epx_order.specs.Standings.{IsStanding};
+ghost use Rattle.epx_components.specs.Standings.{IsStanding};
 
 use crate::rank::Rank;
-use crate::standings::{Standing, Standings};
+use epx_components::{Standing, Standings};
 use epx_graph::Graph;
 use epx_merge::Merged;
 use epx_types::{Entry, Id, Memory};

@@ -2,11 +2,10 @@
 ghost use Rattle.std.specs.Prelude.{◌≡◌, ◌↔◌, ◌⊎◌, ℕ, ◌<◌, length, slice_index, slice_index_or, false, All, IsTrue, IfOk};
 ghost use Rattle.epx_graph.specs.Graphs.{edges_of};
 ghost use Rattle.epx_graph.specs.NodePaths.{NodeReaches};
-ghost use Rattle.epx_order.specs.Partitions.{parts, mark_for, IsPartitionOf};
-ghost use Rattle.epx_order.specs.Targets.{LeadsToMarked};
+ghost use Rattle.epx_components.specs.Partitions.{parts, mark_for, IsPartitionOf};
+ghost use Rattle.epx_components.specs.Targets.{LeadsToMarked};
 
-use crate::missing::any_marked;
-use crate::partition::Partition;
+use epx_components::{Partition, any_marked};
 use epx_graph::Graph;
 use epx_types::Memory;
 use std::alloc::Global;

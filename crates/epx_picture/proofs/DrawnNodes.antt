@@ -10,11 +10,11 @@ use Rattle.epx_types.proofs.Places.{Contains-slice_get}
 use Rattle.epx_graph.specs.Graphs.{DependencyGraph}
 use Rattle.epx_graph.specs.GraphOf.{IsGraphOf}
 use Rattle.epx_graph.proofs.MapPaths.{committed_count}
-use Rattle.epx_order.specs.declared.standings.Standing.{Standing}
-use Rattle.epx_order.specs.Standings.{IsStanding}
-use Rattle.epx_order.proofs.InstanceDepths.{depth_from_node}
-use Rattle.epx_order.proofs.NodeRanks.{node_of_place}
-use Rattle.epx_order.proofs.ReadyNodes.{ready_from_node, node_from_ready}
+use Rattle.epx_components.specs.declared.standings.Standing.{Standing}
+use Rattle.epx_components.specs.Standings.{IsStanding}
+use Rattle.epx_components.proofs.InstanceDepths.{depth_from_node}
+use Rattle.epx_components.proofs.NodeRanks.{node_of_place}
+use Rattle.epx_components.proofs.ReadyNodes.{ready_from_node, node_from_ready}
 use Rattle.epx_picture.specs.Drawings.{IsCluster, IsDrawn}
 
 from_not_false : (b : Bool) → ¬ (b ≡ false) → IsTrue b

@@ -2,7 +2,7 @@
 use Rattle.std.proofs.Common.{◌≡◌, ◌⊎◌, ℕ, ◌+◌, ◌<◌, inl, inr, List, Bool, true, false, length, get_or, set, slice_get, Some, replicate, sym, ◌∙◌, ap, arith}
 use Rattle.std.proofs.lemmas.Bool.{cases_eq, cases_lt, false≢true}
 use Rattle.std.proofs.lemmas.List.{length-set, length-replicate, get_or-replicate, get_or_past, get_or-set_same, get_or-set_other}
-use Rattle.epx_order.specs.declared.standings.Standing.{Standing}
+use Rattle.epx_components.specs.declared.standings.Standing.{Standing}
 use Rattle.epx_picture.specs.Clusters.{LeadsAmong, AreMarked}
 
 unmarked : (n l : ℕ) → get_or (replicate n false) l false ≡ false

@@ -10,11 +10,11 @@ use Rattle.epx_graph.specs.GraphOf.{IsGraphOf}
 use Rattle.epx_graph.specs.NodePaths.{NodeReaches}
 use Rattle.epx_graph.proofs.GraphNodes.{node_id, node_is_one}
 use Rattle.epx_graph.proofs.MapPaths.{node_reaches, reached_node}
-use Rattle.epx_order.specs.declared.standings.Standing.{Standing}
-use Rattle.epx_order.specs.NodeComponents.{InOneNodeComponent, IsNodeLeader}
-use Rattle.epx_order.specs.Standings.{IsStanding}
-use Rattle.epx_order.proofs.InstanceLeaders.{leader_from_node}
-use Rattle.epx_order.proofs.NodePathLemmas.{reaches_on}
+use Rattle.epx_components.specs.declared.standings.Standing.{Standing}
+use Rattle.epx_components.specs.NodeComponents.{InOneNodeComponent, IsNodeLeader}
+use Rattle.epx_components.specs.Standings.{IsStanding}
+use Rattle.epx_components.proofs.InstanceLeaders.{leader_from_node}
+use Rattle.epx_components.proofs.NodePathLemmas.{reaches_on}
 use Rattle.epx_picture.specs.Clusters.{AreStandings, AreMarked}
 use Rattle.epx_picture.specs.Drawings.{IsCluster}
 

@@ -1,8 +1,8 @@
 -- Marks of the nodes that lead another one.
 use Rattle.std.specs.Prelude.{◌≡◌, ◌≢◌, ◌↔◌, ℕ, ◌<◌, List, Bool, false, length, slice_get, slice_index_or, Some, IsTrue}
 use Rattle.epx_graph.specs.Graphs.{DependencyGraph}
-use Rattle.epx_order.specs.declared.standings.Standing.{Standing}
-use Rattle.epx_order.specs.Standings.{IsStanding}
+use Rattle.epx_components.specs.declared.standings.Standing.{Standing}
+use Rattle.epx_components.specs.Standings.{IsStanding}
 
 -- a standing for each node
 pub record AreStandings (g : DependencyGraph) (standings : List Standing) : Type 0 where

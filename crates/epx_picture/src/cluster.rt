@@ -4,12 +4,12 @@ ghost use Rattle.epx_types.specs.declared.id.Id.{Id};
 ghost use Rattle.epx_types.specs.Instances.{Instance};
 ghost use Rattle.epx_graph.specs.GraphOf.{IsGraphOf};
 ghost use Rattle.epx_graph.specs.Graphs.{IsGraph};
-ghost use Rattle.epx_order.specs.Standings.{IsStanding};
+ghost use Rattle.epx_components.specs.Standings.{IsStanding};
 ghost use Rattle.epx_picture.specs.Clusters.{AreMarked, AreStandings};
 ghost use Rattle.epx_picture.specs.Drawings.{IsCluster};
 
+use epx_components::{Standing, Standings};
 use epx_graph::Graph;
-use epx_order::{Standing, Standings};
 use epx_types::{Id, Memory};
 use std::alloc::Global;
 

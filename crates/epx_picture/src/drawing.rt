@@ -2,7 +2,7 @@
 ghost use Rattle.std.specs.Prelude.{◌≡◌, ◌<◌, length, map, slice_get, Contains, Some, IfOk};
 ghost use Rattle.epx_types.specs.CommittedMap.{ids_of};
 ghost use Rattle.epx_graph.specs.GraphOf.{IsGraphOf};
-ghost use Rattle.epx_order.specs.Standings.{IsStanding};
+ghost use Rattle.epx_components.specs.Standings.{IsStanding};
 ghost use Rattle.epx_picture.specs.Clusters.{AreMarked, AreStandings};
 ghost use Rattle.epx_picture.specs.declared.drawn.Drawn.{Drawn};
 ghost use Rattle.epx_picture.specs.Drawings.{IsDrawn};
@@ -11,9 +11,9 @@ ghost use Rattle.epx_picture.specs.Pictures.{IsPicture};
 use crate::cluster::{cluster_of, find_leading};
 use crate::drawn::Drawn;
 use crate::writing::written;
+use epx_components::{Standing, Standings};
 use epx_graph::Graph;
 use epx_merge::Merged;
-use epx_order::{Standing, Standings};
 use epx_types::Memory;
 use std::alloc::Global;
 

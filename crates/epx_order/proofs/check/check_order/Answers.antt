@@ -4,7 +4,7 @@ use Rattle.epx_graph.specs.Graphs.{edges_of}
 use Rattle.epx_order.specs.Ends.{AreEnds, IsEndBelow}
 use Rattle.epx_order.specs.Listings.{IsHeld}
 use Rattle.epx_order.specs.OrderFaults.{IsListOfReady}
-use Rattle.epx_order.specs.Partitions.{parts, number_for}
+use Rattle.epx_components.specs.Partitions.{parts, number_for}
 use Rattle.epx_order.proofs.ListedNodes.{ready_held, missing_found, nodes_committed, nodes_within}
 use Rattle.epx_order.proofs.PlacedNodes.{lawful_from_none_aside, fault_from_place}
 use Rattle.epx_order.proofs.check.check_order.Goals as goal

@@ -2,7 +2,7 @@ use Rattle.std.proofs.Common.{◌≡◌, ◌<◌, None, length, get_or, sym, ap,
 use Rattle.std.proofs.lemmas.Bool.{false≢true}
 use Rattle.std.proofs.lemmas.List.{get_or_read}
 use Rattle.std.proofs.lemmas.List.Elements.{All-get_or}
-use Rattle.epx_order.specs.Partitions.{parts, component_of}
+use Rattle.epx_components.specs.Partitions.{parts, component_of}
 use Rattle.epx_order.specs.Turns.{turn_of, ComesBefore, IsAheadAt}
 use Rattle.epx_order.proofs.TurnLemmas.{latest_in, passed_from_latest, passed_to_latest, latest_step, none_aside_step}
 use Rattle.epx_order.proofs.check.check_places.Goals as goal

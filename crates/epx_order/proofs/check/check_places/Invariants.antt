@@ -1,4 +1,4 @@
-use Rattle.epx_order.specs.Partitions.{parts}
+use Rattle.epx_components.specs.Partitions.{parts}
 use Rattle.epx_order.specs.Turns.{NoneAside}
 use Rattle.epx_order.proofs.TurnLemmas.{AreLatest}
 use Rattle.epx_order.proofs.check.check_places.Given as goal

@@ -1,5 +1,5 @@
 use Rattle.epx_order.specs.Ends.{AreEnds}
-use Rattle.epx_order.specs.Partitions.{parts}
+use Rattle.epx_components.specs.Partitions.{parts}
 use Rattle.epx_order.proofs.ends.find_ends.Given as goal
 
 abbrev pub invariant-loop-place : goal.invariant-loop-place

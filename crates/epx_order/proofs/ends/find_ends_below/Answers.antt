@@ -1,9 +1,9 @@
 use Rattle.std.proofs.Common.{◌≡◌, ◌<◌, length, length-set, get_or, arith, subst, ◌∙◌, ap}
 use Rattle.std.proofs.lemmas.List.{get_or_read}
 use Rattle.epx_graph.specs.Graphs.{edges_of}
-use Rattle.epx_order.specs.Partitions.{parts, component_of, node_at, number_for}
+use Rattle.epx_components.specs.Partitions.{parts, component_of, node_at, number_for}
 use Rattle.epx_order.proofs.EndLemmas.{AreEndsBelow, ends_below_step, ends_below_all}
-use Rattle.epx_order.proofs.PartitionLemmas.{node_below, component_below}
+use Rattle.epx_components.proofs.PartitionLemmas.{node_below, component_below}
 use Rattle.epx_order.proofs.ends.find_ends_below.Goals as goal
 
 pub loop-node-preserved : goal.loop-node-preserved

@@ -3,8 +3,8 @@ use Rattle.std.proofs.lemmas.Bool.{false≢true}
 use Rattle.epx_types.specs.Done.{remaining}
 use Rattle.epx_types.proofs.DoneLemmas.{Contains-remaining_iff}
 use Rattle.epx_graph.proofs.MapPaths.{node_committed}
-use Rattle.epx_order.proofs.NodeRanks.{rank_left}
-use Rattle.epx_order.proofs.ReadyNodes.{node_from_ready}
+use Rattle.epx_components.proofs.NodeRanks.{rank_left}
+use Rattle.epx_components.proofs.ReadyNodes.{node_from_ready}
 use Rattle.epx_order.proofs.ready.rank_of.Goals as goal
 
 pub returns-then-standing-clause-none : goal.returns-then-standing-clause-none

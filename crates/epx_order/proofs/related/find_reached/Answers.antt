@@ -1,8 +1,8 @@
 use Rattle.std.proofs.Common.{◌≡◌, ◌+◌, ◌-◌, ◌<◌, ◌↔◌, ◌⊎◌, ℕ, false, length, get_or, sym, subst, ap, ◌∙◌, arith, IsTrue}
 use Rattle.std.proofs.lemmas.List.{get_or_read, with_items_is}
 use Rattle.epx_graph.specs.Graphs.{edges_of}
-use Rattle.epx_order.specs.Partitions.{parts, component_of, node_at, mark_for}
-use Rattle.epx_order.proofs.PartitionLemmas.{node_below, component_below}
+use Rattle.epx_components.specs.Partitions.{parts, component_of, node_at, mark_for}
+use Rattle.epx_components.proofs.PartitionLemmas.{node_below, component_below}
 use Rattle.epx_order.proofs.ReachedMarks.{AreReached, reached_step, reached_all}
 use Rattle.epx_order.proofs.related.find_reached.Goals as goal
 

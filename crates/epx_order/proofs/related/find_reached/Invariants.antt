@@ -1,6 +1,6 @@
 use Rattle.std.proofs.Common.{◌≡◌, length}
 use Rattle.epx_graph.specs.Graphs.{edges_of}
-use Rattle.epx_order.specs.Partitions.{parts}
+use Rattle.epx_components.specs.Partitions.{parts}
 use Rattle.epx_order.proofs.ReachedMarks.{AreReached}
 use Rattle.epx_order.proofs.related.find_reached.Given as goal
 

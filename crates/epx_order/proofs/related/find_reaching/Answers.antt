@@ -3,11 +3,11 @@ use Rattle.std.proofs.lemmas.List.{get_or_read}
 use Rattle.std.proofs.lemmas.Bool.{false≢true}
 use Rattle.epx_graph.specs.Graphs.{edges_of}
 use Rattle.epx_graph.specs.NodePaths.{NodeReaches}
-use Rattle.epx_order.specs.MissingNodes.{ReachesSome}
-use Rattle.epx_order.specs.Partitions.{parts, component_of, node_at}
-use Rattle.epx_order.proofs.NodePathLemmas.{reaches_itself}
-use Rattle.epx_order.proofs.PartitionLemmas.{node_below, component_below, targets_below}
-use Rattle.epx_order.proofs.MissingLemmas.{AreMarks, marks_found, marks_set, marks_skip, marks_all}
+use Rattle.epx_components.specs.MissingNodes.{ReachesSome}
+use Rattle.epx_components.specs.Partitions.{parts, component_of, node_at}
+use Rattle.epx_components.proofs.NodePathLemmas.{reaches_itself}
+use Rattle.epx_components.proofs.PartitionLemmas.{node_below, component_below, targets_below}
+use Rattle.epx_components.proofs.MissingLemmas.{AreMarks, marks_found, marks_set, marks_skip, marks_all}
 use Rattle.epx_order.proofs.related.find_reaching.Goals as goal
 use Rattle.epx_order.proofs.related.find_reaching.Goals.{then-leads_to_root, else-leads_to_root}
 

@@ -1,7 +1,7 @@
 use Rattle.std.proofs.Common.{◌≡◌, length}
 use Rattle.epx_graph.specs.Graphs.{edges_of}
-use Rattle.epx_order.specs.Partitions.{parts}
-use Rattle.epx_order.proofs.MissingLemmas.{AreMarks}
+use Rattle.epx_components.specs.Partitions.{parts}
+use Rattle.epx_components.proofs.MissingLemmas.{AreMarks}
 use Rattle.epx_order.proofs.related.find_reaching.Given as goal
 
 abbrev pub invariant-loop-node : goal.invariant-loop-node

@@ -1,6 +1,6 @@
 use Rattle.std.proofs.Common.{Some, sym, ap, ◌∙◌, subst, ◌≡◌, slice_get}
 use Rattle.std.proofs.lemmas.Bool.{false≢true}
-use Rattle.epx_order.proofs.InstanceLeaders.{leader_within}
+use Rattle.epx_components.proofs.InstanceLeaders.{leader_within}
 use Rattle.epx_picture.specs.Drawings.{IsCluster}
 use Rattle.epx_picture.proofs.NodeClusters.{cluster_alone, cluster_leading, cluster_led}
 use Rattle.epx_picture.proofs.cluster.cluster_of.Goals as goal

@@ -1,5 +1,5 @@
 use Rattle.std.proofs.Common.{◌+◌, List, Bool, sym, subst, ap, arith}
-use Rattle.epx_order.proofs.InstanceLeaders.{leader_within}
+use Rattle.epx_components.proofs.InstanceLeaders.{leader_within}
 use Rattle.epx_picture.specs.Clusters.{AreMarked}
 use Rattle.epx_picture.proofs.Marks.{marked_none, marked_past, marked_more}
 use Rattle.epx_picture.proofs.cluster.find_leading.Goals as goal

@@ -3,7 +3,7 @@ use Rattle.std.proofs.lemmas.List.Elements.{Contains-append_left, Contains-appen
 use Rattle.epx_types.proofs.Membership.{Contains-head}
 use Rattle.epx_graph.specs.Graphs.{edges_of}
 use Rattle.epx_graph.proofs.GraphNodes.{edge_within}
-use Rattle.epx_order.proofs.NodePathLemmas.{reaches_edge, reaches_on}
+use Rattle.epx_components.proofs.NodePathLemmas.{reaches_edge, reaches_on}
 use Rattle.epx_order.proofs.walk.Walk.find.Goals as goal
 
 pub look-requires-clause-node : goal.look-requires-clause-node

@@ -3,7 +3,7 @@ use Rattle.std.proofs.lemmas.List.Elements.{Contains-get_or, Contains-append_cas
 use Rattle.epx_types.proofs.Membership.{Contains-cons_cases, Contains-nil}
 use Rattle.epx_graph.specs.Graphs.{edges_of}
 use Rattle.epx_graph.proofs.GraphNodes.{edge_within}
-use Rattle.epx_order.proofs.NodePathLemmas.{reaches_edge, reaches_on}
+use Rattle.epx_components.proofs.NodePathLemmas.{reaches_edge, reaches_on}
 use Rattle.epx_order.proofs.walk.Walk.look.Goals as goal
 use Rattle.epx_order.proofs.walk.Walk.look.Goals.{then-index-place+then-index-self+in_ok-push, else-index-place}
 

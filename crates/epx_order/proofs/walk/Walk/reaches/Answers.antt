@@ -4,7 +4,7 @@ use Rattle.std.proofs.lemmas.List.Elements.{All-get_or}
 use Rattle.std.proofs.lemmas.Result.{IfOk-weaker}
 use Rattle.epx_graph.specs.Graphs.{edges_of}
 use Rattle.epx_graph.specs.NodePaths.{NodeReaches}
-use Rattle.epx_order.proofs.NodePathLemmas.{reaches_edge, reaches_on}
+use Rattle.epx_components.proofs.NodePathLemmas.{reaches_edge, reaches_on}
 use Rattle.epx_order.proofs.walk.Walk.reaches.Goals as goal
 use Rattle.epx_order.proofs.walk.Walk.reaches.Goals.{then-lead_down-via-then-lead_down, then-lead_down-via-else-lead_down+then-has_edge}
 

@@ -1,7 +1,7 @@
 use Rattle.std.proofs.Common.{◌≡◌, ◌-◌, get_or, sym, ◌∙◌, refl, arith}
 use Rattle.epx_graph.specs.Graphs.{edges_of}
 use Rattle.epx_graph.specs.NodePaths.{NodeReaches}
-use Rattle.epx_order.proofs.NodePathLemmas.{reaches_itself, reaches_edge, reaches_on}
+use Rattle.epx_components.proofs.NodePathLemmas.{reaches_itself, reaches_edge, reaches_on}
 use Rattle.epx_order.proofs.WayLemmas.{equal_ids, run_next, run_on}
 use Rattle.epx_order.proofs.ways.Run.next.Goals as goal
 

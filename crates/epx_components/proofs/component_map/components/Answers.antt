@@ -1,0 +1,17 @@
+use Rattle.std.proofs.lemmas.Option.{slice_get_within}
+use Rattle.epx_graph.proofs.GraphNodes.{node_id}
+use Rattle.epx_components.specs.Partitions.{parts}
+use Rattle.epx_components.proofs.InstanceLeaders.{leader_within, leader_from_node}
+use Rattle.epx_components.proofs.StandingLemmas.{leader_by_node}
+use Rattle.epx_components.proofs.component_map.components.Goals as goal
+
+pub returns-clause-leaders : goal.returns-clause-leaders
+returns-clause-leaders c = leader_by_node _ (parts c.in_ok-partition.partition) _ _ c.in_ok-partition.ensures.each_node c.in_ok-leaders.ensures.each
+
+pub returns-clause-instances : goal.returns-clause-instances
+returns-clause-instances c m is k x at =
+    let g = c.args.graph.now in
+    let below = slice_get_within g.ids k x at in
+    let lead = returns-clause-leaders c k below in
+    let y = node_id g is.graph _ (leader_within g is.graph k _ below lead) in
+    (y.0, y.1, leader_from_node m g is k _ x y.0 at y.1 lead)

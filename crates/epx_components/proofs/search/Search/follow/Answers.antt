@@ -1,0 +1,40 @@
+use Rattle.std.proofs.Common.{◌<◌, length, arith}
+use Rattle.std.proofs.lemmas.List.{get_or_read}
+use Rattle.std.proofs.lemmas.Result.{on_ok_weaker}
+use Rattle.epx_graph.specs.Graphs.{edges_of}
+use Rattle.epx_components.proofs.EdgeLemmas.{edge_to}
+use Rattle.epx_components.proofs.Following.{follow_less, follow_search}
+use Rattle.epx_components.proofs.Stepping.{open_below}
+use Rattle.epx_components.specs.SearchInvariants.{Keeps}
+use Rattle.epx_components.specs.SearchStates.{state}
+use Rattle.epx_components.specs.SearchWork.{work}
+use Rattle.epx_components.proofs.search.Search.follow.Goals as goal
+
+pub arrive-requires-clause-node : goal.arrive-requires-clause-node
+arrive-requires-clause-node c =
+    let s = c.args.self.now in
+    let w = c.requires.search.1 in
+    let in' = open_below _ _ _ (state s) c.args.node c.requires.next.place w c.requires.next.is_open in
+    let next = get_or_read s.looked_at.items c.args.node _ (omega (arith, w.looks)) c.index-next.ensures 0 in
+    rw (c.edges.ensures.edges, next) (omega (arith, w.places, s.place.ok.0, edge_to c.args.graph.now c.requires.graph c.args.node _ c.requires.next.left))
+
+pub returns-clause-keeps : goal.returns-clause-keeps
+returns-clause-keeps c =
+    let s = c.args.self.now in
+    let edges = edges_of c.args.graph.now in
+    let w = c.requires.search.1 in
+    let in' = open_below edges _ _ (state s) c.args.node c.requires.next.place w c.requires.next.is_open in
+    let next = get_or_read s.looked_at.items c.args.node _ (omega (arith, w.looks)) c.index-next.ensures 0 in
+    on_ok_weaker {Q = Keeps edges (length c.args.graph.now.ids) (state s) (state c.arrive.new.self)} c.arrive.result
+    (λ h seen w. follow_search edges (length c.args.graph.now.ids) seen (state s) (state c.arrive.new.self) c.args.node w c.requires.next
+    (edge_to c.args.graph.now c.requires.graph c.args.node _ c.requires.next.left) (rw (c.edges.ensures.edges, next) at h)) c.arrive.ensures
+
+pub returns-clause-less : goal.returns-clause-less
+returns-clause-less c =
+    let s = c.args.self.now in
+    let edges = edges_of c.args.graph.now in
+    let w = c.requires.search.1 in
+    let in' = open_below edges _ _ (state s) c.args.node c.requires.next.place w c.requires.next.is_open in
+    let next = get_or_read s.looked_at.items c.args.node _ (omega (arith, w.looks)) c.index-next.ensures 0 in
+    on_ok_weaker {Q = work c.args.graph.now.edges (state c.arrive.new.self) < work c.args.graph.now.edges (state s)} c.arrive.result
+    (λ h. follow_less c.args.graph.now.edges (state s) (state c.arrive.new.self) c.args.node _ (omega (arith, w.looks)) c.requires.next.left (rw (c.edges.ensures.edges, next) at h)) c.arrive.ensures

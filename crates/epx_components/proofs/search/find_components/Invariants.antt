@@ -1,0 +1,11 @@
+use Rattle.std.proofs.Common.{◌≡◌, length}
+use Rattle.epx_graph.specs.Graphs.{edges_of}
+use Rattle.epx_components.specs.SearchInvariants.{IsSearch}
+use Rattle.epx_components.specs.SearchStates.{state}
+use Rattle.epx_components.proofs.search.find_components.Given as goal
+
+abbrev pub invariant-loop-root : goal.invariant-loop-root
+invariant-loop-root l = record {
+  search : IsSearch (edges_of l.graph) (length l.graph.ids) l.root (state l.search);
+  none : length l.search.starts.items ≡ 0;
+}

@@ -1,0 +1,11 @@
+pub mod NodeComponents
+pub mod NodeDepths
+pub mod MissingNodes
+pub mod Standings
+pub mod Partitions
+pub mod Targets
+pub mod Starts
+pub mod SearchStates
+pub mod SearchInvariants
+pub mod SearchSteps
+pub mod SearchWork

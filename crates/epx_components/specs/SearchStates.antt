@@ -1,0 +1,30 @@
+-- What a search for components is seen as.
+use Rattle.std.specs.Prelude.{ℕ, List, slice_index_or}
+use Rattle.epx_components.specs.declared.place.Place.{Place}
+use Rattle.epx_components.specs.declared.place.Place.TheVariants.{Unseen}
+use Rattle.epx_components.specs.declared.search.Search.{Search}
+
+-- a search without where it lies in memory
+pub record SearchState : Type 0 where
+  pub place : List Place
+  pub looked_at : List ℕ
+  pub opened : List ℕ
+  pub path : List ℕ
+  pub starts : List ℕ
+  pub order : List ℕ
+  pub count : ℕ
+
+abbrev pub state : Search → SearchState
+state s = record {
+  place = s.place.items;
+  looked_at = s.looked_at.items;
+  opened = s.opened.items;
+  path = s.path.items;
+  starts = s.starts.items;
+  order = s.order.items;
+  count = s.count;
+}
+
+-- where a node stands
+abbrev pub place_of : List Place → ℕ → Place
+place_of places k = slice_index_or places k Unseen

@@ -1,0 +1,64 @@
+-- The steps of a search for components.
+use Rattle.std.specs.Prelude.{◌≡◌, ℕ, ◌+◌, ◌-◌, ◌<◌, ◌≤◌, ◌⊎◌, List, [], ◌∷◌, ◌++◌, length, take, drop, slice_index, slice_set}
+use Rattle.epx_components.specs.declared.place.Place.{Place}
+use Rattle.epx_components.specs.declared.place.Place.TheVariants.{Unseen, Open, Closed}
+use Rattle.epx_components.specs.Starts.{IsInLast, IsCut}
+use Rattle.epx_components.specs.SearchStates.{SearchState, place_of}
+
+-- a node of the last group with an edge left
+pub record IsNext (edges : ℕ → List ℕ) (s : SearchState) (k : ℕ) : Type 0 where
+  pub place : ℕ
+  pub is_open : place_of s.place k ≡ Open place
+  pub is_last : IsInLast s.starts place
+  pub left : slice_index s.looked_at k < length (edges k)
+
+-- the node at the end of the path, where that is in the last group
+pub record IsTop (s : SearchState) (k : ℕ) : Type 0 where
+  pub place : ℕ
+  pub some : 0 < length s.path
+  pub ends : slice_index s.path (length s.path - 1) ≡ place
+  pub node : slice_index s.opened place ≡ k
+  pub is_last : IsInLast s.starts place
+
+-- the path ends before the last group
+abbrev pub IsOff : SearchState → Type 0
+IsOff s = (i : ℕ) → i < length s.path → slice_index s.path i < slice_index s.starts (length s.starts - 1)
+
+-- with a node opened, as a group of its own
+abbrev pub entered : SearchState → ℕ → SearchState
+entered s k = record s {
+  place = slice_set s.place k (Open (length s.opened));
+  opened = s.opened ++ k ∷ [];
+  path = s.path ++ length s.opened ∷ [];
+  starts = s.starts ++ length s.opened ∷ [];
+}
+
+-- with the next edge of a node looked at
+abbrev pub looked : SearchState → ℕ → SearchState
+looked s k = record s { looked_at = slice_set s.looked_at k (slice_index s.looked_at k + 1) }
+
+-- what an edge to a node at this place does
+abbrev pub Arrives : Place → ℕ → SearchState → SearchState → Type 0
+Arrives Unseen k old new = new ≡ entered old k
+Arrives (Open t) k old new = IsCut t old.starts new.starts × (new ≡ record old { starts = new.starts })
+Arrives (Closed c) k old new = new ≡ old
+
+-- the open nodes from a place on are closed
+abbrev pub Closes : ℕ → ℕ → Place → Place → Type 0
+Closes start c Unseen new = new ≡ Unseen
+Closes start c (Open p) new = ((p < start) × (new ≡ Open p)) ⊎ ((start ≤ p) × (new ≡ Closed c))
+Closes start c (Closed d) new = new ≡ Closed d
+
+-- the last group became a component
+pub record IsFinished (old new : SearchState) : Type 0 where
+  pub start : ℕ
+  pub last : (0 < length old.starts) × (slice_index old.starts (length old.starts - 1) ≡ start)
+  pub closes : (k : ℕ) → Closes start old.count (place_of old.place k) (place_of new.place k)
+  pub places : length new.place ≡ length old.place
+  pub same : new ≡ record old {
+    place = new.place;
+    opened = take start old.opened;
+    starts = take (length old.starts - 1) old.starts;
+    order = old.order ++ drop start old.opened;
+    count = old.count + 1;
+  }

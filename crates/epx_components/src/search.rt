@@ -1,0 +1,181 @@
+//! The search for components.
+ghost use Rattle.std.specs.Prelude.{◌≡◌, ℕ, List, ◌+◌, ◌<◌, ◌≤◌, length, OnOk, IfOk, IfSome, IfNone};
+ghost use Rattle.epx_graph.specs.Graphs.{IsGraph, edges_of};
+ghost use Rattle.epx_components.specs.Partitions.{parts, IsPartitionOf};
+ghost use Rattle.epx_components.specs.Starts.{IsRising};
+ghost use Rattle.epx_components.specs.SearchStates.{state, place_of};
+ghost use Rattle.epx_components.specs.SearchInvariants.{IsRow, IsSearch, Keeps};
+ghost use Rattle.epx_components.specs.SearchSteps.{entered, Arrives, IsNext, IsTop, IsOff, IsFinished};
+ghost use Rattle.epx_components.specs.SearchWork.{work};
+
+use crate::partition::Partition;
+use crate::place::{Place, close_nodes, component_numbers};
+use crate::starts::merge_groups;
+use epx_graph::Graph;
+use epx_types::Memory;
+use std::alloc::Global;
+
+/// A search in depth that keeps its own path, so that no graph is too deep for it.
+///
+/// The open nodes stand in a row, in groups of nodes that reach each other. An edge back into the
+/// row merges the groups from there on; a group without an edge left is a component.
+#[derive(Drop)]
+pub(crate) struct Search {
+    place: Vec<Place>,
+    /// How many of a node's edges were looked at.
+    looked_at: Vec<usize>,
+    /// The row of open nodes.
+    opened: Vec<usize>,
+    /// The places in the row of the nodes that may have an edge left.
+    path: Vec<usize>,
+    /// Where each group starts in the row.
+    starts: Vec<usize>,
+    /// The nodes of the finished components.
+    order: Vec<usize>,
+    /// How many components are finished.
+    count: usize,
+}
+
+/// The components of a graph.
+pub fn find_components(alloc: Global, graph: &Graph) -> Result<Partition, Memory>
+    ensures { IfOk result (λ p. IsPartitionOf graph.now (parts p)) }
+{
+    let len = graph.len();
+    let mut search = Search::new(alloc, len)?;
+    for root in 0..len {
+        search.explore(graph, root)?;
+    }
+    let component = component_numbers(alloc, &search.place)?;
+    Ok(Partition {
+        component,
+        order: search.order,
+        count: search.count,
+    })
+}
+
+impl Search {
+    /// A search of a graph with this many nodes.
+    pub(crate) fn new(alloc: Global, len: usize) -> Result<Search, Memory>
+        ensures search { IfOk result (λ s. (edges : ℕ → List ℕ) → IsSearch edges len 0 (state s)) }
+        ensures none { IfOk result (λ s. length (state s).starts ≡ 0) }
+    {
+        Ok(Search {
+            place: vec![in alloc; Place::Unseen; len]?,
+            looked_at: vec![in alloc; 0; len]?,
+            opened: Vec::new(alloc),
+            path: Vec::new(alloc),
+            starts: Vec::new(alloc),
+            order: Vec::new(alloc),
+            count: 0,
+        })
+    }
+
+    /// Finishes all that a node reaches.
+    pub(crate) fn explore(&mut self, graph: &Graph, root: usize) -> Result<(), Memory>
+        requires graph { IsGraph graph.now }
+        requires root { root < length graph.now.ids }
+        requires search { IsSearch (edges_of graph.now) (length graph.now.ids) root (state self.old) }
+        requires none { length (state self.old).starts ≡ 0 }
+        ensures search { OnOk result (IsSearch (edges_of graph.now) (length graph.now.ids) (root + 1) (state self.new)) }
+        ensures none { OnOk result (length (state self.new).starts ≡ 0) }
+    {
+        self.arrive(root)?;
+        while !self.starts.is_empty() {
+            self.step(graph)?;
+        }
+        Ok(())
+    }
+
+    /// Looks at an edge of the last group, or finishes it.
+    fn step(&mut self, graph: &Graph) -> Result<(), Memory>
+        requires graph { IsGraph graph.now }
+        requires search { (seen : ℕ) × IsSearch (edges_of graph.now) (length graph.now.ids) seen (state self.old) }
+        requires some { 0 < length (state self.old).starts }
+        ensures keeps { OnOk result (Keeps (edges_of graph.now) (length graph.now.ids) (state self.old) (state self.new)) }
+        ensures less { OnOk result (work graph.now.edges (state self.new) < work graph.now.edges (state self.old)) }
+    {
+        match self.top() {
+            Some(node) if self.looked_at[node] < graph.edges(node).len() => {
+                self.follow(graph, node)
+            }
+            Some(_) => {
+                self.path.pop();
+                Ok(())
+            }
+            None => self.finish(),
+        }
+    }
+
+    /// The node at the end of the path, if it is in the last group.
+    fn top(&self) -> Option<usize>
+        requires some { 0 < length (state self.now).starts }
+        requires starts { IsRising (state self.now).starts (length (state self.now).opened) }
+        requires path { IsRising (state self.now).path (length (state self.now).opened) }
+        ensures found { IfSome result (IsTop (state self.now)) }
+        ensures none { IfNone result (IsOff (state self.now)) }
+    {
+        let start = self.starts[self.starts.len() - 1];
+        match self.path.last() {
+            Some(&position) if position >= start => Some(self.opened[position]),
+            _ => None,
+        }
+    }
+
+    /// Looks at the next edge of a node of the last group.
+    fn follow(&mut self, graph: &Graph, node: usize) -> Result<(), Memory>
+        requires graph { IsGraph graph.now }
+        requires search { (seen : ℕ) × IsSearch (edges_of graph.now) (length graph.now.ids) seen (state self.old) }
+        requires next { IsNext (edges_of graph.now) (state self.old) node }
+        ensures keeps { OnOk result (Keeps (edges_of graph.now) (length graph.now.ids) (state self.old) (state self.new)) }
+        ensures less { OnOk result (work graph.now.edges (state self.new) < work graph.now.edges (state self.old)) }
+    {
+        let next = self.looked_at[node];
+        let target = graph.edges(node)[next];
+        self.looked_at[node] = next + 1;
+        self.arrive(target)
+    }
+
+    /// Comes to a node: opens it, or merges the groups from its own on.
+    fn arrive(&mut self, node: usize) -> Result<(), Memory>
+        requires node { node < length (state self.old).place }
+        requires starts { IsRising (state self.old).starts (length (state self.old).opened) }
+        ensures { OnOk result (Arrives (place_of (state self.old).place node) node (state self.old) (state self.new)) }
+    {
+        match self.place[node] {
+            Place::Unseen => self.enter(node)?,
+            Place::Open(position) => merge_groups(&mut self.starts, position),
+            Place::Closed(_) => {}
+        }
+        Ok(())
+    }
+
+    /// Opens a node, as a group of its own.
+    fn enter(&mut self, node: usize) -> Result<(), Memory>
+        requires { node < length (state self.old).place }
+        ensures { OnOk result (state self.new ≡ entered (state self.old) node) }
+    {
+        let position = self.opened.len();
+        self.place[node] = Place::Open(position);
+        self.opened.push(node)?;
+        self.path.push(position)?;
+        self.starts.push(position)?;
+        Ok(())
+    }
+
+    /// Makes the last group a component.
+    fn finish(&mut self) -> Result<(), Memory>
+        requires row { IsRow (state self.old).place (state self.old).opened }
+        requires starts { IsRising (state self.old).starts (length (state self.old).opened) }
+        requires some { 0 < length (state self.old).starts }
+        requires count { (state self.old).count ≤ length (state self.old).order }
+        ensures { OnOk result (IsFinished (state self.old) (state self.new)) }
+    {
+        let start = self.starts[self.starts.len() - 1];
+        self.order.extend_from_slice(&self.opened[start..])?;
+        close_nodes(&mut self.place, &self.opened[start..], self.count);
+        self.opened.truncate(start);
+        self.starts.pop();
+        self.count += 1;
+        Ok(())
+    }
+}

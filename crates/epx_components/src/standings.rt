@@ -1,0 +1,74 @@
+//! What the order needs to know of each node.
+ghost use Rattle.std.specs.Prelude.{◌≡◌, ℕ, ◌<◌, length, slice_get, Some, IfOk};
+ghost use Rattle.epx_components.specs.Standings.{IsStanding};
+
+use crate::depths::find_depths;
+use crate::leaders::find_leaders;
+use crate::missing::find_missing;
+use crate::search::find_components;
+use epx_graph::Graph;
+use epx_types::Memory;
+use std::alloc::Global;
+use std::marker::Model;
+
+/// A node's leader, its depth, and whether it reaches a node that is not committed.
+#[derive(Clone, Copy, Debug, PartialEq, Eq)]
+pub struct Standing {
+    pub leader: usize,
+    pub depth: usize,
+    pub reaches_missing: bool,
+}
+
+/// The standing of each node, which those of a component share.
+#[derive(Debug, Drop)]
+pub struct Standings {
+    component: Vec<usize>,
+    leaders: Vec<usize>,
+    depths: Vec<usize>,
+    missing: Vec<bool>,
+}
+
+impl Model for Standings {
+    ghost use Rattle.std.specs.Prelude.{List};
+    ghost use Rattle.epx_components.specs.declared.standings.Standing.{Standing};
+    ghost use Rattle.epx_components.specs.Standings.{standings_in, HasEach};
+
+    ghost Value = { List Standing };
+
+    ghost view = { λ s. standings_in s.component.items s.leaders.items s.depths.items s.missing.items };
+
+    ghost invariant = { λ s. HasEach s.component.items s.leaders.items s.depths.items s.missing.items };
+}
+
+impl Standings {
+    /// The standings of the nodes of a graph, in time linear in nodes and edges.
+    pub fn of(alloc: Global, graph: &Graph) -> Result<Standings, Memory>
+        ensures len { IfOk result (λ found. length found ≡ length graph.now.ids) }
+        ensures each { IfOk result (λ found. (k : ℕ) (standing : Standing) → slice_get found k ≡ Some standing → IsStanding graph.now k standing) }
+    {
+        let partition = find_components(alloc, graph)?;
+        let leaders = find_leaders(alloc, graph, &partition)?;
+        let depths = find_depths(alloc, graph, &partition)?;
+        let missing = find_missing(alloc, graph, &partition)?;
+        let component = partition.component;
+        Ok(Standings {
+            component,
+            leaders,
+            depths,
+            missing,
+        })
+    }
+
+    /// The standing of a node.
+    pub fn get(&self, node: usize) -> Standing
+        requires { node < length self.now }
+        ensures { slice_get self.now node ≡ Some result }
+    {
+        let component = self.component[node];
+        Standing {
+            leader: self.leaders[component],
+            depth: self.depths[component],
+            reaches_missing: self.missing[component],
+        }
+    }
+}

@@ -1,6 +1,0 @@
-use Rattle.epx_order.proofs.place.component_numbers.Goals as goal
-
-pub unreachable-requires : goal.unreachable-requires
-unreachable-requires c =
-    let closed = c.requires c.loop-place.place-index c.loop-place-test.true in
-    c.in_default.not-Closed closed.0 closed.1
