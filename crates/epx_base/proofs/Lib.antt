@@ -17,3 +17,5 @@ pub mod ReadValues
 pub mod LineRanges
 pub mod BaseRanges
 pub mod ExecutedRanges
+pub mod LineTexts
+pub mod Pairs

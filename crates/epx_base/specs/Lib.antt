@@ -9,3 +9,4 @@ pub mod ListLaws
 pub mod ReportLines
 pub mod ReportReadings
 pub mod ReportBases
+pub mod LineTokens

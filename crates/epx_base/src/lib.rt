@@ -1,5 +1,6 @@
-//! What is read beside logs: bases, which are an earlier report, read again for what it says is done and
-//! stored, and lists of instances. What they are, line by line, is defined in `specs/`.
+//! The lines of a report, how they are written, and what is read again from them: bases, which are
+//! earlier reports, for what they say is done and stored. And lists of instances. What they are, line
+//! by line, is defined in `specs/`.
 #![tactic(auto)]
 
 mod base;
@@ -10,6 +11,7 @@ mod laws;
 mod list;
 mod progress;
 mod read;
+mod report_lines;
 
 pub use base::{Base, BaseFault, read_base};
 pub use laws::{
@@ -18,3 +20,7 @@ pub use laws::{
     list_names_one_list, list_or_bad_list, report_is_a_base, report_is_read_as_it_says,
 };
 pub use list::read_list;
+pub use report_lines::{
+    append_done, append_header, append_replies, append_store, append_waiter, begin_line, end_line,
+    write_name,
+};

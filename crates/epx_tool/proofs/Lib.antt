@@ -1,5 +1,3 @@
-mod LineTexts
-mod Pairs
 mod SourcesTaken
 mod SourcesRead
 mod SourcesDelivered

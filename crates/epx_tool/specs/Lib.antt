@@ -29,4 +29,3 @@ pub use Rattle.epx_words.specs.App
 pub use Rattle.epx_words.specs.Given
 pub use Rattle.epx_words.specs.Asked
 pub use Rattle.epx_words.specs.Endings
-pub mod LineTokens

@@ -5,7 +5,7 @@ ghost use Rattle.epx_base.specs.ReportLines.{data_of_number, line_of};
 ghost use Rattle.epx_tool.specs.AuditText.{covered_line, uncovered_line};
 ghost use Rattle.epx_tool.specs.Verdicts.{fault_data, fault_text, lawful_text};
 
-use crate::report::{begin_line, end_line, write_name};
+use epx_base::{begin_line, end_line, write_name};
 use epx_order::OrderFault;
 use epx_types::{Id, Memory};
 use std::alloc::{AllocError, Global};

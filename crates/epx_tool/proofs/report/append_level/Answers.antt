@@ -2,9 +2,9 @@ use Rattle.std.proofs.Common.{◌≡◌, [], ◌∷◌, ◌++◌, codes, decimal
 use Rattle.std.proofs.lemmas.Grind.{common_steps}
 use Rattle.std.proofs.lemmas.Result.{on_ok_weaker}
 use Rattle.json.specs.Token.{begin_array, string, number}
-use Rattle.epx_tool.specs.LineTokens.{name_tokens}
+use Rattle.epx_base.specs.LineTokens.{name_tokens}
 use Rattle.epx_tool.specs.LevelText.{level_data}
-use Rattle.epx_tool.proofs.LineTexts.{line_written}
+use Rattle.epx_base.proofs.LineTexts.{line_written}
 use Rattle.epx_tool.proofs.report.append_level.Goals as goal
 
 pub returns : goal.returns

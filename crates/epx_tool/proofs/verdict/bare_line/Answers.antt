@@ -2,7 +2,7 @@ use Rattle.std.proofs.Common.{◌≡◌, [], ◌∷◌, refl, arith}
 use Rattle.std.proofs.lemmas.Grind.{common_steps}
 use Rattle.json.specs.Token.{begin_array, string}
 use Rattle.serde_json.specs.Data as value
-use Rattle.epx_tool.proofs.LineTexts.{line_alone}
+use Rattle.epx_base.proofs.LineTexts.{line_alone}
 use Rattle.epx_tool.proofs.verdict.bare_line.Goals as goal
 
 pub returns : goal.returns

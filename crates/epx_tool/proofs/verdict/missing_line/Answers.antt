@@ -2,9 +2,9 @@ use Rattle.std.proofs.Common.{◌≡◌, [], ◌∷◌, codes, refl, arith}
 use Rattle.std.proofs.lemmas.Grind.{common_steps}
 use Rattle.json.specs.Token.{begin_array, string}
 use Rattle.epx_order.specs.declared.order_fault.OrderFault.TheVariants.{Missing}
-use Rattle.epx_tool.specs.LineTokens.{name_tokens}
+use Rattle.epx_base.specs.LineTokens.{name_tokens}
 use Rattle.epx_tool.specs.Verdicts.{fault_data}
-use Rattle.epx_tool.proofs.LineTexts.{line_alone}
+use Rattle.epx_base.proofs.LineTexts.{line_alone}
 use Rattle.epx_tool.proofs.verdict.missing_line.Goals as goal
 
 pub returns : goal.returns

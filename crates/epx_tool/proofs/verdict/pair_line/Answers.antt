@@ -2,8 +2,8 @@ use Rattle.std.proofs.Common.{◌≡◌, [], ◌∷◌, ◌++◌, codes, refl, a
 use Rattle.std.proofs.lemmas.Grind.{common_steps}
 use Rattle.json.specs.Token.{begin_array, string}
 use Rattle.epx_tool.specs.AuditText.{uncovered_data}
-use Rattle.epx_tool.specs.LineTokens.{name_tokens}
-use Rattle.epx_tool.proofs.LineTexts.{line_alone}
+use Rattle.epx_base.specs.LineTokens.{name_tokens}
+use Rattle.epx_base.proofs.LineTexts.{line_alone}
 use Rattle.epx_tool.proofs.verdict.pair_line.Goals as goal
 
 pub returns : goal.returns

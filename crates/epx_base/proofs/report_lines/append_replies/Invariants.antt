@@ -1,6 +1,6 @@
 use Rattle.std.proofs.Common.{◌≡◌, ◌++◌, flat_map, zip}
 use Rattle.epx_base.specs.ReportLines.{reply_line}
-use Rattle.epx_tool.proofs.report.append_replies.Given as goal
+use Rattle.epx_base.proofs.report_lines.append_replies.Given as goal
 
 abbrev pub invariant-loop-id : goal.invariant-loop-id
 invariant-loop-id l =

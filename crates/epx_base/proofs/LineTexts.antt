@@ -13,7 +13,7 @@ use Rattle.epx_types.specs.declared.id.Id.{Id}
 use Rattle.epx_types.specs.declared.reply.Reply.{Reply}
 use Rattle.epx_types.specs.declared.reply.Reply.TheVariants.{Values, Abort}
 use Rattle.epx_lines.specs.Text.{data_of_value}
-use Rattle.epx_tool.specs.LineTokens.{name_tokens, value_token, reply_tokens}
+use Rattle.epx_base.specs.LineTokens.{name_tokens, value_token, reply_tokens}
 use Rattle.epx_base.specs.ReportLines.{line_feed, array_of, line_of, reply_data, store_data}
 
 abbrev pub tokens_of : Data → List Token

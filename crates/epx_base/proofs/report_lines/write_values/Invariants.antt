@@ -1,6 +1,6 @@
 use Rattle.std.proofs.Common.{◌≡◌, ◌++◌, map, drop}
-use Rattle.epx_tool.specs.LineTokens.{value_token}
-use Rattle.epx_tool.proofs.report.write_values.Given as goal
+use Rattle.epx_base.specs.LineTokens.{value_token}
+use Rattle.epx_base.proofs.report_lines.write_values.Given as goal
 
 abbrev pub invariant-loop-value : goal.invariant-loop-value
 invariant-loop-value l = record {

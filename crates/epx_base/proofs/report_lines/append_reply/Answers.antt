@@ -2,10 +2,10 @@ use Rattle.std.proofs.Common.{◌≡◌, [], ◌∷◌, ◌++◌, codes, arith}
 use Rattle.std.proofs.lemmas.Grind.{common_steps}
 use Rattle.std.proofs.lemmas.Result.{on_ok_weaker}
 use Rattle.json.specs.Token.{begin_array, string}
-use Rattle.epx_tool.specs.LineTokens.{name_tokens, reply_tokens}
+use Rattle.epx_base.specs.LineTokens.{name_tokens, reply_tokens}
 use Rattle.epx_base.specs.ReportLines.{reply_data}
-use Rattle.epx_tool.proofs.LineTexts.{line_written, reply_line-tokens}
-use Rattle.epx_tool.proofs.report.append_reply.Goals as goal
+use Rattle.epx_base.proofs.LineTexts.{line_written, reply_line-tokens}
+use Rattle.epx_base.proofs.report_lines.append_reply.Goals as goal
 
 pub returns : goal.returns
 returns c =

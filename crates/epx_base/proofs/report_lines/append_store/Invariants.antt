@@ -1,7 +1,7 @@
 use Rattle.std.proofs.Common.{◌≡◌, ◌++◌, flat_map, map, drop}
 use Rattle.std.specs.FinMap as contents
 use Rattle.epx_base.specs.ReportLines.{store_line}
-use Rattle.epx_tool.proofs.report.append_store.Given as goal
+use Rattle.epx_base.proofs.report_lines.append_store.Given as goal
 
 abbrev pub invariant-loop-key : goal.invariant-loop-key
 invariant-loop-key l =

@@ -1,7 +1,7 @@
 use Rattle.std.proofs.Common.{inl, inr}
 use Rattle.epx_base.specs.ReportLines.{reply_line}
-use Rattle.epx_tool.proofs.Pairs.{printed_to_end}
-use Rattle.epx_tool.proofs.report.append_replies.Goals as goal
+use Rattle.epx_base.proofs.Pairs.{printed_to_end}
+use Rattle.epx_base.proofs.report_lines.append_replies.Goals as goal
 
 -- one of the two lists has come to its end
 pub returns : goal.returns
