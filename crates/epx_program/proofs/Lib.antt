@@ -4,3 +4,4 @@ mod Sources
 mod Statuses
 mod FirstTexts
 mod FailedInputs
+mod Outcomes

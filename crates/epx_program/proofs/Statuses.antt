@@ -14,9 +14,8 @@ use Rattle.epx_devices.specs.Deliveries.{ReadRelation}
 use Rattle.epx_devices.specs.Transfers.{AppendsPrefix}
 use Rattle.epx_tool.specs.Answer.{Answers}
 use Rattle.epx_tool.specs.Delivered.{AnswersDelivered}
-use Rattle.epx_tool.specs.Runs.{AreBytesOf}
 use Rattle.epx_program.specs.Calls.{EndsTask}
-use Rattle.epx_program.specs.Endings.{AddsAnswer, AddsPart, AppendsAnswer, AppendsPart, ComesTo, EndsWith, IsStatus, IsTaskAnswer, IsTaskFault, status_of}
+use Rattle.epx_program.specs.Endings.{AddsAnswer, AddsPart, ComesTo, EndsWith, IsStatus, IsTaskAnswer, status_of}
 use Rattle.epx_program.proofs.KeptBytes.{kept}
 
 -- the status of a task that is done, or not
@@ -24,24 +23,6 @@ pub ends-as-done : {A : Type 0} (task : Task) (logs : List (List ℕ)) (done : R
     → ComesTo task logs done old new → EndsWith task logs (status_of done) old new
 ends-as-done task logs (Ok x) old new written = inl (refl, written)
 ends-as-done task logs (Err fault) old new why = inr (fault, why, refl)
-
--- what the task comes to, from what is said of a run that is well and of one that is not
-pub comes-to : {A S : Type 0} (remaining : S → Option (List ℕ)) (sources : List S) (task : Task)
-    (done : Result A Fault) (old new : Option (List ℕ))
-    → OnOk done ((logs : List (List ℕ)) → AreBytesOf remaining sources logs
-    → AppendsAnswer task logs old new)
-    → IfErr done (λ fault. (logs : List (List ℕ)) → AreBytesOf remaining sources logs
-    → IsTaskFault task logs fault)
-    → (IsErrOf done Write → (logs : List (List ℕ)) → AreBytesOf remaining sources logs
-    → AppendsPart task logs old new)
-    → IfErr done (λ fault. fault ≢ Write → Keeps old new)
-    → (logs : List (List ℕ)) → AreBytesOf remaining sources logs → ComesTo task logs done old new
-comes-to remaining sources task (Ok x) old new text why part nothing logs are = text logs are
-comes-to remaining sources task (Err fault) old new text why part nothing logs are = record {
-  named = why logs are;
-  part = λ failed. part (ap Err failed) logs are;
-  nothing = nothing;
-}
 
 -- the answer to what sources delivered is one to as many texts
 pub adds_answer : {A S : Type 0} (reads : ReadRelation S) (task : Task)

@@ -66,7 +66,7 @@ EndsAsAsked input Unread (asked.Work task plan paths) status failed old new =
 EndsAsAsked input Unread (asked.Text text n) status failed old new =
     EndsWithText (string_bytes text) n status failed old new
 
--- it does what its words ask for; running out of memory may stand in place of that
+-- it does what its words ask for, or ends because memory ran out
 abbrev pub DoesAsAsked : Option (List ℕ) → Type 0 → List Text → ℕ → Bool
     → Option (List ℕ) → Option (List ℕ) → Type 0
 DoesAsAsked input Unread words status failed old new =

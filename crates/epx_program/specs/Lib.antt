@@ -1,3 +1,4 @@
 pub mod Inputs
 pub mod Endings
+pub mod Outcomes
 pub mod Calls

@@ -4,6 +4,7 @@ ghost use Rattle.std.specs.Io.KnownBytes.{Keeps};
 ghost use Rattle.epx_program.specs.Calls.{paths_of};
 ghost use Rattle.epx_program.specs.Endings.{AddsAnswer, AddsPart, ComesTo, task_over};
 ghost use Rattle.epx_program.specs.Inputs.{HasFailedRead, IsInputAlone, OneHasFailedRead, how_many};
+ghost use Rattle.epx_program.specs.Outcomes.{Outcome, task_showing};
 ghost use Rattle.epx_tool.specs.Runs.{AreBytesOf};
 
 use crate::inputs::sources_at;
@@ -66,18 +67,9 @@ fn answer_from_first<R: Threads + RandomSource + Sync, S: Source, W: Sink>(
 ) -> Result<(), Fault>
     requires sources { All (λ s. S.has_failed s ≡ false) sources.old }
     requires output { W.has_failed output.old ≡ false }
-
-    ensures answer { (texts : _) → AreBytesOf S.remaining sources.old texts →
-        ComesTo (task_over kind) texts result (W.contents output.old) (W.contents output.new) }
-    ensures answered { OnOk result (AddsAnswer (task_over kind) (length sources.old)
-        (W.contents output.old) (W.contents output.new)) }
-    ensures part { IsErrOf result Fault.Write → AddsPart (task_over kind) (length sources.old)
-        (W.contents output.old) (W.contents output.new) }
-    ensures unread { (log : _) → IsErrOf result (Fault.Read log) →
-        OneHasFailedRead S.reads S.fails sources.old }
-    ensures flushed { OnOk result (W.is_flushed output.new ≡ true) }
-    ensures nothing { IfErr result (λ fault. fault ≢ Fault.Write → Keeps (W.contents output.old) (W.contents output.new)) }
-    ensures written { IsErrOf result Fault.Write ↔ (W.has_failed output.new ≡ true) }
+    ensures { Outcome S.remaining S.reads S.fails (task_over kind) sources.old result
+        (W.is_flushed output.new) (W.has_failed output.new) (W.contents output.old)
+        (W.contents output.new) }
 {
     match sources.split_first_mut() {
         Some((first, logs)) => answer_beside(rt, alloc, kind, plan, first, logs, output),
@@ -87,6 +79,41 @@ fn answer_from_first<R: Threads + RandomSource + Sync, S: Source, W: Sink>(
             answer_beside(rt, alloc, kind, plan, &mut first, &mut logs, output)
         }
     }
+}
+
+/// Writes the report of the logs.
+fn answer_report<R: Threads + RandomSource + Sync, S: Source, W: Sink>(
+    rt: &R,
+    alloc: Global,
+    plan: Plan,
+    sources: &mut [S],
+    output: &mut W,
+) -> Result<(), Fault>
+    requires sources { All (λ s. S.has_failed s ≡ false) sources.old }
+    requires output { W.has_failed output.old ≡ false }
+    ensures { Outcome S.remaining S.reads S.fails Task.Run sources.old result
+        (W.is_flushed output.new) (W.has_failed output.new) (W.contents output.old)
+        (W.contents output.new) }
+{
+    run(rt, alloc, sources, plan, output)
+}
+
+/// Writes the view of the logs that is asked for.
+fn answer_view<R: Threads + RandomSource + Sync, S: Source, W: Sink>(
+    rt: &R,
+    alloc: Global,
+    ask: Ask,
+    plan: Plan,
+    sources: &mut [S],
+    output: &mut W,
+) -> Result<(), Fault>
+    requires sources { All (λ s. S.has_failed s ≡ false) sources.old }
+    requires output { W.has_failed output.old ≡ false }
+    ensures { Outcome S.remaining S.reads S.fails (task_showing ask) sources.old result
+        (W.is_flushed output.new) (W.has_failed output.new) (W.contents output.old)
+        (W.contents output.new) }
+{
+    show(rt, alloc, ask, sources, plan, output)
 }
 
 /// Writes what the task asks for.
@@ -100,25 +127,16 @@ fn answer<R: Threads + RandomSource + Sync, S: Source, W: Sink>(
 ) -> Result<(), Fault>
     requires sources { All (λ s. S.has_failed s ≡ false) sources.old }
     requires output { W.has_failed output.old ≡ false }
-
-    ensures answer { (texts : _) → AreBytesOf S.remaining sources.old texts →
-        ComesTo task texts result (W.contents output.old) (W.contents output.new) }
-    ensures answered { OnOk result (AddsAnswer task (length sources.old)
-        (W.contents output.old) (W.contents output.new)) }
-    ensures part { IsErrOf result Fault.Write → AddsPart task (length sources.old)
-        (W.contents output.old) (W.contents output.new) }
-    ensures unread { (log : _) → IsErrOf result (Fault.Read log) →
-        OneHasFailedRead S.reads S.fails sources.old }
-    ensures flushed { OnOk result (W.is_flushed output.new ≡ true) }
-    ensures nothing { IfErr result (λ fault. fault ≢ Fault.Write → Keeps (W.contents output.old) (W.contents output.new)) }
-    ensures written { IsErrOf result Fault.Write ↔ (W.has_failed output.new ≡ true) }
+    ensures { Outcome S.remaining S.reads S.fails task sources.old result
+        (W.is_flushed output.new) (W.has_failed output.new) (W.contents output.old)
+        (W.contents output.new) }
 {
     match task {
-        Task::Run => run(rt, alloc, sources, plan, output),
-        Task::Order => show(rt, alloc, Ask::Order, sources, plan, output),
-        Task::Levels => show(rt, alloc, Ask::Levels, sources, plan, output),
-        Task::Graph => show(rt, alloc, Ask::Graph, sources, plan, output),
-        Task::Audit => show(rt, alloc, Ask::Audit, sources, plan, output),
+        Task::Run => answer_report(rt, alloc, plan, sources, output),
+        Task::Order => answer_view(rt, alloc, Ask::Order, plan, sources, output),
+        Task::Levels => answer_view(rt, alloc, Ask::Levels, plan, sources, output),
+        Task::Graph => answer_view(rt, alloc, Ask::Graph, plan, sources, output),
+        Task::Audit => answer_view(rt, alloc, Ask::Audit, plan, sources, output),
         Task::Resume => answer_from_first(rt, alloc, FirstText::Base, plan, sources, output),
         Task::Check => answer_from_first(rt, alloc, FirstText::List, plan, sources, output),
     }
