@@ -34,5 +34,3 @@ mod orders;
 mod seeds;
 #[cfg(test)]
 mod vocabulary;
-#[cfg(test)]
-mod words;

@@ -1,12 +1,21 @@
-//! The program under several lists of words, one after another: what each prints on standard output and on standard
-//! error, and the status that it ends with.
+//! The cases of the scripts that are named, and then the program under several lists of words: what
+//! each prints on standard output and on standard error, and the status that it ends with.
 #![tactic(auto)]
 
-mod cases;
+mod case;
+mod directive;
+mod flow;
+mod given;
+mod line;
+mod outcome;
+mod script;
 mod stage;
+mod word_lists;
+mod words;
 
-use crate::cases::{too_many_logs, word_lists};
+use crate::script::run_scripts;
 use crate::stage::Stage;
+use crate::word_lists::{too_many_logs, word_lists};
 use epx_devices::{StdSink, StdSource};
 use epx_program::start;
 use std::env;
@@ -18,6 +27,8 @@ const INPUT: &str =
     "{\"r\":9,\"i\":0,\"seq\":1,\"deps\":[],\"ops\":[[\"put\",\"a\",5],[\"get\",\"a\"]]}\n";
 
 fn main(rt: HostRuntime) -> io::Result<ExitCode> {
+    run_scripts(&rt)?;
+
     for words in word_lists() {
         println!(rt; "== {words:?}")?;
         let stage = Stage { rt: &rt, words };

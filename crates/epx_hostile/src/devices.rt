@@ -1,7 +1,7 @@
 //! Runs over sources and sinks that fail, or that give and take little at once.
 ghost use Rattle.std.specs.Prelude.{◌≡◌, ◌≤◌, false};
 
-use crate::given::{LEAST, LEAST_ORDER, LEAST_REPORT, Wanted, is_right, plan};
+use crate::given::{LEAST, LEAST_ORDER, LEAST_REPORT, NOTHING, Wanted, is_right, plan};
 use epx_tool::{
     Ask, FuseSink, FuseSource, MemorySink, MemorySource, Sink, StdSink, StdSource, run, show,
 };
@@ -51,6 +51,28 @@ fn a_second_source_that_fails_after_any_byte(rt: HostRuntime) -> Result<(), Fail
     Ok(())
 }
 
+/// Whether a run fails as its only source does, which gives 64 bytes at once, and so many in all.
+fn fails_with_its_only_source<R: AllocGlobal + Threads + RandomSource + Sync>(
+    rt: &R,
+    bytes: usize,
+) -> Result<bool, Fail> {
+    let mut sources = [FuseSource::new(LEAST.as_bytes(), 64, Some(bytes))];
+    let mut sink = MemorySink::new(rt.alloc());
+    let outcome = run(rt, rt.alloc(), &mut sources, plan()?, &mut sink);
+    is_right(outcome, sink.bytes(), Err(Fault::Read { log: 0 }))
+}
+
+#[test]
+fn a_source_that_fails_after_any_byte(rt: HostRuntime) -> Result<(), Fail> {
+    for bytes in 0..LEAST.len() + 1 {
+        assert!(rt;
+            fails_with_its_only_source(&rt, bytes)?,
+            "after {bytes} bytes"
+        );
+    }
+    Ok(())
+}
+
 /// How the least whole path's report, or its order, is written to a sink that has not failed.
 fn written<R: AllocGlobal + Threads + RandomSource + Sync, W: Sink>(
     rt: &R,
@@ -70,15 +92,18 @@ fn written<R: AllocGlobal + Threads + RandomSource + Sync, W: Sink>(
     Ok(outcome)
 }
 
-/// Whether a sink that takes one byte at once, and so many in all, ends the run with a failed write and holds exactly
-/// these bytes of the text.
+/// Whether a sink that takes so many bytes at once, and so many in all, ends the run with a failed write and holds
+/// exactly these bytes of the text.
 fn fails_with_its_sink<R: AllocGlobal + Threads + RandomSource + Sync>(
     rt: &R,
     ask: Option<Ask>,
     text: &str,
+    at_once: usize,
     bytes: usize,
-) -> Result<bool, Fail> {
-    let mut sink = FuseSink::new(rt.alloc(), 1, Some(bytes));
+) -> Result<bool, Fail>
+    requires { 1 ≤ at_once }
+{
+    let mut sink = FuseSink::new(rt.alloc(), at_once, Some(bytes));
     let outcome = written(rt, ask, &mut sink)?;
     let is_part = text.as_bytes().starts_with(sink.bytes());
     let is_refused = outcome == Err(Fault::Write) && is_part;
@@ -93,7 +118,11 @@ fn a_sink_that_fails_after_any_byte(rt: HostRuntime) -> Result<(), Fail> {
     for (ask, text) in [(None, LEAST_REPORT), (Some(Ask::Order), LEAST_ORDER)] {
         for bytes in 0..text.len() + 1 {
             assert!(rt;
-                fails_with_its_sink(&rt, ask, text, bytes)?,
+                fails_with_its_sink(&rt, ask, text, 1, bytes)?,
+                "after {bytes} bytes"
+            );
+            assert!(rt;
+                fails_with_its_sink(&rt, ask, text, 64, bytes)?,
                 "after {bytes} bytes"
             );
         }
@@ -119,6 +148,27 @@ fn few_bytes_at_once(rt: HostRuntime) -> Result<(), Fail> {
     for at_once in 1..9 {
         assert!(rt; passes_in_parts(&rt, at_once)?, "{at_once} bytes");
     }
+    Ok(())
+}
+
+/// What comes of a run over a reader of so many spaces.
+fn run_over_spaces<R: AllocGlobal + Threads + RandomSource + Sync>(
+    rt: &R,
+    count: u64,
+    wanted: Wanted,
+) -> Result<bool, Fail> {
+    let mut sources = [StdSource::new(io::repeat(b' ').take(count))];
+    let mut sink = MemorySink::new(rt.alloc());
+    let outcome = run(rt, rt.alloc(), &mut sources, plan()?, &mut sink);
+    is_right(outcome, sink.bytes(), wanted)
+}
+
+#[test]
+fn a_log_has_at_most_67108864_bytes(rt: HostRuntime) -> Result<(), Fail> {
+    let too_long: Wanted = Err(Fault::LogTooLong { log: 0 });
+    assert!(rt; run_over_spaces(&rt, 67_108_864, Ok(NOTHING))?);
+    assert!(rt; run_over_spaces(&rt, 67_108_865, too_long)?);
+    assert!(rt; run_over_spaces(&rt, u64::MAX, too_long)?);
     Ok(())
 }
 

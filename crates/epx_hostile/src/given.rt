@@ -1,5 +1,5 @@
 //! Runs over two logs, and whether what came of them is right.
-use epx_tool::{Ask, MemorySink, MemorySource, run, show};
+use epx_tool::{Ask, MemorySink, MemorySource, run, run_check, run_resume, show};
 use epx_types::{Fault, Place, Plan, Why};
 use std::alloc::{AllocGlobal, Global};
 use std::random::RandomSource;
@@ -80,6 +80,34 @@ pub(crate) fn shows<R: AllocGlobal + Threads + RandomSource + Sync>(
     let mut sources = [MemorySource::new(first), MemorySource::new(second)];
     let mut sink = MemorySink::new(rt.alloc());
     let outcome = show(rt, rt.alloc(), ask, &mut sources, plan()?, &mut sink);
+    is_right(outcome, sink.bytes(), wanted)
+}
+
+/// Whether the report that goes on from this base over one log is the wanted one.
+pub(crate) fn resumes<R: AllocGlobal + Threads + RandomSource + Sync>(
+    rt: &R,
+    base: &str,
+    log: &str,
+    wanted: Wanted,
+) -> Result<bool, Fail> {
+    let mut base = MemorySource::new(base.as_bytes());
+    let mut sources = [MemorySource::new(log.as_bytes())];
+    let mut sink = MemorySink::new(rt.alloc());
+    let outcome = run_resume(rt, rt.alloc(), &mut base, &mut sources, plan()?, &mut sink);
+    is_right(outcome, sink.bytes(), wanted)
+}
+
+/// Whether what is found of this list over one log is what is wanted.
+pub(crate) fn checks<R: AllocGlobal + Threads + RandomSource + Sync>(
+    rt: &R,
+    list: &str,
+    log: &str,
+    wanted: Wanted,
+) -> Result<bool, Fail> {
+    let mut list = MemorySource::new(list.as_bytes());
+    let mut sources = [MemorySource::new(log.as_bytes())];
+    let mut sink = MemorySink::new(rt.alloc());
+    let outcome = run_check(rt, rt.alloc(), &mut list, &mut sources, plan()?, &mut sink);
     is_right(outcome, sink.bytes(), wanted)
 }
 

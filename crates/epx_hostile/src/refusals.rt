@@ -1,6 +1,6 @@
-//! Four rows through each kind of run. A test runner may refuse any allocation of these tests: the logs are texts of
+//! Worked cases through each kind of run. A test runner may refuse any allocation of these tests: the logs are texts of
 //! the program, so that each allocation is one of the runs, and a test then ends well, or with want of memory.
-use crate::given::{LEAST, LEAST_ORDER, LEAST_REPORT, Wanted, reports, shows};
+use crate::given::{LEAST, LEAST_ORDER, LEAST_REPORT, Wanted, checks, reports, resumes, shows};
 use epx_tool::Ask;
 use epx_types::{Fault, Id, Place};
 use std::alloc::AllocGlobal;
@@ -62,6 +62,37 @@ fn reached_through_another_member(rt: HostRuntime) -> Result<(), Fail> {
 "#;
     let all = gives_all(&rt, [COMPONENT, ""], Ok(report), Ok(order), Ok(levels));
     assert!(rt; all?);
+    Ok(())
+}
+
+#[test]
+fn lawful_list(rt: HostRuntime) -> Result<(), Fail> {
+    let list = "[2,1]\n[0,1]\n[1,1]\n";
+    assert!(rt; checks(&rt, list, COMPONENT, Ok("[\"lawful\"]\n"))?);
+    Ok(())
+}
+
+/// A report in which an instance waits for 0.1.
+const BASE: &str = r#"["executed",1,"waiting",1,"components",1]
+["reply",0,0,"ok",[]]
+["waiting",0,2,0,1]
+["store","a",1]
+"#;
+
+/// The instance that is waited for, and the one that waits.
+const AFTER_BASE: &str = r#"{"r":0,"i":1,"seq":2,"deps":[[0,0]],"ops":[["add","a",4]]}
+{"r":0,"i":2,"seq":3,"deps":[[0,1]],"ops":[["get","a"]]}
+"#;
+
+#[test]
+fn waiting_instance_goes_on(rt: HostRuntime) -> Result<(), Fail> {
+    let report = r#"["executed",2,"waiting",0,"components",2]
+["done",0,0]
+["reply",0,1,"ok",[]]
+["reply",0,2,"ok",[5]]
+["store","a",5]
+"#;
+    assert!(rt; resumes(&rt, BASE, AFTER_BASE, Ok(report))?);
     Ok(())
 }
 

@@ -3,11 +3,31 @@
 use crate::stage::NOT_UTF_8;
 
 /// Words of every kind, each list with the program's name.
-pub(crate) fn word_lists() -> [&'static [&'static str]; 22] {
+pub(crate) fn word_lists() -> [&'static [&'static str]; 42] {
     [
         &["epx"],
         &["epx", "--help"],
+        &["epx", "-h"],
+        &["epx", "help"],
         &["epx", "--version"],
+        &["epx", "-V"],
+        &["epx", "run", "-h"],
+        &["epx", "run", "--help"],
+        &["epx", "order", "-h"],
+        &["epx", "order", "--help"],
+        &["epx", "levels", "-h"],
+        &["epx", "levels", "--help"],
+        &["epx", "graph", "-h"],
+        &["epx", "graph", "--help"],
+        &["epx", "resume", "-h"],
+        &["epx", "resume", "--help"],
+        &["epx", "audit", "-h"],
+        &["epx", "audit", "--help"],
+        &["epx", "check", "-h"],
+        &["epx", "check", "--help"],
+        &["epx", "help", "check"],
+        &["epx", "resume"],
+        &["epx", "check"],
         &["epx", "order", "component.jsonl"],
         &["epx", "levels", "component.jsonl"],
         &["epx", "graph", "0.jsonl", "1.jsonl", "2.jsonl"],

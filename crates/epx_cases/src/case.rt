@@ -1,0 +1,224 @@
+//! A case of a script.
+use crate::directive::Directive;
+use crate::given::Given;
+use crate::line::add_line;
+use crate::outcome::{answer_given, deliver_given, task_named};
+use crate::words::words_text;
+use epx_tool::Task;
+use epx_types::Plan;
+use std::alloc::Global;
+use std::io::{self, Print};
+use std::random::RandomSource;
+use std::thread::Threads;
+
+/// The workers and cuts under which a case runs that names none. Devices take the last.
+const PLANS: [(usize, usize); 7] = [
+    (1, 1),
+    (2, 1),
+    (2, 65_536),
+    (3, 65_536),
+    (64, 1),
+    (64, 2),
+    (4, 256),
+];
+
+/// What a case is about.
+#[derive(Clone, Copy)]
+enum Subject<'a> {
+    /// What these words ask for.
+    Words(&'a str),
+    /// What comes of texts.
+    Task(Task),
+}
+
+fn subject_of(head: &str) -> Option<Subject<'_>> {
+    let (command, name) = head.split_once(' ').unwrap_or((head, ""));
+    if command == "words" {
+        return Some(Subject::Words(name));
+    }
+    Some(Subject::Task(task_named(command)?))
+}
+
+/// A command over texts, and the text that it must give.
+#[derive(Drop)]
+pub(crate) struct Case<'a> {
+    /// Its first line.
+    head: &'a str,
+    subject: Option<Subject<'a>>,
+    given: Given,
+    /// The plans that it runs under.
+    plans: Vec<Plan>,
+    wanted: Vec<u8>,
+    /// Whether the line `----` was read.
+    has_wanted: bool,
+    /// The first line that has no meaning.
+    bad_line: Option<&'a str>,
+}
+
+impl<'a> Case<'a> {
+    pub(crate) fn new(alloc: Global, head: &'a str) -> Case<'a> {
+        Case {
+            head,
+            subject: subject_of(head),
+            given: Given::new(alloc),
+            plans: Vec::new(alloc),
+            wanted: Vec::new(alloc),
+            has_wanted: false,
+            bad_line: None,
+        }
+    }
+
+    /// Adds a plan, and answers whether it is within the limits.
+    fn add_plan(&mut self, workers: usize, cut: usize) -> io::Result<bool> {
+        let Some(plan) = Plan::new(workers, cut) else {
+            return Ok(false);
+        };
+        self.plans.push(plan)?;
+        Ok(true)
+    }
+
+    /// Follows a line before `----`, and answers whether it has a meaning.
+    fn read_given(&mut self, alloc: Global, line: &str) -> io::Result<bool> {
+        let Some(directive) = Directive::parse(line) else {
+            return self.given.add_line(alloc, line);
+        };
+        match (directive, self.subject) {
+            (Directive::Plan { workers, cut }, Some(Subject::Task(_))) => {
+                return self.add_plan(workers, cut);
+            }
+            (Directive::Base, Some(Subject::Task(Task::Resume))) => self.given.begin_first(),
+            (Directive::List, Some(Subject::Task(Task::Check))) => self.given.begin_first(),
+            (Directive::Logs(count), Some(Subject::Task(_))) => {
+                self.given.begin_logs(alloc, count)?;
+            }
+            (Directive::Gives(flow), Some(Subject::Task(_))) => return Ok(self.given.give(flow)),
+            (Directive::Takes(flow), Some(Subject::Task(_))) => self.given.take(flow),
+            _ => return Ok(false),
+        }
+        Ok(true)
+    }
+
+    /// Reads a line below the first.
+    pub(crate) fn read_line(&mut self, alloc: Global, line: &'a str) -> io::Result<()> {
+        let is_read = if self.has_wanted {
+            add_line(alloc, &mut self.wanted, line)?
+        } else if line == "----" {
+            self.has_wanted = true;
+            true
+        } else {
+            line.starts_with('#') || self.read_given(alloc, line)?
+        };
+        if !is_read && self.bad_line.is_none() {
+            self.bad_line = Some(line);
+        }
+        Ok(())
+    }
+
+    /// Whether this is the wanted text. Any other is printed.
+    fn is_found<R: Print>(
+        &self,
+        rt: &R,
+        alloc: Global,
+        way: &str,
+        found: &[u8],
+    ) -> io::Result<bool> {
+        if found == self.wanted.as_slice() {
+            return Ok(true);
+        }
+        let head = self.head;
+        println!(rt; "{head} DIFFERS {way}:")?;
+        print!(rt; "{}", String::from_utf8_lossy(alloc, found)?)?;
+        Ok(false)
+    }
+
+    /// Takes the plans of all cases where it names none.
+    fn fill_plans(&mut self) -> io::Result<()> {
+        if self.plans.is_empty() {
+            for (workers, cut) in PLANS {
+                self.add_plan(workers, cut)?;
+            }
+        }
+        Ok(())
+    }
+
+    /// Whether the task gives the wanted text in memory, under each plan.
+    fn holds_in_memory<R: Print + Threads + RandomSource + Sync>(
+        &self,
+        rt: &R,
+        alloc: Global,
+        task: Task,
+    ) -> io::Result<bool> {
+        for plan in &self.plans {
+            let found = answer_given(rt, alloc, task, &self.given, *plan)?;
+            let (workers, cut) = (plan.workers(), plan.cut());
+            let way = format!(in alloc; "in memory with {workers} workers and cut {cut}")?;
+            if !self.is_found(rt, alloc, way.as_str(), &found)? {
+                return Ok(false);
+            }
+        }
+        Ok(true)
+    }
+
+    /// Whether the task gives the wanted text through devices, under the last plan.
+    fn holds_through_devices<R: Print + Threads + RandomSource + Sync>(
+        &self,
+        rt: &R,
+        alloc: Global,
+        task: Task,
+    ) -> io::Result<bool> {
+        let Some(plan) = self.plans.last() else {
+            return Ok(false);
+        };
+        let found = deliver_given(rt, alloc, task, &self.given, *plan)?;
+        self.is_found(rt, alloc, "through devices", &found)
+    }
+
+    /// Whether each run gives the wanted text.
+    fn holds<R: Print + Threads + RandomSource + Sync>(
+        &self,
+        rt: &R,
+        alloc: Global,
+        task: Task,
+    ) -> io::Result<bool> {
+        if !self.given.has_flows && !self.holds_in_memory(rt, alloc, task)? {
+            return Ok(false);
+        }
+        self.holds_through_devices(rt, alloc, task)
+    }
+
+    /// What is wrong with its lines, if anything is.
+    fn complaint(&self) -> Option<&'a str> {
+        if self.bad_line.is_some() {
+            return self.bad_line;
+        }
+        match (self.has_wanted, self.subject) {
+            (false, _) => Some("the line ---- is missing"),
+            (true, None) => Some("no such command"),
+            (true, Some(_)) => None,
+        }
+    }
+
+    /// Runs it, and prints its first line if all is right.
+    pub(crate) fn run<R: Print + Threads + RandomSource + Sync>(
+        &mut self,
+        rt: &R,
+        alloc: Global,
+    ) -> io::Result<()> {
+        let head = self.head;
+        if let Some(line) = self.complaint() {
+            return println!(rt; "{head} CAN NOT BE READ: {line}");
+        }
+        self.fill_plans()?;
+        let is_right = match self.subject {
+            None => false,
+            Some(Subject::Words(words)) => {
+                self.is_found(rt, alloc, "as words", &words_text(alloc, words)?)?
+            }
+            Some(Subject::Task(task)) => self.holds(rt, alloc, task)?,
+        };
+        if is_right {
+            println!(rt; "{head}")?;
+        }
+        Ok(())
+    }
+}

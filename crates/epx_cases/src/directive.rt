@@ -1,0 +1,47 @@
+//! The directives of a script.
+use crate::flow::Flow;
+
+/// A line that begins a text of a case, or sets how it runs.
+#[derive(Clone, Copy)]
+pub(crate) enum Directive {
+    /// The text begins that a report is resumed from.
+    Base,
+    /// The text begins that is checked.
+    List,
+    /// So many logs begin, which are alike.
+    Logs(usize),
+    /// The source of the last text gives so.
+    Gives(Flow),
+    /// The sink takes so.
+    Takes(Flow),
+    /// The case runs under this plan.
+    Plan { workers: usize, cut: usize },
+}
+
+/// The numbers of a directive: two at most.
+fn numbers_in(written: &str) -> Option<(Option<usize>, Option<usize>)> {
+    if written.is_empty() {
+        return Some((None, None));
+    }
+    match written.split_once(' ') {
+        None => Some((Some(written.parse().ok()?), None)),
+        Some((first, second)) => Some((Some(first.parse().ok()?), Some(second.parse().ok()?))),
+    }
+}
+
+impl Directive {
+    /// The directive that a line is, if it is one.
+    pub(crate) fn parse(line: &str) -> Option<Directive> {
+        let (word, rest) = line.split_once(' ').unwrap_or((line, ""));
+        match (word, numbers_in(rest)?) {
+            ("base", (None, None)) => Some(Directive::Base),
+            ("list", (None, None)) => Some(Directive::List),
+            ("log", (None, None)) => Some(Directive::Logs(1)),
+            ("logs", (Some(count), None)) => Some(Directive::Logs(count)),
+            ("gives", (Some(at_once), fuse)) => Some(Directive::Gives(Flow::new(at_once, fuse)?)),
+            ("takes", (Some(at_once), fuse)) => Some(Directive::Takes(Flow::new(at_once, fuse)?)),
+            ("plan", (Some(workers), Some(cut))) => Some(Directive::Plan { workers, cut }),
+            _ => None,
+        }
+    }
+}

@@ -1,0 +1,99 @@
+//! The texts of a case.
+use crate::flow::{Flow, WHOLE};
+use crate::line::add_line;
+use std::alloc::Global;
+use std::io;
+
+/// Where the next lines go.
+#[derive(Clone, Copy)]
+enum Target {
+    Nowhere,
+    /// To the base or the list.
+    First,
+    /// To so many of the last logs.
+    Logs(usize),
+}
+
+/// The texts of a case, and how devices carry them.
+#[derive(Drop)]
+pub(crate) struct Given {
+    /// The base that a report is resumed from, or the list that is checked.
+    pub first: Vec<u8>,
+    pub first_flow: Flow,
+    pub logs: Vec<Vec<u8>>,
+    pub log_flows: Vec<Flow>,
+    pub sink_flow: Flow,
+    /// Whether the case names a flow, so that devices alone show what it is about.
+    pub has_flows: bool,
+    target: Target,
+}
+
+impl Given {
+    pub(crate) fn new(alloc: Global) -> Given {
+        Given {
+            first: Vec::new(alloc),
+            first_flow: WHOLE,
+            logs: Vec::new(alloc),
+            log_flows: Vec::new(alloc),
+            sink_flow: WHOLE,
+            has_flows: false,
+            target: Target::Nowhere,
+        }
+    }
+
+    /// Begins the base or the list.
+    pub(crate) fn begin_first(&mut self) {
+        self.target = Target::First;
+    }
+
+    /// Begins so many logs, which are alike.
+    pub(crate) fn begin_logs(&mut self, alloc: Global, count: usize) -> io::Result<()> {
+        for _ in 0..count {
+            self.logs.push(Vec::new(alloc))?;
+            self.log_flows.push(WHOLE)?;
+        }
+        self.target = Target::Logs(count);
+        Ok(())
+    }
+
+    /// Adds a line to the texts that were begun last, and answers whether it can be read.
+    pub(crate) fn add_line(&mut self, alloc: Global, line: &str) -> io::Result<bool> {
+        if !line.starts_with(['{', '[', '%']) {
+            return Ok(false);
+        }
+        match self.target {
+            Target::Nowhere => Ok(false),
+            Target::First => add_line(alloc, &mut self.first, line),
+            Target::Logs(count) => {
+                let before = self.logs.len().saturating_sub(count);
+                let mut is_read = false;
+                for log in self.logs.iter_mut().skip(before) {
+                    is_read = add_line(alloc, log, line)?;
+                }
+                Ok(is_read)
+            }
+        }
+    }
+
+    /// Sets how the texts that were begun last are given, and answers whether there are any.
+    pub(crate) fn give(&mut self, flow: Flow) -> bool {
+        self.has_flows = true;
+        match self.target {
+            Target::Nowhere => return false,
+            Target::First => self.first_flow = flow,
+            Target::Logs(count) => {
+                let before = self.log_flows.len().saturating_sub(count);
+                for log_flow in self.log_flows.iter_mut().skip(before) {
+                    *log_flow = flow;
+                }
+            }
+        }
+        true
+    }
+
+    /// Sets how the sink takes what is written.
+    pub(crate) fn take(&mut self, flow: Flow) {
+        self.has_flows = true;
+        self.sink_flow = flow;
+    }
+}

@@ -1,0 +1,114 @@
+//! Lines of a script, some of which repeat a text or hold bytes that a plain line can not.
+use std::alloc::{AllocError, Global};
+use std::io;
+
+/// Adds a number in decimal digits.
+fn add_number(alloc: Global, text: &mut Vec<u8>, number: u64) -> Result<(), AllocError> {
+    let digits = format!(in alloc; "{number}")?;
+    text.extend_from_slice(digits.as_bytes())
+}
+
+/// Adds a piece that follows a backslash: its first letter has a meaning.
+fn add_piece(
+    alloc: Global,
+    text: &mut Vec<u8>,
+    piece: &[u8],
+    round: u64,
+    left: u64,
+) -> Result<(), AllocError> {
+    let Some((letter, rest)) = piece.split_first() else {
+        return Ok(text.push(b'\\')?);
+    };
+    match *letter {
+        b'n' => text.push(b'\n')?,
+        b'r' => text.push(b'\r')?,
+        b't' => text.push(b'\t')?,
+        b's' => text.push(b' ')?,
+        b'i' => add_number(alloc, text, round)?,
+        b'j' => add_number(alloc, text, round.saturating_add(1))?,
+        b'd' => add_number(alloc, text, left)?,
+        other => text.extend_from_slice(&[b'\\', other])?,
+    }
+    text.extend_from_slice(rest)
+}
+
+/// Adds a text once. In it `\n`, `\r`, `\t` and `\s` are a line feed, a carriage return, a tab and a
+/// space; `\i`, `\j` and `\d` are the round, the next round and how many rounds are left.
+fn add_round(
+    alloc: Global,
+    text: &mut Vec<u8>,
+    written: &str,
+    round: u64,
+    left: u64,
+) -> Result<(), AllocError> {
+    let mut pieces = written.split('\\');
+    if let Some(first) = pieces.next() {
+        text.extend_from_slice(first.as_bytes())?;
+    }
+    for piece in pieces {
+        add_piece(alloc, text, piece.as_bytes(), round, left)?;
+    }
+    Ok(())
+}
+
+/// Whether the rounds of a text differ.
+fn has_numbers(written: &str) -> bool {
+    written.contains("\\i") || written.contains("\\j") || written.contains("\\d")
+}
+
+/// Adds a text so many times over.
+fn add_rounds(
+    alloc: Global,
+    text: &mut Vec<u8>,
+    written: &str,
+    count: u64,
+) -> Result<(), AllocError> {
+    if has_numbers(written) {
+        for round in 0..count {
+            add_round(alloc, text, written, round, count - round - 1)?;
+        }
+        return Ok(());
+    }
+    let mut once = Vec::new(alloc);
+    add_round(alloc, &mut once, written, 0, 0)?;
+    for _ in 0..count {
+        text.extend_from_slice(&once)?;
+    }
+    Ok(())
+}
+
+/// Adds so many instances of replica 0. Each depends on the 255 that follow it, around the end, and
+/// on one that is missing: 5.5 for the last, and 9.9 for the others.
+fn add_fan(alloc: Global, text: &mut Vec<u8>, count: u32) -> Result<(), AllocError> {
+    for number in 0..count {
+        let missing = if number == count - 1 { 5 } else { 9 };
+        let start = format!(in alloc;
+            "{{\"r\":0,\"i\":{number},\"seq\":1,\"deps\":[[{missing},{missing}]"
+        )?;
+        text.extend_from_slice(start.as_bytes())?;
+        for other in 1..256u64 {
+            let target = (number as u64 + other) % count as u64;
+            let dependency = format!(in alloc; ",[0,{target}]")?;
+            text.extend_from_slice(dependency.as_bytes())?;
+        }
+        text.extend_from_slice(b"],\"ops\":[]}\n")?;
+    }
+    Ok(())
+}
+
+/// Adds a line of a script to a text, and answers whether it can be read. `%3 TEXT` is a text three
+/// times over, with no line end, and `%fan 3` a fan of three instances; any other line is itself.
+pub(crate) fn add_line(alloc: Global, text: &mut Vec<u8>, line: &str) -> io::Result<bool> {
+    let Some(rest) = line.strip_prefix('%') else {
+        text.extend_from_slice(line.as_bytes())?;
+        text.push(b'\n')?;
+        return Ok(true);
+    };
+    let (count, written) = rest.split_once(' ').unwrap_or((rest, ""));
+    match (count.parse::<u64>(), written.parse::<u32>()) {
+        (Ok(count), _) if !written.is_empty() => add_rounds(alloc, text, written, count)?,
+        (Err(_), Ok(instances)) if count == "fan" => add_fan(alloc, text, instances)?,
+        _ => return Ok(false),
+    }
+    Ok(true)
+}

@@ -1,0 +1,104 @@
+//! What comes of the texts of a case: the text that is answered, or the line of the fault.
+ghost use Rattle.std.specs.Prelude.{◌≡◌, All, IfOk, false};
+
+use crate::flow::Flow;
+use crate::given::Given;
+use epx_tool::{
+    Ask, FuseSource, Task, answer, check, resume, run, run_check, run_resume, show, view,
+};
+use epx_types::{Fault, Plan};
+use std::alloc::{AllocError, Global};
+use std::io;
+use std::random::RandomSource;
+use std::thread::Threads;
+
+/// The task that a command of the program asks for.
+pub(crate) fn task_named(command: &str) -> Option<Task> {
+    match command {
+        "run" => Some(Task::Run),
+        "order" => Some(Task::Order),
+        "levels" => Some(Task::Levels),
+        "graph" => Some(Task::Graph),
+        "resume" => Some(Task::Resume),
+        "audit" => Some(Task::Audit),
+        "check" => Some(Task::Check),
+        _ => None,
+    }
+}
+
+/// Adds the line of a fault.
+fn add_fault(alloc: Global, text: &mut Vec<u8>, fault: Fault) -> io::Result<()> {
+    let line = format!(in alloc; "{fault}\n")?;
+    text.extend_from_slice(line.as_bytes())?;
+    Ok(())
+}
+
+/// What comes of the texts in memory.
+pub(crate) fn answer_given<R: Threads + RandomSource + Sync>(
+    rt: &R,
+    alloc: Global,
+    task: Task,
+    given: &Given,
+    plan: Plan,
+) -> io::Result<Vec<u8>> {
+    let logs = given.logs.as_slice();
+    let outcome = match task {
+        Task::Run => answer(rt, alloc, logs, plan),
+        Task::Order => view(rt, alloc, Ask::Order, logs, plan),
+        Task::Levels => view(rt, alloc, Ask::Levels, logs, plan),
+        Task::Graph => view(rt, alloc, Ask::Graph, logs, plan),
+        Task::Audit => view(rt, alloc, Ask::Audit, logs, plan),
+        Task::Resume => resume(rt, alloc, &given.first, logs, plan),
+        Task::Check => check(rt, alloc, &given.first, logs, plan),
+    };
+    match outcome {
+        Ok(text) => Ok(text),
+        Err(fault) => {
+            let mut text = Vec::new(alloc);
+            add_fault(alloc, &mut text, fault)?;
+            Ok(text)
+        }
+    }
+}
+
+/// A source for each log.
+fn sources_of<'a>(
+    alloc: Global,
+    logs: &'a [Vec<u8>],
+    flows: &[Flow],
+) -> Result<Vec<FuseSource<'a>>, AllocError>
+    ensures { IfOk result (λ sources. All (λ s. s.failed ≡ false) sources.items) }
+{
+    let mut sources = Vec::new(alloc);
+    for (log, flow) in logs.iter().zip(flows) {
+        sources.push(flow.source(log))?;
+    }
+    Ok(sources)
+}
+
+/// What comes of the texts through devices: what the sink holds, and the line of the fault.
+pub(crate) fn deliver_given<R: Threads + RandomSource + Sync>(
+    rt: &R,
+    alloc: Global,
+    task: Task,
+    given: &Given,
+    plan: Plan,
+) -> io::Result<Vec<u8>> {
+    let mut first = given.first_flow.source(&given.first);
+    let mut sources = sources_of(alloc, &given.logs, &given.log_flows)?;
+    let mut sink = given.sink_flow.sink(alloc);
+    let outcome = match task {
+        Task::Run => run(rt, alloc, &mut sources, plan, &mut sink),
+        Task::Order => show(rt, alloc, Ask::Order, &mut sources, plan, &mut sink),
+        Task::Levels => show(rt, alloc, Ask::Levels, &mut sources, plan, &mut sink),
+        Task::Graph => show(rt, alloc, Ask::Graph, &mut sources, plan, &mut sink),
+        Task::Audit => show(rt, alloc, Ask::Audit, &mut sources, plan, &mut sink),
+        Task::Resume => run_resume(rt, alloc, &mut first, &mut sources, plan, &mut sink),
+        Task::Check => run_check(rt, alloc, &mut first, &mut sources, plan, &mut sink),
+    };
+    let mut text = Vec::from_slice(alloc, sink.bytes())?;
+    if let Err(fault) = outcome {
+        add_fault(alloc, &mut text, fault)?;
+    }
+    Ok(text)
+}

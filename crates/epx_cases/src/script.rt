@@ -1,0 +1,54 @@
+//! Scripts, case by case.
+use crate::case::Case;
+use std::alloc::{AllocGlobal, Global};
+use std::io::{self, Print};
+use std::random::RandomSource;
+use std::rt::{Env, Files};
+use std::thread::Threads;
+use std::{env, fs};
+
+/// Runs the case that these lines are, and prints its result. Lines that begin with `#` explain.
+fn run_case<R: Print + Threads + RandomSource + Sync>(
+    rt: &R,
+    alloc: Global,
+    written: &str,
+) -> io::Result<()> {
+    let mut lines = written
+        .lines()
+        .skip_while(|line| line.is_empty() || line.starts_with('#'));
+    let Some(head) = lines.next() else {
+        return Ok(());
+    };
+    let mut case = Case::new(alloc, head);
+    for line in lines {
+        case.read_line(alloc, line)?;
+    }
+    case.run(rt, alloc)
+}
+
+/// Runs the cases of a script, which blank lines separate.
+fn run_script<R: Print + Threads + RandomSource + Sync>(
+    rt: &R,
+    alloc: Global,
+    script: &str,
+) -> io::Result<()> {
+    for written in script.split("\n\n") {
+        run_case(rt, alloc, written)?;
+    }
+    Ok(())
+}
+
+/// Runs the scripts at the paths that the program is given.
+pub(crate) fn run_scripts<R>(rt: &R) -> io::Result<()>
+where
+    R: AllocGlobal + Env + Files + Print + Threads + RandomSource + Sync,
+{
+    for path in env::args(rt)?.skip(1) {
+        println!(rt; "== {path}")?;
+        match fs::read_to_string(rt, path.as_str()) {
+            Ok(script) => run_script(rt, rt.alloc(), script.as_str())?,
+            Err(_) => println!(rt; "the script can not be read")?,
+        }
+    }
+    Ok(())
+}

@@ -1,0 +1,40 @@
+//! What the words of a command line ask for.
+use epx_tool::{Words, read_words};
+use epx_types::Memory;
+use std::alloc::Global;
+use std::io::{self, ErrorKind};
+
+/// The task with its plan, and the paths, one a line; or the status of a text, with its first line.
+fn text_of(alloc: Global, words: Words) -> io::Result<String> {
+    match words {
+        Words::Text { text, status } => {
+            let first = text.as_str().lines().next().unwrap_or("");
+            Ok(format!(in alloc; "status {status}: {first}\n")?)
+        }
+        Words::Work { task, plan, paths } => {
+            let (workers, cut) = (plan.workers(), plan.cut());
+            let mut text = format!(in alloc; "{task:?} with {workers} workers and cut {cut}\n")?;
+            let Some(paths) = paths else {
+                text.push_str("standard input\n")?;
+                return Ok(text);
+            };
+            for path in &paths {
+                text.push_str(path.as_str())?;
+                text.push('\n')?;
+            }
+            Ok(text)
+        }
+    }
+}
+
+/// What these words ask for. Spaces separate them.
+pub(crate) fn words_text(alloc: Global, line: &str) -> io::Result<Vec<u8>> {
+    let mut words = Vec::new(alloc);
+    for word in line.split_whitespace() {
+        words.push(word)?;
+    }
+    match read_words(alloc, &words) {
+        Ok(words) => Ok(text_of(alloc, words)?.into_bytes()),
+        Err(Memory) => Err(io::Error::from(ErrorKind::OutOfMemory)),
+    }
+}
