@@ -186,6 +186,22 @@ impl<'a> Case<'a> {
         self.holds_through_devices(rt, alloc, task)
     }
 
+    /// Whether what it is about gives the wanted text.
+    fn is_right<R: Print + Threads + RandomSource + Sync>(
+        &self,
+        rt: &R,
+        alloc: Global,
+    ) -> io::Result<bool> {
+        match self.subject {
+            None => Ok(false),
+            Some(Subject::Words(words)) => {
+                let found = words_text(alloc, words)?;
+                self.is_found(rt, alloc, "as words", &found)
+            }
+            Some(Subject::Task(task)) => self.holds(rt, alloc, task),
+        }
+    }
+
     /// What is wrong with its lines, if anything is.
     fn complaint(&self) -> Option<&'a str> {
         if self.bad_line.is_some() {
@@ -209,14 +225,7 @@ impl<'a> Case<'a> {
             return println!(rt; "{head} CAN NOT BE READ: {line}");
         }
         self.fill_plans()?;
-        let is_right = match self.subject {
-            None => false,
-            Some(Subject::Words(words)) => {
-                self.is_found(rt, alloc, "as words", &words_text(alloc, words)?)?
-            }
-            Some(Subject::Task(task)) => self.holds(rt, alloc, task)?,
-        };
-        if is_right {
+        if self.is_right(rt, alloc)? {
             println!(rt; "{head}")?;
         }
         Ok(())

@@ -26,6 +26,17 @@ pub(crate) fn task_named(command: &str) -> Option<Task> {
     }
 }
 
+/// What a task asks of the logs, where it asks neither for a report nor about a list.
+fn ask_of(task: Task) -> Option<Ask> {
+    match task {
+        Task::Order => Some(Ask::Order),
+        Task::Levels => Some(Ask::Levels),
+        Task::Graph => Some(Ask::Graph),
+        Task::Audit => Some(Ask::Audit),
+        Task::Run | Task::Resume | Task::Check => None,
+    }
+}
+
 /// Adds the line of a fault.
 fn add_fault(alloc: Global, text: &mut Vec<u8>, fault: Fault) -> io::Result<()> {
     let line = format!(in alloc; "{fault}\n")?;
@@ -42,14 +53,11 @@ pub(crate) fn answer_given<R: Threads + RandomSource + Sync>(
     plan: Plan,
 ) -> io::Result<Vec<u8>> {
     let logs = given.logs.as_slice();
-    let outcome = match task {
-        Task::Run => answer(rt, alloc, logs, plan),
-        Task::Order => view(rt, alloc, Ask::Order, logs, plan),
-        Task::Levels => view(rt, alloc, Ask::Levels, logs, plan),
-        Task::Graph => view(rt, alloc, Ask::Graph, logs, plan),
-        Task::Audit => view(rt, alloc, Ask::Audit, logs, plan),
-        Task::Resume => resume(rt, alloc, &given.first, logs, plan),
-        Task::Check => check(rt, alloc, &given.first, logs, plan),
+    let outcome = match (task, ask_of(task)) {
+        (_, Some(ask)) => view(rt, alloc, ask, logs, plan),
+        (Task::Resume, None) => resume(rt, alloc, &given.first, logs, plan),
+        (Task::Check, None) => check(rt, alloc, &given.first, logs, plan),
+        (_, None) => answer(rt, alloc, logs, plan),
     };
     match outcome {
         Ok(text) => Ok(text),
@@ -87,14 +95,11 @@ pub(crate) fn deliver_given<R: Threads + RandomSource + Sync>(
     let mut first = given.first_flow.source(&given.first);
     let mut sources = sources_of(alloc, &given.logs, &given.log_flows)?;
     let mut sink = given.sink_flow.sink(alloc);
-    let outcome = match task {
-        Task::Run => run(rt, alloc, &mut sources, plan, &mut sink),
-        Task::Order => show(rt, alloc, Ask::Order, &mut sources, plan, &mut sink),
-        Task::Levels => show(rt, alloc, Ask::Levels, &mut sources, plan, &mut sink),
-        Task::Graph => show(rt, alloc, Ask::Graph, &mut sources, plan, &mut sink),
-        Task::Audit => show(rt, alloc, Ask::Audit, &mut sources, plan, &mut sink),
-        Task::Resume => run_resume(rt, alloc, &mut first, &mut sources, plan, &mut sink),
-        Task::Check => run_check(rt, alloc, &mut first, &mut sources, plan, &mut sink),
+    let outcome = match (task, ask_of(task)) {
+        (_, Some(ask)) => show(rt, alloc, ask, &mut sources, plan, &mut sink),
+        (Task::Resume, None) => run_resume(rt, alloc, &mut first, &mut sources, plan, &mut sink),
+        (Task::Check, None) => run_check(rt, alloc, &mut first, &mut sources, plan, &mut sink),
+        (_, None) => run(rt, alloc, &mut sources, plan, &mut sink),
     };
     let mut text = Vec::from_slice(alloc, sink.bytes())?;
     if let Err(fault) = outcome {
