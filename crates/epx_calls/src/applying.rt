@@ -33,18 +33,6 @@ fn operation(rt: &impl Abort, alloc: Global, text: &str) -> Result<Op, Memory> {
             key,
             amount: number(rt, last),
         }),
-        "is" => Ok(Op::Is {
-            key,
-            value: if last == "null" {
-                None
-            } else {
-                Some(number(rt, last))
-            },
-        }),
-        "floor" => Ok(Op::Floor {
-            key,
-            least: number(rt, last),
-        }),
         _ => Ok(Op::Copy {
             source: key,
             target: crate::given::key(rt, alloc, last)?,
@@ -139,65 +127,6 @@ fn commands_go_in_order(rt: HostRuntime) -> Result<(), Fail> {
 }
 
 #[test]
-fn operations_see_earlier_writes(rt: HostRuntime) -> Result<(), Fail> {
-    let text = "put b 3, is a null, copy a b, get b, del a, put c 1, copy c c, get c";
-    let replies = [Wanted::Values(&[None, Some(1)])];
-    run(&rt, rt.alloc(), &[], &[text], &replies, &[("c", 1)])
-}
-
-#[test]
-fn sum_outside_i64_aborts(rt: HostRuntime) -> Result<(), Fail> {
-    let text = "put a 9223372036854775807, get a, add a 1";
-    run(&rt, rt.alloc(), &[], &[text], &[Wanted::Abort(2)], &[])
-}
-
-#[test]
-fn absence(rt: HostRuntime) -> Result<(), Fail> {
-    let replies = [Wanted::Values(&[]), Wanted::Values(&[None])];
-    let texts = ["put b 3", "is a null, copy a b, get b"];
-    run(&rt, rt.alloc(), &[], &texts, &replies, &[])
-}
-
-#[test]
-fn floor(rt: HostRuntime) -> Result<(), Fail> {
-    let text = "put a 5, floor a 5, add a -5, floor a 1";
-    run(&rt, rt.alloc(), &[], &[text], &[Wanted::Abort(3)], &[])
-}
-
-#[test]
-fn no_op_in_a_chain(rt: HostRuntime) -> Result<(), Fail> {
-    let nothing = Wanted::Values(&[]);
-    let replies = [nothing, nothing, Wanted::Values(&[Some(1)])];
-    let texts = ["put a 1", "", "get a"];
-    run(&rt, rt.alloc(), &[], &texts, &replies, &[("a", 1)])
-}
-
-#[test]
-fn keys_of_an_abort_count(rt: HostRuntime) -> Result<(), Fail> {
-    let replies = [Wanted::Abort(0), Wanted::Values(&[None])];
-    let texts = ["is a 1, put b 1", "get b"];
-    run(&rt, rt.alloc(), &[], &texts, &replies, &[])
-}
-
-#[test]
-fn levels_of_one_command_or_two(rt: HostRuntime) -> Result<(), Fail> {
-    let texts = [
-        "put a 1",
-        "put b 2",
-        "put c 3",
-        "copy a d",
-        "copy b e",
-        "add a 10",
-        "get a, get d",
-        "add c 1",
-    ];
-    let mut replies = [Wanted::Values(&[]); 8];
-    replies[6] = Wanted::Values(&[Some(11), Some(1)]);
-    let after = [("a", 11), ("b", 2), ("c", 4), ("d", 1), ("e", 2)];
-    run(&rt, rt.alloc(), &[], &texts, &replies, &after)
-}
-
-#[test]
 fn two_levels_of_four_commands(rt: HostRuntime) -> Result<(), Fail> {
     let texts = [
         "put a 1", "put b 2", "put c 3", "put d 4", "add a 10", "copy b e", "get c", "del d",
@@ -278,28 +207,4 @@ fn reads_follow_writes(rt: HostRuntime) -> Result<(), Fail> {
     let texts = ["put a 1", "put b 2", "get a", "put a 3"];
     let members: [&[usize]; 3] = [&[0, 1], &[2], &[3]];
     levels_are(&rt, rt.alloc(), &texts, &[0, 0, 1, 2], &members)
-}
-
-#[test]
-fn no_commands_have_no_levels(rt: HostRuntime) -> Result<(), Fail> {
-    levels_are(&rt, rt.alloc(), &[], &[], &[])
-}
-
-#[test]
-fn levels_count_the_keys_of_an_abort(rt: HostRuntime) -> Result<(), Fail> {
-    let members: [&[usize]; 2] = [&[0], &[1]];
-    levels_are(
-        &rt,
-        rt.alloc(),
-        &["is a 1, put b 1", "get b"],
-        &[0, 1],
-        &members,
-    )
-}
-
-#[test]
-fn a_command_does_not_conflict_with_itself(rt: HostRuntime) -> Result<(), Fail> {
-    let texts = ["put a 1, get a, put a 2, copy a a", "get b, get b", ""];
-    let members: [&[usize]; 1] = [&[0, 1, 2]];
-    levels_are(&rt, rt.alloc(), &texts, &[0, 0, 0], &members)
 }

@@ -77,14 +77,6 @@ fn store_holds_what_was_put(rt: HostRuntime) -> Result<(), Fail> {
     Ok(())
 }
 
-#[test]
-fn pairs_stand_in_byte_order(rt: HostRuntime) -> Result<(), Fail> {
-    let put = [("b", 2), ("é", 4), ("a", 1), ("ba", 3), ("B", 0), ("b", 7)];
-    let wanted = [("B", 0), ("a", 1), ("b", 7), ("ba", 3), ("é", 4)];
-    is_stored(&rt, &stored(&rt, rt.alloc(), &put)?, &wanted)?;
-    Ok(())
-}
-
 /// What a command answers.
 #[derive(Clone, Copy, Debug)]
 pub(crate) enum Wanted<'a> {
@@ -142,13 +134,6 @@ fn command_reads_its_own_writes(rt: HostRuntime) -> Result<(), Fail> {
     let key = key(&rt, rt.alloc(), "a")?;
     let add = Op::Add { key, amount: 1 };
     have_effect_on_a(&rt, rt.alloc(), add, Some(6))?;
-    Ok(())
-}
-
-#[test]
-fn command_reads_its_own_removals(rt: HostRuntime) -> Result<(), Fail> {
-    let key = key(&rt, rt.alloc(), "a")?;
-    have_effect_on_a(&rt, rt.alloc(), Op::Del { key }, None)?;
     Ok(())
 }
 
@@ -231,21 +216,6 @@ fn after<R: Threads + Sync + Abort>(
     merge_effects(rt, alloc, store, from_ref(&effect))
 }
 
-#[test]
-fn keys_of_all_shards_stand_in_byte_order(rt: HostRuntime) -> Result<(), Fail> {
-    let alloc = rt.alloc();
-    let ops = letters(&rt, alloc)?;
-    let store = after(&rt, alloc, Store::new(alloc), &ops)?;
-    let pairs = store.pairs()?;
-    assert!(rt; store.len() == 26);
-    assert!(rt; pairs.len() == 26);
-    for ((place, letter), pair) in "abcdefghijklmnopqrstuvwxyz".char_indices().zip(&pairs) {
-        assert!(rt; pair.0.text().starts_with(letter));
-        assert!(rt; pair.1 == place as i64 + 1);
-    }
-    Ok(())
-}
-
 /// Puts of all letters, and then a sum and a removal, each read.
 fn letters_and_more(rt: &impl Abort, alloc: Global) -> Result<Vec<Op>, Memory> {
     let mut ops = letters(rt, alloc)?;
@@ -282,18 +252,6 @@ fn command_may_write_many_keys(rt: HostRuntime) -> Result<(), Fail> {
     let reply = apply(alloc, &mut applied, &ops)?;
     is_reply(&rt, &reply, Wanted::Values(&[Some(7), None]));
     is_same(&rt, &applied, &store)?;
-    Ok(())
-}
-
-#[test]
-fn abort_of_many_keys_writes_nothing(rt: HostRuntime) -> Result<(), Fail> {
-    let alloc = rt.alloc();
-    let mut ops = letters_and_more(&rt, alloc)?;
-    ops.push(Op::Is {
-        key: key(&rt, alloc, "c")?,
-        value: None,
-    })?;
-    have_effect(&rt, alloc, &ops, Wanted::Abort(30), &[])?;
     Ok(())
 }
 

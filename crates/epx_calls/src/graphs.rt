@@ -98,37 +98,6 @@ fn a_done_instance_is_not_missing(rt: HostRuntime) -> Result<(), Fail> {
     waiters_are(&rt, rt.alloc(), &graph, &waiters)
 }
 
-#[test]
-fn a_done_instance_has_no_node(rt: HostRuntime) -> Result<(), Fail> {
-    let graph = graph_after(&rt, rt.alloc(), TWO_MISSING, &[id(2, 0)])?;
-    nodes_are(&rt, &graph, &[id(2, 1)], 1);
-    assert!(rt; graph.node(id(2, 0)).is_none());
-    edges_are(&rt, &graph, 0, &[]);
-    waiters_are(&rt, rt.alloc(), &graph, &[])
-}
-
-#[test]
-fn waiting_spreads_through_a_component(rt: HostRuntime) -> Result<(), Fail> {
-    let text = r#"{"r":0,"i":1,"seq":1,"deps":[[1,1]],"ops":[]}
-{"r":1,"i":1,"seq":1,"deps":[[2,1],[2,9]],"ops":[]}
-{"r":2,"i":1,"seq":1,"deps":[[0,1]],"ops":[]}"#;
-    let graph = graph_of_texts(&rt, rt.alloc(), &[text])?;
-    let least = id(2, 9);
-    let waiters = [
-        waiter(id(0, 1), least),
-        waiter(id(1, 1), least),
-        waiter(id(2, 1), least),
-    ];
-    waiters_are(&rt, rt.alloc(), &graph, &waiters)
-}
-
-#[test]
-fn no_logs_have_an_empty_graph(rt: HostRuntime) -> Result<(), Fail> {
-    let graph = graph_of_texts(&rt, rt.alloc(), &[])?;
-    nodes_are(&rt, &graph, &[], 0);
-    waiters_are(&rt, rt.alloc(), &graph, &[])
-}
-
 /// A chain of so many instances, of which one depends on an instance without a line as well.
 fn chain(alloc: Global, count: u64, lacking: u64) -> Result<Vec<u8>, Fail> {
     let mut log = Vec::new(alloc);
@@ -140,26 +109,6 @@ fn chain(alloc: Global, count: u64, lacking: u64) -> Result<Vec<u8>, Fail> {
         push_line(alloc, &mut log, id(0, number), 1, &deps)?;
     }
     Ok(log)
-}
-
-/// So many instances that several workers look up what they depend on.
-#[test]
-fn many_instances(rt: HostRuntime) -> Result<(), Fail> {
-    let mut logs = Vec::new(rt.alloc());
-    logs.push(chain(rt.alloc(), 10_000, 7_000)?)?;
-    let merged = merged_of(&rt, rt.alloc(), &logs)?;
-    let graph = build(&rt, rt.alloc(), &merged, plan(&rt))?;
-    assert!(rt; graph.len() == 10_001);
-    assert!(rt; graph.committed_len() == 10_000);
-    for node in 1..10_000 {
-        if node == 7_000 {
-            edges_are(&rt, &graph, node, &[6_999, 10_000]);
-        } else {
-            edges_are(&rt, &graph, node, &[node - 1]);
-        }
-    }
-    assert!(rt; waiting(rt.alloc(), &graph)?.len() == 3_000);
-    Ok(())
 }
 
 /// What is left of so many: the done ones are those below 5,000.

@@ -81,26 +81,3 @@ fn lists_of_a_component_and_what_it_reaches(rt: HostRuntime) -> Result<(), Fail>
     }
     Ok(())
 }
-
-// 0.2 waits for the missing 0.3.
-#[test]
-fn waiting_instance_is_a_stranger(rt: HostRuntime) -> Result<(), Fail> {
-    let alloc = rt.alloc();
-    let mut log = Vec::new(alloc);
-    push_line(alloc, &mut log, id(0, 1), 1, "")?;
-    push_line(alloc, &mut log, id(0, 2), 2, "[0,3]")?;
-    let (merged, graph) = read(&rt, alloc, log)?;
-    let (ready, waiting) = (id(0, 1), id(0, 2));
-    assert!(rt; fault_of(alloc, &merged, &graph, &[ready])?.is_none());
-    let wanted = Some(OrderFault::Stranger { place: 1 });
-    assert!(rt; fault_of(alloc, &merged, &graph, &[ready, waiting])? == wanted);
-    Ok(())
-}
-
-#[test]
-fn empty_list_of_no_instances(rt: HostRuntime) -> Result<(), Fail> {
-    let alloc = rt.alloc();
-    let (merged, graph) = read(&rt, alloc, Vec::new(alloc))?;
-    assert!(rt; fault_of(alloc, &merged, &graph, &[])?.is_none());
-    Ok(())
-}

@@ -120,30 +120,6 @@ fn stand<R: Abort + Threads + RandomSource + Sync>(
     log_stands(rt, alloc, log, lead, count, wanted)
 }
 
-#[test]
-fn no_nodes(rt: HostRuntime) -> Result<(), Fail> {
-    stand(&rt, rt.alloc(), &[], &[], 0, &[])
-}
-
-#[test]
-fn nodes_without_edges(rt: HostRuntime) -> Result<(), Fail> {
-    let wanted = [row_of(0, 0, 0), row_of(1, 1, 0), row_of(2, 2, 0)];
-    stand(&rt, rt.alloc(), &[&[], &[], &[]], &[0, 1, 2], 3, &wanted)
-}
-
-#[test]
-fn one_way_edge_joins_nothing(rt: HostRuntime) -> Result<(), Fail> {
-    let wanted = [row_of(2, 2, 0), row_of(0, 0, 1), row_of(1, 0, 1)];
-    stand(
-        &rt,
-        rt.alloc(),
-        &[&[1], &[0, 2], &[]],
-        &[0, 0, 2],
-        2,
-        &wanted,
-    )
-}
-
 // 0, 1 and 2 are a ring with an edge to 3; 3 and 4 lead to each other; 5 leads nowhere.
 #[test]
 fn ring_over_a_pair(rt: HostRuntime) -> Result<(), Fail> {
@@ -164,40 +140,6 @@ fn ring_over_a_pair(rt: HostRuntime) -> Result<(), Fail> {
 fn ring_of_seven_nodes_that_waits(rt: HostRuntime) -> Result<(), Fail> {
     let edges: [&[u64]; 6] = [&[1], &[2, 3], &[0], &[4], &[3, 6], &[0, 3]];
     stand(&rt, rt.alloc(), &edges, &[0, 0, 0, 3, 3, 5, 6], 0, &[])
-}
-
-// 3 waits for the missing 5, and 4 for 3; 0 and 1 lead to each other and 2 to both: they wait for none.
-#[test]
-fn only_some_wait(rt: HostRuntime) -> Result<(), Fail> {
-    let edges: [&[u64]; 5] = [&[1], &[0], &[1, 0], &[5, 0], &[3]];
-    let wanted = [row_of(0, 0, 0), row_of(1, 0, 0), row_of(2, 2, 1)];
-    stand(&rt, rt.alloc(), &edges, &[0, 0, 2, 3, 4, 5], 2, &wanted)
-}
-
-// Two rings that a long way back joins: 0 to 1 to 2 to 3 and back to 0, with 2 and 3 a ring of their own.
-#[test]
-fn way_back_joins_groups(rt: HostRuntime) -> Result<(), Fail> {
-    let edges: [&[u64]; 4] = [&[1], &[2], &[3], &[2, 0]];
-    let wanted = [
-        row_of(0, 0, 0),
-        row_of(1, 0, 0),
-        row_of(2, 0, 0),
-        row_of(3, 0, 0),
-    ];
-    stand(&rt, rt.alloc(), &edges, &[0, 0, 0, 0], 1, &wanted)
-}
-
-// The greater number is found first, and the least leads.
-#[test]
-fn least_node_leads(rt: HostRuntime) -> Result<(), Fail> {
-    let edges: [&[u64]; 4] = [&[3], &[2], &[3, 1], &[1]];
-    let wanted = [
-        row_of(1, 1, 0),
-        row_of(2, 1, 0),
-        row_of(3, 1, 0),
-        row_of(0, 0, 1),
-    ];
-    stand(&rt, rt.alloc(), &edges, &[0, 1, 1, 1], 2, &wanted)
 }
 
 #[test]

@@ -1,99 +1,13 @@
-//! Ids, keys, entries, plans and faults: orders, limits and printed texts.
+//! Ids, keys, entries, plans and replies: orders and limits.
 use crate::given::id;
-use epx_types::{Entry, Fault, Id, Key, Memory, Op, Place, Plan, Reply, Values, Why};
+use epx_types::{Entry, Id, Key, Memory, Op, Place, Plan, Reply, Values};
 use std::alloc::Global;
 use std::process::Abort;
 use std::test::Fail;
 
-/// The fault has this number, ends with this status and prints this text.
-fn tells(
-    rt: &impl Abort,
-    alloc: Global,
-    fault: Fault,
-    number: u8,
-    status: u8,
-    text: &str,
-) -> Result<(), Fail> {
-    assert!(rt; fault.number() == number);
-    assert!(rt; fault.status() == status);
-    assert!(rt; fault.text(alloc)?.as_str() == text);
-    Ok(())
-}
-
 const FIRST: Place = Place { log: 0, line: 12 };
 
 const SECOND: Place = Place { log: 63, line: 1 };
-
-#[test]
-fn faults_of_memory_and_devices(rt: HostRuntime) -> Result<(), Fail> {
-    let alloc = rt.alloc();
-    let memory = Fault::from(Memory);
-    tells(&rt, alloc, memory, 1, 3, "epx: fault 1: out of memory")?;
-    let read = Fault::Read { log: 0 };
-    tells(
-        &rt,
-        alloc,
-        read,
-        7,
-        4,
-        "epx: fault 7: log 0 can not be read",
-    )?;
-    let text = "epx: fault 8: the answer can not be written";
-    tells(&rt, alloc, Fault::Write, 8, 4, text)
-}
-
-#[test]
-fn faults_of_too_much(rt: HostRuntime) -> Result<(), Fail> {
-    let alloc = rt.alloc();
-    let text = "epx: fault 2: more than 64 logs";
-    tells(&rt, alloc, Fault::TooManyLogs, 2, 1, text)?;
-    let text = "epx: fault 3: log 7 is longer than 67108864 bytes";
-    tells(&rt, alloc, Fault::LogTooLong { log: 7 }, 3, 1, text)?;
-    let text = "epx: fault 5: more than 1048576 instances";
-    tells(&rt, alloc, Fault::TooManyInstances, 5, 1, text)
-}
-
-#[test]
-fn fault_of_a_bad_line(rt: HostRuntime) -> Result<(), Fail> {
-    let fault = Fault::BadLine {
-        place: FIRST,
-        why: Why::NotJson,
-    };
-    let text = "epx: fault 4: log 0 line 12: NotJson";
-    tells(&rt, rt.alloc(), fault, 4, 1, text)
-}
-
-#[test]
-fn fault_of_a_disagreement(rt: HostRuntime) -> Result<(), Fail> {
-    let fault = Fault::Disagree {
-        id: id(3, u64::MAX),
-        first: FIRST,
-        second: SECOND,
-    };
-    let text =
-        "epx: fault 6: instance 3.18446744073709551615 differs between log 0 line 12 and log 63 line 1";
-    tells(&rt, rt.alloc(), fault, 6, 1, text)
-}
-
-/// The fault of a line prints this name.
-fn prints(rt: &impl Abort, alloc: Global, why: Why, name: &str) -> Result<(), Fail> {
-    assert!(rt; why.to_string(alloc)?.as_str() == name);
-    Ok(())
-}
-
-#[test]
-fn each_line_fault_prints_its_name(rt: HostRuntime) -> Result<(), Fail> {
-    let alloc = rt.alloc();
-    prints(&rt, alloc, Why::TooLong, "TooLong")?;
-    prints(&rt, alloc, Why::NotJson, "NotJson")?;
-    prints(&rt, alloc, Why::NotObject, "NotObject")?;
-    prints(&rt, alloc, Why::Replica, "Replica")?;
-    prints(&rt, alloc, Why::Number, "Number")?;
-    prints(&rt, alloc, Why::Seq, "Seq")?;
-    prints(&rt, alloc, Why::Status, "Status")?;
-    prints(&rt, alloc, Why::Deps, "Deps")?;
-    prints(&rt, alloc, Why::Ops, "Ops")
-}
 
 /// Whether the text is a key, and then has it as its text and as that of its copy.
 fn is_key(rt: &impl Abort, alloc: Global, text: &str, wanted: bool) -> Result<(), Fail> {

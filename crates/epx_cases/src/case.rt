@@ -2,12 +2,13 @@
 use crate::directive::Directive;
 use crate::given::Given;
 use crate::line::add_line;
+use crate::meaning::meanings;
 use crate::outcome::{answer_given, deliver_given, task_named};
 use crate::words::words_text;
 use epx_tool::Task;
-use epx_types::Plan;
+use epx_types::{Memory, Plan};
 use std::alloc::Global;
-use std::io::{self, Print};
+use std::io::{self, ErrorKind, Print};
 use std::random::RandomSource;
 use std::thread::Threads;
 
@@ -27,16 +28,19 @@ const PLANS: [(usize, usize); 7] = [
 enum Subject<'a> {
     /// What these words ask for.
     Words(&'a str),
+    /// What each line of logs means.
+    Lines,
     /// What comes of texts.
     Task(Task),
 }
 
 fn subject_of(head: &str) -> Option<Subject<'_>> {
     let (command, name) = head.split_once(' ').unwrap_or((head, ""));
-    if command == "words" {
-        return Some(Subject::Words(name));
+    match command {
+        "words" => Some(Subject::Words(name)),
+        "lines" => Some(Subject::Lines),
+        _ => Some(Subject::Task(task_named(command)?)),
     }
-    Some(Subject::Task(task_named(command)?))
 }
 
 /// A command over texts, and the text that it must give.
@@ -83,14 +87,17 @@ impl<'a> Case<'a> {
             return self.given.add_line(alloc, line);
         };
         match (directive, self.subject) {
+            (Directive::Logs(count), Some(Subject::Task(_))) => {
+                self.given.begin_logs(alloc, count)?;
+            }
+            (Directive::Logs(count), Some(Subject::Lines)) => {
+                self.given.begin_logs(alloc, count)?;
+            }
             (Directive::Plan { workers, cut }, Some(Subject::Task(_))) => {
                 return self.add_plan(workers, cut);
             }
             (Directive::Base, Some(Subject::Task(Task::Resume))) => self.given.begin_first(),
             (Directive::List, Some(Subject::Task(Task::Check))) => self.given.begin_first(),
-            (Directive::Logs(count), Some(Subject::Task(_))) => {
-                self.given.begin_logs(alloc, count)?;
-            }
             (Directive::Gives(flow), Some(Subject::Task(_))) => return Ok(self.given.give(flow)),
             (Directive::Takes(flow), Some(Subject::Task(_))) => self.given.take(flow),
             _ => return Ok(false),
@@ -198,6 +205,10 @@ impl<'a> Case<'a> {
                 let found = words_text(alloc, words)?;
                 self.is_found(rt, alloc, "as words", &found)
             }
+            Some(Subject::Lines) => match meanings(alloc, &self.given.logs) {
+                Ok(found) => self.is_found(rt, alloc, "line by line", &found),
+                Err(Memory) => Err(io::Error::from(ErrorKind::OutOfMemory)),
+            },
             Some(Subject::Task(task)) => self.holds(rt, alloc, task),
         }
     }

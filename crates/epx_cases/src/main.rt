@@ -7,6 +7,7 @@ mod directive;
 mod flow;
 mod given;
 mod line;
+mod meaning;
 mod outcome;
 mod script;
 mod stage;
@@ -54,7 +55,7 @@ fn main(rt: HostRuntime) -> io::Result<ExitCode> {
     let status = start(&stage, env::args(&stage), input, &mut output);
     println!(rt; "== {status:?}")?;
 
-    println!(rt; "== words that could not be had for want of memory")?;
+    println!(rt; "== words that could not be had as memory ran out")?;
     let words = Err(io::Error::from(ErrorKind::OutOfMemory));
     let input = StdSource::new(rt.stdin());
     let mut output = StdSink::new(rt.stdout());

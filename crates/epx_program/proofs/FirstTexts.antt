@@ -8,8 +8,8 @@ use Rattle.epx_types.specs.Instances.{Instance}
 use Rattle.epx_words.specs.declared.asked.Task.{Task}
 use Rattle.epx_devices.specs.Deliveries.{FailRelation, ReadRelation}
 use Rattle.epx_devices.specs.Transfers.{AppendsPrefix}
-use Rattle.epx_tool.specs.Beside.{AnswersBeside}
-use Rattle.epx_tool.specs.BesideRuns.{IsRunFaultBeside}
+use Rattle.epx_tool.specs.WithInput.{AnswersWithInput}
+use Rattle.epx_tool.specs.RunsWithInput.{IsRunFaultWithInput}
 use Rattle.epx_tool.specs.DeliveredWithInput.{AnswersBoth}
 use Rattle.epx_tool.specs.Runs.{AreBytesOf}
 use Rattle.epx_program.specs.declared.work.FirstText.{FirstText}
@@ -21,13 +21,13 @@ use Rattle.epx_program.specs.Inputs.{HasFailedRead, OneHasFailedRead}
 module _ (task : Task) (IsBad : List ℕ → ℕ → Type 0)
     (Is : List ℕ → List Instance → List ℕ → Type 0)
     (answers : (text : List ℕ) (logs : List (List ℕ)) (answer : List ℕ)
-    → AnswersBeside IsBad Is text logs (Ok answer) → IsTaskAnswer task (text ∷ logs) (Ok answer))
+    → AnswersWithInput IsBad Is text logs (Ok answer) → IsTaskAnswer task (text ∷ logs) (Ok answer))
     (faults : (text : List ℕ) (logs : List (List ℕ)) (fault : Fault)
-    → IsRunFaultBeside IsBad Is text logs fault → IsTaskFault task (text ∷ logs) fault)
+    → IsRunFaultWithInput IsBad Is text logs fault → IsTaskFault task (text ∷ logs) fault)
     (old new : Option (List ℕ)) where
   abbrev IsWritten : (List ℕ → Type 0) → List ℕ → List (List ℕ) → Type 0
   IsWritten Written text logs =
-      (answer : List ℕ) × AnswersBeside IsBad Is text logs (Ok answer) × Written answer
+      (answer : List ℕ) × AnswersWithInput IsBad Is text logs (Ok answer) × Written answer
 
   -- where the bytes of all sources are known
   module _ {F S : Type 0} (before : F → Option (List ℕ)) (remaining : S → Option (List ℕ))
@@ -38,7 +38,7 @@ module _ (task : Task) (IsBad : List ℕ → ℕ → Type 0)
 
     pub comes_to : {A : Type 0} (done : Result A Fault)
         → OnOk done (OfKnown (IsWritten (Appends old new)))
-        → IfErr done (λ fault. OfKnown (λ text logs. IsRunFaultBeside IsBad Is text logs fault))
+        → IfErr done (λ fault. OfKnown (λ text logs. IsRunFaultWithInput IsBad Is text logs fault))
         → (IsErrOf done Write → OfKnown (IsWritten (AppendsPrefix old new)))
         → IfErr done (λ fault. fault ≢ Write → Keeps old new)
         → OfKnown (λ text logs. ComesTo task (text ∷ logs) done old new)

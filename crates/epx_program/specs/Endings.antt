@@ -10,7 +10,7 @@ use Rattle.epx_words.specs.declared.asked.Task.TheVariants.{Run, Order, Levels, 
 use Rattle.epx_base.specs.Bases.{IsBadBase}
 use Rattle.epx_base.specs.Lists.{IsBadList}
 use Rattle.epx_tool.specs.Answer.{Answers}
-use Rattle.epx_tool.specs.BesideRuns.{IsRunFaultBeside}
+use Rattle.epx_tool.specs.RunsWithInput.{IsRunFaultWithInput}
 use Rattle.epx_tool.specs.Checking.{Checks, IsChecked}
 use Rattle.epx_tool.specs.Report.{IsReport}
 use Rattle.epx_tool.specs.Resumption.{IsResumed, Resumes}
@@ -47,8 +47,8 @@ IsTaskFault Order texts fault = IsRunFault (IsViewed ask.Order) texts fault
 IsTaskFault Levels texts fault = IsRunFault (IsViewed ask.Levels) texts fault
 IsTaskFault Graph texts fault = IsRunFault (IsViewed ask.Graph) texts fault
 IsTaskFault Audit texts fault = IsRunFault (IsViewed ask.Audit) texts fault
-IsTaskFault Resume texts fault = on_first_and_logs (λ base logs. IsRunFaultBeside IsBadBase IsResumed base logs fault) texts
-IsTaskFault Check texts fault = on_first_and_logs (λ list logs. IsRunFaultBeside IsBadList IsChecked list logs fault) texts
+IsTaskFault Resume texts fault = on_first_and_logs (λ base logs. IsRunFaultWithInput IsBadBase IsResumed base logs fault) texts
+IsTaskFault Check texts fault = on_first_and_logs (λ list logs. IsRunFaultWithInput IsBadList IsChecked list logs fault) texts
 
 -- the text that the task asks for of these texts is added
 abbrev pub AppendsAnswer : Task → List (List ℕ) → Option (List ℕ) → Option (List ℕ) → Type 0

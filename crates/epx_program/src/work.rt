@@ -25,7 +25,7 @@ enum FirstText {
 }
 
 /// Goes on from the first text over the logs, or checks it against them.
-fn answer_beside<R: Threads + RandomSource + Sync, F: Source, S: Source, W: Sink>(
+fn answer_with_input<R: Threads + RandomSource + Sync, F: Source, S: Source, W: Sink>(
     rt: &R,
     alloc: Global,
     kind: FirstText,
@@ -72,11 +72,11 @@ fn answer_from_first<R: Threads + RandomSource + Sync, S: Source, W: Sink>(
         (W.contents output.new) }
 {
     match sources.split_first_mut() {
-        Some((first, logs)) => answer_beside(rt, alloc, kind, plan, first, logs, output),
+        Some((first, logs)) => answer_with_input(rt, alloc, kind, plan, first, logs, output),
         None => {
             let mut first = MemorySource::new(&[]);
             let mut logs: [MemorySource; 0] = [];
-            answer_beside(rt, alloc, kind, plan, &mut first, &mut logs, output)
+            answer_with_input(rt, alloc, kind, plan, &mut first, &mut logs, output)
         }
     }
 }

@@ -2,9 +2,9 @@ mod SourcesTaken
 mod SourcesRead
 mod SourcesDelivered
 mod OneAnswer
-mod LogsBeside
-mod OneAnswerBeside
-mod AnswersBesideExist
+mod LogsWithInput
+mod OneAnswerWithInput
+mod AnswersWithInputExist
 mod AnswersExist
 mod OrderedInstances
 mod AcceptedLogs

@@ -9,9 +9,9 @@ use Rattle.epx_base.proofs.ListLaws.{list_or_bad_list}
 use Rattle.epx_tool.specs.Checking.{IsChecked}
 use Rattle.epx_tool.specs.CheckingLaws.{CheckExists, CheckIsOne}
 use Rattle.epx_tool.specs.Verdicts.{IsVerdict, lawful_text, fault_text}
-use Rattle.epx_tool.proofs.AnswersBesideExist.{answer_beside_exists}
+use Rattle.epx_tool.proofs.AnswersWithInputExist.{answer_with_input_exists}
 use Rattle.epx_order.proofs.ListFaults.{lawful_or_fault}
-use Rattle.epx_tool.proofs.OneAnswerBeside.{AnswersBeside-unique}
+use Rattle.epx_tool.proofs.OneAnswerWithInput.{AnswersWithInput-unique}
 use Rattle.epx_tool.proofs.OneVerdict.{IsVerdict-unique}
 
 verdict_exists : (m : List Instance) (ids : List Id) → IsRising (ids_of m) → (text : List ℕ) × IsVerdict m ids text
@@ -43,7 +43,7 @@ module _ (list : List ℕ) where
       ]
 
 pub check_is_one : CheckIsOne
-check_is_one list logs = AnswersBeside-unique IsBadList list logs (one_bad_line list) IsChecked (checked_one list) (no_bad_list list)
+check_is_one list logs = AnswersWithInput-unique IsBadList list logs (one_bad_line list) IsChecked (checked_one list) (no_bad_list list)
 
 pub check_exists : CheckExists
-check_exists list logs = answer_beside_exists IsBadList IsChecked list (checked_or_bad list) logs
+check_exists list logs = answer_with_input_exists IsBadList IsChecked list (checked_or_bad list) logs

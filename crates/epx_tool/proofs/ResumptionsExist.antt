@@ -17,8 +17,8 @@ use Rattle.epx_tool.specs.Report.{commands_of}
 use Rattle.epx_tool.specs.ResumedReport.{IsReportAfter, resumed_text}
 use Rattle.epx_tool.specs.Resumption.{IsResumed}
 use Rattle.epx_tool.specs.ResumptionLaws.{ResumptionExists, ResumptionIsOne}
-use Rattle.epx_tool.proofs.AnswersBesideExist.{answer_beside_exists}
-use Rattle.epx_tool.proofs.OneAnswerBeside.{AnswersBeside-unique}
+use Rattle.epx_tool.proofs.AnswersWithInputExist.{answer_with_input_exists}
+use Rattle.epx_tool.proofs.OneAnswerWithInput.{AnswersWithInput-unique}
 
 IsReportAfter-unique : (done : List Id) (stored : Contents) (m : List Instance) (text other : List ℕ) → IsReportAfter done stored m text → IsReportAfter done stored m other → text ≡ other
 IsReportAfter-unique done stored m text other p q =
@@ -56,7 +56,7 @@ module _ (base : List ℕ) where
 
 pub resumption_is_one : ResumptionIsOne
 resumption_is_one base logs =
-    AnswersBeside-unique IsBadBase base logs (bad_line_one base) IsResumed (resumed_one base) (no_bad_base base)
+    AnswersWithInput-unique IsBadBase base logs (bad_line_one base) IsResumed (resumed_one base) (no_bad_base base)
 
 -- ---- an answer
 
@@ -68,4 +68,4 @@ report_or_bad base =
     ]
 
 pub resumption_exists : ResumptionExists
-resumption_exists base logs = answer_beside_exists IsBadBase IsResumed base (report_or_bad base) logs
+resumption_exists base logs = answer_with_input_exists IsBadBase IsResumed base (report_or_bad base) logs

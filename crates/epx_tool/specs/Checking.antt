@@ -4,7 +4,7 @@ use Rattle.epx_types.specs.declared.id.Id.{Id}
 use Rattle.epx_types.specs.declared.fault.Fault.{Fault}
 use Rattle.epx_types.specs.Instances.{Instance}
 use Rattle.epx_base.specs.Lists.{IsList, IsBadList}
-use Rattle.epx_tool.specs.Beside.{AnswersBeside}
+use Rattle.epx_tool.specs.WithInput.{AnswersWithInput}
 use Rattle.epx_tool.specs.Verdicts.{IsVerdict}
 
 -- what is found of the instances that the list names
@@ -13,4 +13,4 @@ IsChecked list m text = (ids : List Id) × IsList list ids × IsVerdict m ids te
 
 -- that text, or the first refusal
 abbrev pub Checks : List ℕ → List (List ℕ) → Result (List ℕ) Fault → Type 0
-Checks = AnswersBeside IsBadList IsChecked
+Checks = AnswersWithInput IsBadList IsChecked

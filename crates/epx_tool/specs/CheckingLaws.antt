@@ -11,7 +11,7 @@ use Rattle.epx_types.specs.ExecutionOrder.{Ranked, IsExecutionOrder, ranked_ids}
 use Rattle.epx_types.specs.LawfulOrders.{IsLawful, commands_in}
 use Rattle.epx_merge.specs.Acceptance.{IsAccepted}
 use Rattle.epx_base.specs.Lists.{IsList}
-use Rattle.epx_tool.specs.Beside.{IsShort}
+use Rattle.epx_tool.specs.WithInput.{IsShort}
 use Rattle.epx_tool.specs.Report.{commands_of}
 use Rattle.epx_tool.specs.Verdicts.{lawful_text}
 use Rattle.epx_tool.specs.Checking.{Checks}

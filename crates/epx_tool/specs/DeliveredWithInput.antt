@@ -4,7 +4,7 @@ use Rattle.epx_types.specs.declared.fault.Fault.{Fault}
 use Rattle.epx_types.specs.Instances.{Instance}
 use Rattle.epx_merge.specs.Refusals.{NoneTooLong}
 use Rattle.epx_devices.specs.Deliveries.{FailRelation, ReadRelation, DeliversAll, StopsLog}
-use Rattle.epx_tool.specs.Beside.{AnswersBeside, IsRefusalBeside}
+use Rattle.epx_tool.specs.WithInput.{AnswersWithInput, IsRefusalWithInput}
 use Rattle.epx_tool.specs.Delivered.{EachDelivers, StopsReading}
 
 -- the sources of all logs delivered them, none too long; reading stopped at the extra input, which
@@ -30,7 +30,7 @@ pub record AnswersBoth {I S : Type 0} (input_reads : ReadRelation I) (reads : Re
   pub logs : List (List ℕ)
   pub delivered : DeliversBoth input_reads reads first last old new input logs
   pub text : List ℕ
-  pub answer : AnswersBeside IsBad Is input logs (Ok text)
+  pub answer : AnswersWithInput IsBad Is input logs (Ok text)
   pub written : Written text
 
 -- an extra input and logs were delivered, of which this is the refusal
@@ -39,7 +39,7 @@ pub record RefusesBoth {I S : Type 0} (input_reads : ReadRelation I) (reads : Re
   pub input : List ℕ
   pub logs : List (List ℕ)
   pub delivered : DeliversBoth input_reads reads first last old new input logs
-  pub refusal : IsRefusalBeside IsBad input logs fault
+  pub refusal : IsRefusalWithInput IsBad input logs fault
 
 -- reading the logs, or then the extra input, stopped with this fault
 abbrev pub StopsReadingBoth : {I S : Type 0} → ReadRelation I → FailRelation I → ReadRelation S

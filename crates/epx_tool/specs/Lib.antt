@@ -6,7 +6,7 @@ pub mod LevelText
 pub mod AuditText
 pub mod Views
 pub mod Answer
-pub mod Beside
+pub mod WithInput
 pub mod Resumption
 pub mod Verdicts
 pub mod Checking
@@ -15,7 +15,7 @@ pub mod ResumptionLaws
 pub mod ResumableAnswers
 pub mod CheckingLaws
 pub mod Runs
-pub mod BesideRuns
+pub mod RunsWithInput
 pub mod Sources
 pub mod Delivered
 pub mod DeliveredWithInput

@@ -6,7 +6,7 @@ use Rattle.epx_types.specs.Contents.{Contents}
 use Rattle.epx_types.specs.Instances.{Instance}
 use Rattle.epx_base.specs.Bases.{IsBase, IsBadBase}
 use Rattle.epx_tool.specs.ResumedReport.{IsReportAfter}
-use Rattle.epx_tool.specs.Beside.{AnswersBeside}
+use Rattle.epx_tool.specs.WithInput.{AnswersWithInput}
 
 -- the report of what is left once what the base says is done, from what it says is stored
 abbrev pub IsResumed : List ℕ → List Instance → List ℕ → Type 0
@@ -14,4 +14,4 @@ IsResumed base m text = (done : List Id) × (stored : Contents) × IsBase base d
 
 -- that report, or the first refusal
 abbrev pub Resumes : List ℕ → List (List ℕ) → Result (List ℕ) Fault → Type 0
-Resumes = AnswersBeside IsBadBase IsResumed
+Resumes = AnswersWithInput IsBadBase IsResumed

@@ -2,28 +2,28 @@
 //! Devices and words are crates of their own below; whoever uses epx finds them here.
 #![tactic(auto)]
 
-mod answers;
+mod answer;
 mod ask;
-mod beside;
-mod checked_runs;
-mod checking;
+mod check;
 pub mod laws;
 mod report;
-mod resumed_runs;
-mod resuming;
-mod runs;
+mod resume;
+mod run;
+mod run_check;
+mod run_resume;
 mod sources;
 mod verdict;
+mod with_input;
 
-pub use answers::{answer, view};
+pub use answer::{answer, view};
 pub use ask::Ask;
-pub use checked_runs::run_check;
-pub use checking::check;
+pub use check::check;
 pub use epx_devices::{
     DeviceFault, FuseSink, FuseSource, MemorySink, MemorySource, PathSource, Sink, Source, StdSink,
     StdSource, read_log, write_out,
 };
 pub use epx_words::{Task, Words, read_words};
-pub use resumed_runs::run_resume;
-pub use resuming::resume;
-pub use runs::{run, show};
+pub use resume::resume;
+pub use run::{run, show};
+pub use run_check::run_check;
+pub use run_resume::run_resume;

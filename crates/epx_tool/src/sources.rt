@@ -5,8 +5,8 @@ ghost use Rattle.epx_devices.specs.Transfers.{ConsumesUpTo};
 ghost use Rattle.epx_merge.specs.Limits.{max_log_bytes};
 ghost use Rattle.epx_merge.specs.Refusals.{Fits};
 ghost use Rattle.epx_tool.specs.Runs.{AreBytesOf, IsReadingRefusal};
-ghost use Rattle.epx_tool.specs.Beside.{IsShort};
-ghost use Rattle.epx_tool.specs.BesideRuns.{IsReadingRefusalBeside};
+ghost use Rattle.epx_tool.specs.WithInput.{IsShort};
+ghost use Rattle.epx_tool.specs.RunsWithInput.{IsReadingRefusalWithInput};
 ghost use Rattle.epx_tool.specs.Sources.{EachConsumesUpTo, StopsAt};
 ghost use Rattle.epx_tool.specs.Delivered.{EachDelivers, StopsReading};
 ghost use Rattle.epx_tool.specs.DeliveredWithInput.{DeliversBoth, StopsReadingBoth};
@@ -56,43 +56,43 @@ pub(crate) fn read_sources<S: Source>(
 }
 
 /// The bytes of all sources, read in order, and then those of a source beside them.
-pub(crate) fn read_beside<B: Source, S: Source>(
+pub(crate) fn read_with_input<B: Source, S: Source>(
     alloc: Global,
-    beside: &mut B,
+    input: &mut B,
     sources: &mut [S],
 ) -> Result<(Vec<u8>, Vec<Vec<u8>>), Fault>
-    requires beside { B.has_failed beside.old ≡ false }
+    requires input { B.has_failed input.old ≡ false }
     requires sources { All (λ s. S.has_failed s ≡ false) sources.old }
 
-    ensures text { IfOk result (λ v. (before : _) → B.remaining beside.old ≡ Some before → v.0.items ≡ before) }
+    ensures text { IfOk result (λ v. (before : _) → B.remaining input.old ≡ Some before → v.0.items ≡ before) }
     ensures bytes { IfOk result (λ v. (logs : _) → AreBytesOf S.remaining sources.old logs → map (λ log. log.items) v.1.items ≡ logs) }
     ensures each { IfOk result (λ v. length v.1.items ≡ length sources.old) }
     ensures short { IfOk result (λ v. IsShort v.0.items) }
     ensures fit { IfOk result (λ v. Fits (map (λ log. log.items) v.1.items)) }
-    ensures delivered { IfOk result (λ v. DeliversBoth B.reads S.reads beside.old beside.new
+    ensures delivered { IfOk result (λ v. DeliversBoth B.reads S.reads input.old input.new
         sources.old sources.new v.0.items (map (λ log. log.items) v.1.items)) }
-    ensures refusal { IfErr result (λ fault. (before : _) (logs : _) → B.remaining beside.old ≡ Some before
-        → AreBytesOf S.remaining sources.old logs → IsReadingRefusalBeside before logs fault) }
+    ensures refusal { IfErr result (λ fault. (before : _) (logs : _) → B.remaining input.old ≡ Some before
+        → AreBytesOf S.remaining sources.old logs → IsReadingRefusalWithInput before logs fault) }
     ensures stopped { IfErr result (StopsReadingBoth B.reads B.fails S.reads S.fails
-        beside.old beside.new sources.old sources.new) }
+        input.old input.new sources.old sources.new) }
     ensures nothing_written { ¬ IsErrOf result Fault.Write }
     ensures failed { (log : _) (source : _) → slice_get sources.new log ≡ Some source → IsErrOf result (Fault.Read log) ↔ (S.has_failed source ≡ true) }
-    ensures beside_failed { IsErrOf result (Fault.Read (length sources.old)) ↔ (B.has_failed beside.new ≡ true) }
+    ensures input_failed { IsErrOf result (Fault.Read (length sources.old)) ↔ (B.has_failed input.new ≡ true) }
 
     ensures taken { EachConsumesUpTo S.remaining sources.old sources.new (max_log_bytes + 1) }
-    ensures beside_taken { ConsumesUpTo (B.remaining beside.old) (B.remaining beside.new) (max_log_bytes + 1) }
+    ensures input_taken { ConsumesUpTo (B.remaining input.old) (B.remaining input.new) (max_log_bytes + 1) }
     ensures ended { OnOk result (All (λ s. IsAtEnd (S.remaining s)) sources.new) }
-    ensures beside_ended { OnOk result (IsAtEnd (B.remaining beside.new)) }
+    ensures input_ended { OnOk result (IsAtEnd (B.remaining input.new)) }
     ensures no_further { (log : ℕ) → StopsAt result log → drop (log + 1) sources.new ≡ drop (log + 1) sources.old }
-    ensures beside_untouched { (log : ℕ) → StopsAt result log → log < length sources.old → beside.new ≡ beside.old }
+    ensures input_untouched { (log : ℕ) → StopsAt result log → log < length sources.old → input.new ≡ input.old }
     ensures too_many { IsErrOf result Fault.TooManyLogs ↔ (MAX_LOGS < length sources.old) }
-    ensures none_read { IsErrOf result Fault.TooManyLogs → (sources.new ≡ sources.old) × (beside.new ≡ beside.old) }
+    ensures none_read { IsErrOf result Fault.TooManyLogs → (sources.new ≡ sources.old) × (input.new ≡ input.old) }
 {
     let logs = match read_sources(alloc, sources) {
         Ok(logs) => logs,
         Err(fault) => return Err(fault),
     };
-    match read_log(alloc, sources.len(), beside) {
+    match read_log(alloc, sources.len(), input) {
         Ok(text) => Ok((text, logs)),
         Err(fault) => Err(fault),
     }

@@ -5,7 +5,7 @@ use Rattle.epx_program.proofs.work.answer_from_first.Goals as goal
 
 pub returns-in-Some : goal.returns-in-Some
 returns-in-Some g c =
-    let run = c.answer_beside in
+    let run = c.answer_with_input in
     let task = task_over c.args.kind in
     let all : c.args.sources.now ≡ c.in-Some.first.now ∷ c.in-Some.logs.now =
     c.in-Some.ensures.cases.0 in
@@ -28,7 +28,7 @@ returns-in-Some g c =
 
 pub returns-in-None : goal.returns-in-None
 returns-in-None g c =
-    let run = c.answer_beside-in-None in
+    let run = c.answer_with_input-in-None in
     let task = task_over c.args.kind in
     let none = c.in-None.ensures.cases in
     let old = g.W.Sink.contents c.args.output.now in

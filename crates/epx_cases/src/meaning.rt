@@ -1,0 +1,26 @@
+//! What the lines of logs mean, each by itself.
+use epx_lines::{Line, LineFault, cut_lines, read_line, write_line};
+use epx_types::Memory;
+use std::alloc::Global;
+
+/// What a line means: `blank`, its fault, or its instance as it is written.
+fn meaning(alloc: Global, line: &[u8]) -> Result<String, Memory> {
+    match read_line(alloc, line) {
+        Ok(Line::Blank) => Ok(String::from_str(alloc, "blank")?),
+        Ok(Line::Entry(entry)) => write_line(alloc, &entry),
+        Err(LineFault::Bad(why)) => Ok(why.to_string(alloc)?),
+        Err(LineFault::Memory) => Err(Memory),
+    }
+}
+
+/// What each line of the logs means, a line each.
+pub(crate) fn meanings(alloc: Global, logs: &[Vec<u8>]) -> Result<Vec<u8>, Memory> {
+    let mut text = Vec::new(alloc);
+    for log in logs {
+        for line in &cut_lines(alloc, log)? {
+            text.extend_from_slice(meaning(alloc, line)?.as_bytes())?;
+            text.push(b'\n')?;
+        }
+    }
+    Ok(text)
+}

@@ -1,0 +1,229 @@
+//! The answer to logs.
+ghost use Rattle.std.specs.Prelude.{◌≡◌, ◌≤◌, length, map, IfOk, MatchResult, Ok, Err};
+ghost use Rattle.epx_types.specs.CommittedMap.{instance_of};
+ghost use Rattle.epx_types.specs.Ids.{IsRising};
+ghost use Rattle.epx_merge.specs.Limits.{max_instances};
+ghost use Rattle.epx_tool.specs.Answer.{Answers, IsAnswer};
+ghost use Rattle.epx_tool.specs.OrderText.{IsOrderText};
+ghost use Rattle.epx_tool.specs.LevelText.{IsLevelText};
+ghost use Rattle.epx_tool.specs.AuditText.{IsAuditText};
+ghost use Rattle.epx_tool.specs.Report.{ops_of, IsReport};
+ghost use Rattle.epx_tool.specs.ResumedReport.{resumed_text, IsReportAfter};
+ghost use Rattle.epx_tool.specs.Views.{IsViewed};
+ghost use Rattle.epx_picture.specs.Pictures.{IsPicture};
+
+use crate::ask::Ask;
+use crate::report::{level_report, order_report, report};
+use crate::verdict::audit_line;
+use epx_apply::{levels, run_order};
+use epx_claims::FreeGate;
+use epx_graph::{Waiter, build, build_after, waiting};
+use epx_merge::{Merged, read_logs};
+use epx_order::{OrderList, audit, order};
+use epx_picture::picture;
+use epx_txn::Store;
+use epx_types::{Command, Fault, Id, Memory, Plan, Reply};
+use std::alloc::Global;
+use std::random::RandomSource;
+use std::thread::{Threads, join};
+
+/// The commands of these instances.
+fn commands<'a>(alloc: Global, merged: &'a Merged, ids: &[Id]) -> Result<Vec<Command<'a>>, Memory>
+    ensures { IfOk result (λ commands. map (λ c. c.ops.now) commands.items ≡ map (λ x. ops_of (instance_of merged.now x)) ids.now) }
+{
+    let mut commands = Vec::with_capacity(alloc, ids.len())?;
+    for id in ids {
+        let ops = match merged.get(*id) {
+            Some(entry) => entry.ops(),
+            None => &[],
+        };
+        commands.push(Command { id: *id, ops })?;
+    }
+    Ok(commands)
+}
+
+/// The report of what was executed. The map is not needed for it, and is freed at the same time by a thread of its own
+/// where there are several workers.
+fn write_report<R: Threads + Sync>(
+    rt: &R,
+    alloc: Global,
+    plan: Plan,
+    merged: Merged,
+    done: &[Id],
+    order: &OrderList,
+    waiters: &[Waiter],
+    replies: &[Reply],
+    store: &Store,
+) -> Result<Vec<u8>, Memory>
+    ensures { IfOk result (λ text. text.items ≡ resumed_text done.now order.now waiters.now (record { replies = replies.now; final = store.now })) }
+{
+    if plan.workers() == 1 {
+        drop(merged);
+        return report(alloc, done, order, waiters, replies, store);
+    }
+    let (_, text) = join(
+        rt,
+        move || drop(merged),
+        || -> Result<Vec<u8>, Memory>
+            ensures { IfOk result (λ text. text.items ≡ resumed_text done.entry.now order.entry.now waiters.entry.now (record { replies = replies.entry.now; final = store.entry.now })) }
+        { report(alloc, done, order, waiters, replies, store) },
+    );
+    text
+}
+
+/// The report of what is left of a committed map once some instances are done, given by rising Id, from a store.
+pub(crate) fn report_of<R: Threads + RandomSource + Sync>(
+    rt: &R,
+    alloc: Global,
+    merged: Merged,
+    done: &[Id],
+    mut store: Store,
+    plan: Plan,
+) -> Result<Vec<u8>, Memory>
+    requires few { length merged ≤ max_instances }
+    requires rising { IsRising done.now }
+    ensures { IfOk result (λ text. IsReportAfter done.now store merged text.items) }
+{
+    let graph = build_after(rt, alloc, &merged, done, plan)?;
+    let order = order(rt, alloc, &merged, &graph)?;
+    let waiters = waiting(alloc, &graph)?;
+    drop(graph);
+    let commands = commands(alloc, &merged, order.ids())?;
+    let replies = run_order(rt, alloc, &mut store, &commands, plan, &FreeGate)?;
+    drop(commands);
+    write_report(
+        rt, alloc, plan, merged, done, &order, &waiters, &replies, &store,
+    )
+}
+
+/// The report of a committed map, of which nothing is done.
+fn report_whole<R: Threads + RandomSource + Sync>(
+    rt: &R,
+    alloc: Global,
+    merged: Merged,
+    plan: Plan,
+) -> Result<Vec<u8>, Memory>
+    requires few { length merged ≤ max_instances }
+    ensures { IfOk result (λ text. IsReport merged text.items) }
+{
+    report_of(rt, alloc, merged, &[], Store::new(alloc), plan)
+}
+
+/// The execution order of a committed map, as text.
+fn order_of<R: Threads + Sync>(
+    rt: &R,
+    alloc: Global,
+    merged: &Merged,
+    plan: Plan,
+) -> Result<Vec<u8>, Memory>
+    ensures { IfOk result (λ text. IsOrderText merged.now text.items) }
+{
+    let graph = build(rt, alloc, merged, plan)?;
+    let order = order(rt, alloc, merged, &graph)?;
+    let waiters = waiting(alloc, &graph)?;
+    order_report(alloc, &order, &waiters)
+}
+
+/// The execution order of a committed map with the conflict levels of its commands, as text.
+fn levels_of<R: Threads + Sync>(
+    rt: &R,
+    alloc: Global,
+    merged: &Merged,
+    plan: Plan,
+) -> Result<Vec<u8>, Memory>
+    ensures { IfOk result (λ text. IsLevelText merged.now text.items) }
+{
+    let graph = build(rt, alloc, merged, plan)?;
+    let order = order(rt, alloc, merged, &graph)?;
+    let waiters = waiting(alloc, &graph)?;
+    let commands = commands(alloc, merged, order.ids())?;
+    let levels = levels(alloc, &commands)?;
+    level_report(alloc, &order, &waiters, &levels)
+}
+
+/// Whether a committed map is covered, as text.
+fn audit_of<R: Threads + Sync>(
+    rt: &R,
+    alloc: Global,
+    merged: &Merged,
+    plan: Plan,
+) -> Result<Vec<u8>, Memory>
+    ensures { IfOk result (λ text. IsAuditText merged.now text.items) }
+{
+    let graph = build(rt, alloc, merged, plan)?;
+    let order = order(rt, alloc, merged, &graph)?;
+    let found = audit(alloc, merged, &graph, &order)?;
+    audit_line(alloc, found)
+}
+
+/// The dependency graph of a committed map, as a picture.
+fn picture_of<R: Threads + Sync>(
+    rt: &R,
+    alloc: Global,
+    merged: &Merged,
+    plan: Plan,
+) -> Result<Vec<u8>, Memory>
+    ensures { IfOk result (λ text. IsPicture merged.now text.items) }
+{
+    let graph = build(rt, alloc, merged, plan)?;
+    picture(alloc, merged, &graph)
+}
+
+/// The report of the logs, or their first refusal. The answer is the same for every plan.
+pub fn answer<R: Threads + RandomSource + Sync>(
+    rt: &R,
+    alloc: Global,
+    logs: &[Vec<u8>],
+    plan: Plan,
+) -> Result<Vec<u8>, Fault>
+    ensures { let bytes = map (λ log. log.items) logs.now in
+        MatchResult result (λ text. IsAnswer bytes (Ok text.items)) (λ fault. IsAnswer bytes (Err fault)) }
+{
+    let merged = match read_logs(rt, alloc, logs, plan, &FreeGate) {
+        Ok(merged) => merged,
+        Err(fault) => return Err(fault),
+    };
+    Ok(report_whole(rt, alloc, merged, plan)?)
+}
+
+/// As `answer`, of logs that are freed once they are read.
+pub(crate) fn answer_owned<R: Threads + RandomSource + Sync>(
+    rt: &R,
+    alloc: Global,
+    logs: Vec<Vec<u8>>,
+    plan: Plan,
+) -> Result<Vec<u8>, Fault>
+    ensures { let bytes = map (λ log. log.items) logs.items in
+        MatchResult result (λ text. IsAnswer bytes (Ok text.items)) (λ fault. IsAnswer bytes (Err fault)) }
+{
+    let merged = match read_logs(rt, alloc, &logs, plan, &FreeGate) {
+        Ok(merged) => merged,
+        Err(fault) => return Err(fault),
+    };
+    drop(logs);
+    let text = report_whole(rt, alloc, merged, plan)?;
+    Ok(text)
+}
+
+/// As `answer`, with the text that is asked for in place of the report.
+pub fn view<R: Threads + RandomSource + Sync>(
+    rt: &R,
+    alloc: Global,
+    ask: Ask,
+    logs: &[Vec<u8>],
+    plan: Plan,
+) -> Result<Vec<u8>, Fault>
+    ensures { let bytes = map (λ log. log.items) logs.now in
+        MatchResult result (λ text. Answers (IsViewed ask) bytes (Ok text.items)) (λ fault. Answers (IsViewed ask) bytes (Err fault)) }
+{
+    let merged = match read_logs(rt, alloc, logs, plan, &FreeGate) {
+        Ok(merged) => merged,
+        Err(fault) => return Err(fault),
+    };
+    match ask {
+        Ask::Order => Ok(order_of(rt, alloc, &merged, plan)?),
+        Ask::Levels => Ok(levels_of(rt, alloc, &merged, plan)?),
+        Ask::Audit => Ok(audit_of(rt, alloc, &merged, plan)?),
+        Ask::Graph => Ok(picture_of(rt, alloc, &merged, plan)?),
+    }
+}

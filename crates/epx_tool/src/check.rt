@@ -1,0 +1,97 @@
+//! Checking a list of instances against the orders that the protocol allows.
+ghost use Rattle.std.specs.Prelude.{map, IfOk, MatchResult, Ok, Err};
+ghost use Rattle.epx_base.specs.Lists.{IsList, IsBadList};
+ghost use Rattle.epx_merge.specs.Acceptance.{IsAccepted};
+ghost use Rattle.epx_tool.specs.WithInput.{IsRefusalWithInput, IsShort};
+ghost use Rattle.epx_tool.specs.Checking.{Checks};
+ghost use Rattle.epx_tool.specs.Verdicts.{IsVerdict};
+
+use crate::verdict::verdict_line;
+use crate::with_input::merge_before;
+use epx_base::read_list;
+use epx_graph::build;
+use epx_merge::Merged;
+use epx_order::check_order;
+use epx_types::{Fault, Id, Memory, Plan};
+use std::alloc::Global;
+use std::random::RandomSource;
+use std::thread::Threads;
+
+/// The committed map of the logs and, once they are not refused, the instances that the list names.
+fn read_in_turn<R: Threads + RandomSource + Sync>(
+    rt: &R,
+    alloc: Global,
+    list: &[u8],
+    logs: &[Vec<u8>],
+    plan: Plan,
+) -> Result<(Merged, Vec<Id>), Fault>
+    ensures { let bytes = map (λ log. log.items) logs.now in MatchResult result
+        (λ read. IsShort list.now × IsAccepted bytes read.0 × IsList list.now read.1.items)
+        (IsRefusalWithInput IsBadList list.now bytes) }
+{
+    let merged = match merge_before(rt, alloc, list, logs, plan) {
+        Ok(merged) => merged,
+        Err(fault) => return Err(fault),
+    };
+    match read_list(alloc, list) {
+        Ok(ids) => Ok((merged, ids)),
+        Err(fault) => Err(Fault::from(fault)),
+    }
+}
+
+/// What is found of a list of instances, over a committed map.
+fn verdict_of<R: Threads + Sync>(
+    rt: &R,
+    alloc: Global,
+    merged: &Merged,
+    ids: &[Id],
+    plan: Plan,
+) -> Result<Vec<u8>, Memory>
+    ensures { IfOk result (λ text. IsVerdict merged.now ids.now text.items) }
+{
+    let graph = build(rt, alloc, merged, plan)?;
+    let found = check_order(alloc, merged, &graph, ids);
+    verdict_line(alloc, found)
+}
+
+/// Whether the instances that a list names, one a line as `[r,i]`, are in a lawful order of what the logs commit, as one
+/// line of text: `["lawful"]`, or what is wrong with the list, by name, with the place, counted from 0, or the instance
+/// that is missing. Or the first refusal: the list counts as one more log where it is asked which is too long, and its
+/// own bad line comes after all that is wrong with the logs. The answer is the same for every plan.
+pub fn check<R: Threads + RandomSource + Sync>(
+    rt: &R,
+    alloc: Global,
+    list: &[u8],
+    logs: &[Vec<u8>],
+    plan: Plan,
+) -> Result<Vec<u8>, Fault>
+    ensures { let bytes = map (λ log. log.items) logs.now in
+        MatchResult result (λ text. Checks list.now bytes (Ok text.items)) (λ fault. Checks list.now bytes (Err fault)) }
+{
+    let (merged, ids) = match read_in_turn(rt, alloc, list, logs, plan) {
+        Ok(read) => read,
+        Err(fault) => return Err(fault),
+    };
+    Ok(verdict_of(rt, alloc, &merged, &ids, plan)?)
+}
+
+/// As `check`, of a list and logs that are freed once they are read.
+pub(crate) fn check_owned<R: Threads + RandomSource + Sync>(
+    rt: &R,
+    alloc: Global,
+    list: Vec<u8>,
+    logs: Vec<Vec<u8>>,
+    plan: Plan,
+) -> Result<Vec<u8>, Fault>
+    ensures { let bytes = map (λ log. log.items) logs.items in
+        MatchResult result (λ text. Checks list.items bytes (Ok text.items)) (λ fault. Checks list.items bytes (Err fault)) }
+{
+    let read = read_in_turn(rt, alloc, &list, &logs, plan);
+    drop(logs);
+    drop(list);
+    let (merged, ids) = match read {
+        Ok(read) => read,
+        Err(fault) => return Err(fault),
+    };
+    Ok(verdict_of(rt, alloc, &merged, &ids, plan)?)
+}
