@@ -2,9 +2,9 @@ pub mod RepliesAtPlaces
 pub mod JoinedPieces
 pub mod LevelEffects
 pub mod ByLevel
-pub mod AskedKeys
+pub mod AccessedKeys
 pub mod NumberedKeys
-pub mod Bars
+pub mod KeyLevelsLemmas
 pub mod Tables
 pub mod Levelled
 pub mod Laying

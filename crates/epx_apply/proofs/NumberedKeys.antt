@@ -10,9 +10,9 @@ use Rattle.epx_types.proofs.Membership.{Contains-nil, Contains-cons_cases}
 use Rattle.epx_types.proofs.Places.{slice_get-map}
 use Rattle.epx_types.specs.declared.op.Op.{Op}
 use Rattle.epx_apply.specs.declared.key_table.Access.{Access}
-use Rattle.epx_apply.specs.declared.key_table.Bar.{Bar}
-use Rattle.epx_apply.specs.KeyTables.{key_at, no_bar, IsTableOf}
-use Rattle.epx_apply.proofs.Tables.{grow, ask_known}
+use Rattle.epx_apply.specs.declared.key_table.KeyLevels.{KeyLevels}
+use Rattle.epx_apply.specs.KeyTables.{key_at, no_levels, IsTableOf}
+use Rattle.epx_apply.proofs.Tables.{grow, access_known}
 
 abbrev pub texts_of : List (Bor (List ℕ)) → List (List ℕ)
 texts_of ks = map (λ k. k.now) ks
@@ -41,8 +41,8 @@ absent k (j ∷ ks) none h =
 at_number : {X : Type 0} (xs : List X) (i : ℕ) (x d : X) → slice_get xs i ≡ Some x → (i < length xs) × (get_or xs i d ≡ x)
 at_number xs i x d e = (slice_get_within xs i x e, get_or_from_slice_get xs i x d e)
 
-module _ (done : List (List Op × ℕ)) (asked : List (List ℕ × Bool)) (ks ks' : List (Bor (List ℕ))) (bars : List Bar) (accesses : List Access) (k : Bor (List ℕ)) (key : List ℕ) (w : Bool) (number : ℕ) (text : k.now ≡ key)
-    (is : IsTableOf done asked (record { keys = texts_of ks; bars = bars; accesses = accesses }))
+module _ (done : List (List Op × ℕ)) (current : List (List ℕ × Bool)) (ks ks' : List (Bor (List ℕ))) (key_levels : List KeyLevels) (accesses : List Access) (k : Bor (List ℕ)) (key : List ℕ) (w : Bool) (number : ℕ) (text : k.now ≡ key)
+    (is : IsTableOf done current (record { keys = texts_of ks; key_levels = key_levels; accesses = accesses }))
     (keys : ks' ≡ (if list_any (same_text k) ks then ks else ks ++ k ∷ []))
     (stored : (x : Bor (List ℕ)) × (slice_get ks' number ≡ Some x) × (bytes_eq k.now x.now ≡ true)) where
   at : (number < length (texts_of ks')) × (key_at (texts_of ks') number ≡ key)
@@ -50,17 +50,17 @@ module _ (done : List (List Op × ℕ)) (asked : List (List ℕ × Bool)) (ks ks
       let read = at_number (texts_of ks') number stored.0.now [] (slice_get-map (λ (j : Bor (List ℕ)). j.now) ks' number stored.0 stored.1) in
       (read.0, read.1 ∙ sym ((bytes_eq-Decides k.now stored.0.now).0 stored.2) ∙ text)
 
-  pub asked_new : list_any (same_text k) ks ≡ false
-      → IsTableOf done (asked ++ (key, w) ∷ []) (record { keys = texts_of ks'; bars = bars ++ no_bar ∷ []; accesses = accesses ++ record { key = number; writes = w } ∷ [] })
-  asked_new none =
+  pub current_new : list_any (same_text k) ks ≡ false
+      → IsTableOf done (current ++ (key, w) ∷ []) (record { keys = texts_of ks'; key_levels = key_levels ++ no_levels ∷ []; accesses = accesses ++ record { key = number; writes = w } ∷ [] })
+  current_new none =
       let pushed : texts_of ks' ≡ texts_of ks ++ k.now ∷ [] = ap texts_of (keys ∙ ap (λ b. if b then ks else ks ++ k ∷ []) none) ∙ map-append (λ (j : Bor (List ℕ)). j.now) ks (k ∷ []) in
-      let grown = grow done asked (record { keys = texts_of ks; bars = bars; accesses = accesses }) is k.now (absent k ks none) in
-      ask_known done asked (record { keys = texts_of ks'; bars = bars ++ no_bar ∷ []; accesses = accesses })
-      (subst (λ qs. IsTableOf done asked (record { keys = qs; bars = bars ++ no_bar ∷ []; accesses = accesses })) (sym pushed) grown) number key w at.0 at.1
+      let grown = grow done current (record { keys = texts_of ks; key_levels = key_levels; accesses = accesses }) is k.now (absent k ks none) in
+      access_known done current (record { keys = texts_of ks'; key_levels = key_levels ++ no_levels ∷ []; accesses = accesses })
+      (subst (λ qs. IsTableOf done current (record { keys = qs; key_levels = key_levels ++ no_levels ∷ []; accesses = accesses })) (sym pushed) grown) number key w at.0 at.1
 
-  pub asked_known : list_any (same_text k) ks ≡ true
-      → IsTableOf done (asked ++ (key, w) ∷ []) (record { keys = texts_of ks'; bars = bars; accesses = accesses ++ record { key = number; writes = w } ∷ [] })
-  asked_known found =
+  pub current_known : list_any (same_text k) ks ≡ true
+      → IsTableOf done (current ++ (key, w) ∷ []) (record { keys = texts_of ks'; key_levels = key_levels; accesses = accesses ++ record { key = number; writes = w } ∷ [] })
+  current_known found =
       let kept : ks' ≡ ks = keys ∙ ap (λ b. if b then ks else ks ++ k ∷ []) found in
-      ask_known done asked (record { keys = texts_of ks'; bars = bars; accesses = accesses })
-      (subst (λ qs. IsTableOf done asked (record { keys = texts_of qs; bars = bars; accesses = accesses })) (sym kept) is) number key w at.0 at.1
+      access_known done current (record { keys = texts_of ks'; key_levels = key_levels; accesses = accesses })
+      (subst (λ qs. IsTableOf done current (record { keys = texts_of qs; key_levels = key_levels; accesses = accesses })) (sym kept) is) number key w at.0 at.1

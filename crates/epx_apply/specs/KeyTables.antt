@@ -1,36 +1,36 @@
--- Tables that hold, for each key, how high the commands so far stand that touch it and that write it.
+-- Tables that hold, for each key, how high the commands so far are that touch it and that write it.
 use Rattle.std.specs.Prelude.{◌≡◌, ◌⊎◌, ℕ, suc, max, ◌<◌, Bool, true, false, List, [], ◌∷◌, ◌++◌, if◌then◌else◌, length, map, flat_map, slice_index_or, slice_set, Contains}
 use Rattle.epx_types.specs.declared.op.Op.{Op}
 use Rattle.epx_types.specs.declared.op.Op.TheVariants.{Get, Put, Del, Add, Is, Floor, Copy}
 use Rattle.epx_types.specs.CommandKeys.{touched_by, written_by}
 use Rattle.epx_types.specs.Conflicts.{Conflict}
-use Rattle.epx_apply.specs.declared.key_table.Bar.{Bar}
+use Rattle.epx_apply.specs.declared.key_table.KeyLevels.{KeyLevels}
 use Rattle.epx_apply.specs.declared.key_table.Access.{Access}
 
--- keys by their numbers, what stands at each, and the keys of the command at hand
+-- keys by their numbers, the levels at each, and the accesses of the current command
 pub record Table : Type 0 where
   pub keys : List (List ℕ)
-  pub bars : List Bar
+  pub key_levels : List KeyLevels
   pub accesses : List Access
 
-abbrev pub no_bar : Bar
-no_bar = record { writers = 0; touchers = 0 }
+abbrev pub no_levels : KeyLevels
+no_levels = record { writers = 0; touchers = 0 }
 
-abbrev pub bar_at : List Bar → ℕ → Bar
-bar_at bars x = slice_index_or bars x no_bar
+abbrev pub key_levels_at : List KeyLevels → ℕ → KeyLevels
+key_levels_at key_levels x = slice_index_or key_levels x no_levels
 
 abbrev pub key_at : List (List ℕ) → ℕ → List ℕ
 key_at keys x = slice_index_or keys x []
 
 -- the keys of an operation, each with whether it is written
-abbrev pub asked_by : Op → List (List ℕ × Bool)
-asked_by (Get k) = (k, false) ∷ []
-asked_by (Put k v) = (k, true) ∷ []
-asked_by (Del k) = (k, true) ∷ []
-asked_by (Add k n) = (k, true) ∷ []
-asked_by (Is k v) = (k, false) ∷ []
-asked_by (Floor k least) = (k, false) ∷ []
-asked_by (Copy k j) = (k, false) ∷ (j, true) ∷ []
+abbrev pub accesses_of : Op → List (List ℕ × Bool)
+accesses_of (Get k) = (k, false) ∷ []
+accesses_of (Put k v) = (k, true) ∷ []
+accesses_of (Del k) = (k, true) ∷ []
+accesses_of (Add k n) = (k, true) ∷ []
+accesses_of (Is k v) = (k, false) ∷ []
+accesses_of (Floor k least) = (k, false) ∷ []
+accesses_of (Copy k j) = (k, false) ∷ (j, true) ∷ []
 
 abbrev pub touched_in : List Op → List (List ℕ)
 touched_in ops = flat_map touched_by ops
@@ -39,34 +39,34 @@ abbrev pub written_in : List Op → List (List ℕ)
 written_in ops = flat_map written_by ops
 
 -- one above the greatest level of the commands that have the key among theirs, or 0 where none has
-pub record IsBar (keys_of : List Op → List (List ℕ)) (done : List (List Op × ℕ)) (k : List ℕ) (n : ℕ) : Type 0 where
+pub record IsLevelAbove (keys_of : List Op → List (List ℕ)) (done : List (List Op × ℕ)) (k : List ℕ) (n : ℕ) : Type 0 where
   pub above : (ops : List Op) (l : ℕ) → Contains done (ops, l) → Contains (keys_of ops) k → l < n
   pub reached : (n ≡ 0) ⊎ ((ops : List Op) × (l : ℕ) × Contains done (ops, l) × Contains (keys_of ops) k × (n ≡ suc l))
 
--- the table of commands with their levels, and of a command at hand whose keys so far are those asked for
-pub record IsTableOf (done : List (List Op × ℕ)) (asked : List (List ℕ × Bool)) (t : Table) : Type 0 where
+-- the table of commands with their levels, and of a current command whose keys so far are these
+pub record IsTableOf (done : List (List Op × ℕ)) (current : List (List ℕ × Bool)) (t : Table) : Type 0 where
   pub small : (ops : List Op) (l : ℕ) → Contains done (ops, l) → l < length done
   pub known : (ops : List Op) (l : ℕ) (k : List ℕ) → Contains done (ops, l) → Contains (touched_in ops) k → Contains t.keys k
   pub lone : (x y : ℕ) → x < length t.keys → y < length t.keys → key_at t.keys x ≡ key_at t.keys y → x ≡ y
-  pub bars : length t.bars ≡ length t.keys
-  pub touchers : (x : ℕ) → x < length t.keys → IsBar touched_in done (key_at t.keys x) (bar_at t.bars x).touchers
-  pub writers : (x : ℕ) → x < length t.keys → IsBar written_in done (key_at t.keys x) (bar_at t.bars x).writers
-  pub keys_asked : map (λ a. (key_at t.keys a.key, a.writes)) t.accesses ≡ asked
+  pub key_levels : length t.key_levels ≡ length t.keys
+  pub touchers : (x : ℕ) → x < length t.keys → IsLevelAbove touched_in done (key_at t.keys x) (key_levels_at t.key_levels x).touchers
+  pub writers : (x : ℕ) → x < length t.keys → IsLevelAbove written_in done (key_at t.keys x) (key_levels_at t.key_levels x).writers
+  pub current_keys : map (λ a. (key_at t.keys a.key, a.writes)) t.accesses ≡ current
   pub within : (a : Access) → Contains t.accesses a → a.key < length t.keys
 
--- the table asks for these keys too
-abbrev pub Asks : List (List ℕ × Bool) → Table → Table → Type 0
-Asks more old new = (done : List (List Op × ℕ)) (asked : List (List ℕ × Bool)) → IsTableOf done asked old → IsTableOf done (asked ++ more) new
+-- the table has these accesses too
+abbrev pub AddsAccesses : List (List ℕ × Bool) → Table → Table → Type 0
+AddsAccesses more old new = (done : List (List Op × ℕ)) (current : List (List ℕ × Bool)) → IsTableOf done current old → IsTableOf done (current ++ more) new
 
--- how high a command must stand for one of its keys
-abbrev pub bar_of : List Bar → Access → ℕ
-bar_of bars a = if a.writes then (bar_at bars a.key).touchers else (bar_at bars a.key).writers
+-- the least level of a command for one of its keys
+abbrev pub level_for : List KeyLevels → Access → ℕ
+level_for key_levels a = if a.writes then (key_levels_at key_levels a.key).touchers else (key_levels_at key_levels a.key).writers
 
--- the bar of one key of a command raised to at least n
-abbrev pub raise : ℕ → List Bar → Access → List Bar
-raise n bars a = slice_set bars a.key (record {
-  writers = if a.writes then max (bar_at bars a.key).writers n else (bar_at bars a.key).writers;
-  touchers = max (bar_at bars a.key).touchers n;
+-- the levels at one key of a command raised to at least n
+abbrev pub raise : ℕ → List KeyLevels → Access → List KeyLevels
+raise n key_levels a = slice_set key_levels a.key (record {
+  writers = if a.writes then max (key_levels_at key_levels a.key).writers n else (key_levels_at key_levels a.key).writers;
+  touchers = max (key_levels_at key_levels a.key).touchers n;
 })
 
 -- the level of a command that comes after those done: above each that conflicts with it, and no higher than it must

@@ -1,7 +1,7 @@
-//! How high the commands so far stand that touch each key, and that write it.
+//! How high the commands so far are that touch each key, and that write it.
 ghost use Rattle.std.specs.Prelude.{◌≡◌, ◌<◌, ◌^◌, ◌+◌, ℕ, List, [], ◌∷◌, length, max, flat_map, fold, All, IfOk, OnOk};
 ghost use Rattle.epx_types.specs.declared.op.Op.{Op};
-ghost use Rattle.epx_apply.specs.KeyTables.{IsTableOf, Asks, Notes, asked_by, bar_of, raise};
+ghost use Rattle.epx_apply.specs.KeyTables.{IsTableOf, AddsAccesses, Notes, accesses_of, level_for, raise};
 
 use epx_seed::Seed;
 use epx_types::{Key, Memory, Op};
@@ -9,9 +9,10 @@ use indexmap::IndexSet;
 use std::alloc::Global;
 use std::marker::Model;
 
-/// What stands at a key, each number one above the greatest level, or 0 where there is none.
+/// How high the commands are that use a key: each number is one above their greatest level, or 0
+/// where there is none.
 #[derive(Clone, Copy, Debug)]
-pub(crate) struct Bar {
+pub(crate) struct KeyLevels {
     /// Of the commands that write the key.
     writers: usize,
     /// Of the commands that touch the key.
@@ -25,12 +26,12 @@ pub(crate) struct Access {
     writes: bool,
 }
 
-/// The keys of the commands so far, numbered as they came, and what stands at each.
+/// The keys of the commands so far, numbered as they came, with the levels at each.
 #[derive(Debug, Drop)]
 pub(crate) struct KeyTable<'a> {
     keys: IndexSet<&'a str, Seed>,
-    bars: Vec<Bar>,
-    /// The keys of the command at hand.
+    key_levels: Vec<KeyLevels>,
+    /// The keys of the current command.
     accesses: Vec<Access>,
 }
 
@@ -42,36 +43,36 @@ impl<'a> Model for KeyTable<'a> {
 
     ghost view = { λ t. record {
       keys = map (λ k. k.now) t.keys.keys;
-      bars = t.bars.items;
+      key_levels = t.key_levels.items;
       accesses = t.accesses.items;
     } };
 }
 
-/// The least level that is no lower than what stands at each key of a command.
-fn least_level(bars: &[Bar], accesses: &[Access]) -> usize
-    requires { All (λ a. a.key < length bars.now) accesses.now }
-    ensures { result ≡ fold (λ level a. max level (bar_of bars.now a)) 0 accesses.now }
+/// The least level that is above each earlier command that conflicts over one of these accesses.
+fn least_level(key_levels: &[KeyLevels], accesses: &[Access]) -> usize
+    requires { All (λ a. a.key < length key_levels.now) accesses.now }
+    ensures { result ≡ fold (λ level a. max level (level_for key_levels.now a)) 0 accesses.now }
 {
     let mut level = 0;
     for access in accesses {
-        let bar = bars[access.key];
+        let at_key = key_levels[access.key];
         level = level.max(if access.writes {
-            bar.touchers
+            at_key.touchers
         } else {
-            bar.writers
+            at_key.writers
         });
     }
     level
 }
 
-/// Raises what stands at each key of a command.
-fn raise_bars(bars: &mut [Bar], accesses: &[Access], least: usize)
-    requires { All (λ a. a.key < length bars.old) accesses.now }
-    ensures { bars.new ≡ fold (raise least) bars.old accesses.now }
+/// Raises the levels at each key of a command.
+fn raise_all(key_levels: &mut [KeyLevels], accesses: &[Access], least: usize)
+    requires { All (λ a. a.key < length key_levels.old) accesses.now }
+    ensures { key_levels.new ≡ fold (raise least) key_levels.old accesses.now }
 {
     for access in accesses {
-        let Bar { writers, touchers } = bars[access.key];
-        bars[access.key] = Bar {
+        let KeyLevels { writers, touchers } = key_levels[access.key];
+        key_levels[access.key] = KeyLevels {
             writers: if access.writes {
                 writers.max(least)
             } else {
@@ -89,18 +90,18 @@ impl<'a> KeyTable<'a> {
     {
         KeyTable {
             keys: IndexSet::with_hasher(alloc, seed),
-            bars: Vec::new(alloc),
+            key_levels: Vec::new(alloc),
             accesses: Vec::new(alloc),
         }
     }
 
-    /// Adds a key to those of the command at hand.
-    fn ask(&mut self, key: &'a Key, writes: bool) -> Result<(), Memory>
-        ensures { OnOk result (Asks ((key.now, writes) ∷ []) self.old self.new) }
+    /// Adds a key to those of the current command.
+    fn add_access(&mut self, key: &'a Key, writes: bool) -> Result<(), Memory>
+        ensures { OnOk result (AddsAccesses ((key.now, writes) ∷ []) self.old self.new) }
     {
         let (number, is_new) = self.keys.insert_full(key.text())?;
         if is_new {
-            self.bars.push(Bar {
+            self.key_levels.push(KeyLevels {
                 writers: 0,
                 touchers: 0,
             })?;
@@ -112,16 +113,20 @@ impl<'a> KeyTable<'a> {
         Ok(())
     }
 
-    /// Adds the keys of an operation to those of the command at hand.
-    fn ask_all(&mut self, op: &'a Op) -> Result<(), Memory>
-        ensures { OnOk result (Asks (asked_by op.now) self.old self.new) }
+    /// Adds the keys of an operation to those of the current command.
+    fn add_accesses(&mut self, op: &'a Op) -> Result<(), Memory>
+        ensures { OnOk result (AddsAccesses (accesses_of op.now) self.old self.new) }
     {
         match op {
-            Op::Get { key } | Op::Is { key, .. } | Op::Floor { key, .. } => self.ask(key, false),
-            Op::Put { key, .. } | Op::Del { key } | Op::Add { key, .. } => self.ask(key, true),
+            Op::Get { key } | Op::Is { key, .. } | Op::Floor { key, .. } => self.add_access(
+                key, false,
+            ),
+            Op::Put { key, .. } | Op::Del { key } | Op::Add { key, .. } => self.add_access(
+                key, true,
+            ),
             Op::Copy { source, target } => {
-                self.ask(source, false)?;
-                self.ask(target, true)
+                self.add_access(source, false)?;
+                self.add_access(target, true)
             }
         }
     }
@@ -133,10 +138,10 @@ impl<'a> KeyTable<'a> {
         ensures { IfOk result (λ level. Notes ops.now level self.old self.new) }
     {
         for op in ops {
-            self.ask_all(op)?;
+            self.add_accesses(op)?;
         }
-        let level = least_level(&self.bars, &self.accesses);
-        raise_bars(&mut self.bars, &self.accesses, level + 1);
+        let level = least_level(&self.key_levels, &self.accesses);
+        raise_all(&mut self.key_levels, &self.accesses, level + 1);
         self.accesses.clear();
         Ok(level)
     }

@@ -178,7 +178,7 @@ impl Work {
         Ok(())
     }
 
-    /// The commands at these places, which do not conflict, side by side. After want of memory the store is
+    /// The commands at these places, which do not conflict, side by side. After memory ran out the store is
     /// not what it was.
     fn run_side_by_side<R: Threads + Sync, G: Gate + Sync>(
         &mut self,

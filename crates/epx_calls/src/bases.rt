@@ -16,7 +16,7 @@ const REPORT: &str = r#"["executed",2,"waiting",0,"components",2]
 fn base_of(alloc: Global, text: &str) -> Result<Base, Fail> {
     match read_base(alloc, text.as_bytes()) {
         Ok(base) => Ok(base),
-        Err(BaseFault::Memory) => Err(Fail::from("want of memory")),
+        Err(BaseFault::Memory) => Err(Fail::from("out of memory")),
         Err(_) => Err(Fail::from("no base")),
     }
 }
@@ -35,7 +35,7 @@ fn a_report_is_read(rt: HostRuntime) -> Result<(), Fail> {
 #[test]
 fn the_first_bad_line_of_a_base_is_named(rt: HostRuntime) -> Result<(), Fail> {
     match read_base(rt.alloc(), b"") {
-        Err(BaseFault::Memory) => return Err(Fail::from("want of memory")),
+        Err(BaseFault::Memory) => return Err(Fail::from("out of memory")),
         read => assert!(rt; read.err() == Some(BaseFault::Bad { line: 1 })),
     }
     Ok(())

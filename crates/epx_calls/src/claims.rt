@@ -91,7 +91,7 @@ fn maps_to_the_next<R: Threads + Sync + Abort>(
     );
     match (&answer, &wanted) {
         (Ok(values), Ok(wanted)) => assert!(rt; values.as_slice() == *wanted),
-        (Err(Trouble::NoMemory), _) => return Err(Fail::from("want of memory")),
+        (Err(Trouble::NoMemory), _) => return Err(Fail::from("out of memory")),
         (Err(trouble), Err(wanted)) => assert!(rt; trouble == wanted),
         _ => panic!(rt; "another kind of answer"),
     }

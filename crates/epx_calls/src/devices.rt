@@ -30,7 +30,7 @@ fn fails<S: Source>(rt: &impl Abort, alloc: Global, source: &mut S) -> Result<()
 {
     let fault = read_log(alloc, 5, source).err();
     if fault == Some(Fault::Memory) {
-        return Err(Fail::from("want of memory"));
+        return Err(Fail::from("out of memory"));
     }
     assert!(rt; fault == Some(Fault::Read { log: 5 }));
     assert!(rt; source.failed());
@@ -43,7 +43,7 @@ fn is_written<W: Sink>(sink: &mut W) -> Result<(), Fail>
 {
     match write_out(TEXT.as_bytes(), sink) {
         Ok(()) => Ok(()),
-        Err(_) => Err(Fail::from("want of memory in the sink")),
+        Err(_) => Err(Fail::from("out of memory in the sink")),
     }
 }
 
@@ -95,7 +95,7 @@ fn takes(
     let mut sink = FuseSink::new(alloc, at_once, Some(fuse));
     let written = write_out(TEXT.as_bytes(), &mut sink);
     if written == Err(Fault::Write) && sink.bytes().len() < held.len() {
-        return Err(Fail::from("want of memory in the sink"));
+        return Err(Fail::from("out of memory in the sink"));
     }
     assert!(rt; written == wanted);
     assert!(rt; sink.failed() == written.is_err());

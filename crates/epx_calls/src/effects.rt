@@ -26,7 +26,7 @@ pub(crate) fn is_stored(
     Ok(())
 }
 
-/// Puts a value, which is then there; on want of memory the store must be as it was.
+/// Puts a value, which is then there; where memory runs out the store must be as it was.
 fn put(rt: &impl Abort, store: &mut Store, key: Key, value: i64) -> Result<(), Memory> {
     let opening = store.copy()?;
     let text = key.copy()?;

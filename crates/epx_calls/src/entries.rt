@@ -61,7 +61,7 @@ fn disagree(
         },
     };
     match from_entries(alloc, entries) {
-        Err(Fault::Memory) => return Err(Fail::from("want of memory")),
+        Err(Fault::Memory) => return Err(Fail::from("out of memory")),
         Err(fault) => assert!(rt; fault == wanted),
         Ok(_) => return Err(Fail::from("the entries are accepted")),
     }

@@ -31,7 +31,7 @@ impl WaitingGate {
             return Err(Fail::from("not each number was entered once"));
         }
         if self.gave_up.load(Ordering::SeqCst) {
-            return Err(Fail::from("a worker was missing, or want of memory for its thread"));
+            return Err(Fail::from("a worker was missing, or out of memory for its thread"));
         }
         Ok(())
     }

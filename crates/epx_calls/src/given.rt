@@ -54,7 +54,7 @@ pub(crate) fn logs_of(alloc: Global, texts: &[&str]) -> Result<Vec<Vec<u8>>, All
 pub(crate) fn accepted(read: Result<Merged, Fault>) -> Result<Merged, Fail> {
     match read {
         Ok(merged) => Ok(merged),
-        Err(Fault::Memory) => Err(Fail::from("want of memory")),
+        Err(Fault::Memory) => Err(Fail::from("out of memory")),
         Err(_) => Err(Fail::from("the logs are refused")),
     }
 }

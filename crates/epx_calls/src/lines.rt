@@ -63,7 +63,7 @@ fn longest_entry(alloc: Global) -> Result<Option<Entry>, Memory> {
 fn entry_of(alloc: Global, line: &str) -> Result<Entry, Fail> {
     match read_line(alloc, line.as_bytes()) {
         Ok(Line::Entry(entry)) => Ok(entry),
-        Err(LineFault::Memory) => Err(Fail::from("want of memory")),
+        Err(LineFault::Memory) => Err(Fail::from("out of memory")),
         _ => Err(Fail::from("no entry")),
     }
 }

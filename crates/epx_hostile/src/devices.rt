@@ -87,7 +87,7 @@ fn written<R: AllocGlobal + Threads + RandomSource + Sync, W: Sink>(
         Some(ask) => show(rt, rt.alloc(), ask, &mut sources, plan()?, sink),
     };
     if outcome == Err(Fault::Memory) {
-        return Err(Fail::from("want of memory"));
+        return Err(Fail::from("out of memory"));
     }
     Ok(outcome)
 }
@@ -108,7 +108,7 @@ fn fails_with_its_sink<R: AllocGlobal + Threads + RandomSource + Sync>(
     let is_part = text.as_bytes().starts_with(sink.bytes());
     let is_refused = outcome == Err(Fault::Write) && is_part;
     if is_refused && sink.bytes().len() < bytes {
-        return Err(Fail::from("want of memory in the sink"));
+        return Err(Fail::from("out of memory in the sink"));
     }
     Ok(is_refused && sink.bytes().len() == bytes)
 }

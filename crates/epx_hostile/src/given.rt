@@ -47,9 +47,9 @@ pub(crate) fn is_right(
 ) -> Result<bool, Fail> {
     match (outcome, wanted) {
         (Ok(()), Ok(text)) => Ok(held == text.as_bytes()),
-        (Err(Fault::Memory), _) if held.is_empty() => Err(Fail::from("want of memory")),
+        (Err(Fault::Memory), _) if held.is_empty() => Err(Fail::from("out of memory")),
         (Err(Fault::Write), Ok(text)) if text.as_bytes().starts_with(held) => {
-            Err(Fail::from("want of memory in the sink"))
+            Err(Fail::from("out of memory in the sink"))
         }
         (Err(fault), Err(wanted)) => Ok(fault == wanted && held.is_empty()),
         _ => Ok(false),

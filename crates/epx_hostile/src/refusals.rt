@@ -1,5 +1,5 @@
 //! Worked cases through each kind of run. A test runner may refuse any allocation of these tests: the logs are texts of
-//! the program, so that each allocation is one of the runs, and a test then ends well, or with want of memory.
+//! the program, so that each allocation is one of the runs, and a test then ends well, or out of memory.
 use crate::given::{LEAST, LEAST_ORDER, LEAST_REPORT, Wanted, checks, reports, resumes, shows};
 use epx_tool::Ask;
 use epx_types::{Fault, Id, Place};

@@ -3,7 +3,7 @@ use Rattle.std.proofs.Common.{List, Result, Ok, Err, MatchResult, ℕ}
 use Rattle.epx_types.specs.declared.fault.Fault.{Fault}
 use Rattle.epx_types.specs.declared.fault.Fault.TheVariants.{Memory, TooManyLogs, LogTooLong, BadLine, TooManyInstances, Disagree, Read, Write, BadBase}
 use Rattle.epx_types.specs.Instances.{Instance}
-use Rattle.epx_merge.specs.LogLines.{placed_of, spoilt_of}
+use Rattle.epx_merge.specs.LogLines.{placed_of, bad_lines_of}
 use Rattle.epx_merge.specs.Refusals.{Fits, IsWhole, IsRefusal}
 use Rattle.epx_merge.specs.Acceptance.{IsAccepted}
 use Rattle.epx_merge.specs.Steps.{IsMerged, IsMergeFault, IsReadFault}
@@ -27,7 +27,7 @@ answered logs whole (Ok m) h = accepted logs whole m h
 answered logs whole (Err f) h = refused logs whole f h
 
 -- what stops the reading of logs that fit is their refusal
-pub unread : (logs : List (List ℕ)) → Fits logs → (f : Fault) → IsReadFault (spoilt_of logs) f → IsRefusal logs f
+pub unread : (logs : List (List ℕ)) → Fits logs → (f : Fault) → IsReadFault (bad_lines_of logs) f → IsRefusal logs f
 unread logs fits Memory h = h
 unread logs fits TooManyLogs h = absurd h
 unread logs fits (LogTooLong log) h = absurd h

@@ -11,7 +11,7 @@ use Rattle.epx_types.specs.Agreement.{Agree, Differ}
 use Rattle.epx_types.specs.CommittedMap.{ids_of, IsCommittedBy}
 use Rattle.epx_types.proofs.Membership.{Contains-nil, Contains-head, Contains-cons, Contains-map, Contains-from_map}
 use Rattle.epx_types.proofs.Waiting.{Contains-Id_cases}
-use Rattle.epx_merge.specs.declared.ledger.Clash.{Clash}
+use Rattle.epx_merge.specs.declared.ledger.Disagreement.{Disagreement}
 use Rattle.epx_merge.specs.Refusals.{AreNamedBy, IsDisagreementAt}
 use Rattle.epx_merge.specs.Ledgers.{Noted, Names, IsLedgerOf}
 use Rattle.epx_merge.specs.LineOrder.{InPlaceOrder}
@@ -44,16 +44,16 @@ module _ (lines : List Placed) (noted : Noted) (ledger : IsLedgerOf lines noted)
       let at = Contains-from_map (λ (e : Id × Placed). e.0) noted.firsts p.instance.id (ledger.whole p h) in
       (at.0.1, subst (λ (x : Id). Contains noted.firsts (x, at.0.1)) at.2 at.1)
 
-  -- without clashes the lines agree
-  pub Agree-from_ledger : ((x : Id) → ¬ Contains (keys noted.clashes) x) → Agree lines
+  -- without disagreements the lines agree
+  pub Agree-from_ledger : ((x : Id) → ¬ Contains (keys noted.disagreements) x) → Agree lines
   Agree-from_ledger none p q in_p in_q same =
       let f = first_of p in_p in
       sym (ledger.alike p.instance.id f.0 f.1 (none p.instance.id) p in_p refl) ∙ ledger.alike p.instance.id f.0 f.1 (none p.instance.id) q in_q (sym same)
 
-  -- two lines that differ are of an instance that has a clash
-  clash_of : (p q : Placed) → Contains lines p → Contains lines q → Differ p q → Contains (keys noted.clashes) p.instance.id
-  clash_of p q in_p in_q differ =
-      elim (Contains-Id_cases (keys noted.clashes) p.instance.id) [
+  -- two lines that differ are of an instance that has a disagreement
+  disagreement_of : (p q : Placed) → Contains lines p → Contains lines q → Differ p q → Contains (keys noted.disagreements) p.instance.id
+  disagreement_of p q in_p in_q differ =
+      elim (Contains-Id_cases (keys noted.disagreements) p.instance.id) [
         | inl has ↦ has
         | inr none ↦
             let f = first_of p in_p in
@@ -91,10 +91,10 @@ module _ (lines : List Placed) (noted : Noted) (ledger : IsLedgerOf lines noted)
           subst (Contains (instances_of firsts)) same (Contains-map (λ (d : Id × Placed). d.1.instance) firsts (p.instance.id, f.0) (there p.instance.id f.0 f.1));
     }
 
-  -- the least clash is the first disagreement
-  pub IsDisagreementAt-least : InPlaceOrder lines → (x : Id) (clash : Clash) → Contains noted.clashes (x, clash) → ((y : Id) → Contains (keys noted.clashes) y → UpTo x y) → IsDisagreementAt lines x clash.first clash.second
-  IsDisagreementAt-least order x clash has least =
-      let h = ledger.clashes x clash has in (
+  -- the least of the disagreements is the first one
+  pub IsDisagreementAt-least : InPlaceOrder lines → (x : Id) (disagreement : Disagreement) → Contains noted.disagreements (x, disagreement) → ((y : Id) → Contains (keys noted.disagreements) y → UpTo x y) → IsDisagreementAt lines x disagreement.first disagreement.second
+  IsDisagreementAt-least order x disagreement has least =
+      let h = ledger.disagreements x disagreement has in (
         h.first,
         h.second,
         record {
@@ -102,7 +102,7 @@ module _ (lines : List Placed) (noted : Noted) (ledger : IsLedgerOf lines noted)
           has_second = IsFirstWhere-contains (Differ h.first) lines h.second h.differs;
           named = IsFirstWhere-holds (Names x) lines h.first h.opens;
           differ = IsFirstWhere-holds (Differ h.first) lines h.second h.differs;
-          least = λ p q in_p in_q other. least p.instance.id (clash_of p q in_p in_q other);
+          least = λ p q in_p in_q other. least p.instance.id (disagreement_of p q in_p in_q other);
           opens = λ p in_p named. IsFirstWhere-earliest (Names x) lines order h.first h.opens p in_p named;
           follows = λ q in_q other. IsFirstWhere-earliest (Differ h.first) lines order h.second h.differs q in_q other;
         },
@@ -111,24 +111,24 @@ module _ (lines : List Placed) (noted : Noted) (ledger : IsLedgerOf lines noted)
       )
 
   -- the same, after a sort
-  IsDisagreementAt-sorted : InPlaceOrder lines → (x : Id) (clash : Clash) (rest : List (Id × Clash)) → IsPermutation noted.clashes ((x, clash) ∷ rest) → IsSorted id_cmp (keys ((x, clash) ∷ rest)) → IsDisagreementAt lines x clash.first clash.second
-  IsDisagreementAt-sorted order x clash rest moved sorted =
-      let clashes : List (Id × Clash) = (x, clash) ∷ rest in
-      IsDisagreementAt-least order x clash (Contains-permutation clashes noted.clashes (x, clash) (IsPermutation-sym noted.clashes clashes moved) (Contains-head (x, clash) rest)) (λ y h.
-      let at = Contains-from_map (λ (d : Id × Clash). d.0) noted.clashes y h in
-      let among = Contains-map (λ (d : Id × Clash). d.0) clashes at.0 (Contains-permutation noted.clashes clashes at.0 moved at.1) in
-      first_is_least x (keys rest) sorted y (subst (Contains (keys clashes)) at.2 among))
+  IsDisagreementAt-sorted : InPlaceOrder lines → (x : Id) (disagreement : Disagreement) (rest : List (Id × Disagreement)) → IsPermutation noted.disagreements ((x, disagreement) ∷ rest) → IsSorted id_cmp (keys ((x, disagreement) ∷ rest)) → IsDisagreementAt lines x disagreement.first disagreement.second
+  IsDisagreementAt-sorted order x disagreement rest moved sorted =
+      let disagreements : List (Id × Disagreement) = (x, disagreement) ∷ rest in
+      IsDisagreementAt-least order x disagreement (Contains-permutation disagreements noted.disagreements (x, disagreement) (IsPermutation-sym noted.disagreements disagreements moved) (Contains-head (x, disagreement) rest)) (λ y h.
+      let at = Contains-from_map (λ (d : Id × Disagreement). d.0) noted.disagreements y h in
+      let among = Contains-map (λ (d : Id × Disagreement). d.0) disagreements at.0 (Contains-permutation noted.disagreements disagreements at.0 moved at.1) in
+      first_is_least x (keys rest) sorted y (subst (Contains (keys disagreements)) at.2 among))
 
   -- the same, where it stands first in the list
-  pub first_clash : InPlaceOrder lines → (clashes : List (Id × Clash)) (x : Id) (clash : Clash) → slice_get clashes 0 ≡ Some (x, clash) → IsPermutation noted.clashes clashes → IsSorted id_cmp (keys clashes) → IsDisagreementAt lines x clash.first clash.second
-  first_clash order [] x clash at moved sorted = absurd (cc at)
-  first_clash order (e ∷ rest) x clash at moved sorted =
-      let first : ◌≡◌ {A = Id × Clash} e (x, clash) = cc at in
-      IsDisagreementAt-sorted order x clash rest
-      (subst (λ (d : Id × Clash). IsPermutation noted.clashes (d ∷ rest)) first moved) (subst (λ (d : Id × Clash). IsSorted id_cmp (keys (d ∷ rest))) first sorted)
+  pub first_disagreement : InPlaceOrder lines → (disagreements : List (Id × Disagreement)) (x : Id) (disagreement : Disagreement) → slice_get disagreements 0 ≡ Some (x, disagreement) → IsPermutation noted.disagreements disagreements → IsSorted id_cmp (keys disagreements) → IsDisagreementAt lines x disagreement.first disagreement.second
+  first_disagreement order [] x disagreement at moved sorted = absurd (cc at)
+  first_disagreement order (e ∷ rest) x disagreement at moved sorted =
+      let first : ◌≡◌ {A = Id × Disagreement} e (x, disagreement) = cc at in
+      IsDisagreementAt-sorted order x disagreement rest
+      (subst (λ (d : Id × Disagreement). IsPermutation noted.disagreements (d ∷ rest)) first moved) (subst (λ (d : Id × Disagreement). IsSorted id_cmp (keys (d ∷ rest))) first sorted)
 
 -- a list without a first element holds no key, nor did it before a sort
-pub no_clashes : (before clashes : List (Id × Clash)) → slice_get clashes 0 ≡ None → IsPermutation before clashes → (x : Id) → ¬ Contains (keys before) x
-no_clashes before [] none moved x h =
-    let e = Contains-from_map (λ (d : Id × Clash). d.0) before x h in Contains-nil e.0 (Contains-permutation before [] e.0 moved e.1)
-no_clashes before (e ∷ rest) none moved x h = absurd (cc none)
+pub no_disagreements : (before disagreements : List (Id × Disagreement)) → slice_get disagreements 0 ≡ None → IsPermutation before disagreements → (x : Id) → ¬ Contains (keys before) x
+no_disagreements before [] none moved x h =
+    let e = Contains-from_map (λ (d : Id × Disagreement). d.0) before x h in Contains-nil e.0 (Contains-permutation before [] e.0 moved e.1)
+no_disagreements before (e ∷ rest) none moved x h = absurd (cc none)

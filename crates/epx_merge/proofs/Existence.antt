@@ -14,14 +14,14 @@ use Rattle.epx_types.proofs.Comparisons.{id_cmp_total, id_cmp-IsAntisymmetric}
 use Rattle.epx_types.proofs.Membership.{Contains-nil, Contains-head, Contains-cons, Contains-cons_cases, Contains-map, Contains-from_map}
 use Rattle.epx_types.proofs.TotalOrders.{below_trans, below_cases}
 use Rattle.epx_types.proofs.Waiting.{Contains-Id_cases}
-use Rattle.epx_merge.specs.declared.ledger.Clash.{Clash}
+use Rattle.epx_merge.specs.declared.ledger.Disagreement.{Disagreement}
 use Rattle.epx_merge.specs.Limits.{max_logs, max_log_bytes, max_instances}
-use Rattle.epx_merge.specs.LogLines.{placed_of, Spoilt, spoilt_of}
+use Rattle.epx_merge.specs.LogLines.{placed_of, BadLineAt, bad_lines_of}
 use Rattle.epx_merge.specs.Refusals.{IsFirstTooLong, NoneTooLong, IsWhole, AreNamedBy, IsRefusal}
 use Rattle.epx_merge.specs.Acceptance.{IsAccepted}
 use Rattle.epx_merge.specs.Ledgers.{Noted, Names, IsLedgerOf, Notes}
 use Rattle.epx_merge.proofs.FirstWhere.{IsFirstWhere-contains, IsFirstWhere-holds}
-use Rattle.epx_merge.proofs.Noting.{keys, Notes-new, Notes-known, Notes-clash}
+use Rattle.epx_merge.proofs.Noting.{keys, Notes-new, Notes-known, Notes-disagreement}
 use Rattle.epx_merge.proofs.NotedKeys.{same_id, entry_found, no_entry}
 use Rattle.epx_merge.proofs.Closing.{Agree-from_ledger, IsDisagreementAt-least}
 use Rattle.epx_merge.proofs.Equality.{instance_cases}
@@ -143,17 +143,17 @@ named_ids (p ∷ lines) =
 one_more : (noted : Noted) (done : List Placed) → IsLedgerOf done noted → (p : Placed) → (after : Noted) × Notes (p ∷ []) noted after
 one_more noted done h p =
     elim (Contains-Id_cases (keys noted.firsts) p.instance.id) [
-      | inr new ↦ (record { firsts = noted.firsts ++ (p.instance.id, p) ∷ []; clashes = noted.clashes }, Notes-new noted p new)
+      | inr new ↦ (record { firsts = noted.firsts ++ (p.instance.id, p) ∷ []; disagreements = noted.disagreements }, Notes-new noted p new)
       | inl has ↦
           let e = Contains-from_map (λ (d : Id × Placed). d.0) noted.firsts p.instance.id has in
           let known : Contains noted.firsts (p.instance.id, e.0.1) = subst (λ (x : Id). Contains noted.firsts (x, e.0.1)) e.2 e.1 in
           elim (instance_cases e.0.1.instance p.instance) [
             | inl same ↦ (noted, Notes-known noted p e.0.1 known (inl same))
-            | inr other ↦ elim (Contains-Id_cases (keys noted.clashes) p.instance.id) [
-              | inl clashing ↦ (noted, Notes-known noted p e.0.1 known (inr clashing))
+            | inr other ↦ elim (Contains-Id_cases (keys noted.disagreements) p.instance.id) [
+              | inl disagreeing ↦ (noted, Notes-known noted p e.0.1 known (inr disagreeing))
               | inr none ↦
-                  let clash : Clash = record { first = e.0.1.place; second = p.place } in
-                  (record { firsts = noted.firsts; clashes = noted.clashes ++ (p.instance.id, clash) ∷ [] }, Notes-clash noted p e.0.1 clash known other none refl refl)
+                  let disagreement : Disagreement = record { first = e.0.1.place; second = p.place } in
+                  (record { firsts = noted.firsts; disagreements = noted.disagreements ++ (p.instance.id, disagreement) ∷ [] }, Notes-disagreement noted p e.0.1 disagreement known other none refl refl)
             ]
           ]
     ]
@@ -166,16 +166,16 @@ ledger_from (p ∷ rest) done noted h =
     (on.0, subst (λ l. IsLedgerOf l on.0) (append_assoc done (p ∷ []) rest) on.1)
 
 ledger_of : (lines : List Placed) → (noted : Noted) × IsLedgerOf lines noted
-ledger_of lines = ledger_from lines [] (record { firsts = []; clashes = [] }) (record {
+ledger_of lines = ledger_from lines [] (record { firsts = []; disagreements = [] }) (record {
   firsts = λ x p c. absurd (Contains-nil (x, p) c);
   whole = λ p c. absurd (Contains-nil p c);
-  clashes = λ x clash c. absurd (Contains-nil (x, clash) c);
+  disagreements = λ x disagreement c. absurd (Contains-nil (x, disagreement) c);
   alike = λ x p c. absurd (Contains-nil (x, p) c);
 })
 
--- ---- the least clash
+-- ---- the least disagreement
 
-least_key : (c : Id × Clash) (cs : List (Id × Clash)) → (e : Id × Clash) × Contains (c ∷ cs) e × ((y : Id) → Contains (keys (c ∷ cs)) y → UpTo e.0 y)
+least_key : (c : Id × Disagreement) (cs : List (Id × Disagreement)) → (e : Id × Disagreement) × Contains (c ∷ cs) e × ((y : Id) → Contains (keys (c ∷ cs)) y → UpTo e.0 y)
 least_key c [] = (c, Contains-head c [], λ y h. elim (Contains-cons_cases c.0 [] y h) [ inl e ↦ inl e | inr none ↦ absurd (Contains-nil y none) ])
 least_key c (d ∷ cs) =
     let rest = least_key d cs in
@@ -258,15 +258,15 @@ abbrev Answered : List (List ℕ) → Type 0
 Answered logs = ((m : List Instance) × IsAccepted logs m) ⊎ ((f : Fault) × (f ≢ Memory) × IsRefusal logs f)
 
 answer_of_lines : (logs : List (List ℕ)) → IsWhole logs → (noted : Noted) → IsLedgerOf (placed_of logs) noted → (ids : List Id) → AreNamedBy (placed_of logs) ids → length ids ≤ max_instances → Answered logs
-answer_of_lines logs whole noted h ids names few = by noted.clashes refl where
-  by : (clashes : List (Id × Clash)) → noted.clashes ≡ clashes → Answered logs
+answer_of_lines logs whole noted h ids names few = by noted.disagreements refl where
+  by : (disagreements : List (Id × Disagreement)) → noted.disagreements ≡ disagreements → Answered logs
   by [] none =
-      let agree = Agree-from_ledger (placed_of logs) noted h (λ x c. let k : Contains (keys {V = Clash} []) x = subst (λ (l : List (Id × Clash)). Contains (keys l) x) none c in Contains-nil x k) in
+      let agree = Agree-from_ledger (placed_of logs) noted h (λ x c. let k : Contains (keys {V = Disagreement} []) x = subst (λ (l : List (Id × Disagreement)). Contains (keys l) x) none c in Contains-nil x k) in
       inl (map (pick (placed_of logs) noted h agree) ids, record { whole = whole; small = (ids, names, few); agree = agree; committed = commits (placed_of logs) noted h agree ids names })
   by (c ∷ cs) some =
       let e = least_key c cs in
-      let entry : Contains noted.clashes (e.0.0, e.0.1) = subst (λ (l : List (Id × Clash)). Contains l e.0) (sym some) e.1 in
-      let at = IsDisagreementAt-least (placed_of logs) noted h (placed_in_order logs) e.0.0 e.0.1 entry (λ y k. e.2 y (subst (λ (l : List (Id × Clash)). Contains (keys l) y) some k)) in
+      let entry : Contains noted.disagreements (e.0.0, e.0.1) = subst (λ (l : List (Id × Disagreement)). Contains l e.0) (sym some) e.1 in
+      let at = IsDisagreementAt-least (placed_of logs) noted h (placed_in_order logs) e.0.0 e.0.1 entry (λ y k. e.2 y (subst (λ (l : List (Id × Disagreement)). Contains (keys l) y) some k)) in
       inr (Disagree e.0.0 e.0.1.first e.0.1.second, (λ same. cc same), (whole, (ids, names, few), at))
 
 answer_of_whole : (logs : List (List ℕ)) → IsWhole logs → Answered logs
@@ -278,8 +278,8 @@ answer_of_whole logs whole =
     ]
 
 answer_of_fitting : (logs : List (List ℕ)) → length logs ≤ max_logs → NoneTooLong logs → Answered logs
-answer_of_fitting logs few none = by (spoilt_of logs) refl where
-  by : (spoilt : List Spoilt) → spoilt_of logs ≡ spoilt → Answered logs
+answer_of_fitting logs few none = by (bad_lines_of logs) refl where
+  by : (bad_lines : List BadLineAt) → bad_lines_of logs ≡ bad_lines → Answered logs
   by [] clean = answer_of_whole logs ((few, none), clean)
   by (s ∷ rest) bad = inr (BadLine s.place s.why, (λ same. cc same), ((few, none), (rest, bad)))
 

@@ -1,4 +1,4 @@
--- Lines without some that are idle tell what all lines tell: the first that is bad, and the ledger.
+-- Lines without some that are redundant say what all lines say: the first that is bad, and the ledger.
 use Rattle.std.proofs.Common.{◌≡◌, ◌≢◌, inl, inr, ◌≤◌, ◌+◌, List, [], ◌∷◌, ◌++◌, length, Contains, Result, Ok, Err, refl, sym, ap, subst, ◌∙◌, append_assoc, append-nil, length-append, arith}
 use Rattle.std.proofs.lemmas.List.Elements.{Contains-append_left, Contains-append_cases, Contains-append_right}
 use Rattle.epx_types.specs.declared.fault.Fault.{Fault}
@@ -10,11 +10,11 @@ use Rattle.epx_types.specs.Instances.{Instance}
 use Rattle.epx_types.proofs.Membership.{Contains-nil, Contains-head, Contains-cons_cases}
 use Rattle.epx_lines.specs.declared.Line.{Line}
 use Rattle.epx_lines.specs.declared.Line.TheVariants.{Blank, Entry}
-use Rattle.epx_merge.specs.LogLines.{MeaningAt, placed_at, placed_among, Spoilt, spoilt_at, spoilt_among}
+use Rattle.epx_merge.specs.LogLines.{MeaningAt, placed_at, placed_among, BadLineAt, bad_lines_at, bad_lines_among}
 use Rattle.epx_merge.specs.Ledgers.{Noted, IsFirstWhere, IsLedgerOf}
 use Rattle.epx_merge.specs.Steps.{IsReadFault}
-use Rattle.epx_merge.specs.Repeats.{IsIdle, Keeps}
-use Rattle.epx_merge.proofs.ReadLines.{placed_among-append, spoilt_among-append}
+use Rattle.epx_merge.specs.Repeats.{IsRedundant, Keeps}
+use Rattle.epx_merge.proofs.ReadLines.{placed_among-append, bad_lines_among-append}
 use Rattle.epx_merge.proofs.Noting.{keys}
 
 -- ---- in turn
@@ -76,8 +76,8 @@ module _ (a b : List Placed) (e q : Placed) (has : Contains a e) (same : e.insta
     whole = λ p in_p.
         let other = others p in_p in
         subst (λ (i : Instance). Contains (keys noted.firsts) i.id) other.2 (h.whole other.0 other.1);
-    clashes = λ x clash in_clash.
-        let c = h.clashes x clash in_clash in
+    disagreements = λ x disagreement in_disagreement.
+        let c = h.disagreements x disagreement in_disagreement in
         record {
           first = c.first;
           second = c.second;
@@ -95,14 +95,14 @@ module _ (a b : List Placed) (e q : Placed) (has : Contains a e) (same : e.insta
 
 -- the first bad line and the ledger of some lines are those of all
 pub record Tells (some all : List MeaningAt) : Type 0 where
-  pub fault : (f : Fault) → IsReadFault (spoilt_among some) f → IsReadFault (spoilt_among all) f
-  pub clean : spoilt_among some ≡ [] → spoilt_among all ≡ []
+  pub fault : (f : Fault) → IsReadFault (bad_lines_among some) f → IsReadFault (bad_lines_among all) f
+  pub clean : bad_lines_among some ≡ [] → bad_lines_among all ≡ []
   pub ledger : (noted : Noted) → IsLedgerOf (placed_among some) noted → IsLedgerOf (placed_among all) noted
 
 Tells-same : (some all : List MeaningAt) → some ≡ all → Tells some all
 Tells-same some all same = record {
-  fault = λ f h. subst (λ l. IsReadFault (spoilt_among l) f) same h;
-  clean = λ h. subst (λ l. spoilt_among l ≡ []) same h;
+  fault = λ f h. subst (λ l. IsReadFault (bad_lines_among l) f) same h;
+  clean = λ h. subst (λ l. bad_lines_among l ≡ []) same h;
   ledger = λ noted h. subst (λ l. IsLedgerOf (placed_among l) noted) same h;
 }
 
@@ -114,7 +114,7 @@ Tells-trans some more all h k = record {
 }
 
 -- a bad line stays the first where others follow it
-fault_ahead : (a b c : List Spoilt) (x : Spoilt) → Contains a x → (f : Fault) → IsReadFault (a ++ b) f → IsReadFault (a ++ c) f
+fault_ahead : (a b c : List BadLineAt) (x : BadLineAt) → Contains a x → (f : Fault) → IsReadFault (a ++ b) f → IsReadFault (a ++ c) f
 fault_ahead [] b c x has f h = absurd (Contains-nil x has)
 fault_ahead (y ∷ a) b c x has Memory h = h
 fault_ahead (y ∷ a) b c x has TooManyLogs h = h
@@ -126,7 +126,7 @@ fault_ahead (y ∷ a) b c x has (Read log) h = h
 fault_ahead (y ∷ a) b c x has Write h = h
 fault_ahead (y ∷ a) b c x has (BadBase line) h = h
 
-not_clean : (a b : List Spoilt) (x : Spoilt) → Contains a x → ¬ (a ++ b ≡ [])
+not_clean : (a b : List BadLineAt) (x : BadLineAt) → Contains a x → ¬ (a ++ b ≡ [])
 not_clean [] b x has none = Contains-nil x has
 not_clean (y ∷ a) b x has none = cc none
 
@@ -139,12 +139,12 @@ given_placed (k ∷ lines) l p has h =
       | inr later ↦ Contains-append_right (placed_at k.place k.meaning) (placed_among lines) p (given_placed lines l p later h)
     ]
 
-given_spoilt : (lines : List MeaningAt) (l : MeaningAt) (x : Spoilt) → Contains lines l → Contains (spoilt_at l.place l.meaning) x → Contains (spoilt_among lines) x
-given_spoilt [] l x has h = absurd (Contains-nil l has)
-given_spoilt (k ∷ lines) l x has h =
+given_bad_line : (lines : List MeaningAt) (l : MeaningAt) (x : BadLineAt) → Contains lines l → Contains (bad_lines_at l.place l.meaning) x → Contains (bad_lines_among lines) x
+given_bad_line [] l x has h = absurd (Contains-nil l has)
+given_bad_line (k ∷ lines) l x has h =
     elim (Contains-cons_cases k lines l has) [
-      | inl same ↦ Contains-append_left (spoilt_at k.place k.meaning) (spoilt_among lines) x (subst (λ (m : MeaningAt). Contains (spoilt_at m.place m.meaning) x) (sym same) h)
-      | inr later ↦ Contains-append_right (spoilt_at k.place k.meaning) (spoilt_among lines) x (given_spoilt lines l x later h)
+      | inl same ↦ Contains-append_left (bad_lines_at k.place k.meaning) (bad_lines_among lines) x (subst (λ (m : MeaningAt). Contains (bad_lines_at m.place m.meaning) x) (sym same) h)
+      | inr later ↦ Contains-append_right (bad_lines_at k.place k.meaning) (bad_lines_among lines) x (given_bad_line lines l x later h)
     ]
 
 -- a line that is blank or repeats an earlier one
@@ -155,43 +155,43 @@ module _ (before after : List MeaningAt) (place : Place) where
   placed_with : (meaning : Result Line Why) → placed_among (before ++ line_of meaning ∷ after) ≡ placed_among before ++ (placed_at place meaning ++ placed_among after)
   placed_with meaning = placed_among-append before (line_of meaning ∷ after)
 
-  spoilt_with : (meaning : Result Line Why) → spoilt_among (before ++ line_of meaning ∷ after) ≡ spoilt_among before ++ (spoilt_at place meaning ++ spoilt_among after)
-  spoilt_with meaning = spoilt_among-append before (line_of meaning ∷ after)
+  bad_lines_with : (meaning : Result Line Why) → bad_lines_among (before ++ line_of meaning ∷ after) ≡ bad_lines_among before ++ (bad_lines_at place meaning ++ bad_lines_among after)
+  bad_lines_with meaning = bad_lines_among-append before (line_of meaning ∷ after)
 
-  Tells-idle : (meaning : Result Line Why) → IsIdle before meaning → Tells (before ++ after) (before ++ line_of meaning ∷ after)
-  Tells-idle (Ok Blank) idle =
-      let spoilt = spoilt_among-append before after ∙ sym (spoilt_with (Ok Blank)) in
+  Tells-redundant : (meaning : Result Line Why) → IsRedundant before meaning → Tells (before ++ after) (before ++ line_of meaning ∷ after)
+  Tells-redundant (Ok Blank) redundant =
+      let bad_lines = bad_lines_among-append before after ∙ sym (bad_lines_with (Ok Blank)) in
       let placed = placed_among-append before after ∙ sym (placed_with (Ok Blank)) in
       record {
-        fault = λ f h. subst (λ l. IsReadFault l f) spoilt h;
-        clean = λ none. sym spoilt ∙ none;
+        fault = λ f h. subst (λ l. IsReadFault l f) bad_lines h;
+        clean = λ none. sym bad_lines ∙ none;
         ledger = λ noted h. subst (λ l. IsLedgerOf l noted) placed h;
       }
-  Tells-idle (Ok (Entry e)) (inl blank) = absurd (cc blank)
-  Tells-idle (Ok (Entry e)) (inr earlier) =
-      let spoilt = spoilt_among-append before after ∙ sym (spoilt_with (Ok (Entry e))) in
+  Tells-redundant (Ok (Entry e)) (inl blank) = absurd (cc blank)
+  Tells-redundant (Ok (Entry e)) (inr earlier) =
+      let bad_lines = bad_lines_among-append before after ∙ sym (bad_lines_with (Ok (Entry e))) in
       let line = earlier.0 in
       let first : Placed = record { place = line.place; instance = e } in
       let more : Placed = record { place = place; instance = e } in
       let has = given_placed before line first earlier.1 (subst (λ m. Contains (placed_at line.place m) first) (sym earlier.2) (Contains-head first [])) in
       record {
-        fault = λ f h. subst (λ l. IsReadFault l f) spoilt h;
-        clean = λ none. sym spoilt ∙ none;
+        fault = λ f h. subst (λ l. IsReadFault l f) bad_lines h;
+        clean = λ none. sym bad_lines ∙ none;
         ledger = λ noted h.
             subst (λ l. IsLedgerOf l noted) (sym (placed_with (Ok (Entry e))))
             (ledger_repeated (placed_among before) (placed_among after) first more has refl noted (subst (λ l. IsLedgerOf l noted) (placed_among-append before after) h));
       }
-  Tells-idle (Err why) (inl blank) = absurd (cc blank)
-  Tells-idle (Err why) (inr earlier) =
+  Tells-redundant (Err why) (inl blank) = absurd (cc blank)
+  Tells-redundant (Err why) (inr earlier) =
       let placed = placed_among-append before after ∙ sym (placed_with (Err why)) in
       let line = earlier.0 in
-      let first : Spoilt = record { place = line.place; why = why } in
-      let has = given_spoilt before line first earlier.1 (subst (λ m. Contains (spoilt_at line.place m) first) (sym earlier.2) (Contains-head first [])) in
+      let first : BadLineAt = record { place = line.place; why = why } in
+      let has = given_bad_line before line first earlier.1 (subst (λ m. Contains (bad_lines_at line.place m) first) (sym earlier.2) (Contains-head first [])) in
       record {
         fault = λ f h.
-            subst (λ l. IsReadFault l f) (sym (spoilt_with (Err why)))
-            (fault_ahead (spoilt_among before) (spoilt_among after) _ first has f (subst (λ l. IsReadFault l f) (spoilt_among-append before after) h));
-        clean = λ none. absurd (not_clean (spoilt_among before) (spoilt_among after) first has (sym (spoilt_among-append before after) ∙ none));
+            subst (λ l. IsReadFault l f) (sym (bad_lines_with (Err why)))
+            (fault_ahead (bad_lines_among before) (bad_lines_among after) _ first has f (subst (λ l. IsReadFault l f) (bad_lines_among-append before after) h));
+        clean = λ none. absurd (not_clean (bad_lines_among before) (bad_lines_among after) first has (sym (bad_lines_among-append before after) ∙ none));
         ledger = λ noted h. subst (λ l. IsLedgerOf l noted) placed h;
       }
 
@@ -199,4 +199,4 @@ pub Tells-kept : (lines old new : List MeaningAt) → Keeps lines old new → Te
 Tells-kept [] old new h = Tells-same new (old ++ []) (sym h ∙ sym (append-nil old))
 Tells-kept (l ∷ lines) old new (inl h) = subst (Tells new) (append_assoc old (l ∷ []) lines) (Tells-kept lines (old ++ l ∷ []) new h)
 Tells-kept (l ∷ lines) old new (inr h) =
-    Tells-trans new (old ++ lines) (old ++ l ∷ lines) (Tells-kept lines old new h.1) (Tells-idle old lines l.place l.meaning h.0)
+    Tells-trans new (old ++ lines) (old ++ l ∷ lines) (Tells-kept lines old new h.1) (Tells-redundant old lines l.place l.meaning h.0)

@@ -4,7 +4,7 @@ mod NextLines
 mod PiecesOfLines
 mod Noting
 mod KeptLines
-mod LaidLines
+mod BatchLines
 mod HeldLines
 mod NotedKeys
 mod RowLines

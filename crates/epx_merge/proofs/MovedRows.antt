@@ -16,7 +16,7 @@ use Rattle.epx_types.specs.Agreement.{Agree}
 use Rattle.epx_types.specs.CommittedMap.{ids_of, IsCommittedBy}
 use Rattle.epx_types.proofs.Membership.{Contains-nil, Contains-head, Contains-cons, Contains-cons_cases}
 use Rattle.epx_types.proofs.Places.{slice_get-map}
-use Rattle.epx_merge.specs.declared.ledger.Clash.{Clash}
+use Rattle.epx_merge.specs.declared.ledger.Disagreement.{Disagreement}
 use Rattle.epx_merge.specs.declared.rows.Row.{Row}
 use Rattle.epx_merge.specs.Ledgers.{IsLedgerOf}
 use Rattle.epx_merge.specs.Refusals.{AreNamedBy}
@@ -140,12 +140,12 @@ module _ (lines : List Placed) (names : List Id) (rows : List Row) (stand : name
 
     -- ---- what the rows tell of all lines that were noted
 
-    module _ (all : List Placed) (clashes : List (Id × Clash)) (ledger : IsLedgerOf all (record { firsts = under_names lines; clashes = clashes })) where
+    module _ (all : List Placed) (disagreements : List (Id × Disagreement)) (ledger : IsLedgerOf all (record { firsts = under_names lines; disagreements = disagreements })) where
       -- the names of the rows are the distinct instances of the lines
       pub AreNamedBy-rows : AreNamedBy all (map (λ r. r.id) rows)
-      AreNamedBy-rows = subst (AreNamedBy all) (keys_under lines rows) (AreNamedBy-sorted all (record { firsts = under_names lines; clashes = clashes }) ledger (under_rows lines rows) under_moved sorted_keys distinct_keys)
+      AreNamedBy-rows = subst (AreNamedBy all) (keys_under lines rows) (AreNamedBy-sorted all (record { firsts = under_names lines; disagreements = disagreements }) ledger (under_rows lines rows) under_moved sorted_keys distinct_keys)
 
       -- where the lines agree, the rows name what they commit
       pub IsCommittedBy-rows : Agree all → IsCommittedBy all (instances_at lines rows)
       IsCommittedBy-rows agree =
-          subst (IsCommittedBy all) (sym instances_moved) (IsCommittedBy-sorted all (record { firsts = under_names lines; clashes = clashes }) ledger (under_rows lines rows) under_moved sorted_keys distinct_keys agree)
+          subst (IsCommittedBy all) (sym instances_moved) (IsCommittedBy-sorted all (record { firsts = under_names lines; disagreements = disagreements }) ledger (under_rows lines rows) under_moved sorted_keys distinct_keys agree)

@@ -3,13 +3,13 @@ use Rattle.std.proofs.Common.{◌≡◌, ℕ, ◌+◌, ◌<◌, List, [], ◌∷
 use Rattle.std.proofs.Math.Seq.{drop-cons, drop-length}
 use Rattle.epx_types.specs.PlacedLines.{Placed}
 use Rattle.epx_merge.specs.declared.pieces.BadLine.{BadLine}
-use Rattle.epx_merge.specs.LogLines.{MeaningAt, placed_at, placed_among, spoilt_at, spoilt_among}
+use Rattle.epx_merge.specs.LogLines.{MeaningAt, placed_at, placed_among, bad_lines_at, bad_lines_among}
 use Rattle.epx_merge.specs.ReadPieces.{Gives, IsFirstBad, AreRead}
-use Rattle.epx_merge.proofs.ReadLines.{placed_among-append, spoilt_among-append}
+use Rattle.epx_merge.proofs.ReadLines.{placed_among-append, bad_lines_among-append}
 
 -- with what the rest gives these are all entries, and all bad lines are among the rest
 pub record IsReading (lines rest : List MeaningAt) (entries : List Placed) : Type 0 where
-  pub clean : spoilt_among lines ≡ spoilt_among rest
+  pub clean : bad_lines_among lines ≡ bad_lines_among rest
   pub placed : placed_among lines ≡ entries ++ placed_among rest
 
 -- the rest begins with the next line
@@ -21,12 +21,12 @@ reading_none lines entries none = record { clean = refl; placed = ap (λ es. es 
 
 module _ (lines : List MeaningAt) (i : ℕ) (line : MeaningAt) (entries : List Placed) (within : i < length lines) (is : line ≡ get_or lines i line) (h : IsReading lines (drop i lines) entries) where
   -- one line more
-  pub reading_more : (entries' : List Placed) → spoilt_at line.place line.meaning ≡ [] → entries' ≡ entries ++ placed_at line.place line.meaning → IsReading lines (drop (i + 1) lines) entries'
+  pub reading_more : (entries' : List Placed) → bad_lines_at line.place line.meaning ≡ [] → entries' ≡ entries ++ placed_at line.place line.meaning → IsReading lines (drop (i + 1) lines) entries'
   reading_more entries' clean added =
       let next = rest_from lines i line within is in
       let rest = drop (i + 1) lines in
       record {
-        clean = h.clean ∙ ap spoilt_among next ∙ ap (λ s. s ++ spoilt_among rest) clean;
+        clean = h.clean ∙ ap bad_lines_among next ∙ ap (λ s. s ++ bad_lines_among rest) clean;
         placed =
             h.placed ∙ ap (λ l. entries ++ placed_among l) next
             ∙ sym (append_assoc entries (placed_at line.place line.meaning) (placed_among rest))
@@ -34,16 +34,16 @@ module _ (lines : List MeaningAt) (i : ℕ) (line : MeaningAt) (entries : List P
       }
 
   -- the next line is bad
-  pub reading_bad : (bad : BadLine) → spoilt_at line.place line.meaning ≡ record { place = bad.place; why = bad.why } ∷ [] → IsFirstBad lines bad
+  pub reading_bad : (bad : BadLine) → bad_lines_at line.place line.meaning ≡ record { place = bad.place; why = bad.why } ∷ [] → IsFirstBad lines bad
   reading_bad bad is_bad =
       let next = rest_from lines i line within is in
       let rest = drop (i + 1) lines in
-      (spoilt_among rest, h.clean ∙ ap spoilt_among next ∙ ap (λ s. s ++ spoilt_among rest) is_bad)
+      (bad_lines_among rest, h.clean ∙ ap bad_lines_among next ∙ ap (λ s. s ++ bad_lines_among rest) is_bad)
 
 -- no line is left
 pub reading_all : {E : Type 0} (holds : List Placed → E → Type 0) (lines : List MeaningAt) (entries : List Placed) (held : E) → IsReading lines (drop (length lines) lines) entries → holds entries held → Gives holds lines held
 reading_all holds lines entries held h good = record {
-  clean = h.clean ∙ ap spoilt_among (drop-length lines);
+  clean = h.clean ∙ ap bad_lines_among (drop-length lines);
   placed = subst (λ es. holds es held) (sym (h.placed ∙ ap (λ l. entries ++ placed_among l) (drop-length lines) ∙ append-nil entries)) good;
 }
 
@@ -55,7 +55,7 @@ module _ {E : Type 0} (holds : List Placed → E → Type 0) (lines : List Meani
     pub read : List MeaningAt
     pub rest : List MeaningAt
     pub whole : lines ≡ read ++ rest
-    pub clean : spoilt_among read ≡ []
+    pub clean : bad_lines_among read ≡ []
     pub given : gathered (placed_among read)
     pub others : AreRead holds rest left
 
@@ -71,7 +71,7 @@ module _ {E : Type 0} (holds : List Placed → E → Type 0) (lines : List Meani
         read = g.read ++ next.0;
         rest = next.1;
         whole = g.whole ∙ ap (λ l. g.read ++ l) next.2 ∙ sym (append_assoc g.read next.0 next.1);
-        clean = spoilt_among-append g.read next.0 ∙ ap (λ l. l ++ spoilt_among next.0) g.clean ∙ next.3.clean;
+        clean = bad_lines_among-append g.read next.0 ∙ ap (λ l. l ++ bad_lines_among next.0) g.clean ∙ next.3.clean;
         given = subst after (sym (placed_among-append g.read next.0)) (add (placed_among g.read) (placed_among next.0) g.given next.3.placed);
         others = next.4;
       }
@@ -81,14 +81,14 @@ module _ {E : Type 0} (holds : List Placed → E → Type 0) (lines : List Meani
   gathering_bad gathered left left' bad is g =
       let next = subst (AreRead holds g.rest) is g.others in
       let here = next.3 in (
-        here.0 ++ spoilt_among next.1,
-        ap spoilt_among g.whole ∙ spoilt_among-append g.read g.rest ∙ ap (λ l. l ++ spoilt_among g.rest) g.clean
-            ∙ ap spoilt_among next.2 ∙ spoilt_among-append next.0 next.1 ∙ ap (λ l. l ++ spoilt_among next.1) here.1,
+        here.0 ++ bad_lines_among next.1,
+        ap bad_lines_among g.whole ∙ bad_lines_among-append g.read g.rest ∙ ap (λ l. l ++ bad_lines_among g.rest) g.clean
+            ∙ ap bad_lines_among next.2 ∙ bad_lines_among-append next.0 next.1 ∙ ap (λ l. l ++ bad_lines_among next.1) here.1,
       )
 
   -- no piece is left
-  pub gathering_all : (gathered : List Placed → Type 0) (left : List (Result E BadLine)) → left ≡ [] → IsGathering gathered left → (spoilt_among lines ≡ []) × gathered (placed_among lines)
+  pub gathering_all : (gathered : List Placed → Type 0) (left : List (Result E BadLine)) → left ≡ [] → IsGathering gathered left → (bad_lines_among lines ≡ []) × gathered (placed_among lines)
   gathering_all gathered left none g =
       let over : g.rest ≡ [] = subst (AreRead holds g.rest) none g.others in
       let all : lines ≡ g.read = g.whole ∙ ap (λ l. g.read ++ l) over ∙ append-nil g.read in
-      (ap spoilt_among all ∙ g.clean, subst (λ l. gathered (placed_among l)) (sym all) g.given)
+      (ap bad_lines_among all ∙ g.clean, subst (λ l. gathered (placed_among l)) (sym all) g.given)

@@ -12,11 +12,11 @@ use Rattle.epx_types.specs.contracts.id.IdPartialEq.TheImpl as id_eq
 use Rattle.epx_types.specs.PlacedLines.{Placed}
 use Rattle.epx_types.proofs.Membership.{Contains-nil, Contains-cons_cases}
 use Rattle.epx_types.proofs.Places.{slice_get-map, slice_get-from_map, Contains-slice_get}
-use Rattle.epx_merge.specs.declared.ledger.Clash.{Clash}
+use Rattle.epx_merge.specs.declared.ledger.Disagreement.{Disagreement}
 use Rattle.epx_merge.specs.Ledgers.{Noted, Notes}
 use Rattle.epx_merge.specs.Keyed.{under_names}
 use Rattle.epx_merge.proofs.Equality.{ids_decide}
-use Rattle.epx_merge.proofs.Noting.{keys, key_of_entry, Notes-new, Notes-known, Notes-clash}
+use Rattle.epx_merge.proofs.Noting.{keys, key_of_entry, Notes-new, Notes-known, Notes-disagreement}
 
 -- `==` of Ids
 abbrev pub same_id : Id → Id → Bool
@@ -89,24 +89,24 @@ known_line lines names after x y place stand old same_after at same =
     (p.0, slice_get-map (λ (q : Placed). (q.instance.id, q)) lines place p.0 p.1 ∙ ap (λ (z : Id). Some (z, p.0)) id)
 
 -- the line that is read where one stands under a name
-pub line_under : (lines : List Placed) (clashes : List (Id × Clash)) (noted : Noted) → ◌≡◌ {A = Noted} (record { firsts = under_names lines; clashes = clashes }) noted → (place : ℕ) (x : Id) (first : Placed)
+pub line_under : (lines : List Placed) (disagreements : List (Id × Disagreement)) (noted : Noted) → ◌≡◌ {A = Noted} (record { firsts = under_names lines; disagreements = disagreements }) noted → (place : ℕ) (x : Id) (first : Placed)
     → (p : Placed) × (slice_get noted.firsts place ≡ Some (x, p)) → first ≡ get_or lines place first → Contains (under_names lines) (x, first)
-line_under lines clashes noted view place x first h is =
+line_under lines disagreements noted view place x first h is =
     let at : slice_get (under_names lines) place ≡ Some (x, h.0) = subst (λ (n : Noted). slice_get n.firsts place ≡ Some (x, h.0)) (sym view) h.1 in
     let q = slice_get-from_map (λ (r : Placed). (r.instance.id, r)) lines place (x, h.0) at in
     let same : h.0 ≡ first = sym (is ∙ get_or_from_slice_get lines place q.0 first q.1 ∙ ap (λ (e : Id × Placed). e.1) q.2) in
     subst (λ (r : Placed). Contains (under_names lines) (x, r)) same (Contains-slice_get (under_names lines) place (x, h.0) at)
 
-module _ (lines : List Placed) (clashes : List (Id × Clash)) (line : Placed) (x : Id) (named : x ≡ line.instance.id) where
+module _ (lines : List Placed) (disagreements : List (Id × Disagreement)) (line : Placed) (x : Id) (named : x ≡ line.instance.id) where
   abbrev pub noted : Noted
-  noted = record { firsts = under_names lines; clashes = clashes }
+  noted = record { firsts = under_names lines; disagreements = disagreements }
 
   -- the first line of an instance goes last
-  pub noted_first : (after : List Placed) (names : List Id) → names ≡ map (λ p. p.instance.id) lines → not (list_any (same_id x) names) ≡ true → after ≡ lines ++ line ∷ [] → Notes (line ∷ []) noted (record { firsts = under_names after; clashes = clashes })
+  pub noted_first : (after : List Placed) (names : List Id) → names ≡ map (λ p. p.instance.id) lines → not (list_any (same_id x) names) ≡ true → after ≡ lines ++ line ∷ [] → Notes (line ∷ []) noted (record { firsts = under_names after; disagreements = disagreements })
   noted_first after names stand new is =
       let end : under_names after ≡ under_names lines ++ (line.instance.id, line) ∷ [] = ap under_names is ∙ map-append (λ (p : Placed). (p.instance.id, p)) lines (line ∷ []) in
       let none = unseen x names (let fresh : list_any (same_id x) names ≡ false = grind (arith, new) in fresh) in
-      subst (λ (firsts : List (Id × Placed)). Notes (line ∷ []) noted (record { firsts = firsts; clashes = clashes })) (sym end)
+      subst (λ (firsts : List (Id × Placed)). Notes (line ∷ []) noted (record { firsts = firsts; disagreements = disagreements })) (sym end)
       (Notes-new noted line (subst₂ (λ (names : List Id) (y : Id). ¬ Contains names y) (stand ∙ sym (names_under lines)) named none))
 
   module _ (first : Placed) (known : Contains (under_names lines) (line.instance.id, first)) where
@@ -114,14 +114,14 @@ module _ (lines : List Placed) (clashes : List (Id × Clash)) (line : Placed) (x
     pub noted_alike : first.instance ≡ line.instance → Notes (line ∷ []) noted noted
     noted_alike same = Notes-known noted line first known (inl same)
 
-    -- a line of an instance that has a clash
-    pub noted_clashing : is_some (lookup (same_id x) clashes) ≡ true → Notes (line ∷ []) noted noted
-    noted_clashing clashing = Notes-known noted line first known (inr (subst (Contains (keys clashes)) named (key_found x clashes clashing)))
+    -- a line of an instance that has a disagreement
+    pub noted_disagreeing : is_some (lookup (same_id x) disagreements) ≡ true → Notes (line ∷ []) noted noted
+    noted_disagreeing disagreeing = Notes-known noted line first known (inr (subst (Contains (keys disagreements)) named (key_found x disagreements disagreeing)))
 
-    -- a first clash goes last
-    pub noted_clash : (clash : Clash) (after : List (Id × Clash)) → first.instance ≢ line.instance → is_some (lookup (same_id x) clashes) ≡ false
-        → clash.first ≡ first.place → clash.second ≡ line.place → after ≡ clashes ++ (x, clash) ∷ [] → Notes (line ∷ []) noted (record { firsts = under_names lines; clashes = after })
-    noted_clash clash after differ none first_place second_place is =
-        let end : after ≡ clashes ++ (line.instance.id, clash) ∷ [] = is ∙ ap (λ (y : Id). clashes ++ (y, clash) ∷ []) named in
-        subst (λ (es : List (Id × Clash)). Notes (line ∷ []) noted (record { firsts = under_names lines; clashes = es })) (sym end)
-        (Notes-clash noted line first clash known differ (subst (λ (y : Id). ¬ Contains (keys clashes) y) named (no_key x clashes none)) (sym first_place) (sym second_place))
+    -- a first disagreement goes last
+    pub noted_disagreement : (disagreement : Disagreement) (after : List (Id × Disagreement)) → first.instance ≢ line.instance → is_some (lookup (same_id x) disagreements) ≡ false
+        → disagreement.first ≡ first.place → disagreement.second ≡ line.place → after ≡ disagreements ++ (x, disagreement) ∷ [] → Notes (line ∷ []) noted (record { firsts = under_names lines; disagreements = after })
+    noted_disagreement disagreement after differ none first_place second_place is =
+        let end : after ≡ disagreements ++ (line.instance.id, disagreement) ∷ [] = is ∙ ap (λ (y : Id). disagreements ++ (y, disagreement) ∷ []) named in
+        subst (λ (es : List (Id × Disagreement)). Notes (line ∷ []) noted (record { firsts = under_names lines; disagreements = es })) (sym end)
+        (Notes-disagreement noted line first disagreement known differ (subst (λ (y : Id). ¬ Contains (keys disagreements) y) named (no_key x disagreements none)) (sym first_place) (sym second_place))

@@ -5,8 +5,8 @@ use Rattle.epx_types.specs.declared.id.Id.{Id}
 use Rattle.epx_types.specs.PlacedLines.{Placed}
 use Rattle.epx_types.specs.Agreement.{Differ}
 use Rattle.epx_types.proofs.Membership.{Contains-map, Contains-from_map}
-use Rattle.epx_merge.specs.declared.ledger.Clash.{Clash}
-use Rattle.epx_merge.specs.Ledgers.{Noted, IsFirstWhere, Names, IsClashOf, IsLedgerOf, Notes}
+use Rattle.epx_merge.specs.declared.ledger.Disagreement.{Disagreement}
+use Rattle.epx_merge.specs.Ledgers.{Noted, IsFirstWhere, Names, IsDisagreementOf, IsLedgerOf, Notes}
 use Rattle.epx_merge.proofs.FirstWhere.{IsFirstWhere-holds, IsFirstWhere-unique, IsFirstWhere-append, IsFirstWhere-push}
 
 -- ---- entries under keys
@@ -38,9 +38,9 @@ Notes-append lines more a b c first second done h =
 -- ---- one line more
 
 module _ (done : List Placed) (p : Placed) where
-  -- a clash stays one
-  IsClashOf-push : (x : Id) (clash : Clash) → IsClashOf done x clash → IsClashOf (done ++ p ∷ []) x clash
-  IsClashOf-push x clash h = record {
+  -- a disagreement stays one
+  IsDisagreementOf-push : (x : Id) (disagreement : Disagreement) → IsDisagreementOf done x disagreement → IsDisagreementOf (done ++ p ∷ []) x disagreement
+  IsDisagreementOf-push x disagreement h = record {
     first = h.first;
     second = h.second;
     opens = IsFirstWhere-append (Names x) done (p ∷ []) h.first h.opens;
@@ -50,7 +50,7 @@ module _ (done : List Placed) (p : Placed) where
   }
 
 -- the first line of an instance
-pub Notes-new : (noted : Noted) (p : Placed) → ¬ Contains (keys noted.firsts) p.instance.id → Notes (p ∷ []) noted (record { firsts = noted.firsts ++ (p.instance.id, p) ∷ []; clashes = noted.clashes })
+pub Notes-new : (noted : Noted) (p : Placed) → ¬ Contains (keys noted.firsts) p.instance.id → Notes (p ∷ []) noted (record { firsts = noted.firsts ++ (p.instance.id, p) ∷ []; disagreements = noted.disagreements })
 Notes-new noted p none done h = record {
   firsts = λ x q has. elim (Contains-push_cases noted.firsts (p.instance.id, p) (x, q) has) [
     | inl old ↦ IsFirstWhere-append (Names x) done (p ∷ []) q (h.firsts x q old)
@@ -60,7 +60,7 @@ Notes-new noted p none done h = record {
     | inl old ↦ key_kept noted.firsts (p.instance.id, p) q.instance.id (h.whole q old)
     | inr new ↦ subst (λ (r : Placed). Contains (keys (noted.firsts ++ (p.instance.id, p) ∷ [])) r.instance.id) new (key_added noted.firsts p.instance.id p)
   ];
-  clashes = λ x clash has. IsClashOf-push done p x clash (h.clashes x clash has);
+  disagreements = λ x disagreement has. IsDisagreementOf-push done p x disagreement (h.disagreements x disagreement has);
   alike = λ x q has apart r in_r named. elim (Contains-push_cases noted.firsts (p.instance.id, p) (x, q) has) [
     | inl old ↦ elim (Contains-push_cases done p r in_r) [
       | inl before ↦ h.alike x q old apart r before named
@@ -81,15 +81,15 @@ Notes-new noted p none done h = record {
         let P : Id × Placed → Type 0 = λ f. IsFirstWhere (Names f.0) (done ++ p ∷ []) f.1 in
         subst P e (IsFirstWhere-push (Names p.instance.id) done p fresh refl)
 
--- a line of a known instance that commits the same as its first, or whose instance has a clash already
-pub Notes-known : (noted : Noted) (p f : Placed) → Contains noted.firsts (p.instance.id, f) → (f.instance ≡ p.instance) ⊎ Contains (keys noted.clashes) p.instance.id → Notes (p ∷ []) noted noted
+-- a line of a known instance that commits the same as its first, or whose instance has a disagreement already
+pub Notes-known : (noted : Noted) (p f : Placed) → Contains noted.firsts (p.instance.id, f) → (f.instance ≡ p.instance) ⊎ Contains (keys noted.disagreements) p.instance.id → Notes (p ∷ []) noted noted
 Notes-known noted p f known reason done h = record {
   firsts = λ x q has. IsFirstWhere-append (Names x) done (p ∷ []) q (h.firsts x q has);
   whole = λ q has. elim (Contains-push_cases done p q has) [
     | inl old ↦ h.whole q old
     | inr new ↦ subst (λ (r : Placed). Contains (keys noted.firsts) r.instance.id) new (key_of_entry noted.firsts p.instance.id f known)
   ];
-  clashes = λ x clash has. IsClashOf-push done p x clash (h.clashes x clash has);
+  disagreements = λ x disagreement has. IsDisagreementOf-push done p x disagreement (h.disagreements x disagreement has);
   alike = λ x q has apart r in_r named. elim (Contains-push_cases done p r in_r) [
     | inl before ↦ h.alike x q has apart r before named
     | inr last ↦ elim reason [
@@ -97,27 +97,27 @@ Notes-known noted p f known reason done h = record {
           let id : p.instance.id ≡ x = ap (λ (s : Placed). s.instance.id) last ∙ named in
           let first : q ≡ f = IsFirstWhere-unique (Names x) done q f (h.firsts x q has) (let P : Id → Type 0 = λ y. IsFirstWhere (Names y) done f in subst P id (h.firsts p.instance.id f known)) in
           ap (λ (s : Placed). s.instance) first ∙ same ∙ ap (λ (s : Placed). s.instance) last
-      | inr clash ↦ absurd (apart (subst (Contains (keys noted.clashes)) (ap (λ (s : Placed). s.instance.id) last ∙ named) clash))
+      | inr disagreement ↦ absurd (apart (subst (Contains (keys noted.disagreements)) (ap (λ (s : Placed). s.instance.id) last ∙ named) disagreement))
     ]
   ];
 }
 
 -- the first line of an instance that differs from its first
-pub Notes-clash : (noted : Noted) (p f : Placed) (clash : Clash) → Contains noted.firsts (p.instance.id, f) → f.instance ≢ p.instance → ¬ Contains (keys noted.clashes) p.instance.id
-    → f.place ≡ clash.first → p.place ≡ clash.second → Notes (p ∷ []) noted (record { firsts = noted.firsts; clashes = noted.clashes ++ (p.instance.id, clash) ∷ [] })
-Notes-clash noted p f clash known differ none first_place second_place done h = record {
+pub Notes-disagreement : (noted : Noted) (p f : Placed) (disagreement : Disagreement) → Contains noted.firsts (p.instance.id, f) → f.instance ≢ p.instance → ¬ Contains (keys noted.disagreements) p.instance.id
+    → f.place ≡ disagreement.first → p.place ≡ disagreement.second → Notes (p ∷ []) noted (record { firsts = noted.firsts; disagreements = noted.disagreements ++ (p.instance.id, disagreement) ∷ [] })
+Notes-disagreement noted p f disagreement known differ none first_place second_place done h = record {
   firsts = λ x q has. IsFirstWhere-append (Names x) done (p ∷ []) q (h.firsts x q has);
   whole = λ q has. elim (Contains-push_cases done p q has) [
     | inl old ↦ h.whole q old
     | inr new ↦ subst (λ (r : Placed). Contains (keys noted.firsts) r.instance.id) new (key_of_entry noted.firsts p.instance.id f known)
   ];
-  clashes = λ x other has. elim (Contains-push_cases noted.clashes (p.instance.id, clash) (x, other) has) [
-    | inl old ↦ IsClashOf-push done p x other (h.clashes x other old)
-    | inr new ↦ (let P : Id × Clash → Type 0 = λ e. IsClashOf (done ++ p ∷ []) e.0 e.1 in subst P new here)
+  disagreements = λ x other has. elim (Contains-push_cases noted.disagreements (p.instance.id, disagreement) (x, other) has) [
+    | inl old ↦ IsDisagreementOf-push done p x other (h.disagreements x other old)
+    | inr new ↦ (let P : Id × Disagreement → Type 0 = λ e. IsDisagreementOf (done ++ p ∷ []) e.0 e.1 in subst P new here)
   ];
   alike = λ x q has apart r in_r named. elim (Contains-push_cases done p r in_r) [
-    | inl before ↦ h.alike x q has (λ among. apart (key_kept noted.clashes (p.instance.id, clash) x among)) r before named
-    | inr last ↦ absurd (apart (subst (Contains (keys (noted.clashes ++ (p.instance.id, clash) ∷ []))) (ap (λ (s : Placed). s.instance.id) last ∙ named) (key_added noted.clashes p.instance.id clash)))
+    | inl before ↦ h.alike x q has (λ among. apart (key_kept noted.disagreements (p.instance.id, disagreement) x among)) r before named
+    | inr last ↦ absurd (apart (subst (Contains (keys (noted.disagreements ++ (p.instance.id, disagreement) ∷ []))) (ap (λ (s : Placed). s.instance.id) last ∙ named) (key_added noted.disagreements p.instance.id disagreement)))
   ];
 }
   where
@@ -127,7 +127,7 @@ Notes-clash noted p f clash known differ none first_place second_place done h = 
     same_id : f.instance.id ≡ p.instance.id
     same_id = IsFirstWhere-holds (Names p.instance.id) done f opening
 
-    here : IsClashOf (done ++ p ∷ []) p.instance.id clash
+    here : IsDisagreementOf (done ++ p ∷ []) p.instance.id disagreement
     here = record {
       first = f;
       second = p;

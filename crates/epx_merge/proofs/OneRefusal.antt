@@ -1,4 +1,4 @@
--- Logs are never both accepted and refused, they have one refusal besides want of memory, and they commit one map.
+-- Logs are never both accepted and refused, they have one refusal besides out of memory, and they commit one map.
 use Rattle.std.proofs.Common.{◌≡◌, ◌≢◌, ℕ, ◌<◌, List, ◌∷◌, length, Contains, refl, sym, ap, subst, ◌∙◌, arith}
 use Rattle.epx_types.specs.declared.id.Id.{Id}
 use Rattle.epx_types.specs.declared.place.Place.{Place}
@@ -12,8 +12,8 @@ use Rattle.epx_types.proofs.AgreementLemmas.{IsCommittedBy-unique, IsFirstDisagr
 use Rattle.epx_types.proofs.Comparisons.{id_cmp_total}
 use Rattle.epx_types.proofs.Rising.{AllPairs-from_IsRising}
 use Rattle.epx_types.proofs.TotalOrders.{below_itself, below_trans, same_rising}
-use Rattle.epx_merge.specs.LogLines.{placed_of, Spoilt, spoilt_of}
-use Rattle.epx_merge.specs.Refusals.{IsFirstTooLong, NoneTooLong, IsFirstSpoilt, AreNamedBy, IsSmall, IsLarge, IsDisagreementAt, IsRefusal}
+use Rattle.epx_merge.specs.LogLines.{placed_of, BadLineAt, bad_lines_of}
+use Rattle.epx_merge.specs.Refusals.{IsFirstTooLong, NoneTooLong, IsFirstBadLine, AreNamedBy, IsSmall, IsLarge, IsDisagreementAt, IsRefusal}
 use Rattle.epx_merge.specs.Acceptance.{IsAccepted}
 use Rattle.epx_merge.proofs.PlaceOrder.{placed_apart}
 
@@ -36,7 +36,7 @@ none_and_first_too_long logs log none first = omega (arith, none log first.long.
 pub accepted_unique : (logs : List (List ℕ)) (m n : List Instance) → IsAccepted logs m → IsAccepted logs n → m ≡ n
 accepted_unique logs m n a b = IsCommittedBy-unique (placed_of logs) m n a.committed b.committed
 
--- only want of memory refuses logs that are accepted
+-- only out of memory refuses logs that are accepted
 pub accepted_not_refused : (logs : List (List ℕ)) (m : List Instance) (f : Fault) → IsAccepted logs m → IsRefusal logs f → f ≡ Memory
 accepted_not_refused logs m Memory a r = refl
 accepted_not_refused logs m TooManyLogs a r = absurd (omega (arith, r, a.whole.0.0))
@@ -64,12 +64,12 @@ not_shorter logs j k a b lt = omega (arith, b.first j a.long.0 lt a.long.1, a.lo
 pub same_long : (logs : List (List ℕ)) (j k : ℕ) → IsFirstTooLong logs j → IsFirstTooLong logs k → j ≡ k
 same_long logs j k a b = omega (arith, not_shorter logs j k a b, not_shorter logs k j b a)
 
-first_is : (x y : Spoilt) (xs ys : List Spoilt) → x ∷ xs ≡ y ∷ ys → x ≡ y
+first_is : (x y : BadLineAt) (xs ys : List BadLineAt) → x ∷ xs ≡ y ∷ ys → x ≡ y
 first_is x y xs ys e = cc
 
-same_spoilt : (lines : List Spoilt) (m n : Place) (why how : Why) → IsFirstSpoilt lines m why → IsFirstSpoilt lines n how → BadLine m why ≡ BadLine n how
-same_spoilt lines m n why how a b =
-    ap (λ (s : Spoilt). BadLine s.place s.why) (first_is (record { place = m; why = why }) (record { place = n; why = how }) a.0 b.0 (sym a.1 ∙ b.1))
+same_bad_lines : (lines : List BadLineAt) (m n : Place) (why how : Why) → IsFirstBadLine lines m why → IsFirstBadLine lines n how → BadLine m why ≡ BadLine n how
+same_bad_lines lines m n why how a b =
+    ap (λ (s : BadLineAt). BadLine s.place s.why) (first_is (record { place = m; why = why }) (record { place = n; why = how }) a.0 b.0 (sym a.1 ∙ b.1))
 
 pub refusal_unique : (logs : List (List ℕ)) (f g : Fault) → f ≢ Memory → g ≢ Memory → IsRefusal logs f → IsRefusal logs g → f ≡ g
 refusal_unique logs Memory g nf ng a b = absurd (nf refl)
@@ -100,7 +100,7 @@ refusal_unique logs (BadLine m why) Write nf ng a b = absurd b
 refusal_unique logs (BadLine m why) (BadBase line) nf ng a b = absurd b
 refusal_unique logs (BadLine m why) TooManyLogs nf ng a b = absurd (omega (arith, b, a.0.0))
 refusal_unique logs (BadLine m why) (LogTooLong k) nf ng a b = absurd (none_and_first_too_long logs k (a.0.1) b.1)
-refusal_unique logs (BadLine m why) (BadLine n how) nf ng a b = same_spoilt (spoilt_of logs) m n why how a.1 b.1
+refusal_unique logs (BadLine m why) (BadLine n how) nf ng a b = same_bad_lines (bad_lines_of logs) m n why how a.1 b.1
 refusal_unique logs (BadLine m why) TooManyInstances nf ng a b = let some = a.1.1 in let none = b.0.1 in cc
 refusal_unique logs (BadLine m why) (Disagree y r s) nf ng a b = let some = a.1.1 in let none = b.0.1 in cc
 refusal_unique logs TooManyInstances Memory nf ng a b = absurd (ng refl)

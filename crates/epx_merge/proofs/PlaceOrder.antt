@@ -11,9 +11,9 @@ use Rattle.epx_types.proofs.TotalOrders.{below_itself}
 use Rattle.epx_lines.specs.Lines.{lines_of}
 use Rattle.epx_lines.specs.declared.Line.{Line}
 use Rattle.epx_lines.specs.declared.Line.TheVariants.{Blank, Entry}
-use Rattle.epx_merge.specs.LogLines.{MeaningAt, meaning_at, meanings_in, meanings_from, meanings_of, placed_at, placed_of, Spoilt, spoilt_at, spoilt_of}
+use Rattle.epx_merge.specs.LogLines.{MeaningAt, meaning_at, meanings_in, meanings_from, meanings_of, placed_at, placed_of, BadLineAt, bad_lines_at, bad_lines_of}
 use Rattle.epx_merge.specs.LineOrder.{InOrderOf, InPlaceOrder}
-use Rattle.epx_merge.specs.Refusals.{IsFirstSpoilt}
+use Rattle.epx_merge.specs.Refusals.{IsFirstBadLine}
 
 earlier_log : (p q : Place) → p.log < q.log → Earlier p q
 earlier_log p q h = grind (arith, nat_tests)
@@ -122,25 +122,25 @@ placed_apart logs = own_places (placed_of logs) (placed_in_order logs)
 
 -- ---- the lines that have a fault
 
-spoilt_there : (place : Place) (r : Result Line Why) (x : Spoilt) → Contains (spoilt_at place r) x → x.place ≡ place
-spoilt_there place (Ok l) x h = absurd (Contains-nil x h)
-spoilt_there place (Err why) x h =
+bad_line_there : (place : Place) (r : Result Line Why) (x : BadLineAt) → Contains (bad_lines_at place r) x → x.place ≡ place
+bad_line_there place (Ok l) x h = absurd (Contains-nil x h)
+bad_line_there place (Err why) x h =
     elim (Contains-cons_cases (record { place = place; why = why }) [] x h) [
-      | inl same ↦ ap (λ (s : Spoilt). s.place) (sym same)
+      | inl same ↦ ap (λ (s : BadLineAt). s.place) (sym same)
       | inr none ↦ absurd (Contains-nil x none)
     ]
 
-spoilt_one : (place : Place) (r : Result Line Why) → InOrderOf (λ (x : Spoilt). x.place) (spoilt_at place r)
-spoilt_one place (Ok l) = tt
-spoilt_one place (Err why) = ((λ y h. absurd (Contains-nil y h)), tt)
+one_bad_line : (place : Place) (r : Result Line Why) → InOrderOf (λ (x : BadLineAt). x.place) (bad_lines_at place r)
+one_bad_line place (Ok l) = tt
+one_bad_line place (Err why) = ((λ y h. absurd (Contains-nil y h)), tt)
 
 -- the first of them stands before all others
-pub first_spoilt_least : (logs : List (List ℕ)) (place : Place) (why : Why) → IsFirstSpoilt (spoilt_of logs) place why → (x : Spoilt) → Contains (spoilt_of logs) x → (place ≡ x.place) ⊎ Earlier place x.place
-first_spoilt_least logs place why f x h =
-    let first : Spoilt = record { place = place; why = why } in
-    let all = InOrderOf-flat_map (λ (s : Spoilt). s.place) (λ l. spoilt_at l.place l.meaning) (λ l. spoilt_there l.place l.meaning) (λ l. spoilt_one l.place l.meaning) (meanings_of logs) (logs_in_order 0 logs) in
-    let order : InOrderOf (λ (s : Spoilt). s.place) (first ∷ f.0) = subst (InOrderOf (λ (s : Spoilt). s.place)) f.1 all in
-    elim (Contains-cons_cases first f.0 x (subst (λ (l : List Spoilt). Contains l x) f.1 h)) [
-      | inl e ↦ inl (ap (λ (s : Spoilt). s.place) e)
+pub first_bad_line_least : (logs : List (List ℕ)) (place : Place) (why : Why) → IsFirstBadLine (bad_lines_of logs) place why → (x : BadLineAt) → Contains (bad_lines_of logs) x → (place ≡ x.place) ⊎ Earlier place x.place
+first_bad_line_least logs place why f x h =
+    let first : BadLineAt = record { place = place; why = why } in
+    let all = InOrderOf-flat_map (λ (s : BadLineAt). s.place) (λ l. bad_lines_at l.place l.meaning) (λ l. bad_line_there l.place l.meaning) (λ l. one_bad_line l.place l.meaning) (meanings_of logs) (logs_in_order 0 logs) in
+    let order : InOrderOf (λ (s : BadLineAt). s.place) (first ∷ f.0) = subst (InOrderOf (λ (s : BadLineAt). s.place)) f.1 all in
+    elim (Contains-cons_cases first f.0 x (subst (λ (l : List BadLineAt). Contains l x) f.1 h)) [
+      | inl e ↦ inl (ap (λ (s : BadLineAt). s.place) e)
       | inr rest ↦ inr (order.0 x rest)
     ]

@@ -5,7 +5,7 @@ use Rattle.std.proofs.lemmas.Grind.{flat_map-append}
 use Rattle.epx_types.specs.declared.fault.Fault.{Fault}
 use Rattle.epx_types.specs.declared.fault.Fault.TheVariants.{Memory, TooManyLogs, LogTooLong, BadLine, TooManyInstances, Disagree, Read, Write, BadBase}
 use Rattle.epx_lines.specs.Lines.{lines_of}
-use Rattle.epx_merge.specs.LogLines.{MeaningAt, meaning_at, meanings_in, meanings_from, placed_at, placed_among, Spoilt, spoilt_at, spoilt_among}
+use Rattle.epx_merge.specs.LogLines.{MeaningAt, meaning_at, meanings_in, meanings_from, placed_at, placed_among, BadLineAt, bad_lines_at, bad_lines_among}
 use Rattle.epx_merge.specs.Ledgers.{Noted, Notes}
 use Rattle.epx_merge.specs.Steps.{IsReadFault}
 use Rattle.epx_merge.proofs.Noting.{Notes-nil, Notes-append}
@@ -13,11 +13,11 @@ use Rattle.epx_merge.proofs.Noting.{Notes-nil, Notes-append}
 pub placed_among-append : (xs ys : List MeaningAt) → placed_among (xs ++ ys) ≡ placed_among xs ++ placed_among ys
 placed_among-append xs ys = flat_map-append (λ (l : MeaningAt). placed_at l.place l.meaning) xs ys
 
-pub spoilt_among-append : (xs ys : List MeaningAt) → spoilt_among (xs ++ ys) ≡ spoilt_among xs ++ spoilt_among ys
-spoilt_among-append xs ys = flat_map-append (λ (l : MeaningAt). spoilt_at l.place l.meaning) xs ys
+pub bad_lines_among-append : (xs ys : List MeaningAt) → bad_lines_among (xs ++ ys) ≡ bad_lines_among xs ++ bad_lines_among ys
+bad_lines_among-append xs ys = flat_map-append (λ (l : MeaningAt). bad_lines_at l.place l.meaning) xs ys
 
 -- lines after a bad one leave the first fault
-fault_before : (xs ys : List Spoilt) (f : Fault) → IsReadFault xs f → IsReadFault (xs ++ ys) f
+fault_before : (xs ys : List BadLineAt) (f : Fault) → IsReadFault xs f → IsReadFault (xs ++ ys) f
 fault_before xs ys Memory h = h
 fault_before xs ys TooManyLogs h = h
 fault_before xs ys (LogTooLong log) h = h
@@ -30,24 +30,24 @@ fault_before xs ys (BadBase line) h = h
 
 -- the lines read so far have no fault and are noted
 pub record Reads (lines : List MeaningAt) (old new : Noted) : Type 0 where
-  pub clean : spoilt_among lines ≡ []
+  pub clean : bad_lines_among lines ≡ []
   pub noted : Notes (placed_among lines) old new
 
 pub Reads-nil : (noted : Noted) → Reads [] noted noted
 Reads-nil noted = record { clean = refl; noted = Notes-nil noted }
 
-pub Reads-append : (xs ys : List MeaningAt) (a b c : Noted) → Reads xs a b → spoilt_among ys ≡ [] → Notes (placed_among ys) b c → Reads (xs ++ ys) a c
+pub Reads-append : (xs ys : List MeaningAt) (a b c : Noted) → Reads xs a b → bad_lines_among ys ≡ [] → Notes (placed_among ys) b c → Reads (xs ++ ys) a c
 Reads-append xs ys a b c first clean noted = record {
-  clean = spoilt_among-append xs ys ∙ ap (λ l. l ++ spoilt_among ys) first.clean ∙ clean;
+  clean = bad_lines_among-append xs ys ∙ ap (λ l. l ++ bad_lines_among ys) first.clean ∙ clean;
   noted = subst (λ l. Notes l a c) (sym (placed_among-append xs ys)) (Notes-append (placed_among xs) (placed_among ys) a b c first.noted noted);
 }
 
 -- a fault after clean lines, whatever follows
-pub fault_after : (xs ys zs all : List MeaningAt) (f : Fault) → spoilt_among xs ≡ [] → IsReadFault (spoilt_among ys) f → xs ++ (ys ++ zs) ≡ all → IsReadFault (spoilt_among all) f
+pub fault_after : (xs ys zs all : List MeaningAt) (f : Fault) → bad_lines_among xs ≡ [] → IsReadFault (bad_lines_among ys) f → xs ++ (ys ++ zs) ≡ all → IsReadFault (bad_lines_among all) f
 fault_after xs ys zs all f clean h is =
-    let whole = spoilt_among-append xs (ys ++ zs) ∙ ap (λ l. l ++ spoilt_among (ys ++ zs)) clean ∙ spoilt_among-append ys zs in
-    let P : List Spoilt → Type 0 = λ l. IsReadFault l f in
-    subst P (ap spoilt_among is) (subst P (sym whole) (fault_before (spoilt_among ys) (spoilt_among zs) f h))
+    let whole = bad_lines_among-append xs (ys ++ zs) ∙ ap (λ l. l ++ bad_lines_among (ys ++ zs)) clean ∙ bad_lines_among-append ys zs in
+    let P : List BadLineAt → Type 0 = λ l. IsReadFault l f in
+    subst P (ap bad_lines_among is) (subst P (sym whole) (fault_before (bad_lines_among ys) (bad_lines_among zs) f h))
 
 -- ---- what is left
 

@@ -3,11 +3,11 @@ use Rattle.std.specs.Prelude.{◌≡◌, ◌⊎◌, List, [], ◌∷◌, ◌++�
 use Rattle.epx_types.specs.declared.id.Id.{Id}
 use Rattle.epx_types.specs.PlacedLines.{Placed}
 use Rattle.epx_types.specs.Agreement.{Differ}
-use Rattle.epx_merge.specs.declared.ledger.Clash.{Clash}
+use Rattle.epx_merge.specs.declared.ledger.Disagreement.{Disagreement}
 
 pub record Noted : Type 0 where
   pub firsts : List (Id × Placed)
-  pub clashes : List (Id × Clash)
+  pub disagreements : List (Id × Disagreement)
 
 -- p is the first of the lines of which the fact holds
 abbrev pub IsFirstWhere : (Placed → Type 0) → List Placed → Placed → Type 0
@@ -18,19 +18,19 @@ abbrev pub Names : Id → Placed → Type 0
 Names x p = p.instance.id ≡ x
 
 -- the first line of x, and the first that differs from it
-pub record IsClashOf (lines : List Placed) (x : Id) (clash : Clash) : Type 0 where
+pub record IsDisagreementOf (lines : List Placed) (x : Id) (disagreement : Disagreement) : Type 0 where
   pub first : Placed
   pub second : Placed
   pub opens : IsFirstWhere (Names x) lines first
   pub differs : IsFirstWhere (Differ first) lines second
-  pub first_place : first.place ≡ clash.first
-  pub second_place : second.place ≡ clash.second
+  pub first_place : first.place ≡ disagreement.first
+  pub second_place : second.place ≡ disagreement.second
 
 pub record IsLedgerOf (lines : List Placed) (noted : Noted) : Type 0 where
   pub firsts : (x : Id) (p : Placed) → Contains noted.firsts (x, p) → IsFirstWhere (Names x) lines p
   pub whole : (p : Placed) → Contains lines p → Contains (map (λ e. e.0) noted.firsts) p.instance.id
-  pub clashes : (x : Id) (clash : Clash) → Contains noted.clashes (x, clash) → IsClashOf lines x clash
-  pub alike : (x : Id) (p : Placed) → Contains noted.firsts (x, p) → ¬ Contains (map (λ e. e.0) noted.clashes) x → (q : Placed) → Contains lines q → q.instance.id ≡ x → p.instance ≡ q.instance
+  pub disagreements : (x : Id) (disagreement : Disagreement) → Contains noted.disagreements (x, disagreement) → IsDisagreementOf lines x disagreement
+  pub alike : (x : Id) (p : Placed) → Contains noted.firsts (x, p) → ¬ Contains (map (λ e. e.0) noted.disagreements) x → (q : Placed) → Contains lines q → q.instance.id ≡ x → p.instance ≡ q.instance
 
 -- noting the lines takes the one to the other
 abbrev pub Notes : List Placed → Noted → Noted → Type 0

@@ -9,5 +9,5 @@ pub mod Steps
 pub mod LineOrder
 pub mod ReadPieces
 pub mod Repeats
-pub mod Advances
+pub mod ReadSteps
 pub mod EntryLines

@@ -6,15 +6,15 @@ use Rattle.epx_types.specs.declared.fault.Why.{Why}
 use Rattle.epx_types.specs.declared.place.Place.{Place}
 use Rattle.epx_types.specs.Instances.{Instance}
 use Rattle.epx_types.specs.PlacedLines.{Earlier, HavePlacesOfTheirOwn}
-use Rattle.epx_merge.specs.LogLines.{placed_of, Spoilt, spoilt_of}
-use Rattle.epx_merge.specs.Refusals.{IsFirstSpoilt, IsRefusal}
+use Rattle.epx_merge.specs.LogLines.{placed_of, BadLineAt, bad_lines_of}
+use Rattle.epx_merge.specs.Refusals.{IsFirstBadLine, IsRefusal}
 use Rattle.epx_merge.specs.Acceptance.{IsAccepted}
 
--- logs that are accepted are not refused, want of memory aside
+-- logs that are accepted are not refused, running out of memory aside
 abbrev pub AcceptedIsNotRefused : Type 0
 AcceptedIsNotRefused = (logs : List (List ℕ)) (m : List Instance) (f : Fault) → IsAccepted logs m → f ≢ Memory → ¬ IsRefusal logs f
 
--- logs have one refusal, want of memory aside
+-- logs have one refusal, running out of memory aside
 abbrev pub RefusalIsOne : Type 0
 RefusalIsOne = (logs : List (List ℕ)) (f g : Fault) → f ≢ Memory → g ≢ Memory → IsRefusal logs f → IsRefusal logs g → f ≡ g
 
@@ -32,4 +32,4 @@ LinesHavePlacesOfTheirOwn = (logs : List (List ℕ)) → HavePlacesOfTheirOwn (p
 
 -- the bad line that is named stands before all others
 abbrev pub NamedBadLineIsLeast : Type 0
-NamedBadLineIsLeast = (logs : List (List ℕ)) (place : Place) (why : Why) → IsFirstSpoilt (spoilt_of logs) place why → (x : Spoilt) → Contains (spoilt_of logs) x → (place ≡ x.place) ⊎ Earlier place x.place
+NamedBadLineIsLeast = (logs : List (List ℕ)) (place : Place) (why : Why) → IsFirstBadLine (bad_lines_of logs) place why → (x : BadLineAt) → Contains (bad_lines_of logs) x → (place ≡ x.place) ⊎ Earlier place x.place

@@ -50,16 +50,16 @@ placed_of logs = placed_among (meanings_of logs)
 
 -- ---- the lines that have a fault
 
-pub record Spoilt : Type 0 where
+pub record BadLineAt : Type 0 where
   pub place : Place
   pub why : Why
 
-abbrev pub spoilt_at : Place → Result Line Why → List Spoilt
-spoilt_at p (Ok l) = []
-spoilt_at p (Err why) = record { place = p; why = why } ∷ []
+abbrev pub bad_lines_at : Place → Result Line Why → List BadLineAt
+bad_lines_at p (Ok l) = []
+bad_lines_at p (Err why) = record { place = p; why = why } ∷ []
 
-abbrev pub spoilt_among : List MeaningAt → List Spoilt
-spoilt_among lines = flat_map (λ l. spoilt_at l.place l.meaning) lines
+abbrev pub bad_lines_among : List MeaningAt → List BadLineAt
+bad_lines_among lines = flat_map (λ l. bad_lines_at l.place l.meaning) lines
 
-abbrev pub spoilt_of : List (List ℕ) → List Spoilt
-spoilt_of logs = spoilt_among (meanings_of logs)
+abbrev pub bad_lines_of : List (List ℕ) → List BadLineAt
+bad_lines_of logs = bad_lines_among (meanings_of logs)

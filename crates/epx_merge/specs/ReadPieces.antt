@@ -2,16 +2,16 @@
 use Rattle.std.specs.Prelude.{◌≡◌, ◌*◌, ◌++◌, ◌∷◌, ℕ, List, [], Result, Ok, Err, take, drop}
 use Rattle.epx_types.specs.PlacedLines.{Placed}
 use Rattle.epx_merge.specs.declared.pieces.BadLine.{BadLine}
-use Rattle.epx_merge.specs.LogLines.{MeaningAt, placed_among, spoilt_among}
-use Rattle.epx_merge.specs.Refusals.{IsFirstSpoilt}
+use Rattle.epx_merge.specs.LogLines.{MeaningAt, placed_among, bad_lines_among}
+use Rattle.epx_merge.specs.Refusals.{IsFirstBadLine}
 
 -- no line is bad, and what they give is held
 pub record Gives {E : Type 0} (holds : List Placed → E → Type 0) (lines : List MeaningAt) (held : E) : Type 0 where
-  pub clean : spoilt_among lines ≡ []
+  pub clean : bad_lines_among lines ≡ []
   pub placed : holds (placed_among lines) held
 
 abbrev pub IsFirstBad : List MeaningAt → BadLine → Type 0
-IsFirstBad lines bad = IsFirstSpoilt (spoilt_among lines) bad.place bad.why
+IsFirstBad lines bad = IsFirstBadLine (bad_lines_among lines) bad.place bad.why
 
 -- what was read of lines that follow each other: what they give, or their first bad line
 abbrev pub IsRead : {E : Type 0} → (List Placed → E → Type 0) → List MeaningAt → Result E BadLine → Type 0

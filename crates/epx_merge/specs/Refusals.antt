@@ -9,7 +9,7 @@ use Rattle.epx_types.specs.Ids.{IsRising}
 use Rattle.epx_types.specs.PlacedLines.{Placed}
 use Rattle.epx_types.specs.Agreement.{IsFirstDisagreement}
 use Rattle.epx_merge.specs.Limits.{max_logs, max_log_bytes, max_instances}
-use Rattle.epx_merge.specs.LogLines.{placed_of, Spoilt, spoilt_of}
+use Rattle.epx_merge.specs.LogLines.{placed_of, BadLineAt, bad_lines_of}
 
 -- ---- the least log that is too long
 
@@ -27,12 +27,12 @@ Fits logs = (length logs ≤ max_logs) × NoneTooLong logs
 -- ---- the least bad line
 
 -- bad lines stand by log and then by line, so the first of them is the least
-abbrev pub IsFirstSpoilt : List Spoilt → Place → Why → Type 0
-IsFirstSpoilt lines place why = (rest : List Spoilt) × (lines ≡ record { place = place; why = why } ∷ rest)
+abbrev pub IsFirstBadLine : List BadLineAt → Place → Why → Type 0
+IsFirstBadLine lines place why = (rest : List BadLineAt) × (lines ≡ record { place = place; why = why } ∷ rest)
 
 -- they fit, and no line is bad
 abbrev pub IsWhole : List (List ℕ) → Type 0
-IsWhole logs = Fits logs × (spoilt_of logs ≡ [])
+IsWhole logs = Fits logs × (bad_lines_of logs ≡ [])
 
 -- ---- too many instances
 
@@ -61,7 +61,7 @@ abbrev pub IsRefusal : List (List ℕ) → Fault → Type 0
 IsRefusal logs Memory = Unit {0}
 IsRefusal logs TooManyLogs = max_logs < length logs
 IsRefusal logs (LogTooLong log) = (length logs ≤ max_logs) × IsFirstTooLong logs log
-IsRefusal logs (BadLine place why) = Fits logs × IsFirstSpoilt (spoilt_of logs) place why
+IsRefusal logs (BadLine place why) = Fits logs × IsFirstBadLine (bad_lines_of logs) place why
 IsRefusal logs TooManyInstances = IsWhole logs × IsLarge (placed_of logs)
 IsRefusal logs (Disagree id first second) = IsWhole logs × IsSmall (placed_of logs) × IsDisagreementAt (placed_of logs) id first second
 IsRefusal logs (Read log) = ⊥

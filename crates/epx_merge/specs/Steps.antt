@@ -6,13 +6,13 @@ use Rattle.epx_types.specs.Instances.{Instance}
 use Rattle.epx_types.specs.PlacedLines.{Placed}
 use Rattle.epx_types.specs.Agreement.{Agree}
 use Rattle.epx_types.specs.CommittedMap.{IsCommittedBy}
-use Rattle.epx_merge.specs.LogLines.{Spoilt}
-use Rattle.epx_merge.specs.Refusals.{IsFirstSpoilt, IsSmall, IsLarge, IsDisagreementAt}
+use Rattle.epx_merge.specs.LogLines.{BadLineAt}
+use Rattle.epx_merge.specs.Refusals.{IsFirstBadLine, IsSmall, IsLarge, IsDisagreementAt}
 
--- the first bad line; want of memory says nothing of the lines
-abbrev pub IsReadFault : List Spoilt → Fault → Type 0
+-- the first bad line; out of memory says nothing of the lines
+abbrev pub IsReadFault : List BadLineAt → Fault → Type 0
 IsReadFault lines Memory = Unit {0}
-IsReadFault lines (BadLine place why) = IsFirstSpoilt lines place why
+IsReadFault lines (BadLine place why) = IsFirstBadLine lines place why
 IsReadFault lines TooManyLogs = ⊥
 IsReadFault lines (LogTooLong log) = ⊥
 IsReadFault lines TooManyInstances = ⊥

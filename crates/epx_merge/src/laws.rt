@@ -1,12 +1,12 @@
 //! What shows that refusals and accepted logs mean what they should: each function's contract is a law.
 ghost use Rattle.epx_merge.specs.LogLaws.{AcceptedIsNotRefused, RefusalIsOne, AcceptedMapIsOne, LogsHaveAnAnswer, LinesHavePlacesOfTheirOwn, NamedBadLineIsLeast};
 
-/// Logs that are accepted are not refused, want of memory aside.
+/// Logs that are accepted are not refused, running out of memory aside.
 pub fn accepted_is_not_refused()
     ensures { AcceptedIsNotRefused }
 {}
 
-/// Logs have one refusal, want of memory aside.
+/// Logs have one refusal, running out of memory aside.
 pub fn refusal_is_one()
     ensures { RefusalIsOne }
 {}

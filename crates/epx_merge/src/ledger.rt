@@ -18,7 +18,7 @@ use std::marker::Model;
 
 /// The first line of an instance, and the first that differs from it.
 #[derive(Clone, Copy, Debug)]
-pub(crate) struct Clash {
+pub(crate) struct Disagreement {
     pub(crate) first: Place,
     pub(crate) second: Place,
 }
@@ -31,7 +31,7 @@ pub(crate) struct Ledger {
     names: IndexSet<Id, Seed>,
     /// The first line of each instance. It stays where it was noted.
     firsts: Vec<PlacedEntry>,
-    clashes: IndexMap<Id, Clash, Seed>,
+    disagreements: IndexMap<Id, Disagreement, Seed>,
 }
 
 impl Model for Ledger {
@@ -41,7 +41,7 @@ impl Model for Ledger {
 
     ghost Value = { Noted };
 
-    ghost view = { λ l. record { firsts = under_names l.firsts.items; clashes = l.clashes.entries } };
+    ghost view = { λ l. record { firsts = under_names l.firsts.items; disagreements = l.disagreements.entries } };
 
     ghost invariant = { λ l. l.names.keys ≡ map (λ p. p.instance.id) l.firsts.items };
 }
@@ -55,7 +55,7 @@ impl Ledger {
             alloc,
             names: IndexSet::with_hasher(alloc, seed),
             firsts: Vec::new(alloc),
-            clashes: IndexMap::with_hasher(alloc, seed),
+            disagreements: IndexMap::with_hasher(alloc, seed),
         }
     }
 
@@ -80,14 +80,14 @@ impl Ledger {
     {
         let id = line.id();
         let first = &self.firsts[place];
-        if same_entry(first.entry(), line.entry()) || self.clashes.contains_key(&id) {
+        if same_entry(first.entry(), line.entry()) || self.disagreements.contains_key(&id) {
             return Ok(());
         }
-        let clash = Clash {
+        let disagreement = Disagreement {
             first: first.place(),
             second: line.place(),
         };
-        self.clashes.insert(id, clash)?;
+        self.disagreements.insert(id, disagreement)?;
         Ok(())
     }
 
@@ -100,7 +100,7 @@ impl Ledger {
             alloc,
             names,
             firsts,
-            mut clashes,
+            mut disagreements,
         } = self;
         let Ok(rows) = rows_of(alloc, names.as_slice()) else {
             return Err(Fault::Memory);
@@ -108,17 +108,17 @@ impl Ledger {
         let Ok(guesses) = guesses_of(alloc, &rows) else {
             return Err(Fault::Memory);
         };
-        let Ok(()) = clashes.sort_unstable_keys() else {
+        let Ok(()) = disagreements.sort_unstable_keys() else {
             return Err(Fault::Memory);
         };
         if rows.len() > MAX_INSTANCES {
             return Err(Fault::TooManyInstances);
         }
-        match clashes.first() {
-            Some((id, clash)) => Err(Fault::Disagree {
+        match disagreements.first() {
+            Some((id, disagreement)) => Err(Fault::Disagree {
                 id: *id,
-                first: clash.first,
-                second: clash.second,
+                first: disagreement.first,
+                second: disagreement.second,
             }),
             None => Ok(Merged::new(firsts, rows, guesses)),
         }

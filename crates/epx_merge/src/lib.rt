@@ -2,16 +2,16 @@
 #![tactic(auto)]
 
 mod entries;
-mod front;
 mod guesses;
 pub mod laws;
-mod laying;
 mod ledger;
 mod limits;
 mod line;
 mod merged;
+mod next_batch;
 mod pieces;
 mod placed;
+mod read_state;
 mod reading;
 mod repeats;
 mod rows;

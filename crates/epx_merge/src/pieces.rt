@@ -1,7 +1,7 @@
 //! Pieces of the lines, which workers read.
 ghost use Rattle.std.specs.Prelude.{◌≡◌, ◌<◌, ◌++◌, ◌∷◌, List, [], IfOk, OnOk, MatchOption, MatchResult, length};
 ghost use Rattle.epx_types.specs.Pieces.{piece_count};
-ghost use Rattle.epx_merge.specs.LogLines.{MeaningAt, placed_at, placed_among, spoilt_at, spoilt_among};
+ghost use Rattle.epx_merge.specs.LogLines.{MeaningAt, placed_at, placed_among, bad_lines_at, bad_lines_among};
 ghost use Rattle.epx_merge.specs.ReadPieces.{IsRead, AreRead, lines_of_piece};
 ghost use Rattle.epx_merge.specs.Ledgers.{Notes};
 ghost use Rattle.epx_merge.specs.Steps.{IsReadFault};
@@ -31,8 +31,8 @@ fn read_next(
     entries: &mut Vec<PlacedEntry>,
 ) -> Result<Option<BadLine>, Memory>
     ensures { let at = line.now.place in let meaning = line.now.meaning in IfOk result (λ o. MatchOption o
-        ((spoilt_at at meaning ≡ []) × (entries.new.items ≡ entries.old.items ++ placed_at at meaning))
-        (λ bad. spoilt_at at meaning ≡ record { place = bad.place; why = bad.why } ∷ [])) }
+        ((bad_lines_at at meaning ≡ []) × (entries.new.items ≡ entries.old.items ++ placed_at at meaning))
+        (λ bad. bad_lines_at at meaning ≡ record { place = bad.place; why = bad.why } ∷ [])) }
 {
     let place = line.place();
     match line.read(alloc, reader) {
@@ -80,8 +80,8 @@ pub(crate) fn read_piece(
 /// Notes the entries of pieces in order, up to the first bad line.
 pub(crate) fn note_pieces(pieces: Pieces, ledger: &mut Ledger) -> Result<(), Fault>
     ensures { (lines : List MeaningAt) → AreRead (λ given entries. entries.items ≡ given) lines pieces.items → MatchResult result
-        (λ _. (spoilt_among lines ≡ []) × Notes (placed_among lines) ledger.old ledger.new)
-        (IsReadFault (spoilt_among lines)) }
+        (λ _. (bad_lines_among lines ≡ []) × Notes (placed_among lines) ledger.old ledger.new)
+        (IsReadFault (bad_lines_among lines)) }
 {
     for piece in pieces {
         match piece {

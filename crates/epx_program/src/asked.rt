@@ -10,7 +10,7 @@ use std::alloc::Global;
 use std::env::Args;
 use std::io::{self, ErrorKind};
 
-/// A text for words of which one is no UTF-8. Words that fail in another way failed for want of memory.
+/// A text for words of which one is no UTF-8. Words that fail in another way failed as memory ran out.
 fn unread(alloc: Global, why: ErrorKind) -> Result<Words, Memory>
     ensures no_text { why ≡ ErrorKind.InvalidData → IfOk result (IsText 2) }
     ensures no_words { why ≢ ErrorKind.InvalidData → IsErrOf result (record {}) }

@@ -53,7 +53,7 @@ IsViewed-unique Levels = IsLevelText-unique
 IsViewed-unique Audit = IsAuditText-unique
 IsViewed-unique Graph = picture_is_one
 
--- where each committed map has at most one text, logs have at most one answer, want of memory aside
+-- where each committed map has at most one text, logs have at most one answer, running out of memory aside
 module _ (Is : List Instance → List ℕ → Type 0) (one : (m : List Instance) (text other : List ℕ) → Is m text → Is m other → text ≡ other) where
   pub Answers-unique : (logs : List (List ℕ)) (a b : Result (List ℕ) Fault) → a ≢ Err Memory → b ≢ Err Memory → Answers Is logs a → Answers Is logs b → a ≡ b
   Answers-unique logs (Ok text) (Ok other) s t p q =

@@ -37,7 +37,7 @@ LevelTextIsOne = (m : List Instance) (text other : List ℕ) → IsLevelText m t
 abbrev pub AuditTextIsOne : Type 0
 AuditTextIsOne = (m : List Instance) (text other : List ℕ) → IsAuditText m text → IsAuditText m other → text ≡ other
 
--- every list of logs has an answer other than want of memory
+-- every list of logs has an answer other than running out of memory
 abbrev pub AnswerExists : Type 0
 AnswerExists = (logs : List (List ℕ)) → (a : Result (List ℕ) Fault) × (a ≢ Err Memory) × IsAnswer logs a
 
@@ -45,7 +45,7 @@ AnswerExists = (logs : List (List ℕ)) → (a : Result (List ℕ) Fault) × (a 
 abbrev pub ViewExists : Type 0
 ViewExists = (ask : Ask) (logs : List (List ℕ)) → (a : Result (List ℕ) Fault) × (a ≢ Err Memory) × Answers (IsViewed ask) logs a
 
--- logs have one answer, want of memory aside
+-- logs have one answer, running out of memory aside
 abbrev pub AnswerIsOne : Type 0
 AnswerIsOne = (logs : List (List ℕ)) (a b : Result (List ℕ) Fault) → a ≢ Err Memory → b ≢ Err Memory → IsAnswer logs a → IsAnswer logs b → a ≡ b
 

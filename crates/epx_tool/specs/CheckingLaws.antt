@@ -16,11 +16,11 @@ use Rattle.epx_tool.specs.Report.{commands_of}
 use Rattle.epx_tool.specs.Verdicts.{lawful_text}
 use Rattle.epx_tool.specs.Checking.{Checks}
 
--- a list and logs have an answer other than want of memory
+-- a list and logs have an answer other than running out of memory
 abbrev pub CheckExists : Type 0
 CheckExists = (list : List ℕ) (logs : List (List ℕ)) → (a : Result (List ℕ) Fault) × (a ≢ Err Memory) × Checks list logs a
 
--- and one alone, want of memory aside
+-- and one alone, running out of memory aside
 abbrev pub CheckIsOne : Type 0
 CheckIsOne = (list : List ℕ) (logs : List (List ℕ)) (a b : Result (List ℕ) Fault) → a ≢ Err Memory → b ≢ Err Memory → Checks list logs a → Checks list logs b → a ≡ b
 

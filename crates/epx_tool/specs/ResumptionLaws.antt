@@ -17,11 +17,11 @@ use Rattle.epx_tool.specs.Report.{IsReport, commands_of}
 use Rattle.epx_tool.specs.ResumedReport.{IsReportAfter}
 use Rattle.epx_tool.specs.Resumption.{Resumes}
 
--- a base and logs have an answer other than want of memory
+-- a base and logs have an answer other than running out of memory
 abbrev pub ResumptionExists : Type 0
 ResumptionExists = (base : List ℕ) (logs : List (List ℕ)) → (a : Result (List ℕ) Fault) × (a ≢ Err Memory) × Resumes base logs a
 
--- and one alone, want of memory aside
+-- and one alone, running out of memory aside
 abbrev pub ResumptionIsOne : Type 0
 ResumptionIsOne = (base : List ℕ) (logs : List (List ℕ)) (a b : Result (List ℕ) Fault) → a ≢ Err Memory → b ≢ Err Memory → Resumes base logs a → Resumes base logs b → a ≡ b
 

@@ -12,7 +12,7 @@ use Rattle.epx_order.specs.OrderFaults.{IsOrderFault}
 abbrev pub lawful_text : List ℕ
 lawful_text = line_of (string (codes "lawful") ∷ [])
 
--- the name of a fault, and its place or its instance; want of memory is no finding
+-- the name of a fault, and its place or its instance; out of memory is no finding
 abbrev pub fault_data : OrderFault → List Data
 fault_data Memory = []
 fault_data (Stranger place) = string (codes "stranger") ∷ data_of_number place ∷ []

@@ -34,32 +34,32 @@ pub fn audit_text_is_one()
     ensures { AuditTextIsOne }
 {}
 
-/// Every list of logs has an answer other than want of memory.
+/// Every list of logs has an answer other than running out of memory.
 pub fn answer_exists()
     ensures { AnswerExists }
 {}
 
-/// Every list of logs has an answer that shows what is asked for, other than want of memory.
+/// Every list of logs has an answer that shows what is asked for, other than running out of memory.
 pub fn view_exists()
     ensures { ViewExists }
 {}
 
-/// Logs have one answer, want of memory aside.
+/// Logs have one answer, running out of memory aside.
 pub fn answer_is_one()
     ensures { AnswerIsOne }
 {}
 
-/// Logs have one answer that shows what is asked for, want of memory aside.
+/// Logs have one answer that shows what is asked for, running out of memory aside.
 pub fn view_is_one()
     ensures { ViewIsOne }
 {}
 
-/// A base and logs have an answer other than want of memory.
+/// A base and logs have an answer other than running out of memory.
 pub fn resumption_exists()
     ensures { ResumptionExists }
 {}
 
-/// A base and logs have one answer, want of memory aside.
+/// A base and logs have one answer, running out of memory aside.
 pub fn resumption_is_one()
     ensures { ResumptionIsOne }
 {}
@@ -74,12 +74,12 @@ pub fn report_is_base()
     ensures { ReportIsBase }
 {}
 
-/// A list and logs have an answer other than want of memory.
+/// A list and logs have an answer other than running out of memory.
 pub fn check_exists()
     ensures { CheckExists }
 {}
 
-/// A list and logs have one answer, want of memory aside.
+/// A list and logs have one answer, running out of memory aside.
 pub fn check_is_one()
     ensures { CheckIsOne }
 {}

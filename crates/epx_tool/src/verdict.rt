@@ -42,7 +42,7 @@ fn missing_line(alloc: Global, id: Id) -> Result<Vec<u8>, AllocError>
     Ok(text)
 }
 
-/// The line of a fault that is not want of memory.
+/// The line of a fault other than running out of memory.
 fn fault_line(alloc: Global, fault: OrderFault) -> Result<Vec<u8>, Memory>
     ensures { IfOk result (λ text. (fault ≢ OrderFault.Memory) × (text.items ≡ fault_text fault)) }
 {

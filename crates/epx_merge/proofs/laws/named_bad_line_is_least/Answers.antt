@@ -1,5 +1,5 @@
-use Rattle.epx_merge.proofs.PlaceOrder.{first_spoilt_least}
+use Rattle.epx_merge.proofs.PlaceOrder.{first_bad_line_least}
 use Rattle.epx_merge.proofs.laws.named_bad_line_is_least.Goals as goal
 
 pub returns : goal.returns
-returns c = first_spoilt_least
+returns c = first_bad_line_least

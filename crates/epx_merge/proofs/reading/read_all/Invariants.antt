@@ -1,10 +1,10 @@
 use Rattle.std.proofs.Common.{◌≡◌, ◌+◌, length, map}
 use Rattle.epx_merge.specs.LogLines.{meanings_of}
-use Rattle.epx_merge.proofs.LaidLines.{IsUnderway}
+use Rattle.epx_merge.proofs.BatchLines.{IsUnderway}
 use Rattle.epx_merge.proofs.reading.read_all.Given as goal
 
 abbrev pub invariant-loop-alloc : goal.invariant-loop-alloc
-invariant-loop-alloc g l = IsUnderway (λ given entries. entries.items ≡ given) (meanings_of (map (λ log. log.items) l.logs)) l.front.walk l.lines.items l.read.items l.front.table l.front.ledger
+invariant-loop-alloc g l = IsUnderway (λ given entries. entries.items ≡ given) (meanings_of (map (λ log. log.items) l.logs)) l.state.walk l.lines.items l.read.items l.state.table l.state.ledger
 
 abbrev pub decreases-loop-alloc : goal.decreases-loop-alloc
-decreases-loop-alloc g l = length l.front.walk + length l.lines.items
+decreases-loop-alloc g l = length l.state.walk + length l.lines.items

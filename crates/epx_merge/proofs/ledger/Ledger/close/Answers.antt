@@ -5,16 +5,16 @@ use Rattle.epx_merge.specs.declared.rows.Row.{Row}
 use Rattle.epx_merge.specs.Ledgers.{Noted, IsLedgerOf}
 use Rattle.epx_merge.specs.Keyed.{under_names, rows_from}
 use Rattle.epx_merge.proofs.MovedRows.{IsKeyed-moved, AreNamedBy-rows, IsCommittedBy-rows}
-use Rattle.epx_merge.proofs.Closing.{Agree-from_ledger, no_clashes, first_clash}
+use Rattle.epx_merge.proofs.Closing.{Agree-from_ledger, no_disagreements, first_disagreement}
 use Rattle.epx_merge.proofs.ledger.Ledger.close.Goals as goal
 
 pub returns-then-len-gt-MAX_INSTANCES : goal.returns-then-len-gt-MAX_INSTANCES
 returns-then-len-gt-MAX_INSTANCES c = λ lines order ledger.
     let rows = c.in-Ok.rows.items in
-    let noted : Noted = record { firsts = under_names c.self.inside.firsts.items; clashes = c.self.inside.clashes.entries } in
+    let noted : Noted = record { firsts = under_names c.self.inside.firsts.items; disagreements = c.self.inside.disagreements.entries } in
     let h : IsLedgerOf lines noted = subst (IsLedgerOf lines) (sym c.self.view_is) ledger in
     let moved = subst (λ l. IsPermutation (rows_from 0 l) rows) c.as_slice.ensures.keys c.in-Ok.ensures.moved in
-    let named = AreNamedBy-rows c.self.inside.firsts.items c.self.inside.names.keys rows c.self.invariant moved c.as_slice.ensures.unique c.in-Ok.ensures.sorted lines noted.clashes h in
+    let named = AreNamedBy-rows c.self.inside.firsts.items c.self.inside.names.keys rows c.self.invariant moved c.as_slice.ensures.unique c.in-Ok.ensures.sorted lines noted.disagreements h in
     let count : vec_len c.in-Ok.rows ≡ length rows = search rules in
     (map (λ r. r.id) rows, named, omega (arith, length-map rows (λ (r : Row). r.id), count, c.len.ensures, c.if-len-gt-MAX_INSTANCES.true))
 
@@ -26,26 +26,26 @@ new-requires c =
 pub returns-in-Some : goal.returns-in-Some
 returns-in-Some c = λ lines order ledger.
     let rows = c.in-Ok.rows.items in
-    let noted : Noted = record { firsts = under_names c.self.inside.firsts.items; clashes = c.self.inside.clashes.entries } in
+    let noted : Noted = record { firsts = under_names c.self.inside.firsts.items; disagreements = c.self.inside.disagreements.entries } in
     let h : IsLedgerOf lines noted = subst (IsLedgerOf lines) (sym c.self.view_is) ledger in
     let moved = subst (λ l. IsPermutation (rows_from 0 l) rows) c.as_slice.ensures.keys c.in-Ok.ensures.moved in
-    let named = AreNamedBy-rows c.self.inside.firsts.items c.self.inside.names.keys rows c.self.invariant moved c.as_slice.ensures.unique c.in-Ok.ensures.sorted lines noted.clashes h in
+    let named = AreNamedBy-rows c.self.inside.firsts.items c.self.inside.names.keys rows c.self.invariant moved c.as_slice.ensures.unique c.in-Ok.ensures.sorted lines noted.disagreements h in
     let count : vec_len c.in-Ok.rows ≡ length rows = search rules in (
       (map (λ r. r.id) rows, named, omega (arith, length-map rows (λ (r : Row). r.id), count, c.len.ensures, c.if-len-gt-MAX_INSTANCES.false)),
-      first_clash lines noted h order c.sort_unstable_keys.new.self.entries c.in-Some.id.now c.in-Some.clash.now (sym c.in-Some.ensures.entry) c.in-Ok-sort_unstable_keys.ensures.reordered.0 c.in-Ok-sort_unstable_keys.ensures.sorted,
+      first_disagreement lines noted h order c.sort_unstable_keys.new.self.entries c.in-Some.id.now c.in-Some.disagreement.now (sym c.in-Some.ensures.entry) c.in-Ok-sort_unstable_keys.ensures.reordered.0 c.in-Ok-sort_unstable_keys.ensures.sorted,
     )
 
 pub returns : goal.returns
 returns c = λ lines order ledger.
     let rows = c.in-Ok.rows.items in
-    let noted : Noted = record { firsts = under_names c.self.inside.firsts.items; clashes = c.self.inside.clashes.entries } in
+    let noted : Noted = record { firsts = under_names c.self.inside.firsts.items; disagreements = c.self.inside.disagreements.entries } in
     let h : IsLedgerOf lines noted = subst (IsLedgerOf lines) (sym c.self.view_is) ledger in
     let moved = subst (λ l. IsPermutation (rows_from 0 l) rows) c.as_slice.ensures.keys c.in-Ok.ensures.moved in
-    let named = AreNamedBy-rows c.self.inside.firsts.items c.self.inside.names.keys rows c.self.invariant moved c.as_slice.ensures.unique c.in-Ok.ensures.sorted lines noted.clashes h in
+    let named = AreNamedBy-rows c.self.inside.firsts.items c.self.inside.names.keys rows c.self.invariant moved c.as_slice.ensures.unique c.in-Ok.ensures.sorted lines noted.disagreements h in
     let count : vec_len c.in-Ok.rows ≡ length rows = search rules in
-    let agree = Agree-from_ledger lines noted h (no_clashes noted.clashes c.sort_unstable_keys.new.self.entries (sym c.in-None.ensures.entry) c.in-Ok-sort_unstable_keys.ensures.reordered.0) in
+    let agree = Agree-from_ledger lines noted h (no_disagreements noted.disagreements c.sort_unstable_keys.new.self.entries (sym c.in-None.ensures.entry) c.in-Ok-sort_unstable_keys.ensures.reordered.0) in
     rw c.new.ensures record {
       small = (map (λ r. r.id) rows, named, omega (arith, length-map rows (λ (r : Row). r.id), count, c.len.ensures, c.if-len-gt-MAX_INSTANCES.false));
       agree = agree;
-      committed = IsCommittedBy-rows c.self.inside.firsts.items c.self.inside.names.keys rows c.self.invariant moved c.as_slice.ensures.unique c.in-Ok.ensures.sorted lines noted.clashes h agree;
+      committed = IsCommittedBy-rows c.self.inside.firsts.items c.self.inside.names.keys rows c.self.invariant moved c.as_slice.ensures.unique c.in-Ok.ensures.sorted lines noted.disagreements h agree;
     }

@@ -1,37 +1,37 @@
 use Rattle.std.proofs.Common.{◌≢◌, ◌∙◌, sym, subst, true≢false, [], ◌∷◌}
 use Rattle.indexmap.proofs.CallerLemmas.{insert_entry-new}
-use Rattle.epx_merge.specs.declared.ledger.Clash.{Clash}
+use Rattle.epx_merge.specs.declared.ledger.Disagreement.{Disagreement}
 use Rattle.epx_merge.specs.Ledgers.{Noted, Notes}
 use Rattle.epx_merge.specs.Keyed.{under_names}
-use Rattle.epx_merge.proofs.NotedKeys.{same_id, is_none, line_under, noted_alike, noted_clashing, noted_clash}
+use Rattle.epx_merge.proofs.NotedKeys.{same_id, is_none, line_under, noted_alike, noted_disagreeing, noted_disagreement}
 use Rattle.epx_merge.proofs.ledger.Ledger.compare.Goals as goal
 use Rattle.epx_merge.proofs.ledger.Ledger.compare.Goals.{then-same_entry-via-then-same_entry, then-same_entry-via-else-same_entry+then-contains_key}
 
 pub returns-then-same_entry : goal.returns-then-same_entry
 returns-then-same_entry c =
     let lines = c.self.inside.firsts.items in
-    let clashes = c.self.inside.clashes.entries in
+    let disagreements = c.self.inside.disagreements.entries in
     let line = c.args.line.now in
     let first = c.index-first.result.now in
-    let known = line_under lines clashes c.args.self.now c.self.view_is c.args.place line.instance.id first c.requires c.index-first.ensures in
+    let known = line_under lines disagreements c.args.self.now c.self.view_is c.args.place line.instance.id first c.requires c.index-first.ensures in
     subst (λ (n : Noted). Notes (line ∷ []) n n) c.self.view_is
     (elim c.then-same_entry.branch [
       | then-same_entry-via-then-same_entry w ↦
-          noted_alike lines clashes line c.id-id.result c.id-id.ensures first known (sym c.entry.ensures ∙ c.same_entry.ensures.0 w.if-same_entry.true ∙ c.entry-2.ensures)
+          noted_alike lines disagreements line c.id-id.result c.id-id.ensures first known (sym c.entry.ensures ∙ c.same_entry.ensures.0 w.if-same_entry.true ∙ c.entry-2.ensures)
       | then-same_entry-via-else-same_entry+then-contains_key w ↦
-          noted_clashing lines clashes line c.id-id.result c.id-id.ensures first known (sym w.contains_key.ensures ∙ w.if-contains_key.true)
+          noted_disagreeing lines disagreements line c.id-id.result c.id-id.ensures first known (sym w.contains_key.ensures ∙ w.if-contains_key.true)
     ])
 
 pub returns : goal.returns
 returns c =
     let lines = c.self.inside.firsts.items in
-    let clashes = c.self.inside.clashes.entries in
+    let disagreements = c.self.inside.disagreements.entries in
     let line = c.args.line.now in
     let first = c.index-first.result.now in
-    let known = line_under lines clashes c.args.self.now c.self.view_is c.args.place line.instance.id first c.requires c.index-first.ensures in
-    let clash : Clash = record { first = c.place.result; second = c.place-2.result } in
+    let known = line_under lines disagreements c.args.self.now c.self.view_is c.args.place line.instance.id first c.requires c.index-first.ensures in
+    let disagreement : Disagreement = record { first = c.place.result; second = c.place-2.result } in
     let absent = sym c.contains_key.ensures ∙ c.if-contains_key.false in
-    let last = c.in_ok-insert.ensures.entries ∙ insert_entry-new same_id c.self.inside.clashes c.id-id.result clash (is_none _ absent) in
+    let last = c.in_ok-insert.ensures.entries ∙ insert_entry-new same_id c.self.inside.disagreements c.id-id.result disagreement (is_none _ absent) in
     let differ : first.instance ≢ line.instance = λ e. true≢false (sym (c.same_entry.ensures.1 (c.entry.ensures ∙ e ∙ sym c.entry-2.ensures)) ∙ c.if-same_entry.false) in
-    subst (λ (n : Noted). Notes (line ∷ []) n (record { firsts = under_names lines; clashes = c.insert.new.self.entries })) c.self.view_is
-    (noted_clash lines clashes line c.id-id.result c.id-id.ensures first known clash c.insert.new.self.entries differ absent c.place.ensures c.place-2.ensures last)
+    subst (λ (n : Noted). Notes (line ∷ []) n (record { firsts = under_names lines; disagreements = c.insert.new.self.entries })) c.self.view_is
+    (noted_disagreement lines disagreements line c.id-id.result c.id-id.ensures first known disagreement c.insert.new.self.entries differ absent c.place.ensures c.place-2.ensures last)

@@ -8,12 +8,12 @@ use Rattle.epx_merge.proofs.ledger.Ledger.note.Goals as goal
 
 pub returns-then-is_new : goal.returns-then-is_new
 returns-then-is_new c =
-    let clashes = c.self.inside.clashes.entries in
-    let after : Noted = record { firsts = under_names c.push.new.self.items; clashes = clashes } in
+    let disagreements = c.self.inside.disagreements.entries in
+    let after : Noted = record { firsts = under_names c.push.new.self.items; disagreements = disagreements } in
     let new = sym c.in_ok-place.ensures.added ∙ c.if-is_new.true in
     let last = c.in_ok-push.ensures.items ∙ ap (λ (l : List Placed). l ++ c.args.line ∷ []) c.in_ok-reserve.ensures.items in
     subst (λ (n : Noted). Notes (c.args.line ∷ []) n after) c.self.view_is
-    (noted_first c.self.inside.firsts.items clashes c.args.line c.id.result c.id.ensures c.push.new.self.items c.self.inside.names.keys c.self.invariant new last)
+    (noted_first c.self.inside.firsts.items disagreements c.args.line c.id.result c.id.ensures c.push.new.self.items c.self.inside.names.keys c.self.invariant new last)
 
 pub compare-requires : goal.compare-requires
 compare-requires c =
@@ -25,6 +25,6 @@ compare-requires c =
 
 pub returns : goal.returns
 returns c =
-    let clashes = c.self.inside.clashes.entries in
-    let start : ◌≡◌ {A = Noted} (record { firsts = under_names c.reserve.new.self.items; clashes = clashes }) c.args.self.now = ap (λ l. record { firsts = under_names l; clashes = clashes }) c.in_ok-reserve.ensures.items ∙ c.self.view_is in
+    let disagreements = c.self.inside.disagreements.entries in
+    let start : ◌≡◌ {A = Noted} (record { firsts = under_names c.reserve.new.self.items; disagreements = disagreements }) c.args.self.now = ap (λ l. record { firsts = under_names l; disagreements = disagreements }) c.in_ok-reserve.ensures.items ∙ c.self.view_is in
     subst (λ (n : Noted). OnOk c.compare.result (Notes (c.args.line ∷ []) n c.compare.new.self)) start c.compare.ensures

@@ -1,4 +1,4 @@
--- The keys that a command asks for are those that it touches, and the written ones those that it writes.
+-- The accesses of a command are of the keys that it touches, and the writing ones of those that it writes.
 use Rattle.std.proofs.Common.{◌≡◌, ℕ, Bool, true, false, List, [], ◌∷◌, ◌++◌, map, flat_map, Contains, refl, sym, ap, ap₂, subst, ◌∙◌, true≢false, inl, inr}
 use Rattle.std.proofs.lemmas.List.{map-append}
 use Rattle.std.proofs.lemmas.List.Elements.{Contains-append_left, Contains-append_right, Contains-append_cases}
@@ -6,15 +6,15 @@ use Rattle.epx_types.specs.declared.op.Op.{Op}
 use Rattle.epx_types.specs.declared.op.Op.TheVariants.{Get, Put, Del, Add, Is, Floor, Copy}
 use Rattle.epx_types.specs.CommandKeys.{touched_by, written_by}
 use Rattle.epx_types.proofs.Membership.{Contains-nil, Contains-cons, Contains-cons_cases, Contains-map, Contains-from_map}
-use Rattle.epx_apply.specs.KeyTables.{asked_by, touched_in, written_in}
+use Rattle.epx_apply.specs.KeyTables.{accesses_of, touched_in, written_in}
 
 -- ---- touched keys
 
-touched_is : (ops : List Op) → touched_in ops ≡ map (λ a. a.0) (flat_map asked_by ops)
+touched_is : (ops : List Op) → touched_in ops ≡ map (λ a. a.0) (flat_map accesses_of ops)
 touched_is [] = refl
-touched_is (op ∷ ops) = ap₂ (λ xs ys. xs ++ ys) (by op) (touched_is ops) ∙ sym (map-append (λ (a : List ℕ × Bool). a.0) (asked_by op) (flat_map asked_by ops))
+touched_is (op ∷ ops) = ap₂ (λ xs ys. xs ++ ys) (by op) (touched_is ops) ∙ sym (map-append (λ (a : List ℕ × Bool). a.0) (accesses_of op) (flat_map accesses_of ops))
   where
-    by : (op : Op) → touched_by op ≡ map (λ (a : List ℕ × Bool). a.0) (asked_by op)
+    by : (op : Op) → touched_by op ≡ map (λ (a : List ℕ × Bool). a.0) (accesses_of op)
     by (Get k) = refl
     by (Put k v) = refl
     by (Del k) = refl
@@ -23,15 +23,15 @@ touched_is (op ∷ ops) = ap₂ (λ xs ys. xs ++ ys) (by op) (touched_is ops) �
     by (Floor k least) = refl
     by (Copy k j) = refl
 
--- a touched key is asked for
-pub asked-from_touched : (ops : List Op) (k : List ℕ) → Contains (touched_in ops) k → (w : Bool) × Contains (flat_map asked_by ops) (k, w)
-asked-from_touched ops k h =
-    let from = Contains-from_map (λ (a : List ℕ × Bool). a.0) (flat_map asked_by ops) k (subst (λ (ks : List (List ℕ)). Contains ks k) (touched_is ops) h) in
-    (from.0.1, subst (λ q. Contains (flat_map asked_by ops) (q, from.0.1)) from.2 from.1)
+-- a touched key is accessed
+pub current-from_touched : (ops : List Op) (k : List ℕ) → Contains (touched_in ops) k → (w : Bool) × Contains (flat_map accesses_of ops) (k, w)
+current-from_touched ops k h =
+    let from = Contains-from_map (λ (a : List ℕ × Bool). a.0) (flat_map accesses_of ops) k (subst (λ (ks : List (List ℕ)). Contains ks k) (touched_is ops) h) in
+    (from.0.1, subst (λ q. Contains (flat_map accesses_of ops) (q, from.0.1)) from.2 from.1)
 
--- a key that is asked for is touched
-pub touched-from_asked : (ops : List Op) (k : List ℕ) (w : Bool) → Contains (flat_map asked_by ops) (k, w) → Contains (touched_in ops) k
-touched-from_asked ops k w h = subst (λ (ks : List (List ℕ)). Contains ks k) (sym (touched_is ops)) (Contains-map (λ (a : List ℕ × Bool). a.0) (flat_map asked_by ops) (k, w) h)
+-- an accessed key is touched
+pub touched-from_accesses : (ops : List Op) (k : List ℕ) (w : Bool) → Contains (flat_map accesses_of ops) (k, w) → Contains (touched_in ops) k
+touched-from_accesses ops k w h = subst (λ (ks : List (List ℕ)). Contains ks k) (sym (touched_is ops)) (Contains-map (λ (a : List ℕ × Bool). a.0) (flat_map accesses_of ops) (k, w) h)
 
 -- ---- written keys
 
@@ -43,9 +43,9 @@ Contains-flat_map_carried f g a b carry (x ∷ xs) h =
       | inr later ↦ Contains-append_right (g x) (flat_map g xs) b (Contains-flat_map_carried f g a b carry xs later)
     ]
 
--- the key is asked for, as written or not
+-- the key is accessed, as written or not
 abbrev Asked : List (List ℕ × Bool) → List ℕ → Bool → Type 0
-Asked asked k w = Contains asked (k, w)
+Asked current k w = Contains current (k, w)
 
 module _ (k : List ℕ) where
   one : (key : List ℕ) → Contains (key ∷ []) k → Asked ((key, true) ∷ []) k true
@@ -65,7 +65,7 @@ module _ (k : List ℕ) where
         | inr later ↦ later
       ]
 
-  there_by : (op : Op) → Contains (written_by op) k → Asked (asked_by op) k true
+  there_by : (op : Op) → Contains (written_by op) k → Asked (accesses_of op) k true
   there_by (Get key) h = absurd (Contains-nil k h)
   there_by (Put key v) h = one key h
   there_by (Del key) h = one key h
@@ -74,7 +74,7 @@ module _ (k : List ℕ) where
   there_by (Floor key least) h = absurd (Contains-nil k h)
   there_by (Copy key j) h = let first : List ℕ × Bool = (key, false) in let it : List ℕ × Bool = (k, true) in Contains-cons first ((j, true) ∷ []) it (one j h)
 
-  back_by : (op : Op) → Asked (asked_by op) k true → Contains (written_by op) k
+  back_by : (op : Op) → Asked (accesses_of op) k true → Contains (written_by op) k
   back_by (Get key) h = absurd (none (read key [] h))
   back_by (Put key v) h = back key h
   back_by (Del key) h = back key h
@@ -83,12 +83,12 @@ module _ (k : List ℕ) where
   back_by (Floor key least) h = absurd (none (read key [] h))
   back_by (Copy key j) h = back j (read key ((j, true) ∷ []) h)
 
--- a written key is asked for as one
-pub asked-from_written : (ops : List Op) (k : List ℕ) → Contains (written_in ops) k → Contains (flat_map asked_by ops) (k, true)
-asked-from_written ops k h = Contains-flat_map_carried written_by asked_by k (k, true) (there_by k) ops h
+-- a written key is accessed as one
+pub current-from_written : (ops : List Op) (k : List ℕ) → Contains (written_in ops) k → Contains (flat_map accesses_of ops) (k, true)
+current-from_written ops k h = Contains-flat_map_carried written_by accesses_of k (k, true) (there_by k) ops h
 
-pub written-from_asked : (ops : List Op) (k : List ℕ) → Contains (flat_map asked_by ops) (k, true) → Contains (written_in ops) k
-written-from_asked ops k h = Contains-flat_map_carried asked_by written_by (k, true) k (back_by k) ops h
+pub written-from_accesses : (ops : List Op) (k : List ℕ) → Contains (flat_map accesses_of ops) (k, true) → Contains (written_in ops) k
+written-from_accesses ops k h = Contains-flat_map_carried accesses_of written_by (k, true) k (back_by k) ops h
 
 pub touched-from_written : (ops : List Op) (k : List ℕ) → Contains (written_in ops) k → Contains (touched_in ops) k
-touched-from_written ops k h = touched-from_asked ops k true (asked-from_written ops k h)
+touched-from_written ops k h = touched-from_accesses ops k true (current-from_written ops k h)

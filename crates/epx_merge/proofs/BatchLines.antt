@@ -1,4 +1,4 @@
--- Lines that are laid one after another, and batch by batch.
+-- Lines that are put into a batch one after another, and batches one after another.
 use Rattle.std.specs.Prelude.{◌==◌}
 use Rattle.std.proofs.Common.{◌≡◌, ℕ, zero, suc, false, ◌+◌, ◌<◌, ◌≤◌, ◌^◌, inl, inr, List, [], ◌∷◌, ◌++◌, length, Contains, Result, refl, sym, ap, subst, ◌∙◌, append_assoc, append-nil, length-append, arith}
 use Rattle.std.proofs.lemmas.List.Elements.{Contains-append_left, Contains-append_right}
@@ -8,24 +8,24 @@ use Rattle.epx_types.specs.PlacedLines.{Placed}
 use Rattle.epx_types.proofs.Membership.{Contains-nil, Contains-head}
 use Rattle.epx_lines.specs.declared.Line.{Line}
 use Rattle.epx_merge.specs.declared.pieces.BadLine.{BadLine}
-use Rattle.epx_merge.specs.LogLines.{MeaningAt, placed_among, spoilt_among}
+use Rattle.epx_merge.specs.LogLines.{MeaningAt, placed_among, bad_lines_among}
 use Rattle.epx_merge.specs.Ledgers.{Noted, IsLedgerOf, Notes}
 use Rattle.epx_merge.specs.ReadPieces.{AreRead}
 use Rattle.epx_merge.specs.Steps.{IsReadFault}
-use Rattle.epx_merge.specs.Repeats.{IsIdle, Keeps, IsIdleIn, HoldsAfter, IsTableOf, Lays}
-use Rattle.epx_merge.specs.Advances.{Advances}
-use Rattle.epx_merge.proofs.ReadLines.{placed_among-append, spoilt_among-append, fault_after}
+use Rattle.epx_merge.specs.Repeats.{IsRedundant, Keeps, IsRedundantIn, HoldsAfter, IsTableOf, IsNextBatch}
+use Rattle.epx_merge.specs.ReadSteps.{IsReadStep}
+use Rattle.epx_merge.proofs.ReadLines.{placed_among-append, bad_lines_among-append, fault_after}
 use Rattle.epx_merge.proofs.KeptLines.{Keeps-append, length-kept, Tells-kept}
 
 -- ---- line by line
 
 -- what tells nothing after some lines tells nothing after more
-IsIdle-append : (kept more : List MeaningAt) (m : Result Line Why) → IsIdle kept m → IsIdle (kept ++ more) m
-IsIdle-append kept more m (inl blank) = inl blank
-IsIdle-append kept more m (inr h) = inr (h.0, Contains-append_left kept more h.0 h.1, h.2)
+IsRedundant-append : (kept more : List MeaningAt) (m : Result Line Why) → IsRedundant kept m → IsRedundant (kept ++ more) m
+IsRedundant-append kept more m (inl blank) = inl blank
+IsRedundant-append kept more m (inr h) = inr (h.0, Contains-append_left kept more h.0 h.1, h.2)
 
-pub laid_none : (walk lines : List MeaningAt) (table : List (Result Line Why)) → lines ≡ [] → Lays walk walk table table lines
-laid_none walk lines table none =
+pub batch_none : (walk lines : List MeaningAt) (table : List (Result Line Why)) → lines ≡ [] → IsNextBatch walk walk table table lines
+batch_none walk lines table none =
     let same : (kept : List MeaningAt) → kept ≡ kept ++ lines = (λ kept. sym (append-nil kept) ∙ ap (λ l. kept ++ l) (sym none)) in
     record {
       gone = [];
@@ -34,43 +34,43 @@ laid_none walk lines table none =
       holds = λ kept h. subst (λ l. IsTableOf l table) (same kept) h;
     }
 
-module _ (old walk walk' lines : List MeaningAt) (line : MeaningAt) (before table table' : List (Result Line Why)) (next : walk ≡ line ∷ walk') (held : HoldsAfter table line.meaning table') (h : Lays old walk before table lines) where
+module _ (old walk walk' lines : List MeaningAt) (line : MeaningAt) (before table table' : List (Result Line Why)) (next : walk ≡ line ∷ walk') (held : HoldsAfter table line.meaning table') (h : IsNextBatch old walk before table lines) where
   gone_more : old ≡ (h.gone ++ line ∷ []) ++ walk'
   gone_more = h.whole ∙ ap (λ l. h.gone ++ l) next ∙ sym (append_assoc h.gone (line ∷ []) walk')
 
-  -- a line more is laid
-  pub laid_more : (lines' : List MeaningAt) → lines' ≡ lines ++ line ∷ [] → Lays old walk' before table' lines'
-  laid_more lines' pushed =
+  -- a batch with one line more
+  pub batch_more : (lines' : List MeaningAt) → lines' ≡ lines ++ line ∷ [] → IsNextBatch old walk' before table' lines'
+  batch_more lines' pushed =
       let all : (kept : List MeaningAt) → (kept ++ lines) ++ line ∷ [] ≡ kept ++ lines' = (λ kept. append_assoc kept lines (line ∷ []) ∙ ap (λ l. kept ++ l) (sym pushed)) in
       record {
         gone = h.gone ++ line ∷ [];
         whole = gone_more;
         keeps = λ kept good. Keeps-append h.gone (line ∷ []) kept (kept ++ lines) (kept ++ lines') (h.keeps kept good) (inl (all kept));
         holds = λ kept good m has.
-            subst (λ l. IsIdle l m) (all kept) (
+            subst (λ l. IsRedundant l m) (all kept) (
             elim (held m has) [
-              | inl older ↦ IsIdle-append (kept ++ lines) (line ∷ []) m (h.holds kept good m older)
+              | inl older ↦ IsRedundant-append (kept ++ lines) (line ∷ []) m (h.holds kept good m older)
               | inr same ↦ inr (line, Contains-append_right (kept ++ lines) (line ∷ []) line (Contains-head line []), sym same)
             ]
             );
       }
 
-  -- an idle line is passed over
-  pub laid_idle : IsIdleIn table line.meaning → Lays old walk' before table' lines
-  laid_idle idle =
-      let idle_after : (kept : List MeaningAt) → IsTableOf kept before → IsIdle (kept ++ lines) line.meaning = (λ kept good.
-      elim idle [
+  -- a redundant line is passed over
+  pub batch_redundant : IsRedundantIn table line.meaning → IsNextBatch old walk' before table' lines
+  batch_redundant redundant =
+      let redundant_after : (kept : List MeaningAt) → IsTableOf kept before → IsRedundant (kept ++ lines) line.meaning = (λ kept good.
+      elim redundant [
         | inl blank ↦ inl blank
         | inr has ↦ h.holds kept good line.meaning has
       ]) in
       record {
         gone = h.gone ++ line ∷ [];
         whole = gone_more;
-        keeps = λ kept good. Keeps-append h.gone (line ∷ []) kept (kept ++ lines) (kept ++ lines) (h.keeps kept good) (inr (idle_after kept good, refl));
+        keeps = λ kept good. Keeps-append h.gone (line ∷ []) kept (kept ++ lines) (kept ++ lines) (h.keeps kept good) (inr (redundant_after kept good, refl));
         holds = λ kept good m has.
             elim (held m has) [
               | inl older ↦ h.holds kept good m older
-              | inr same ↦ subst (λ n. IsIdle (kept ++ lines) n) (sym same) (idle_after kept good)
+              | inr same ↦ subst (λ n. IsRedundant (kept ++ lines) n) (sym same) (redundant_after kept good)
             ];
       }
 
@@ -80,14 +80,14 @@ pub is_some_length : (n : ℕ) → (n == 0) ≡ false → 0 < n
 is_some_length zero e = absurd (cc e)
 is_some_length (suc n) e = omega arith
 
--- some lines are read and noted, then pieces of some are read, and then some are laid; the table holds none but these
+-- some lines are read and noted, then pieces of some are read, and then come those of the batch; the table holds none but these
 pub record IsUnderway {E : Type 0} (holds : List Placed → E → Type 0) (all walk lines : List MeaningAt) (pieces : List (Result E BadLine)) (table : List (Result Line Why)) (ledger : Noted) : Type 0 where
   pub gone : List MeaningAt
   pub read : List MeaningAt
   pub pending : List MeaningAt
   pub whole : all ≡ gone ++ walk
   pub keeps : Keeps gone [] ((read ++ pending) ++ lines)
-  pub clean : spoilt_among read ≡ []
+  pub clean : bad_lines_among read ≡ []
   pub noted : IsLedgerOf (placed_among read) ledger
   pub given : AreRead holds pending pieces
   pub tabled : IsTableOf ((read ++ pending) ++ lines) table
@@ -95,47 +95,47 @@ pub record IsUnderway {E : Type 0} (holds : List Placed → E → Type 0) (all w
   pub few : length lines ≤ 2 ^ 40
 
 -- a fault before any line is read
-pub fault_at_first : (all : List MeaningAt) (f : Fault) → IsReadFault (spoilt_among []) f → IsReadFault (spoilt_among all) f
+pub fault_at_first : (all : List MeaningAt) (f : Fault) → IsReadFault (bad_lines_among []) f → IsReadFault (bad_lines_among all) f
 fault_at_first all f bad = fault_after [] [] all all f refl bad refl
 
 module _ {E : Type 0} (holds : List Placed → E → Type 0) (all : List MeaningAt) where
-  -- the first lines are laid
+  -- the first batch
   pub underway_first : (left walk lines : List MeaningAt) (pieces : List (Result E BadLine)) (empty table : List (Result Line Why)) (new ledger : Noted) → left ≡ all → empty ≡ [] → IsLedgerOf [] new → pieces ≡ []
-      → Advances [] new ledger left walk empty table lines → IsUnderway holds all walk lines pieces table ledger
+      → IsReadStep [] new ledger left walk empty table lines → IsUnderway holds all walk lines pieces table ledger
   underway_first left walk lines pieces empty table new ledger whole none noted unread step =
       let good : IsTableOf [] empty = (λ m has. absurd (Contains-nil m (subst (λ t. Contains t m) none has))) in
       record {
-        gone = step.laid.gone;
+        gone = step.batch.gone;
         read = [];
         pending = [];
-        whole = sym whole ∙ step.laid.whole;
-        keeps = step.laid.keeps [] good;
+        whole = sym whole ∙ step.batch.whole;
+        keeps = step.batch.keeps [] good;
         clean = refl;
         noted = step.noted [] noted;
         given = subst (AreRead holds []) (sym unread) refl;
-        tabled = step.laid.holds [] good;
+        tabled = step.batch.holds [] good;
         last = step.last;
         few = step.few;
       }
 
   module _ (walk lines : List MeaningAt) (pieces : List (Result E BadLine)) (table : List (Result Line Why)) (ledger : Noted) (h : IsUnderway holds all walk lines pieces table ledger) where
-    -- all that were gone over, without some idle ones
+    -- all that were gone over, without some redundant ones
     abbrev kept : List MeaningAt
     kept = (h.read ++ h.pending) ++ lines
 
-    module _ (walk' lines' : List MeaningAt) (table' : List (Result Line Why)) (ledger' : Noted) (step : Advances h.pending ledger ledger' walk walk' table table' lines') where
-      -- what was laid is read meanwhile
+    module _ (walk' lines' : List MeaningAt) (table' : List (Result Line Why)) (ledger' : Noted) (step : IsReadStep h.pending ledger ledger' walk walk' table table' lines') where
+      -- the batch is read meanwhile
       pub underway_next : (pieces' : List (Result E BadLine)) → AreRead holds lines pieces' → IsUnderway holds all walk' lines' pieces' table' ledger'
       underway_next pieces' given = record {
-        gone = h.gone ++ step.laid.gone;
+        gone = h.gone ++ step.batch.gone;
         read = h.read ++ h.pending;
         pending = lines;
-        whole = h.whole ∙ ap (λ l. h.gone ++ l) step.laid.whole ∙ sym (append_assoc h.gone step.laid.gone walk');
-        keeps = Keeps-append h.gone step.laid.gone [] kept (kept ++ lines') h.keeps (step.laid.keeps kept h.tabled);
-        clean = spoilt_among-append h.read h.pending ∙ ap (λ l. l ++ spoilt_among h.pending) h.clean ∙ step.clean;
+        whole = h.whole ∙ ap (λ l. h.gone ++ l) step.batch.whole ∙ sym (append_assoc h.gone step.batch.gone walk');
+        keeps = Keeps-append h.gone step.batch.gone [] kept (kept ++ lines') h.keeps (step.batch.keeps kept h.tabled);
+        clean = bad_lines_among-append h.read h.pending ∙ ap (λ l. l ++ bad_lines_among h.pending) h.clean ∙ step.clean;
         noted = subst (λ l. IsLedgerOf l ledger') (sym (placed_among-append h.read h.pending)) (step.noted (placed_among h.read) h.noted);
         given = given;
-        tabled = step.laid.holds kept h.tabled;
+        tabled = step.batch.holds kept h.tabled;
         last = step.last;
         few = step.few;
       }
@@ -143,25 +143,25 @@ module _ {E : Type 0} (holds : List Placed → E → Type 0) (all : List Meaning
       -- less is left then
       pub underway_less : 0 < length lines → length walk' + length lines' < length walk + length lines
       underway_less some =
-          let few = length-kept step.laid.gone kept (kept ++ lines') (step.laid.keeps kept h.tabled) in
-          let size = ap length step.laid.whole in
-          omega (arith, length-append step.laid.gone walk', length-append kept lines')
+          let few = length-kept step.batch.gone kept (kept ++ lines') (step.batch.keeps kept h.tabled) in
+          let size = ap length step.batch.whole in
+          omega (arith, length-append step.batch.gone walk', length-append kept lines')
 
     -- the first bad line of those that are read and not noted is the first of all
-    pub underway_fault : (f : Fault) → IsReadFault (spoilt_among h.pending) f → IsReadFault (spoilt_among all) f
+    pub underway_fault : (f : Fault) → IsReadFault (bad_lines_among h.pending) f → IsReadFault (bad_lines_among all) f
     underway_fault f bad =
         let tells = Tells-kept h.gone [] kept h.keeps in
         let here = fault_after h.read h.pending lines kept f h.clean bad (sym (append_assoc h.read h.pending lines)) in
         fault_after [] h.gone walk all f refl (tells.fault f here) (sym h.whole)
 
     -- nothing is left, and the last that was read is noted
-    pub underway_over : (ledger' : Noted) → lines ≡ [] → spoilt_among h.pending ≡ [] → Notes (placed_among h.pending) ledger ledger' → (spoilt_among all ≡ []) × IsLedgerOf (placed_among all) ledger'
+    pub underway_over : (ledger' : Noted) → lines ≡ [] → bad_lines_among h.pending ≡ [] → Notes (placed_among h.pending) ledger ledger' → (bad_lines_among all ≡ []) × IsLedgerOf (placed_among all) ledger'
     underway_over ledger' none clean noted =
         let tells = Tells-kept h.gone [] kept h.keeps in
         let same : kept ≡ h.read ++ h.pending = ap (λ l. (h.read ++ h.pending) ++ l) none ∙ append-nil (h.read ++ h.pending) in
         let every : all ≡ h.gone = h.whole ∙ ap (λ l. h.gone ++ l) (h.last none) ∙ append-nil h.gone in
-        let unspoilt : spoilt_among kept ≡ [] = ap spoilt_among same ∙ spoilt_among-append h.read h.pending ∙ ap (λ l. l ++ spoilt_among h.pending) h.clean ∙ clean in
+        let no_bad_lines : bad_lines_among kept ≡ [] = ap bad_lines_among same ∙ bad_lines_among-append h.read h.pending ∙ ap (λ l. l ++ bad_lines_among h.pending) h.clean ∙ clean in
         let placed : placed_among kept ≡ placed_among h.read ++ placed_among h.pending = ap placed_among same ∙ placed_among-append h.read h.pending in (
-          ap spoilt_among every ∙ tells.clean unspoilt,
+          ap bad_lines_among every ∙ tells.clean no_bad_lines,
           subst (λ l. IsLedgerOf (placed_among l) ledger') (sym every) (tells.ledger ledger' (subst (λ l. IsLedgerOf l ledger') (sym placed) (noted (placed_among h.read) h.noted))),
         )

@@ -1,14 +1,14 @@
 //! How far the reading of logs has come, and its next step.
 ghost use Rattle.std.specs.Prelude.{◌≡◌, List, [], IfOk, MatchResult, map};
-ghost use Rattle.epx_merge.specs.Advances.{Advances};
+ghost use Rattle.epx_merge.specs.ReadSteps.{IsReadStep};
 ghost use Rattle.epx_merge.specs.Ledgers.{IsLedgerOf};
-ghost use Rattle.epx_merge.specs.LogLines.{MeaningAt, meanings_of, spoilt_among};
+ghost use Rattle.epx_merge.specs.LogLines.{MeaningAt, meanings_of, bad_lines_among};
 ghost use Rattle.epx_merge.specs.ReadPieces.{AreRead};
 ghost use Rattle.epx_merge.specs.Steps.{IsReadFault};
 
-use crate::laying::lay_lines;
 use crate::ledger::Ledger;
 use crate::line::PlacedLine;
+use crate::next_batch::next_batch;
 use crate::pieces::{Pieces, note_pieces};
 use crate::repeats::LineTable;
 use crate::walk::LineWalk;
@@ -18,7 +18,7 @@ use std::alloc::Global;
 
 /// What is noted of logs, and which of their lines are left.
 #[derive(Drop)]
-pub(crate) struct Front<'a> {
+pub(crate) struct ReadState<'a> {
     pub(crate) ledger: Ledger,
     walk: LineWalk<'a>,
     table: LineTable<'a>,
@@ -35,14 +35,18 @@ fn table_for<'a>(alloc: Global, logs: usize) -> Result<LineTable<'a>, Memory>
     }
 }
 
-impl<'a> Front<'a> {
+impl<'a> ReadState<'a> {
     /// Nothing is noted, and all lines are left. Names are looked up from the seed.
-    pub(crate) fn new(alloc: Global, logs: &'a [Vec<u8>], seed: Seed) -> Result<Front<'a>, Memory>
-        ensures ledger { IfOk result (λ front. IsLedgerOf [] front.ledger) }
-        ensures walk { IfOk result (λ front. front.walk ≡ meanings_of (map (λ log. log.items) logs.now)) }
-        ensures table { IfOk result (λ front. front.table ≡ []) }
+    pub(crate) fn new(
+        alloc: Global,
+        logs: &'a [Vec<u8>],
+        seed: Seed,
+    ) -> Result<ReadState<'a>, Memory>
+        ensures ledger { IfOk result (λ state. IsLedgerOf [] state.ledger) }
+        ensures walk { IfOk result (λ state. state.walk ≡ meanings_of (map (λ log. log.items) logs.now)) }
+        ensures table { IfOk result (λ state. state.table ≡ []) }
     {
-        Ok(Front {
+        Ok(ReadState {
             ledger: Ledger::new(alloc, seed),
             walk: LineWalk::new(logs),
             table: table_for(alloc, logs.len())?,
@@ -50,26 +54,26 @@ impl<'a> Front<'a> {
     }
 }
 
-/// Notes what was read, up to the first bad line, and lays the next lines.
-pub(crate) fn advance<'a>(
+/// Notes what was read, up to the first bad line, and makes the next batch.
+pub(crate) fn next_step<'a>(
     alloc: Global,
     plan: Plan,
-    front: Front<'a>,
+    state: ReadState<'a>,
     read: Pieces,
-) -> Result<(Front<'a>, Vec<PlacedLine<'a>>), Fault>
+) -> Result<(ReadState<'a>, Vec<PlacedLine<'a>>), Fault>
     ensures { (done : List MeaningAt) → AreRead (λ given entries. entries.items ≡ given) done read.items → MatchResult result
-        (λ next. Advances done front.entry.ledger next.0.ledger front.entry.walk next.0.walk front.entry.table next.0.table next.1.items)
-        (IsReadFault (spoilt_among done)) }
+        (λ next. IsReadStep done state.entry.ledger next.0.ledger state.entry.walk next.0.walk state.entry.table next.0.table next.1.items)
+        (IsReadFault (bad_lines_among done)) }
 {
-    let Front {
+    let ReadState {
         mut ledger,
         mut walk,
         mut table,
-    } = front;
+    } = state;
     note_pieces(read, &mut ledger)?;
-    let lines = lay_lines(alloc, plan, &mut walk, &mut table)?;
+    let lines = next_batch(alloc, plan, &mut walk, &mut table)?;
     Ok((
-        Front {
+        ReadState {
             ledger,
             walk,
             table,

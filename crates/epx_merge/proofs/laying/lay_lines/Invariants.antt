@@ -1,9 +1,0 @@
-use Rattle.std.proofs.Common.{◌≤◌, length}
-use Rattle.epx_merge.specs.Repeats.{Lays}
-use Rattle.epx_merge.proofs.laying.lay_lines.Given as goal
-
-abbrev pub invariant-loop-walk : goal.invariant-loop-walk
-invariant-loop-walk l = Lays l.fn.walk l.walk l.fn.table l.table l.lines.items × (length l.lines.items ≤ 262144)
-
-abbrev pub decreases-loop-walk : goal.decreases-loop-walk
-decreases-loop-walk l = length l.walk
