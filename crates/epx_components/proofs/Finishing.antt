@@ -7,24 +7,24 @@ use Rattle.epx_components.proofs.Closing.{WasOpen, was_unseen, was_open, was_clo
 use Rattle.epx_components.proofs.Stepping.{rising_last}
 use Rattle.epx_components.proofs.StartLemmas.{IsFrom-untake, IsRising-take, first_take}
 use Rattle.epx_components.specs.SearchInvariants.{AreFinished, IsSearch}
-use Rattle.epx_components.specs.SearchStates.{SearchState, place_of}
+use Rattle.epx_components.specs.SearchStates.{SearchState, visit_of}
 use Rattle.epx_components.specs.SearchSteps.{Closes, IsFinished}
 use Rattle.epx_components.specs.Starts.{IsInLast}
-use Rattle.epx_components.specs.declared.place.Place.{Place}
-use Rattle.epx_components.specs.declared.place.Place.TheVariants.{Closed, Open}
+use Rattle.epx_components.specs.declared.visit.Visit.{Visit}
+use Rattle.epx_components.specs.declared.visit.Visit.TheVariants.{Closed, Open}
 
 -- the nodes of the last group join the finished ones
-finish_components : (edges : ℕ → List ℕ) (n seen : ℕ) (s : SearchState) (place : List Place) (start : ℕ) → IsSearch edges n seen s → ((k : ℕ) → Closes start s.count (place_of s.place k) (place_of place k)) → start < length s.opened → IsInLast s.starts start → ((i : ℕ) → i < length s.path → get_or s.path i 0 < start) → AreFinished edges place s.looked_at (s.order ++ drop start s.opened) (s.count + 1)
+finish_components : (edges : ℕ → List ℕ) (n seen : ℕ) (s : SearchState) (place : List Visit) (start : ℕ) → IsSearch edges n seen s → ((k : ℕ) → Closes start s.count (visit_of s.place k) (visit_of place k)) → start < length s.opened → IsInLast s.starts start → ((i : ℕ) → i < length s.path → get_or s.path i 0 < start) → AreFinished edges place s.looked_at (s.order ++ drop start s.opened) (s.count + 1)
 finish_components edges n seen s place start w at in' last off =
     let group = drop start s.opened in
     let all = s.order ++ group in
-    let was : (k c : ℕ) → place_of place k ≡ Closed c → (place_of s.place k ≡ Closed c) ⊎ WasOpen start s.count (place_of s.place k) c = λ k c e. was_closed start s.count _ _ c (at k) e in
-    let counted : (k c : ℕ) → place_of place k ≡ Closed c → c < s.count + 1 = λ k c e. elim (was k c e) [ inl h ↦ omega (arith, w.finished.counted k c h) | inr h ↦ omega (arith, h.3) ] in
+    let was : (k c : ℕ) → visit_of place k ≡ Closed c → (visit_of s.place k ≡ Closed c) ⊎ WasOpen start s.count (visit_of s.place k) c = λ k c e. was_closed start s.count _ _ c (at k) e in
+    let counted : (k c : ℕ) → visit_of place k ≡ Closed c → c < s.count + 1 = λ k c e. elim (was k c e) [ inl h ↦ omega (arith, w.finished.counted k c h) | inr h ↦ omega (arith, h.3) ] in
     -- a node of the order was closed already, or is closed now
-    let old : (i : ℕ) → i < length s.order → (c : ℕ) × (place_of s.place (get_or s.order i 0) ≡ Closed c) × (place_of place (get_or all i 0) ≡ Closed c) = λ i l.
+    let old : (i : ℕ) → i < length s.order → (c : ℕ) × (visit_of s.place (get_or s.order i 0) ≡ Closed c) × (visit_of place (get_or all i 0) ≡ Closed c) = λ i l.
     let c = w.finished.closed i l in
     (c.0, c.1, rw (get_or_append_left s.order group 0 i l) (stays_closed start s.count _ _ c.0 (at _) c.1)) in
-    let now : (i : ℕ) → length s.order ≤ i → i < length all → place_of place (get_or all i 0) ≡ Closed s.count = λ i le l.
+    let now : (i : ℕ) → length s.order ≤ i → i < length all → visit_of place (get_or all i 0) ≡ Closed s.count = λ i le l.
     rw (get_or-append_right s.order group (length s.order) i 0 refl le, get_or-drop start s.opened (i - length s.order) 0)
     (is_closed start s.count _ _ _ (at _) (w.row.stands (start + (i - length s.order)) (omega (arith, length-append s.order group, length-drop start s.opened))) (omega arith)) in
     record {
@@ -81,8 +81,8 @@ finish_search edges n seen s new w f off =
     let is_last : last < length s.starts = omega (arith, f.last) in
     let in' : start < length s.opened = omega (arith, w.starts.below last is_last, f.last) in
     let long : length (take start s.opened) ≡ start = omega (arith, length-take start s.opened) in
-    let at : (k : ℕ) → Closes start s.count (place_of s.place k) (place_of new.place k) = f.closes in
-    let before : (k p : ℕ) → place_of new.place k ≡ Open p → (place_of s.place k ≡ Open p) × (p < start) = λ k p e. was_open start s.count _ _ p (at k) e in
+    let at : (k : ℕ) → Closes start s.count (visit_of s.place k) (visit_of new.place k) = f.closes in
+    let before : (k p : ℕ) → visit_of new.place k ≡ Open p → (visit_of s.place k ≡ Open p) × (p < start) = λ k p e. was_open start s.count _ _ p (at k) e in
     let low : (i : ℕ) → i < last → i < length s.starts → get_or s.starts i 0 < start = λ i l h. omega (arith, w.starts.rises i last l is_last, f.last) in
     let all_low : IsInLast s.starts start = λ i l. omega (arith, rising_last s.starts (length s.opened) w.starts i l, f.last.1) in
     let P : SearchState → Type 0 = λ x. IsSearch edges n seen x in

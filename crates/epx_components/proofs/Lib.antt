@@ -1,7 +1,7 @@
 pub mod NodePathLemmas
 pub mod EdgeLemmas
 pub mod StartLemmas
-pub mod PlaceLemmas
+pub mod VisitLemmas
 pub mod Opening
 pub mod Merging
 pub mod Looking
@@ -15,8 +15,8 @@ pub mod PartitionLemmas
 pub mod LeaderLemmas
 pub mod DepthLemmas
 pub mod MissingLemmas
-pub mod StandingLemmas
+pub mod NodeRankLemmas
 pub mod ReadyNodes
 pub mod InstanceLeaders
 pub mod InstanceDepths
-pub mod NodeRanks
+pub mod ReadyRanks

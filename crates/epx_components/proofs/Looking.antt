@@ -2,20 +2,20 @@
 use Rattle.std.proofs.Common.{◌≡◌, ◌≢◌, ℕ, ◌+◌, ◌-◌, ◌<◌, ◌≤◌, inl, inr, ⊎_elim, List, length, get_or, set, take, sym, subst, ◌∙◌, ap, arith, Contains, length-take, length-set}
 use Rattle.std.proofs.lemmas.List.{get_or-take, get_or_default, get_or-set_same, get_or-set_other}
 use Rattle.std.proofs.lemmas.Bool.{cases_eq, cases_lt}
-use Rattle.epx_components.proofs.PlaceLemmas.{placed_below}
+use Rattle.epx_components.proofs.VisitLemmas.{placed_below}
 use Rattle.epx_components.proofs.StartLemmas.{IsRising-take}
 use Rattle.epx_components.specs.SearchInvariants.{IsSearch, Leads}
-use Rattle.epx_components.specs.SearchStates.{SearchState, place_of}
+use Rattle.epx_components.specs.SearchStates.{SearchState, visit_of}
 use Rattle.epx_components.specs.SearchSteps.{IsTop}
-use Rattle.epx_components.specs.declared.place.Place.TheVariants.{Closed, Open, Unseen}
+use Rattle.epx_components.specs.declared.visit.Visit.TheVariants.{Closed, Open, Unseen}
 
-pub look_search : (edges : ℕ → List ℕ) (n seen : ℕ) (s : SearchState) (k p : ℕ) → IsSearch edges n seen s → place_of s.place k ≡ Open p → get_or s.looked_at k 0 < length (edges k) → Leads s.starts (place_of s.place k) (place_of s.place (get_or (edges k) (get_or s.looked_at k 0) 0)) → IsSearch edges n seen (record s { looked_at = set s.looked_at k (get_or s.looked_at k 0 + 1) })
+pub look_search : (edges : ℕ → List ℕ) (n seen : ℕ) (s : SearchState) (k p : ℕ) → IsSearch edges n seen s → visit_of s.place k ≡ Open p → get_or s.looked_at k 0 < length (edges k) → Leads s.starts (visit_of s.place k) (visit_of s.place (get_or (edges k) (get_or s.looked_at k 0) 0)) → IsSearch edges n seen (record s { looked_at = set s.looked_at k (get_or s.looked_at k 0 + 1) })
 look_search edges n seen s k p w is left leads =
     let in' : k < length s.looked_at = omega (arith, placed_below s.place k (λ e. let wrong : Open p ≡ Unseen = sym is ∙ e in cc), w.places, w.looks) in
     let new = set s.looked_at k (get_or s.looked_at k 0 + 1) in
     let same : get_or new k 0 ≡ get_or s.looked_at k 0 + 1 = get_or-set_same s.looked_at k _ 0 in' in
     let other : (j : ℕ) → j ≢ k → get_or new j 0 ≡ get_or s.looked_at j 0 = λ j ne. get_or-set_other s.looked_at k j _ 0 ne in
-    let Led : ℕ → ℕ → Type 0 = λ j i. Leads s.starts (place_of s.place j) (place_of s.place (get_or (edges j) i 0)) in
+    let Led : ℕ → ℕ → Type 0 = λ j i. Leads s.starts (visit_of s.place j) (visit_of s.place (get_or (edges j) i 0)) in
     record {
       places = w.places;
       looks = length-set s.looked_at k _ ∙ w.looks;
@@ -45,7 +45,7 @@ look_search edges n seen s k p w is left leads =
       finished = record {
         counted = w.finished.counted;
         joined = w.finished.joined;
-        looked = λ j c h. omega (arith, w.finished.looked j c h, other j (λ e. let wrong : Open p ≡ Closed c = sym is ∙ (ap (place_of s.place) (sym e) ∙ h) in cc));
+        looked = λ j c h. omega (arith, w.finished.looked j c h, other j (λ e. let wrong : Open p ≡ Closed c = sym is ∙ (ap (visit_of s.place) (sym e) ∙ h) in cc));
         listed = w.finished.listed;
         closed = w.finished.closed;
         sorted = w.finished.sorted;

@@ -3,14 +3,14 @@ use Rattle.std.proofs.Common.{◌≡◌, ℕ, ◌<◌, ◌≤◌, ⊎_elim, List
 use Rattle.std.proofs.lemmas.Bool.{cases_lt}
 use Rattle.epx_graph.specs.NodePaths.{NodeReaches}
 use Rattle.epx_components.proofs.NodePathLemmas.{reaches_on}
-use Rattle.epx_components.proofs.PlaceLemmas.{Leads-take}
+use Rattle.epx_components.proofs.VisitLemmas.{Leads-take}
 use Rattle.epx_components.proofs.StartLemmas.{IsFrom-untake, IsRising-take, first_take}
 use Rattle.epx_components.specs.SearchInvariants.{IsSearch}
-use Rattle.epx_components.specs.SearchStates.{SearchState, place_of}
+use Rattle.epx_components.specs.SearchStates.{SearchState, visit_of}
 use Rattle.epx_components.specs.Starts.{IsCut}
-use Rattle.epx_components.specs.declared.place.Place.TheVariants.{Open}
+use Rattle.epx_components.specs.declared.visit.Visit.TheVariants.{Open}
 
-pub cut_search : (edges : ℕ → List ℕ) (n seen : ℕ) (s : SearchState) (new : List ℕ) (k t : ℕ) → IsSearch edges n seen s → place_of s.place k ≡ Open t → ((j p : ℕ) → place_of s.place j ≡ Open p → NodeReaches edges j k) → IsCut t s.starts new → IsSearch edges n seen (record s { starts = new })
+pub cut_search : (edges : ℕ → List ℕ) (n seen : ℕ) (s : SearchState) (new : List ℕ) (k t : ℕ) → IsSearch edges n seen s → visit_of s.place k ≡ Open t → ((j p : ℕ) → visit_of s.place j ≡ Open p → NodeReaches edges j k) → IsCut t s.starts new → IsSearch edges n seen (record s { starts = new })
 cut_search edges n seen s new k t w is all cut =
     let m = cut.kept in
     let P : List ℕ → Type 0 = λ starts. IsSearch edges n seen (record s { starts = starts }) in

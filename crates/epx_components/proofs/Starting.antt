@@ -4,12 +4,12 @@ use Rattle.std.proofs.lemmas.Bool.{cases_eq}
 use Rattle.std.proofs.lemmas.List.{get_or-set_same}
 use Rattle.epx_components.proofs.Opening.{enter_search}
 use Rattle.epx_components.specs.SearchInvariants.{IsSearch}
-use Rattle.epx_components.specs.SearchStates.{SearchState, place_of}
+use Rattle.epx_components.specs.SearchStates.{SearchState, visit_of}
 use Rattle.epx_components.specs.SearchSteps.{Arrives, entered}
-use Rattle.epx_components.specs.declared.place.Place.{Place}
-use Rattle.epx_components.specs.declared.place.Place.TheVariants.{Closed, Open, Unseen}
+use Rattle.epx_components.specs.declared.visit.Visit.{Visit}
+use Rattle.epx_components.specs.declared.visit.Visit.TheVariants.{Closed, Open, Unseen}
 
-pub seen_more : (edges : ℕ → List ℕ) (n k : ℕ) (s : SearchState) → IsSearch edges n k s → place_of s.place k ≢ Unseen → IsSearch edges n (k + 1) s
+pub seen_more : (edges : ℕ → List ℕ) (n k : ℕ) (s : SearchState) → IsSearch edges n k s → visit_of s.place k ≢ Unseen → IsSearch edges n (k + 1) s
 seen_more edges n k s w h = record {
   places = w.places;
   looks = w.looks;
@@ -26,12 +26,12 @@ seen_more edges n k s w h = record {
 }
 
 -- A search goes on from a node, where nothing is open.
-pub root_search : (edges : ℕ → List ℕ) (n k : ℕ) (s new : SearchState) (x : Place) → place_of s.place k ≡ x → IsSearch edges n k s → k < n → length s.starts ≡ 0 → Arrives x k s new → IsSearch edges n (k + 1) new
+pub root_search : (edges : ℕ → List ℕ) (n k : ℕ) (s new : SearchState) (x : Visit) → visit_of s.place k ≡ x → IsSearch edges n k s → k < n → length s.starts ≡ 0 → Arrives x k s new → IsSearch edges n (k + 1) new
 root_search edges n k s new Unseen e w l none h =
     let P : SearchState → Type 0 = λ t. IsSearch edges n (k + 1) t in
-    let none_open : (j p : ℕ) → place_of s.place j ≡ Open p → ⊥ = λ j p o. omega (arith, (w.row.placed j p o).0, w.grouped) in
+    let none_open : (j p : ℕ) → visit_of s.place j ≡ Open p → ⊥ = λ j p o. omega (arith, (w.row.placed j p o).0, w.grouped) in
     let m = length s.opened in
-    let is : place_of (set s.place k (Open m)) k ≡ Open m = get_or-set_same s.place k (Open m) Unseen (omega (arith, w.places)) in
+    let is : visit_of (set s.place k (Open m)) k ≡ Open m = get_or-set_same s.place k (Open m) Unseen (omega (arith, w.places)) in
     subst P (sym h) (seen_more edges n k (entered s k)
     (enter_search edges n k s k w l e (λ j p o. absurd (none_open j p o)))
     (λ f. let wrong : Open m ≡ Unseen = sym is ∙ f in cc))

@@ -1,7 +1,7 @@
 pub mod NodeComponents
 pub mod NodeDepths
 pub mod MissingNodes
-pub mod Standings
+pub mod NodeRanks
 pub mod Partitions
 pub mod Targets
 pub mod Starts

@@ -1,13 +1,13 @@
 -- What a search for components keeps true.
 use Rattle.std.specs.Prelude.{◌≡◌, ◌≢◌, ℕ, ◌<◌, ◌≤◌, ◌⊎◌, List, length, slice_index, Contains}
 use Rattle.epx_graph.specs.NodePaths.{NodeReaches}
-use Rattle.epx_components.specs.declared.place.Place.{Place}
-use Rattle.epx_components.specs.declared.place.Place.TheVariants.{Unseen, Open, Closed}
+use Rattle.epx_components.specs.declared.visit.Visit.{Visit}
+use Rattle.epx_components.specs.declared.visit.Visit.TheVariants.{Unseen, Open, Closed}
 use Rattle.epx_components.specs.Starts.{IsRising, IsFrom}
-use Rattle.epx_components.specs.SearchStates.{SearchState, place_of}
+use Rattle.epx_components.specs.SearchStates.{SearchState, visit_of}
 
 -- where an edge that was looked at leads
-abbrev pub Leads : List ℕ → Place → Place → Type 0
+abbrev pub Leads : List ℕ → Visit → Visit → Type 0
 Leads starts Unseen to = ⊥
 Leads starts (Open p) Unseen = ⊥
 Leads starts (Open p) (Open q) = IsFrom starts p q
@@ -17,25 +17,25 @@ Leads starts (Closed c) (Open q) = ⊥
 Leads starts (Closed c) (Closed d) = d ≤ c
 
 -- the open nodes are those in the row, each at its place
-pub record IsRow (place : List Place) (opened : List ℕ) : Type 0 where
-  pub stands : (p : ℕ) → p < length opened → place_of place (slice_index opened p) ≡ Open p
-  pub placed : (k p : ℕ) → place_of place k ≡ Open p → (p < length opened) × (slice_index opened p ≡ k)
+pub record IsRow (place : List Visit) (opened : List ℕ) : Type 0 where
+  pub stands : (p : ℕ) → p < length opened → visit_of place (slice_index opened p) ≡ Open p
+  pub placed : (k p : ℕ) → visit_of place k ≡ Open p → (p < length opened) × (slice_index opened p ≡ k)
 
 -- the finished components, and their nodes in order
-pub record AreFinished (edges : ℕ → List ℕ) (place : List Place) (looked_at order : List ℕ) (count : ℕ) : Type 0 where
-  pub counted : (k c : ℕ) → place_of place k ≡ Closed c → c < count
-  pub joined : (k j c : ℕ) → place_of place k ≡ Closed c → place_of place j ≡ Closed c → NodeReaches edges k j
-  pub looked : (k c : ℕ) → place_of place k ≡ Closed c → length (edges k) ≤ slice_index looked_at k
-  pub listed : (k c : ℕ) → place_of place k ≡ Closed c → Contains order k
-  pub closed : (i : ℕ) → i < length order → (c : ℕ) × (place_of place (slice_index order i) ≡ Closed c)
-  pub sorted : (i j c d : ℕ) → i ≤ j → j < length order → place_of place (slice_index order i) ≡ Closed c → place_of place (slice_index order j) ≡ Closed d → c ≤ d
+pub record AreFinished (edges : ℕ → List ℕ) (place : List Visit) (looked_at order : List ℕ) (count : ℕ) : Type 0 where
+  pub counted : (k c : ℕ) → visit_of place k ≡ Closed c → c < count
+  pub joined : (k j c : ℕ) → visit_of place k ≡ Closed c → visit_of place j ≡ Closed c → NodeReaches edges k j
+  pub looked : (k c : ℕ) → visit_of place k ≡ Closed c → length (edges k) ≤ slice_index looked_at k
+  pub listed : (k c : ℕ) → visit_of place k ≡ Closed c → Contains order k
+  pub closed : (i : ℕ) → i < length order → (c : ℕ) × (visit_of place (slice_index order i) ≡ Closed c)
+  pub sorted : (i j c d : ℕ) → i ≤ j → j < length order → visit_of place (slice_index order i) ≡ Closed c → visit_of place (slice_index order j) ≡ Closed d → c ≤ d
   pub count_below : count ≤ length order
 
 -- a search that has seen the nodes below seen, of n
 pub record IsSearch (edges : ℕ → List ℕ) (n seen : ℕ) (s : SearchState) : Type 0 where
   pub places : length s.place ≡ n
   pub looks : length s.looked_at ≡ n
-  pub seen_below : (k : ℕ) → k < seen → place_of s.place k ≢ Unseen
+  pub seen_below : (k : ℕ) → k < seen → visit_of s.place k ≢ Unseen
   pub row : IsRow s.place s.opened
   -- the groups cover the row: the first one starts at 0
   pub starts : IsRising s.starts (length s.opened)
@@ -43,10 +43,10 @@ pub record IsSearch (edges : ℕ → List ℕ) (n seen : ℕ) (s : SearchState) 
   pub grouped : 0 < length s.opened → 0 < length s.starts
   -- an open node that isn't on the path has no edge left
   pub path : IsRising s.path (length s.opened)
-  pub waits : (k p : ℕ) → place_of s.place k ≡ Open p → (length (edges k) ≤ slice_index s.looked_at k) ⊎ Contains s.path p
-  pub leads : (k i : ℕ) → i < slice_index s.looked_at k → Leads s.starts (place_of s.place k) (place_of s.place (slice_index (edges k) i))
+  pub waits : (k p : ℕ) → visit_of s.place k ≡ Open p → (length (edges k) ≤ slice_index s.looked_at k) ⊎ Contains s.path p
+  pub leads : (k i : ℕ) → i < slice_index s.looked_at k → Leads s.starts (visit_of s.place k) (visit_of s.place (slice_index (edges k) i))
   -- an open node reaches those of its own group and of the later ones
-  pub reaches : (k j p q : ℕ) → place_of s.place k ≡ Open p → place_of s.place j ≡ Open q → IsFrom s.starts p q → NodeReaches edges k j
+  pub reaches : (k j p q : ℕ) → visit_of s.place k ≡ Open p → visit_of s.place j ≡ Open q → IsFrom s.starts p q → NodeReaches edges k j
   pub finished : AreFinished edges s.place s.looked_at s.order s.count
 
 abbrev pub Keeps : (ℕ → List ℕ) → ℕ → SearchState → SearchState → Type 0

@@ -1,12 +1,12 @@
 -- What a search for components is seen as.
 use Rattle.std.specs.Prelude.{ℕ, List, slice_index_or}
-use Rattle.epx_components.specs.declared.place.Place.{Place}
-use Rattle.epx_components.specs.declared.place.Place.TheVariants.{Unseen}
+use Rattle.epx_components.specs.declared.visit.Visit.{Visit}
+use Rattle.epx_components.specs.declared.visit.Visit.TheVariants.{Unseen}
 use Rattle.epx_components.specs.declared.search.Search.{Search}
 
 -- a search without where it lies in memory
 pub record SearchState : Type 0 where
-  pub place : List Place
+  pub place : List Visit
   pub looked_at : List ℕ
   pub opened : List ℕ
   pub path : List ℕ
@@ -26,5 +26,5 @@ state s = record {
 }
 
 -- where a node stands
-abbrev pub place_of : List Place → ℕ → Place
-place_of places k = slice_index_or places k Unseen
+abbrev pub visit_of : List Visit → ℕ → Visit
+visit_of places k = slice_index_or places k Unseen

@@ -1,14 +1,14 @@
 -- The steps of a search for components.
 use Rattle.std.specs.Prelude.{◌≡◌, ℕ, ◌+◌, ◌-◌, ◌<◌, ◌≤◌, ◌⊎◌, List, [], ◌∷◌, ◌++◌, length, take, drop, slice_index, slice_set}
-use Rattle.epx_components.specs.declared.place.Place.{Place}
-use Rattle.epx_components.specs.declared.place.Place.TheVariants.{Unseen, Open, Closed}
+use Rattle.epx_components.specs.declared.visit.Visit.{Visit}
+use Rattle.epx_components.specs.declared.visit.Visit.TheVariants.{Unseen, Open, Closed}
 use Rattle.epx_components.specs.Starts.{IsInLast, IsCut}
-use Rattle.epx_components.specs.SearchStates.{SearchState, place_of}
+use Rattle.epx_components.specs.SearchStates.{SearchState, visit_of}
 
 -- a node of the last group with an edge left
 pub record IsNext (edges : ℕ → List ℕ) (s : SearchState) (k : ℕ) : Type 0 where
   pub place : ℕ
-  pub is_open : place_of s.place k ≡ Open place
+  pub is_open : visit_of s.place k ≡ Open place
   pub is_last : IsInLast s.starts place
   pub left : slice_index s.looked_at k < length (edges k)
 
@@ -38,13 +38,13 @@ abbrev pub looked : SearchState → ℕ → SearchState
 looked s k = record s { looked_at = slice_set s.looked_at k (slice_index s.looked_at k + 1) }
 
 -- what an edge to a node at this place does
-abbrev pub Arrives : Place → ℕ → SearchState → SearchState → Type 0
+abbrev pub Arrives : Visit → ℕ → SearchState → SearchState → Type 0
 Arrives Unseen k old new = new ≡ entered old k
 Arrives (Open t) k old new = IsCut t old.starts new.starts × (new ≡ record old { starts = new.starts })
 Arrives (Closed c) k old new = new ≡ old
 
 -- the open nodes from a place on are closed
-abbrev pub Closes : ℕ → ℕ → Place → Place → Type 0
+abbrev pub Closes : ℕ → ℕ → Visit → Visit → Type 0
 Closes start c Unseen new = new ≡ Unseen
 Closes start c (Open p) new = ((p < start) × (new ≡ Open p)) ⊎ ((start ≤ p) × (new ≡ Closed c))
 Closes start c (Closed d) new = new ≡ Closed d
@@ -53,7 +53,7 @@ Closes start c (Closed d) new = new ≡ Closed d
 pub record IsFinished (old new : SearchState) : Type 0 where
   pub start : ℕ
   pub last : (0 < length old.starts) × (slice_index old.starts (length old.starts - 1) ≡ start)
-  pub closes : (k : ℕ) → Closes start old.count (place_of old.place k) (place_of new.place k)
+  pub closes : (k : ℕ) → Closes start old.count (visit_of old.place k) (visit_of new.place k)
   pub places : length new.place ≡ length old.place
   pub same : new ≡ record old {
     place = new.place;

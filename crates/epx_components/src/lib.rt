@@ -6,14 +6,14 @@ mod component_map;
 mod depths;
 mod leaders;
 mod missing;
+mod node_ranks;
 mod partition;
-mod place;
 mod search;
-mod standings;
 mod starts;
+mod visit;
 
 pub use component_map::{ComponentMap, components};
 pub use missing::{any_marked, find_missing};
+pub use node_ranks::{NodeRank, NodeRanks};
 pub use partition::Partition;
 pub use search::find_components;
-pub use standings::{Standing, Standings};

@@ -3,14 +3,14 @@ ghost use Rattle.std.specs.Prelude.{◌≡◌, ℕ, List, ◌+◌, ◌<◌, ◌�
 ghost use Rattle.epx_graph.specs.Graphs.{IsGraph, edges_of};
 ghost use Rattle.epx_components.specs.Partitions.{parts, IsPartitionOf};
 ghost use Rattle.epx_components.specs.Starts.{IsRising};
-ghost use Rattle.epx_components.specs.SearchStates.{state, place_of};
+ghost use Rattle.epx_components.specs.SearchStates.{state, visit_of};
 ghost use Rattle.epx_components.specs.SearchInvariants.{IsRow, IsSearch, Keeps};
 ghost use Rattle.epx_components.specs.SearchSteps.{entered, Arrives, IsNext, IsTop, IsOff, IsFinished};
 ghost use Rattle.epx_components.specs.SearchWork.{work};
 
 use crate::partition::Partition;
-use crate::place::{Place, close_nodes, component_numbers};
 use crate::starts::merge_groups;
+use crate::visit::{Visit, close_nodes, component_numbers};
 use epx_graph::Graph;
 use epx_types::Memory;
 use std::alloc::Global;
@@ -21,7 +21,7 @@ use std::alloc::Global;
 /// row merges the groups from there on; a group without an edge left is a component.
 #[derive(Drop)]
 pub(crate) struct Search {
-    place: Vec<Place>,
+    place: Vec<Visit>,
     /// How many of a node's edges were looked at.
     looked_at: Vec<usize>,
     /// The row of open nodes.
@@ -60,7 +60,7 @@ impl Search {
         ensures none { IfOk result (λ s. length (state s).starts ≡ 0) }
     {
         Ok(Search {
-            place: vec![in alloc; Place::Unseen; len]?,
+            place: vec![in alloc; Visit::Unseen; len]?,
             looked_at: vec![in alloc; 0; len]?,
             opened: Vec::new(alloc),
             path: Vec::new(alloc),
@@ -139,12 +139,12 @@ impl Search {
     fn arrive(&mut self, node: usize) -> Result<(), Memory>
         requires node { node < length (state self.old).place }
         requires starts { IsRising (state self.old).starts (length (state self.old).opened) }
-        ensures { OnOk result (Arrives (place_of (state self.old).place node) node (state self.old) (state self.new)) }
+        ensures { OnOk result (Arrives (visit_of (state self.old).place node) node (state self.old) (state self.new)) }
     {
         match self.place[node] {
-            Place::Unseen => self.enter(node)?,
-            Place::Open(position) => merge_groups(&mut self.starts, position),
-            Place::Closed(_) => {}
+            Visit::Unseen => self.enter(node)?,
+            Visit::Open(position) => merge_groups(&mut self.starts, position),
+            Visit::Closed(_) => {}
         }
         Ok(())
     }
@@ -155,7 +155,7 @@ impl Search {
         ensures { OnOk result (state self.new ≡ entered (state self.old) node) }
     {
         let position = self.opened.len();
-        self.place[node] = Place::Open(position);
+        self.place[node] = Visit::Open(position);
         self.opened.push(node)?;
         self.path.push(position)?;
         self.starts.push(position)?;

@@ -20,7 +20,7 @@ use Rattle.epx_order.specs.declared.touches.Touch.{Touch}
 use Rattle.epx_order.specs.Links.{touch_at, AreLinked}
 use Rattle.epx_order.specs.Touches.{touch, touches_of, HoldTouches}
 use Rattle.epx_order.specs.Ways.{AreNodesOf}
-use Rattle.epx_components.proofs.NodeRanks.{node_of_place}
+use Rattle.epx_components.proofs.ReadyRanks.{node_of_place}
 use Rattle.epx_order.proofs.TouchLemmas.{touch_of_touched, touch_of_written}
 
 module _ (m : List Instance) (g : DependencyGraph) (is : IsGraphOf m g) (order : List Ranked) (orders : IsExecutionOrder m order) (nodes : List ℕ) (are : AreNodesOf m order nodes) where

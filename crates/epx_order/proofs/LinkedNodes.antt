@@ -12,7 +12,7 @@ use Rattle.epx_graph.specs.Graphs.{DependencyGraph, edges_of}
 use Rattle.epx_graph.specs.GraphOf.{IsGraphOf}
 use Rattle.epx_graph.proofs.MapPaths.{committed_count, node_reaches}
 use Rattle.epx_order.specs.Ways.{AreNodesOf, LeadersJoin}
-use Rattle.epx_components.proofs.NodeRanks.{node_of_place}
+use Rattle.epx_components.proofs.ReadyRanks.{node_of_place}
 
 module _ (m : List Instance) (order : List Ranked) (nodes : List ℕ) (are : AreNodesOf m order nodes) where
   entry : (p : ℕ) (r : Ranked) → slice_get order p ≡ Some r → (e : Instance) × (slice_get m (get_or nodes p 0) ≡ Some e) × (e.id ≡ r.id)

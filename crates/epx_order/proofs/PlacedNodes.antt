@@ -24,7 +24,7 @@ use Rattle.epx_order.specs.declared.order_fault.OrderFault.{OrderFault}
 use Rattle.epx_order.specs.declared.order_fault.OrderFault.TheVariants.{Memory, Stranger, Repeat, Missing, Early, Sequence}
 use Rattle.epx_order.proofs.LawfulLists.{lawful_from_order}
 use Rattle.epx_components.proofs.NodePathLemmas.{reach_falls, reaches_on}
-use Rattle.epx_components.proofs.NodeRanks.{node_of_place}
+use Rattle.epx_components.proofs.ReadyRanks.{node_of_place}
 
 module _ (m : List Instance) (g : DependencyGraph) (is : IsGraphOf m g) (p : Parts) (part : IsPartitionOf g p) (ids : List Id) (nodes : List ℕ) (marks : List Bool) (listed : AreListed g ids (length ids) nodes marks) (ready : IsListOfReady m ids) where
   -- the node at a place is that of the instance there, and is committed

@@ -18,7 +18,7 @@ use Rattle.epx_order.specs.NodeConflicts.{IsSettled, IsUnsettled, IsPartner}
 use Rattle.epx_order.specs.ReadyMarks.{AreReadyMarks}
 use Rattle.epx_order.specs.Uncovered.{IsUncovered, IsLeastUncovered}
 use Rattle.epx_order.proofs.MarkedReady.{ready_from_mark, mark_from_ready}
-use Rattle.epx_components.proofs.NodeRanks.{node_of_place}
+use Rattle.epx_components.proofs.ReadyRanks.{node_of_place}
 
 module _ (m : List Instance) (g : DependencyGraph) (is : IsGraphOf m g) (ready : List Bool) (marked : AreReadyMarks g ready) where
   -- the instance at the place of its node

@@ -7,10 +7,10 @@ ghost use Rattle.epx_types.specs.ExecutionOrder.{IsRanked};
 ghost use Rattle.epx_types.specs.Readiness.{IsReady};
 ghost use Rattle.epx_graph.specs.GraphOf.{IsGraphAfter, IsGraphOf};
 ghost use Rattle.epx_order.specs.Ranks.{ranked, AreReadyRanks};
-ghost use Rattle.epx_components.specs.Standings.{IsStanding};
+ghost use Rattle.epx_components.specs.NodeRanks.{IsNodeRank};
 
 use crate::rank::Rank;
-use epx_components::{Standing, Standings};
+use epx_components::{NodeRank, NodeRanks};
 use epx_graph::Graph;
 use epx_merge::Merged;
 use epx_types::{Entry, Id, Memory};
@@ -26,10 +26,10 @@ pub(crate) fn ready_ranks(
     requires { IsGraphAfter merged.now graph.now }
     ensures { IfOk result (λ ranks. (done : List Id) → IsGraphOf (remaining done merged.now) graph.now → AreReadyRanks (remaining done merged.now) ranks.items) }
 {
-    let standings = Standings::of(alloc, graph)?;
+    let node_ranks = NodeRanks::of(alloc, graph)?;
     let mut ranks = Vec::new(alloc);
     for node in 0..graph.committed_len() {
-        if let Some(rank) = rank_of(merged, graph, node, standings.get(node)) {
+        if let Some(rank) = rank_of(merged, graph, node, node_ranks.get(node)) {
             ranks.push(rank)?;
         }
     }
@@ -37,21 +37,21 @@ pub(crate) fn ready_ranks(
 }
 
 /// The rank of the instance of a committed node, if it is ready.
-fn rank_of(merged: &Merged, graph: &Graph, node: usize, standing: Standing) -> Option<Rank>
+fn rank_of(merged: &Merged, graph: &Graph, node: usize, node_rank: NodeRank) -> Option<Rank>
     requires graph { IsGraphAfter merged.now graph.now }
     requires committed { node < graph.now.committed }
-    requires standing { IsStanding graph.now node standing }
+    requires node_rank { IsNodeRank graph.now node node_rank }
     ensures id { IfSome result (λ rank. slice_get graph.now.ids node ≡ Some rank.id) }
     ensures rank { IfSome result (λ rank. (done : List Id) → IsGraphOf (remaining done merged.now) graph.now → IsRanked (remaining done merged.now) (ranked rank)) }
     ensures none { IfNone result ((done : List Id) (x : Id) → IsGraphOf (remaining done merged.now) graph.now → slice_get graph.now.ids node ≡ Some x → ¬ IsReady (remaining done merged.now) x) }
 {
-    if standing.reaches_missing {
+    if node_rank.reaches_missing {
         return None;
     }
     let id = graph.id(node);
     Some(Rank {
-        depth: standing.depth,
-        leader: graph.id(standing.leader),
+        depth: node_rank.depth,
+        leader: graph.id(node_rank.leader),
         seq: entry_of(merged, node, id).seq(),
         id,
     })

@@ -1,4 +1,4 @@
--- What is shown of an instance, from the standing of its node.
+-- What is shown of an instance, from the rank of its node.
 use Rattle.std.proofs.Common.{◌≡◌, ℕ, ◌<◌, List, Bool, true, false, Option, slice_get, Some, sym, ap, ◌∙◌, subst, arith, refl, IsTrue}
 use Rattle.std.proofs.lemmas.Bool.{false≢true}
 use Rattle.std.proofs.lemmas.Option.{slice_get_within}
@@ -10,10 +10,10 @@ use Rattle.epx_types.proofs.Places.{Contains-slice_get}
 use Rattle.epx_graph.specs.Graphs.{DependencyGraph}
 use Rattle.epx_graph.specs.GraphOf.{IsGraphOf}
 use Rattle.epx_graph.proofs.MapPaths.{committed_count}
-use Rattle.epx_components.specs.declared.standings.Standing.{Standing}
-use Rattle.epx_components.specs.Standings.{IsStanding}
+use Rattle.epx_components.specs.declared.node_ranks.NodeRank.{NodeRank}
+use Rattle.epx_components.specs.NodeRanks.{IsNodeRank}
 use Rattle.epx_components.proofs.InstanceDepths.{depth_from_node}
-use Rattle.epx_components.proofs.NodeRanks.{node_of_place}
+use Rattle.epx_components.proofs.ReadyRanks.{node_of_place}
 use Rattle.epx_components.proofs.ReadyNodes.{ready_from_node, node_from_ready}
 use Rattle.epx_picture.specs.Drawings.{IsCluster, IsDrawn}
 
@@ -29,7 +29,7 @@ module _ (m : List Instance) (g : DependencyGraph) (is : IsGraphOf m g) (k : ℕ
   pub own_node : slice_get g.ids k ≡ Some e.id
   own_node = node_of_place m g is k e at below
 
-  pub drawn_from_node : (s : Standing) (cluster : Option Id) → IsStanding g k s → IsCluster m e.id cluster → IsDrawn m (record { id = e.id; seq = e.seq; depth = s.depth; cluster = cluster; waits = s.reaches_missing })
+  pub drawn_from_node : (s : NodeRank) (cluster : Option Id) → IsNodeRank g k s → IsCluster m e.id cluster → IsDrawn m (record { id = e.id; seq = e.seq; depth = s.depth; cluster = cluster; waits = s.reaches_missing })
   drawn_from_node s cluster stands clustered = record {
     seq = λ d in_d same. ap (λ (i : Instance). i.seq) (IsRising-same m (subst IsRising is.committed is.graph.committed_rise) d e in_d (Contains-slice_get m k e at) same);
     depth = depth_from_node m g is k e.id s.depth own_node stands.depth;

@@ -1,37 +1,37 @@
--- Marks of the nodes that lead another one, with one standing more.
+-- Marks of the nodes that lead another one, with one rank more.
 use Rattle.std.proofs.Common.{◌≡◌, ◌⊎◌, ℕ, ◌+◌, ◌<◌, inl, inr, List, Bool, true, false, length, get_or, set, slice_get, Some, replicate, sym, ◌∙◌, ap, arith}
 use Rattle.std.proofs.lemmas.Bool.{cases_eq, cases_lt, false≢true}
 use Rattle.std.proofs.lemmas.List.{length-set, length-replicate, get_or-replicate, get_or_past, get_or-set_same, get_or-set_other}
-use Rattle.epx_components.specs.declared.standings.Standing.{Standing}
+use Rattle.epx_components.specs.declared.node_ranks.NodeRank.{NodeRank}
 use Rattle.epx_picture.specs.Clusters.{LeadsAmong, AreMarked}
 
 unmarked : (n l : ℕ) → get_or (replicate n false) l false ≡ false
 unmarked n l = elim (cases_lt l n) [ inl below ↦ get_or-replicate n l false false below | inr past ↦ get_or_past (replicate n false) l false (omega (arith, length-replicate n false, past)) ]
 
-pub marked_none : (standings : List Standing) (n : ℕ) → length standings ≡ n → AreMarked standings 0 (replicate n false)
-marked_none standings n long = record {
+pub marked_none : (node_ranks : List NodeRank) (n : ℕ) → length node_ranks ≡ n → AreMarked node_ranks 0 (replicate n false)
+marked_none node_ranks n long = record {
   nodes = length-replicate n false ∙ sym long;
   exact = λ l. (λ h. absurd (false≢true (sym (unmarked n l) ∙ h)), λ w. absurd (let l = w.2 in omega arith));
 }
 
-module _ (standings : List Standing) (n : ℕ) (marks : List Bool) (old : AreMarked standings n marks) (s : Standing) (at : slice_get standings n ≡ Some s) where
+module _ (node_ranks : List NodeRank) (n : ℕ) (marks : List Bool) (old : AreMarked node_ranks n marks) (s : NodeRank) (at : slice_get node_ranks n ≡ Some s) where
   -- one that leads among the first leads among more
-  more : (l : ℕ) → LeadsAmong standings n l → LeadsAmong standings (n + 1) l
+  more : (l : ℕ) → LeadsAmong node_ranks n l → LeadsAmong node_ranks (n + 1) l
   more l (k, t, below, there, leads, other) = (k, t, omega arith, there, leads, other)
 
   -- and where it leads no more among them, it leads the next one
-  fewer : (l : ℕ) → LeadsAmong standings (n + 1) l → LeadsAmong standings n l ⊎ ((s.leader ≡ l) × ¬ (n ≡ l))
+  fewer : (l : ℕ) → LeadsAmong node_ranks (n + 1) l → LeadsAmong node_ranks n l ⊎ ((s.leader ≡ l) × ¬ (n ≡ l))
   fewer l (k, t, below, there, leads, other) = elim (cases_lt k n) [
     | inl past ↦ inl (k, t, past, there, leads, other)
     | inr now ↦
         let same : k ≡ n = omega arith in
-        let one : Some s ≡ Some t = sym at ∙ ap (slice_get standings) (sym same) ∙ there in
+        let one : Some s ≡ Some t = sym at ∙ ap (slice_get node_ranks) (sym same) ∙ there in
         let is : s ≡ t = cc one in
-        inr (ap (λ (r : Standing). r.leader) is ∙ leads, λ e. other (same ∙ e))
+        inr (ap (λ (r : NodeRank). r.leader) is ∙ leads, λ e. other (same ∙ e))
   ]
 
   -- the next one leads itself
-  pub marked_past : s.leader ≡ n → AreMarked standings (n + 1) marks
+  pub marked_past : s.leader ≡ n → AreMarked node_ranks (n + 1) marks
   marked_past own = record {
     nodes = old.nodes;
     exact = λ l. (
@@ -41,7 +41,7 @@ module _ (standings : List Standing) (n : ℕ) (marks : List Bool) (old : AreMar
   }
 
   -- the next one is led by another
-  pub marked_more : ¬ (s.leader ≡ n) → s.leader < length marks → AreMarked standings (n + 1) (set marks s.leader true)
+  pub marked_more : ¬ (s.leader ≡ n) → s.leader < length marks → AreMarked node_ranks (n + 1) (set marks s.leader true)
   marked_more other within = record {
     nodes = length-set marks s.leader true ∙ old.nodes;
     exact = λ l. (

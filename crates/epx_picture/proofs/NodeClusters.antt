@@ -10,12 +10,12 @@ use Rattle.epx_graph.specs.GraphOf.{IsGraphOf}
 use Rattle.epx_graph.specs.NodePaths.{NodeReaches}
 use Rattle.epx_graph.proofs.GraphNodes.{node_id, node_is_one}
 use Rattle.epx_graph.proofs.MapPaths.{node_reaches, reached_node}
-use Rattle.epx_components.specs.declared.standings.Standing.{Standing}
+use Rattle.epx_components.specs.declared.node_ranks.NodeRank.{NodeRank}
 use Rattle.epx_components.specs.NodeComponents.{InOneNodeComponent, IsNodeLeader}
-use Rattle.epx_components.specs.Standings.{IsStanding}
+use Rattle.epx_components.specs.NodeRanks.{IsNodeRank}
 use Rattle.epx_components.proofs.InstanceLeaders.{leader_from_node}
 use Rattle.epx_components.proofs.NodePathLemmas.{reaches_on}
-use Rattle.epx_picture.specs.Clusters.{AreStandings, AreMarked}
+use Rattle.epx_picture.specs.Clusters.{AreNodeRanks, AreMarked}
 use Rattle.epx_picture.specs.Drawings.{IsCluster}
 
 -- nodes of one component have one leader
@@ -25,7 +25,7 @@ one_leader edges k j l i one p q =
     let high = q.least l (reaches_on edges j k l one.1 p.member.0, reaches_on edges l k j p.member.1 one.0) in
     omega arith
 
-module _ (m : List Instance) (g : DependencyGraph) (is : IsGraphOf m g) (k : ℕ) (x : Id) (s : Standing) (at : slice_get g.ids k ≡ Some x) (stands : IsStanding g k s) where
+module _ (m : List Instance) (g : DependencyGraph) (is : IsGraphOf m g) (k : ℕ) (x : Id) (s : NodeRank) (at : slice_get g.ids k ≡ Some x) (stands : IsNodeRank g k s) where
   in_component : (j : ℕ) (y : Id) → slice_get g.ids j ≡ Some y → InOneNodeComponent (edges_of g) k j → InOneComponent m x y
   in_component j y to one = ((node_reaches m g is k j x y at to).0 one.0, (node_reaches m g is j k y x to at).0 one.1)
 
@@ -36,7 +36,7 @@ module _ (m : List Instance) (g : DependencyGraph) (is : IsGraphOf m g) (k : ℕ
     (leader, in_component s.leader leader to stands.leader.member, λ same. other (node_is_one g is.graph s.leader k x (to ∙ ap Some same) at)),
   )
 
-  module _ (own : s.leader ≡ k) (standings : List Standing) (all : AreStandings g standings) (marks : List Bool) (marked : AreMarked standings (length g.ids) marks) where
+  module _ (own : s.leader ≡ k) (node_ranks : List NodeRank) (all : AreNodeRanks g node_ranks) (marks : List Bool) (marked : AreMarked node_ranks (length g.ids) marks) where
     -- its node leads another one
     pub cluster_leading : IsTrue (get_or marks k false) → IsCluster m x (Some x)
     cluster_leading h =
@@ -54,10 +54,10 @@ module _ (m : List Instance) (g : DependencyGraph) (is : IsGraphOf m g) (k : ℕ
         let j = reached_node m g is k x y at one.0 in
         let back : NodeReaches (edges_of g) j.0 k = (node_reaches m g is j.0 k y x j.1 at).1 one.1 in
         let within = slice_get_within g.ids j.0 y j.1 in
-        let there = slice_get-get_or standings j.0 s (omega (arith, all.nodes)) in
-        let t = all.each j.0 (get_or standings j.0 s) there in
+        let there = slice_get-get_or node_ranks j.0 s (omega (arith, all.nodes)) in
+        let t = all.each j.0 (get_or node_ranks j.0 s) there in
         let leads = one_leader (edges_of g) k j.0 s.leader _ (j.2, back) stands.leader t.leader in
         elim (cases_eq j.0 k) [
           | inl same ↦ (let found : Some y ≡ Some x = sym j.1 ∙ ap (slice_get g.ids) same ∙ at in cc found)
-          | inr other ↦ absurd (none ((marked.exact k).1 (j.0, get_or standings j.0 s, within, there, sym leads ∙ own, other)))
+          | inr other ↦ absurd (none ((marked.exact k).1 (j.0, get_or node_ranks j.0 s, within, there, sym leads ∙ own, other)))
         ]

@@ -2,8 +2,8 @@
 ghost use Rattle.std.specs.Prelude.{◌≡◌, ◌<◌, length, map, slice_get, Contains, Some, IfOk};
 ghost use Rattle.epx_types.specs.CommittedMap.{ids_of};
 ghost use Rattle.epx_graph.specs.GraphOf.{IsGraphOf};
-ghost use Rattle.epx_components.specs.Standings.{IsStanding};
-ghost use Rattle.epx_picture.specs.Clusters.{AreMarked, AreStandings};
+ghost use Rattle.epx_components.specs.NodeRanks.{IsNodeRank};
+ghost use Rattle.epx_picture.specs.Clusters.{AreMarked, AreNodeRanks};
 ghost use Rattle.epx_picture.specs.declared.drawn.Drawn.{Drawn};
 ghost use Rattle.epx_picture.specs.Drawings.{IsDrawn};
 ghost use Rattle.epx_picture.specs.Pictures.{IsPicture};
@@ -11,7 +11,7 @@ ghost use Rattle.epx_picture.specs.Pictures.{IsPicture};
 use crate::cluster::{cluster_of, find_leading};
 use crate::drawn::Drawn;
 use crate::writing::written;
-use epx_components::{Standing, Standings};
+use epx_components::{NodeRank, NodeRanks};
 use epx_graph::Graph;
 use epx_merge::Merged;
 use epx_types::Memory;
@@ -23,12 +23,12 @@ fn draw(
     graph: &Graph,
     leading: &[bool],
     position: usize,
-    standing: Standing,
+    node_rank: NodeRank,
 ) -> Drawn
     requires graph { IsGraphOf merged.now graph.now }
     requires position { position < length merged.now }
-    requires standing { IsStanding graph.now position standing }
-    requires leading { (standings : _) × AreStandings graph.now standings × AreMarked standings (length graph.now.ids) leading.now }
+    requires node_rank { IsNodeRank graph.now position node_rank }
+    requires leading { (node_ranks : _) × AreNodeRanks graph.now node_ranks × AreMarked node_ranks (length graph.now.ids) leading.now }
     ensures id { slice_get (ids_of merged.now) position ≡ Some result.id }
     ensures drawn { IsDrawn merged.now result }
 {
@@ -36,9 +36,9 @@ fn draw(
     Drawn {
         id: entry.id(),
         seq: entry.seq(),
-        depth: standing.depth,
-        cluster: cluster_of(graph, leading, position, standing),
-        waits: standing.reaches_missing,
+        depth: node_rank.depth,
+        cluster: cluster_of(graph, leading, position, node_rank),
+        waits: node_rank.reaches_missing,
     }
 }
 
@@ -48,12 +48,12 @@ fn draw_all(alloc: Global, merged: &Merged, graph: &Graph) -> Result<Vec<Drawn>,
     ensures named { IfOk result (λ drawn. map (λ d. d.id) drawn.items ≡ ids_of merged.now) }
     ensures shown { IfOk result (λ drawn. (d : Drawn) → Contains drawn.items d → IsDrawn merged.now d) }
 {
-    let standings = Standings::of(alloc, graph)?;
-    let leading = find_leading(alloc, graph, &standings)?;
+    let node_ranks = NodeRanks::of(alloc, graph)?;
+    let leading = find_leading(alloc, graph, &node_ranks)?;
     let mut drawn = Vec::with_capacity(alloc, merged.len())?;
     for position in 0..merged.len() {
-        let standing = standings.get(position);
-        drawn.push(draw(merged, graph, &leading, position, standing))?;
+        let node_rank = node_ranks.get(position);
+        drawn.push(draw(merged, graph, &leading, position, node_rank))?;
     }
     Ok(drawn)
 }

@@ -4,7 +4,7 @@ use Rattle.epx_graph.proofs.GraphNodes.{edge_within}
 use Rattle.epx_components.proofs.EdgeLemmas.{edge_from}
 use Rattle.epx_components.proofs.Ending.{all_closed, end_partition}
 use Rattle.epx_components.specs.SearchInvariants.{IsSearch}
-use Rattle.epx_components.specs.SearchStates.{place_of, state}
+use Rattle.epx_components.specs.SearchStates.{visit_of, state}
 use Rattle.epx_components.proofs.search.find_components.Goals as goal
 
 pub loop-root-init : goal.loop-root-init
@@ -32,5 +32,5 @@ returns c =
     let fits = c.len-len.ensures.fits in
     let is = end_partition edges n (state s) component.items (edge_from c.args.graph.now fits) (edge_within c.args.graph.now fits) end
     (omega (arith, component.ok.0, c.in_ok-component.ensures.len, w.places))
-    (λ k l. ap (λ places. place_of places k) (sym c.deref.ensures.value) ∙ c.in_ok-component.ensures.closed k (omega (arith, w.places))) in
+    (λ k l. ap (λ places. visit_of places k) (sym c.deref.ensures.value) ∙ c.in_ok-component.ensures.closed k (omega (arith, w.places))) in
     record { each_node = omega (arith, component.ok.0, c.in_ok-component.ensures.len, w.places); is = is }

@@ -3,13 +3,13 @@ use Rattle.std.proofs.lemmas.Bool.{false≢true}
 use Rattle.epx_types.specs.Done.{remaining}
 use Rattle.epx_types.proofs.DoneLemmas.{Contains-remaining_iff}
 use Rattle.epx_graph.proofs.MapPaths.{node_committed}
-use Rattle.epx_components.proofs.NodeRanks.{rank_left}
+use Rattle.epx_components.proofs.ReadyRanks.{rank_left}
 use Rattle.epx_components.proofs.ReadyNodes.{node_from_ready}
 use Rattle.epx_order.proofs.ready.rank_of.Goals as goal
 
-pub returns-then-standing-clause-none : goal.returns-then-standing-clause-none
-returns-then-standing-clause-none c done x is at ready =
-    node_from_ready (remaining done c.args.merged.now) c.args.graph.now is c.args.node x at ready (c.requires.standing.missing.0 c.if-standing.true)
+pub returns-then-node_rank-clause-none : goal.returns-then-node_rank-clause-none
+returns-then-node_rank-clause-none c done x is at ready =
+    node_from_ready (remaining done c.args.merged.now) c.args.graph.now is c.args.node x at ready (c.requires.node_rank.missing.0 c.if-node_rank.true)
 
 pub entry_of-requires : goal.entry_of-requires
 entry_of-requires c =
@@ -21,5 +21,5 @@ entry_of-requires c =
 pub returns-clause-rank : goal.returns-clause-rank
 returns-clause-rank c done is =
     let e = c.entry_of.result.now in
-    rw c.seq.ensures (rank_left done c.args.merged.now c.args.graph.now is c.args.node c.id-id.result e c.args.standing c.id.result c.id-id.ensures c.entry_of.ensures.among c.entry_of.ensures.id c.requires.committed c.requires.standing
-    (λ waits. false≢true (sym c.if-standing.false ∙ waits)) c.id.ensures)
+    rw c.seq.ensures (rank_left done c.args.merged.now c.args.graph.now is c.args.node c.id-id.result e c.args.node_rank c.id.result c.id-id.ensures c.entry_of.ensures.among c.entry_of.ensures.id c.requires.committed c.requires.node_rank
+    (λ waits. false≢true (sym c.if-node_rank.false ∙ waits)) c.id.ensures)

@@ -5,8 +5,8 @@ use Rattle.epx_order.proofs.GatheredRanks.{AreGathered, gathered_all, gathered_n
 use Rattle.epx_order.proofs.ready.ready_ranks.Goals as goal
 use Rattle.epx_order.proofs.ready.ready_ranks.Goals.{in-Some+in_ok-push, in_default}
 
-pub rank_of-requires-clause-standing : goal.rank_of-requires-clause-standing
-rank_of-requires-clause-standing c = c.in_ok-standings.ensures.each c.loop-node.node c.get.result c.get.ensures
+pub rank_of-requires-clause-node_rank : goal.rank_of-requires-clause-node_rank
+rank_of-requires-clause-node_rank c = c.in_ok-node_ranks.ensures.each c.loop-node.node c.get.result c.get.ensures
 
 pub loop-node-init : goal.loop-node-init
 loop-node-init c done is = rw c.new-ranks.ensures.items (gathered_none (remaining done c.args.merged.now) c.args.graph.now)

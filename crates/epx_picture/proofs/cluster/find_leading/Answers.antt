@@ -6,7 +6,7 @@ use Rattle.epx_picture.proofs.cluster.find_leading.Goals as goal
 use Rattle.epx_picture.proofs.cluster.find_leading.Goals.{then-leader-node, else-leader-node}
 
 pub loop-node-init : goal.loop-node-init
-loop-node-init c = subst (AreMarked c.args.standings.now 0) (sym (c.in_ok-marks.ensures.items_if_clones_equal (λ y same. same))) (marked_none c.args.standings.now c.len.result (omega (arith, c.requires.nodes, c.len.ensures.len)))
+loop-node-init c = subst (AreMarked c.args.node_ranks.now 0) (sym (c.in_ok-marks.ensures.items_if_clones_equal (λ y same. same))) (marked_none c.args.node_ranks.now c.len.result (omega (arith, c.requires.nodes, c.len.ensures.len)))
 
 pub index_mut-requires : goal.index_mut-requires
 index_mut-requires c =
@@ -16,15 +16,15 @@ index_mut-requires c =
 
 pub loop-node-preserved : goal.loop-node-preserved
 loop-node-preserved c =
-    let standings = c.args.standings.now in
+    let node_ranks = c.args.node_ranks.now in
     let n = c.loop-node.node in
     let marks = c.loop-node.marks.items in
     let s = c.get-leader.result in
     let old = c.loop-node.invariant in
     let stands = c.requires.each n s c.get-leader.ensures in
     let within = leader_within c.args.graph.now c.len.ensures.fits n s.leader (omega (arith, c.loop-node-test.true, c.len-node-end.ensures.len)) stands.leader in
-    let Marked : List Bool → Type 0 = λ new. AreMarked standings (n + 1) new in
+    let Marked : List Bool → Type 0 = λ new. AreMarked node_ranks (n + 1) new in
     elim c.if-leader-node.branch [
-      | then-leader-node w ↦ subst Marked (sym (ap (λ v. v.items) w.marks-is)) (marked_more standings n marks old s c.get-leader.ensures w.if-leader-node.true (omega (arith, within, old.nodes, c.requires.nodes)))
-      | else-leader-node w ↦ subst Marked (sym (ap (λ v. v.items) w.marks-is)) (marked_past standings n marks old s c.get-leader.ensures w.if-leader-node.false)
+      | then-leader-node w ↦ subst Marked (sym (ap (λ v. v.items) w.marks-is)) (marked_more node_ranks n marks old s c.get-leader.ensures w.if-leader-node.true (omega (arith, within, old.nodes, c.requires.nodes)))
+      | else-leader-node w ↦ subst Marked (sym (ap (λ v. v.items) w.marks-is)) (marked_past node_ranks n marks old s c.get-leader.ensures w.if-leader-node.false)
     ]

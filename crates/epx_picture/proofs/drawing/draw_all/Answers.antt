@@ -2,8 +2,8 @@ use Rattle.std.proofs.Common.{◌+◌, sym, subst}
 use Rattle.epx_picture.proofs.DrawnLists.{AreDrawn, drawn_push}
 use Rattle.epx_picture.proofs.drawing.draw_all.Goals as goal
 
-pub draw-requires-clause-standing : goal.draw-requires-clause-standing
-draw-requires-clause-standing c = c.in_ok-standings.ensures.each c.loop-position.position c.get-standing.result c.get-standing.ensures
+pub draw-requires-clause-node_rank : goal.draw-requires-clause-node_rank
+draw-requires-clause-node_rank c = c.in_ok-node_ranks.ensures.each c.loop-position.position c.get-node_rank.result c.get-node_rank.ensures
 
 pub loop-position-preserved : goal.loop-position-preserved
 loop-position-preserved c =

@@ -1,4 +1,4 @@
--- The rank of a ready instance, from the standing of its node.
+-- The rank of a ready instance, from the rank of its node.
 use Rattle.std.proofs.Common.{◌≡◌, ℕ, ◌<◌, List, slice_get, Some, Contains, refl, sym, ap, ◌∙◌, subst, IsTrue, arith}
 use Rattle.epx_types.specs.declared.id.Id.{Id}
 use Rattle.epx_types.specs.ExecutionOrder.{IsRanked}
@@ -15,8 +15,8 @@ use Rattle.epx_graph.proofs.MapPaths.{node_committed, node_instance}
 use Rattle.epx_components.proofs.InstanceDepths.{depth_from_node}
 use Rattle.epx_components.proofs.InstanceLeaders.{leader_from_node}
 use Rattle.epx_components.proofs.ReadyNodes.{ready_from_node}
-use Rattle.epx_components.specs.Standings.{IsStanding}
-use Rattle.epx_components.specs.declared.standings.Standing.{Standing}
+use Rattle.epx_components.specs.NodeRanks.{IsNodeRank}
+use Rattle.epx_components.specs.declared.node_ranks.NodeRank.{NodeRank}
 
 module _ (m : List Instance) (g : DependencyGraph) (is : IsGraphOf m g) where
   -- the node with the number of a place of the map is that of the instance there
@@ -37,7 +37,7 @@ module _ (m : List Instance) (g : DependencyGraph) (is : IsGraphOf m g) where
       let one : Some d ≡ Some e = sym found ∙ also in
       cc one
 
-  pub rank_from_node : (k : ℕ) (e : Instance) (s : Standing) (leader : Id) → slice_get g.ids k ≡ Some e.id → Contains m e → k < g.committed → IsStanding g k s → ¬ IsTrue s.reaches_missing → slice_get g.ids s.leader ≡ Some leader → IsRanked m (record { id = e.id; seq = e.seq; leader = leader; depth = s.depth })
+  pub rank_from_node : (k : ℕ) (e : Instance) (s : NodeRank) (leader : Id) → slice_get g.ids k ≡ Some e.id → Contains m e → k < g.committed → IsNodeRank g k s → ¬ IsTrue s.reaches_missing → slice_get g.ids s.leader ≡ Some leader → IsRanked m (record { id = e.id; seq = e.seq; leader = leader; depth = s.depth })
   rank_from_node k e s leader node in_m l stands complete to =
       let ready = ready_from_node m g is k e.id node l (λ missing. complete (stands.missing.1 missing)) in
       record {
@@ -48,7 +48,7 @@ module _ (m : List Instance) (g : DependencyGraph) (is : IsGraphOf m g) where
       }
 
 -- the same of what is left of a map, from the whole entry
-pub rank_left : (done : List Id) (m : List Instance) (g : DependencyGraph) → IsGraphOf (remaining done m) g → (k : ℕ) (x : Id) (e : Instance) (s : Standing) (leader : Id) → slice_get g.ids k ≡ Some x → Contains m e → e.id ≡ x → k < g.committed → IsStanding g k s → ¬ IsTrue s.reaches_missing → slice_get g.ids s.leader ≡ Some leader → IsRanked (remaining done m) (record { id = x; seq = e.seq; leader = leader; depth = s.depth })
+pub rank_left : (done : List Id) (m : List Instance) (g : DependencyGraph) → IsGraphOf (remaining done m) g → (k : ℕ) (x : Id) (e : Instance) (s : NodeRank) (leader : Id) → slice_get g.ids k ≡ Some x → Contains m e → e.id ≡ x → k < g.committed → IsNodeRank g k s → ¬ IsTrue s.reaches_missing → slice_get g.ids s.leader ≡ Some leader → IsRanked (remaining done m) (record { id = x; seq = e.seq; leader = leader; depth = s.depth })
 rank_left done m g is k x e s leader at in_m same l stands complete to =
     let committed = (node_committed (remaining done m) g is k x at).0 l in
     let left : ¬ Contains done e.id = subst (λ (y : Id). ¬ Contains done y) (sym same) ((Contains-remaining_iff done m x).0 committed).1 in

@@ -1,4 +1,4 @@
-use Rattle.epx_components.proofs.place.component_numbers.Goals as goal
+use Rattle.epx_components.proofs.visit.component_numbers.Goals as goal
 
 pub unreachable-requires : goal.unreachable-requires
 unreachable-requires c =

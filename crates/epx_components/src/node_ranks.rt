@@ -1,6 +1,6 @@
 //! What the order needs to know of each node.
 ghost use Rattle.std.specs.Prelude.{◌≡◌, ℕ, ◌<◌, length, slice_get, Some, IfOk};
-ghost use Rattle.epx_components.specs.Standings.{IsStanding};
+ghost use Rattle.epx_components.specs.NodeRanks.{IsNodeRank};
 
 use crate::depths::find_depths;
 use crate::leaders::find_leaders;
@@ -13,45 +13,45 @@ use std::marker::Model;
 
 /// A node's leader, its depth, and whether it reaches a node that is not committed.
 #[derive(Clone, Copy, Debug, PartialEq, Eq)]
-pub struct Standing {
+pub struct NodeRank {
     pub leader: usize,
     pub depth: usize,
     pub reaches_missing: bool,
 }
 
-/// The standing of each node, which those of a component share.
+/// The rank of each node, which those of a component share.
 #[derive(Debug, Drop)]
-pub struct Standings {
+pub struct NodeRanks {
     component: Vec<usize>,
     leaders: Vec<usize>,
     depths: Vec<usize>,
     missing: Vec<bool>,
 }
 
-impl Model for Standings {
+impl Model for NodeRanks {
     ghost use Rattle.std.specs.Prelude.{List};
-    ghost use Rattle.epx_components.specs.declared.standings.Standing.{Standing};
-    ghost use Rattle.epx_components.specs.Standings.{standings_in, HasEach};
+    ghost use Rattle.epx_components.specs.declared.node_ranks.NodeRank.{NodeRank};
+    ghost use Rattle.epx_components.specs.NodeRanks.{node_ranks_in, HasEach};
 
-    ghost Value = { List Standing };
+    ghost Value = { List NodeRank };
 
-    ghost view = { λ s. standings_in s.component.items s.leaders.items s.depths.items s.missing.items };
+    ghost view = { λ s. node_ranks_in s.component.items s.leaders.items s.depths.items s.missing.items };
 
     ghost invariant = { λ s. HasEach s.component.items s.leaders.items s.depths.items s.missing.items };
 }
 
-impl Standings {
-    /// The standings of the nodes of a graph, in time linear in nodes and edges.
-    pub fn of(alloc: Global, graph: &Graph) -> Result<Standings, Memory>
+impl NodeRanks {
+    /// The ranks of the nodes of a graph, in time linear in nodes and edges.
+    pub fn of(alloc: Global, graph: &Graph) -> Result<NodeRanks, Memory>
         ensures len { IfOk result (λ found. length found ≡ length graph.now.ids) }
-        ensures each { IfOk result (λ found. (k : ℕ) (standing : Standing) → slice_get found k ≡ Some standing → IsStanding graph.now k standing) }
+        ensures each { IfOk result (λ found. (k : ℕ) (node_rank : NodeRank) → slice_get found k ≡ Some node_rank → IsNodeRank graph.now k node_rank) }
     {
         let partition = find_components(alloc, graph)?;
         let leaders = find_leaders(alloc, graph, &partition)?;
         let depths = find_depths(alloc, graph, &partition)?;
         let missing = find_missing(alloc, graph, &partition)?;
         let component = partition.component;
-        Ok(Standings {
+        Ok(NodeRanks {
             component,
             leaders,
             depths,
@@ -59,13 +59,13 @@ impl Standings {
         })
     }
 
-    /// The standing of a node.
-    pub fn get(&self, node: usize) -> Standing
+    /// The rank of a node.
+    pub fn get(&self, node: usize) -> NodeRank
         requires { node < length self.now }
         ensures { slice_get self.now node ≡ Some result }
     {
         let component = self.component[node];
-        Standing {
+        NodeRank {
             leader: self.leaders[component],
             depth: self.depths[component],
             reaches_missing: self.missing[component],
