@@ -7,9 +7,11 @@ use crate::outcome::{answer_given, deliver_given, task_named};
 use crate::words::words_text;
 use epx_tool::Task;
 use epx_types::{Memory, Plan};
-use std::alloc::Global;
+use std::alloc::{AllocGlobal, Global};
+use std::fs;
 use std::io::{self, ErrorKind, Print};
 use std::random::RandomSource;
+use std::rt::Files;
 use std::thread::Threads;
 
 /// The workers and cuts under which a case runs that names none. Devices take the last.
@@ -114,6 +116,27 @@ impl<'a> Case<'a> {
             true
         } else {
             line.starts_with('#') || self.read_given(alloc, line)?
+        };
+        if !is_read && self.bad_line.is_none() {
+            self.bad_line = Some(line);
+        }
+        Ok(())
+    }
+
+    /// Adds the text of the file that a line below the first names.
+    pub(crate) fn read_file<R: AllocGlobal + Files>(
+        &mut self,
+        rt: &R,
+        line: &'a str,
+        path: &str,
+    ) -> io::Result<()> {
+        let is_read = match fs::read(rt, path) {
+            Ok(text) if self.has_wanted => {
+                self.wanted.extend_from_slice(&text)?;
+                true
+            }
+            Ok(text) => self.given.add_text(&text)?,
+            Err(_) => false,
         };
         if !is_read && self.bad_line.is_none() {
             self.bad_line = Some(line);

@@ -75,6 +75,21 @@ impl Given {
         }
     }
 
+    /// Adds a whole text to those that were begun last, and answers whether there are any.
+    pub(crate) fn add_text(&mut self, text: &[u8]) -> io::Result<bool> {
+        match self.target {
+            Target::Nowhere => return Ok(false),
+            Target::First => self.first.extend_from_slice(text)?,
+            Target::Logs(count) => {
+                let before = self.logs.len().saturating_sub(count);
+                for log in self.logs.iter_mut().skip(before) {
+                    log.extend_from_slice(text)?;
+                }
+            }
+        }
+        Ok(true)
+    }
+
     /// Sets how the texts that were begun last are given, and answers whether there are any.
     pub(crate) fn give(&mut self, flow: Flow) -> bool {
         self.has_flows = true;

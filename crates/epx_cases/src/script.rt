@@ -8,11 +8,10 @@ use std::thread::Threads;
 use std::{env, fs};
 
 /// Runs the case that these lines are, and prints its result. Lines that begin with `#` explain.
-fn run_case<R: Print + Threads + RandomSource + Sync>(
-    rt: &R,
-    alloc: Global,
-    written: &str,
-) -> io::Result<()> {
+fn run_case<R>(rt: &R, alloc: Global, written: &str) -> io::Result<()>
+where
+    R: AllocGlobal + Files + Print + Threads + RandomSource + Sync,
+{
     let mut lines = written
         .lines()
         .skip_while(|line| line.is_empty() || line.starts_with('#'));
@@ -21,17 +20,19 @@ fn run_case<R: Print + Threads + RandomSource + Sync>(
     };
     let mut case = Case::new(alloc, head);
     for line in lines {
-        case.read_line(alloc, line)?;
+        match line.strip_prefix("file ") {
+            Some(path) => case.read_file(rt, line, path)?,
+            None => case.read_line(alloc, line)?,
+        }
     }
     case.run(rt, alloc)
 }
 
 /// Runs the cases of a script, which blank lines separate.
-fn run_script<R: Print + Threads + RandomSource + Sync>(
-    rt: &R,
-    alloc: Global,
-    script: &str,
-) -> io::Result<()> {
+fn run_script<R>(rt: &R, alloc: Global, script: &str) -> io::Result<()>
+where
+    R: AllocGlobal + Files + Print + Threads + RandomSource + Sync,
+{
     for written in script.split("\n\n") {
         run_case(rt, alloc, written)?;
     }
