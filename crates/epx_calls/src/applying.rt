@@ -186,7 +186,7 @@ fn have_levels(
 }
 
 /// The commands, as text, have these levels, with these members.
-fn levels_are(
+fn expect_levels(
     rt: &impl Abort,
     alloc: Global,
     texts: &[&str],
@@ -206,5 +206,5 @@ fn levels_are(
 fn reads_follow_writes(rt: HostRuntime) -> Result<(), Fail> {
     let texts = ["put a 1", "put b 2", "get a", "put a 3"];
     let members: [&[usize]; 3] = [&[0, 1], &[2], &[3]];
-    levels_are(&rt, rt.alloc(), &texts, &[0, 0, 1, 2], &members)
+    expect_levels(&rt, rt.alloc(), &texts, &[0, 0, 1, 2], &members)
 }

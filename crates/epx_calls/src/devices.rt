@@ -15,7 +15,7 @@ use std::test::Fail;
 const TEXT: &str = "{\"r\":0,\"i\":1,\"seq\":5}\n";
 
 /// The source, as log 5, gives this text whole.
-fn gives<S: Source>(rt: &impl Abort, alloc: Global, source: &mut S) -> Result<(), Fail>
+fn expect_text<S: Source>(rt: &impl Abort, alloc: Global, source: &mut S) -> Result<(), Fail>
     requires { S.has_failed source.old ≡ false }
 {
     let bytes = read_log(alloc, 5, source)?;
@@ -25,7 +25,7 @@ fn gives<S: Source>(rt: &impl Abort, alloc: Global, source: &mut S) -> Result<()
 }
 
 /// The source can not be read as log 5.
-fn fails<S: Source>(rt: &impl Abort, alloc: Global, source: &mut S) -> Result<(), Fail>
+fn expect_unreadable<S: Source>(rt: &impl Abort, alloc: Global, source: &mut S) -> Result<(), Fail>
     requires { S.has_failed source.old ≡ false }
 {
     let fault = read_log(alloc, 5, source).err();
@@ -52,14 +52,14 @@ fn what_is_written_is_read_again(rt: HostRuntime) -> Result<(), Fail> {
     let mut sink = MemorySink::new(rt.alloc());
     is_written(&mut sink)?;
     assert!(rt; !sink.failed());
-    gives(&rt, rt.alloc(), &mut MemorySource::new(sink.bytes()))
+    expect_text(&rt, rt.alloc(), &mut MemorySource::new(sink.bytes()))
 }
 
 #[test]
 fn one_byte_a_call_is_enough(rt: HostRuntime) -> Result<(), Fail> {
     let mut sink = FuseSink::new(rt.alloc(), 1, None);
     is_written(&mut sink)?;
-    gives(&rt, rt.alloc(), &mut FuseSource::new(sink.bytes(), 1, None))
+    expect_text(&rt, rt.alloc(), &mut FuseSource::new(sink.bytes(), 1, None))
 }
 
 /// A source that gives so many bytes a call fails after each number of bytes.
@@ -68,10 +68,10 @@ fn fails_after_any_byte(rt: &impl Abort, alloc: Global, at_once: usize) -> Resul
 {
     let text = TEXT.as_bytes();
     for fuse in 0..text.len() + 1 {
-        fails(rt, alloc, &mut FuseSource::new(text, at_once, Some(fuse)))?;
+        expect_unreadable(rt, alloc, &mut FuseSource::new(text, at_once, Some(fuse)))?;
     }
     let enough = text.len() + 1;
-    gives(rt, alloc, &mut FuseSource::new(text, at_once, Some(enough)))
+    expect_text(rt, alloc, &mut FuseSource::new(text, at_once, Some(enough)))
 }
 
 #[test]
@@ -82,7 +82,7 @@ fn a_source_that_fails_after_any_byte_can_not_be_read(rt: HostRuntime) -> Result
 }
 
 /// A sink that takes so many bytes a call, and so many in all, ends so with these bytes.
-fn takes(
+fn expect_taken(
     rt: &impl Abort,
     alloc: Global,
     at_once: usize,
@@ -104,21 +104,21 @@ fn takes(
 }
 
 /// The same for each number of bytes in all.
-fn takes_up_to_any_byte(rt: &impl Abort, alloc: Global, at_once: usize) -> Result<(), Fail>
+fn expect_any_prefix(rt: &impl Abort, alloc: Global, at_once: usize) -> Result<(), Fail>
     requires { 1 ≤ at_once }
 {
     let text = TEXT.as_bytes();
     for fuse in 0..text.len() + 1 {
-        takes(rt, alloc, at_once, fuse, Err(Fault::Write), &text[..fuse])?;
+        expect_taken(rt, alloc, at_once, fuse, Err(Fault::Write), &text[..fuse])?;
     }
-    takes(rt, alloc, at_once, text.len() + 1, Ok(()), text)
+    expect_taken(rt, alloc, at_once, text.len() + 1, Ok(()), text)
 }
 
 #[test]
 fn a_sink_that_fails_after_any_byte_holds_a_prefix(rt: HostRuntime) -> Result<(), Fail> {
-    takes_up_to_any_byte(&rt, rt.alloc(), 1)?;
-    takes_up_to_any_byte(&rt, rt.alloc(), 2)?;
-    takes_up_to_any_byte(&rt, rt.alloc(), 3)
+    expect_any_prefix(&rt, rt.alloc(), 1)?;
+    expect_any_prefix(&rt, rt.alloc(), 2)?;
+    expect_any_prefix(&rt, rt.alloc(), 3)
 }
 
 #[test]
@@ -142,8 +142,8 @@ fn each_write_on_a_blown_fuse_fails(rt: HostRuntime) {
 fn one_source_fails_and_another_does_not(rt: HostRuntime) -> Result<(), Fail> {
     let mut first = FuseSource::new(TEXT.as_bytes(), 4, Some(0));
     let mut second = FuseSource::new(TEXT.as_bytes(), 4, None);
-    fails(&rt, rt.alloc(), &mut first)?;
-    gives(&rt, rt.alloc(), &mut second)
+    expect_unreadable(&rt, rt.alloc(), &mut first)?;
+    expect_text(&rt, rt.alloc(), &mut second)
 }
 
 #[test]
@@ -152,7 +152,7 @@ fn std_readers_and_writers_carry_the_same_bytes(rt: HostRuntime) -> Result<(), F
     let mut sink = StdSink::new(&mut written);
     is_written(&mut sink)?;
     assert!(rt; written.as_slice() == TEXT.as_bytes());
-    gives(&rt, rt.alloc(), &mut StdSource::new(TEXT.as_bytes()))
+    expect_text(&rt, rt.alloc(), &mut StdSource::new(TEXT.as_bytes()))
 }
 
 /// Fails each read, and takes nothing of what is written.
@@ -176,7 +176,7 @@ impl Write for Broken {
 }
 
 /// The bytes can not be written to a broken sink, which tells so.
-fn is_broken_for(rt: &impl Abort, bytes: &[u8]) {
+fn expect_unwritable(rt: &impl Abort, bytes: &[u8]) {
     let mut sink = StdSink::new(Broken);
     assert!(rt; write_out(bytes, &mut sink) == Err(Fault::Write));
     assert!(rt; sink.failed());
@@ -184,26 +184,26 @@ fn is_broken_for(rt: &impl Abort, bytes: &[u8]) {
 
 #[test]
 fn std_devices_tell_of_failures(rt: HostRuntime) -> Result<(), Fail> {
-    fails(&rt, rt.alloc(), &mut StdSource::new(Broken))?;
-    is_broken_for(&rt, TEXT.as_bytes());
-    is_broken_for(&rt, &[]);
+    expect_unreadable(&rt, rt.alloc(), &mut StdSource::new(Broken))?;
+    expect_unwritable(&rt, TEXT.as_bytes());
+    expect_unwritable(&rt, &[]);
     Ok(())
 }
 
 /// The file can not be read, and the source tells so.
-fn can_not_be_read(rt: &(impl Abort + Files), alloc: Global, path: &str) -> Result<(), Fail> {
-    fails(rt, alloc, &mut PathSource::new(rt, path))
+fn expect_no_file(rt: &(impl Abort + Files), alloc: Global, path: &str) -> Result<(), Fail> {
+    expect_unreadable(rt, alloc, &mut PathSource::new(rt, path))
 }
 
 #[test]
 fn a_path_that_leads_nowhere_can_not_be_read(rt: HostRuntime) -> Result<(), Fail> {
-    can_not_be_read(&rt, rt.alloc(), "no such folder/no such log.jsonl")?;
-    can_not_be_read(&rt, rt.alloc(), "")
+    expect_no_file(&rt, rt.alloc(), "no such folder/no such log.jsonl")?;
+    expect_no_file(&rt, rt.alloc(), "")
 }
 
 #[test]
 fn a_folder_can_not_be_read(rt: HostRuntime) -> Result<(), Fail> {
-    can_not_be_read(&rt, rt.alloc(), ".")
+    expect_no_file(&rt, rt.alloc(), ".")
 }
 
 #[test]

@@ -291,7 +291,7 @@ fn are_keys(rt: &impl Abort, keys: &[&Key], wanted: &[&str]) {
 }
 
 /// The operations touch and write these keys.
-fn touch_and_write(
+fn expect_keys(
     rt: &impl Abort,
     alloc: Global,
     ops: &[Op],
@@ -313,7 +313,7 @@ fn keys_rise_and_stand_once(rt: HostRuntime) -> Result<(), Fail> {
     let get = Op::Get {
         key: key(&rt, alloc, "a")?,
     };
-    touch_and_write(&rt, alloc, &[copy, get], &["a", "b"], &["b"])?;
-    touch_and_write(&rt, alloc, &[], &[], &[])?;
+    expect_keys(&rt, alloc, &[copy, get], &["a", "b"], &["b"])?;
+    expect_keys(&rt, alloc, &[], &[], &[])?;
     Ok(())
 }

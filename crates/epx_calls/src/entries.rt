@@ -28,7 +28,7 @@ fn three(alloc: Global) -> Result<Vec<Entry>, Fail> {
 }
 
 /// Both maps have the same entries at the same positions.
-fn are_one(rt: &impl Abort, found: &Merged, wanted: &Merged) {
+fn expect_same(rt: &impl Abort, found: &Merged, wanted: &Merged) {
     assert!(rt; found.len() == wanted.len());
     for position in 0..found.len() {
         assert!(rt; position < wanted.len());
@@ -41,7 +41,7 @@ fn are_one(rt: &impl Abort, found: &Merged, wanted: &Merged) {
 }
 
 /// The entries are refused, since those of this instance on these lines differ.
-fn disagree(
+fn expect_disagreement(
     rt: &impl Abort,
     alloc: Global,
     entries: Vec<Entry>,
@@ -75,7 +75,7 @@ fn entries_commit_what_their_text_commits(rt: HostRuntime) -> Result<(), Fail> {
     assert!(rt; found.get(id(0, 9)).map(|entry| entry.seq()) == Some(2));
     assert!(rt; found.position(id(2, 7)) == Some(2));
     let wanted = merged_of(&rt, rt.alloc(), &logs_of(rt.alloc(), &[THREE])?)?;
-    are_one(&rt, &found, &wanted);
+    expect_same(&rt, &found, &wanted);
     Ok(())
 }
 
@@ -86,7 +86,7 @@ fn equal_entries_are_one(rt: HostRuntime) -> Result<(), Fail> {
     entries.push(entry(rt.alloc(), id(2, 7), 3, id(0, 9))?)?;
     let found = accepted(from_entries(rt.alloc(), entries))?;
     let wanted = accepted(from_entries(rt.alloc(), three(rt.alloc())?))?;
-    are_one(&rt, &found, &wanted);
+    expect_same(&rt, &found, &wanted);
     Ok(())
 }
 
@@ -97,7 +97,7 @@ fn the_least_instance_is_named_by_lines_from_1(rt: HostRuntime) -> Result<(), Fa
     entries.push(entry(rt.alloc(), id(2, 7), 4, id(0, 9))?)?;
     entries.push(entry(rt.alloc(), id(0, 9), 2, id(1, 1))?)?;
     entries.push(entry(rt.alloc(), id(0, 9), 2, id(1, 2))?)?;
-    disagree(&rt, rt.alloc(), entries, id(0, 9), 2, 6)
+    expect_disagreement(&rt, rt.alloc(), entries, id(0, 9), 2, 6)
 }
 
 #[test]

@@ -39,7 +39,7 @@ fn graph_after<R: Abort + Threads + RandomSource + Sync>(
 }
 
 /// The nodes are these, and so many are committed.
-fn nodes_are(rt: &impl Abort, graph: &Graph, wanted: &[Id], committed: usize) {
+fn expect_nodes(rt: &impl Abort, graph: &Graph, wanted: &[Id], committed: usize) {
     assert!(rt; graph.len() == wanted.len());
     assert!(rt; graph.is_empty() == wanted.is_empty());
     assert!(rt; graph.committed_len() == committed);
@@ -52,13 +52,13 @@ fn nodes_are(rt: &impl Abort, graph: &Graph, wanted: &[Id], committed: usize) {
 }
 
 /// The node leads to these.
-fn edges_are(rt: &impl Abort, graph: &Graph, node: usize, wanted: &[usize]) {
+fn expect_edges(rt: &impl Abort, graph: &Graph, node: usize, wanted: &[usize]) {
     assert!(rt; node < graph.len());
     assert!(rt; graph.edges(node) == wanted);
 }
 
 /// The instances that wait, each with the missing one.
-fn waiters_are(
+fn expect_waiters(
     rt: &impl Abort,
     alloc: Global,
     graph: &Graph,
@@ -75,27 +75,27 @@ const TWO_MISSING: &str = r#"{"r":2,"i":1,"seq":2,"deps":[[2,0]],"ops":[]}
 #[test]
 fn least_missing(rt: HostRuntime) -> Result<(), Fail> {
     let graph = graph_of_texts(&rt, rt.alloc(), &[TWO_MISSING])?;
-    nodes_are(&rt, &graph, &[id(2, 0), id(2, 1), id(0, 8), id(1, 3)], 2);
+    expect_nodes(&rt, &graph, &[id(2, 0), id(2, 1), id(0, 8), id(1, 3)], 2);
     assert!(rt; graph.node(id(2, 2)).is_none() && graph.node(id(0, 7)).is_none());
-    edges_are(&rt, &graph, 0, &[2, 3]);
-    edges_are(&rt, &graph, 1, &[0]);
-    edges_are(&rt, &graph, 2, &[]);
+    expect_edges(&rt, &graph, 0, &[2, 3]);
+    expect_edges(&rt, &graph, 1, &[0]);
+    expect_edges(&rt, &graph, 2, &[]);
     let least = id(0, 8);
     let waiters = [waiter(id(2, 0), least), waiter(id(2, 1), least)];
-    waiters_are(&rt, rt.alloc(), &graph, &waiters)
+    expect_waiters(&rt, rt.alloc(), &graph, &waiters)
 }
 
 #[test]
 fn a_done_instance_is_not_missing(rt: HostRuntime) -> Result<(), Fail> {
     let graph = graph_after(&rt, rt.alloc(), TWO_MISSING, &[id(0, 8)])?;
-    nodes_are(&rt, &graph, &[id(2, 0), id(2, 1), id(1, 3)], 2);
+    expect_nodes(&rt, &graph, &[id(2, 0), id(2, 1), id(1, 3)], 2);
     assert!(rt; graph.node(id(0, 8)).is_none());
-    edges_are(&rt, &graph, 0, &[2]);
-    edges_are(&rt, &graph, 1, &[0]);
-    edges_are(&rt, &graph, 2, &[]);
+    expect_edges(&rt, &graph, 0, &[2]);
+    expect_edges(&rt, &graph, 1, &[0]);
+    expect_edges(&rt, &graph, 2, &[]);
     let least = id(1, 3);
     let waiters = [waiter(id(2, 0), least), waiter(id(2, 1), least)];
-    waiters_are(&rt, rt.alloc(), &graph, &waiters)
+    expect_waiters(&rt, rt.alloc(), &graph, &waiters)
 }
 
 /// A chain of so many instances, of which one depends on an instance without a line as well.
@@ -126,12 +126,12 @@ fn many_instances_are_left(rt: HostRuntime) -> Result<(), Fail> {
     let graph = build_after(&rt, rt.alloc(), &merged, done, plan(&rt))?;
     assert!(rt; graph.len() == 5_001);
     assert!(rt; graph.committed_len() == 5_000);
-    edges_are(&rt, &graph, 0, &[]);
+    expect_edges(&rt, &graph, 0, &[]);
     for node in 1..5_000 {
         if node == 2_000 {
-            edges_are(&rt, &graph, node, &[1_999, 5_000]);
+            expect_edges(&rt, &graph, node, &[1_999, 5_000]);
         } else {
-            edges_are(&rt, &graph, node, &[node - 1]);
+            expect_edges(&rt, &graph, node, &[node - 1]);
         }
     }
     assert!(rt; waiting(rt.alloc(), &graph)?.len() == 3_000);

@@ -15,7 +15,7 @@ fn repeated(alloc: Global, piece: &str, count: usize) -> Result<String, AllocErr
 }
 
 /// The lines of the bytes, each between angle brackets, are this text.
-fn cuts_into(rt: &impl Abort, alloc: Global, bytes: &str, wanted: &str) -> Result<(), Fail> {
+fn expect_lines(rt: &impl Abort, alloc: Global, bytes: &str, wanted: &str) -> Result<(), Fail> {
     let mut shown = Vec::new(alloc);
     for line in &cut_lines(alloc, bytes.as_bytes())? {
         shown.push(b'<')?;
@@ -28,11 +28,11 @@ fn cuts_into(rt: &impl Abort, alloc: Global, bytes: &str, wanted: &str) -> Resul
 
 #[test]
 fn lines_end_at_line_feeds(rt: HostRuntime) -> Result<(), Fail> {
-    cuts_into(&rt, rt.alloc(), "a\n\nb", "<a><><b>")?;
-    cuts_into(&rt, rt.alloc(), "", "")?;
-    cuts_into(&rt, rt.alloc(), "\n", "<>")?;
-    cuts_into(&rt, rt.alloc(), "a\n", "<a>")?;
-    cuts_into(&rt, rt.alloc(), "a\r\nb", "<a\r><b>")
+    expect_lines(&rt, rt.alloc(), "a\n\nb", "<a><><b>")?;
+    expect_lines(&rt, rt.alloc(), "", "")?;
+    expect_lines(&rt, rt.alloc(), "\n", "<>")?;
+    expect_lines(&rt, rt.alloc(), "a\n", "<a>")?;
+    expect_lines(&rt, rt.alloc(), "a\r\nb", "<a\r><b>")
 }
 
 /// As many copies between the longest keys as there may be.

@@ -25,7 +25,7 @@ const FOUR_LINES: &str = r#"{"r":0,"i":0,"seq":1,"deps":[],"ops":[]}
 "#;
 
 /// The instance stands at this place of the map, or is not in it.
-fn stands_at(rt: &impl Abort, merged: &Merged, of: Id, wanted: Option<usize>) {
+fn expect_position(rt: &impl Abort, merged: &Merged, of: Id, wanted: Option<usize>) {
     assert!(rt; merged.position(of) == wanted);
     assert!(rt; merged.get(of).is_some() == wanted.is_some());
     if let Some(position) = merged.position(of) {
@@ -38,8 +38,8 @@ fn one_instance(rt: HostRuntime) -> Result<(), Fail> {
     let merged = merged_of(&rt, rt.alloc(), &logs_of(rt.alloc(), &[PUT_AND_GET])?)?;
     assert!(rt; merged.len() == 1 && !merged.is_empty());
     assert!(rt; merged.get(id(0, 0)).map(|entry| entry.seq()) == Some(1));
-    stands_at(&rt, &merged, id(0, 0), Some(0));
-    stands_at(&rt, &merged, id(0, 1), None);
+    expect_position(&rt, &merged, id(0, 0), Some(0));
+    expect_position(&rt, &merged, id(0, 1), None);
     Ok(())
 }
 
@@ -47,9 +47,9 @@ fn one_instance(rt: HostRuntime) -> Result<(), Fail> {
 fn instances_stand_by_rising_id(rt: HostRuntime) -> Result<(), Fail> {
     let logs = logs_of(rt.alloc(), &[A, LESS_TURNED, LESS])?;
     let merged = merged_of(&rt, rt.alloc(), &logs)?;
-    stands_at(&rt, &merged, id(0, 9), Some(0));
-    stands_at(&rt, &merged, id(1, 7), Some(1));
-    stands_at(&rt, &merged, id(1, 8), None);
+    expect_position(&rt, &merged, id(0, 9), Some(0));
+    expect_position(&rt, &merged, id(1, 7), Some(1));
+    expect_position(&rt, &merged, id(1, 8), None);
     Ok(())
 }
 

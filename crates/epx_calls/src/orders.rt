@@ -71,7 +71,7 @@ fn leaders(alloc: Global, graph: &Graph) -> Result<Vec<usize>, Memory> {
 }
 
 /// The log has nodes with these leaders, and so many components in an order of these rows.
-fn log_stands<R: Abort + Threads + RandomSource + Sync>(
+fn expect_order<R: Abort + Threads + RandomSource + Sync>(
     rt: &R,
     alloc: Global,
     log: Vec<u8>,
@@ -102,7 +102,7 @@ fn deps_of(alloc: Global, numbers: &[u64]) -> Result<String, Memory> {
 }
 
 /// The same of instances 0.0, 0.1 and so on, by the numbers of those that each depends on.
-fn stand<R: Abort + Threads + RandomSource + Sync>(
+fn expect_order_of<R: Abort + Threads + RandomSource + Sync>(
     rt: &R,
     alloc: Global,
     edges: &[&[u64]],
@@ -117,7 +117,7 @@ fn stand<R: Abort + Threads + RandomSource + Sync>(
         push_line(alloc, &mut log, id(0, number), 1, deps.as_str())?;
         number = u64::saturating_add(number, 1);
     }
-    log_stands(rt, alloc, log, lead, count, wanted)
+    expect_order(rt, alloc, log, lead, count, wanted)
 }
 
 // 0, 1 and 2 are a ring with an edge to 3; 3 and 4 lead to each other; 5 leads nowhere.
@@ -132,14 +132,14 @@ fn ring_over_a_pair(rt: HostRuntime) -> Result<(), Fail> {
         row_of(1, 0, 1),
         row_of(2, 0, 1),
     ];
-    stand(&rt, rt.alloc(), &edges, &[0, 0, 0, 3, 3, 5], 3, &wanted)
+    expect_order_of(&rt, rt.alloc(), &edges, &[0, 0, 0, 3, 3, 5], 3, &wanted)
 }
 
 // 0, 1 and 2 are a ring with an edge to 3; 3 and 4 lead to each other, and 4 to the missing 6; 5 leads to 0 and 3.
 #[test]
 fn ring_of_seven_nodes_that_waits(rt: HostRuntime) -> Result<(), Fail> {
     let edges: [&[u64]; 6] = [&[1], &[2, 3], &[0], &[4], &[3, 6], &[0, 3]];
-    stand(&rt, rt.alloc(), &edges, &[0, 0, 0, 3, 3, 5, 6], 0, &[])
+    expect_order_of(&rt, rt.alloc(), &edges, &[0, 0, 0, 3, 3, 5, 6], 0, &[])
 }
 
 #[test]
@@ -166,5 +166,5 @@ fn reached_through_another_member(rt: HostRuntime) -> Result<(), Fail> {
             depth: 1,
         },
     ];
-    log_stands(&rt, rt.alloc(), log, &[0, 0, 2], 2, &wanted)
+    expect_order(&rt, rt.alloc(), log, &[0, 0, 2], 2, &wanted)
 }

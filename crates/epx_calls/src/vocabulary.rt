@@ -31,7 +31,7 @@ fn a_key_has_1_to_64_bytes(rt: HostRuntime) -> Result<(), Fail> {
 }
 
 /// The first text is the lesser key.
-fn is_below(rt: &impl Abort, alloc: Global, low: &str, high: &str) -> Result<(), Fail> {
+fn expect_below(rt: &impl Abort, alloc: Global, low: &str, high: &str) -> Result<(), Fail> {
     let below = Key::new(alloc, low)?.ok_or("a key")?;
     let above = Key::new(alloc, high)?.ok_or("a key")?;
     assert!(rt; below < above && below != above);
@@ -40,10 +40,10 @@ fn is_below(rt: &impl Abort, alloc: Global, low: &str, high: &str) -> Result<(),
 
 #[test]
 fn keys_are_ordered_by_bytes(rt: HostRuntime) -> Result<(), Fail> {
-    is_below(&rt, rt.alloc(), "B", "a")?;
-    is_below(&rt, rt.alloc(), "a", "aa")?;
-    is_below(&rt, rt.alloc(), "aa", "b")?;
-    is_below(&rt, rt.alloc(), "z", "é")
+    expect_below(&rt, rt.alloc(), "B", "a")?;
+    expect_below(&rt, rt.alloc(), "a", "aa")?;
+    expect_below(&rt, rt.alloc(), "aa", "b")?;
+    expect_below(&rt, rt.alloc(), "z", "é")
 }
 
 #[test]
@@ -57,22 +57,22 @@ fn places_are_ordered_by_log_then_line(rt: HostRuntime) {
     assert!(rt; FIRST < SECOND && SECOND < Place { log: 63, line: 2 });
 }
 
-fn is_plan(rt: &impl Abort, workers: usize, cut: usize, wanted: bool) {
+fn expect_plan(rt: &impl Abort, workers: usize, cut: usize, wanted: bool) {
     assert!(rt; Plan::new(workers, cut).is_some() == wanted);
 }
 
 #[test]
 fn a_plan_keeps_its_limits(rt: HostRuntime) {
-    is_plan(&rt, 1, 1, true);
-    is_plan(&rt, 64, 65_536, true);
-    is_plan(&rt, 0, 1, false);
-    is_plan(&rt, 65, 1, false);
-    is_plan(&rt, 1, 0, false);
-    is_plan(&rt, 1, 65_537, false);
+    expect_plan(&rt, 1, 1, true);
+    expect_plan(&rt, 64, 65_536, true);
+    expect_plan(&rt, 0, 1, false);
+    expect_plan(&rt, 65, 1, false);
+    expect_plan(&rt, 1, 0, false);
+    expect_plan(&rt, 1, 65_537, false);
 }
 
 /// The plan cuts so many items into so many pieces, of which the last is this.
-fn cuts(rt: &impl Abort, plan: Plan, items: usize, pieces: usize, last: (usize, usize)) {
+fn expect_pieces(rt: &impl Abort, plan: Plan, items: usize, pieces: usize, last: (usize, usize)) {
     let made = plan.pieces(items);
     assert!(rt; made == pieces);
     if 0 < made {
@@ -84,10 +84,10 @@ fn cuts(rt: &impl Abort, plan: Plan, items: usize, pieces: usize, last: (usize, 
 fn a_plan_cuts_items_into_pieces(rt: HostRuntime) -> Result<(), Fail> {
     let plan = Plan::new(2, 3).ok_or("a plan")?;
     assert!(rt; plan.workers() == 2 && plan.cut() == 3);
-    cuts(&rt, plan, 0, 0, (0, 0));
-    cuts(&rt, plan, 2, 1, (0, 2));
-    cuts(&rt, plan, 6, 2, (3, 6));
-    cuts(&rt, plan, 7, 3, (6, 7));
+    expect_pieces(&rt, plan, 0, 0, (0, 0));
+    expect_pieces(&rt, plan, 2, 1, (0, 2));
+    expect_pieces(&rt, plan, 6, 2, (3, 6));
+    expect_pieces(&rt, plan, 7, 3, (6, 7));
     Ok(())
 }
 

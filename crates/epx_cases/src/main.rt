@@ -10,12 +10,12 @@ mod line;
 mod meaning;
 mod outcome;
 mod script;
-mod stage;
+mod test_runtime;
 mod word_lists;
 mod words;
 
 use crate::script::run_scripts;
-use crate::stage::Stage;
+use crate::test_runtime::TestRuntime;
 use crate::word_lists::{too_many_logs, word_lists};
 use epx_devices::{StdSink, StdSource};
 use epx_program::start;
@@ -32,43 +32,43 @@ fn main(rt: HostRuntime) -> io::Result<ExitCode> {
 
     for words in word_lists() {
         println!(rt; "== {words:?}")?;
-        let stage = Stage { rt: &rt, words };
+        let test_runtime = TestRuntime { rt: &rt, words };
         let input = StdSource::new(rt.stdin());
         let mut output = StdSink::new(rt.stdout());
-        let status = start(&stage, env::args(&stage), input, &mut output);
+        let status = start(&test_runtime, env::args(&test_runtime), input, &mut output);
         println!(rt; "== {status:?}")?;
     }
 
     println!(rt; "== one path 65 times")?;
     let words: &[&str] = &too_many_logs();
-    let stage = Stage { rt: &rt, words };
+    let test_runtime = TestRuntime { rt: &rt, words };
     let input = StdSource::new(rt.stdin());
     let mut output = StdSink::new(rt.stdout());
-    let status = start(&stage, env::args(&stage), input, &mut output);
+    let status = start(&test_runtime, env::args(&test_runtime), input, &mut output);
     println!(rt; "== {status:?}")?;
 
     let words: &[&str] = &["epx", "run", "apart.jsonl", "-", "-"];
     println!(rt; "== {words:?} with a log as input")?;
-    let stage = Stage { rt: &rt, words };
+    let test_runtime = TestRuntime { rt: &rt, words };
     let input = StdSource::new(INPUT.as_bytes());
     let mut output = StdSink::new(rt.stdout());
-    let status = start(&stage, env::args(&stage), input, &mut output);
+    let status = start(&test_runtime, env::args(&test_runtime), input, &mut output);
     println!(rt; "== {status:?}")?;
 
     println!(rt; "== words that could not be had as memory ran out")?;
     let words = Err(io::Error::from(ErrorKind::OutOfMemory));
     let input = StdSource::new(rt.stdin());
     let mut output = StdSink::new(rt.stdout());
-    let status = start(&stage, words, input, &mut output);
+    let status = start(&test_runtime, words, input, &mut output);
     println!(rt; "== {status:?}")?;
 
     let words: &[&str] = &["epx", "run"];
     println!(rt; "== {words:?} with room for ten bytes of output")?;
-    let stage = Stage { rt: &rt, words };
+    let test_runtime = TestRuntime { rt: &rt, words };
     let input = StdSource::new(rt.stdin());
     let mut room = [0; 10];
     let mut output = StdSink::new(room.as_mut_slice());
-    let status = start(&stage, env::args(&stage), input, &mut output);
+    let status = start(&test_runtime, env::args(&test_runtime), input, &mut output);
     println!(rt; "== {status:?}, taken: {room:?}")?;
     Ok(status)
 }

@@ -1,6 +1,6 @@
 //! The lists of words that the program is run under.
 
-use crate::stage::NOT_UTF_8;
+use crate::test_runtime::NOT_UTF_8;
 
 /// Words of every kind, each list with the program's name.
 pub(crate) fn word_lists() -> [&'static [&'static str]; 42] {

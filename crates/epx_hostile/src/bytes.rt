@@ -1,5 +1,5 @@
 //! Logs of bytes that nobody meant as a log.
-use crate::given::{LEAST, LEAST_REPORT, NOTHING, Wanted, bad, repeated, reports};
+use crate::given::{LEAST, LEAST_REPORT, NOTHING, Wanted, bad, is_report, repeated};
 use epx_types::Why;
 use std::alloc::AllocGlobal;
 use std::process::Abort;
@@ -10,14 +10,14 @@ use std::thread::Threads;
 #[test]
 fn each_prefix_of_a_line(rt: HostRuntime) -> Result<(), Fail> {
     let line = LEAST.as_bytes();
-    assert!(rt; reports(&rt, &[], &[], Ok(NOTHING))?);
+    assert!(rt; is_report(&rt, &[], &[], Ok(NOTHING))?);
     for end in 1..line.len() {
         assert!(rt;
-            reports(&rt, &line[..end], &[], bad(Why::NotJson))?,
+            is_report(&rt, &line[..end], &[], bad(Why::NotJson))?,
             "{end} bytes"
         );
     }
-    assert!(rt; reports(&rt, line, &[], Ok(LEAST_REPORT))?);
+    assert!(rt; is_report(&rt, line, &[], Ok(LEAST_REPORT))?);
     Ok(())
 }
 
@@ -38,7 +38,10 @@ const NO_JSON: [&[u8]; 9] = [
 #[test]
 fn bytes_that_are_no_json(rt: HostRuntime) -> Result<(), Fail> {
     for (place, line) in NO_JSON.iter().enumerate() {
-        assert!(rt; reports(&rt, line, &[], bad(Why::NotJson))?, "line {place}");
+        assert!(rt;
+            is_report(&rt, line, &[], bad(Why::NotJson))?,
+            "line {place}"
+        );
     }
     Ok(())
 }
@@ -53,7 +56,7 @@ fn a_good_line_among_bytes_that_spoil_it(rt: HostRuntime) -> Result<(), Fail> {
         ("\u{a0}", ""),
     ] {
         let line = format!(in rt.alloc(); "{before}{LEAST}{after}")?;
-        assert!(rt; reports(&rt, line.as_bytes(), &[], bad(Why::NotJson))?);
+        assert!(rt; is_report(&rt, line.as_bytes(), &[], bad(Why::NotJson))?);
     }
     Ok(())
 }
@@ -69,7 +72,7 @@ fn nested<R: AllocGlobal + Threads + RandomSource + Sync>(
     let open = repeated(rt.alloc(), "[", depth)?;
     let close = repeated(rt.alloc(), "]", depth)?;
     let line = format!(in rt.alloc(); "{before}{open}{close}{after}")?;
-    reports(rt, line.as_bytes(), &[], wanted)
+    is_report(rt, line.as_bytes(), &[], wanted)
 }
 
 #[test]
@@ -96,7 +99,7 @@ fn a_line_that_only_opens(rt: HostRuntime) -> Result<(), Fail> {
     for piece in ["[", "{\"x\":", "[[{\"x\":", "\"", "-", "1"] {
         let line = repeated(rt.alloc(), piece, 65_536 / piece.len())?;
         assert!(rt;
-            reports(&rt, line.as_bytes(), &[], bad(Why::NotJson))?,
+            is_report(&rt, line.as_bytes(), &[], bad(Why::NotJson))?,
             "{piece}"
         );
     }

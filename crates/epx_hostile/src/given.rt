@@ -57,7 +57,7 @@ pub(crate) fn is_right(
 }
 
 /// Whether the report of these two logs is the wanted one.
-pub(crate) fn reports<R: AllocGlobal + Threads + RandomSource + Sync>(
+pub(crate) fn is_report<R: AllocGlobal + Threads + RandomSource + Sync>(
     rt: &R,
     first: &[u8],
     second: &[u8],
@@ -70,7 +70,7 @@ pub(crate) fn reports<R: AllocGlobal + Threads + RandomSource + Sync>(
 }
 
 /// Whether the order or the levels of these two logs are the wanted ones.
-pub(crate) fn shows<R: AllocGlobal + Threads + RandomSource + Sync>(
+pub(crate) fn is_shown<R: AllocGlobal + Threads + RandomSource + Sync>(
     rt: &R,
     ask: Ask,
     first: &[u8],
@@ -84,7 +84,7 @@ pub(crate) fn shows<R: AllocGlobal + Threads + RandomSource + Sync>(
 }
 
 /// Whether the report that goes on from this base over one log is the wanted one.
-pub(crate) fn resumes<R: AllocGlobal + Threads + RandomSource + Sync>(
+pub(crate) fn is_resumed<R: AllocGlobal + Threads + RandomSource + Sync>(
     rt: &R,
     base: &str,
     log: &str,
@@ -98,7 +98,7 @@ pub(crate) fn resumes<R: AllocGlobal + Threads + RandomSource + Sync>(
 }
 
 /// Whether what is found of this list over one log is what is wanted.
-pub(crate) fn checks<R: AllocGlobal + Threads + RandomSource + Sync>(
+pub(crate) fn is_checked<R: AllocGlobal + Threads + RandomSource + Sync>(
     rt: &R,
     list: &str,
     log: &str,

@@ -1,6 +1,8 @@
 //! Worked cases through each kind of run. A test runner may refuse any allocation of these tests: the logs are texts of
 //! the program, so that each allocation is one of the runs, and a test then ends well, or out of memory.
-use crate::given::{LEAST, LEAST_ORDER, LEAST_REPORT, Wanted, checks, reports, resumes, shows};
+use crate::given::{
+    LEAST, LEAST_ORDER, LEAST_REPORT, Wanted, is_checked, is_report, is_resumed, is_shown,
+};
 use epx_tool::Ask;
 use epx_types::{Fault, Id, Place};
 use std::alloc::AllocGlobal;
@@ -10,7 +12,7 @@ use std::test::Fail;
 use std::thread::Threads;
 
 /// Whether these two logs have this report, this order and these levels.
-fn gives_all<R: AllocGlobal + Threads + RandomSource + Sync>(
+fn answers_all<R: AllocGlobal + Threads + RandomSource + Sync>(
     rt: &R,
     logs: [&str; 2],
     report: Wanted,
@@ -19,9 +21,9 @@ fn gives_all<R: AllocGlobal + Threads + RandomSource + Sync>(
 ) -> Result<bool, Fail> {
     let (first, second) = (logs[0].as_bytes(), logs[1].as_bytes());
     Ok(
-        reports(rt, first, second, report)?
-            && shows(rt, Ask::Order, first, second, order)?
-            && shows(rt, Ask::Levels, first, second, levels)?,
+        is_report(rt, first, second, report)?
+            && is_shown(rt, Ask::Order, first, second, order)?
+            && is_shown(rt, Ask::Levels, first, second, levels)?,
     )
 }
 
@@ -31,7 +33,7 @@ fn least_whole_path(rt: HostRuntime) -> Result<(), Fail> {
 ["level",0,0,0]
 "#;
     let logs = [LEAST, ""];
-    let all = gives_all(&rt, logs, Ok(LEAST_REPORT), Ok(LEAST_ORDER), Ok(levels));
+    let all = answers_all(&rt, logs, Ok(LEAST_REPORT), Ok(LEAST_ORDER), Ok(levels));
     assert!(rt; all?);
     Ok(())
 }
@@ -60,7 +62,7 @@ fn reached_through_another_member(rt: HostRuntime) -> Result<(), Fail> {
 ["level",0,1,1]
 ["level",1,1,2]
 "#;
-    let all = gives_all(&rt, [COMPONENT, ""], Ok(report), Ok(order), Ok(levels));
+    let all = answers_all(&rt, [COMPONENT, ""], Ok(report), Ok(order), Ok(levels));
     assert!(rt; all?);
     Ok(())
 }
@@ -68,7 +70,7 @@ fn reached_through_another_member(rt: HostRuntime) -> Result<(), Fail> {
 #[test]
 fn lawful_list(rt: HostRuntime) -> Result<(), Fail> {
     let list = "[2,1]\n[0,1]\n[1,1]\n";
-    assert!(rt; checks(&rt, list, COMPONENT, Ok("[\"lawful\"]\n"))?);
+    assert!(rt; is_checked(&rt, list, COMPONENT, Ok("[\"lawful\"]\n"))?);
     Ok(())
 }
 
@@ -92,7 +94,7 @@ fn waiting_instance_goes_on(rt: HostRuntime) -> Result<(), Fail> {
 ["reply",0,2,"ok",[5]]
 ["store","a",5]
 "#;
-    assert!(rt; resumes(&rt, BASE, AFTER_BASE, Ok(report))?);
+    assert!(rt; is_resumed(&rt, BASE, AFTER_BASE, Ok(report))?);
     Ok(())
 }
 
@@ -117,7 +119,7 @@ fn first_disagreement_by_id(rt: HostRuntime) -> Result<(), Fail> {
         second: Place { log: 1, line: 2 },
     });
     let logs = [ONE_SIDE, OTHER_SIDE];
-    assert!(rt; gives_all(&rt, logs, differs, differs, differs)?);
+    assert!(rt; answers_all(&rt, logs, differs, differs, differs)?);
     Ok(())
 }
 
@@ -163,7 +165,7 @@ fn any_plan(rt: HostRuntime) -> Result<(), Fail> {
 ["level",1,4,1]
 ["level",2,0,2]
 "#;
-    let all = gives_all(&rt, [LEVELS, ""], Ok(LEVELS_REPORT), Ok(order), Ok(levels));
+    let all = answers_all(&rt, [LEVELS, ""], Ok(LEVELS_REPORT), Ok(order), Ok(levels));
     assert!(rt; all?);
     Ok(())
 }

@@ -14,12 +14,12 @@ pub(crate) const NOT_UTF_8: &str = "not UTF-8";
 
 /// The runtime itself, but for the words, and for standard error, which goes to standard output.
 #[derive(Clone, Copy)]
-pub(crate) struct Stage<'a, R> {
+pub(crate) struct TestRuntime<'a, R> {
     pub rt: &'a R,
     pub words: &'a [&'a str],
 }
 
-impl<R> Env for Stage<'_, R> {
+impl<R> Env for TestRuntime<'_, R> {
     fn arg(&self, i: usize, buf: &mut [u8]) -> Result<usize, FillError> {
         let Some(word) = self.words.get(i) else {
             return Err(FillError::NotPresent);
@@ -45,7 +45,7 @@ impl<R> Env for Stage<'_, R> {
     }
 }
 
-impl<R: Print> Eprint for Stage<'_, R> {
+impl<R: Print> Eprint for TestRuntime<'_, R> {
     fn eprint<D: Display + Drop>(&self, value: D) -> io::Result<()> {
         self.rt.println("== standard error")?;
         self.rt.print(value)
@@ -57,7 +57,7 @@ impl<R: Print> Eprint for Stage<'_, R> {
     }
 }
 
-impl<R: Alloc> Alloc for Stage<'_, R> {
+impl<R: Alloc> Alloc for TestRuntime<'_, R> {
     type A = R::A;
 
     fn alloc(&self) -> R::A {
@@ -65,15 +65,15 @@ impl<R: Alloc> Alloc for Stage<'_, R> {
     }
 }
 
-impl<R: Threads> Threads for Stage<'_, R> {}
+impl<R: Threads> Threads for TestRuntime<'_, R> {}
 
-impl<R: RandomSource> RandomSource for Stage<'_, R> {
+impl<R: RandomSource> RandomSource for TestRuntime<'_, R> {
     fn fill_bytes(&self, buf: &mut [u8]) -> io::Result<()> {
         self.rt.fill_bytes(buf)
     }
 }
 
-impl<R: Files> Files for Stage<'_, R> {
+impl<R: Files> Files for TestRuntime<'_, R> {
     type File = R::File;
 
     type Dir = R::Dir;
