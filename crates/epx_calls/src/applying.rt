@@ -70,8 +70,8 @@ fn are_replies(rt: &impl Abort, replies: &[Reply], wanted: &[Wanted]) {
     }
 }
 
-/// By this plan and gate the commands give these replies, and the opening store becomes this one. Where memory runs
-/// out the store must be the opening one.
+/// By this plan and gate the commands give these replies, and the opening store becomes this one.
+/// Where memory runs out the store must be the opening one.
 fn run_by<R: Threads + RandomSource + Sync + Abort, G: Gate + Sync>(
     rt: &R,
     alloc: Global,

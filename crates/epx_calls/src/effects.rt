@@ -100,7 +100,8 @@ fn are_writes(rt: &impl Abort, made: &[(Key, Option<i64>)], wanted: &[(&str, Opt
     }
 }
 
-/// Over the store that holds 5 under a the operations have this effect, and leave the store as it is.
+/// Over the store that holds 5 under a the operations have this effect, and leave the store as it
+/// is.
 fn have_effect(
     rt: &impl Abort,
     alloc: Global,

@@ -90,7 +90,8 @@ fn equal_entries_are_one(rt: HostRuntime) -> Result<(), Fail> {
     Ok(())
 }
 
-// 2.7 differs first, on lines 1 and 4; of the lesser 0.9 line 5 repeats line 2, and line 6 differs from it.
+// 2.7 differs first, on lines 1 and 4; of the lesser 0.9 line 5 repeats line 2, and line 6 differs
+// from it.
 #[test]
 fn the_least_instance_is_named_by_lines_from_1(rt: HostRuntime) -> Result<(), Fail> {
     let mut entries = three(rt.alloc())?;

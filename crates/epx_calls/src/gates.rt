@@ -24,8 +24,8 @@ impl WaitingGate {
         }
     }
 
-    /// All were entered, and the one that waited saw it. Where it did not, a worker may have been missing, whose
-    /// thread could not be started.
+    /// All were entered, and the one that waited saw it. Where it did not, a worker may have been
+    /// missing, whose thread could not be started.
     pub(crate) fn saw_all(&self) -> Result<(), Fail> {
         if self.entered.load(Ordering::SeqCst) != self.all {
             return Err(Fail::from("not each number was entered once"));

@@ -135,7 +135,8 @@ fn ring_over_a_pair(rt: HostRuntime) -> Result<(), Fail> {
     expect_order_of(&rt, rt.alloc(), &edges, &[0, 0, 0, 3, 3, 5], 3, &wanted)
 }
 
-// 0, 1 and 2 are a ring with an edge to 3; 3 and 4 lead to each other, and 4 to the missing 6; 5 leads to 0 and 3.
+// 0, 1 and 2 are a ring with an edge to 3; 3 and 4 lead to each other, and 4 to the missing 6; 5
+// leads to 0 and 3.
 #[test]
 fn ring_of_seven_nodes_that_waits(rt: HostRuntime) -> Result<(), Fail> {
     let edges: [&[u64]; 6] = [&[1], &[2, 3], &[0], &[4], &[3, 6], &[0, 3]];

@@ -32,8 +32,8 @@ fn add_piece(
     text.extend_from_slice(rest)
 }
 
-/// Adds a text once. In it `\n`, `\r`, `\t` and `\s` are a line feed, a carriage return, a tab and a
-/// space; `\i`, `\j` and `\d` are the round, the next round and how many rounds are left.
+/// Adds a text once. In it `\n`, `\r`, `\t` and `\s` are a line feed, a carriage return, a tab and
+/// a space; `\i`, `\j` and `\d` are the round, the next round and how many rounds are left.
 fn add_round(
     alloc: Global,
     text: &mut Vec<u8>,

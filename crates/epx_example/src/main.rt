@@ -1,4 +1,5 @@
-//! Orders three instances that are in memory, and prints the order: how a program uses the crates as libraries.
+//! Orders three instances that are in memory, and prints the order: how a program uses the crates
+//! as libraries.
 #![tactic(auto)]
 
 mod ordered;

@@ -21,8 +21,9 @@ fn each_prefix_of_a_line(rt: HostRuntime) -> Result<(), Fail> {
     Ok(())
 }
 
-/// Each is no JSON: bytes that are not UTF-8 (a byte that none has, a second byte first, a NUL in two bytes, half of
-/// a pair of UTF-16, more than U+10FFFF, a character that is cut off), a NUL, and escapes that name no character.
+/// Each is no JSON: bytes that are not UTF-8 (a byte that none has, a second byte first, a NUL in
+/// two bytes, half of a pair of UTF-16, more than U+10FFFF, a character that is cut off), a NUL,
+/// and escapes that name no character.
 const NO_JSON: [&[u8]; 9] = [
     b"\xff",
     b"{\"x\":\"\x80\"}",

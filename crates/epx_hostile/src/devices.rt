@@ -21,7 +21,8 @@ fn whole(at_once: usize) -> FuseSource<'static>
     FuseSource::new(LEAST.as_bytes(), at_once, None)
 }
 
-/// Whether a run fails as its second source does, which gives so many bytes at once, and so many in all.
+/// Whether a run fails as its second source does, which gives so many bytes at once, and so many
+/// in all.
 fn fails_with_its_source<R: AllocGlobal + Threads + RandomSource + Sync>(
     rt: &R,
     at_once: usize,
@@ -92,8 +93,8 @@ fn written<R: AllocGlobal + Threads + RandomSource + Sync, W: Sink>(
     Ok(outcome)
 }
 
-/// Whether a sink that takes so many bytes at once, and so many in all, ends the run with a failed write and holds
-/// exactly these bytes of the text.
+/// Whether a sink that takes so many bytes at once, and so many in all, ends the run with a failed
+/// write and holds exactly these bytes of the text.
 fn fails_with_its_sink<R: AllocGlobal + Threads + RandomSource + Sync>(
     rt: &R,
     ask: Option<Ask>,

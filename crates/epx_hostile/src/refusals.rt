@@ -1,5 +1,6 @@
-//! Worked cases through each kind of run. A test runner may refuse any allocation of these tests: the logs are texts of
-//! the program, so that each allocation is one of the runs, and a test then ends well, or out of memory.
+//! Worked cases through each kind of run. A test runner may refuse any allocation of these tests:
+//! the logs are texts of the program, so that each allocation is one of the runs, and a test then
+//! ends well, or out of memory.
 use crate::given::{
     LEAST, LEAST_ORDER, LEAST_REPORT, Wanted, is_checked, is_report, is_resumed, is_shown,
 };

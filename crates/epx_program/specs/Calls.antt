@@ -22,19 +22,25 @@ use Rattle.epx_program.specs.Inputs.{IsInputAlone, how_many}
 
 -- the words of the operating system are these texts; words that could not be had are none
 abbrev pub AreTakenFor : Result (IntoIter (String Global) Global) Error → List Text → Type 0
-AreTakenFor words texts = MatchResult words (λ given. map string_bytes (into_iter_items given) ≡ texts) (λ _. ⊥)
+AreTakenFor words texts = MatchResult words
+    (λ given. map string_bytes (into_iter_items given) ≡ texts) (λ _. ⊥)
 
--- the words ask for this: the report of one log where no word follows the program's name, and else what clap finds in them
+-- the words ask for this: the report of one log where no word follows the program's name, and else
+-- what clap finds in them
 pub record Asks (words : List Text) (wanted : Words) : Type 0 where
   pub bare : length words ≤ 1 → wanted ≡ asked.Work Run (record { workers = 4; cut = 256 }) None
   pub work : 2 ≤ length words → IfWork (Fits (subcommand_of epx_app words)) wanted
   pub taken : 2 ≤ length words → AsksWork wanted ↔ (fault_of epx_app words ≡ [])
-  pub text : 2 ≤ length words → IfText (λ status. (takes epx_app words ≡ false) × EndsAs (fault_of epx_app words) status) wanted
+  pub text : 2 ≤ length words
+      → IfText (λ status. (takes epx_app words ≡ false)
+      × EndsAs (fault_of epx_app words) status) wanted
 
--- how the program ends after a text with this status: one that was asked for is added, or the output failed; any other is not
+-- how the program ends after a text with this status: one that was asked for is added, or the
+-- output failed; any other is not
 abbrev pub EndsWithText : List ℕ → ℕ → ℕ → Bool → Option (List ℕ) → Option (List ℕ) → Type 0
 EndsWithText text zero status failed old new =
-    ((status ≡ 0) × Appends old new text) ⊎ ((status ≡ fault_status Write) × (failed ≡ true) × AppendsPrefix old new text)
+    ((status ≡ 0) × Appends old new text)
+    ⊎ ((status ≡ fault_status Write) × (failed ≡ true) × AppendsPrefix old new text)
 EndsWithText text (suc n) status failed old new = (status ≡ suc n) × Keeps old new
 
 -- How a task ends over the paths, where the input has these bytes, if they are known, and `Unread`

@@ -30,7 +30,8 @@ abbrev pub on_first_and_logs : (List ℕ → List (List ℕ) → Type 0) → Lis
 on_first_and_logs Is [] = Is [] []
 on_first_and_logs Is (text ∷ logs) = Is text logs
 
--- the answer that a task asks for of the texts at its paths: of logs, or of a base or a list and then logs
+-- the answer that a task asks for of the texts at its paths: of logs, or of a base or a list and
+-- then logs
 abbrev pub IsTaskAnswer : Task → List (List ℕ) → Result (List ℕ) Fault → Type 0
 IsTaskAnswer Run texts answer = Answers IsReport texts answer
 IsTaskAnswer Order texts answer = Answers (IsViewed ask.Order) texts answer
@@ -47,8 +48,10 @@ IsTaskFault Order texts fault = IsRunFault (IsViewed ask.Order) texts fault
 IsTaskFault Levels texts fault = IsRunFault (IsViewed ask.Levels) texts fault
 IsTaskFault Graph texts fault = IsRunFault (IsViewed ask.Graph) texts fault
 IsTaskFault Audit texts fault = IsRunFault (IsViewed ask.Audit) texts fault
-IsTaskFault Resume texts fault = on_first_and_logs (λ base logs. IsRunFaultWithInput IsBadBase IsResumed base logs fault) texts
-IsTaskFault Check texts fault = on_first_and_logs (λ list logs. IsRunFaultWithInput IsBadList IsChecked list logs fault) texts
+IsTaskFault Resume texts fault = on_first_and_logs
+    (λ base logs. IsRunFaultWithInput IsBadBase IsResumed base logs fault) texts
+IsTaskFault Check texts fault = on_first_and_logs
+    (λ list logs. IsRunFaultWithInput IsBadList IsChecked list logs fault) texts
 
 -- the text that the task asks for of these texts is added
 abbrev pub AppendsAnswer : Task → List (List ℕ) → Option (List ℕ) → Option (List ℕ) → Type 0

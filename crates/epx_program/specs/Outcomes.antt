@@ -19,7 +19,8 @@ task_showing ask.Levels = Levels
 task_showing ask.Audit = Audit
 task_showing ask.Graph = Graph
 
--- The outcome of a task over these sources, with an output of which `old` and `new` are the contents.
+-- The outcome of a task over these sources, with an output of which `old` and `new` are the
+-- contents.
 pub record Outcome {S A : Type 0} (remaining : S → Option (List ℕ)) (reads : ReadRelation S)
     (fails : FailRelation S) (task : Task) (sources : List S) (done : Result A Fault)
     (is_flushed has_failed : Bool) (old new : Option (List ℕ)) : Type 0 where

@@ -10,7 +10,8 @@ use std::alloc::Global;
 use std::env::Args;
 use std::io::{self, ErrorKind};
 
-/// A text for words of which one is no UTF-8. Words that fail in another way failed as memory ran out.
+/// A text for words of which one is no UTF-8. Words that fail in another way failed as memory ran
+/// out.
 fn unread(alloc: Global, why: ErrorKind) -> Result<Words, Memory>
     ensures no_text { why ≡ ErrorKind.InvalidData → IfOk result (IsText 2) }
     ensures no_words { why ≢ ErrorKind.InvalidData → IsErrOf result (record {}) }
@@ -26,8 +27,10 @@ fn unread(alloc: Global, why: ErrorKind) -> Result<Words, Memory>
 pub(crate) fn asked(alloc: Global, words: io::Result<Args>) -> Result<Words, Memory>
     ensures asked { (texts : _) → AreTakenFor words texts → IfOk result (Asks texts) }
     ensures status { IfOk result (IfText (λ status. (status ≡ 0) ⊎ (status ≡ 2))) }
-    ensures no_text { IfErr words (λ error. error_kind error ≡ ErrorKind.InvalidData → IfOk result (IsText 2)) }
-    ensures no_words { IfErr words (λ error. error_kind error ≢ ErrorKind.InvalidData → IsErrOf result (record {})) }
+    ensures no_text { IfErr words (λ error. error_kind error ≡ ErrorKind.InvalidData
+        → IfOk result (IsText 2)) }
+    ensures no_words { IfErr words (λ error. error_kind error ≢ ErrorKind.InvalidData
+        → IsErrOf result (record {})) }
 {
     let given = match words {
         Ok(given) => given,

@@ -33,9 +33,11 @@ pub(crate) fn end_with_text<R: Eprint, W: Sink>(
 
     ensures told { status ≢ 0 → (result ≡ status) × (output.new ≡ output.old) }
 
-    ensures shown { status ≡ 0 → result ≡ 0 → Appends (W.contents output.old) (W.contents output.new) text.now }
+    ensures shown { status ≡ 0 → result ≡ 0
+        → Appends (W.contents output.old) (W.contents output.new) text.now }
     ensures flushed { status ≡ 0 → result ≡ 0 → W.is_flushed output.new ≡ true }
-    ensures prefix { status ≡ 0 → AppendsPrefix (W.contents output.old) (W.contents output.new) text.now }
+    ensures prefix { status ≡ 0
+        → AppendsPrefix (W.contents output.old) (W.contents output.new) text.now }
 
     ensures status { status ≡ 0 → result ≢ 0 → (result ≡ 4) × (W.has_failed output.new ≡ true) }
     ensures failed { W.has_failed output.new ≡ true → result ≡ 4 }

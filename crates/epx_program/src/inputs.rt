@@ -27,7 +27,8 @@ fn source_at<'a, R: Files, I: Source>(
     requires { IfSome input.old (λ i. I.has_failed i ≡ false) }
     ensures path { path_of result ≡ path.now }
     ensures failed { told_by (λ s. s.failed) (told_by I.has_failed (λ _. false)) result ≡ false }
-    ensures input { (given : _) → path.now ≡ codes "-" → input.old ≡ Some given → result ≡ either.Second (either.First given) }
+    ensures input { (given : _) → path.now ≡ codes "-" → input.old ≡ Some given
+        → result ≡ either.Second (either.First given) }
     ensures left { IfSome input.new (λ i. I.has_failed i ≡ false) }
 {
     if path != INPUT {
@@ -47,9 +48,13 @@ pub(crate) fn sources_at<'a, R: Files, I: Source + Drop>(
     input: I,
 ) -> Result<Vec<Input<'a, R, I>>, AllocError>
     requires { I.has_failed input ≡ false }
-    ensures paths { IfOk result (λ sources. map path_of sources.items ≡ map string_bytes paths.now) }
-    ensures failed { IfOk result (λ sources. All (λ s. told_by (λ f. f.failed) (told_by I.has_failed (λ _. false)) s ≡ false) sources.items) }
-    ensures input { IfOk result (λ sources. map string_bytes paths.now ≡ codes "-" ∷ [] → sources.items ≡ either.Second (either.First input) ∷ []) }
+    ensures paths { IfOk result
+        (λ sources. map path_of sources.items ≡ map string_bytes paths.now) }
+    ensures failed { IfOk result
+        (λ sources. All (λ s. told_by (λ f. f.failed) (told_by I.has_failed (λ _. false)) s
+        ≡ false) sources.items) }
+    ensures input { IfOk result (λ sources. map string_bytes paths.now ≡ codes "-" ∷ []
+        → sources.items ≡ either.Second (either.First input) ∷ []) }
 {
     let mut input = Some(input);
     let mut sources = Vec::with_capacity(alloc, paths.len())?;

@@ -40,8 +40,10 @@ where
         → Appends (W.contents output.old) (W.contents output.new) (string_bytes text) }
     ensures prefix { (text : _) → words ≡ Words.Text text 0
         → AppendsPrefix (W.contents output.old) (W.contents output.new) (string_bytes text) }
-    ensures text { IfText (λ status. status ≡ 0 → (result ≡ 0) ⊎ ((result ≡ 4) × (W.has_failed output.new ≡ true))) words }
-    ensures told { IfText (λ status. status ≢ 0 → (result ≡ status) × (output.new ≡ output.old)) words }
+    ensures text { IfText (λ status. status ≡ 0 → (result ≡ 0)
+        ⊎ ((result ≡ 4) × (W.has_failed output.new ≡ true))) words }
+    ensures told { IfText (λ status. status ≢ 0 → (result ≡ status)
+        × (output.new ≡ output.old)) words }
 
     ensures flushed { result ≡ 0 → W.is_flushed output.new ≡ true }
     ensures failed { W.has_failed output.new ≡ true → result ≡ 4 }
@@ -57,8 +59,8 @@ where
     }
 }
 
-/// Does what the words of the operating system ask for: the answer goes to the output; a fault, and what is said
-/// of words that are refused, to standard error; and the status tells which.
+/// Does what the words of the operating system ask for: the answer goes to the output; a fault,
+/// and what is said of words that are refused, to standard error; and the status tells which.
 pub fn start<R, I, W>(rt: &R, words: io::Result<Args>, input: I, output: &mut W) -> ExitCode
 where
     R: AllocGlobal + Eprint + Files + Threads + RandomSource + Sync,
@@ -73,7 +75,8 @@ where
     ensures status { IsStatus (exit_status result) ⊎ (exit_status result ≡ 2) }
 
     ensures no_text { IfErr words (λ error. error_kind error ≡ ErrorKind.InvalidData
-        → ((exit_status result ≡ 2) ⊎ (exit_status result ≡ fault_status Fault.Memory)) × (output.new ≡ output.old)) }
+        → ((exit_status result ≡ 2) ⊎ (exit_status result ≡ fault_status Fault.Memory))
+        × (output.new ≡ output.old)) }
     ensures no_words { IfErr words (λ error. error_kind error ≢ ErrorKind.InvalidData
         → (exit_status result ≡ fault_status Fault.Memory) × (output.new ≡ output.old)) }
 

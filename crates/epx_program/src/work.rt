@@ -38,7 +38,8 @@ fn answer_with_input<R: Threads + RandomSource + Sync, F: Source, S: Source, W: 
     requires logs { All (λ s. S.has_failed s ≡ false) logs.old }
     requires output { W.has_failed output.old ≡ false }
 
-    ensures answer { (text : _) (texts : _) → F.remaining first.old ≡ Some text → AreBytesOf S.remaining logs.old texts →
+    ensures answer { (text : _) (texts : _) → F.remaining first.old ≡ Some text
+        → AreBytesOf S.remaining logs.old texts →
         ComesTo (task_over kind) (text ∷ texts) result (W.contents output.old) (W.contents output.new) }
     ensures answered { OnOk result (AddsAnswer (task_over kind) (length logs.old + 1)
         (W.contents output.old) (W.contents output.new)) }
@@ -47,7 +48,8 @@ fn answer_with_input<R: Threads + RandomSource + Sync, F: Source, S: Source, W: 
     ensures unread { (log : _) → IsErrOf result (Fault.Read log) →
         HasFailedRead F.reads F.fails first.old ⊎ OneHasFailedRead S.reads S.fails logs.old }
     ensures flushed { OnOk result (W.is_flushed output.new ≡ true) }
-    ensures nothing { IfErr result (λ fault. fault ≢ Fault.Write → Keeps (W.contents output.old) (W.contents output.new)) }
+    ensures nothing { IfErr result (λ fault. fault ≢ Fault.Write
+        → Keeps (W.contents output.old) (W.contents output.new)) }
     ensures written { IsErrOf result Fault.Write ↔ (W.has_failed output.new ≡ true) }
 {
     match kind {
@@ -56,7 +58,8 @@ fn answer_with_input<R: Threads + RandomSource + Sync, F: Source, S: Source, W: 
     }
 }
 
-/// Answers the first source and the others, which are its logs. Where there is none, the first text is empty.
+/// Answers the first source and the others, which are its logs. Where there is none, the first
+/// text is empty.
 fn answer_from_first<R: Threads + RandomSource + Sync, S: Source, W: Sink>(
     rt: &R,
     alloc: Global,
@@ -142,8 +145,8 @@ fn answer<R: Threads + RandomSource + Sync, S: Source, W: Sink>(
     }
 }
 
-/// Reads the texts at the paths, of which a hyphen is the input, or the input where no paths are meant, and answers
-/// them.
+/// Reads the texts at the paths, of which a hyphen is the input, or the input where no paths are
+/// meant, and answers them.
 pub(crate) fn work<R: Files + Threads + RandomSource + Sync, I: Source + Drop, W: Sink>(
     rt: &R,
     alloc: Global,
@@ -165,7 +168,8 @@ pub(crate) fn work<R: Files + Threads + RandomSource + Sync, I: Source + Drop, W
     ensures unread { (log : _) → IsErrOf result (Fault.Read log) → IsInputAlone (paths_of paths) →
         HasFailedRead I.reads I.fails input }
     ensures flushed { OnOk result (W.is_flushed output.new ≡ true) }
-    ensures nothing { IfErr result (λ fault. fault ≢ Fault.Write → Keeps (W.contents output.old) (W.contents output.new)) }
+    ensures nothing { IfErr result (λ fault. fault ≢ Fault.Write
+        → Keeps (W.contents output.old) (W.contents output.new)) }
     ensures written { IsErrOf result Fault.Write ↔ (W.has_failed output.new ≡ true) }
 {
     let Some(paths) = paths else {

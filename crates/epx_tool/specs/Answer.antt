@@ -7,7 +7,8 @@ use Rattle.epx_merge.specs.Acceptance.{IsAccepted}
 use Rattle.epx_tool.specs.Report.{IsReport}
 
 -- the answer, where Is says which text answers a committed map
-abbrev pub Answers : (List Instance → List ℕ → Type 0) → List (List ℕ) → Result (List ℕ) Fault → Type 0
+abbrev pub Answers : (List Instance → List ℕ → Type 0) → List (List ℕ) → Result (List ℕ) Fault
+    → Type 0
 Answers Is logs (Ok text) = (m : List Instance) × IsAccepted logs m × Is m text
 Answers Is logs (Err fault) = IsRefusal logs fault
 

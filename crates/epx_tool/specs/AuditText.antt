@@ -12,7 +12,8 @@ covered_data = string (codes "covered") ∷ []
 
 -- two instances that conflict and are not related
 abbrev pub uncovered_data : Id → Id → List Data
-uncovered_data x y = string (codes "uncovered") ∷ data_of_number x.replica ∷ data_of_number x.number ∷ data_of_number y.replica ∷ data_of_number y.number ∷ []
+uncovered_data x y = string (codes "uncovered") ∷ data_of_number x.replica
+    ∷ data_of_number x.number ∷ data_of_number y.replica ∷ data_of_number y.number ∷ []
 
 abbrev pub covered_line : List ℕ
 covered_line = line_of covered_data
@@ -22,4 +23,5 @@ uncovered_line x y = line_of (uncovered_data x y)
 
 -- one line: that the map is covered, or the least two instances that are not
 abbrev pub IsAuditText : List Instance → List ℕ → Type 0
-IsAuditText m text = (IsCovered m × (text ≡ covered_line)) ⊎ ((x y : Id) × IsLeastUncovered m x y × (text ≡ uncovered_line x y))
+IsAuditText m text = (IsCovered m × (text ≡ covered_line))
+    ⊎ ((x y : Id) × IsLeastUncovered m x y × (text ≡ uncovered_line x y))

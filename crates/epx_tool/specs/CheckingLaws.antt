@@ -18,24 +18,33 @@ use Rattle.epx_tool.specs.Checking.{Checks}
 
 -- a list and logs have an answer other than running out of memory
 abbrev pub CheckExists : Type 0
-CheckExists = (list : List ℕ) (logs : List (List ℕ)) → (a : Result (List ℕ) Fault) × (a ≢ Err Memory) × Checks list logs a
+CheckExists = (list : List ℕ) (logs : List (List ℕ)) → (a : Result (List ℕ) Fault)
+    × (a ≢ Err Memory) × Checks list logs a
 
 -- and one alone, running out of memory aside
 abbrev pub CheckIsOne : Type 0
-CheckIsOne = (list : List ℕ) (logs : List (List ℕ)) (a b : Result (List ℕ) Fault) → a ≢ Err Memory → b ≢ Err Memory → Checks list logs a → Checks list logs b → a ≡ b
+CheckIsOne = (list : List ℕ) (logs : List (List ℕ)) (a b : Result (List ℕ) Fault) → a ≢ Err Memory
+    → b ≢ Err Memory → Checks list logs a → Checks list logs b → a ≡ b
 
 -- a list is said to be lawful exactly where it is a lawful order of what the logs commit
 abbrev pub LawfulTextMeansLawful : Type 0
-LawfulTextMeansLawful = (list : List ℕ) (logs : List (List ℕ)) (ids : List Id) (m : List Instance) → IsShort list → IsList list ids → IsAccepted logs m →
+LawfulTextMeansLawful = (list : List ℕ) (logs : List (List ℕ)) (ids : List Id) (m : List Instance)
+    → IsShort list → IsList list ids → IsAccepted logs m →
     Checks list logs (Ok lawful_text) ↔ IsLawful m ids
 
--- the same final contents, and the same reply of each instance, wherever it stands in the two orders
+-- the same final contents, and the same reply of each instance, wherever it stands in the two
+-- orders
 pub record ExecuteAlike (ids other : List Id) (run run' : Execution) : Type 0 where
   pub final : run.final ≡ run'.final
-  pub replies : (i j : ℕ) (x : Id) → slice_get ids i ≡ Some x → slice_get other j ≡ Some x → slice_get run.replies i ≡ slice_get run'.replies j
+  pub replies : (i j : ℕ) (x : Id) → slice_get ids i ≡ Some x → slice_get other j ≡ Some x
+      → slice_get run.replies i ≡ slice_get run'.replies j
 
--- where the list is said to be lawful and the logs are covered, executing what it names, one after another from the empty store, leads to what the
--- report of the logs says
+-- where the list is said to be lawful and the logs are covered, executing what it names, one after
+-- another from the empty store, leads to what the report of the logs says
 abbrev pub LawfulListExecutesAlike : Type 0
-LawfulListExecutesAlike = (list : List ℕ) (logs : List (List ℕ)) → Checks list logs (Ok lawful_text) → (ids : List Id) (m : List Instance) → IsList list ids → IsAccepted logs m → IsCovered m →
-    (order : List Ranked) → IsExecutionOrder m order → ExecuteAlike ids (ranked_ids order) (execute (commands_in m ids) contents.empty) (execute (commands_of m order) contents.empty)
+LawfulListExecutesAlike = (list : List ℕ) (logs : List (List ℕ))
+    → Checks list logs (Ok lawful_text) → (ids : List Id) (m : List Instance) → IsList list ids
+    → IsAccepted logs m → IsCovered m →
+    (order : List Ranked) → IsExecutionOrder m order
+    → ExecuteAlike ids (ranked_ids order) (execute (commands_in m ids) contents.empty)
+    (execute (commands_of m order) contents.empty)

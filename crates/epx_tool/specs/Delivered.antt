@@ -1,4 +1,5 @@
--- How a run ends, by what its sources delivered in it, whether or not their bytes were known before.
+-- How a run ends, by what its sources delivered in it, whether or not their bytes were known
+-- before.
 use Rattle.std.specs.Prelude.{◌≡◌, ◌⊎◌, ℕ, ◌<◌, List, [], ◌∷◌, length, slice_get, Some, Ok}
 use Rattle.epx_types.specs.declared.fault.Fault.{Fault}
 use Rattle.epx_types.specs.declared.fault.Fault.TheVariants.{Memory, TooManyLogs}

@@ -11,15 +11,18 @@ use Rattle.epx_base.specs.ReportLines.{data_of_number, line_of, header_line, wai
 
 -- an instance and the level of its command
 abbrev pub level_data : Id → ℕ → List Data
-level_data x level = string (codes "level") ∷ data_of_number x.replica ∷ data_of_number x.number ∷ data_of_number level ∷ []
+level_data x level = string (codes "level") ∷ data_of_number x.replica ∷ data_of_number x.number
+    ∷ data_of_number level ∷ []
 
 abbrev pub level_line : Id × ℕ → List ℕ
 level_line p = line_of (level_data p.0 p.1)
 
--- the header of the report, the ready instances in execution order with the levels of their commands, and the instances that wait
+-- the header of the report, the ready instances in execution order with the levels of their
+-- commands, and the instances that wait
 abbrev pub level_text : List Ranked → List ℕ → List Waiting → List ℕ
 level_text order levels waiting =
-    header_line (length order) (length waiting) (component_count order) ++ (flat_map level_line (zip (ranked_ids order) levels) ++ flat_map waiting_line waiting)
+    header_line (length order) (length waiting) (component_count order)
+    ++ (flat_map level_line (zip (ranked_ids order) levels) ++ flat_map waiting_line waiting)
 
 -- the levels are those of the ready commands in execution order
 pub record IsLevelText (m : List Instance) (text : List ℕ) : Type 0 where

@@ -9,14 +9,18 @@ use Rattle.epx_base.specs.ReportLines.{data_of_number, line_of, header_line, wai
 
 -- an instance, its depth and its leader
 abbrev pub order_data : Id → ℕ → Id → List Data
-order_data x depth leader = string (codes "order") ∷ data_of_number x.replica ∷ data_of_number x.number ∷ data_of_number depth ∷ data_of_number leader.replica ∷ data_of_number leader.number ∷ []
+order_data x depth leader = string (codes "order") ∷ data_of_number x.replica
+    ∷ data_of_number x.number ∷ data_of_number depth ∷ data_of_number leader.replica
+    ∷ data_of_number leader.number ∷ []
 
 abbrev pub order_line : Ranked → List ℕ
 order_line r = line_of (order_data r.id r.depth r.leader)
 
--- the header of the report, the ready instances in execution order with depth and leader, and the instances that wait
+-- the header of the report, the ready instances in execution order with depth and leader, and the
+-- instances that wait
 abbrev pub order_text : List Ranked → List Waiting → List ℕ
-order_text order waiting = header_line (length order) (length waiting) (component_count order) ++ (flat_map order_line order ++ flat_map waiting_line waiting)
+order_text order waiting = header_line (length order) (length waiting) (component_count order)
+    ++ (flat_map order_line order ++ flat_map waiting_line waiting)
 
 pub record IsOrderText (m : List Instance) (text : List ℕ) : Type 0 where
   pub order : List Ranked

@@ -17,7 +17,8 @@ ops_of (Some e) = e.ops
 abbrev pub commands_of : List Instance → List Ranked → List (List Op)
 commands_of m order = map (λ r. ops_of (instance_of m r.id)) order
 
--- the header, the replies in execution order, the instances that wait, and the store by byte order of its keys
+-- the header, the replies in execution order, the instances that wait, and the store by byte order
+-- of its keys
 abbrev pub report_text : List Ranked → List Waiting → Execution → List ℕ
 report_text order waiting run =
     header_line (length order) (length waiting) (component_count order)
@@ -25,7 +26,8 @@ report_text order waiting run =
     ++ (flat_map waiting_line waiting
     ++ flat_map store_line (contents.entries run.final)))
 
--- one thread executes the ready commands one after another in the execution order, from the empty store
+-- one thread executes the ready commands one after another in the execution order, from the empty
+-- store
 pub record IsReport (m : List Instance) (text : List ℕ) : Type 0 where
   pub order : List Ranked
   pub waiting : List Waiting

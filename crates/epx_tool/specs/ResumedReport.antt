@@ -11,7 +11,8 @@ use Rattle.epx_types.specs.WaitingLists.{Waiting, IsWaitingList}
 use Rattle.epx_base.specs.ReportLines.{header_line, done_line, reply_line, waiting_line, store_line}
 use Rattle.epx_tool.specs.Report.{commands_of}
 
--- the header, the instances that were done before, the replies in execution order, the instances that wait, and the store by byte order of its keys
+-- the header, the instances that were done before, the replies in execution order, the instances
+-- that wait, and the store by byte order of its keys
 abbrev pub resumed_text : List Id → List Ranked → List Waiting → Execution → List ℕ
 resumed_text done order waiting run =
     header_line (length order) (length waiting) (component_count order)
@@ -20,10 +21,13 @@ resumed_text done order waiting run =
     ++ (flat_map waiting_line waiting
     ++ flat_map store_line (contents.entries run.final))))
 
--- one thread executes the ready commands of what is left, one after another in its execution order, from what is stored
-pub record IsReportAfter (done : List Id) (stored : Contents) (m : List Instance) (text : List ℕ) : Type 0 where
+-- one thread executes the ready commands of what is left, one after another in its execution
+-- order, from what is stored
+pub record IsReportAfter (done : List Id) (stored : Contents) (m : List Instance)
+    (text : List ℕ) : Type 0 where
   pub order : List Ranked
   pub waiting : List Waiting
   pub ordered : IsExecutionOrder (remaining done m) order
   pub listed : IsWaitingList (remaining done m) waiting
-  pub printed : text ≡ resumed_text done order waiting (execute (commands_of (remaining done m) order) stored)
+  pub printed : text
+      ≡ resumed_text done order waiting (execute (commands_of (remaining done m) order) stored)

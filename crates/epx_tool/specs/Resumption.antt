@@ -10,7 +10,8 @@ use Rattle.epx_tool.specs.WithInput.{AnswersWithInput}
 
 -- the report of what is left once what the base says is done, from what it says is stored
 abbrev pub IsResumed : List ℕ → List Instance → List ℕ → Type 0
-IsResumed base m text = (done : List Id) × (stored : Contents) × IsBase base done stored × IsReportAfter done stored m text
+IsResumed base m text = (done : List Id) × (stored : Contents) × IsBase base done stored
+    × IsReportAfter done stored m text
 
 -- that report, or the first refusal
 abbrev pub Resumes : List ℕ → List (List ℕ) → Result (List ℕ) Fault → Type 0

@@ -19,15 +19,18 @@ use Rattle.epx_tool.specs.Resumption.{Resumes}
 
 -- a base and logs have an answer other than running out of memory
 abbrev pub ResumptionExists : Type 0
-ResumptionExists = (base : List ℕ) (logs : List (List ℕ)) → (a : Result (List ℕ) Fault) × (a ≢ Err Memory) × Resumes base logs a
+ResumptionExists = (base : List ℕ) (logs : List (List ℕ)) → (a : Result (List ℕ) Fault)
+    × (a ≢ Err Memory) × Resumes base logs a
 
 -- and one alone, running out of memory aside
 abbrev pub ResumptionIsOne : Type 0
-ResumptionIsOne = (base : List ℕ) (logs : List (List ℕ)) (a b : Result (List ℕ) Fault) → a ≢ Err Memory → b ≢ Err Memory → Resumes base logs a → Resumes base logs b → a ≡ b
+ResumptionIsOne = (base : List ℕ) (logs : List (List ℕ)) (a b : Result (List ℕ) Fault)
+    → a ≢ Err Memory → b ≢ Err Memory → Resumes base logs a → Resumes base logs b → a ≡ b
 
 -- a report is one after nothing is done, from the empty store
 abbrev pub ReportIsAfterNothing : Type 0
-ReportIsAfterNothing = (m : List Instance) (text : List ℕ) → IsReport m text ↔ IsReportAfter [] contents.empty m text
+ReportIsAfterNothing = (m : List Instance) (text : List ℕ) → IsReport m text
+    ↔ IsReportAfter [] contents.empty m text
 
 -- what a report is written of
 abbrev pub reported_of : List Id → List Ranked → List Waiting → Execution → Reported
@@ -40,12 +43,16 @@ reported_of done order waiting run = record {
 }
 
 -- what is executed in a report
-abbrev pub run_in : (done : List Id) (stored : Contents) (m : List Instance) (text : List ℕ) → IsReportAfter done stored m text → Execution
+abbrev pub run_in : (done : List Id) (stored : Contents) (m : List Instance) (text : List ℕ)
+    → IsReportAfter done stored m text → Execution
 run_in done stored m text p = execute (commands_of (remaining done m) p.order) stored
 
--- a report whose numbers and texts fit their types is a base: done are the instances that were done before and those that it executes,
--- and stored is its final store
+-- a report whose numbers and texts fit their types is a base: done are the instances that were
+-- done before and those that it executes, and stored is its final store
 abbrev pub ReportIsBase : Type 0
-ReportIsBase = (done : List Id) (stored : Contents) (m : List Instance) (text : List ℕ) (p : IsReportAfter done stored m text) → IsRising done →
+ReportIsBase = (done : List Id) (stored : Contents) (m : List Instance) (text : List ℕ)
+    (p : IsReportAfter done stored m text) → IsRising done →
     FitsReported (reported_of done p.order p.waiting (run_in done stored m text p)) →
-    (now : List Id) → IsRising now → ((x : Id) → Contains now x ↔ Contains done x ⊎ Contains (ranked_ids p.order) x) → IsBase text now (run_in done stored m text p).final
+    (now : List Id) → IsRising now
+    → ((x : Id) → Contains now x ↔ Contains done x ⊎ Contains (ranked_ids p.order) x)
+    → IsBase text now (run_in done stored m text p).final

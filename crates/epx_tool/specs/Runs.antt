@@ -13,18 +13,22 @@ AreBytesOf remaining sources logs = map remaining sources ≡ map Some logs
 
 -- no log before this one is too long
 abbrev pub NoneTooLongBefore : List (List ℕ) → ℕ → Type 0
-NoneTooLongBefore logs log = (k : ℕ) (bytes : List ℕ) → k < log → slice_get logs k ≡ Some bytes → length bytes ≤ max_log_bytes
+NoneTooLongBefore logs log = (k : ℕ) (bytes : List ℕ) → k < log → slice_get logs k ≡ Some bytes
+    → length bytes ≤ max_log_bytes
 
--- the faults of reading the logs: too many of them, or the first that is too long or can not be read
+-- the faults of reading the logs: too many of them, or the first that is too long or can not be
+-- read
 abbrev pub IsReadingRefusal : List (List ℕ) → Fault → Type 0
 IsReadingRefusal logs Memory = Unit {0}
 IsReadingRefusal logs TooManyLogs = max_logs < length logs
 IsReadingRefusal logs (LogTooLong log) = (length logs ≤ max_logs) × IsFirstTooLong logs log
-IsReadingRefusal logs (Read log) = (length logs ≤ max_logs) × (log < length logs) × NoneTooLongBefore logs log
+IsReadingRefusal logs (Read log) = (length logs ≤ max_logs) × (log < length logs)
+    × NoneTooLongBefore logs log
 IsReadingRefusal logs _ = ⊥
 
 -- the faults of a run whose text is to be Is: the refusal of the logs, or that of a device
 abbrev pub IsRunFault : (List Instance → List ℕ → Type 0) → List (List ℕ) → Fault → Type 0
-IsRunFault Is logs (Read log) = (length logs ≤ max_logs) × (log < length logs) × NoneTooLongBefore logs log
+IsRunFault Is logs (Read log) = (length logs ≤ max_logs) × (log < length logs)
+    × NoneTooLongBefore logs log
 IsRunFault Is logs Write = (text : List ℕ) × Answers Is logs (Ok text)
 IsRunFault Is logs fault = IsRefusal logs fault

@@ -1,4 +1,5 @@
--- A run over logs and a text beside them: the logs are read from their sources, then the text from its own, and the answer is written to a sink.
+-- A run over logs and a text beside them: the logs are read from their sources, then the text from
+-- its own, and the answer is written to a sink.
 use Rattle.std.specs.Prelude.{ℕ, ◌<◌, ◌≤◌, List, [], ◌∷◌, ◌++◌, length, Ok}
 use Rattle.epx_types.specs.declared.fault.Fault.{Fault}
 use Rattle.epx_types.specs.declared.fault.Fault.TheVariants.{Memory, TooManyLogs, LogTooLong, Read, Write}
@@ -8,20 +9,25 @@ use Rattle.epx_merge.specs.Refusals.{IsFirstTooLong}
 use Rattle.epx_tool.specs.Runs.{NoneTooLongBefore}
 use Rattle.epx_tool.specs.WithInput.{AnswersWithInput, IsRefusalWithInput}
 
--- the source of this number can not be read: that of a log, or that of the text, whose number is how many logs there are
+-- the source of this number can not be read: that of a log, or that of the text, whose number is
+-- how many logs there are
 abbrev pub CanBeUnread : List ℕ → List (List ℕ) → ℕ → Type 0
-CanBeUnread input logs log = (length logs ≤ max_logs) × (log ≤ length logs) × NoneTooLongBefore (logs ++ input ∷ []) log
+CanBeUnread input logs log = (length logs ≤ max_logs) × (log ≤ length logs)
+    × NoneTooLongBefore (logs ++ input ∷ []) log
 
 -- the faults of reading the logs and then the text beside them
 abbrev pub IsReadingRefusalWithInput : List ℕ → List (List ℕ) → Fault → Type 0
 IsReadingRefusalWithInput input logs Memory = Unit {0}
 IsReadingRefusalWithInput input logs TooManyLogs = max_logs < length logs
-IsReadingRefusalWithInput input logs (LogTooLong log) = (length logs ≤ max_logs) × IsFirstTooLong (logs ++ input ∷ []) log
+IsReadingRefusalWithInput input logs (LogTooLong log) = (length logs ≤ max_logs)
+    × IsFirstTooLong (logs ++ input ∷ []) log
 IsReadingRefusalWithInput input logs (Read log) = CanBeUnread input logs log
 IsReadingRefusalWithInput input logs _ = ⊥
 
 -- the faults of such a run: the refusal of the logs and the text, or that of a device
-abbrev pub IsRunFaultWithInput : (List ℕ → ℕ → Type 0) → (List ℕ → List Instance → List ℕ → Type 0) → List ℕ → List (List ℕ) → Fault → Type 0
+abbrev pub IsRunFaultWithInput : (List ℕ → ℕ → Type 0) → (List ℕ → List Instance → List ℕ → Type 0)
+    → List ℕ → List (List ℕ) → Fault → Type 0
 IsRunFaultWithInput IsBad Is input logs (Read log) = CanBeUnread input logs log
-IsRunFaultWithInput IsBad Is input logs Write = (text : List ℕ) × AnswersWithInput IsBad Is input logs (Ok text)
+IsRunFaultWithInput IsBad Is input logs Write = (text : List ℕ)
+    × AnswersWithInput IsBad Is input logs (Ok text)
 IsRunFaultWithInput IsBad Is input logs fault = IsRefusalWithInput IsBad input logs fault

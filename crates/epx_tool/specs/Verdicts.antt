@@ -17,7 +17,8 @@ abbrev pub fault_data : OrderFault → List Data
 fault_data Memory = []
 fault_data (Stranger place) = string (codes "stranger") ∷ data_of_number place ∷ []
 fault_data (Repeat place) = string (codes "repeat") ∷ data_of_number place ∷ []
-fault_data (Missing x) = string (codes "missing") ∷ data_of_number x.replica ∷ data_of_number x.number ∷ []
+fault_data (Missing x) = string (codes "missing") ∷ data_of_number x.replica
+    ∷ data_of_number x.number ∷ []
 fault_data (Early place) = string (codes "early") ∷ data_of_number place ∷ []
 fault_data (Sequence place) = string (codes "sequence") ∷ data_of_number place ∷ []
 
@@ -26,4 +27,6 @@ fault_text fault = line_of (fault_data fault)
 
 -- that the list is a lawful order, or its fault
 abbrev pub IsVerdict : List Instance → List Id → List ℕ → Type 0
-IsVerdict m ids text = (IsLawful m ids × (text ≡ lawful_text)) ⊎ ((fault : OrderFault) × (fault ≢ Memory) × IsOrderFault m ids fault × (text ≡ fault_text fault))
+IsVerdict m ids text = (IsLawful m ids × (text ≡ lawful_text))
+    ⊎ ((fault : OrderFault) × (fault ≢ Memory) × IsOrderFault m ids fault
+    × (text ≡ fault_text fault))

@@ -29,7 +29,8 @@ use std::thread::{Threads, join};
 
 /// The commands of these instances.
 fn commands<'a>(alloc: Global, merged: &'a Merged, ids: &[Id]) -> Result<Vec<Command<'a>>, Memory>
-    ensures { IfOk result (λ commands. map (λ c. c.ops.now) commands.items ≡ map (λ x. ops_of (instance_of merged.now x)) ids.now) }
+    ensures { IfOk result (λ commands. map (λ c. c.ops.now) commands.items
+        ≡ map (λ x. ops_of (instance_of merged.now x)) ids.now) }
 {
     let mut commands = Vec::with_capacity(alloc, ids.len())?;
     for id in ids {
@@ -42,8 +43,8 @@ fn commands<'a>(alloc: Global, merged: &'a Merged, ids: &[Id]) -> Result<Vec<Com
     Ok(commands)
 }
 
-/// The report of what was executed. The map is not needed for it, and is freed at the same time by a thread of its own
-/// where there are several workers.
+/// The report of what was executed. The map is not needed for it, and is freed at the same time by
+/// a thread of its own where there are several workers.
 fn write_report<R: Threads + Sync>(
     rt: &R,
     alloc: Global,
@@ -55,7 +56,8 @@ fn write_report<R: Threads + Sync>(
     replies: &[Reply],
     store: &Store,
 ) -> Result<Vec<u8>, Memory>
-    ensures { IfOk result (λ text. text.items ≡ resumed_text done.now order.now waiters.now (record { replies = replies.now; final = store.now })) }
+    ensures { IfOk result (λ text. text.items ≡ resumed_text done.now order.now waiters.now
+        (record { replies = replies.now; final = store.now })) }
 {
     if plan.workers() == 1 {
         drop(merged);
@@ -65,13 +67,16 @@ fn write_report<R: Threads + Sync>(
         rt,
         move || drop(merged),
         || -> Result<Vec<u8>, Memory>
-            ensures { IfOk result (λ text. text.items ≡ resumed_text done.entry.now order.entry.now waiters.entry.now (record { replies = replies.entry.now; final = store.entry.now })) }
+            ensures { IfOk result (λ text.
+                text.items ≡ resumed_text done.entry.now order.entry.now waiters.entry.now
+                (record { replies = replies.entry.now; final = store.entry.now })) }
         { report(alloc, done, order, waiters, replies, store) },
     );
     text
 }
 
-/// The report of what is left of a committed map once some instances are done, given by rising Id, from a store.
+/// The report of what is left of a committed map once some instances are done, given by rising Id,
+/// from a store.
 pub(crate) fn report_of<R: Threads + RandomSource + Sync>(
     rt: &R,
     alloc: Global,
@@ -177,7 +182,8 @@ pub fn answer<R: Threads + RandomSource + Sync>(
     plan: Plan,
 ) -> Result<Vec<u8>, Fault>
     ensures { let bytes = map (λ log. log.items) logs.now in
-        MatchResult result (λ text. IsAnswer bytes (Ok text.items)) (λ fault. IsAnswer bytes (Err fault)) }
+        MatchResult result (λ text. IsAnswer bytes (Ok text.items))
+        (λ fault. IsAnswer bytes (Err fault)) }
 {
     let merged = match read_logs(rt, alloc, logs, plan, &FreeGate) {
         Ok(merged) => merged,
@@ -194,7 +200,8 @@ pub(crate) fn answer_owned<R: Threads + RandomSource + Sync>(
     plan: Plan,
 ) -> Result<Vec<u8>, Fault>
     ensures { let bytes = map (λ log. log.items) logs.items in
-        MatchResult result (λ text. IsAnswer bytes (Ok text.items)) (λ fault. IsAnswer bytes (Err fault)) }
+        MatchResult result (λ text. IsAnswer bytes (Ok text.items))
+        (λ fault. IsAnswer bytes (Err fault)) }
 {
     let merged = match read_logs(rt, alloc, &logs, plan, &FreeGate) {
         Ok(merged) => merged,
@@ -214,7 +221,8 @@ pub fn view<R: Threads + RandomSource + Sync>(
     plan: Plan,
 ) -> Result<Vec<u8>, Fault>
     ensures { let bytes = map (λ log. log.items) logs.now in
-        MatchResult result (λ text. Answers (IsViewed ask) bytes (Ok text.items)) (λ fault. Answers (IsViewed ask) bytes (Err fault)) }
+        MatchResult result (λ text. Answers (IsViewed ask) bytes (Ok text.items))
+        (λ fault. Answers (IsViewed ask) bytes (Err fault)) }
 {
     let merged = match read_logs(rt, alloc, logs, plan, &FreeGate) {
         Ok(merged) => merged,

@@ -54,10 +54,11 @@ fn verdict_of<R: Threads + Sync>(
     verdict_line(alloc, found)
 }
 
-/// Whether the instances that a list names, one a line as `[r,i]`, are in a lawful order of what the logs commit, as one
-/// line of text: `["lawful"]`, or what is wrong with the list, by name, with the place, counted from 0, or the instance
-/// that is missing. Or the first refusal: the list counts as one more log where it is asked which is too long, and its
-/// own bad line comes after all that is wrong with the logs. The answer is the same for every plan.
+/// Whether the instances that a list names, one a line as `[r,i]`, are in a lawful order of what
+/// the logs commit, as one line of text: `["lawful"]`, or what is wrong with the list, by name,
+/// with the place, counted from 0, or the instance that is missing. Or the first refusal: the list
+/// counts as one more log where it is asked which is too long, and its own bad line comes after
+/// all that is wrong with the logs. The answer is the same for every plan.
 pub fn check<R: Threads + RandomSource + Sync>(
     rt: &R,
     alloc: Global,
@@ -66,7 +67,8 @@ pub fn check<R: Threads + RandomSource + Sync>(
     plan: Plan,
 ) -> Result<Vec<u8>, Fault>
     ensures { let bytes = map (λ log. log.items) logs.now in
-        MatchResult result (λ text. Checks list.now bytes (Ok text.items)) (λ fault. Checks list.now bytes (Err fault)) }
+        MatchResult result (λ text. Checks list.now bytes (Ok text.items))
+        (λ fault. Checks list.now bytes (Err fault)) }
 {
     let (merged, ids) = match read_in_turn(rt, alloc, list, logs, plan) {
         Ok(read) => read,
@@ -84,7 +86,8 @@ pub(crate) fn check_owned<R: Threads + RandomSource + Sync>(
     plan: Plan,
 ) -> Result<Vec<u8>, Fault>
     ensures { let bytes = map (λ log. log.items) logs.items in
-        MatchResult result (λ text. Checks list.items bytes (Ok text.items)) (λ fault. Checks list.items bytes (Err fault)) }
+        MatchResult result (λ text. Checks list.items bytes (Ok text.items))
+        (λ fault. Checks list.items bytes (Err fault)) }
 {
     let read = read_in_turn(rt, alloc, &list, &logs, plan);
     drop(logs);

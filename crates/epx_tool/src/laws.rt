@@ -9,7 +9,8 @@ pub fn report_exists()
     ensures { ReportExists }
 {}
 
-/// A committed map has a text of its execution order, one of its conflict levels, one of whether it is covered, and a picture.
+/// A committed map has a text of its execution order, one of its conflict levels, one of whether
+/// it is covered, and a picture.
 pub fn view_text_exists()
     ensures { ViewTextExists }
 {}

@@ -24,7 +24,8 @@ fn append_ranked(
     depth: usize,
     leader: Id,
 ) -> Result<(), AllocError>
-    ensures { OnOk result (text.new.items ≡ text.old.items ++ line_of (order_data id depth leader)) }
+    ensures { OnOk result (text.new.items ≡ text.old.items
+        ++ line_of (order_data id depth leader)) }
 {
     let mut out = begin_line(alloc, line, "order")?;
     write_name(&mut out, id)?;
@@ -76,7 +77,8 @@ fn append_levels(
     levels: &LevelMap,
 ) -> Result<(), AllocError>
     requires { length levels.now ≡ length ids.now }
-    ensures { OnOk result (text.new.items ≡ text.old.items ++ flat_map level_line (zip ids.now levels.now)) }
+    ensures { OnOk result (text.new.items ≡ text.old.items
+        ++ flat_map level_line (zip ids.now levels.now)) }
 {
     let mut line = Vec::new(alloc);
     for (place, id) in ids.iter().enumerate() {
@@ -85,8 +87,8 @@ fn append_levels(
     Ok(())
 }
 
-/// The header, the instances that were done before, the replies in execution order, the instances that wait,
-/// and the store by byte order of its keys.
+/// The header, the instances that were done before, the replies in execution order, the instances
+/// that wait, and the store by byte order of its keys.
 pub(crate) fn report(
     alloc: Global,
     done: &[Id],
@@ -95,7 +97,8 @@ pub(crate) fn report(
     replies: &[Reply],
     store: &Store,
 ) -> Result<Vec<u8>, Memory>
-    ensures { IfOk result (λ text. text.items ≡ resumed_text done.now order.now waiters.now (record { replies = replies.now; final = store.now })) }
+    ensures { IfOk result (λ text. text.items ≡ resumed_text done.now order.now waiters.now
+        (record { replies = replies.now; final = store.now })) }
 {
     let mut text = Vec::new(alloc);
     append_header(
@@ -133,7 +136,8 @@ pub(crate) fn order_report(
     Ok(text)
 }
 
-/// The header, the instances in execution order with the levels of their commands, and the instances that wait.
+/// The header, the instances in execution order with the levels of their commands, and the
+/// instances that wait.
 pub(crate) fn level_report(
     alloc: Global,
     order: &OrderList,

@@ -27,7 +27,8 @@ fn read_in_turn<R: Threads + RandomSource + Sync>(
     plan: Plan,
 ) -> Result<(Merged, Base), Fault>
     ensures { let bytes = map (λ log. log.items) logs.now in MatchResult result
-        (λ read. IsShort base.now × IsAccepted bytes read.0 × IsBase base.now read.1.done read.1.stored)
+        (λ read. IsShort base.now × IsAccepted bytes read.0
+        × IsBase base.now read.1.done read.1.stored)
         (IsRefusalWithInput IsBadBase base.now bytes) }
 {
     let merged = match merge_before(rt, alloc, base, logs, plan) {
@@ -49,7 +50,8 @@ fn read_both<R: Threads + RandomSource + Sync>(
     plan: Plan,
 ) -> Result<(Merged, Base), Fault>
     ensures { let bytes = map (λ log. log.items) logs.now in MatchResult result
-        (λ read. IsShort base.now × IsAccepted bytes read.0 × IsBase base.now read.1.done read.1.stored)
+        (λ read. IsShort base.now × IsAccepted bytes read.0
+        × IsBase base.now read.1.done read.1.stored)
         (IsRefusalWithInput IsBadBase base.now bytes) }
 {
     if plan.workers() == 1 || base.len() > MAX_LOG_BYTES {
@@ -60,10 +62,12 @@ fn read_both<R: Threads + RandomSource + Sync>(
         || -> Result<Merged, Fault>
             requires { IsSync R.row }
             ensures { let bytes = map (λ log. log.items) logs.entry.now in
-                MatchResult result (λ m. IsShort base.entry.now × IsAccepted bytes m) (IsRefusalWithInput (λ _ _. ⊥) base.entry.now bytes) }
+                MatchResult result (λ m. IsShort base.entry.now × IsAccepted bytes m)
+                (IsRefusalWithInput (λ _ _. ⊥) base.entry.now bytes) }
         { merge_before(rt, alloc, base, logs, plan) },
         || -> Result<Base, BaseFault>
-            ensures { MatchResult result (λ b. IsBase base.entry.now b.done b.stored) (IsBaseFault base.entry.now) }
+            ensures { MatchResult result
+                (λ b. IsBase base.entry.now b.done b.stored) (IsBaseFault base.entry.now) }
         { read_base(alloc, base) },
     );
     let merged = match merged {
@@ -92,10 +96,11 @@ fn report_after<R: Threads + RandomSource + Sync>(
     report_of(rt, alloc, merged, &done, store, plan)
 }
 
-/// The report of a run that goes on from a base, which is an earlier report: its done and its replied instances are
-/// done, so they are not executed again, and what depends on them need not wait for them; the store begins as it
-/// says. Or the first refusal: the base counts as one more log where it is asked which is too long, and its
-/// own bad line comes after all that is wrong with the logs. The answer is the same for every plan.
+/// The report of a run that goes on from a base, which is an earlier report: its done and its
+/// replied instances are done, so they are not executed again, and what depends on them need not
+/// wait for them; the store begins as it says. Or the first refusal: the base counts as one more
+/// log where it is asked which is too long, and its own bad line comes after all that is wrong
+/// with the logs. The answer is the same for every plan.
 pub fn resume<R: Threads + RandomSource + Sync>(
     rt: &R,
     alloc: Global,
@@ -104,7 +109,8 @@ pub fn resume<R: Threads + RandomSource + Sync>(
     plan: Plan,
 ) -> Result<Vec<u8>, Fault>
     ensures { let bytes = map (λ log. log.items) logs.now in
-        MatchResult result (λ text. Resumes base.now bytes (Ok text.items)) (λ fault. Resumes base.now bytes (Err fault)) }
+        MatchResult result (λ text. Resumes base.now bytes (Ok text.items))
+        (λ fault. Resumes base.now bytes (Err fault)) }
 {
     let (merged, base) = match read_both(rt, alloc, base, logs, plan) {
         Ok(read) => read,
@@ -122,7 +128,8 @@ pub(crate) fn resume_owned<R: Threads + RandomSource + Sync>(
     plan: Plan,
 ) -> Result<Vec<u8>, Fault>
     ensures { let bytes = map (λ log. log.items) logs.items in
-        MatchResult result (λ text. Resumes base.items bytes (Ok text.items)) (λ fault. Resumes base.items bytes (Err fault)) }
+        MatchResult result (λ text. Resumes base.items bytes (Ok text.items))
+        (λ fault. Resumes base.items bytes (Err fault)) }
 {
     let read = read_both(rt, alloc, &base, &logs, plan);
     drop(logs);

@@ -21,8 +21,8 @@ use std::alloc::Global;
 use std::random::RandomSource;
 use std::thread::Threads;
 
-/// Reads the logs from the sources in order, and writes the answer to them to the sink, whole or not
-/// at all; a sink that fails has taken a prefix.
+/// Reads the logs from the sources in order, and writes the answer to them to the sink, whole or
+/// not at all; a sink that fails has taken a prefix.
 pub fn run<T: Threads + RandomSource + Sync, S: Source, W: Sink>(
     rt: &T,
     alloc: Global,
@@ -34,27 +34,34 @@ pub fn run<T: Threads + RandomSource + Sync, S: Source, W: Sink>(
     requires sink { W.has_failed sink.old ≡ false }
 
     ensures text { OnOk result ((logs : _) → AreBytesOf S.remaining sources.old logs →
-        (text : _) × Answers IsReport logs (Ok text) × Appends (W.contents sink.old) (W.contents sink.new) text) }
+        (text : _) × Answers IsReport logs (Ok text)
+        × Appends (W.contents sink.old) (W.contents sink.new) text) }
     ensures answered { OnOk result (AnswersDelivered S.reads IsReport sources.old sources.new
         (Appends (W.contents sink.old) (W.contents sink.new))) }
     ensures flushed { OnOk result (W.is_flushed sink.new ≡ true) }
 
-    ensures refusal { IfErr result (λ fault. (logs : _) → AreBytesOf S.remaining sources.old logs → IsRunFault IsReport logs fault) }
+    ensures refusal { IfErr result (λ fault. (logs : _) → AreBytesOf S.remaining sources.old logs
+        → IsRunFault IsReport logs fault) }
     ensures refused { IfErr result (λ fault. fault ≢ Fault.Write →
         EndsWithout S.reads S.fails sources.old sources.new fault) }
-    ensures nothing { IfErr result (λ fault. fault ≢ Fault.Write → Keeps (W.contents sink.old) (W.contents sink.new)) }
-    ensures prefix { IsErrOf result Fault.Write → (logs : _) → AreBytesOf S.remaining sources.old logs →
-        (text : _) × Answers IsReport logs (Ok text) × AppendsPrefix (W.contents sink.old) (W.contents sink.new) text }
+    ensures nothing { IfErr result (λ fault. fault ≢ Fault.Write
+        → Keeps (W.contents sink.old) (W.contents sink.new)) }
+    ensures prefix { IsErrOf result Fault.Write → (logs : _)
+        → AreBytesOf S.remaining sources.old logs →
+        (text : _) × Answers IsReport logs (Ok text)
+        × AppendsPrefix (W.contents sink.old) (W.contents sink.new) text }
     ensures part { IsErrOf result Fault.Write →
         AnswersDelivered S.reads IsReport sources.old sources.new
         (AppendsPrefix (W.contents sink.old) (W.contents sink.new)) }
 
-    ensures read { (log : _) (source : _) → slice_get sources.new log ≡ Some source → IsErrOf result (Fault.Read log) ↔ (S.has_failed source ≡ true) }
+    ensures read { (log : _) (source : _) → slice_get sources.new log ≡ Some source
+        → IsErrOf result (Fault.Read log) ↔ (S.has_failed source ≡ true) }
     ensures written { IsErrOf result Fault.Write ↔ (W.has_failed sink.new ≡ true) }
 
     ensures taken { EachConsumesUpTo S.remaining sources.old sources.new (max_log_bytes + 1) }
     ensures ended { OnOk result (All (λ s. IsAtEnd (S.remaining s)) sources.new) }
-    ensures no_further { (log : ℕ) → StopsAt result log → drop (log + 1) sources.new ≡ drop (log + 1) sources.old }
+    ensures no_further { (log : ℕ) → StopsAt result log
+        → drop (log + 1) sources.new ≡ drop (log + 1) sources.old }
     ensures too_many { IsErrOf result Fault.TooManyLogs ↔ (MAX_LOGS < length sources.old) }
     ensures none_read { IsErrOf result Fault.TooManyLogs → sources.new ≡ sources.old }
 {
@@ -82,27 +89,34 @@ pub fn show<T: Threads + RandomSource + Sync, S: Source, W: Sink>(
     requires sink { W.has_failed sink.old ≡ false }
 
     ensures text { OnOk result ((logs : _) → AreBytesOf S.remaining sources.old logs →
-        (text : _) × Answers (IsViewed ask) logs (Ok text) × Appends (W.contents sink.old) (W.contents sink.new) text) }
+        (text : _) × Answers (IsViewed ask) logs (Ok text)
+        × Appends (W.contents sink.old) (W.contents sink.new) text) }
     ensures answered { OnOk result (AnswersDelivered S.reads (IsViewed ask) sources.old sources.new
         (Appends (W.contents sink.old) (W.contents sink.new))) }
     ensures flushed { OnOk result (W.is_flushed sink.new ≡ true) }
 
-    ensures refusal { IfErr result (λ fault. (logs : _) → AreBytesOf S.remaining sources.old logs → IsRunFault (IsViewed ask) logs fault) }
+    ensures refusal { IfErr result (λ fault. (logs : _) → AreBytesOf S.remaining sources.old logs
+        → IsRunFault (IsViewed ask) logs fault) }
     ensures refused { IfErr result (λ fault. fault ≢ Fault.Write →
         EndsWithout S.reads S.fails sources.old sources.new fault) }
-    ensures nothing { IfErr result (λ fault. fault ≢ Fault.Write → Keeps (W.contents sink.old) (W.contents sink.new)) }
-    ensures prefix { IsErrOf result Fault.Write → (logs : _) → AreBytesOf S.remaining sources.old logs →
-        (text : _) × Answers (IsViewed ask) logs (Ok text) × AppendsPrefix (W.contents sink.old) (W.contents sink.new) text }
+    ensures nothing { IfErr result (λ fault. fault ≢ Fault.Write
+        → Keeps (W.contents sink.old) (W.contents sink.new)) }
+    ensures prefix { IsErrOf result Fault.Write → (logs : _)
+        → AreBytesOf S.remaining sources.old logs →
+        (text : _) × Answers (IsViewed ask) logs (Ok text)
+        × AppendsPrefix (W.contents sink.old) (W.contents sink.new) text }
     ensures part { IsErrOf result Fault.Write →
         AnswersDelivered S.reads (IsViewed ask) sources.old sources.new
         (AppendsPrefix (W.contents sink.old) (W.contents sink.new)) }
 
-    ensures read { (log : _) (source : _) → slice_get sources.new log ≡ Some source → IsErrOf result (Fault.Read log) ↔ (S.has_failed source ≡ true) }
+    ensures read { (log : _) (source : _) → slice_get sources.new log ≡ Some source
+        → IsErrOf result (Fault.Read log) ↔ (S.has_failed source ≡ true) }
     ensures written { IsErrOf result Fault.Write ↔ (W.has_failed sink.new ≡ true) }
 
     ensures taken { EachConsumesUpTo S.remaining sources.old sources.new (max_log_bytes + 1) }
     ensures ended { OnOk result (All (λ s. IsAtEnd (S.remaining s)) sources.new) }
-    ensures no_further { (log : ℕ) → StopsAt result log → drop (log + 1) sources.new ≡ drop (log + 1) sources.old }
+    ensures no_further { (log : ℕ) → StopsAt result log
+        → drop (log + 1) sources.new ≡ drop (log + 1) sources.old }
     ensures too_many { IsErrOf result Fault.TooManyLogs ↔ (MAX_LOGS < length sources.old) }
     ensures none_read { IsErrOf result Fault.TooManyLogs → sources.new ≡ sources.old }
 {

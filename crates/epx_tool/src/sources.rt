@@ -22,20 +22,24 @@ pub(crate) fn read_sources<S: Source>(
     sources: &mut [S],
 ) -> Result<Vec<Vec<u8>>, Fault>
     requires { All (λ s. S.has_failed s ≡ false) sources.old }
-    ensures bytes { IfOk result (λ v. (logs : _) → AreBytesOf S.remaining sources.old logs → map (λ log. log.items) v.items ≡ logs) }
+    ensures bytes { IfOk result (λ v. (logs : _) → AreBytesOf S.remaining sources.old logs
+        → map (λ log. log.items) v.items ≡ logs) }
     ensures each { IfOk result (λ v. length v.items ≡ length sources.old) }
     ensures delivered { IfOk result (λ v.
         EachDelivers S.reads sources.old sources.new (map (λ log. log.items) v.items)) }
-    ensures refusal { IfErr result (λ fault. (logs : _) → AreBytesOf S.remaining sources.old logs → IsReadingRefusal logs fault) }
+    ensures refusal { IfErr result (λ fault. (logs : _) → AreBytesOf S.remaining sources.old logs
+        → IsReadingRefusal logs fault) }
     ensures stopped { IfErr result (StopsReading S.reads S.fails sources.old sources.new) }
     ensures nothing_written { ¬ IsErrOf result Fault.Write }
-    ensures failed { (log : _) (source : _) → slice_get sources.new log ≡ Some source → IsErrOf result (Fault.Read log) ↔ (S.has_failed source ≡ true) }
+    ensures failed { (log : _) (source : _) → slice_get sources.new log ≡ Some source
+        → IsErrOf result (Fault.Read log) ↔ (S.has_failed source ≡ true) }
     ensures place { (log : ℕ) → StopsAt result log → log < length sources.old }
     ensures fit { IfOk result (λ v. Fits (map (λ log. log.items) v.items)) }
 
     ensures taken { EachConsumesUpTo S.remaining sources.old sources.new (max_log_bytes + 1) }
     ensures ended { OnOk result (All (λ s. IsAtEnd (S.remaining s)) sources.new) }
-    ensures no_further { (log : ℕ) → StopsAt result log → drop (log + 1) sources.new ≡ drop (log + 1) sources.old }
+    ensures no_further { (log : ℕ) → StopsAt result log
+        → drop (log + 1) sources.new ≡ drop (log + 1) sources.old }
     ensures too_many { IsErrOf result Fault.TooManyLogs ↔ (MAX_LOGS < length sources.old) }
     ensures none_read { IsErrOf result Fault.TooManyLogs → sources.new ≡ sources.old }
 {
@@ -64,29 +68,38 @@ pub(crate) fn read_with_input<B: Source, S: Source>(
     requires input { B.has_failed input.old ≡ false }
     requires sources { All (λ s. S.has_failed s ≡ false) sources.old }
 
-    ensures text { IfOk result (λ v. (before : _) → B.remaining input.old ≡ Some before → v.0.items ≡ before) }
-    ensures bytes { IfOk result (λ v. (logs : _) → AreBytesOf S.remaining sources.old logs → map (λ log. log.items) v.1.items ≡ logs) }
+    ensures text { IfOk result (λ v. (before : _) → B.remaining input.old ≡ Some before
+        → v.0.items ≡ before) }
+    ensures bytes { IfOk result (λ v. (logs : _) → AreBytesOf S.remaining sources.old logs
+        → map (λ log. log.items) v.1.items ≡ logs) }
     ensures each { IfOk result (λ v. length v.1.items ≡ length sources.old) }
     ensures short { IfOk result (λ v. IsShort v.0.items) }
     ensures fit { IfOk result (λ v. Fits (map (λ log. log.items) v.1.items)) }
     ensures delivered { IfOk result (λ v. DeliversBoth B.reads S.reads input.old input.new
         sources.old sources.new v.0.items (map (λ log. log.items) v.1.items)) }
-    ensures refusal { IfErr result (λ fault. (before : _) (logs : _) → B.remaining input.old ≡ Some before
+    ensures refusal { IfErr result (λ fault. (before : _) (logs : _)
+        → B.remaining input.old ≡ Some before
         → AreBytesOf S.remaining sources.old logs → IsReadingRefusalWithInput before logs fault) }
     ensures stopped { IfErr result (StopsReadingBoth B.reads B.fails S.reads S.fails
         input.old input.new sources.old sources.new) }
     ensures nothing_written { ¬ IsErrOf result Fault.Write }
-    ensures failed { (log : _) (source : _) → slice_get sources.new log ≡ Some source → IsErrOf result (Fault.Read log) ↔ (S.has_failed source ≡ true) }
-    ensures input_failed { IsErrOf result (Fault.Read (length sources.old)) ↔ (B.has_failed input.new ≡ true) }
+    ensures failed { (log : _) (source : _) → slice_get sources.new log ≡ Some source
+        → IsErrOf result (Fault.Read log) ↔ (S.has_failed source ≡ true) }
+    ensures input_failed { IsErrOf result (Fault.Read (length sources.old))
+        ↔ (B.has_failed input.new ≡ true) }
 
     ensures taken { EachConsumesUpTo S.remaining sources.old sources.new (max_log_bytes + 1) }
-    ensures input_taken { ConsumesUpTo (B.remaining input.old) (B.remaining input.new) (max_log_bytes + 1) }
+    ensures input_taken { ConsumesUpTo (B.remaining input.old) (B.remaining input.new)
+        (max_log_bytes + 1) }
     ensures ended { OnOk result (All (λ s. IsAtEnd (S.remaining s)) sources.new) }
     ensures input_ended { OnOk result (IsAtEnd (B.remaining input.new)) }
-    ensures no_further { (log : ℕ) → StopsAt result log → drop (log + 1) sources.new ≡ drop (log + 1) sources.old }
-    ensures input_untouched { (log : ℕ) → StopsAt result log → log < length sources.old → input.new ≡ input.old }
+    ensures no_further { (log : ℕ) → StopsAt result log
+        → drop (log + 1) sources.new ≡ drop (log + 1) sources.old }
+    ensures input_untouched { (log : ℕ) → StopsAt result log → log < length sources.old
+        → input.new ≡ input.old }
     ensures too_many { IsErrOf result Fault.TooManyLogs ↔ (MAX_LOGS < length sources.old) }
-    ensures none_read { IsErrOf result Fault.TooManyLogs → (sources.new ≡ sources.old) × (input.new ≡ input.old) }
+    ensures none_read { IsErrOf result Fault.TooManyLogs → (sources.new ≡ sources.old)
+        × (input.new ≡ input.old) }
 {
     let logs = match read_sources(alloc, sources) {
         Ok(logs) => logs,

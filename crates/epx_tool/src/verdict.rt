@@ -1,4 +1,5 @@
-//! What is found of logs that are audited, and of a list of instances that is checked: a line of text.
+//! What is found of logs that are audited, and of a list of instances that is checked: a line of
+//! text.
 ghost use Rattle.std.specs.Prelude.{◌≡◌, ◌≢◌, ◌∷◌, [], IfOk, MatchOption, MatchResult};
 ghost use Rattle.serde_json.specs.Data.{string};
 ghost use Rattle.epx_base.specs.ReportLines.{data_of_number, line_of};
@@ -21,7 +22,8 @@ fn bare_line(alloc: Global, name: &str) -> Result<Vec<u8>, AllocError>
 }
 
 fn place_line(alloc: Global, name: &str, place: usize) -> Result<Vec<u8>, AllocError>
-    ensures { IfOk result (λ text. text.items ≡ line_of (string name.now ∷ data_of_number place ∷ [])) }
+    ensures { IfOk result (λ text. text.items
+        ≡ line_of (string name.now ∷ data_of_number place ∷ [])) }
 {
     let mut text = Vec::new(alloc);
     let line = &mut Vec::new(alloc);
@@ -70,7 +72,8 @@ fn pair_line(alloc: Global, pair: (Id, Id)) -> Result<Vec<u8>, AllocError>
 
 /// The line that says what an audit found: no two instances that are not covered, or these.
 pub(crate) fn audit_line(alloc: Global, found: Option<(Id, Id)>) -> Result<Vec<u8>, Memory>
-    ensures { IfOk result (λ text. MatchOption found (text.items ≡ covered_line) (λ pair. text.items ≡ uncovered_line pair.0 pair.1)) }
+    ensures { IfOk result (λ text. MatchOption found (text.items ≡ covered_line)
+        (λ pair. text.items ≡ uncovered_line pair.0 pair.1)) }
 {
     match found {
         None => Ok(bare_line(alloc, "covered")?),
@@ -80,7 +83,8 @@ pub(crate) fn audit_line(alloc: Global, found: Option<(Id, Id)>) -> Result<Vec<u
 
 /// The line that says what is found of a list.
 pub(crate) fn verdict_line(alloc: Global, found: Result<(), OrderFault>) -> Result<Vec<u8>, Memory>
-    ensures { IfOk result (λ text. MatchResult found (λ _. text.items ≡ lawful_text) (λ fault. (fault ≢ OrderFault.Memory) × (text.items ≡ fault_text fault))) }
+    ensures { IfOk result (λ text. MatchResult found (λ _. text.items ≡ lawful_text)
+        (λ fault. (fault ≢ OrderFault.Memory) × (text.items ≡ fault_text fault))) }
 {
     match found {
         Ok(()) => Ok(bare_line(alloc, "lawful")?),

@@ -10,7 +10,8 @@ use std::alloc::Global;
 use std::random::RandomSource;
 use std::thread::Threads;
 
-/// The committed map of the logs, or the first refusal of the logs and of a text beside them that is too long.
+/// The committed map of the logs, or the first refusal of the logs and of a text beside them that
+/// is too long.
 pub(crate) fn merge_before<R: Threads + RandomSource + Sync>(
     rt: &R,
     alloc: Global,
@@ -19,7 +20,8 @@ pub(crate) fn merge_before<R: Threads + RandomSource + Sync>(
     plan: Plan,
 ) -> Result<Merged, Fault>
     ensures { let bytes = map (λ log. log.items) logs.now in
-        MatchResult result (λ m. IsShort input.now × IsAccepted bytes m) (IsRefusalWithInput (λ _ _. ⊥) input.now bytes) }
+        MatchResult result (λ m. IsShort input.now
+        × IsAccepted bytes m) (IsRefusalWithInput (λ _ _. ⊥) input.now bytes) }
 {
     if input.len() <= MAX_LOG_BYTES {
         return read_logs(rt, alloc, logs, plan, &FreeGate);
