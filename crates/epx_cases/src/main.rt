@@ -28,7 +28,9 @@ const INPUT: &str =
     "{\"r\":9,\"i\":0,\"seq\":1,\"deps\":[],\"ops\":[[\"put\",\"a\",5],[\"get\",\"a\"]]}\n";
 
 fn main(rt: HostRuntime) -> io::Result<ExitCode> {
-    run_scripts(&rt)?;
+    if run_scripts(&rt)? {
+        return Ok(ExitCode::SUCCESS);
+    }
 
     for words in word_lists() {
         println!(rt; "== {words:?}")?;

@@ -39,17 +39,23 @@ where
     Ok(())
 }
 
-/// Runs the scripts at the paths that the program is given.
-pub(crate) fn run_scripts<R>(rt: &R) -> io::Result<()>
+/// Runs the scripts at the paths that the program is given, and answers whether the word `--scripts`
+/// is among them, which asks for nothing else.
+pub(crate) fn run_scripts<R>(rt: &R) -> io::Result<bool>
 where
     R: AllocGlobal + Env + Files + Print + Threads + RandomSource + Sync,
 {
+    let mut is_alone = false;
     for path in env::args(rt)?.skip(1) {
+        if path.as_str() == "--scripts" {
+            is_alone = true;
+            continue;
+        }
         println!(rt; "== {path}")?;
         match fs::read_to_string(rt, path.as_str()) {
             Ok(script) => run_script(rt, rt.alloc(), script.as_str())?,
             Err(_) => println!(rt; "the script can not be read")?,
         }
     }
-    Ok(())
+    Ok(is_alone)
 }

@@ -1,5 +1,5 @@
 //! Runs over two logs, and whether what came of them is right.
-use epx_tool::{Ask, MemorySink, MemorySource, run, run_check, run_resume, show};
+use epx_tool::{MemorySink, MemorySource, run};
 use epx_types::{Fault, Place, Plan, Why};
 use std::alloc::{AllocGlobal, Global};
 use std::random::RandomSource;
@@ -66,48 +66,6 @@ pub(crate) fn is_report<R: AllocGlobal + Threads + RandomSource + Sync>(
     let mut sources = [MemorySource::new(first), MemorySource::new(second)];
     let mut sink = MemorySink::new(rt.alloc());
     let outcome = run(rt, rt.alloc(), &mut sources, plan()?, &mut sink);
-    is_right(outcome, sink.bytes(), wanted)
-}
-
-/// Whether the order or the levels of these two logs are the wanted ones.
-pub(crate) fn is_shown<R: AllocGlobal + Threads + RandomSource + Sync>(
-    rt: &R,
-    ask: Ask,
-    first: &[u8],
-    second: &[u8],
-    wanted: Wanted,
-) -> Result<bool, Fail> {
-    let mut sources = [MemorySource::new(first), MemorySource::new(second)];
-    let mut sink = MemorySink::new(rt.alloc());
-    let outcome = show(rt, rt.alloc(), ask, &mut sources, plan()?, &mut sink);
-    is_right(outcome, sink.bytes(), wanted)
-}
-
-/// Whether the report that goes on from this base over one log is the wanted one.
-pub(crate) fn is_resumed<R: AllocGlobal + Threads + RandomSource + Sync>(
-    rt: &R,
-    base: &str,
-    log: &str,
-    wanted: Wanted,
-) -> Result<bool, Fail> {
-    let mut base = MemorySource::new(base.as_bytes());
-    let mut sources = [MemorySource::new(log.as_bytes())];
-    let mut sink = MemorySink::new(rt.alloc());
-    let outcome = run_resume(rt, rt.alloc(), &mut base, &mut sources, plan()?, &mut sink);
-    is_right(outcome, sink.bytes(), wanted)
-}
-
-/// Whether what is found of this list over one log is what is wanted.
-pub(crate) fn is_checked<R: AllocGlobal + Threads + RandomSource + Sync>(
-    rt: &R,
-    list: &str,
-    log: &str,
-    wanted: Wanted,
-) -> Result<bool, Fail> {
-    let mut list = MemorySource::new(list.as_bytes());
-    let mut sources = [MemorySource::new(log.as_bytes())];
-    let mut sink = MemorySink::new(rt.alloc());
-    let outcome = run_check(rt, rt.alloc(), &mut list, &mut sources, plan()?, &mut sink);
     is_right(outcome, sink.bytes(), wanted)
 }
 

@@ -1,6 +1,5 @@
-//! Whole runs over hostile bytes, over devices that fail, and where memory is refused: what comes
-//! of them is the answer, or the fault that the formats state. Tests alone, so that no library is
-//! proved again for them.
+//! Whole runs over hostile bytes and over devices that fail: what comes of them is the answer, or the
+//! fault that the formats state. Tests alone, so that no library is proved again for them.
 #![tactic(auto)]
 
 #[cfg(test)]
@@ -9,5 +8,3 @@ mod bytes;
 mod devices;
 #[cfg(test)]
 mod given;
-#[cfg(test)]
-mod refusals;
