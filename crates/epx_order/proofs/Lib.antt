@@ -21,3 +21,14 @@ pub mod LinkedMaps
 pub mod LinkedNodes
 pub mod UncoveredExists
 pub mod ListFaults
+pub mod HashLists
+pub mod DoubtfulConflicts
+pub mod BitLemmas
+pub mod ReachedBits
+pub mod SourceLemmas
+pub mod DoubtfulTouches
+pub mod SharingBits
+pub mod SourceLists
+pub mod SourceWords
+pub mod TargetBits
+pub mod BatchLemmas

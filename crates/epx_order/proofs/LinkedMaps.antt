@@ -18,20 +18,20 @@ use Rattle.epx_graph.specs.NodePaths.{NodeReaches}
 use Rattle.epx_graph.proofs.MapPaths.{committed_count, node_reaches}
 use Rattle.epx_order.specs.declared.touches.Touch.{Touch}
 use Rattle.epx_order.specs.Links.{touch_at, AreLinked}
-use Rattle.epx_order.specs.Touches.{touch, touches_of, HoldTouches}
+use Rattle.epx_order.specs.Touches.{touch, HoldTouches}
 use Rattle.epx_order.specs.Ways.{AreNodesOf}
 use Rattle.epx_components.proofs.ReadyRanks.{node_of_place}
 use Rattle.epx_order.proofs.TouchLemmas.{touch_of_touched, touch_of_written}
 
 module _ (m : List Instance) (g : DependencyGraph) (is : IsGraphOf m g) (order : List Ranked) (orders : IsExecutionOrder m order) (nodes : List ℕ) (are : AreNodesOf m order nodes) where
   -- where a ready instance stands in the order
-  record Stands (d : Instance) : Type 0 where
-    place : ℕ
-    within : place < length nodes
-    at : slice_get m (get_or nodes place 0) ≡ Some d
-    node : slice_get g.ids (get_or nodes place 0) ≡ Some d.id
+  pub record Stands (d : Instance) : Type 0 where
+    pub place : ℕ
+    pub within : place < length nodes
+    pub at : slice_get m (get_or nodes place 0) ≡ Some d
+    pub node : slice_get g.ids (get_or nodes place 0) ≡ Some d.id
 
-  stands : (d : Instance) → Contains m d → IsReady m d.id → Stands d
+  pub stands : (d : Instance) → Contains m d → IsReady m d.id → Stands d
   stands d in_d ready =
       let p = slice_get-from_Contains (ranked_ids order) d.id (orders.whole d.id ready) in
       let r = slice_get-from_map (λ (r : Ranked). r.id) order p.0 d.id p.1 in
@@ -47,22 +47,20 @@ module _ (m : List Instance) (g : DependencyGraph) (is : IsGraphOf m g) (order :
         node = node_of_place m g is k d at (omega (arith, slice_get_within m k d at, committed_count m g is));
       }
 
-  module _ (start : DefaultHasher) (touches : List Touch) (hold : HoldTouches start m nodes (length nodes) touches) (linked : AreLinked (edges_of g) nodes touches (length touches)) where
-    -- where a touch of a command stands
-    index_of : (d : Instance) (s : Stands d) (t : Touch) → Contains (touches_of start s.place d.ops) t → (i : ℕ) × (i < length touches) × (touch_at touches i ≡ t)
-    index_of d s t h =
-        let found = hold s.place d t s.within s.at h in
-        (found.0, found.1, get_or_default touches found.0 _ t found.1 ∙ found.2)
+  module _ (start : DefaultHasher) (touches : List Touch) (linked : AreLinked (edges_of g) nodes touches (length touches)) where
+    -- where a touch stands
+    index_of : (t : Touch) → Contains touches t → (i : ℕ) × (i < length touches) × (touch_at touches i ≡ t)
+    index_of t found = (found.0, found.1, get_or_default touches found.0 _ t found.1 ∙ found.2)
 
     -- the command at a place reaches that at another
     abbrev Reach : ℕ → ℕ → Type 0
     Reach p q = NodeReaches (edges_of g) (get_or nodes p 0) (get_or nodes q 0)
 
     -- touches of one key, of which one writes, are of related commands
-    related : (d e : Instance) (s : Stands d) (t : Stands e) → d.id ≢ e.id → (k : List ℕ) (w v : Bool) → Contains (touches_of start s.place d.ops) (touch start s.place k w) → Contains (touches_of start t.place e.ops) (touch start t.place k v) → IsTrue w ⊎ IsTrue v → Reaches m d.id e.id ⊎ Reaches m e.id d.id
+    pub related : (d e : Instance) (s : Stands d) (t : Stands e) → d.id ≢ e.id → (k : List ℕ) (w v : Bool) → Contains touches (touch start s.place k w) → Contains touches (touch start t.place k v) → IsTrue w ⊎ IsTrue v → Reaches m d.id e.id ⊎ Reaches m e.id d.id
     related d e s t differ k w v touched touched' one =
-        let i = index_of d s (touch start s.place k w) touched in
-        let j = index_of e t (touch start t.place k v) touched' in
+        let i = index_of (touch start s.place k w) touched in
+        let j = index_of (touch start t.place k v) touched' in
         let place_i : (touch_at touches i.0).place ≡ s.place = ap (λ (t : Touch). t.place) i.2 in
         let place_j : (touch_at touches j.0).place ≡ t.place = ap (λ (t : Touch). t.place) j.2 in
         let alike : (touch_at touches i.0).hash ≡ (touch_at touches j.0).hash = ap (λ (t : Touch). t.hash) i.2 ∙ sym (ap (λ (t : Touch). t.hash) j.2) in
@@ -84,16 +82,16 @@ module _ (m : List Instance) (g : DependencyGraph) (is : IsGraphOf m g) (order :
           ]
         ]
 
-    pub covered_from_links : IsCovered m
-    covered_from_links d e in_d in_e differ d_ready e_ready conflict =
+    pub covered_from_links : HoldTouches start m nodes (length nodes) touches → IsCovered m
+    covered_from_links hold d e in_d in_e differ d_ready e_ready conflict =
         let s = stands d in_d d_ready in
         let t = stands e in_e e_ready in
         let k = conflict.0 in
         elim conflict.1 [
           | inl first ↦
               let other = touch_of_touched start t.place e.ops k first.1 in
-              related d e s t differ k true other.0 (touch_of_written start s.place d.ops k first.0) other.1 (inl refl)
+              related d e s t differ k true other.0 (hold s.place d _ s.within s.at (touch_of_written start s.place d.ops k first.0)) (hold t.place e _ t.within t.at other.1) (inl refl)
           | inr second ↦
               let other = touch_of_touched start s.place d.ops k second.0 in
-              related d e s t differ k other.0 true other.1 (touch_of_written start t.place e.ops k second.1) (inr refl)
+              related d e s t differ k other.0 true (hold s.place d _ s.within s.at other.1) (hold t.place e _ t.within t.at (touch_of_written start t.place e.ops k second.1)) (inr refl)
         ]

@@ -15,23 +15,21 @@ pub record AreReached (edges : ℕ → List ℕ) (p : Parts) (root : ℕ) (marks
   pub edge : (q j : ℕ) → n ≤ q → q < length p.order → Contains (edges (node_at p q)) j → IsTrue (mark_for p marks (node_at p q)) → IsTrue (mark_for p marks j)
 
 module _ (edges : ℕ → List ℕ) (p : Parts) (is : IsPartition edges p) (root : ℕ) where
-  pub reached_first : root < length p.component → component_of p root < p.count → AreReached edges p root (set (replicate p.count false) (component_of p root) true) (length p.order)
-  reached_first l in' = record {
-    reason = λ k lk h. elim (at k) [
-      | inl here ↦ is.joined root k l lk (sym here.0)
-      | inr there ↦ let none = no_mark (component_of p k) in absurd (false≢true (sym none ∙ (sym there.1 ∙ h)))
-    ];
-    itself = elim (at root) [ inl here ↦ here.1 | inr there ↦ absurd (there.0 refl) ];
+  -- the component of the root alone is marked
+  pub reached_from : (marks : List Bool) → root < length p.component → ((c : ℕ) → IsTrue (get_or marks c false) ↔ (component_of p root ≡ c)) → AreReached edges p root marks (length p.order)
+  reached_from marks l own = record {
+    reason = λ k lk h. is.joined root k l lk ((own (component_of p k)).0 h);
+    itself = (own (component_of p root)).1 refl;
     edge = λ q j le lt. absurd (omega arith);
-  } where
-    no_mark : (c : ℕ) → ◌≡◌ {A = Bool} (get_or (replicate p.count false) c false) false
-    no_mark c = elim (cases_lt c p.count) [
-      | inl below ↦ get_or-replicate p.count c false false below
-      | inr past ↦ get_or_past (replicate p.count false) c false (omega (arith, length-replicate {A = Bool} p.count false))
-    ]
+  }
 
-    at : (k : ℕ) → ((component_of p k ≡ component_of p root) × (mark_for p (set (replicate p.count false) (component_of p root) true) k ≡ true)) ⊎ ((component_of p k ≢ component_of p root) × (mark_for p (set (replicate p.count false) (component_of p root) true) k ≡ mark_for p (replicate p.count false) k))
-    at = set_for false p (replicate p.count false) root true (omega (arith, length-replicate {A = Bool} p.count false))
+  -- marks that agree
+  pub reached_same : (marks new : List Bool) (n : ℕ) → ((c : ℕ) → IsTrue (get_or new c false) ↔ IsTrue (get_or marks c false)) → AreReached edges p root marks n → AreReached edges p root new n
+  reached_same marks new n same old = record {
+    reason = λ k lk h. old.reason k lk ((same (component_of p k)).0 h);
+    itself = (same (component_of p root)).1 old.itself;
+    edge = λ q j le lt h was. (same (component_of p j)).1 (old.edge q j le lt h ((same (component_of p (node_at p q))).0 was));
+  }
 
   pub reached_skip : (marks : List Bool) (n : ℕ) → ¬ IsTrue (mark_for p marks (node_at p n)) → AreReached edges p root marks (n + 1) → AreReached edges p root marks n
   reached_skip marks n unmarked old = record {

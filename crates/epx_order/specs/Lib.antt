@@ -11,3 +11,7 @@ pub mod UncoveredLaws
 pub mod Touches
 pub mod Ways
 pub mod Links
+pub mod SourceBits
+pub mod DoubtfulKeys
+pub mod Batches
+pub mod Sources

@@ -33,7 +33,3 @@ pub record IsPartner (m : List Instance) (edges : ℕ → List ℕ) (ready : Lis
   pub above : k < j
   pub unsettled : IsUnsettled m edges ready k j
   pub least : (i : ℕ) → k < i → i < j → IsSettled m edges ready k i
-
--- a ready node that a node neither reaches nor is reached from, by the marks of the components
-abbrev pub IsApart : List ℕ → List Bool → List Bool → List Bool → ℕ → Type 0
-IsApart component ready reached reaching j = IsTrue (is_marked ready j) × (¬ IsTrue (is_marked reached (slice_index component j))) × (¬ IsTrue (is_marked reaching (slice_index component j)))

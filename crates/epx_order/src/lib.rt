@@ -3,9 +3,10 @@
 //! conflict are related, so that all these orders have the same replies and the same store.
 #![tactic(auto)]
 
-mod auditing;
+mod batch;
 mod check;
 mod conflicts;
+mod doubtful_touches;
 mod ends;
 pub mod laws;
 mod linking;
@@ -15,15 +16,18 @@ mod order_list;
 mod rank;
 mod ready;
 mod related;
+mod sharing_marks;
 mod sorting;
+mod source_marks;
 mod touches;
 mod turn;
+mod uncovered_pair;
 mod walk;
 mod ways;
 
-pub use auditing::audit;
 pub use check::check_order;
 pub use epx_components::{ComponentMap, components};
 pub use order_fault::OrderFault;
 pub use order_list::OrderList;
 pub use sorting::order;
+pub use uncovered_pair::audit;

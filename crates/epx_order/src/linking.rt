@@ -43,7 +43,11 @@ pub(crate) fn is_seen_covered(
 }
 
 /// The node at each place of an order.
-fn order_nodes(alloc: Global, merged: &Merged, order: &OrderList) -> Result<Vec<usize>, Memory>
+pub(crate) fn order_nodes(
+    alloc: Global,
+    merged: &Merged,
+    order: &OrderList,
+) -> Result<Vec<usize>, Memory>
     requires rising { IsRising (ids_of merged.now) }
     requires order { IsExecutionOrder merged.now order.now }
     ensures { IfOk result (λ nodes. AreNodesOf merged.now order.now nodes.items) }
@@ -69,7 +73,12 @@ fn node_of(merged: &Merged, id: Id) -> usize
 
 /// Whether, of any two touches of one hash of which one writes, the later one is seen to reach the
 /// earlier one.
-fn are_linked(alloc: Global, graph: &Graph, ways: &Ways, touches: &[Touch]) -> Result<bool, Memory>
+pub(crate) fn are_linked(
+    alloc: Global,
+    graph: &Graph,
+    ways: &Ways,
+    touches: &[Touch],
+) -> Result<bool, Memory>
     requires ways { IsWays graph.now ways.now }
     requires placed { ArePlaced (length ways.now.nodes.items) touches.now }
     ensures { IfOk result (λ yes. IsTrue yes → AreLinked (edges_of graph.now) ways.now.nodes.items touches.now (length touches.now)) }
@@ -86,10 +95,11 @@ fn are_linked(alloc: Global, graph: &Graph, ways: &Ways, touches: &[Touch]) -> R
 }
 
 /// Where the last touch that writes stands, or the first one of the hash.
-fn next_since(touches: &[Touch], since: usize, index: usize) -> usize
+pub(crate) fn next_since(touches: &[Touch], since: usize, index: usize) -> usize
     requires since { since ≤ index }
     requires index { index < length touches.now }
-    ensures { IsNextSince touches.now since index result }
+    ensures within { result ≤ index }
+    ensures next { IsNextSince touches.now since index result }
 {
     if touches[index].writes || touches[index].hash != touches[since].hash {
         index
@@ -99,7 +109,7 @@ fn next_since(touches: &[Touch], since: usize, index: usize) -> usize
 }
 
 /// Whether a touch stands in order, and is seen to reach those before it that it has to.
-fn is_following(
+pub(crate) fn is_following(
     walk: &mut Walk,
     graph: &Graph,
     ways: &Ways,

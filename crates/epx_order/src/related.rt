@@ -1,85 +1,96 @@
-//! The components that a node reaches, and those that reach it.
-ghost use Rattle.std.specs.Prelude.{◌≡◌, ◌↔◌, ◌⊎◌, ℕ, ◌<◌, length, slice_index, slice_index_or, false, All, IsTrue, IfOk};
+//! The components that sources reach, and those that reach them.
+ghost use Rattle.std.specs.Prelude.{◌≡◌, ◌↔◌, ◌⊎◌, ℕ, ◌<◌, ◌≤◌, length, map, slice_index, All, IsTrue, IfOk};
 ghost use Rattle.epx_graph.specs.Graphs.{edges_of};
-ghost use Rattle.epx_graph.specs.NodePaths.{NodeReaches};
-ghost use Rattle.epx_components.specs.Partitions.{parts, mark_for, IsPartitionOf};
-ghost use Rattle.epx_components.specs.Targets.{LeadsToMarked};
+ghost use Rattle.epx_components.specs.Partitions.{parts, IsPartitionOf};
+ghost use Rattle.epx_order.specs.Batches.{AreReachedBy, AreReaching};
+ghost use Rattle.epx_order.specs.SourceBits.{has_bit, AreSourceMarks, LeadsToBit};
 
-use epx_components::{Partition, any_marked};
+use crate::source_marks::source_marks;
+use epx_components::Partition;
 use epx_graph::Graph;
 use epx_types::Memory;
 use std::alloc::Global;
 
-/// Whether each component is reached from a node.
+/// The sources that reach each component.
 pub(crate) fn find_reached(
     alloc: Global,
     graph: &Graph,
     partition: &Partition,
-    root: usize,
-) -> Result<Vec<bool>, Memory>
+    sources: &[usize],
+) -> Result<Vec<u64>, Memory>
     requires partition { IsPartitionOf graph.now (parts partition.now) }
-    requires root { root < length graph.now.ids }
-    ensures len { IfOk result (λ marks. length marks.items ≡ (parts partition.now).count) }
-    ensures each { IfOk result (λ marks. (k : ℕ) → k < length graph.now.ids → IsTrue (mark_for (parts partition.now) marks.items k) ↔ NodeReaches (edges_of graph.now) root k) }
+    requires few { length sources.now ≤ 64 }
+    requires sources { All (λ k. k < length graph.now.ids) sources.now }
+    ensures len { IfOk result (λ words. length words.items ≡ (parts partition.now).count) }
+    ensures reached { IfOk result (λ words. AreReachedBy graph.now (parts partition.now) sources.now words.items) }
 {
-    let mut marks = vec![in alloc; false; partition.count]?;
-    marks[partition.component[root]] = true;
-    for place in (0..partition.order.len()).rev() {
-        let node = partition.order[place];
-        if marks[partition.component[node]] {
-            mark_targets(graph.edges(node), &partition.component, &mut marks);
+    let homes = components_of(alloc, &partition.component, sources)?;
+    let mut words = source_marks(alloc, partition.count, &homes)?;
+    for position in (0..partition.order.len()).rev() {
+        let node = partition.order[position];
+        let word = words[partition.component[node]];
+        if word != 0 {
+            mark_targets(graph.edges(node), &partition.component, &mut words, word);
         }
     }
-    Ok(marks)
+    Ok(words)
 }
 
-/// Marks the components that edges lead to.
-fn mark_targets(targets: &[usize], component: &[usize], marks: &mut [bool])
+/// The component of each of some nodes.
+fn components_of(alloc: Global, component: &[usize], nodes: &[usize]) -> Result<Vec<usize>, Memory>
+    requires { All (λ k. k < length component.now) nodes.now }
+    ensures { IfOk result (λ homes. homes.items ≡ map (λ k. slice_index component.now k) nodes.now) }
+{
+    let mut homes = Vec::with_capacity(alloc, nodes.len())?;
+    for node in nodes {
+        homes.push(component[*node])?;
+    }
+    Ok(homes)
+}
+
+/// Adds sources to the components that edges lead to.
+fn mark_targets(targets: &[usize], component: &[usize], words: &mut [u64], word: u64)
     requires targets { All (λ j. j < length component.now) targets.now }
-    requires counted { All (λ c. c < length marks.old) component.now }
-    ensures len { length marks.new ≡ length marks.old }
-    ensures marks { (c : ℕ) → IsTrue (slice_index_or marks.new c false) ↔ (IsTrue (slice_index_or marks.old c false) ⊎ ((i : ℕ) × (i < length targets.now) × (slice_index component.now (slice_index targets.now i) ≡ c))) }
+    requires counted { All (λ c. c < length words.old) component.now }
+    ensures len { length words.new ≡ length words.old }
+    ensures marks { (b c : ℕ) → IsTrue (has_bit b (slice_index words.new c)) ↔ (IsTrue (has_bit b (slice_index words.old c)) ⊎ (IsTrue (has_bit b word) × (i : ℕ) × (i < length targets.now) × (slice_index component.now (slice_index targets.now i) ≡ c))) }
 {
     for target in targets {
-        marks[component[*target]] = true;
+        words[component[*target]] |= word;
     }
 }
 
-/// Whether each component reaches a node.
+/// The sources that each component reaches. `own` has those at each node.
 pub(crate) fn find_reaching(
     alloc: Global,
     graph: &Graph,
     partition: &Partition,
-    root: usize,
-) -> Result<Vec<bool>, Memory>
-    requires { IsPartitionOf graph.now (parts partition.now) }
-    ensures len { IfOk result (λ marks. length marks.items ≡ (parts partition.now).count) }
-    ensures each { IfOk result (λ marks. (k : ℕ) → k < length graph.now.ids → IsTrue (mark_for (parts partition.now) marks.items k) ↔ NodeReaches (edges_of graph.now) k root) }
+    sources: &[usize],
+    own: &[u64],
+) -> Result<Vec<u64>, Memory>
+    requires partition { IsPartitionOf graph.now (parts partition.now) }
+    requires len { length own.now ≡ length graph.now.ids }
+    requires own { AreSourceMarks sources.now own.now }
+    ensures len { IfOk result (λ words. length words.items ≡ (parts partition.now).count) }
+    ensures reaching { IfOk result (λ words. AreReaching graph.now (parts partition.now) sources.now words.items) }
 {
-    let mut marks = vec![in alloc; false; partition.count]?;
+    let mut words = vec![in alloc; 0; partition.count]?;
     for node in &partition.order {
-        if leads_to_root(graph, *node, root, &partition.component, &marks) {
-            marks[partition.component[*node]] = true;
-        }
+        let over = marks_over(graph.edges(*node), &partition.component, &words);
+        words[partition.component[*node]] |= own[*node] | over;
     }
-    Ok(marks)
+    Ok(words)
 }
 
-/// Whether a node is the root or has an edge to a component that is marked.
-fn leads_to_root(
-    graph: &Graph,
-    node: usize,
-    root: usize,
-    component: &[usize],
-    marks: &[bool],
-) -> bool
-    requires node { node < length graph.now.ids }
-    requires targets { All (λ j. j < length component.now) (edges_of graph.now node) }
-    requires counted { All (λ c. c < length marks.now) component.now }
-    ensures { IsTrue result ↔ ((node ≡ root) ⊎ LeadsToMarked component.now marks.now (edges_of graph.now node)) }
+/// The sources of the components that edges lead to.
+fn marks_over(targets: &[usize], component: &[usize], words: &[u64]) -> u64
+    requires targets { All (λ j. j < length component.now) targets.now }
+    requires counted { All (λ c. c < length words.now) component.now }
+    ensures { (b : ℕ) → IsTrue (has_bit b result) ↔ LeadsToBit component.now words.now targets.now b }
 {
-    if node == root {
-        return true;
+    let mut over = 0;
+    for target in targets {
+        over |= words[component[*target]];
     }
-    any_marked(graph.edges(node), component, marks)
+    over
 }

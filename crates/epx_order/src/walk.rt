@@ -9,6 +9,9 @@ use epx_graph::Graph;
 use epx_types::Memory;
 use std::alloc::Global;
 
+/// How many searches over all nodes the searches of one look may come to.
+const SEARCHES: usize = 64;
+
 /// What searches share, so that none begins by clearing a table.
 #[derive(Debug, Drop)]
 pub(crate) struct Walk {
@@ -18,6 +21,8 @@ pub(crate) struct Walk {
     search: usize,
     /// Nodes of which the edges have to be looked at.
     opened: Vec<usize>,
+    /// How many nodes may still be opened, by all searches. After that none finds anything.
+    left: usize,
 }
 
 impl Walk {
@@ -28,6 +33,7 @@ impl Walk {
             seen: vec![in alloc; 0; nodes]?,
             search: 0,
             opened: Vec::new(alloc),
+            left: nodes.saturating_mul(SEARCHES),
         })
     }
 
@@ -76,6 +82,10 @@ impl Walk {
             let Some(node) = self.opened.pop() else {
                 return Ok(false);
             };
+            if self.left == 0 {
+                return Ok(false);
+            }
+            self.left -= 1;
             if self.look(graph, ways, node, place)? {
                 return Ok(true);
             }

@@ -37,4 +37,4 @@ returns c = IfOk-weaker c.are_linked.result
     let hold = subst (λ ns. HoldTouches start m ns (length ns) touches) c.deref.ensures.value c.in_ok-touches.ensures.whole in
     let on = subst (λ ts. AreLinked (edges_of g) ways ts (length ts)) c.deref-2.ensures.value (linked sure) in
     let all = subst (λ ns. AreLinked (edges_of g) ns touches (length touches)) c.in_ok-ways.ensures.nodes on in
-    covered_from_links m g c.requires.graph c.args.order.now c.requires.order nodes c.in_ok-nodes.ensures start touches hold all) c.are_linked.ensures
+    covered_from_links m g c.requires.graph c.args.order.now c.requires.order nodes c.in_ok-nodes.ensures start touches all hold) c.are_linked.ensures

@@ -1,0 +1,168 @@
+//! The keys that a quick audit leaves open.
+ghost use Rattle.std.specs.Prelude.{◌≡◌, ℕ, ◌-◌, ◌<◌, length, slice_index, true, Contains, IsTrue, IfOk, MatchOption};
+ghost use Rattle.std.specs.List.Sorted.{IsStrictlyIncreasing};
+ghost use Rattle.epx_types.specs.ExecutionOrder.{IsExecutionOrder};
+ghost use Rattle.epx_graph.specs.GraphOf.{IsGraphOf};
+ghost use Rattle.epx_order.specs.declared.doubtful_touches.DoubtfulTouch.{DoubtfulTouch};
+ghost use Rattle.epx_order.specs.declared.touches.Touch.{Touch};
+ghost use Rattle.epx_order.specs.DoubtfulKeys.{doubtful_touch, AreDoubtful, AreInRange};
+ghost use Rattle.epx_order.specs.Touches.{ArePlaced};
+ghost use Rattle.epx_order.specs.Ways.{IsWays};
+
+use crate::linking::{are_linked, is_following, next_since, order_nodes};
+use crate::order_list::OrderList;
+use crate::touches::{Touch, find_touches};
+use crate::walk::Walk;
+use crate::ways::Ways;
+use epx_graph::Graph;
+use epx_merge::Merged;
+use epx_types::Memory;
+use std::alloc::Global;
+use std::hash::DefaultHasher;
+
+/// A doubtful key that a command touches.
+#[derive(Clone, Copy, Debug)]
+pub(crate) struct DoubtfulTouch {
+    /// The number of the key.
+    pub(crate) key: usize,
+    pub(crate) node: usize,
+    pub(crate) writes: bool,
+}
+
+/// The touches of the keys that are doubtful: those of which the touches are not all seen to be
+/// related.
+#[derive(Debug, Drop)]
+pub(crate) struct DoubtfulTouches {
+    /// How many keys there are.
+    pub(crate) keys: usize,
+    pub(crate) touches: Vec<DoubtfulTouch>,
+}
+
+pub(crate) fn find_doubtful(
+    alloc: Global,
+    merged: &Merged,
+    graph: &Graph,
+    order: &OrderList,
+    start: DefaultHasher,
+) -> Result<DoubtfulTouches, Memory>
+    requires graph { IsGraphOf merged.now graph.now }
+    requires order { IsExecutionOrder merged.now order.now }
+    ensures { IfOk result (λ doubtful. AreDoubtful merged.now graph.now doubtful.keys doubtful.touches.items) }
+{
+    let nodes = order_nodes(alloc, merged, order)?;
+    let touches = find_touches(alloc, merged, &nodes, start)?;
+    let ways = Ways::of(alloc, graph, order, nodes)?;
+    let hashes = doubtful_hashes(alloc, graph, &ways, &touches)?;
+    let sure = sure_touches(alloc, &touches, &hashes)?;
+    // No contract says that the other keys are in order: they are asked again.
+    if !are_linked(alloc, graph, &ways, &sure)? {
+        let one = one_key(alloc, merged.len())?;
+        return Ok(one);
+    }
+    let touches = doubtful_touches(alloc, &ways.nodes, &touches, &hashes)?;
+    Ok(DoubtfulTouches {
+        keys: hashes.len(),
+        touches,
+    })
+}
+
+/// The hashes of which the touches are not all seen to be related.
+fn doubtful_hashes(
+    alloc: Global,
+    graph: &Graph,
+    ways: &Ways,
+    touches: &[Touch],
+) -> Result<Vec<u64>, Memory>
+    requires ways { IsWays graph.now ways.now }
+    requires placed { ArePlaced (length ways.now.nodes.items) touches.now }
+    ensures { IfOk result (λ hashes. IsStrictlyIncreasing hashes.items) }
+{
+    let mut walk = Walk::new(alloc, graph.len())?;
+    let mut hashes = Vec::new(alloc);
+    let mut since = 0;
+    for index in 0..touches.len() {
+        let hash = touches[index].hash;
+        if is_new(&hashes, hash) && !is_following(&mut walk, graph, ways, touches, since, index)? {
+            hashes.push(hash)?;
+        }
+        since = next_since(touches, since, index);
+    }
+    Ok(hashes)
+}
+
+/// Whether a hash is above all of some that rise.
+fn is_new(hashes: &[u64], hash: u64) -> bool
+    ensures { IsTrue result → 0 < length hashes.now → slice_index hashes.now (length hashes.now - 1) < hash }
+{
+    match hashes.last() {
+        Some(last) => *last < hash,
+        None => true,
+    }
+}
+
+/// The number of a hash among the doubtful ones.
+fn key_of(hashes: &[u64], hash: u64) -> Option<usize>
+    requires { IsStrictlyIncreasing hashes.now }
+    ensures { MatchOption result (¬ Contains hashes.now hash) (λ key. (key < length hashes.now) × (slice_index hashes.now key ≡ hash)) }
+{
+    match hashes.binary_search(&hash) {
+        Ok(key) => Some(key),
+        Err(_) => None,
+    }
+}
+
+/// The touches of all other hashes.
+fn sure_touches(alloc: Global, touches: &[Touch], hashes: &[u64]) -> Result<Vec<Touch>, Memory>
+    requires { IsStrictlyIncreasing hashes.now }
+    ensures some { IfOk result (λ sure. (t : Touch) → Contains sure.items t → Contains touches.now t) }
+    ensures all { IfOk result (λ sure. (t : Touch) → Contains touches.now t → ¬ Contains hashes.now t.hash → Contains sure.items t) }
+{
+    let mut sure = Vec::new(alloc);
+    for touch in touches {
+        if key_of(hashes, touch.hash).is_none() {
+            sure.push(*touch)?;
+        }
+    }
+    Ok(sure)
+}
+
+/// The touches of these hashes.
+fn doubtful_touches(
+    alloc: Global,
+    nodes: &[usize],
+    touches: &[Touch],
+    hashes: &[u64],
+) -> Result<Vec<DoubtfulTouch>, Memory>
+    requires placed { ArePlaced (length nodes.now) touches.now }
+    requires hashes { IsStrictlyIncreasing hashes.now }
+    ensures in_range { IfOk result (λ found. (t : DoubtfulTouch) → Contains found.items t → Contains nodes.now t.node × (t.key < length hashes.now)) }
+    ensures whole { IfOk result (λ found. (t : Touch) (key : ℕ) → Contains touches.now t → key < length hashes.now → slice_index hashes.now key ≡ t.hash → Contains found.items (doubtful_touch nodes.now key t)) }
+{
+    let mut found = Vec::new(alloc);
+    for touch in touches {
+        if let Some(key) = key_of(hashes, touch.hash) {
+            found.push(DoubtfulTouch {
+                key,
+                node: nodes[touch.place],
+                writes: touch.writes,
+            })?;
+        }
+    }
+    Ok(found)
+}
+
+/// A key that every node writes: then each two nodes share one.
+fn one_key(alloc: Global, nodes: usize) -> Result<DoubtfulTouches, Memory>
+    ensures in_range { IfOk result (λ one. AreInRange nodes one.keys one.touches.items) }
+    ensures whole { IfOk result (λ one. (k : ℕ) → k < nodes → Contains one.touches.items (record { key = 0; node = k; writes = true })) }
+{
+    let mut touches = Vec::with_capacity(alloc, nodes)?;
+    for node in 0..nodes {
+        touches.push(DoubtfulTouch {
+            key: 0,
+            node,
+            writes: true,
+        })?;
+    }
+    Ok(DoubtfulTouches { keys: 1, touches })
+}
