@@ -208,3 +208,8 @@ fn reads_follow_writes(rt: HostRuntime) -> Result<(), Fail> {
     let members: [&[usize]; 3] = [&[0, 1], &[2], &[3]];
     expect_levels(&rt, rt.alloc(), &texts, &[0, 0, 1, 2], &members)
 }
+
+#[test]
+fn no_commands_have_no_levels(rt: HostRuntime) -> Result<(), Fail> {
+    expect_levels(&rt, rt.alloc(), &[], &[], &[])
+}

@@ -138,6 +138,13 @@ fn command_reads_its_own_writes(rt: HostRuntime) -> Result<(), Fail> {
     Ok(())
 }
 
+#[test]
+fn command_reads_its_own_removals(rt: HostRuntime) -> Result<(), Fail> {
+    let key = key(&rt, rt.alloc(), "a")?;
+    have_effect_on_a(&rt, rt.alloc(), Op::Del { key }, None)?;
+    Ok(())
+}
+
 /// A put of b, and a test of a that fails.
 fn put_and_fail(rt: &impl Abort, alloc: Global) -> Result<[Op; 2], Memory> {
     let put = Op::Put {

@@ -44,6 +44,18 @@ fn one_instance(rt: HostRuntime) -> Result<(), Fail> {
 }
 
 #[test]
+fn dependency_sets_agree(rt: HostRuntime) -> Result<(), Fail> {
+    let first = r#"{"r":2,"i":0,"seq":2,"deps":[[1,0],[0,0]],"ops":[]}"#;
+    let second = r#"{"r":2,"i":0,"seq":2,"deps":[[0,0],[1,0],[1,0]],"ops":[]}"#;
+    let merged = merged_of(&rt, rt.alloc(), &logs_of(rt.alloc(), &[first, second])?)?;
+    assert!(rt; merged.len() == 1);
+    let wanted: &[Id] = &[id(0, 0), id(1, 0)];
+    assert!(rt; merged.get(id(2, 0)).map(|entry| entry.deps()) == Some(wanted));
+    expect_position(&rt, &merged, id(0, 0), None);
+    Ok(())
+}
+
+#[test]
 fn instances_stand_by_rising_id(rt: HostRuntime) -> Result<(), Fail> {
     let logs = logs_of(rt.alloc(), &[A, LESS_TURNED, LESS])?;
     let merged = merged_of(&rt, rt.alloc(), &logs)?;

@@ -1,6 +1,6 @@
-//! Ids, keys, entries, plans and replies: orders and limits.
+//! Ids, keys, entries, plans, replies and a fault: orders, limits and texts.
 use crate::given::id;
-use epx_types::{Entry, Id, Key, Memory, Op, Place, Plan, Reply, Values};
+use epx_types::{Entry, Fault, Id, Key, Memory, Op, Place, Plan, Reply, Values};
 use std::alloc::Global;
 use std::process::Abort;
 use std::test::Fail;
@@ -8,6 +8,15 @@ use std::test::Fail;
 const FIRST: Place = Place { log: 0, line: 12 };
 
 const SECOND: Place = Place { log: 63, line: 1 };
+
+#[test]
+fn a_fault_has_a_number_a_status_and_a_text(rt: HostRuntime) -> Result<(), Fail> {
+    let fault = Fault::Write;
+    assert!(rt; fault.number() == 8 && fault.status() == 4);
+    let text = fault.text(rt.alloc())?;
+    assert!(rt; text.as_str() == "epx: fault 8: the answer can not be written");
+    Ok(())
+}
 
 /// Whether the text is a key, and then has it as its text and as that of its copy.
 fn is_key(rt: &impl Abort, alloc: Global, text: &str, wanted: bool) -> Result<(), Fail> {
