@@ -16,9 +16,9 @@ use Rattle.epx_order.specs.declared.doubtful_touches.DoubtfulTouch.{DoubtfulTouc
 use Rattle.epx_order.specs.declared.touches.Touch.{Touch}
 use Rattle.epx_order.specs.Links.{AreLinked}
 use Rattle.epx_order.specs.DoubtfulKeys.{doubtful_touch, ShareKey, HoldAllConflicts}
-use Rattle.epx_order.specs.ReadyMarks.{is_marked, AreReadyMarks}
+use Rattle.epx_order.specs.ReadyMarks.{AreReadyMarks}
 use Rattle.epx_order.specs.Touches.{touch, hash_of, touches_of, HoldTouches}
-use Rattle.epx_order.specs.Ways.{AreNodesOf}
+use Rattle.epx_order.specs.ReachIndexes.{AreNodesOf}
 use Rattle.epx_order.proofs.HashLists.{contains_or_not}
 use Rattle.epx_order.proofs.LinkedMaps.{Stands, stands, related}
 use Rattle.epx_order.proofs.MarkedReady.{ready_from_mark}
@@ -29,7 +29,7 @@ module _ (m : List Instance) (g : DependencyGraph) (is : IsGraphOf m g) where
   within : (k : ℕ) (d : Instance) → slice_get m k ≡ Some d → k < g.committed
   within k d at = omega (arith, slice_get_within m k d at, committed_count m g is)
 
-  -- an instance stands at one place of the map
+  -- an instance stands at one position of the map
   one_place : (k j : ℕ) (d e : Instance) → slice_get m k ≡ Some d → slice_get m j ≡ Some e → d.id ≡ e.id → k ≡ j
   one_place k j d e at to same =
       let rising = subst IsRising is.committed is.graph.committed_rise in
@@ -49,16 +49,16 @@ module _ (m : List Instance) (g : DependencyGraph) (is : IsGraphOf m g) where
 
   module _ (order : List Ranked) (orders : IsExecutionOrder m order) (nodes : List ℕ) (are : AreNodesOf m order nodes) (start : DefaultHasher) (touches sure : List Touch) (hashes : List ℕ) (hold : HoldTouches start m nodes (length nodes) touches) (keeps : (t : Touch) → Contains touches t → ¬ Contains hashes t.hash → Contains sure t) (linked : AreLinked (edges_of g) nodes sure (length sure)) (doubtful : List DoubtfulTouch) (found : (t : Touch) (key : ℕ) → Contains touches t → key < length hashes → get_or hashes key 0 ≡ t.hash → Contains doubtful (doubtful_touch nodes key t)) where
     -- commands that touch one key, which one of them writes
-    by_key : (d e : Instance) (s : Stands m g is order orders nodes are d) (t : Stands m g is order orders nodes are e) → d.id ≢ e.id → (k : List ℕ) (w v : Bool) → Contains (touches_of start s.place d.ops) (touch start s.place k w) → Contains (touches_of start t.place e.ops) (touch start t.place k v) → IsTrue w ⊎ IsTrue v → (Reaches m d.id e.id ⊎ Reaches m e.id d.id) ⊎ ShareKey doubtful (get_or nodes s.place 0) (get_or nodes t.place 0)
+    by_key : (d e : Instance) (s : Stands m g is order orders nodes are d) (t : Stands m g is order orders nodes are e) → d.id ≢ e.id → (k : List ℕ) (w v : Bool) → Contains (touches_of start s.position d.ops) (touch start s.position k w) → Contains (touches_of start t.position e.ops) (touch start t.position k v) → IsTrue w ⊎ IsTrue v → (Reaches m d.id e.id ⊎ Reaches m e.id d.id) ⊎ ShareKey doubtful (get_or nodes s.position 0) (get_or nodes t.position 0)
     by_key d e s t differ k w v in_d in_e one =
-        let mine = hold s.place d (touch start s.place k w) s.within s.at in_d in
-        let other = hold t.place e (touch start t.place k v) t.within t.at in_e in
+        let mine = hold s.position d (touch start s.position k w) s.within s.at in_d in
+        let other = hold t.position e (touch start t.position k v) t.within t.at in_e in
         elim (contains_or_not hashes (hash_of start k)) [
           | inl there ↦
               let key : get_or hashes there.0 0 ≡ hash_of start k = get_or_default hashes there.0 0 _ there.1 ∙ there.2 in
               inr (record {
-                mine = doubtful_touch nodes there.0 (touch start s.place k w);
-                other = doubtful_touch nodes there.0 (touch start t.place k v);
+                mine = doubtful_touch nodes there.0 (touch start s.position k w);
+                other = doubtful_touch nodes there.0 (touch start t.position k v);
                 held = (found _ there.0 mine there.1 key, found _ there.0 other there.1 key);
                 nodes = (refl, refl);
                 alike = refl;
@@ -73,22 +73,22 @@ module _ (m : List Instance) (g : DependencyGraph) (is : IsGraphOf m g) where
         let node_j = node_of_place m g is j e to (within j e to) in
         let s = stands m g is order orders nodes are d (Contains-slice_get m k d at) (ready_from_mark m g is ready marks k d.id node_k k_ready) in
         let t = stands m g is order orders nodes are e (Contains-slice_get m j e to) (ready_from_mark m g is ready marks j e.id node_j j_ready) in
-        let place : get_or nodes s.place 0 ≡ k = one_place _ k d d s.at at refl in
-        let place' : get_or nodes t.place 0 ≡ j = one_place _ j e e t.at to refl in
+        let position : get_or nodes s.position 0 ≡ k = one_place _ k d d s.at at refl in
+        let position' : get_or nodes t.position 0 ≡ j = one_place _ j e e t.at to refl in
         let differ : d.id ≢ e.id = λ same. let one = one_place k j d e at to same in omega (arith, one, above) in
         let key = conflict.0 in
-        let either : (Reaches m d.id e.id ⊎ Reaches m e.id d.id) ⊎ ShareKey doubtful (get_or nodes s.place 0) (get_or nodes t.place 0) = elim conflict.1 [
+        let either : (Reaches m d.id e.id ⊎ Reaches m e.id d.id) ⊎ ShareKey doubtful (get_or nodes s.position 0) (get_or nodes t.position 0) = elim conflict.1 [
           | inl first ↦
-              let other = touch_of_touched start t.place e.ops key first.1 in
-              by_key d e s t differ key true other.0 (touch_of_written start s.place d.ops key first.0) other.1 (inl refl)
+              let other = touch_of_touched start t.position e.ops key first.1 in
+              by_key d e s t differ key true other.0 (touch_of_written start s.position d.ops key first.0) other.1 (inl refl)
           | inr second ↦
-              let other = touch_of_touched start s.place d.ops key second.0 in
-              by_key d e s t differ key other.0 true other.1 (touch_of_written start t.place e.ops key second.1) (inr refl)
+              let other = touch_of_touched start s.position d.ops key second.0 in
+              by_key d e s t differ key other.0 true other.1 (touch_of_written start t.position e.ops key second.1) (inr refl)
         ] in
         elim either [
           | inl related ↦ inl (elim related [
             | inl there ↦ inl ((node_reaches m g is k j d.id e.id node_k node_j).1 there)
             | inr back ↦ inr ((node_reaches m g is j k e.id d.id node_j node_k).1 back)
           ])
-          | inr share ↦ inr (subst₂ (ShareKey doubtful) place place' share)
+          | inr share ↦ inr (subst₂ (ShareKey doubtful) position position' share)
         ]

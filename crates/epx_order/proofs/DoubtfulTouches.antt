@@ -53,10 +53,10 @@ module _ (touches : List Touch) (hashes : List ℕ) where
     ]
 
   module _ (nodes : List ℕ) (found : List DoubtfulTouch) (n : ℕ) where
-    pub found_more : (key : ℕ) → (touch_at touches n).place < length nodes → key < length hashes → AreFound nodes hashes found → AreFound nodes hashes (found ++ doubtful_touch nodes key (touch_at touches n) ∷ [])
+    pub found_more : (key : ℕ) → (touch_at touches n).position < length nodes → key < length hashes → AreFound nodes hashes found → AreFound nodes hashes (found ++ doubtful_touch nodes key (touch_at touches n) ∷ [])
     found_more key placed l old t h = elim (Contains-push_cases found (doubtful_touch nodes key (touch_at touches n)) t h) [
       | inl was ↦ old t was
-      | inr now ↦ subst (λ (t : DoubtfulTouch). Contains nodes t.node × (t.key < length hashes)) now (Contains-get_or nodes (touch_at touches n).place 0 placed, l)
+      | inr now ↦ subst (λ (t : DoubtfulTouch). Contains nodes t.node × (t.key < length hashes)) now (Contains-get_or nodes (touch_at touches n).position 0 placed, l)
     ]
 
     pub all_more : (key : ℕ) → ((other : ℕ) → other < length hashes → get_or hashes other 0 ≡ (touch_at touches n).hash → key ≡ other) → HoldFound nodes touches hashes found n → HoldFound nodes touches hashes (found ++ doubtful_touch nodes key (touch_at touches n) ∷ []) (n + 1)

@@ -4,7 +4,7 @@ pub mod GatheredRanks
 pub mod SortedRanks
 pub mod MarkedReady
 pub mod EndLemmas
-pub mod TurnLemmas
+pub mod SequenceKeyLemmas
 pub mod ListingLemmas
 pub mod ListedNodes
 pub mod LawfulLists
@@ -15,7 +15,7 @@ pub mod Partners
 pub mod UncoveredPairs
 pub mod OnePair
 pub mod TouchLemmas
-pub mod WayLemmas
+pub mod ReachIndexLemmas
 pub mod LinkLemmas
 pub mod LinkedMaps
 pub mod LinkedNodes

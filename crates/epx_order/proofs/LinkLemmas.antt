@@ -2,18 +2,18 @@
 use Rattle.std.proofs.Common.{◌≡◌, ◌⊎◌, inl, inr, ℕ, ◌+◌, ◌<◌, ◌≤◌, List, Bool, IsTrue, refl, sym, subst, ap, ◌∙◌, arith}
 use Rattle.std.proofs.lemmas.Bool.{cases_Bool, cases_lt, false≢true}
 use Rattle.epx_order.specs.declared.touches.Touch.{Touch}
-use Rattle.epx_order.specs.Links.{touch_at, TouchReaches, AreLinked, IsFollowing, IsNextSince}
+use Rattle.epx_order.specs.Links.{touch_at, TouchReaches, AreLinked, IsRelatedBack, IsNextWriter}
 use Rattle.epx_components.proofs.NodePathLemmas.{reaches_on}
 
--- of the first n touches, since is the last one that writes, or the first one of its hash
-pub record IsLinking (edges : ℕ → List ℕ) (nodes : List ℕ) (touches : List Touch) (since n : ℕ) : Type 0 where
+-- of the first n touches, last_writer is the last one that writes, or the first one of its hash
+pub record IsLinking (edges : ℕ → List ℕ) (nodes : List ℕ) (touches : List Touch) (last_writer n : ℕ) : Type 0 where
   pub linked : AreLinked edges nodes touches n
-  pub first : n ≡ 0 → since ≡ 0
-  pub within : 0 < n → since < n
-  pub run : (j : ℕ) → since ≤ j → j < n → (touch_at touches j).hash ≡ (touch_at touches since).hash
-  pub reads : (j : ℕ) → since < j → j < n → ¬ IsTrue (touch_at touches j).writes
-  pub before : (j : ℕ) → j < since → (touch_at touches j).hash ≡ (touch_at touches since).hash → IsTrue (touch_at touches since).writes × TouchReaches edges nodes touches since j
-  pub rises : (j : ℕ) → j < n → (touch_at touches j).hash ≤ (touch_at touches since).hash
+  pub first : n ≡ 0 → last_writer ≡ 0
+  pub within : 0 < n → last_writer < n
+  pub chain : (j : ℕ) → last_writer ≤ j → j < n → (touch_at touches j).hash ≡ (touch_at touches last_writer).hash
+  pub reads : (j : ℕ) → last_writer < j → j < n → ¬ IsTrue (touch_at touches j).writes
+  pub before : (j : ℕ) → j < last_writer → (touch_at touches j).hash ≡ (touch_at touches last_writer).hash → IsTrue (touch_at touches last_writer).writes × TouchReaches edges nodes touches last_writer j
+  pub rises : (j : ℕ) → j < n → (touch_at touches j).hash ≤ (touch_at touches last_writer).hash
 
 module _ (edges : ℕ → List ℕ) (nodes : List ℕ) (touches : List Touch) where
   abbrev hash : ℕ → ℕ
@@ -38,12 +38,12 @@ module _ (edges : ℕ → List ℕ) (nodes : List ℕ) (touches : List Touch) wh
   ]
 
   -- the first touch of its hash
-  linking_first : (since n : ℕ) → hash since < hash n → IsLinking edges nodes touches since n → IsLinking edges nodes touches n (n + 1)
-  linking_first since n more old = record {
+  linking_first : (last_writer n : ℕ) → hash last_writer < hash n → IsLinking edges nodes touches last_writer n → IsLinking edges nodes touches n (n + 1)
+  linking_first last_writer n more old = record {
     linked = linked_more n old.linked (λ j below same one. absurd (omega (arith, old.rises j below, more, same)));
     first = λ none. absurd (omega arith);
     within = λ some. omega arith;
-    run = λ j l below. let same : j ≡ n = omega arith in ap hash same;
+    chain = λ j l below. let same : j ≡ n = omega arith in ap hash same;
     reads = λ j l below. absurd (omega arith);
     before = λ j below same. absurd (omega (arith, old.rises j below, more, same));
     rises = λ j l. elim (cases_lt j n) [
@@ -53,12 +53,12 @@ module _ (edges : ℕ → List ℕ) (nodes : List ℕ) (touches : List Touch) wh
   }
 
   -- one that writes
-  linking_write : (since n : ℕ) → hash since ≡ hash n → IsTrue (writes n) → IsFollowing edges nodes touches since n → IsLinking edges nodes touches since n → IsLinking edges nodes touches n (n + 1)
-  linking_write since n same writing follows old = record {
+  linking_write : (last_writer n : ℕ) → hash last_writer ≡ hash n → IsTrue (writes n) → IsRelatedBack edges nodes touches last_writer n → IsLinking edges nodes touches last_writer n → IsLinking edges nodes touches n (n + 1)
+  linking_write last_writer n same writing follows old = record {
     linked = linked_more n old.linked (λ j below alike one. all j below alike);
     first = λ none. absurd (omega arith);
     within = λ some. omega arith;
-    run = λ j l below. let is : j ≡ n = omega arith in ap hash is;
+    chain = λ j l below. let is : j ≡ n = omega arith in ap hash is;
     reads = λ j l below. absurd (omega arith);
     before = λ j below alike. (writing, all j below alike);
     rises = λ j l. elim (cases_lt j n) [
@@ -67,22 +67,22 @@ module _ (edges : ℕ → List ℕ) (nodes : List ℕ) (touches : List Touch) wh
     ];
   } where
     all : (j : ℕ) → j < n → hash j ≡ hash n → Reach n j
-    all j below alike = elim (cases_lt j since) [
-      | inl past ↦ trans n since j (follows since (omega arith) (old.within (omega arith)) (inl writing)) (old.before j past (alike ∙ sym same)).1
+    all j below alike = elim (cases_lt j last_writer) [
+      | inl past ↦ trans n last_writer j (follows last_writer (omega arith) (old.within (omega arith)) (inl writing)) (old.before j past (alike ∙ sym same)).1
       | inr here ↦ follows j here below (inl writing)
     ]
 
   -- one that reads
-  linking_read : (since n : ℕ) → hash since ≡ hash n → ¬ IsTrue (writes n) → IsFollowing edges nodes touches since n → IsLinking edges nodes touches since n → IsLinking edges nodes touches since (n + 1)
-  linking_read since n same reading follows old = record {
+  linking_read : (last_writer n : ℕ) → hash last_writer ≡ hash n → ¬ IsTrue (writes n) → IsRelatedBack edges nodes touches last_writer n → IsLinking edges nodes touches last_writer n → IsLinking edges nodes touches last_writer (n + 1)
+  linking_read last_writer n same reading follows old = record {
     linked = linked_more n old.linked (λ j below alike one. elim one [ inl wrote ↦ last j below alike wrote | inr writing ↦ absurd (reading writing) ]);
     first = λ none. absurd (omega arith);
     within = λ some. elim (cases_lt 0 n) [
       | inl past ↦ omega (arith, old.within past)
       | inr none ↦ omega (arith, old.first (omega arith))
     ];
-    run = λ j l below. elim (cases_lt j n) [
-      | inl past ↦ old.run j l past
+    chain = λ j l below. elim (cases_lt j n) [
+      | inl past ↦ old.chain j l past
       | inr here ↦ let is : j ≡ n = omega arith in ap hash is ∙ sym same
     ];
     reads = λ j l below. elim (cases_lt j n) [
@@ -96,25 +96,25 @@ module _ (edges : ℕ → List ℕ) (nodes : List ℕ) (touches : List Touch) wh
     ];
   } where
     last : (j : ℕ) → j < n → hash j ≡ hash n → IsTrue (writes j) → Reach n j
-    last j below alike wrote = elim (cases_lt j since) [
+    last j below alike wrote = elim (cases_lt j last_writer) [
       | inl past ↦
           let on = old.before j past (alike ∙ sym same) in
-          trans n since j (follows since (omega arith) (old.within (omega arith)) (inr (refl, on.0))) on.1
-      | inr here ↦ elim (cases_lt since j) [
+          trans n last_writer j (follows last_writer (omega arith) (old.within (omega arith)) (inr (refl, on.0))) on.1
+      | inr here ↦ elim (cases_lt last_writer j) [
         | inl behind ↦ absurd (old.reads j behind below wrote)
         | inr up ↦ follows j here below (inr (omega arith, wrote))
       ]
     ]
 
-  pub linking_next : (since n next : ℕ) → hash since ≤ hash n → (hash since ≡ hash n → IsFollowing edges nodes touches since n) → IsNextSince touches since n next → IsLinking edges nodes touches since n → IsLinking edges nodes touches next (n + 1)
-  linking_next since n next rises follows is old = elim (cases_lt (hash since) (hash n)) [
-    | inl more ↦ subst (λ i. IsLinking edges nodes touches i (n + 1)) (sym (is.moves (inr (λ same. omega (arith, more, same))))) (linking_first since n more old)
+  pub linking_next : (last_writer n next : ℕ) → hash last_writer ≤ hash n → (hash last_writer ≡ hash n → IsRelatedBack edges nodes touches last_writer n) → IsNextWriter touches last_writer n next → IsLinking edges nodes touches last_writer n → IsLinking edges nodes touches next (n + 1)
+  linking_next last_writer n next rises follows is old = elim (cases_lt (hash last_writer) (hash n)) [
+    | inl more ↦ subst (λ i. IsLinking edges nodes touches i (n + 1)) (sym (is.moves (inr (λ same. omega (arith, more, same))))) (linking_first last_writer n more old)
     | inr upto ↦
-        let same : hash since ≡ hash n = omega arith in
+        let same : hash last_writer ≡ hash n = omega arith in
         elim (cases_Bool (writes n)) [
-          | inl writing ↦ subst (λ i. IsLinking edges nodes touches i (n + 1)) (sym (is.moves (inl writing))) (linking_write since n same writing (follows same) old)
+          | inl writing ↦ subst (λ i. IsLinking edges nodes touches i (n + 1)) (sym (is.moves (inl writing))) (linking_write last_writer n same writing (follows same) old)
           | inr reading ↦
               let none : ¬ IsTrue (writes n) = λ h. false≢true (sym reading ∙ h) in
-              subst (λ i. IsLinking edges nodes touches i (n + 1)) (sym (is.stays none same)) (linking_read since n same none (follows same) old)
+              subst (λ i. IsLinking edges nodes touches i (n + 1)) (sym (is.stays none same)) (linking_read last_writer n same none (follows same) old)
         ]
   ]

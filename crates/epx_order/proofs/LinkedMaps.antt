@@ -19,17 +19,17 @@ use Rattle.epx_graph.proofs.MapPaths.{committed_count, node_reaches}
 use Rattle.epx_order.specs.declared.touches.Touch.{Touch}
 use Rattle.epx_order.specs.Links.{touch_at, AreLinked}
 use Rattle.epx_order.specs.Touches.{touch, HoldTouches}
-use Rattle.epx_order.specs.Ways.{AreNodesOf}
+use Rattle.epx_order.specs.ReachIndexes.{AreNodesOf}
 use Rattle.epx_components.proofs.ReadyRanks.{node_of_place}
 use Rattle.epx_order.proofs.TouchLemmas.{touch_of_touched, touch_of_written}
 
 module _ (m : List Instance) (g : DependencyGraph) (is : IsGraphOf m g) (order : List Ranked) (orders : IsExecutionOrder m order) (nodes : List ℕ) (are : AreNodesOf m order nodes) where
   -- where a ready instance stands in the order
   pub record Stands (d : Instance) : Type 0 where
-    pub place : ℕ
-    pub within : place < length nodes
-    pub at : slice_get m (get_or nodes place 0) ≡ Some d
-    pub node : slice_get g.ids (get_or nodes place 0) ≡ Some d.id
+    pub position : ℕ
+    pub within : position < length nodes
+    pub at : slice_get m (get_or nodes position 0) ≡ Some d
+    pub node : slice_get g.ids (get_or nodes position 0) ≡ Some d.id
 
   pub stands : (d : Instance) → Contains m d → IsReady m d.id → Stands d
   stands d in_d ready =
@@ -41,7 +41,7 @@ module _ (m : List Instance) (g : DependencyGraph) (is : IsGraphOf m g) (order :
       let one : e.0 ≡ d = IsRising-same m rising e.0 d (Contains-slice_get m k e.0 e.1) in_d (e.2 ∙ r.2) in
       let at : slice_get m k ≡ Some d = e.1 ∙ ap Some one in
       record {
-        place = p.0;
+        position = p.0;
         within = omega (arith, slice_get_within order p.0 r.0 r.1, are.whole);
         at = at;
         node = node_of_place m g is k d at (omega (arith, slice_get_within m k d at, committed_count m g is));
@@ -52,17 +52,17 @@ module _ (m : List Instance) (g : DependencyGraph) (is : IsGraphOf m g) (order :
     index_of : (t : Touch) → Contains touches t → (i : ℕ) × (i < length touches) × (touch_at touches i ≡ t)
     index_of t found = (found.0, found.1, get_or_default touches found.0 _ t found.1 ∙ found.2)
 
-    -- the command at a place reaches that at another
+    -- the command at a position reaches that at another
     abbrev Reach : ℕ → ℕ → Type 0
     Reach p q = NodeReaches (edges_of g) (get_or nodes p 0) (get_or nodes q 0)
 
     -- touches of one key, of which one writes, are of related commands
-    pub related : (d e : Instance) (s : Stands d) (t : Stands e) → d.id ≢ e.id → (k : List ℕ) (w v : Bool) → Contains touches (touch start s.place k w) → Contains touches (touch start t.place k v) → IsTrue w ⊎ IsTrue v → Reaches m d.id e.id ⊎ Reaches m e.id d.id
+    pub related : (d e : Instance) (s : Stands d) (t : Stands e) → d.id ≢ e.id → (k : List ℕ) (w v : Bool) → Contains touches (touch start s.position k w) → Contains touches (touch start t.position k v) → IsTrue w ⊎ IsTrue v → Reaches m d.id e.id ⊎ Reaches m e.id d.id
     related d e s t differ k w v touched touched' one =
-        let i = index_of (touch start s.place k w) touched in
-        let j = index_of (touch start t.place k v) touched' in
-        let place_i : (touch_at touches i.0).place ≡ s.place = ap (λ (t : Touch). t.place) i.2 in
-        let place_j : (touch_at touches j.0).place ≡ t.place = ap (λ (t : Touch). t.place) j.2 in
+        let i = index_of (touch start s.position k w) touched in
+        let j = index_of (touch start t.position k v) touched' in
+        let place_i : (touch_at touches i.0).position ≡ s.position = ap (λ (t : Touch). t.position) i.2 in
+        let place_j : (touch_at touches j.0).position ≡ t.position = ap (λ (t : Touch). t.position) j.2 in
         let alike : (touch_at touches i.0).hash ≡ (touch_at touches j.0).hash = ap (λ (t : Touch). t.hash) i.2 ∙ sym (ap (λ (t : Touch). t.hash) j.2) in
         let writes_i : (touch_at touches i.0).writes ≡ w = ap (λ (t : Touch). t.writes) i.2 in
         let writes_j : (touch_at touches j.0).writes ≡ v = ap (λ (t : Touch). t.writes) j.2 in
@@ -76,8 +76,8 @@ module _ (m : List Instance) (g : DependencyGraph) (is : IsGraphOf m g) (order :
                 inl ((node_reaches m g is _ _ d.id e.id s.node t.node).0 (subst₂ Reach place_i place_j reach))
             | inr not_above ↦
                 let same : i.0 ≡ j.0 = omega arith in
-                let places : s.place ≡ t.place = sym place_i ∙ (ap (λ i. (touch_at touches i).place) same ∙ place_j) in
-                let ids : Some d.id ≡ Some e.id = sym s.node ∙ ap (λ p. slice_get g.ids (get_or nodes p 0)) places ∙ t.node in
+                let positions : s.position ≡ t.position = sym place_i ∙ (ap (λ i. (touch_at touches i).position) same ∙ place_j) in
+                let ids : Some d.id ≡ Some e.id = sym s.node ∙ ap (λ p. slice_get g.ids (get_or nodes p 0)) positions ∙ t.node in
                 absurd (differ (cc ids))
           ]
         ]
@@ -89,9 +89,9 @@ module _ (m : List Instance) (g : DependencyGraph) (is : IsGraphOf m g) (order :
         let k = conflict.0 in
         elim conflict.1 [
           | inl first ↦
-              let other = touch_of_touched start t.place e.ops k first.1 in
-              related d e s t differ k true other.0 (hold s.place d _ s.within s.at (touch_of_written start s.place d.ops k first.0)) (hold t.place e _ t.within t.at other.1) (inl refl)
+              let other = touch_of_touched start t.position e.ops k first.1 in
+              related d e s t differ k true other.0 (hold s.position d _ s.within s.at (touch_of_written start s.position d.ops k first.0)) (hold t.position e _ t.within t.at other.1) (inl refl)
           | inr second ↦
-              let other = touch_of_touched start s.place d.ops k second.0 in
-              related d e s t differ k other.0 true (hold s.place d _ s.within s.at other.1) (hold t.place e _ t.within t.at (touch_of_written start t.place e.ops k second.1)) (inr refl)
+              let other = touch_of_touched start s.position d.ops k second.0 in
+              related d e s t differ k other.0 true (hold s.position d _ s.within s.at other.1) (hold t.position e _ t.within t.at (touch_of_written start t.position e.ops k second.1)) (inr refl)
         ]

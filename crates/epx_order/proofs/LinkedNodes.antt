@@ -1,4 +1,4 @@
--- The nodes at the places of an execution order.
+-- The nodes at the positions of an execution order.
 use Rattle.std.proofs.Common.{◌≡◌, ℕ, ◌<◌, inl, inr, List, length, get_or, slice_get, Some, All, sym, subst, ap, ◌∙◌, arith}
 use Rattle.std.proofs.lemmas.List.{get_or_default}
 use Rattle.std.proofs.lemmas.Option.{slice_get_within, slice_get_cases}
@@ -11,7 +11,7 @@ use Rattle.epx_types.proofs.Reaching.{Reaches-trans}
 use Rattle.epx_graph.specs.Graphs.{DependencyGraph, edges_of}
 use Rattle.epx_graph.specs.GraphOf.{IsGraphOf}
 use Rattle.epx_graph.proofs.MapPaths.{committed_count, node_reaches}
-use Rattle.epx_order.specs.Ways.{AreNodesOf, LeadersJoin}
+use Rattle.epx_order.specs.ReachIndexes.{AreNodesOf, LeadersJoin}
 use Rattle.epx_components.proofs.ReadyRanks.{node_of_place}
 
 module _ (m : List Instance) (order : List Ranked) (nodes : List ℕ) (are : AreNodesOf m order nodes) where

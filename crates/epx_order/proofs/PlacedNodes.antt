@@ -19,7 +19,7 @@ use Rattle.epx_order.specs.Ends.{AreEnds, IsEndBelow}
 use Rattle.epx_order.specs.Listings.{AreListed}
 use Rattle.epx_order.specs.OrderFaults.{IsEarlyAt, IsOvertakenAt, IsListOfReady, InOrder, IsOrderFault}
 use Rattle.epx_components.specs.Partitions.{Parts, IsPartitionOf, component_of, number_for}
-use Rattle.epx_order.specs.Turns.{IsAheadAt, IsPassedAt, NoneAside, IsPlaceFault}
+use Rattle.epx_order.specs.SequenceKeys.{IsAheadAt, IsPassedAt, NoneAside, IsPlaceFault}
 use Rattle.epx_order.specs.declared.order_fault.OrderFault.{OrderFault}
 use Rattle.epx_order.specs.declared.order_fault.OrderFault.TheVariants.{Memory, Stranger, Repeat, Missing, Early, Sequence}
 use Rattle.epx_order.proofs.LawfulLists.{lawful_from_order}

@@ -5,7 +5,7 @@ use Rattle.std.proofs.lemmas.List.{get_or-map, get_or-replicate, get_or_past, le
 use Rattle.std.proofs.Math.Seq.{map-set_same}
 use Rattle.epx_graph.specs.NodePaths.{NodeReaches}
 use Rattle.epx_components.specs.MissingNodes.{ReachesSome}
-use Rattle.epx_components.specs.Partitions.{Parts, IsPartition, component_of, node_at, mark_for, number_for}
+use Rattle.epx_components.specs.Partitions.{Parts, IsPartition, component_of, node_at, number_for}
 use Rattle.epx_components.specs.Targets.{LeadsToMarked}
 use Rattle.epx_components.proofs.MissingLemmas.{AreMarks, marks_found, marks_set, marks_skip, marks_all}
 use Rattle.epx_components.proofs.NodePathLemmas.{reaches_itself}

@@ -1,12 +1,12 @@
 -- The marks of the components that a node reaches, from the component that was finished last down.
-use Rattle.std.proofs.Common.{◌≡◌, ◌≢◌, ℕ, ◌+◌, ◌<◌, ◌≤◌, ◌↔◌, ◌⊎◌, inl, inr, Bool, true, false, List, [], ◌∷◌, length, get_or, set, replicate, refl, sym, subst, ◌∙◌, ap, arith, Contains, IsTrue}
-use Rattle.std.proofs.lemmas.Bool.{cases_lt, false≢true}
-use Rattle.std.proofs.lemmas.List.{get_or_default, get_or-replicate, get_or_past, length-replicate}
+use Rattle.std.proofs.Common.{◌≡◌, ℕ, ◌+◌, ◌<◌, ◌≤◌, ◌↔◌, ◌⊎◌, inl, inr, Bool, false, List, [], ◌∷◌, length, get_or, refl, subst, ◌∙◌, ap, arith, Contains, IsTrue}
+use Rattle.std.proofs.lemmas.Bool.{cases_lt}
+use Rattle.std.proofs.lemmas.List.{get_or_default}
 use Rattle.std.proofs.lemmas.List.Elements.{Contains-get_or}
 use Rattle.epx_graph.specs.NodePaths.{IsNodePath, NodeReaches}
 use Rattle.epx_components.specs.Partitions.{Parts, IsPartition, component_of, node_at, mark_for}
 use Rattle.epx_components.proofs.NodePathLemmas.{reaches_edge, reaches_on}
-use Rattle.epx_components.proofs.PartitionLemmas.{node_below, set_for}
+use Rattle.epx_components.proofs.PartitionLemmas.{node_below}
 
 -- the marks after the nodes of the order from n on
 pub record AreReached (edges : ℕ → List ℕ) (p : Parts) (root : ℕ) (marks : List Bool) (n : ℕ) : Type 0 where

@@ -1,10 +1,9 @@
 -- The sources that share a doubtful key with nodes, touch by touch.
-use Rattle.std.proofs.Common.{◌≡◌, ◌⊎◌, inl, inr, ℕ, ◌+◌, ◌<◌, List, Bool, true, false, cond, length, get_or, set, bit_or, Contains, IsTrue, IsFalse, refl, sym, subst, ap, ◌∙◌, arith}
+use Rattle.std.proofs.Common.{◌≡◌, ◌⊎◌, inl, inr, ℕ, ◌+◌, ◌<◌, List, Bool, true, false, cond, length, get_or, set, bit_or, Contains, IsTrue, IsFalse, refl, sym, subst, ◌∙◌, arith}
 use Rattle.std.proofs.lemmas.Bool.{cases_Bool, cases_lt, false≢true}
 use Rattle.std.proofs.lemmas.List.{get_or_default}
 use Rattle.epx_order.specs.declared.doubtful_touches.DoubtfulTouch.{DoubtfulTouch}
 use Rattle.epx_order.specs.Batches.{AreSharing}
-use Rattle.epx_order.specs.DoubtfulKeys.{ShareKey}
 use Rattle.epx_order.specs.SourceBits.{has_bit, AreSourceMarks, HasBitsOf}
 use Rattle.epx_order.proofs.BitLemmas.{or_at}
 

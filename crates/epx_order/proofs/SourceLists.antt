@@ -1,12 +1,12 @@
 -- The sources, node by node.
-use Rattle.std.proofs.Common.{◌≡◌, inl, inr, ℕ, ◌+◌, ◌<◌, ◌≤◌, List, [], ◌∷◌, ◌++◌, Bool, true, false, length, get_or, set, Contains, IsTrue, sym, subst, ap, ◌∙◌, arith}
+use Rattle.std.proofs.Common.{◌≡◌, inl, inr, ℕ, ◌+◌, ◌<◌, List, [], ◌∷◌, ◌++◌, Bool, true, false, length, get_or, set, Contains, IsTrue, sym, subst, ap, ◌∙◌, arith}
 use Rattle.std.proofs.lemmas.Bool.{cases_eq, cases_lt}
 use Rattle.std.proofs.lemmas.List.{get_or_append_left, get_or_push, get_or-set_same, get_or-set_other, length_push}
 use Rattle.std.proofs.lemmas.List.Elements.{Contains-push, Contains-append_left}
 use Rattle.epx_order.specs.declared.doubtful_touches.DoubtfulTouch.{DoubtfulTouch}
 use Rattle.epx_order.specs.ReadyMarks.{is_marked}
 use Rattle.epx_order.specs.Sources.{AreSources}
-use Rattle.epx_order.proofs.SharingBits.{doubtful_at, doubtful_numbered}
+use Rattle.epx_order.proofs.SharingBits.{doubtful_at}
 
 abbrev pub IsTouching : List DoubtfulTouch → ℕ → Type 0
 IsTouching touches k = (t : DoubtfulTouch) × Contains touches t × (t.node ≡ k)

@@ -1,5 +1,5 @@
 -- Words to which the targets of edges are added, or which they give, one by one.
-use Rattle.std.proofs.Common.{◌≡◌, ◌↔◌, ◌⊎◌, inl, inr, ℕ, ◌+◌, ◌<◌, List, length, get_or, set, bit_or, IsTrue, refl, sym, subst, ap, ◌∙◌, arith}
+use Rattle.std.proofs.Common.{◌≡◌, ◌↔◌, ◌⊎◌, inl, inr, ℕ, ◌+◌, ◌<◌, List, length, get_or, set, bit_or, IsTrue, subst, ap, ◌∙◌, arith}
 use Rattle.std.proofs.lemmas.Bool.{cases_lt}
 use Rattle.epx_order.specs.SourceBits.{has_bit}
 use Rattle.epx_order.proofs.BitLemmas.{or_bit, or_at}

@@ -1,8 +1,8 @@
--- What nodes have to do with the sources of a batch. The search for an uncovered pair alone uses it.
+-- What nodes have to do with the sources of a batch: words of the search for an uncovered pair alone.
 use Rattle.std.specs.Prelude.{◌≡◌, ◌↔◌, ℕ, ◌<◌, ◌≤◌, List, Bool, length, slice_index, All, IsTrue}
 use Rattle.epx_graph.specs.Graphs.{DependencyGraph, edges_of}
 use Rattle.epx_graph.specs.NodePaths.{NodeReaches}
-use Rattle.epx_components.specs.Partitions.{Parts, component_of, number_for}
+use Rattle.epx_components.specs.Partitions.{Parts, number_for}
 use Rattle.epx_order.specs.declared.batch.Batch.{Batch}
 use Rattle.epx_order.specs.declared.doubtful_touches.DoubtfulTouch.{DoubtfulTouch}
 use Rattle.epx_order.specs.DoubtfulKeys.{ShareKey}
@@ -11,15 +11,21 @@ use Rattle.epx_order.specs.SourceBits.{has_bit}
 
 -- bit b of a component's word: source b reaches it
 abbrev pub AreReachedBy : DependencyGraph → Parts → List ℕ → List ℕ → Type 0
-AreReachedBy g p sources words = (b k : ℕ) → b < length sources → k < length g.ids → IsTrue (has_bit b (number_for p words k)) ↔ NodeReaches (edges_of g) (slice_index sources b) k
+AreReachedBy g p sources words =
+    (b k : ℕ) → b < length sources → k < length g.ids →
+    IsTrue (has_bit b (number_for p words k)) ↔ NodeReaches (edges_of g) (slice_index sources b) k
 
 -- bit b of a component's word: it reaches source b
 abbrev pub AreReaching : DependencyGraph → Parts → List ℕ → List ℕ → Type 0
-AreReaching g p sources words = (b k : ℕ) → b < length sources → k < length g.ids → IsTrue (has_bit b (number_for p words k)) ↔ NodeReaches (edges_of g) k (slice_index sources b)
+AreReaching g p sources words =
+    (b k : ℕ) → b < length sources → k < length g.ids →
+    IsTrue (has_bit b (number_for p words k)) ↔ NodeReaches (edges_of g) k (slice_index sources b)
 
 -- bit b of a node's word at least where source b shares a doubtful key with it
 abbrev pub AreSharing : List DoubtfulTouch → List ℕ → List ℕ → Type 0
-AreSharing touches sources words = (b j : ℕ) → b < length sources → ShareKey touches (slice_index sources b) j → IsTrue (has_bit b (slice_index words j))
+AreSharing touches sources words =
+    (b j : ℕ) → b < length sources → ShareKey touches (slice_index sources b) j →
+    IsTrue (has_bit b (slice_index words j))
 
 -- the batch has a word for each component and each node
 pub record IsWhole (p : Parts) (ready : List Bool) (batch : Batch) : Type 0 where

@@ -10,7 +10,7 @@ use Rattle.epx_order.specs.ReadyMarks.{is_marked, AreReadyMarks}
 
 -- a touch of a key by its number, with the node at its position in an order
 abbrev pub doubtful_touch : List ℕ → ℕ → Touch → DoubtfulTouch
-doubtful_touch nodes key t = record { key = key; node = slice_index nodes t.place; writes = t.writes }
+doubtful_touch nodes key t = record { key = key; node = slice_index nodes t.position; writes = t.writes }
 
 -- both nodes touch a doubtful key, and one of them writes it
 pub record ShareKey (touches : List DoubtfulTouch) (k j : ℕ) : Type 0 where
@@ -26,11 +26,15 @@ AreRelated edges k j = NodeReaches edges k j ⊎ NodeReaches edges j k
 
 -- nodes of ready instances that conflict and are not related share a doubtful key
 abbrev pub HoldAllConflicts : List Instance → (ℕ → List ℕ) → List Bool → List DoubtfulTouch → Type 0
-HoldAllConflicts m edges ready touches = (k j : ℕ) (d e : Instance) → k < j → slice_get m k ≡ Some d → slice_get m j ≡ Some e → IsTrue (is_marked ready k) → IsTrue (is_marked ready j) → Conflict d.ops e.ops → AreRelated edges k j ⊎ ShareKey touches k j
+HoldAllConflicts m edges ready touches =
+    (k j : ℕ) (d e : Instance) → k < j → slice_get m k ≡ Some d → slice_get m j ≡ Some e →
+    IsTrue (is_marked ready k) → IsTrue (is_marked ready j) → Conflict d.ops e.ops →
+    AreRelated edges k j ⊎ ShareKey touches k j
 
 -- nodes of a map, and keys by number
 abbrev pub AreInRange : ℕ → ℕ → List DoubtfulTouch → Type 0
-AreInRange nodes keys touches = (t : DoubtfulTouch) → Contains touches t → (t.node < nodes) × (t.key < keys)
+AreInRange nodes keys touches =
+    (t : DoubtfulTouch) → Contains touches t → (t.node < nodes) × (t.key < keys)
 
 -- the touches of the doubtful keys of a map
 pub record AreDoubtful (m : List Instance) (g : DependencyGraph) (keys : ℕ) (touches : List DoubtfulTouch) : Type 0 where
@@ -39,4 +43,5 @@ pub record AreDoubtful (m : List Instance) (g : DependencyGraph) (keys : ℕ) (t
 
 -- a ready node that shares a doubtful key with k is related to it
 abbrev pub IsRelatedOrFree : (ℕ → List ℕ) → List Bool → List DoubtfulTouch → ℕ → ℕ → Type 0
-IsRelatedOrFree edges ready touches k j = IsTrue (is_marked ready j) → ShareKey touches k j → AreRelated edges k j
+IsRelatedOrFree edges ready touches k j =
+    IsTrue (is_marked ready j) → ShareKey touches k j → AreRelated edges k j

@@ -2,14 +2,14 @@ pub mod Ranks
 pub mod ReadyMarks
 pub mod Listings
 pub mod Ends
-pub mod Turns
+pub mod SequenceKeys
 pub mod OrderFaults
 pub mod OrderFaultLaws
 pub mod Uncovered
 pub mod NodeConflicts
 pub mod UncoveredLaws
 pub mod Touches
-pub mod Ways
+pub mod ReachIndexes
 pub mod Links
 pub mod SourceBits
 pub mod DoubtfulKeys

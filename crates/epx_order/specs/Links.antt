@@ -4,21 +4,21 @@ use Rattle.epx_graph.specs.NodePaths.{NodeReaches}
 use Rattle.epx_order.specs.declared.touches.Touch.{Touch}
 
 abbrev pub touch_at : List Touch → ℕ → Touch
-touch_at touches i = slice_index_or touches i (record { hash = 0; place = 0; writes = false })
+touch_at touches i = slice_index_or touches i (record { hash = 0; position = 0; writes = false })
 
 -- the command of touch i reaches that of touch j
 abbrev pub TouchReaches : (ℕ → List ℕ) → List ℕ → List Touch → ℕ → ℕ → Type 0
-TouchReaches edges nodes touches i j = NodeReaches edges (slice_index nodes (touch_at touches i).place) (slice_index nodes (touch_at touches j).place)
+TouchReaches edges nodes touches i j = NodeReaches edges (slice_index nodes (touch_at touches i).position) (slice_index nodes (touch_at touches j).position)
 
 -- of the first n touches, the later of any two of one hash reaches the earlier one, where one of them writes
 abbrev pub AreLinked : (ℕ → List ℕ) → List ℕ → List Touch → ℕ → Type 0
 AreLinked edges nodes touches n = (j i : ℕ) → j < i → i < n → (touch_at touches j).hash ≡ (touch_at touches i).hash → IsTrue (touch_at touches j).writes ⊎ IsTrue (touch_at touches i).writes → TouchReaches edges nodes touches i j
 
--- touch i reaches the touches from since on that it has to reach: all of them if it writes, else the first one if that writes
-abbrev pub IsFollowing : (ℕ → List ℕ) → List ℕ → List Touch → ℕ → ℕ → Type 0
-IsFollowing edges nodes touches since i = (j : ℕ) → since ≤ j → j < i → IsTrue (touch_at touches i).writes ⊎ ((j ≡ since) × IsTrue (touch_at touches j).writes) → TouchReaches edges nodes touches i j
+-- touch i reaches the touches from the last writer on that it has to reach: all of them if it writes, else the first one if that writes
+abbrev pub IsRelatedBack : (ℕ → List ℕ) → List ℕ → List Touch → ℕ → ℕ → Type 0
+IsRelatedBack edges nodes touches last_writer i = (j : ℕ) → last_writer ≤ j → j < i → IsTrue (touch_at touches i).writes ⊎ ((j ≡ last_writer) × IsTrue (touch_at touches j).writes) → TouchReaches edges nodes touches i j
 
 -- i where that touch writes or is the first one of its hash
-pub record IsNextSince (touches : List Touch) (since i next : ℕ) : Type 0 where
-  pub moves : IsTrue (touch_at touches i).writes ⊎ ((touch_at touches since).hash ≢ (touch_at touches i).hash) → next ≡ i
-  pub stays : ¬ IsTrue (touch_at touches i).writes → (touch_at touches since).hash ≡ (touch_at touches i).hash → next ≡ since
+pub record IsNextWriter (touches : List Touch) (last_writer i next : ℕ) : Type 0 where
+  pub moves : IsTrue (touch_at touches i).writes ⊎ ((touch_at touches last_writer).hash ≢ (touch_at touches i).hash) → next ≡ i
+  pub stays : ¬ IsTrue (touch_at touches i).writes → (touch_at touches last_writer).hash ≡ (touch_at touches i).hash → next ≡ last_writer

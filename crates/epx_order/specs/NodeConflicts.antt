@@ -1,5 +1,5 @@
 -- Nodes of ready instances that conflict, related or not.
-use Rattle.std.specs.Prelude.{◌≡◌, ◌⊎◌, ℕ, ◌<◌, List, Bool, slice_get, slice_index, Some, Contains, IsTrue}
+use Rattle.std.specs.Prelude.{◌≡◌, ◌⊎◌, ℕ, ◌<◌, List, Bool, slice_get, Some, Contains, IsTrue}
 use Rattle.epx_types.specs.CommandKeys.{touched_keys, written_keys}
 use Rattle.epx_types.specs.Conflicts.{Conflict}
 use Rattle.epx_types.specs.Instances.{Instance}

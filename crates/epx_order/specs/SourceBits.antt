@@ -1,4 +1,4 @@
--- Words of which bit b is for source b of a batch. The search for an uncovered pair alone uses them.
+-- Numbers whose bit b is for source b of a batch: words of the search for an uncovered pair alone.
 use Rattle.std.specs.Prelude.{◌≡◌, ◌↔◌, ℕ, ◌<◌, ◌==◌, List, Bool, length, slice_index, IsTrue}
 use Rattle.std.specs.Int.{bit_at}
 
@@ -7,11 +7,14 @@ has_bit b word = bit_at word b == 1
 
 -- the word of each slot has the bits of the sources with this slot
 abbrev pub AreSourceMarks : List ℕ → List ℕ → Type 0
-AreSourceMarks slots words = (b s : ℕ) → b < length slots → IsTrue (has_bit b (slice_index words s)) ↔ (slice_index slots b ≡ s)
+AreSourceMarks slots words =
+    (b s : ℕ) → b < length slots → IsTrue (has_bit b (slice_index words s)) ↔ (slice_index slots b ≡ s)
 
 -- a target whose component has bit b
 abbrev pub LeadsToBit : List ℕ → List ℕ → List ℕ → ℕ → Type 0
-LeadsToBit component words targets b = (i : ℕ) × (i < length targets) × IsTrue (has_bit b (slice_index words (slice_index component (slice_index targets i))))
+LeadsToBit component words targets b =
+    (i : ℕ) × (i < length targets) ×
+    IsTrue (has_bit b (slice_index words (slice_index component (slice_index targets i))))
 
 -- the first word has the bit, and neither of the others does
 pub record HasAlone (b word other third : ℕ) : Type 0 where

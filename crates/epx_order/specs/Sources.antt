@@ -13,7 +13,8 @@ pub record AreSources (ready : List Bool) (touches : List DoubtfulTouch) (source
 
 -- the first n sources are settled with each node above them
 abbrev pub AreSettled : List Instance → (ℕ → List ℕ) → List Bool → List ℕ → ℕ → Type 0
-AreSettled m edges ready sources n = (i j : ℕ) → i < n → slice_index sources i < j → IsSettled m edges ready (slice_index sources i) j
+AreSettled m edges ready sources n =
+    (i j : ℕ) → i < n → slice_index sources i < j → IsSettled m edges ready (slice_index sources i) j
 
 -- the first source that has a partner, and the least one
 pub record IsFirstPair (m : List Instance) (edges : ℕ → List ℕ) (ready : List Bool) (sources : List ℕ) (k j : ℕ) : Type 0 where

@@ -12,26 +12,26 @@ use Rattle.epx_order.specs.declared.touches.Touch.{Touch}
 abbrev pub hash_of : DefaultHasher → List ℕ → ℕ
 hash_of start key = sip.finish (fold sip.write start (fed.str key))
 
--- the command at a place touches a key
+-- the command at a position touches a key
 abbrev pub touch : DefaultHasher → ℕ → List ℕ → Bool → Touch
-touch start place key writes = record { hash = hash_of start key; place = place; writes = writes }
+touch start position key writes = record { hash = hash_of start key; position = position; writes = writes }
 
 abbrev pub touches_by : DefaultHasher → ℕ → Op → List Touch
-touches_by start place (Get k) = touch start place k false ∷ []
-touches_by start place (Put k v) = touch start place k true ∷ []
-touches_by start place (Del k) = touch start place k true ∷ []
-touches_by start place (Add k n) = touch start place k true ∷ []
-touches_by start place (Is k v) = touch start place k false ∷ []
-touches_by start place (Floor k least) = touch start place k false ∷ []
-touches_by start place (Copy k j) = touch start place k false ∷ touch start place j true ∷ []
+touches_by start position (Get k) = touch start position k false ∷ []
+touches_by start position (Put k v) = touch start position k true ∷ []
+touches_by start position (Del k) = touch start position k true ∷ []
+touches_by start position (Add k n) = touch start position k true ∷ []
+touches_by start position (Is k v) = touch start position k false ∷ []
+touches_by start position (Floor k least) = touch start position k false ∷ []
+touches_by start position (Copy k j) = touch start position k false ∷ touch start position j true ∷ []
 
 abbrev pub touches_of : DefaultHasher → ℕ → List Op → List Touch
-touches_of start place ops = flat_map (touches_by start place) ops
+touches_of start position ops = flat_map (touches_by start position) ops
 
--- the touches of the commands at the first n places, each of which holds a node
+-- the touches of the commands at the first n positions, each of which holds a node
 abbrev pub HoldTouches : DefaultHasher → List Instance → List ℕ → ℕ → List Touch → Type 0
 HoldTouches start m nodes n touches = (p : ℕ) (e : Instance) (t : Touch) → p < n → slice_get m (slice_index nodes p) ≡ Some e → Contains (touches_of start p e.ops) t → Contains touches t
 
--- each is of one of the first n places
+-- each is of one of the first n positions
 abbrev pub ArePlaced : ℕ → List Touch → Type 0
-ArePlaced n touches = (t : Touch) → Contains touches t → t.place < n
+ArePlaced n touches = (t : Touch) → Contains touches t → t.position < n

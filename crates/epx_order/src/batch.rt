@@ -17,7 +17,7 @@ use epx_types::Memory;
 use std::alloc::Global;
 
 /// What nodes have to do with the sources of a batch. Bit b of each word is for source b.
-#[derive(Debug, Drop)]
+#[derive(Drop)]
 pub(crate) struct Batch {
     /// The sources that reach each component.
     pub(crate) reached: Vec<u64>,
@@ -36,10 +36,12 @@ impl Batch {
         sources: &[usize],
     ) -> Result<Batch, Memory>
         requires partition { IsPartitionOf graph.now (parts partition.now) }
-        requires doubtful { AreInRange (length graph.now.ids) doubtful.now.keys doubtful.now.touches.items }
+        requires doubtful { AreInRange (length graph.now.ids) doubtful.now.keys
+            doubtful.now.touches.items }
         requires few { length sources.now ≤ 64 }
         requires sources { All (λ k. k < length graph.now.ids) sources.now }
-        ensures { IfOk result (IsBatch graph.now (parts partition.now) doubtful.now.touches.items sources.now) }
+        ensures { IfOk result
+            (IsBatch graph.now (parts partition.now) doubtful.now.touches.items sources.now) }
     {
         let own = source_marks(alloc, graph.len(), sources)?;
         let reached = find_reached(alloc, graph, partition, sources)?;
@@ -56,8 +58,16 @@ impl Batch {
     pub(crate) fn candidates(&self, partition: &Partition, ready: &[bool], node: usize) -> u64
         requires whole { IsWhole (parts partition.now) ready.now self.now }
         requires node { node < length ready.now }
-        ensures apart { (g : DependencyGraph) (touches : List DoubtfulTouch) (sources : List ℕ) (b : ℕ) → IsBatch g (parts partition.now) touches sources self.now → b < length sources → IsTrue (has_bit b result) → IsReadyApart (edges_of g) ready.now (slice_index sources b) node }
-        ensures rest { (g : DependencyGraph) (touches : List DoubtfulTouch) (sources : List ℕ) (b : ℕ) → IsBatch g (parts partition.now) touches sources self.now → b < length sources → ¬ IsTrue (has_bit b result) → IsRelatedOrFree (edges_of g) ready.now touches (slice_index sources b) node }
+        ensures apart { (g : DependencyGraph) (touches : List DoubtfulTouch)
+            (sources : List ℕ) (b : ℕ) →
+            IsBatch g (parts partition.now) touches sources self.now →
+            b < length sources → IsTrue (has_bit b result) →
+            IsReadyApart (edges_of g) ready.now (slice_index sources b) node }
+        ensures rest { (g : DependencyGraph) (touches : List DoubtfulTouch)
+            (sources : List ℕ) (b : ℕ) →
+            IsBatch g (parts partition.now) touches sources self.now →
+            b < length sources → ¬ IsTrue (has_bit b result) →
+            IsRelatedOrFree (edges_of g) ready.now touches (slice_index sources b) node }
     {
         if !ready[node] {
             return 0;
@@ -69,7 +79,11 @@ impl Batch {
     /// Whether no source is a candidate of any node.
     pub(crate) fn has_none(&self, partition: &Partition, ready: &[bool]) -> bool
         requires whole { IsWhole (parts partition.now) ready.now self.now }
-        ensures { IsTrue result → (g : DependencyGraph) (touches : List DoubtfulTouch) (sources : List ℕ) (b j : ℕ) → IsBatch g (parts partition.now) touches sources self.now → b < length sources → j < length ready.now → IsRelatedOrFree (edges_of g) ready.now touches (slice_index sources b) j }
+        ensures { IsTrue result →
+            (g : DependencyGraph) (touches : List DoubtfulTouch) (sources : List ℕ) (b j : ℕ) →
+            IsBatch g (parts partition.now) touches sources self.now →
+            b < length sources → j < length ready.now →
+            IsRelatedOrFree (edges_of g) ready.now touches (slice_index sources b) j }
     {
         for node in 0..ready.len() {
             if self.candidates(partition, ready, node) != 0 {

@@ -4,12 +4,12 @@ ghost use Rattle.epx_types.specs.LawfulOrders.{IsLawful};
 ghost use Rattle.epx_graph.specs.GraphOf.{IsGraphOf};
 ghost use Rattle.epx_order.specs.OrderFaults.{IsOrderFault};
 ghost use Rattle.epx_components.specs.Partitions.{parts};
-ghost use Rattle.epx_order.specs.Turns.{ComesBefore, NoneAside, IsPlaceFault};
+ghost use Rattle.epx_order.specs.SequenceKeys.{ComesBefore, NoneAside, IsPlaceFault};
 
 use crate::ends::{find_ends, find_ends_below};
 use crate::listing::{first_left_out, list_nodes, ready_nodes};
 use crate::order_fault::OrderFault;
-use crate::turn::Turn;
+use crate::sequence_key::SequenceKey;
 use epx_components::{Partition, find_components};
 use epx_graph::Graph;
 use epx_merge::Merged;
@@ -58,13 +58,13 @@ fn check_places(
         (λ _. NoneAside merged.now (parts partition.now) below.now nodes.now (length nodes.now))
         (IsPlaceFault merged.now (parts partition.now) below.now nodes.now) }
 {
-    let mut latest = no_turns(alloc, partition.count)?;
+    let mut latest = no_sequence_keys(alloc, partition.count)?;
     for (place, node) in nodes.iter().enumerate() {
         let own = partition.component[*node];
         if below[own] > place {
             return Err(OrderFault::Early { place });
         }
-        let turn = Turn::of(merged.entry_at(*node));
+        let turn = SequenceKey::of(merged.entry_at(*node));
         if comes_before(turn, latest[own]) {
             return Err(OrderFault::Sequence { place });
         }
@@ -73,15 +73,15 @@ fn check_places(
     Ok(())
 }
 
-/// No turn for each of some components.
-fn no_turns(alloc: Global, components: usize) -> Result<Vec<Option<Turn>>, Memory>
+/// No sequence key for each of some components.
+fn no_sequence_keys(alloc: Global, components: usize) -> Result<Vec<Option<SequenceKey>>, Memory>
     ensures { IfOk result (λ turns. turns.items ≡ replicate components None) }
 {
     Ok(vec![in alloc; None; components]?)
 }
 
-/// Whether a turn comes before another one, if there is one.
-fn comes_before(turn: Turn, last: Option<Turn>) -> bool
+/// Whether a sequence key comes before another one, if there is one.
+fn comes_before(turn: SequenceKey, last: Option<SequenceKey>) -> bool
     ensures { IsTrue result ↔ ComesBefore turn last }
 {
     match last {

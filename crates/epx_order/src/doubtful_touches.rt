@@ -7,13 +7,13 @@ ghost use Rattle.epx_order.specs.declared.doubtful_touches.DoubtfulTouch.{Doubtf
 ghost use Rattle.epx_order.specs.declared.touches.Touch.{Touch};
 ghost use Rattle.epx_order.specs.DoubtfulKeys.{doubtful_touch, AreDoubtful, AreInRange};
 ghost use Rattle.epx_order.specs.Touches.{ArePlaced};
-ghost use Rattle.epx_order.specs.Ways.{IsWays};
+ghost use Rattle.epx_order.specs.ReachIndexes.{IsReachIndex};
 
-use crate::linking::{are_linked, is_following, next_since, order_nodes};
 use crate::order_list::OrderList;
+use crate::quick_audit::{are_linked, is_related_back, next_writer, order_nodes};
+use crate::reach_index::ReachIndex;
+use crate::search::Search;
 use crate::touches::{Touch, find_touches};
-use crate::walk::Walk;
-use crate::ways::Ways;
 use epx_graph::Graph;
 use epx_merge::Merged;
 use epx_types::Memory;
@@ -21,7 +21,7 @@ use std::alloc::Global;
 use std::hash::DefaultHasher;
 
 /// A doubtful key that a command touches.
-#[derive(Clone, Copy, Debug)]
+#[derive(Clone, Copy)]
 pub(crate) struct DoubtfulTouch {
     /// The number of the key.
     pub(crate) key: usize,
@@ -29,9 +29,9 @@ pub(crate) struct DoubtfulTouch {
     pub(crate) writes: bool,
 }
 
-/// The touches of the keys that are doubtful: those of which the touches are not all seen to be
+/// The touches of the doubtful keys, that is, of those whose touches are not all found to be
 /// related.
-#[derive(Debug, Drop)]
+#[derive(Drop)]
 pub(crate) struct DoubtfulTouches {
     /// How many keys there are.
     pub(crate) keys: usize,
@@ -47,52 +47,56 @@ pub(crate) fn find_doubtful(
 ) -> Result<DoubtfulTouches, Memory>
     requires graph { IsGraphOf merged.now graph.now }
     requires order { IsExecutionOrder merged.now order.now }
-    ensures { IfOk result (λ doubtful. AreDoubtful merged.now graph.now doubtful.keys doubtful.touches.items) }
+    ensures { IfOk result
+        (λ doubtful. AreDoubtful merged.now graph.now doubtful.keys doubtful.touches.items) }
 {
     let nodes = order_nodes(alloc, merged, order)?;
     let touches = find_touches(alloc, merged, &nodes, start)?;
-    let ways = Ways::of(alloc, graph, order, nodes)?;
-    let hashes = doubtful_hashes(alloc, graph, &ways, &touches)?;
+    let reach = ReachIndex::of(alloc, graph, order, nodes)?;
+    let hashes = doubtful_hashes(alloc, graph, &reach, &touches)?;
     let sure = sure_touches(alloc, &touches, &hashes)?;
-    // No contract says that the other keys are in order: they are asked again.
-    if !are_linked(alloc, graph, &ways, &sure)? {
+    // No contract says which hashes are doubtful, so the touches of the others are tested again.
+    if !are_linked(alloc, graph, &reach, &sure)? {
         let one = one_key(alloc, merged.len())?;
         return Ok(one);
     }
-    let touches = doubtful_touches(alloc, &ways.nodes, &touches, &hashes)?;
+    let touches = doubtful_touches(alloc, &reach.nodes, &touches, &hashes)?;
     Ok(DoubtfulTouches {
         keys: hashes.len(),
         touches,
     })
 }
 
-/// The hashes of which the touches are not all seen to be related.
+/// The hashes whose touches are not all found to be related.
 fn doubtful_hashes(
     alloc: Global,
     graph: &Graph,
-    ways: &Ways,
+    reach: &ReachIndex,
     touches: &[Touch],
 ) -> Result<Vec<u64>, Memory>
-    requires ways { IsWays graph.now ways.now }
-    requires placed { ArePlaced (length ways.now.nodes.items) touches.now }
+    requires reach { IsReachIndex graph.now reach.now }
+    requires placed { ArePlaced (length reach.now.nodes.items) touches.now }
     ensures { IfOk result (λ hashes. IsStrictlyIncreasing hashes.items) }
 {
-    let mut walk = Walk::new(alloc, graph.len())?;
+    let mut path_search = Search::new(alloc, graph.len())?;
     let mut hashes = Vec::new(alloc);
-    let mut since = 0;
+    let mut last_writer = 0;
     for index in 0..touches.len() {
         let hash = touches[index].hash;
-        if is_new(&hashes, hash) && !is_following(&mut walk, graph, ways, touches, since, index)? {
+        if is_new(&hashes, hash)
+            && !is_related_back(&mut path_search, graph, reach, touches, last_writer, index)?
+        {
             hashes.push(hash)?;
         }
-        since = next_since(touches, since, index);
+        last_writer = next_writer(touches, last_writer, index);
     }
     Ok(hashes)
 }
 
-/// Whether a hash is above all of some that rise.
+/// Whether a hash is greater than the last of some rising ones.
 fn is_new(hashes: &[u64], hash: u64) -> bool
-    ensures { IsTrue result → 0 < length hashes.now → slice_index hashes.now (length hashes.now - 1) < hash }
+    ensures { IsTrue result → 0 < length hashes.now →
+        slice_index hashes.now (length hashes.now - 1) < hash }
 {
     match hashes.last() {
         Some(last) => *last < hash,
@@ -103,7 +107,9 @@ fn is_new(hashes: &[u64], hash: u64) -> bool
 /// The number of a hash among the doubtful ones.
 fn key_of(hashes: &[u64], hash: u64) -> Option<usize>
     requires { IsStrictlyIncreasing hashes.now }
-    ensures { MatchOption result (¬ Contains hashes.now hash) (λ key. (key < length hashes.now) × (slice_index hashes.now key ≡ hash)) }
+    ensures { MatchOption result
+        (¬ Contains hashes.now hash)
+        (λ key. (key < length hashes.now) × (slice_index hashes.now key ≡ hash)) }
 {
     match hashes.binary_search(&hash) {
         Ok(key) => Some(key),
@@ -114,8 +120,10 @@ fn key_of(hashes: &[u64], hash: u64) -> Option<usize>
 /// The touches of all other hashes.
 fn sure_touches(alloc: Global, touches: &[Touch], hashes: &[u64]) -> Result<Vec<Touch>, Memory>
     requires { IsStrictlyIncreasing hashes.now }
-    ensures some { IfOk result (λ sure. (t : Touch) → Contains sure.items t → Contains touches.now t) }
-    ensures all { IfOk result (λ sure. (t : Touch) → Contains touches.now t → ¬ Contains hashes.now t.hash → Contains sure.items t) }
+    ensures some { IfOk result
+        (λ sure. (t : Touch) → Contains sure.items t → Contains touches.now t) }
+    ensures all { IfOk result (λ sure. (t : Touch) → Contains touches.now t →
+        ¬ Contains hashes.now t.hash → Contains sure.items t) }
 {
     let mut sure = Vec::new(alloc);
     for touch in touches {
@@ -135,15 +143,18 @@ fn doubtful_touches(
 ) -> Result<Vec<DoubtfulTouch>, Memory>
     requires placed { ArePlaced (length nodes.now) touches.now }
     requires hashes { IsStrictlyIncreasing hashes.now }
-    ensures in_range { IfOk result (λ found. (t : DoubtfulTouch) → Contains found.items t → Contains nodes.now t.node × (t.key < length hashes.now)) }
-    ensures whole { IfOk result (λ found. (t : Touch) (key : ℕ) → Contains touches.now t → key < length hashes.now → slice_index hashes.now key ≡ t.hash → Contains found.items (doubtful_touch nodes.now key t)) }
+    ensures in_range { IfOk result (λ found. (t : DoubtfulTouch) → Contains found.items t →
+        Contains nodes.now t.node × (t.key < length hashes.now)) }
+    ensures whole { IfOk result (λ found. (t : Touch) (key : ℕ) → Contains touches.now t →
+        key < length hashes.now → slice_index hashes.now key ≡ t.hash →
+        Contains found.items (doubtful_touch nodes.now key t)) }
 {
     let mut found = Vec::new(alloc);
     for touch in touches {
         if let Some(key) = key_of(hashes, touch.hash) {
             found.push(DoubtfulTouch {
                 key,
-                node: nodes[touch.place],
+                node: nodes[touch.position],
                 writes: touch.writes,
             })?;
         }
@@ -151,10 +162,11 @@ fn doubtful_touches(
     Ok(found)
 }
 
-/// A key that every node writes: then each two nodes share one.
+/// A single key that every node writes, so that each two nodes share one.
 fn one_key(alloc: Global, nodes: usize) -> Result<DoubtfulTouches, Memory>
     ensures in_range { IfOk result (λ one. AreInRange nodes one.keys one.touches.items) }
-    ensures whole { IfOk result (λ one. (k : ℕ) → k < nodes → Contains one.touches.items (record { key = 0; node = k; writes = true })) }
+    ensures whole { IfOk result (λ one. (k : ℕ) → k < nodes →
+        Contains one.touches.items (record { key = 0; node = k; writes = true })) }
 {
     let mut touches = Vec::with_capacity(alloc, nodes)?;
     for node in 0..nodes {

@@ -22,7 +22,8 @@ pub(crate) fn find_reached(
     requires few { length sources.now ≤ 64 }
     requires sources { All (λ k. k < length graph.now.ids) sources.now }
     ensures len { IfOk result (λ words. length words.items ≡ (parts partition.now).count) }
-    ensures reached { IfOk result (λ words. AreReachedBy graph.now (parts partition.now) sources.now words.items) }
+    ensures reached { IfOk result
+        (λ words. AreReachedBy graph.now (parts partition.now) sources.now words.items) }
 {
     let homes = components_of(alloc, &partition.component, sources)?;
     let mut words = source_marks(alloc, partition.count, &homes)?;
@@ -39,7 +40,8 @@ pub(crate) fn find_reached(
 /// The component of each of some nodes.
 fn components_of(alloc: Global, component: &[usize], nodes: &[usize]) -> Result<Vec<usize>, Memory>
     requires { All (λ k. k < length component.now) nodes.now }
-    ensures { IfOk result (λ homes. homes.items ≡ map (λ k. slice_index component.now k) nodes.now) }
+    ensures { IfOk result
+        (λ homes. homes.items ≡ map (λ k. slice_index component.now k) nodes.now) }
 {
     let mut homes = Vec::with_capacity(alloc, nodes.len())?;
     for node in nodes {
@@ -53,7 +55,10 @@ fn mark_targets(targets: &[usize], component: &[usize], words: &mut [u64], word:
     requires targets { All (λ j. j < length component.now) targets.now }
     requires counted { All (λ c. c < length words.old) component.now }
     ensures len { length words.new ≡ length words.old }
-    ensures marks { (b c : ℕ) → IsTrue (has_bit b (slice_index words.new c)) ↔ (IsTrue (has_bit b (slice_index words.old c)) ⊎ (IsTrue (has_bit b word) × (i : ℕ) × (i < length targets.now) × (slice_index component.now (slice_index targets.now i) ≡ c))) }
+    ensures marks { (b c : ℕ) → IsTrue (has_bit b (slice_index words.new c)) ↔
+        (IsTrue (has_bit b (slice_index words.old c)) ⊎ (IsTrue (has_bit b word) ×
+        (i : ℕ) × (i < length targets.now) ×
+        (slice_index component.now (slice_index targets.now i) ≡ c))) }
 {
     for target in targets {
         words[component[*target]] |= word;
@@ -72,7 +77,8 @@ pub(crate) fn find_reaching(
     requires len { length own.now ≡ length graph.now.ids }
     requires own { AreSourceMarks sources.now own.now }
     ensures len { IfOk result (λ words. length words.items ≡ (parts partition.now).count) }
-    ensures reaching { IfOk result (λ words. AreReaching graph.now (parts partition.now) sources.now words.items) }
+    ensures reaching { IfOk result
+        (λ words. AreReaching graph.now (parts partition.now) sources.now words.items) }
 {
     let mut words = vec![in alloc; 0; partition.count]?;
     for node in &partition.order {
@@ -86,7 +92,8 @@ pub(crate) fn find_reaching(
 fn marks_over(targets: &[usize], component: &[usize], words: &[u64]) -> u64
     requires targets { All (λ j. j < length component.now) targets.now }
     requires counted { All (λ c. c < length words.now) component.now }
-    ensures { (b : ℕ) → IsTrue (has_bit b result) ↔ LeadsToBit component.now words.now targets.now b }
+    ensures { (b : ℕ) →
+        IsTrue (has_bit b result) ↔ LeadsToBit component.now words.now targets.now b }
 {
     let mut over = 0;
     for target in targets {

@@ -19,7 +19,8 @@ pub(crate) fn sharing_marks(
     requires doubtful { AreInRange (length own.now) doubtful.now.keys doubtful.now.touches.items }
     requires own { AreSourceMarks sources.now own.now }
     ensures len { IfOk result (λ words. length words.items ≡ length own.now) }
-    ensures sharing { IfOk result (λ words. AreSharing doubtful.now.touches.items sources.now words.items) }
+    ensures sharing { IfOk result
+        (λ words. AreSharing doubtful.now.touches.items sources.now words.items) }
 {
     let touching = key_marks(alloc, doubtful, own, false)?;
     let writing = key_marks(alloc, doubtful, own, true)?;
@@ -44,7 +45,9 @@ fn key_marks(
 ) -> Result<Vec<u64>, Memory>
     requires { AreInRange (length own.now) doubtful.now.keys doubtful.now.touches.items }
     ensures len { IfOk result (λ words. length words.items ≡ doubtful.now.keys) }
-    ensures marks { IfOk result (λ words. (t : DoubtfulTouch) → Contains doubtful.now.touches.items t → IsFalse only_writes ⊎ IsTrue t.writes → HasBitsOf (slice_index own.now t.node) (slice_index words.items t.key)) }
+    ensures marks { IfOk result (λ words. (t : DoubtfulTouch) →
+        Contains doubtful.now.touches.items t → IsFalse only_writes ⊎ IsTrue t.writes →
+        HasBitsOf (slice_index own.now t.node) (slice_index words.items t.key)) }
 {
     let mut words = vec![in alloc; 0; doubtful.keys]?;
     for touch in &doubtful.touches {

@@ -13,8 +13,8 @@ use std::hash::{BuildHasher, DefaultHasher, Hash, Hasher};
 #[derive(Clone, Copy, Debug, PartialEq, Eq, PartialOrd, Ord)]
 pub(crate) struct Touch {
     pub(crate) hash: u64,
-    /// The command's place in the order.
-    pub(crate) place: usize,
+    /// The command's position in the order.
+    pub(crate) position: usize,
     pub(crate) writes: bool,
 }
 
@@ -26,59 +26,59 @@ fn hash_of(start: DefaultHasher, key: &Key) -> u64
     hasher.finish()
 }
 
-/// Adds what the command at a place does to a key.
+/// Adds what the command at a position does to a key.
 fn add_key(
     touches: &mut Vec<Touch>,
     start: DefaultHasher,
-    place: usize,
+    position: usize,
     key: &Key,
     writes: bool,
 ) -> Result<(), Memory>
-    ensures { OnOk result (touches.new.items ≡ touches.old.items ++ touch start place key.now writes ∷ []) }
+    ensures { OnOk result (touches.new.items ≡ touches.old.items ++ touch start position key.now writes ∷ []) }
 {
     let hash = hash_of(start, key);
     touches.push(Touch {
         hash,
-        place,
+        position,
         writes,
     })?;
     Ok(())
 }
 
-/// Adds what an operation of the command at a place does.
+/// Adds what an operation of the command at a position does.
 fn add_operation(
     touches: &mut Vec<Touch>,
     start: DefaultHasher,
-    place: usize,
+    position: usize,
     op: &Op,
 ) -> Result<(), Memory>
-    ensures { OnOk result (touches.new.items ≡ touches.old.items ++ touches_by start place op.now) }
+    ensures { OnOk result (touches.new.items ≡ touches.old.items ++ touches_by start position op.now) }
 {
     match op {
         Op::Get { key } | Op::Is { key, .. } | Op::Floor { key, .. } => {
-            add_key(touches, start, place, key, false)
+            add_key(touches, start, position, key, false)
         }
         Op::Put { key, .. } | Op::Del { key } | Op::Add { key, .. } => {
-            add_key(touches, start, place, key, true)
+            add_key(touches, start, position, key, true)
         }
         Op::Copy { source, target } => {
-            add_key(touches, start, place, source, false)?;
-            add_key(touches, start, place, target, true)
+            add_key(touches, start, position, source, false)?;
+            add_key(touches, start, position, target, true)
         }
     }
 }
 
-/// Adds what the command at a place does.
+/// Adds what the command at a position does.
 fn add_command(
     touches: &mut Vec<Touch>,
     start: DefaultHasher,
-    place: usize,
+    position: usize,
     ops: &[Op],
 ) -> Result<(), Memory>
-    ensures { OnOk result (touches.new.items ≡ touches.old.items ++ touches_of start place ops.now) }
+    ensures { OnOk result (touches.new.items ≡ touches.old.items ++ touches_of start position ops.now) }
 {
     for op in ops {
-        add_operation(touches, start, place, op)?;
+        add_operation(touches, start, position, op)?;
     }
     Ok(())
 }
@@ -98,7 +98,7 @@ pub(crate) fn start_of(alloc: Global, merged: &Merged) -> Result<DefaultHasher, 
     Ok(Seed::after(keys).build_hasher())
 }
 
-/// The touches of the commands of an order, given as nodes, by rising hash and then by rising place.
+/// The touches of the commands of an order, given as nodes, by rising hash and then by rising position.
 pub(crate) fn find_touches(
     alloc: Global,
     merged: &Merged,
@@ -110,8 +110,8 @@ pub(crate) fn find_touches(
     ensures whole { IfOk result (λ touches. HoldTouches start merged.now nodes.now (length nodes.now) touches.items) }
 {
     let mut touches = Vec::new(alloc);
-    for (place, node) in nodes.iter().enumerate() {
-        add_command(&mut touches, start, place, merged.entry_at(*node).ops())?;
+    for (position, node) in nodes.iter().enumerate() {
+        add_command(&mut touches, start, position, merged.entry_at(*node).ops())?;
     }
     touches.sort()?;
     Ok(touches)

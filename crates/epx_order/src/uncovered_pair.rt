@@ -16,9 +16,9 @@ ghost use Rattle.epx_order.specs.Uncovered.{IsLeastUncovered};
 use crate::batch::Batch;
 use crate::conflicts::{CommandKeys, all_keys};
 use crate::doubtful_touches::{DoubtfulTouch, DoubtfulTouches, find_doubtful};
-use crate::linking::is_seen_covered;
 use crate::listing::ready_nodes;
 use crate::order_list::OrderList;
+use crate::quick_audit::is_seen_covered;
 use crate::source_marks::{SOURCES, has_bit};
 use crate::touches::start_of;
 use epx_components::{Partition, find_components};
@@ -28,8 +28,8 @@ use epx_types::{Id, Memory};
 use std::alloc::Global;
 use std::hash::DefaultHasher;
 
-/// The least two ready instances, by the lower Id and then by the other one, that conflict and of which
-/// neither reaches the other, if there are any.
+/// The least two ready instances, by the lower Id and then by the other one, that conflict and of
+/// which neither reaches the other, if there are any.
 pub fn audit(
     alloc: Global,
     merged: &Merged,
@@ -40,8 +40,8 @@ pub fn audit(
     requires order { IsExecutionOrder merged.now order.now }
     ensures { IfOk result (λ found. MatchOption found (IsCovered merged.now) (λ pair. IsLeastUncovered merged.now pair.0 pair.1)) }
 {
-    // To make a start from all keys takes as long as the look itself, and only keys that were picked to fall
-    // together need one.
+    // To make a start from all keys takes as long as the audit itself, and only keys that were
+    // chosen to collide need one.
     if is_seen_covered(alloc, merged, graph, order, DefaultHasher::new())? {
         return Ok(None);
     }
@@ -56,8 +56,8 @@ pub fn audit(
     }
 }
 
-/// The least two nodes, by the lower one and then by the other, of ready instances that conflict and
-/// are not related.
+/// The least two nodes, by the lower one and then by the other, of ready instances that conflict
+/// and are not related.
 fn find_pair<'a>(
     alloc: Global,
     graph: &Graph,
@@ -70,7 +70,9 @@ fn find_pair<'a>(
     requires ready { length ready.now ≡ length graph.now.ids }
     requires nodes { length keys.now ≤ length graph.now.ids }
     requires doubtful { AreInRange (length keys.now) doubtful.now.keys doubtful.now.touches.items }
-    ensures { IfOk result (λ found. (m : List Instance) → keys.now ≡ map keys_of m → HoldAllConflicts m (edges_of graph.now) ready.now doubtful.now.touches.items → MatchOption found
+    ensures { IfOk result (λ found. (m : List Instance) → keys.now ≡ map keys_of m →
+        HoldAllConflicts m (edges_of graph.now) ready.now doubtful.now.touches.items →
+        MatchOption found
         ((k j : ℕ) → k < j → IsSettled m (edges_of graph.now) ready.now k j)
         (λ pair. IsLeastPair m (edges_of graph.now) ready.now pair.0 pair.1)) }
 {
@@ -125,7 +127,9 @@ fn first_pair<'a>(
     requires few { length sources.now ≤ 64 }
     requires in_range { All (λ k. k < length keys.now) sources.now }
     requires sources { All (λ k. IsTrue (is_marked ready.now k)) sources.now }
-    ensures { IfOk result (λ found. (m : List Instance) → keys.now ≡ map keys_of m → HoldAllConflicts m (edges_of graph.now) ready.now doubtful.now.touches.items → MatchOption found
+    ensures { IfOk result (λ found. (m : List Instance) → keys.now ≡ map keys_of m →
+        HoldAllConflicts m (edges_of graph.now) ready.now doubtful.now.touches.items →
+        MatchOption found
         (AreSettled m (edges_of graph.now) ready.now sources.now (length sources.now))
         (λ pair. IsFirstPair m (edges_of graph.now) ready.now sources.now pair.0 pair.1)) }
 {
@@ -142,7 +146,8 @@ fn first_pair<'a>(
     Ok(None)
 }
 
-/// The least node above a source that conflicts with it and is not related to it, both of ready instances.
+/// The least node above a source that conflicts with it and is not related to it, both of ready
+/// instances.
 fn first_partner<'a>(
     partition: &Partition,
     ready: &[bool],
@@ -156,7 +161,12 @@ fn first_partner<'a>(
     requires bit { bit < 64 }
     requires source { source < length keys.now }
     requires ready { IsTrue (is_marked ready.now source) }
-    ensures { (m : List Instance) (g : DependencyGraph) (touches : List DoubtfulTouch) (sources : List ℕ) → keys.now ≡ map keys_of m → HoldAllConflicts m (edges_of g) ready.now touches → IsBatch g (parts partition.now) touches sources batch.now → bit < length sources → slice_index sources bit ≡ source → MatchOption result
+    ensures { (m : List Instance) (g : DependencyGraph) (touches : List DoubtfulTouch)
+        (sources : List ℕ) →
+        keys.now ≡ map keys_of m → HoldAllConflicts m (edges_of g) ready.now touches →
+        IsBatch g (parts partition.now) touches sources batch.now →
+        bit < length sources → slice_index sources bit ≡ source →
+        MatchOption result
         ((j : ℕ) → source < j → IsSettled m (edges_of g) ready.now source j)
         (λ j. (j < length keys.now) × IsPartner m (edges_of g) ready.now source j) }
 {

@@ -2,28 +2,28 @@
 //! words. Devices and words are crates of their own below; whoever uses epx finds them here.
 #![tactic(auto)]
 
-mod answer;
+mod answers;
 mod ask;
-mod check;
+mod checked_runs;
+mod checks;
 pub mod laws;
 mod report;
-mod resume;
-mod run;
-mod run_check;
-mod run_resume;
+mod resumed_runs;
+mod resumptions;
+mod runs;
 mod sources;
 mod verdict;
 mod with_input;
 
-pub use answer::{answer, view};
+pub use answers::{answer, view};
 pub use ask::Ask;
-pub use check::check;
+pub use checked_runs::run_check;
+pub use checks::check;
 pub use epx_devices::{
     DeviceFault, FuseSink, FuseSource, MemorySink, MemorySource, PathSource, Sink, Source, StdSink,
     StdSource, read_log, write_out,
 };
 pub use epx_words::{Task, Words, read_words};
-pub use resume::resume;
-pub use run::{run, show};
-pub use run_check::run_check;
-pub use run_resume::run_resume;
+pub use resumed_runs::run_resume;
+pub use resumptions::resume;
+pub use runs::{run, show};

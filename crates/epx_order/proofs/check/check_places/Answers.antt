@@ -3,8 +3,8 @@ use Rattle.std.proofs.lemmas.Bool.{false≢true}
 use Rattle.std.proofs.lemmas.List.{get_or_read}
 use Rattle.std.proofs.lemmas.List.Elements.{All-get_or}
 use Rattle.epx_components.specs.Partitions.{parts, component_of}
-use Rattle.epx_order.specs.Turns.{turn_of, ComesBefore, IsAheadAt}
-use Rattle.epx_order.proofs.TurnLemmas.{latest_in, passed_from_latest, passed_to_latest, latest_step, none_aside_step}
+use Rattle.epx_order.specs.SequenceKeys.{sequence_key_of, ComesBefore, IsAheadAt}
+use Rattle.epx_order.proofs.SequenceKeyLemmas.{latest_in, passed_from_latest, passed_to_latest, latest_step, none_aside_step}
 use Rattle.epx_order.proofs.check.check_places.Goals as goal
 
 pub returns-then-comes_before : goal.returns-then-comes_before
@@ -38,7 +38,7 @@ loop-place-preserved c =
     let own : c.index-own.result.now ≡ component_of p k = get_or_read p.component k _ node_in c.index-own.ensures 0 in
     let own_in : component_of p k < length latest = omega (arith, All-get_or (λ c. c < p.count) p.component k 0 node_in c.requires.counted, old.latest.whole) in
     let last : c.index.result.now ≡ latest_in p latest k = get_or_read latest _ _ (omega (arith, own)) c.index.ensures None ∙ ap (λ c. get_or latest c None) own in
-    let none : ¬ ComesBefore (turn_of e) (latest_in p latest k) = λ h. false≢true (sym c.if-comes_before.false ∙ c.comes_before.ensures.1 (subst₂ ComesBefore (sym c.of-turn.ensures) (sym last) h)) in
+    let none : ¬ ComesBefore (sequence_key_of e) (latest_in p latest k) = λ h. false≢true (sym c.if-comes_before.false ∙ c.comes_before.ensures.1 (subst₂ ComesBefore (sym c.of-turn.ensures) (sym last) h)) in
     let not_ahead : ¬ IsAheadAt p below nodes n = λ ahead. absurd (omega (arith, ahead, c.if-below-own.false, ap (λ c. get_or below c 0) own)) in
     record {
       latest = rw (own, c.of-turn.ensures) (latest_step m p nodes n latest old.latest e c.entry_at.ensures own_in none);

@@ -1,6 +1,6 @@
 use Rattle.epx_components.specs.Partitions.{parts}
-use Rattle.epx_order.specs.Turns.{NoneAside}
-use Rattle.epx_order.proofs.TurnLemmas.{AreLatest}
+use Rattle.epx_order.specs.SequenceKeys.{NoneAside}
+use Rattle.epx_order.proofs.SequenceKeyLemmas.{AreLatest}
 use Rattle.epx_order.proofs.check.check_places.Given as goal
 
 abbrev pub invariant-loop-place : goal.invariant-loop-place

@@ -4,7 +4,7 @@ use Rattle.epx_order.proofs.doubtful_touches.doubtful_hashes.Given as goal
 
 abbrev pub invariant-loop-index : goal.invariant-loop-index
 invariant-loop-index l = record {
-  seen : length l.walk.seen.items ≡ length l.graph.ids;
-  since : l.since ≤ l.index;
+  seen : length l.path_search.seen.items ≡ length l.graph.ids;
+  last_writer : l.last_writer ≤ l.index;
   rising : IsStrictlyIncreasing l.hashes.items;
 }

@@ -24,19 +24,19 @@ of-requires-clause-joined c = leaders_join c.args.merged.now c.args.order.now c.
 pub doubtful_hashes-requires-clause-placed : goal.doubtful_hashes-requires-clause-placed
 doubtful_hashes-requires-clause-placed c t h =
     let placed = c.in_ok-touches.ensures.placed t (subst (λ ts. Contains ts t) c.deref-2.ensures.value h) in
-    omega (arith, placed, ap length c.deref.ensures.value, ap length c.in_ok-ways.ensures.nodes)
+    omega (arith, placed, ap length c.deref.ensures.value, ap length c.in_ok-reach.ensures.nodes)
 
 pub are_linked-requires-clause-placed : goal.are_linked-requires-clause-placed
 are_linked-requires-clause-placed c t h =
     let in_sure = subst (λ ts. Contains ts t) c.deref-5.ensures.value h in
     let in_all = subst (λ ts. Contains ts t) c.deref-3.ensures.value (c.in_ok-sure.ensures.some t in_sure) in
     let placed = c.in_ok-touches.ensures.placed t in_all in
-    omega (arith, placed, ap length c.deref.ensures.value, ap length c.in_ok-ways.ensures.nodes)
+    omega (arith, placed, ap length c.deref.ensures.value, ap length c.in_ok-reach.ensures.nodes)
 
 pub doubtful_touches-requires-clause-placed : goal.doubtful_touches-requires-clause-placed
 doubtful_touches-requires-clause-placed c t h =
     let placed = c.in_ok-touches.ensures.placed t (subst (λ ts. Contains ts t) c.deref-7.ensures.value h) in
-    omega (arith, placed, ap length c.deref.ensures.value, ap length c.in_ok-ways.ensures.nodes, ap length c.deref-6.ensures.value)
+    omega (arith, placed, ap length c.deref.ensures.value, ap length c.in_ok-reach.ensures.nodes, ap length c.deref-6.ensures.value)
 
 pub returns-then-not-branch : goal.returns-then-not-branch
 returns-then-not-branch c = record {
@@ -50,14 +50,14 @@ returns c =
     let g = c.args.graph.now in
     let start = c.args.start in
     let nodes = c.in_ok-nodes.nodes.items in
-    let ways = c.in_ok-ways.ways.nodes.items in
+    let reach = c.in_ok-reach.reach.nodes.items in
     let touches = c.in_ok-touches.touches.items in
     let sure = c.in_ok-sure.sure.items in
     let hashes = c.in_ok-hashes.hashes.items in
     let doubtful = c.in_ok-touches-2.touches.items in
-    let same = c.in_ok-ways.ensures.nodes in
+    let same = c.in_ok-reach.ensures.nodes in
     let hold = subst (λ ns. HoldTouches start m ns (length ns) touches) c.deref.ensures.value c.in_ok-touches.ensures.whole in
-    let on = subst (λ ts. AreLinked (edges_of g) ways ts (length ts)) c.deref-5.ensures.value (c.in_ok-are_linked.ensures c.if-not-branch.false) in
+    let on = subst (λ ts. AreLinked (edges_of g) reach ts (length ts)) c.deref-5.ensures.value (c.in_ok-are_linked.ensures c.if-not-branch.false) in
     let linked = subst (λ ns. AreLinked (edges_of g) ns sure (length sure)) same on in
     let keeps : (t : Touch) → Contains touches t → ¬ Contains hashes t.hash → Contains sure t = λ t h none. c.in_ok-sure.ensures.all t (subst (λ ts. Contains ts t) (sym c.deref-3.ensures.value) h) (subst (λ ds. ¬ Contains ds t.hash) (sym c.deref-4.ensures.value) none) in
     let found : (t : Touch) (key : ℕ) → Contains touches t → key < length hashes → get_or hashes key 0 ≡ t.hash → Contains doubtful (doubtful_touch nodes key t) = rw (c.deref-6.ensures.value, c.deref-7.ensures.value, c.deref-8.ensures.value, same) at c.in_ok-touches-2.ensures.whole in

@@ -1,4 +1,4 @@
-use Rattle.std.proofs.Common.{◌≡◌, ℕ, ◌+◌, ◌<◌, List, Contains, sym, subst}
+use Rattle.std.proofs.Common.{ℕ, ◌+◌, ◌<◌, List, Contains, sym, subst}
 use Rattle.epx_order.specs.declared.doubtful_touches.DoubtfulTouch.{DoubtfulTouch}
 use Rattle.epx_order.specs.DoubtfulKeys.{AreInRange}
 use Rattle.epx_order.proofs.DoubtfulTouches.{writes_one_key, one_key_more, one_key_in_range}

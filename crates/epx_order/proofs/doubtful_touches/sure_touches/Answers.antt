@@ -1,4 +1,4 @@
-use Rattle.std.proofs.Common.{◌≡◌, ◌+◌, ◌++◌, ◌∷◌, [], not, true, Contains, sym, subst, ap, ◌∙◌, arith}
+use Rattle.std.proofs.Common.{◌≡◌, ◌+◌, ◌++◌, ◌∷◌, [], not, Contains, sym, subst, ap, ◌∙◌, arith}
 use Rattle.epx_order.specs.declared.touches.Touch.{Touch}
 use Rattle.epx_order.specs.Links.{touch_at}
 use Rattle.epx_order.proofs.DoubtfulTouches.{AreSome, HoldSure, numbered, sure_more, hold_more, hold_same}

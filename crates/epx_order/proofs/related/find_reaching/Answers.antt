@@ -1,8 +1,8 @@
-use Rattle.std.proofs.Common.{◌≡◌, ◌↔◌, ◌+◌, ◌<◌, ℕ, List, length, length-set, get_or, set, replicate, bit_or, IsTrue, sym, subst, ap, ◌∙◌, arith}
+use Rattle.std.proofs.Common.{◌≡◌, ◌↔◌, ◌<◌, ℕ, length, length-set, get_or, replicate, IsTrue, subst, ap, ◌∙◌, arith}
 use Rattle.std.proofs.lemmas.List.{get_or_read, length-replicate}
 use Rattle.epx_graph.specs.Graphs.{edges_of}
 use Rattle.epx_components.specs.Partitions.{parts, component_of, node_at}
-use Rattle.epx_components.proofs.PartitionLemmas.{node_below, component_below, targets_below}
+use Rattle.epx_components.proofs.PartitionLemmas.{node_below, component_below}
 use Rattle.epx_order.specs.SourceBits.{has_bit, LeadsToBit}
 use Rattle.epx_order.proofs.ReachedBits.{AreReachingBits, reaching_bits_first, reaching_bits_more, reaching_bits_all}
 use Rattle.epx_order.proofs.related.find_reaching.Goals as goal

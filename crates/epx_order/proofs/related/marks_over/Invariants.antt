@@ -1,4 +1,4 @@
-use Rattle.std.proofs.Common.{◌≡◌, ◌↔◌, ℕ, ◌<◌, get_or, IsTrue}
+use Rattle.std.proofs.Common.{◌↔◌, ℕ, ◌<◌, get_or, IsTrue}
 use Rattle.epx_order.specs.SourceBits.{has_bit}
 use Rattle.epx_order.proofs.related.marks_over.Given as goal
 

@@ -1,9 +1,9 @@
-use Rattle.std.proofs.Common.{◌≡◌, inl, inr, ℕ, ◌+◌, ◌<◌, List, Bool, length, length-set, get_or, set, bit_or, cond, Contains, IsTrue, refl, sym, subst, ap, ◌∙◌, arith}
+use Rattle.std.proofs.Common.{◌≡◌, inl, inr, ◌<◌, Bool, length, length-set, get_or, cond, Contains, refl, sym, subst, ap, ◌∙◌, arith}
 use Rattle.std.proofs.lemmas.List.{get_or_read}
 use Rattle.std.proofs.lemmas.List.Elements.{Contains-get_or}
 use Rattle.epx_order.specs.declared.doubtful_touches.DoubtfulTouch.{DoubtfulTouch}
 use Rattle.epx_order.specs.SourceBits.{HasBitsOf}
-use Rattle.epx_order.proofs.SharingBits.{doubtful_at, doubtful_numbered, word_of, AreShared, shared_more, all_sharing}
+use Rattle.epx_order.proofs.SharingBits.{doubtful_at, doubtful_numbered, word_of, shared_more, all_sharing}
 use Rattle.epx_order.proofs.sharing_marks.sharing_marks.Goals as goal
 use Rattle.epx_order.proofs.sharing_marks.sharing_marks.Goals.{then-touch, else-touch}
 

@@ -7,21 +7,21 @@ use Rattle.epx_order.specs.Touches.{touches_of}
 use Rattle.epx_order.proofs.TouchLemmas.{touch_place}
 use Rattle.epx_order.proofs.touches.find_touches.Goals as goal
 
-pub loop-place-preserved : goal.loop-place-preserved
-loop-place-preserved c =
-    let n = c.loop-place.place in
+pub loop-position-preserved : goal.loop-position-preserved
+loop-position-preserved c =
+    let n = c.loop-position.position in
     let start = c.args.start in
-    let old = c.loop-place.touches.items in
+    let old = c.loop-position.touches.items in
     let ops = c.ops.result.now in
     let more = touches_of start n ops in
     let new : c.add_command.new.touches.items ≡ old ++ more = c.in_ok-add_command.ensures in
     record {
       placed = λ t h. elim (Contains-append_cases old more t (subst (λ ts. Contains ts t) new h)) [
-        | inl was ↦ let below = c.loop-place.invariant.placed t was in omega arith
+        | inl was ↦ let below = c.loop-position.invariant.placed t was in omega arith
         | inr now ↦ let at = touch_place start n ops t now in omega (arith, at)
       ];
       whole = λ p e t l at h. subst (λ ts. Contains ts t) (sym new) (elim (cases_lt p n) [
-        | inl past ↦ Contains-append_left old more t (c.loop-place.invariant.whole p e t past at h)
+        | inl past ↦ Contains-append_left old more t (c.loop-position.invariant.whole p e t past at h)
         | inr here ↦
             let same : p ≡ n = omega arith in
             let m = c.args.merged.now in
@@ -35,8 +35,8 @@ loop-place-preserved c =
 pub returns-clause-placed : goal.returns-clause-placed
 returns-clause-placed c t h =
     let back = Contains-permutation _ _ t (IsPermutation-sym _ _ c.sort.ensures.permutation) h in
-    let below = c.loop-place.invariant.placed t back in
-    omega (arith, below, c.loop-place-test.false, c.loop-place.auto.place-end)
+    let below = c.loop-position.invariant.placed t back in
+    omega (arith, below, c.loop-position-test.false, c.loop-position.auto.position-end)
 
 pub returns-clause-whole : goal.returns-clause-whole
-returns-clause-whole c p e t l at h = Contains-permutation _ _ t c.sort.ensures.permutation (c.loop-place.invariant.whole p e t (omega (arith, l, c.loop-place-test.false)) at h)
+returns-clause-whole c p e t l at h = Contains-permutation _ _ t c.sort.ensures.permutation (c.loop-position.invariant.whole p e t (omega (arith, l, c.loop-position-test.false)) at h)

@@ -1,4 +1,4 @@
-use Rattle.std.proofs.Common.{◌≡◌, ◌<◌, length, sym, subst, ap, ◌∙◌, arith}
+use Rattle.std.proofs.Common.{length, sym, subst, ap, ◌∙◌, arith}
 use Rattle.std.proofs.lemmas.List.{length-map}
 use Rattle.epx_graph.specs.Graphs.{edges_of}
 use Rattle.epx_order.specs.NodeConflicts.{keys_of}

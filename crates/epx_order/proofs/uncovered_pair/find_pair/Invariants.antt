@@ -1,4 +1,4 @@
-use Rattle.std.proofs.Common.{◌≡◌, ℕ, ◌*◌, List, length, map, min}
+use Rattle.std.proofs.Common.{◌≡◌, ◌*◌, List, length, map, min}
 use Rattle.epx_types.specs.Instances.{Instance}
 use Rattle.epx_graph.specs.Graphs.{edges_of}
 use Rattle.epx_order.specs.DoubtfulKeys.{HoldAllConflicts}

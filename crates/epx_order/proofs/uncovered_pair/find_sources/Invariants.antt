@@ -1,5 +1,4 @@
-use Rattle.std.proofs.Common.{◌≡◌, ℕ, ◌<◌, length, get_or, Contains, IsTrue}
-use Rattle.epx_order.specs.declared.doubtful_touches.DoubtfulTouch.{DoubtfulTouch}
+use Rattle.std.proofs.Common.{◌≡◌, ℕ, ◌<◌, length, IsTrue}
 use Rattle.epx_order.specs.ReadyMarks.{is_marked}
 use Rattle.epx_order.proofs.SharingBits.{doubtful_at}
 use Rattle.epx_order.proofs.SourceLists.{IsTouching, AreSourcesBelow}

@@ -1,8 +1,7 @@
-use Rattle.std.proofs.Common.{◌≡◌, ℕ, ◌<◌, length, get_or, ap, ◌∙◌, arith}
+use Rattle.std.proofs.Common.{◌≡◌, ◌<◌, length, get_or, ap, ◌∙◌, arith}
 use Rattle.std.proofs.lemmas.List.{get_or_read}
 use Rattle.std.proofs.lemmas.List.Elements.{All-get_or}
 use Rattle.epx_components.specs.Partitions.{parts, component_of, number_for}
-use Rattle.epx_order.specs.SourceBits.{HasAlone}
 use Rattle.epx_order.proofs.BatchLemmas.{apart_by_bits, rest_by_bits}
 use Rattle.epx_order.proofs.batch.Batch.candidates.Goals as goal
 

@@ -1,4 +1,4 @@
-use Rattle.std.proofs.Common.{◌≡◌, inl, inr, ℕ, ◌<◌, get_or, IsTrue, subst, arith}
+use Rattle.std.proofs.Common.{◌≡◌, inl, inr, get_or, IsTrue, subst, arith}
 use Rattle.std.proofs.lemmas.Bool.{cases_lt}
 use Rattle.epx_graph.specs.Graphs.{edges_of}
 use Rattle.epx_order.specs.DoubtfulKeys.{IsRelatedOrFree}

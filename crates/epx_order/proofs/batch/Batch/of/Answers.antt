@@ -1,4 +1,4 @@
-use Rattle.std.proofs.Common.{◌<◌, length, ap, arith}
+use Rattle.std.proofs.Common.{length, ap, arith}
 use Rattle.epx_order.proofs.batch.Batch.of.Goals as goal
 
 pub sharing_marks-requires-clause-doubtful : goal.sharing_marks-requires-clause-doubtful

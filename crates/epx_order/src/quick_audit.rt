@@ -1,0 +1,151 @@
+//! A quick audit, which proves of most covered maps that they are covered.
+ghost use Rattle.std.specs.Prelude.{◌≡◌, ◌<◌, ◌≤◌, length, slice_get, All, IfOk, IsTrue};
+ghost use Rattle.epx_types.specs.CommittedMap.{IsCommitted, ids_of};
+ghost use Rattle.epx_types.specs.Conflicts.{IsCovered};
+ghost use Rattle.epx_types.specs.Ids.{IsRising};
+ghost use Rattle.epx_types.specs.ExecutionOrder.{IsExecutionOrder};
+ghost use Rattle.epx_graph.specs.Graphs.{edges_of};
+ghost use Rattle.epx_graph.specs.GraphOf.{IsGraphOf};
+ghost use Rattle.epx_order.specs.Links.{touch_at, AreLinked, IsRelatedBack, IsNextWriter};
+ghost use Rattle.epx_order.specs.Touches.{ArePlaced};
+ghost use Rattle.epx_order.specs.ReachIndexes.{AreNodesOf, IsReachIndex};
+
+use crate::order_list::OrderList;
+use crate::reach_index::ReachIndex;
+use crate::search::Search;
+use crate::touches::{Touch, find_touches};
+use epx_graph::Graph;
+use epx_merge::Merged;
+use epx_types::{Id, Memory};
+use std::alloc::Global;
+use std::hash::DefaultHasher;
+
+/// Whether the commands that touch a key are found to be related, key by key: each writer reaches
+/// the last writer before it and all that touched the key in between, and each reader reaches the
+/// last writer. The other pairs follow, so about two pairs a touch are tested.
+///
+/// A yes is certain. A no is not: two keys may share a hash, which is made from the start, and the
+/// searches have a limit.
+pub(crate) fn is_seen_covered(
+    alloc: Global,
+    merged: &Merged,
+    graph: &Graph,
+    order: &OrderList,
+    start: DefaultHasher,
+) -> Result<bool, Memory>
+    requires graph { IsGraphOf merged.now graph.now }
+    requires order { IsExecutionOrder merged.now order.now }
+    ensures { IfOk result (λ yes. IsTrue yes → IsCovered merged.now) }
+{
+    let nodes = order_nodes(alloc, merged, order)?;
+    let touches = find_touches(alloc, merged, &nodes, start)?;
+    let reach = ReachIndex::of(alloc, graph, order, nodes)?;
+    are_linked(alloc, graph, &reach, &touches)
+}
+
+/// The node at each position of an order.
+pub(crate) fn order_nodes(
+    alloc: Global,
+    merged: &Merged,
+    order: &OrderList,
+) -> Result<Vec<usize>, Memory>
+    requires rising { IsRising (ids_of merged.now) }
+    requires order { IsExecutionOrder merged.now order.now }
+    ensures { IfOk result (λ nodes. AreNodesOf merged.now order.now nodes.items) }
+{
+    let mut nodes = Vec::with_capacity(alloc, order.len())?;
+    for id in order.ids() {
+        nodes.push(node_of(merged, *id))?;
+    }
+    Ok(nodes)
+}
+
+/// The node of a committed instance.
+fn node_of(merged: &Merged, id: Id) -> usize
+    requires rising { IsRising (ids_of merged.now) }
+    requires committed { IsCommitted merged.now id }
+    ensures { slice_get (ids_of merged.now) result ≡ Some id }
+{
+    match merged.position(id) {
+        Some(position) => position,
+        None => unreachable!(),
+    }
+}
+
+/// Whether, of any two touches of one hash of which one writes, the later one is found to reach the
+/// earlier one.
+pub(crate) fn are_linked(
+    alloc: Global,
+    graph: &Graph,
+    reach: &ReachIndex,
+    touches: &[Touch],
+) -> Result<bool, Memory>
+    requires reach { IsReachIndex graph.now reach.now }
+    requires placed { ArePlaced (length reach.now.nodes.items) touches.now }
+    ensures { IfOk result (λ yes. IsTrue yes →
+        AreLinked (edges_of graph.now) reach.now.nodes.items touches.now (length touches.now)) }
+{
+    let mut path_search = Search::new(alloc, graph.len())?;
+    let mut last_writer = 0;
+    for index in 0..touches.len() {
+        if !is_related_back(&mut path_search, graph, reach, touches, last_writer, index)? {
+            return Ok(false);
+        }
+        last_writer = next_writer(touches, last_writer, index);
+    }
+    Ok(true)
+}
+
+/// The index of the last touch that writes, or of the first one of the hash.
+pub(crate) fn next_writer(touches: &[Touch], last_writer: usize, index: usize) -> usize
+    requires last_writer { last_writer ≤ index }
+    requires index { index < length touches.now }
+    ensures within { result ≤ index }
+    ensures next { IsNextWriter touches.now last_writer index result }
+{
+    if touches[index].writes || touches[index].hash != touches[last_writer].hash {
+        index
+    } else {
+        last_writer
+    }
+}
+
+/// Whether a touch is in order, and is found to reach the touches before it that it has to reach.
+pub(crate) fn is_related_back(
+    path_search: &mut Search,
+    graph: &Graph,
+    reach: &ReachIndex,
+    touches: &[Touch],
+    last_writer: usize,
+    index: usize,
+) -> Result<bool, Memory>
+    requires seen { length path_search.old.seen.items ≡ length graph.now.ids }
+    requires reach { IsReachIndex graph.now reach.now }
+    requires placed { ArePlaced (length reach.now.nodes.items) touches.now }
+    requires last_writer { last_writer ≤ index }
+    requires index { index < length touches.now }
+    ensures seen { length path_search.new.seen.items ≡ length path_search.old.seen.items }
+    ensures rises { IfOk result (λ yes. IsTrue yes →
+        (touch_at touches.now last_writer).hash ≤ (touch_at touches.now index).hash) }
+    ensures related_back { IfOk result (λ yes. IsTrue yes →
+        (touch_at touches.now last_writer).hash ≡ (touch_at touches.now index).hash →
+        IsRelatedBack (edges_of graph.now) reach.now.nodes.items touches.now last_writer index) }
+{
+    let (first, touch) = (touches[last_writer], touches[index]);
+    if touch.hash != first.hash {
+        return Ok(first.hash < touch.hash);
+    }
+    let end = if touch.writes {
+        index
+    } else {
+        index.min(last_writer + 1)
+    };
+    for earlier in last_writer..end {
+        let other = touches[earlier];
+        let asked = touch.writes || other.writes;
+        if asked && !path_search.reaches(graph, reach, touch.position, other.position)? {
+            return Ok(false);
+        }
+    }
+    Ok(true)
+}

@@ -1,0 +1,24 @@
+//! What decides an instance's place inside its component.
+ghost use Rattle.std.specs.Prelude.{◌≡◌};
+ghost use Rattle.epx_order.specs.SequenceKeys.{sequence_key_of};
+
+use epx_types::{Entry, Id};
+
+/// What decides an instance's place among the members of its component. Turns are ordered by their
+/// fields, the first one first.
+#[derive(Clone, Copy, Debug, PartialEq, Eq, PartialOrd, Ord)]
+pub(crate) struct SequenceKey {
+    pub(crate) seq: u64,
+    pub(crate) id: Id,
+}
+
+impl SequenceKey {
+    pub(crate) fn of(entry: &Entry) -> SequenceKey
+        ensures { result ≡ sequence_key_of entry.now }
+    {
+        SequenceKey {
+            seq: entry.seq(),
+            id: entry.id(),
+        }
+    }
+}

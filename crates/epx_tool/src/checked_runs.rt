@@ -1,0 +1,91 @@
+//! A run that checks a list: logs and list are read from sources, and the answer is written to a
+//! sink.
+ghost use Rattle.std.specs.Prelude.{◌≡◌, ◌≢◌, ◌↔◌, ◌+◌, ◌<◌, ℕ, true, false, drop, length, All, Some, slice_get, Ok, OnOk, IfErr, IsErrOf};
+ghost use Rattle.std.specs.Io.KnownBytes.{Appends, Keeps, IsAtEnd};
+ghost use Rattle.epx_base.specs.Lists.{IsBadList};
+ghost use Rattle.epx_merge.specs.Limits.{max_log_bytes};
+ghost use Rattle.epx_tool.specs.Checking.{IsChecked, Checks};
+ghost use Rattle.epx_tool.specs.Runs.{AreBytesOf};
+ghost use Rattle.epx_tool.specs.RunsWithInput.{IsRunFaultWithInput};
+ghost use Rattle.epx_tool.specs.Sources.{EachConsumesUpTo, StopsAt};
+ghost use Rattle.epx_tool.specs.DeliveredWithInput.{AnswersBoth, EndsWithoutBoth};
+ghost use Rattle.epx_devices.specs.Transfers.{AppendsPrefix, ConsumesUpTo};
+
+use crate::checks::check_owned;
+use crate::sources::read_with_input;
+use epx_devices::{Sink, Source, write_out};
+use epx_merge::MAX_LOGS;
+use epx_types::{Fault, Plan};
+use std::alloc::Global;
+use std::random::RandomSource;
+use std::thread::Threads;
+
+/// Reads the logs from the sources in order and then the list from its own, and writes what is
+/// found of the list to the sink, whole or not at all; a sink that fails has taken a prefix. The
+/// list carries the number of logs in faults.
+pub fn run_check<T: Threads + RandomSource + Sync, L: Source, S: Source, W: Sink>(
+    rt: &T,
+    alloc: Global,
+    list: &mut L,
+    sources: &mut [S],
+    plan: Plan,
+    sink: &mut W,
+) -> Result<(), Fault>
+    requires list { L.has_failed list.old ≡ false }
+    requires sources { All (λ s. S.has_failed s ≡ false) sources.old }
+    requires sink { W.has_failed sink.old ≡ false }
+
+    ensures text { OnOk result ((listed : _) (logs : _) → L.remaining list.old ≡ Some listed
+        → AreBytesOf S.remaining sources.old logs →
+        (text : _) × Checks listed logs (Ok text)
+        × Appends (W.contents sink.old) (W.contents sink.new) text) }
+    ensures answered { OnOk result
+        (AnswersBoth L.reads S.reads IsBadList IsChecked list.old list.new sources.old sources.new
+        (Appends (W.contents sink.old) (W.contents sink.new))) }
+    ensures flushed { OnOk result (W.is_flushed sink.new ≡ true) }
+
+    ensures refusal { IfErr result (λ fault. (listed : _) (logs : _)
+        → L.remaining list.old ≡ Some listed
+        → AreBytesOf S.remaining sources.old logs
+        → IsRunFaultWithInput IsBadList IsChecked listed logs fault) }
+    ensures refused { IfErr result (λ fault. fault ≢ Fault.Write → EndsWithoutBoth L.reads L.fails
+        S.reads S.fails IsBadList list.old list.new sources.old sources.new fault) }
+    ensures nothing { IfErr result (λ fault. fault ≢ Fault.Write
+        → Keeps (W.contents sink.old) (W.contents sink.new)) }
+    ensures prefix { IsErrOf result Fault.Write → (listed : _) (logs : _)
+        → L.remaining list.old ≡ Some listed → AreBytesOf S.remaining sources.old logs →
+        (text : _) × Checks listed logs (Ok text)
+        × AppendsPrefix (W.contents sink.old) (W.contents sink.new) text }
+    ensures part { IsErrOf result Fault.Write →
+        AnswersBoth L.reads S.reads IsBadList IsChecked list.old list.new sources.old sources.new
+        (AppendsPrefix (W.contents sink.old) (W.contents sink.new)) }
+
+    ensures read { (log : _) (source : _) → slice_get sources.new log ≡ Some source
+        → IsErrOf result (Fault.Read log) ↔ (S.has_failed source ≡ true) }
+    ensures list_read { IsErrOf result (Fault.Read (length sources.old))
+        ↔ (L.has_failed list.new ≡ true) }
+    ensures written { IsErrOf result Fault.Write ↔ (W.has_failed sink.new ≡ true) }
+
+    ensures taken { EachConsumesUpTo S.remaining sources.old sources.new (max_log_bytes + 1) }
+    ensures list_taken { ConsumesUpTo (L.remaining list.old) (L.remaining list.new)
+        (max_log_bytes + 1) }
+    ensures ended { OnOk result (All (λ s. IsAtEnd (S.remaining s)) sources.new) }
+    ensures list_ended { OnOk result (IsAtEnd (L.remaining list.new)) }
+    ensures no_further { (log : ℕ) → StopsAt result log
+        → drop (log + 1) sources.new ≡ drop (log + 1) sources.old }
+    ensures list_untouched { (log : ℕ) → StopsAt result log → log < length sources.old
+        → list.new ≡ list.old }
+    ensures too_many { IsErrOf result Fault.TooManyLogs ↔ (MAX_LOGS < length sources.old) }
+    ensures none_read { IsErrOf result Fault.TooManyLogs → (sources.new ≡ sources.old)
+        × (list.new ≡ list.old) }
+{
+    let (listed, logs) = match read_with_input(alloc, list, sources) {
+        Ok(read) => read,
+        Err(fault) => return Err(fault),
+    };
+    let text = match check_owned(rt, alloc, listed, logs, plan) {
+        Ok(text) => text,
+        Err(fault) => return Err(fault),
+    };
+    write_out(&text, sink)
+}

@@ -1,0 +1,91 @@
+//! A run that goes on from an earlier report: logs and base are read from sources, and the answer
+//! is written to a sink.
+ghost use Rattle.std.specs.Prelude.{◌≡◌, ◌≢◌, ◌↔◌, ◌+◌, ◌<◌, ℕ, true, false, drop, length, All, Some, slice_get, Ok, OnOk, IfErr, IsErrOf};
+ghost use Rattle.std.specs.Io.KnownBytes.{Appends, Keeps, IsAtEnd};
+ghost use Rattle.epx_base.specs.Bases.{IsBadBase};
+ghost use Rattle.epx_merge.specs.Limits.{max_log_bytes};
+ghost use Rattle.epx_tool.specs.Resumption.{IsResumed, Resumes};
+ghost use Rattle.epx_tool.specs.Runs.{AreBytesOf};
+ghost use Rattle.epx_tool.specs.RunsWithInput.{IsRunFaultWithInput};
+ghost use Rattle.epx_tool.specs.Sources.{EachConsumesUpTo, StopsAt};
+ghost use Rattle.epx_tool.specs.DeliveredWithInput.{AnswersBoth, EndsWithoutBoth};
+ghost use Rattle.epx_devices.specs.Transfers.{AppendsPrefix, ConsumesUpTo};
+
+use crate::resumptions::resume_owned;
+use crate::sources::read_with_input;
+use epx_devices::{Sink, Source, write_out};
+use epx_merge::MAX_LOGS;
+use epx_types::{Fault, Plan};
+use std::alloc::Global;
+use std::random::RandomSource;
+use std::thread::Threads;
+
+/// Reads the logs from the sources in order and then the base from its own, and writes the report
+/// that goes on from the base to the sink, whole or not at all; a sink that fails has taken a
+/// prefix. The base carries the number of logs in faults.
+pub fn run_resume<T: Threads + RandomSource + Sync, B: Source, S: Source, W: Sink>(
+    rt: &T,
+    alloc: Global,
+    base: &mut B,
+    sources: &mut [S],
+    plan: Plan,
+    sink: &mut W,
+) -> Result<(), Fault>
+    requires base { B.has_failed base.old ≡ false }
+    requires sources { All (λ s. S.has_failed s ≡ false) sources.old }
+    requires sink { W.has_failed sink.old ≡ false }
+
+    ensures text { OnOk result ((before : _) (logs : _) → B.remaining base.old ≡ Some before
+        → AreBytesOf S.remaining sources.old logs →
+        (text : _) × Resumes before logs (Ok text)
+        × Appends (W.contents sink.old) (W.contents sink.new) text) }
+    ensures answered { OnOk result
+        (AnswersBoth B.reads S.reads IsBadBase IsResumed base.old base.new sources.old sources.new
+        (Appends (W.contents sink.old) (W.contents sink.new))) }
+    ensures flushed { OnOk result (W.is_flushed sink.new ≡ true) }
+
+    ensures refusal { IfErr result (λ fault. (before : _) (logs : _)
+        → B.remaining base.old ≡ Some before
+        → AreBytesOf S.remaining sources.old logs
+        → IsRunFaultWithInput IsBadBase IsResumed before logs fault) }
+    ensures refused { IfErr result (λ fault. fault ≢ Fault.Write → EndsWithoutBoth B.reads B.fails
+        S.reads S.fails IsBadBase base.old base.new sources.old sources.new fault) }
+    ensures nothing { IfErr result (λ fault. fault ≢ Fault.Write
+        → Keeps (W.contents sink.old) (W.contents sink.new)) }
+    ensures prefix { IsErrOf result Fault.Write → (before : _) (logs : _)
+        → B.remaining base.old ≡ Some before → AreBytesOf S.remaining sources.old logs →
+        (text : _) × Resumes before logs (Ok text)
+        × AppendsPrefix (W.contents sink.old) (W.contents sink.new) text }
+    ensures part { IsErrOf result Fault.Write →
+        AnswersBoth B.reads S.reads IsBadBase IsResumed base.old base.new sources.old sources.new
+        (AppendsPrefix (W.contents sink.old) (W.contents sink.new)) }
+
+    ensures read { (log : _) (source : _) → slice_get sources.new log ≡ Some source
+        → IsErrOf result (Fault.Read log) ↔ (S.has_failed source ≡ true) }
+    ensures base_read { IsErrOf result (Fault.Read (length sources.old))
+        ↔ (B.has_failed base.new ≡ true) }
+    ensures written { IsErrOf result Fault.Write ↔ (W.has_failed sink.new ≡ true) }
+
+    ensures taken { EachConsumesUpTo S.remaining sources.old sources.new (max_log_bytes + 1) }
+    ensures base_taken { ConsumesUpTo (B.remaining base.old) (B.remaining base.new)
+        (max_log_bytes + 1) }
+    ensures ended { OnOk result (All (λ s. IsAtEnd (S.remaining s)) sources.new) }
+    ensures base_ended { OnOk result (IsAtEnd (B.remaining base.new)) }
+    ensures no_further { (log : ℕ) → StopsAt result log
+        → drop (log + 1) sources.new ≡ drop (log + 1) sources.old }
+    ensures base_untouched { (log : ℕ) → StopsAt result log → log < length sources.old
+        → base.new ≡ base.old }
+    ensures too_many { IsErrOf result Fault.TooManyLogs ↔ (MAX_LOGS < length sources.old) }
+    ensures none_read { IsErrOf result Fault.TooManyLogs → (sources.new ≡ sources.old)
+        × (base.new ≡ base.old) }
+{
+    let (before, logs) = match read_with_input(alloc, base, sources) {
+        Ok(read) => read,
+        Err(fault) => return Err(fault),
+    };
+    let text = match resume_owned(rt, alloc, before, logs, plan) {
+        Ok(text) => text,
+        Err(fault) => return Err(fault),
+    };
+    write_out(&text, sink)
+}

@@ -1,0 +1,142 @@
+//! Going on from an earlier report.
+ghost use Rattle.std.specs.Prelude.{◌≤◌, length, map, IfOk, IfErr, MatchResult, Ok, Err};
+ghost use Rattle.std.specs.Thread.{IsSync};
+ghost use Rattle.epx_base.specs.Bases.{IsBase, IsBadBase, IsBaseFault};
+ghost use Rattle.epx_types.specs.Ids.{IsRising};
+ghost use Rattle.epx_merge.specs.Acceptance.{IsAccepted};
+ghost use Rattle.epx_merge.specs.Limits.{max_instances};
+ghost use Rattle.epx_tool.specs.WithInput.{IsRefusalWithInput, IsShort};
+ghost use Rattle.epx_tool.specs.ResumedReport.{IsReportAfter};
+ghost use Rattle.epx_tool.specs.Resumption.{Resumes};
+
+use crate::answers::report_of;
+use crate::with_input::merge_before;
+use epx_base::{Base, BaseFault, read_base};
+use epx_merge::{MAX_LOG_BYTES, Merged};
+use epx_types::{Fault, Memory, Plan};
+use std::alloc::Global;
+use std::random::RandomSource;
+use std::thread::{Threads, join};
+
+/// The committed map of the logs and, once they are not refused, what the base says.
+fn read_in_turn<R: Threads + RandomSource + Sync>(
+    rt: &R,
+    alloc: Global,
+    base: &[u8],
+    logs: &[Vec<u8>],
+    plan: Plan,
+) -> Result<(Merged, Base), Fault>
+    ensures { let bytes = map (λ log. log.items) logs.now in MatchResult result
+        (λ read. IsShort base.now × IsAccepted bytes read.0
+        × IsBase base.now read.1.done read.1.stored)
+        (IsRefusalWithInput IsBadBase base.now bytes) }
+{
+    let merged = match merge_before(rt, alloc, base, logs, plan) {
+        Ok(merged) => merged,
+        Err(fault) => return Err(fault),
+    };
+    match read_base(alloc, base) {
+        Ok(base) => Ok((merged, base)),
+        Err(fault) => Err(Fault::from(fault)),
+    }
+}
+
+/// The same, with the base read beside the logs by one more thread where there are several workers.
+fn read_both<R: Threads + RandomSource + Sync>(
+    rt: &R,
+    alloc: Global,
+    base: &[u8],
+    logs: &[Vec<u8>],
+    plan: Plan,
+) -> Result<(Merged, Base), Fault>
+    ensures { let bytes = map (λ log. log.items) logs.now in MatchResult result
+        (λ read. IsShort base.now × IsAccepted bytes read.0
+        × IsBase base.now read.1.done read.1.stored)
+        (IsRefusalWithInput IsBadBase base.now bytes) }
+{
+    if plan.workers() == 1 || base.len() > MAX_LOG_BYTES {
+        return read_in_turn(rt, alloc, base, logs, plan);
+    }
+    let (merged, read) = join(
+        rt,
+        || -> Result<Merged, Fault>
+            requires { IsSync R.row }
+            ensures { let bytes = map (λ log. log.items) logs.entry.now in
+                MatchResult result (λ m. IsShort base.entry.now × IsAccepted bytes m)
+                (IsRefusalWithInput (λ _ _. ⊥) base.entry.now bytes) }
+        { merge_before(rt, alloc, base, logs, plan) },
+        || -> Result<Base, BaseFault>
+            ensures { MatchResult result
+                (λ b. IsBase base.entry.now b.done b.stored) (IsBaseFault base.entry.now) }
+        { read_base(alloc, base) },
+    );
+    let merged = match merged {
+        Ok(merged) => merged,
+        Err(fault) => return Err(fault),
+    };
+    match read {
+        Ok(base) => Ok((merged, base)),
+        Err(fault) => Err(Fault::from(fault)),
+    }
+}
+
+/// The report of what is left of a committed map once what a base says is done.
+fn report_after<R: Threads + RandomSource + Sync>(
+    rt: &R,
+    alloc: Global,
+    merged: Merged,
+    base: Base,
+    plan: Plan,
+) -> Result<Vec<u8>, Memory>
+    requires few { length merged ≤ max_instances }
+    requires rising { IsRising base.done }
+    ensures { IfOk result (λ text. IsReportAfter base.done base.stored merged text.items) }
+{
+    let (done, store) = base.into_parts();
+    report_of(rt, alloc, merged, &done, store, plan)
+}
+
+/// The report of a run that goes on from a base, which is an earlier report: its done and its
+/// replied instances are done, so they are not executed again, and what depends on them need not
+/// wait for them; the store begins as it says. Or the first refusal: the base counts as one more
+/// log where it is asked which is too long, and its own bad line comes after all that is wrong
+/// with the logs. The answer is the same for every plan.
+pub fn resume<R: Threads + RandomSource + Sync>(
+    rt: &R,
+    alloc: Global,
+    base: &[u8],
+    logs: &[Vec<u8>],
+    plan: Plan,
+) -> Result<Vec<u8>, Fault>
+    ensures { let bytes = map (λ log. log.items) logs.now in
+        MatchResult result (λ text. Resumes base.now bytes (Ok text.items))
+        (λ fault. Resumes base.now bytes (Err fault)) }
+{
+    let (merged, base) = match read_both(rt, alloc, base, logs, plan) {
+        Ok(read) => read,
+        Err(fault) => return Err(fault),
+    };
+    Ok(report_after(rt, alloc, merged, base, plan)?)
+}
+
+/// As `resume`, of a base and logs that are freed once they are read.
+pub(crate) fn resume_owned<R: Threads + RandomSource + Sync>(
+    rt: &R,
+    alloc: Global,
+    base: Vec<u8>,
+    logs: Vec<Vec<u8>>,
+    plan: Plan,
+) -> Result<Vec<u8>, Fault>
+    ensures { let bytes = map (λ log. log.items) logs.items in
+        MatchResult result (λ text. Resumes base.items bytes (Ok text.items))
+        (λ fault. Resumes base.items bytes (Err fault)) }
+{
+    let read = read_both(rt, alloc, &base, &logs, plan);
+    drop(logs);
+    drop(base);
+    let (merged, base) = match read {
+        Ok(read) => read,
+        Err(fault) => return Err(fault),
+    };
+    Ok(report_after(rt, alloc, merged, base, plan)?)
+}

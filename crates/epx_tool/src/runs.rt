@@ -1,0 +1,132 @@
+//! A run: logs are read from sources, and the answer to them is written to a sink.
+ghost use Rattle.std.specs.Prelude.{◌≡◌, ◌≢◌, ◌↔◌, ◌+◌, ◌<◌, ℕ, true, false, map, drop, length, All, Some, slice_get, Ok, IfOk, OnOk, IfErr, IsErrOf};
+ghost use Rattle.std.specs.Io.KnownBytes.{Appends, Keeps, IsAtEnd};
+ghost use Rattle.epx_merge.specs.Limits.{max_log_bytes};
+ghost use Rattle.epx_merge.specs.Refusals.{Fits};
+ghost use Rattle.epx_tool.specs.Answer.{Answers};
+ghost use Rattle.epx_tool.specs.Report.{IsReport};
+ghost use Rattle.epx_tool.specs.Views.{IsViewed};
+ghost use Rattle.epx_tool.specs.Runs.{AreBytesOf, IsReadingRefusal, IsRunFault};
+ghost use Rattle.epx_tool.specs.Sources.{EachConsumesUpTo, StopsAt};
+ghost use Rattle.epx_tool.specs.Delivered.{AnswersDelivered, EndsWithout};
+ghost use Rattle.epx_devices.specs.Transfers.{AppendsPrefix};
+
+use crate::answers::{answer_owned, view};
+use crate::ask::Ask;
+use crate::sources::read_sources;
+use epx_devices::{Sink, Source, write_out};
+use epx_merge::MAX_LOGS;
+use epx_types::{Fault, Plan};
+use std::alloc::Global;
+use std::random::RandomSource;
+use std::thread::Threads;
+
+/// Reads the logs from the sources in order, and writes the answer to them to the sink, whole or
+/// not at all; a sink that fails has taken a prefix.
+pub fn run<T: Threads + RandomSource + Sync, S: Source, W: Sink>(
+    rt: &T,
+    alloc: Global,
+    sources: &mut [S],
+    plan: Plan,
+    sink: &mut W,
+) -> Result<(), Fault>
+    requires sources { All (λ s. S.has_failed s ≡ false) sources.old }
+    requires sink { W.has_failed sink.old ≡ false }
+
+    ensures text { OnOk result ((logs : _) → AreBytesOf S.remaining sources.old logs →
+        (text : _) × Answers IsReport logs (Ok text)
+        × Appends (W.contents sink.old) (W.contents sink.new) text) }
+    ensures answered { OnOk result (AnswersDelivered S.reads IsReport sources.old sources.new
+        (Appends (W.contents sink.old) (W.contents sink.new))) }
+    ensures flushed { OnOk result (W.is_flushed sink.new ≡ true) }
+
+    ensures refusal { IfErr result (λ fault. (logs : _) → AreBytesOf S.remaining sources.old logs
+        → IsRunFault IsReport logs fault) }
+    ensures refused { IfErr result (λ fault. fault ≢ Fault.Write →
+        EndsWithout S.reads S.fails sources.old sources.new fault) }
+    ensures nothing { IfErr result (λ fault. fault ≢ Fault.Write
+        → Keeps (W.contents sink.old) (W.contents sink.new)) }
+    ensures prefix { IsErrOf result Fault.Write → (logs : _)
+        → AreBytesOf S.remaining sources.old logs →
+        (text : _) × Answers IsReport logs (Ok text)
+        × AppendsPrefix (W.contents sink.old) (W.contents sink.new) text }
+    ensures part { IsErrOf result Fault.Write →
+        AnswersDelivered S.reads IsReport sources.old sources.new
+        (AppendsPrefix (W.contents sink.old) (W.contents sink.new)) }
+
+    ensures read { (log : _) (source : _) → slice_get sources.new log ≡ Some source
+        → IsErrOf result (Fault.Read log) ↔ (S.has_failed source ≡ true) }
+    ensures written { IsErrOf result Fault.Write ↔ (W.has_failed sink.new ≡ true) }
+
+    ensures taken { EachConsumesUpTo S.remaining sources.old sources.new (max_log_bytes + 1) }
+    ensures ended { OnOk result (All (λ s. IsAtEnd (S.remaining s)) sources.new) }
+    ensures no_further { (log : ℕ) → StopsAt result log
+        → drop (log + 1) sources.new ≡ drop (log + 1) sources.old }
+    ensures too_many { IsErrOf result Fault.TooManyLogs ↔ (MAX_LOGS < length sources.old) }
+    ensures none_read { IsErrOf result Fault.TooManyLogs → sources.new ≡ sources.old }
+{
+    let logs = match read_sources(alloc, sources) {
+        Ok(logs) => logs,
+        Err(fault) => return Err(fault),
+    };
+    let text = match answer_owned(rt, alloc, logs, plan) {
+        Ok(text) => text,
+        Err(fault) => return Err(fault),
+    };
+    write_out(&text, sink)
+}
+
+/// As `run`, with the text that is asked for in place of the report.
+pub fn show<T: Threads + RandomSource + Sync, S: Source, W: Sink>(
+    rt: &T,
+    alloc: Global,
+    ask: Ask,
+    sources: &mut [S],
+    plan: Plan,
+    sink: &mut W,
+) -> Result<(), Fault>
+    requires sources { All (λ s. S.has_failed s ≡ false) sources.old }
+    requires sink { W.has_failed sink.old ≡ false }
+
+    ensures text { OnOk result ((logs : _) → AreBytesOf S.remaining sources.old logs →
+        (text : _) × Answers (IsViewed ask) logs (Ok text)
+        × Appends (W.contents sink.old) (W.contents sink.new) text) }
+    ensures answered { OnOk result (AnswersDelivered S.reads (IsViewed ask) sources.old sources.new
+        (Appends (W.contents sink.old) (W.contents sink.new))) }
+    ensures flushed { OnOk result (W.is_flushed sink.new ≡ true) }
+
+    ensures refusal { IfErr result (λ fault. (logs : _) → AreBytesOf S.remaining sources.old logs
+        → IsRunFault (IsViewed ask) logs fault) }
+    ensures refused { IfErr result (λ fault. fault ≢ Fault.Write →
+        EndsWithout S.reads S.fails sources.old sources.new fault) }
+    ensures nothing { IfErr result (λ fault. fault ≢ Fault.Write
+        → Keeps (W.contents sink.old) (W.contents sink.new)) }
+    ensures prefix { IsErrOf result Fault.Write → (logs : _)
+        → AreBytesOf S.remaining sources.old logs →
+        (text : _) × Answers (IsViewed ask) logs (Ok text)
+        × AppendsPrefix (W.contents sink.old) (W.contents sink.new) text }
+    ensures part { IsErrOf result Fault.Write →
+        AnswersDelivered S.reads (IsViewed ask) sources.old sources.new
+        (AppendsPrefix (W.contents sink.old) (W.contents sink.new)) }
+
+    ensures read { (log : _) (source : _) → slice_get sources.new log ≡ Some source
+        → IsErrOf result (Fault.Read log) ↔ (S.has_failed source ≡ true) }
+    ensures written { IsErrOf result Fault.Write ↔ (W.has_failed sink.new ≡ true) }
+
+    ensures taken { EachConsumesUpTo S.remaining sources.old sources.new (max_log_bytes + 1) }
+    ensures ended { OnOk result (All (λ s. IsAtEnd (S.remaining s)) sources.new) }
+    ensures no_further { (log : ℕ) → StopsAt result log
+        → drop (log + 1) sources.new ≡ drop (log + 1) sources.old }
+    ensures too_many { IsErrOf result Fault.TooManyLogs ↔ (MAX_LOGS < length sources.old) }
+    ensures none_read { IsErrOf result Fault.TooManyLogs → sources.new ≡ sources.old }
+{
+    let logs = match read_sources(alloc, sources) {
+        Ok(logs) => logs,
+        Err(fault) => return Err(fault),
+    };
+    let text = match view(rt, alloc, ask, &logs, plan) {
+        Ok(text) => text,
+        Err(fault) => return Err(fault),
+    };
+    write_out(&text, sink)
+}
