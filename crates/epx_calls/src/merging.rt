@@ -1,7 +1,6 @@
 //! Logs as text, and look-ups of what they commit. The worked cases of scripts have the refusals.
 use crate::gates::WaitingGate;
 use crate::given::{PUT_AND_GET, accepted, id, logs_of, merged_of, plan};
-use epx_claims::FreeGate;
 use epx_merge::{Merged, read_logs};
 use epx_types::{Id, Plan};
 use std::alloc::Global;
