@@ -1,6 +1,7 @@
 //! A case of a script.
 use crate::directive::Directive;
-use crate::given::Given;
+use crate::flow::Flow;
+use crate::given::{Failing, Given};
 use crate::line::add_line;
 use crate::meaning::meanings;
 use crate::outcome::{answer_given, deliver_given, task_named};
@@ -24,6 +25,9 @@ const PLANS: [(usize, usize); 7] = [
     (64, 2),
     (4, 256),
 ];
+
+/// The line of a failed write.
+const FAILED_WRITE: &[u8] = b"epx: fault 8: the answer can not be written\n";
 
 /// What a case is about.
 #[derive(Clone, Copy)]
@@ -102,6 +106,12 @@ impl<'a> Case<'a> {
             (Directive::List, Some(Subject::Task(Task::Check))) => self.given.begin_first(),
             (Directive::Gives(flow), Some(Subject::Task(_))) => return Ok(self.given.give(flow)),
             (Directive::Takes(flow), Some(Subject::Task(_))) => self.given.take(flow),
+            (Directive::GivesEach(flow), Some(Subject::Task(_))) => {
+                return Ok(self.given.fail(Failing::Source, flow));
+            }
+            (Directive::TakesEach(flow), Some(Subject::Task(_))) => {
+                return Ok(self.given.fail(Failing::Sink, flow));
+            }
             _ => return Ok(false),
         }
         Ok(true)
@@ -203,13 +213,60 @@ impl<'a> Case<'a> {
         self.is_found(rt, alloc, "through devices", &found)
     }
 
+    /// The text that a run through devices must give where one fails after so many bytes: of a sink
+    /// what it has taken, and the line of the failed write.
+    fn wanted_after(&self, alloc: Global, failing: Failing, bytes: usize) -> io::Result<Vec<u8>> {
+        let mut text = Vec::new(alloc);
+        match failing {
+            Failing::Source => text.extend_from_slice(&self.wanted)?,
+            Failing::Sink => {
+                let taken = bytes.min(self.wanted.len());
+                text.extend_from_slice(&self.wanted[..taken])?;
+                text.extend_from_slice(FAILED_WRITE)?;
+            }
+        }
+        Ok(text)
+    }
+
+    /// Whether each run is right in which a device fails, after no byte, one byte and so on.
+    fn holds_where_one_fails<R: Print + Threads + RandomSource + Sync>(
+        &mut self,
+        rt: &R,
+        alloc: Global,
+        task: Task,
+        failing: Failing,
+        flow: Flow,
+    ) -> io::Result<bool> {
+        let most = match failing {
+            Failing::Source => self.given.last_len(),
+            Failing::Sink => self.wanted.len(),
+        };
+        let Some(plan) = self.plans.last().copied() else {
+            return Ok(false);
+        };
+        let head = self.head;
+        for bytes in 0..=most {
+            self.given.fail_after(failing, flow.failing_after(bytes));
+            let found = deliver_given(rt, alloc, task, &self.given, plan)?;
+            if found != self.wanted_after(alloc, failing, bytes)? {
+                println!(rt; "{head} DIFFERS where a device fails after {bytes} bytes:")?;
+                print!(rt; "{}", String::from_utf8_lossy(alloc, &found)?)?;
+                return Ok(false);
+            }
+        }
+        Ok(true)
+    }
+
     /// Whether each run gives the wanted text.
     fn holds<R: Print + Threads + RandomSource + Sync>(
-        &self,
+        &mut self,
         rt: &R,
         alloc: Global,
         task: Task,
     ) -> io::Result<bool> {
+        if let Some((failing, flow)) = self.given.failing {
+            return self.holds_where_one_fails(rt, alloc, task, failing, flow);
+        }
         if !self.given.has_flows && !self.holds_in_memory(rt, alloc, task)? {
             return Ok(false);
         }
@@ -218,7 +275,7 @@ impl<'a> Case<'a> {
 
     /// Whether what it is about gives the wanted text.
     fn is_right<R: Print + Threads + RandomSource + Sync>(
-        &self,
+        &mut self,
         rt: &R,
         alloc: Global,
     ) -> io::Result<bool> {

@@ -14,6 +14,10 @@ pub(crate) enum Directive {
     Gives(Flow),
     /// The sink takes so.
     Takes(Flow),
+    /// The source of the last text gives so, and fails after each number of bytes in turn.
+    GivesEach(Flow),
+    /// The sink takes so, and fails after each number of bytes in turn.
+    TakesEach(Flow),
     /// The case runs under this plan.
     Plan { workers: usize, cut: usize },
 }
@@ -33,6 +37,14 @@ impl Directive {
     /// The directive that a line is, if it is one.
     pub(crate) fn parse(line: &str) -> Option<Directive> {
         let (word, rest) = line.split_once(' ').unwrap_or((line, ""));
+        if let Some(written) = rest.strip_suffix(" each") {
+            let flow = Flow::new(written.parse().ok()?, None)?;
+            return match word {
+                "gives" => Some(Directive::GivesEach(flow)),
+                "takes" => Some(Directive::TakesEach(flow)),
+                _ => None,
+            };
+        }
         match (word, numbers_in(rest)?) {
             ("base", (None, None)) => Some(Directive::Base),
             ("list", (None, None)) => Some(Directive::List),

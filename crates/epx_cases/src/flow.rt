@@ -26,6 +26,14 @@ impl Flow {
         Some(Flow { at_once, fuse })
     }
 
+    /// The same flow, but that it fails after so many bytes.
+    pub(crate) fn failing_after(self, bytes: usize) -> Flow {
+        Flow {
+            at_once: self.at_once,
+            fuse: Some(bytes),
+        }
+    }
+
     /// A source that gives these bytes so.
     pub(crate) fn source<'a>(&self, bytes: &'a [u8]) -> FuseSource<'a>
         ensures { result.failed ≡ false }

@@ -14,6 +14,14 @@ enum Target {
     Logs(usize),
 }
 
+/// The device that fails after each number of bytes in turn.
+#[derive(Clone, Copy)]
+pub(crate) enum Failing {
+    /// The source of the texts that were begun last.
+    Source,
+    Sink,
+}
+
 /// The texts of a case, and how devices carry them.
 #[derive(Drop)]
 pub(crate) struct Given {
@@ -25,6 +33,8 @@ pub(crate) struct Given {
     pub sink_flow: Flow,
     /// Whether the case names a flow, so that devices alone show what it is about.
     pub has_flows: bool,
+    /// The device that fails after each number of bytes in turn, with how it does without.
+    pub failing: Option<(Failing, Flow)>,
     target: Target,
 }
 
@@ -37,6 +47,7 @@ impl Given {
             log_flows: Vec::new(alloc),
             sink_flow: WHOLE,
             has_flows: false,
+            failing: None,
             target: Target::Nowhere,
         }
     }
@@ -110,5 +121,31 @@ impl Given {
     pub(crate) fn take(&mut self, flow: Flow) {
         self.has_flows = true;
         self.sink_flow = flow;
+    }
+
+    /// How many bytes the texts have that were begun last.
+    pub(crate) fn last_len(&self) -> usize {
+        match self.target {
+            Target::Nowhere => 0,
+            Target::First => self.first.len(),
+            Target::Logs(_) => self.logs.last().map_or(0, |log| log.len()),
+        }
+    }
+
+    /// Lets a device fail after each number of bytes in turn, and answers whether there is one.
+    pub(crate) fn fail(&mut self, failing: Failing, flow: Flow) -> bool {
+        self.failing = Some((failing, flow));
+        self.fail_after(failing, flow)
+    }
+
+    /// Sets after how many bytes the device fails, and answers whether there is one.
+    pub(crate) fn fail_after(&mut self, failing: Failing, flow: Flow) -> bool {
+        match failing {
+            Failing::Source => self.give(flow),
+            Failing::Sink => {
+                self.take(flow);
+                true
+            }
+        }
     }
 }

@@ -16,11 +16,6 @@ pub(crate) const LEAST_REPORT: &str = r#"["executed",1,"waiting",0,"components",
 ["store","a",5]
 "#;
 
-/// The execution order of that line.
-pub(crate) const LEAST_ORDER: &str = r#"["executed",1,"waiting",0,"components",1]
-["order",0,0,0,0,0]
-"#;
-
 /// The report where nothing is executed and nothing waits.
 pub(crate) const NOTHING: &str = "[\"executed\",0,\"waiting\",0,\"components\",0]\n";
 
