@@ -33,8 +33,8 @@ pub(crate) fn plan() -> Result<Plan, Fail> {
     Ok(Plan::new(2, 1).ok_or("a plan")?)
 }
 
-/// Whether what was wanted has come. Want of memory ends the test: with nothing written, or, where
-/// it was the sink in memory that could not grow, with a failed write and a part of the text.
+/// Whether what was wanted has come. Running out of memory ends the test: with nothing written, or,
+/// where it was the sink in memory that could not grow, with a failed write and a part of the text.
 pub(crate) fn is_right(
     outcome: Result<(), Fault>,
     held: &[u8],
