@@ -1,4 +1,5 @@
--- The accesses of a command are of the keys that it touches, and the writing ones of those that it writes.
+-- The accesses of a command are exactly its touched keys, and its write accesses are exactly its
+-- written keys.
 use Rattle.std.proofs.Common.{◌≡◌, ℕ, Bool, true, false, List, [], ◌∷◌, ◌++◌, map, flat_map, Contains, refl, sym, ap, ap₂, subst, ◌∙◌, true≢false, inl, inr}
 use Rattle.std.proofs.lemmas.List.{map-append}
 use Rattle.std.proofs.lemmas.List.Elements.{Contains-append_left, Contains-append_right, Contains-append_cases}
@@ -43,7 +44,7 @@ Contains-flat_map_carried f g a b carry (x ∷ xs) h =
       | inr later ↦ Contains-append_right (g x) (flat_map g xs) b (Contains-flat_map_carried f g a b carry xs later)
     ]
 
--- the key is accessed, as written or not
+-- a touched key is accessed, as a write or as a read
 abbrev Asked : List (List ℕ × Bool) → List ℕ → Bool → Type 0
 Asked current k w = Contains current (k, w)
 
@@ -83,7 +84,7 @@ module _ (k : List ℕ) where
   back_by (Floor key least) h = absurd (none (read key [] h))
   back_by (Copy key j) h = back j (read key ((j, true) ∷ []) h)
 
--- a written key is accessed as one
+-- a written key has a write access
 pub current-from_written : (ops : List Op) (k : List ℕ) → Contains (written_in ops) k → Contains (flat_map accesses_of ops) (k, true)
 current-from_written ops k h = Contains-flat_map_carried written_by accesses_of k (k, true) (there_by k) ops h
 

@@ -17,22 +17,23 @@ use Rattle.epx_types.proofs.Membership.{agree-from_map}
 use Rattle.epx_apply.specs.Effects.{put_replies}
 use Rattle.epx_apply.proofs.RepliesAtPlaces.{length-put_replies, map-put_replies, map-put_replies_other}
 
--- the commands of the levels below this one, one level after another
+-- the execution of the commands of the levels below `level`, one level after another
 abbrev pub run_below : List (List Op) → List ℕ → Contents → ℕ → Execution
 run_below commands levels opening level = execute (commands_at commands (by_level levels level)) opening
 
--- the levels below this one are done over `opening`: they left `work`, and their replies stand at their places
+-- the levels below `level` are done over `opening`: they left `work`, and their replies are at
+-- their positions
 pub record IsRunUpTo (commands : List (List Op)) (levels : List ℕ) (opening : Contents) (level : ℕ) (work : Contents) (at : List Reply) : Type 0 where
   pub whole : length at ≡ length commands
   pub stored : work ≡ (run_below commands levels opening level).final
   pub replied : (d : Reply) → map (λ i. slice_index_or at i d) (by_level levels level) ≡ (run_below commands levels opening level).replies
 
 module _ (commands : List (List Op)) (levels : List ℕ) (opening : Contents) where
-  -- none yet
+  -- no level is done
   pub at_start : (at : List Reply) → length at ≡ length commands → IsRunUpTo commands levels opening 0 opening at
   at_start at whole = record { whole = whole; stored = refl; replied = λ d. refl }
 
-  -- one level more
+  -- one more level is done
   module _ (level : ℕ) (members : List ℕ) (are : AreLevels commands levels) (named : members ≡ places_of levels level) (work : Contents) (at : List Reply) (done : IsRunUpTo commands levels opening level work at) where
     pub members-within : All (λ i. i < length commands) members
     members-within =
@@ -43,7 +44,7 @@ module _ (commands : List (List Op)) (levels : List ℕ) (opening : Contents) wh
     members-once =
         subst (λ (is : List ℕ). Once is) (sym named) (Once-from_AllPairs (places_of levels level) (λ i j d l k same. let rises = places_of-rising levels level i j d l k in omega (arith, same, rises)))
 
-    -- what the levels so far and this one do
+    -- the execution of the levels so far and of this one
     on : ((run_below commands levels opening (suc level)).replies ≡ (run_below commands levels opening level).replies ++ (execute (commands_at commands members) work).replies) × ((run_below commands levels opening (suc level)).final ≡ (execute (commands_at commands members) work).final)
     on =
         let both : commands_at commands (by_level levels (suc level)) ≡ commands_at commands (by_level levels level) ++ commands_at commands members =
@@ -79,7 +80,7 @@ module _ (commands : List (List Op)) (levels : List ℕ) (opening : Contents) wh
           replied = replies-on after put;
         })
 
-  -- all levels
+  -- all levels are done
   module _ (are : AreLevels commands levels) (level : ℕ) (all : level ≡ level_count levels) (work : Contents) (at : List Reply) (done : IsRunUpTo commands levels opening level work at) where
     arranged : IsRearrangement commands (by_level levels level)
     arranged = subst (λ (n : ℕ). IsRearrangement commands (by_level levels n)) (sym all) (by_level-rearranges commands levels are)

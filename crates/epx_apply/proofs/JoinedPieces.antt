@@ -1,4 +1,4 @@
--- What is worked out piece by piece, one piece after another.
+-- The results of all pieces, one after another.
 use Rattle.std.proofs.Common.{◌≡◌, ◌<◌, ◌≤◌, ◌+◌, ◌∙◌, ℕ, suc, List, [], ◌∷◌, ◌++◌, length, map, flat_map, drop, slice_get, Some, sym, ap, ap₂, inl, inr, arith}
 use Rattle.std.proofs.Math.ListN.{drop_of_length-le}
 use Rattle.std.proofs.lemmas.Bool.{cases_lt}
@@ -9,7 +9,7 @@ use Rattle.epx_types.proofs.PieceLemmas.{piece_count-above, piece_end-after_star
 use Rattle.epx_apply.specs.Effects.{items_of_piece}
 
 module _ {X Y Z : Type 0} (cut : ℕ) (fits : 1 ≤ cut) (f : X → Y) (xs : List X) (inside : Z → List Y) where
-  -- past the end of a piece begins the next, or nothing
+  -- the next piece begins at the end of a piece, if there is one
   drop-piece_end : (piece : ℕ) → drop (piece_end cut (length xs) piece) xs ≡ drop (piece_start cut (piece + 1)) xs
   drop-piece_end piece =
       elim (cases_lt (piece_start cut (piece + 1)) (length xs)) [
@@ -17,7 +17,7 @@ module _ {X Y Z : Type 0} (cut : ℕ) (fits : 1 ≤ cut) (f : X → Y) (xs : Lis
         | inr past ↦ drop_of_length-le xs (omega arith) ∙ sym (drop_of_length-le xs past)
       ]
 
-  -- a part is what f gives at the items of its piece
+  -- a part is f of the items of its piece
   abbrev pub IsPart : ℕ → Z → Type 0
   IsPart piece part = inside part ≡ map f (items_of_piece cut xs piece)
 
@@ -39,7 +39,7 @@ module _ {X Y Z : Type 0} (cut : ℕ) (fits : 1 ≤ cut) (f : X → Y) (xs : Lis
       ∙ sym (map-append f (items_of_piece cut xs piece) (drop (piece_end cut (length xs) piece) xs))
       ∙ ap (map f) (sym (drop_split xs (piece_start cut piece) (piece_end cut (length xs) piece) (omega (arith, order))))
 
-  -- the parts of all pieces together are what f gives at all items
+  -- the parts of all pieces one after another are f of all items
   pub parts_joined : (parts : List Z) → length parts ≡ piece_count cut (length xs) → ((i : ℕ) → i < piece_count cut (length xs) → (part : Z) × (slice_get parts i ≡ Some part) × IsPart i part) → flat_map inside parts ≡ map f xs
   parts_joined parts len each =
       let begin : piece_start cut 0 ≡ 0 = omega arith in

@@ -1,4 +1,4 @@
--- The levels at a key, when a command is noted.
+-- The levels of a key when a command is added to the table.
 use Rattle.std.proofs.Common.{◌≡◌, ◌⊎◌, inl, inr, ℕ, suc, max, ◌<◌, ◌≤◌, Bool, true, List, [], ◌∷◌, ◌++◌, length, fold, if◌then◌else◌, Contains, refl, sym, ap, subst, ◌∙◌, true≢false, arith}
 use Rattle.std.proofs.lemmas.Bool.{cases_lt, cases_eq, cases_Bool}
 use Rattle.std.proofs.lemmas.List.{length-set, get_or-set_same, get_or-set_other}
@@ -9,10 +9,10 @@ use Rattle.epx_apply.specs.declared.key_table.KeyLevels.{KeyLevels}
 use Rattle.epx_apply.specs.declared.key_table.Access.{Access}
 use Rattle.epx_apply.specs.KeyTables.{no_levels, key_levels_at, IsLevelAbove, level_for, raise}
 
--- ---- one command more
+-- ---- one more command
 
 module _ (keys_of : List Op → List (List ℕ)) (done : List (List Op × ℕ)) (ops : List Op) (level : ℕ) (k : List ℕ) (n : ℕ) (is : IsLevelAbove keys_of done k n) where
-  -- one that has the key
+  -- a command that has the key
   pub IsLevelAbove-raised : Contains (keys_of ops) k → IsLevelAbove keys_of (done ++ (ops, level) ∷ []) k (max n (suc level))
   IsLevelAbove-raised has = record {
     above = λ o l c h. elim (Contains-push_cases done (ops, level) (o, l) c) [
@@ -28,7 +28,7 @@ module _ (keys_of : List Op → List (List ℕ)) (done : List (List Op × ℕ)) 
     ];
   }
 
-  -- one that has not
+  -- a command that does not have the key
   pub IsLevelAbove-kept : ¬ Contains (keys_of ops) k → IsLevelAbove keys_of (done ++ (ops, level) ∷ []) k n
   IsLevelAbove-kept lacks = record {
     above = λ o l c h. elim (Contains-push_cases done (ops, level) (o, l) c) [
@@ -41,14 +41,14 @@ module _ (keys_of : List Op → List (List ℕ)) (done : List (List Op × ℕ)) 
     ];
   }
 
--- ---- the level that keys need
+-- ---- the least level that all accesses allow
 
 module _ (key_levels : List KeyLevels) where
   fold_from : (m : ℕ) (accesses : List Access) → m ≤ fold (λ level a. max level (level_for key_levels a)) m accesses
   fold_from m [] = omega arith
   fold_from m (a ∷ accesses) = let rest = fold_from (max m (level_for key_levels a)) accesses in omega arith
 
-  -- it is as high as each
+  -- it is at least the level for each access
   pub fold_above : (m : ℕ) (accesses : List Access) (a : Access) → Contains accesses a → level_for key_levels a ≤ fold (λ level a. max level (level_for key_levels a)) m accesses
   fold_above m [] a h = absurd (Contains-nil a h)
   fold_above m (b ∷ accesses) a h =
@@ -60,7 +60,7 @@ module _ (key_levels : List KeyLevels) where
         | inr later ↦ fold_above (max m (level_for key_levels b)) accesses a later
       ]
 
-  -- and no higher than one of them
+  -- it is the level for one of them, or the initial level
   pub fold_reached : (m : ℕ) (accesses : List Access) → (fold (λ level a. max level (level_for key_levels a)) m accesses ≡ m) ⊎ ((a : Access) × Contains accesses a × (fold (λ level a. max level (level_for key_levels a)) m accesses ≡ level_for key_levels a))
   fold_reached m [] = inl refl
   fold_reached m (b ∷ accesses) =
@@ -72,14 +72,14 @@ module _ (key_levels : List KeyLevels) where
         | inr (a, c, e) ↦ inr (a, Contains-cons b accesses a c, e)
       ]
 
--- ---- levels raised one after another
+-- ---- raising the levels for one access after another
 
 module _ (n : ℕ) where
   pub length_raised : (accesses : List Access) (key_levels : List KeyLevels) → length (fold (raise n) key_levels accesses) ≡ length key_levels
   length_raised [] key_levels = refl
   length_raised (a ∷ accesses) key_levels = length_raised accesses (raise n key_levels a) ∙ length-set key_levels a.key _
 
-  -- what the touchers of a key become
+  -- the new `touchers` of a key
   pub touchers_raised : (accesses : List Access) (key_levels : List KeyLevels) (x : ℕ) → x < length key_levels →
       (((w : Bool) × Contains accesses (record { key = x; writes = w })) × ((key_levels_at (fold (raise n) key_levels accesses) x).touchers ≡ max (key_levels_at key_levels x).touchers n))
       ⊎ (((w : Bool) → ¬ Contains accesses (record { key = x; writes = w })) × ((key_levels_at (fold (raise n) key_levels accesses) x).touchers ≡ (key_levels_at key_levels x).touchers))
@@ -113,7 +113,7 @@ module _ (n : ℕ) where
             ]
       ]
 
-  -- what the writers of a key become
+  -- the new `writers` of a key
   pub writers_raised : (accesses : List Access) (key_levels : List KeyLevels) (x : ℕ) → x < length key_levels →
       (Contains accesses (record { key = x; writes = true }) × ((key_levels_at (fold (raise n) key_levels accesses) x).writers ≡ max (key_levels_at key_levels x).writers n))
       ⊎ ((¬ Contains accesses (record { key = x; writes = true })) × ((key_levels_at (fold (raise n) key_levels accesses) x).writers ≡ (key_levels_at key_levels x).writers))

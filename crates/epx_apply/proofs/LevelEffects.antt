@@ -1,4 +1,4 @@
--- The effects of the commands of one level, over the contents before all of them.
+-- The effects of the commands of one level, each over the contents before the level.
 use Rattle.std.proofs.Common.{◌≡◌, ◌∙◌, ℕ, List, [], slice_index_or, map, subst, sym, ap}
 use Rattle.std.proofs.lemmas.Simd.{map-map}
 use Rattle.std.proofs.lemmas.List.Folds.{flat_map-map}
@@ -13,7 +13,7 @@ use Rattle.epx_txn.specs.declared.effect.Effect.{Effect}
 use Rattle.epx_txn.proofs.Merging.{writes_in}
 use Rattle.epx_apply.specs.Effects.{effect_over, effects_over, replies_in}
 
--- the effect of the command at a place
+-- the effect of the command at a position
 abbrev pub effect_at : Contents → List (List Op) → ℕ → Effect
 effect_at c commands i = effect_over c (slice_index_or commands i [])
 
@@ -25,14 +25,14 @@ module _ (commands : List (List Op)) (c : Contents) (effects : List Effect) (are
   their_writes : writes_in effects ≡ writes_over commands c
   their_writes = ap writes_in are ∙ flat_map-map (λ e. e.writes) (effect_over c) commands
 
-  -- they write no key twice
+  -- no two of them write the same key
   pub no_key_twice : NoKeyTwice (writes_in effects)
   no_key_twice = subst (λ (ws : List Write). NoKeyTwice ws) (sym their_writes) (no_key_twice-all_apart commands apart c)
 
-  -- their writes, put in together, give the contents after them
+  -- merging their writes yields the contents after them
   pub merged : (after : Contents) → after ≡ put_all (writes_in effects) c → after ≡ (execute commands c).final
   merged after put = put ∙ ap (λ ws. put_all ws c) their_writes ∙ sym (final-all_apart commands apart c)
 
-  -- and their replies are those of one after another
+  -- their replies are those of executing them one after another
   pub replied : replies_in effects ≡ (execute commands c).replies
   replied = ap replies_in are ∙ map-map (λ e. e.reply) (effect_over c) commands ∙ sym (replies-all_apart commands apart c)

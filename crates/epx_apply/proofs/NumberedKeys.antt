@@ -1,4 +1,4 @@
--- Keys numbered by a set that keeps its order.
+-- Keys that are numbered by an indexed set.
 use Rattle.std.proofs.Common.{◌≡◌, inl, inr, ℕ, ◌<◌, Bool, true, false, not, ◌||◌, List, [], ◌∷◌, ◌++◌, length, map, get_or, Contains, Some, if◌then◌else◌, slice_get, refl, sym, ap, subst, ◌∙◌, true≢false, Bor}
 use Rattle.std.specs.Str.{bytes_eq}
 use Rattle.std.specs.List.{list_any}
@@ -26,7 +26,7 @@ not_is true false e = refl
 not_is false true e = refl
 not_is false false e = absurd (true≢false e)
 
--- a key that no test finds is not there
+-- a key that equals no key of the set is not in it
 absent : (k : Bor (List ℕ)) (ks : List (Bor (List ℕ))) → list_any (same_text k) ks ≡ false → ¬ Contains (texts_of ks) k.now
 absent k [] none h = Contains-nil k.now h
 absent k (j ∷ ks) none h =

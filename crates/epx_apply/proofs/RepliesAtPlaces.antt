@@ -1,4 +1,4 @@
--- Replies that are put at their places.
+-- Replies that are put at the positions of their commands.
 use Rattle.std.proofs.Common.{◌≡◌, ◌<◌, ◌∙◌, ℕ, List, [], ◌∷◌, length, map, get_or, set, Contains, All, refl, sym, ap, ap₂, subst, arith}
 use Rattle.std.proofs.lemmas.List.{length-set, get_or-set_same, get_or-set_other}
 use Rattle.std.proofs.lemmas.List.Elements.{All-head, All-tail, All-weaker}
@@ -8,13 +8,13 @@ use Rattle.epx_types.proofs.Rearranged.{Once}
 use Rattle.epx_txn.specs.declared.effect.Effect.{Effect}
 use Rattle.epx_apply.specs.Effects.{replies_in, put_replies}
 
--- with the effects that are left put at the places that are left, all are put
+-- once the remaining effects are put at the remaining positions, all are put
 pub record IsLaidUpTo (places : List ℕ) (effects : List Effect) (at all : List Reply) : Type 0 where
   pub len : length effects ≡ length places
   pub within : All (λ i. i < length at) places
   pub laid : put_replies places (replies_in effects) at ≡ all
 
--- one more is put
+-- one more reply is put
 module _ (places places' : List ℕ) (effects effects' : List Effect) (i : ℕ) (e : Effect) (at all : List Reply) (next_place : places ≡ i ∷ places') (next_effect : effects ≡ e ∷ effects') (laid : IsLaidUpTo places effects at all) where
   here : IsLaidUpTo (i ∷ places') (e ∷ effects') at all
   here = subst (λ (is : List ℕ). IsLaidUpTo is (e ∷ effects') at all) next_place (subst (λ (es : List Effect). IsLaidUpTo places es at all) next_effect laid)
@@ -29,15 +29,15 @@ module _ (places places' : List ℕ) (effects effects' : List Effect) (i : ℕ) 
     laid = ap (put_replies places' (replies_in effects')) put ∙ here.laid;
   }
 
--- ---- what stands where
+-- ---- the reply at each position
 
--- no place is made or lost
+-- the number of replies is unchanged
 pub length-put_replies : (places : List ℕ) (replies at : List Reply) → length (put_replies places replies at) ≡ length at
 length-put_replies [] replies at = refl
 length-put_replies (i ∷ places) [] at = refl
 length-put_replies (i ∷ places) (r ∷ replies) at = length-put_replies places replies (set at i r) ∙ length-set at i r
 
--- another place keeps what it had
+-- the other positions keep their replies
 pub get_or-put_replies_other : (places : List ℕ) (replies at : List Reply) (k : ℕ) (d : Reply) → ¬ Contains places k → get_or (put_replies places replies at) k d ≡ get_or at k d
 get_or-put_replies_other [] replies at k d other = refl
 get_or-put_replies_other (i ∷ places) [] at k d other = refl
@@ -45,7 +45,7 @@ get_or-put_replies_other (i ∷ places) (r ∷ replies) at k d other =
     get_or-put_replies_other places replies (set at i r) k d (λ h. other (Contains-cons i places k h))
     ∙ get_or-set_other at i k r d (λ same. other (subst (Contains (i ∷ places)) (sym same) (Contains-head i places)))
 
--- and the places have the replies
+-- the positions have the replies
 pub map-put_replies : (places : List ℕ) (replies at : List Reply) (d : Reply) → Once places → All (λ i. i < length at) places → length replies ≡ length places → map (λ i. get_or (put_replies places replies at) i d) places ≡ replies
 map-put_replies [] [] at d once within len = refl
 map-put_replies [] (r ∷ replies) at d once within len = absurd (omega (arith, len))
@@ -55,7 +55,7 @@ map-put_replies (i ∷ places) (r ∷ replies) at d once within len =
     (get_or-put_replies_other places replies (set at i r) i d once.0 ∙ get_or-set_same at i r d (All-head (λ k. k < length at) i places within))
     (map-put_replies places replies (set at i r) d once.1 (All-weaker (λ k. k < length at) (λ k. k < length (set at i r)) (λ k l. omega (arith, l, length-set at i r)) places (All-tail (λ k. k < length at) i places within)) (omega (arith, len)))
 
--- other places, all together
+-- all other positions keep their replies
 pub map-put_replies_other : (others places : List ℕ) (replies at : List Reply) (d : Reply) → ((k : ℕ) → Contains others k → ¬ Contains places k) → map (λ i. get_or (put_replies places replies at) i d) others ≡ map (λ i. get_or at i d) others
 map-put_replies_other others places replies at d apart =
     map-agree (λ i. get_or (put_replies places replies at) i d) (λ i. get_or at i d) others (λ k h. get_or-put_replies_other places replies at k d (apart k h))

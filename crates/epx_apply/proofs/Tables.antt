@@ -1,4 +1,4 @@
--- Tables as keys are added, and as a command is noted.
+-- Tables when keys and commands are added.
 use Rattle.std.proofs.Common.{◌≡◌, ◌⊎◌, inl, inr, ℕ, suc, max, ◌+◌, ◌<◌, ◌≤◌, Bool, true, List, [], ◌∷◌, ◌++◌, length, flat_map, get_or, take, fold, if◌then◌else◌, Contains, All, refl, sym, ap, ap₂, subst, ◌∙◌, arith, append-nil, append_assoc}
 use Rattle.std.proofs.lemmas.Bool.{cases_lt, cases_Bool}
 use Rattle.std.proofs.lemmas.List.{map-append, length_push, get_or_append_left, get_or_push, take_all, take_more, flat_map_more}
@@ -14,7 +14,7 @@ use Rattle.epx_apply.specs.KeyTables.{Table, no_levels, key_levels_at, key_at, a
 use Rattle.epx_apply.proofs.AccessedKeys.{current-from_touched, touched-from_accesses, current-from_written, written-from_accesses, touched-from_written}
 use Rattle.epx_apply.proofs.KeyLevelsLemmas.{IsLevelAbove-raised, IsLevelAbove-kept, fold_above, fold_reached, length_raised, touchers_raised, writers_raised}
 
--- ---- keys added
+-- ---- adding a key
 
 pub AddsAccesses-nil : (t : Table) → AddsAccesses [] t t
 AddsAccesses-nil t done current is = let P : List (List ℕ × Bool) → Type 0 = λ l. IsTableOf done l t in subst P (sym (append-nil current)) is
@@ -28,7 +28,7 @@ abbrev current_at : List (List ℕ) → Access → List ℕ × Bool
 current_at keys a = (key_at keys a.key, a.writes)
 
 module _ (done : List (List Op × ℕ)) (current : List (List ℕ × Bool)) (t : Table) (is : IsTableOf done current t) where
-  -- a key that the table knows
+  -- a key that is in the table
   pub access_known : (x : ℕ) (k : List ℕ) (w : Bool) → x < length t.keys → key_at t.keys x ≡ k
       → IsTableOf done (current ++ (k, w) ∷ []) (record { keys = t.keys; key_levels = t.key_levels; accesses = t.accesses ++ record { key = x; writes = w } ∷ [] })
   access_known x k w low at = record {
@@ -113,7 +113,7 @@ module _ (done : List (List Op × ℕ)) (current : List (List ℕ × Bool)) (t :
               ]
         ]
 
--- ---- one command more
+-- ---- adding a command
 
 module _ (done : List (List Op × ℕ)) (ops : List Op) (t : Table) (is : IsTableOf done (flat_map accesses_of ops) t) where
   level : ℕ
@@ -128,14 +128,15 @@ module _ (done : List (List Op × ℕ)) (ops : List Op) (t : Table) (is : IsTabl
   current_of : (a : Access) → Contains t.accesses a → Contains {X = List ℕ × Bool} (flat_map accesses_of ops) (key_at t.keys a.key, a.writes)
   current_of a h = subst (λ (l : List (List ℕ × Bool)). Contains {X = List ℕ × Bool} l (key_at t.keys a.key, a.writes)) is.current_keys (Contains-map (current_at t.keys) t.accesses a h)
 
-  -- the access of the key with a number
+  -- the access with the number of a key
   access_at : (x : ℕ) → x < length t.keys → (w : Bool) → Contains {X = List ℕ × Bool} (flat_map accesses_of ops) (key_at t.keys x, w) → Contains t.accesses (record { key = x; writes = w })
   access_at x low w h =
       let a = access_of (key_at t.keys x) w h in
       let same : a.0.key ≡ x = is.lone a.0.key x (is.within a.0 a.1) low a.2 in
       subst (λ y. Contains t.accesses (record { key = y; writes = w })) same (subst (λ v. Contains t.accesses (record { key = a.0.key; writes = v })) a.3 a.1)
 
-  -- an access of a key that an earlier command writes, or of a written key that it touches, stands above it
+  -- the level for an access of a key that an earlier command writes, or for a write of a key that
+  -- it touches, is above that command
   above_written : (a : Access) → Contains t.accesses a → (earlier : List Op) (l : ℕ) → Contains done (earlier, l) → Contains (written_in earlier) (key_at t.keys a.key) → l < level_for t.key_levels a
   above_written a c earlier l d h =
       elim (cases_Bool a.writes) [
@@ -160,7 +161,7 @@ module _ (done : List (List Op × ℕ)) (ops : List Op) (t : Table) (is : IsTabl
             omega (arith, fold_above t.key_levels 0 t.accesses a.0 a.1)
       ]
 
-  -- the levels at an access are those of a command that conflicts
+  -- the level for an access is 0 or one above a command that conflicts
   level_reached : (a : Access) → Contains t.accesses a → (level_for t.key_levels a ≡ 0) ⊎ ((earlier : List Op) × (l : ℕ) × Contains done (earlier, l) × Conflict earlier ops × (level_for t.key_levels a ≡ suc l))
   level_reached a c =
       let k = key_at t.keys a.key in
@@ -194,7 +195,7 @@ module _ (done : List (List Op × ℕ)) (ops : List Op) (t : Table) (is : IsTabl
     ];
   }
 
-  -- the level is no higher than there are commands before
+  -- the level is at most the number of commands before
   pub level_small : fold (λ level a. max level (level_for t.key_levels a)) 0 t.accesses ≤ length done
   level_small =
       elim next.reached [
@@ -261,7 +262,7 @@ module _ (done : List (List Op × ℕ)) (ops : List Op) (t : Table) (is : IsTabl
     subst (λ (l : ℕ). IsTableOf (done ++ (ops, l) ∷ []) [] (record { keys = t.keys; key_levels = key_levels; accesses = [] })) (sym is_level) (noted (level + 1) key_levels (omega (arith, is_level)) are_levels_above),
   )
 
--- ---- the keys of a command, operation by operation
+-- ---- adding the keys of a command, operation by operation
 
 pub adds_more_accesses : (ops : List Op) (i : ℕ) (op : Op) (a b c : Table) → i < length ops → op ≡ get_or ops i op → AddsAccesses (flat_map accesses_of (take i ops)) a b → AddsAccesses (accesses_of op) b c → AddsAccesses (flat_map accesses_of (take (i + 1) ops)) a c
 adds_more_accesses ops i op a b c within is_op first second =
@@ -272,6 +273,6 @@ adds_more_accesses ops i op a b c within is_op first second =
 pub adds_all_accesses : (ops : List Op) (i : ℕ) (a b : Table) → length ops ≤ i → AddsAccesses (flat_map accesses_of (take i ops)) a b → (done : List (List Op × ℕ)) → IsTableOf done [] a → IsTableOf done (flat_map accesses_of ops) b
 adds_all_accesses ops i a b past adds_access done is = subst (λ (l : List Op). IsTableOf done (flat_map accesses_of l) b) (take_all i ops past) (adds_access done [] is)
 
--- each key has its levels under its number
+-- each number of a key has levels
 pub keys_within : (done : List (List Op × ℕ)) (current : List (List ℕ × Bool)) (t : Table) → IsTableOf done current t → All (λ a. a.key < length t.key_levels) t.accesses
 keys_within done current t is k d low = omega (arith, is.within (get_or t.accesses k d) (Contains-get_or t.accesses k d low), is.key_levels)

@@ -1,4 +1,4 @@
--- What commands do over contents that they only read, and replies at places.
+-- The effects of commands over contents that they only read, and replies at positions.
 use Rattle.std.specs.Prelude.{ℕ, List, [], ◌∷◌, length, map, slice_range, slice_set}
 use Rattle.epx_types.specs.declared.command.Command.{Command}
 use Rattle.epx_types.specs.declared.op.Op.{Op}
@@ -13,23 +13,23 @@ use Rattle.epx_txn.specs.declared.effect.Effect.{Effect}
 abbrev pub ops_of : List Command → List (List Op)
 ops_of commands = map (λ c. c.ops.now) commands
 
--- the reply of a command, and what it writes
+-- the reply of a command and its writes
 abbrev pub effect_over : Contents → List Op → Effect
 effect_over c ops = record { reply = (command_on ops c).reply; writes = writes_of ops c }
 
--- the effects of commands, each over the same contents
+-- the effects of commands, all over the same contents
 abbrev pub effects_over : Contents → List (List Op) → List Effect
 effects_over c commands = map (effect_over c) commands
 
 abbrev pub replies_in : List Effect → List Reply
 replies_in effects = map (λ e. e.reply) effects
 
--- each reply put at its place, one after another
+-- puts each reply at its position, one after another
 abbrev pub put_replies : List ℕ → List Reply → List Reply → List Reply
 put_replies [] replies at = at
 put_replies (i ∷ places) [] at = at
 put_replies (i ∷ places) (r ∷ replies) at = put_replies places replies (slice_set at i r)
 
--- the items of one of the pieces of a list
+-- the items of one piece of a list
 abbrev pub items_of_piece : {X : Type 0} → ℕ → List X → ℕ → List X
 items_of_piece cut items piece = slice_range items (piece_start cut piece) (piece_end cut (length items) piece)

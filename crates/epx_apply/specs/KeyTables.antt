@@ -1,4 +1,4 @@
--- Tables that hold, for each key, how high the commands so far are that touch it and that write it.
+-- Tables with the levels of the commands so far that touch each key and that write it.
 use Rattle.std.specs.Prelude.{◌≡◌, ◌⊎◌, ℕ, suc, max, ◌<◌, Bool, true, false, List, [], ◌∷◌, ◌++◌, if◌then◌else◌, length, map, flat_map, slice_index_or, slice_set, Contains}
 use Rattle.epx_types.specs.declared.op.Op.{Op}
 use Rattle.epx_types.specs.declared.op.Op.TheVariants.{Get, Put, Del, Add, Is, Floor, Copy}
@@ -7,7 +7,7 @@ use Rattle.epx_types.specs.Conflicts.{Conflict}
 use Rattle.epx_apply.specs.declared.key_table.KeyLevels.{KeyLevels}
 use Rattle.epx_apply.specs.declared.key_table.Access.{Access}
 
--- keys by their numbers, the levels at each, and the accesses of the current command
+-- the keys by their numbers, the levels of each key, and the accesses of the current command
 pub record Table : Type 0 where
   pub keys : List (List ℕ)
   pub key_levels : List KeyLevels
@@ -22,7 +22,7 @@ key_levels_at key_levels x = slice_index_or key_levels x no_levels
 abbrev pub key_at : List (List ℕ) → ℕ → List ℕ
 key_at keys x = slice_index_or keys x []
 
--- the keys of an operation, each with whether it is written
+-- the keys of an operation; each is marked true if the operation writes it
 abbrev pub accesses_of : Op → List (List ℕ × Bool)
 accesses_of (Get k) = (k, false) ∷ []
 accesses_of (Put k v) = (k, true) ∷ []
@@ -38,12 +38,13 @@ touched_in ops = flat_map touched_by ops
 abbrev pub written_in : List Op → List (List ℕ)
 written_in ops = flat_map written_by ops
 
--- one above the greatest level of the commands that have the key among theirs, or 0 where none has
+-- n is one above the greatest level of the commands that have the key k, or 0 if none has it
 pub record IsLevelAbove (keys_of : List Op → List (List ℕ)) (done : List (List Op × ℕ)) (k : List ℕ) (n : ℕ) : Type 0 where
   pub above : (ops : List Op) (l : ℕ) → Contains done (ops, l) → Contains (keys_of ops) k → l < n
   pub reached : (n ≡ 0) ⊎ ((ops : List Op) × (l : ℕ) × Contains done (ops, l) × Contains (keys_of ops) k × (n ≡ suc l))
 
--- the table of commands with their levels, and of a current command whose keys so far are these
+-- t is the table of the done commands with their levels, and of the keys of the current command so
+-- far
 pub record IsTableOf (done : List (List Op × ℕ)) (current : List (List ℕ × Bool)) (t : Table) : Type 0 where
   pub small : (ops : List Op) (l : ℕ) → Contains done (ops, l) → l < length done
   pub known : (ops : List Op) (l : ℕ) (k : List ℕ) → Contains done (ops, l) → Contains (touched_in ops) k → Contains t.keys k
@@ -54,26 +55,27 @@ pub record IsTableOf (done : List (List Op × ℕ)) (current : List (List ℕ ×
   pub current_keys : map (λ a. (key_at t.keys a.key, a.writes)) t.accesses ≡ current
   pub within : (a : Access) → Contains t.accesses a → a.key < length t.keys
 
--- the table has these accesses too
+-- the new table has these further accesses of the current command
 abbrev pub AddsAccesses : List (List ℕ × Bool) → Table → Table → Type 0
 AddsAccesses more old new = (done : List (List Op × ℕ)) (current : List (List ℕ × Bool)) → IsTableOf done current old → IsTableOf done (current ++ more) new
 
--- the least level of a command for one of its keys
+-- the least level that one access allows
 abbrev pub level_for : List KeyLevels → Access → ℕ
 level_for key_levels a = if a.writes then (key_levels_at key_levels a.key).touchers else (key_levels_at key_levels a.key).writers
 
--- the levels at one key of a command raised to at least n
+-- the levels of the key of an access, raised to at least n
 abbrev pub raise : ℕ → List KeyLevels → Access → List KeyLevels
 raise n key_levels a = slice_set key_levels a.key (record {
   writers = if a.writes then max (key_levels_at key_levels a.key).writers n else (key_levels_at key_levels a.key).writers;
   touchers = max (key_levels_at key_levels a.key).touchers n;
 })
 
--- the level of a command that comes after those done: above each that conflicts with it, and no higher than it must
+-- the level of the command after those done: the least one above each command that conflicts with
+-- it
 pub record IsNext (done : List (List Op × ℕ)) (ops : List Op) (level : ℕ) : Type 0 where
   pub above : (earlier : List Op) (l : ℕ) → Contains done (earlier, l) → Conflict earlier ops → l < level
   pub reached : (level ≡ 0) ⊎ ((earlier : List Op) × (l : ℕ) × Contains done (earlier, l) × Conflict earlier ops × (level ≡ suc l))
 
--- one command more, with its level
+-- one more command, with its level
 abbrev pub Notes : List Op → ℕ → Table → Table → Type 0
 Notes ops level old new = (done : List (List Op × ℕ)) → IsTableOf done [] old → IsNext done ops level × IsTableOf (done ++ (ops, level) ∷ []) [] new

@@ -1,9 +1,9 @@
-//! A seed for the table of the keys of commands, where nothing can be drawn.
+//! A seed for the table of the commands' keys, for callers without a source of random numbers.
 use epx_seed::Seed;
 use epx_types::{Command, Op};
 use std::hash::{DefaultHasher, Hash};
 
-/// Takes in the keys of an operation.
+/// Hashes the keys of an operation.
 fn hash_keys(op: &Op, keys: &mut DefaultHasher) {
     match op {
         Op::Get { key }
@@ -19,7 +19,7 @@ fn hash_keys(op: &Op, keys: &mut DefaultHasher) {
     }
 }
 
-/// A seed that follows from all keys of the commands.
+/// Returns a seed that is computed from all keys of the commands.
 pub(crate) fn seed_after(commands: &[Command]) -> Seed {
     let mut keys = DefaultHasher::new();
     for command in commands {

@@ -1,4 +1,4 @@
-//! How high the commands so far are that touch each key, and that write it.
+//! For each key, the levels of the commands so far that touch it and that write it.
 ghost use Rattle.std.specs.Prelude.{◌≡◌, ◌<◌, ◌^◌, ◌+◌, ℕ, List, [], ◌∷◌, length, max, flat_map, fold, All, IfOk, OnOk};
 ghost use Rattle.epx_types.specs.declared.op.Op.{Op};
 ghost use Rattle.epx_apply.specs.KeyTables.{IsTableOf, AddsAccesses, Notes, accesses_of, level_for, raise};
@@ -9,13 +9,13 @@ use indexmap::IndexSet;
 use std::alloc::Global;
 use std::marker::Model;
 
-/// How high the commands are that use a key: each number is one above their greatest level, or 0
-/// where there is none.
+/// The levels of the commands that use a key. Each number is one above the greatest level of such
+/// commands, or 0 if there are none.
 #[derive(Clone, Copy, Debug)]
 pub(crate) struct KeyLevels {
-    /// Of the commands that write the key.
+    /// For the commands that write the key.
     writers: usize,
-    /// Of the commands that touch the key.
+    /// For the commands that touch the key.
     touchers: usize,
 }
 
@@ -26,7 +26,8 @@ pub(crate) struct Access {
     writes: bool,
 }
 
-/// The keys of the commands so far, numbered as they came, with the levels at each.
+/// The keys of the commands so far, numbered in the order in which they came, with the levels of
+/// each.
 #[derive(Debug, Drop)]
 pub(crate) struct KeyTable<'a> {
     keys: IndexSet<&'a str, Seed>,
@@ -48,7 +49,8 @@ impl<'a> Model for KeyTable<'a> {
     } };
 }
 
-/// The least level that is above each earlier command that conflicts over one of these accesses.
+/// Returns the least level that is above every earlier command that conflicts over one of these
+/// accesses.
 fn least_level(key_levels: &[KeyLevels], accesses: &[Access]) -> usize
     requires { All (λ a. a.key < length key_levels.now) accesses.now }
     ensures { result ≡ fold (λ level a. max level (level_for key_levels.now a)) 0 accesses.now }
@@ -65,7 +67,7 @@ fn least_level(key_levels: &[KeyLevels], accesses: &[Access]) -> usize
     level
 }
 
-/// Raises the levels at each key of a command.
+/// Raises the levels of each key of a command to at least `least`.
 fn raise_all(key_levels: &mut [KeyLevels], accesses: &[Access], least: usize)
     requires { All (λ a. a.key < length key_levels.old) accesses.now }
     ensures { key_levels.new ≡ fold (raise least) key_levels.old accesses.now }
@@ -84,7 +86,7 @@ fn raise_all(key_levels: &mut [KeyLevels], accesses: &[Access], least: usize)
 }
 
 impl<'a> KeyTable<'a> {
-    /// A table of no keys, which hashes from the seed.
+    /// Returns a table without keys that hashes with the seed.
     pub(crate) fn new(alloc: Global, seed: Seed) -> KeyTable<'a>
         ensures { IsTableOf [] [] result }
     {
@@ -131,8 +133,8 @@ impl<'a> KeyTable<'a> {
         }
     }
 
-    /// The level of a command that comes after those so far, which is then one of them. All its keys are
-    /// looked at before any is raised, so that it does not conflict with itself.
+    /// Returns the level of the next command and adds the command to the table. All its keys are
+    /// looked up before any level is raised, so it does not conflict with itself.
     pub(crate) fn note(&mut self, ops: &'a [Op]) -> Result<usize, Memory>
         requires { (done : List (List Op × ℕ)) × IsTableOf done [] self.old × (length done + 1 < 2 ^ 64) }
         ensures { IfOk result (λ level. Notes ops.now level self.old self.new) }

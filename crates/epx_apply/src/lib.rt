@@ -1,4 +1,4 @@
-//! Commands applied in order, and their conflict levels.
+//! Applies commands in order, with several threads, and computes their conflict levels.
 #![tactic(auto)]
 
 mod key_seed;

@@ -1,5 +1,6 @@
-//! Commands executed level by level: those of one level do not conflict, so each is evaluated over the
-//! store before all of them, which is only read, and then their writes are put in together.
+//! Executes commands level by level. The commands of one level do not conflict. Each is evaluated
+//! over the store before the level, which is only read. Then the writes of all of them are merged
+//! into the store.
 ghost use Rattle.std.specs.Prelude.{◌≡◌, ◌<◌, ◌≤◌, ◌^◌, ◌++◌, ◌∷◌, [], ℕ, length, map, flat_map, slice_set, All, IfOk, IfSome, OnOk, OnErr};
 ghost use Rattle.epx_types.specs.Commands.{command_on};
 ghost use Rattle.epx_types.specs.Conflicts.{AllApart};
@@ -19,7 +20,7 @@ use std::mem::replace;
 use std::random::RandomSource;
 use std::thread::Threads;
 
-/// The effect of one command over a lent store, put behind those of others.
+/// Appends the effect of one command over a borrowed store.
 fn add_effect(
     alloc: Global,
     store: &Store,
@@ -34,7 +35,7 @@ fn add_effect(
     Ok(())
 }
 
-/// The effects of the commands at these places, each over the same lent store.
+/// Returns the effects of the commands at these positions, each over the same borrowed store.
 fn evaluate(
     alloc: Global,
     store: &Store,
@@ -52,7 +53,7 @@ fn evaluate(
     Ok(effects)
 }
 
-/// The same for one of the pieces into which the plan cuts the places.
+/// Does the same for one of the pieces into which the plan cuts the positions.
 fn evaluate_piece(
     alloc: Global,
     store: &Store,
@@ -70,7 +71,7 @@ fn evaluate_piece(
     evaluate(alloc, store, commands, &places[start..end])
 }
 
-/// The effects of all parts, one part after another; so many are expected.
+/// Concatenates the effects of all parts. `count` is their expected number.
 fn join_parts(alloc: Global, parts: Vec<Vec<Effect>>, count: usize) -> Result<Vec<Effect>, Memory>
     ensures { IfOk result (λ v. v.items ≡ flat_map (λ part. part.items) parts.items) }
 {
@@ -81,8 +82,8 @@ fn join_parts(alloc: Global, parts: Vec<Vec<Effect>>, count: usize) -> Result<Ve
     Ok(effects)
 }
 
-/// The effects of the commands at these places, each over the same lent store, worked out piece by piece
-/// by the plan's workers.
+/// Returns the effects of the commands at these positions, each over the same borrowed store. The
+/// plan's workers evaluate them piece by piece.
 fn evaluate_all<R: Threads + Sync, G: Gate + Sync>(
     rt: &R,
     alloc: Global,
@@ -104,7 +105,7 @@ fn evaluate_all<R: Threads + Sync, G: Gate + Sync>(
     join_parts(alloc, parts, places.len())
 }
 
-/// The reply of an effect, put at its command's place.
+/// Puts the reply of an effect at the position of its command.
 fn put_reply(replies: &mut Vec<Reply>, place: usize, effect: Effect)
     requires { place < length replies.old.items }
     ensures { replies.new.items ≡ slice_set replies.old.items place effect.reply }
@@ -113,7 +114,7 @@ fn put_reply(replies: &mut Vec<Reply>, place: usize, effect: Effect)
     replies[place] = reply;
 }
 
-/// The replies of effects, each put at its command's place.
+/// Puts the reply of each effect at the position of its command.
 fn lay_replies(replies: &mut Vec<Reply>, places: &[usize], effects: Vec<Effect>)
     requires len { length effects.items ≡ length places.now }
     requires within { All (λ i. i < length replies.old.items) places.now }
@@ -125,8 +126,8 @@ fn lay_replies(replies: &mut Vec<Reply>, places: &[usize], effects: Vec<Effect>)
     }
 }
 
-/// What the commands so far have left: the store, and the reply of each of them at its place. At other
-/// places stand replies that say nothing.
+/// The state after the commands so far: the store, and the reply of each command at its position.
+/// The replies at other positions are placeholders.
 #[derive(Drop)]
 struct Work {
     store: Store,
@@ -145,7 +146,7 @@ impl Work {
         Ok(Work { store, replies })
     }
 
-    /// One command by itself.
+    /// Runs one command.
     fn run_one(&mut self, alloc: Global, ops: &[Op], place: usize) -> Result<(), Memory>
         requires { place < length self.old.replies.items }
         ensures store { OnOk result (self.new.store ≡ (command_on ops.now self.old.store).after) }
@@ -157,7 +158,7 @@ impl Work {
         Ok(())
     }
 
-    /// The commands at these places, one after another.
+    /// Runs the commands at these positions one after another.
     fn run_in_turn(
         &mut self,
         alloc: Global,
@@ -178,8 +179,8 @@ impl Work {
         Ok(())
     }
 
-    /// The commands at these places, which do not conflict, side by side. After memory ran out the store is
-    /// not what it was.
+    /// Runs the commands at these positions in parallel. They must not conflict. After `Memory`
+    /// the store may have changed.
     fn run_side_by_side<R: Threads + Sync, G: Gate + Sync>(
         &mut self,
         rt: &R,
@@ -206,7 +207,8 @@ impl Work {
         Ok(())
     }
 
-    /// The commands of one level, which do not conflict. One piece of them needs no claims.
+    /// Runs the commands of one level, which do not conflict. If they are one piece, they run in
+    /// this thread.
     fn run_level<R: Threads + Sync, G: Gate + Sync>(
         &mut self,
         rt: &R,
@@ -234,7 +236,7 @@ impl Work {
     }
 }
 
-/// All commands, one after another.
+/// Runs all commands one after another.
 fn run_all(alloc: Global, store: Store, commands: &[Command]) -> Result<Work, Memory>
     ensures store { IfOk result (λ w. w.store ≡ (execute (ops_of commands.now) store).final) }
     ensures replies { IfOk result
@@ -248,14 +250,15 @@ fn run_all(alloc: Global, store: Store, commands: &[Command]) -> Result<Work, Me
     Ok(Work { store, replies })
 }
 
-/// How many levels there may be for threads to be worth starting: on average, a level then has two pieces for
-/// each worker.
+/// Returns the greatest number of levels for which threads are worth starting. With that many, a
+/// level has two pieces for each worker on average.
 fn most_levels(commands: usize, plan: Plan) -> usize {
     plan.pieces(commands) / 2 / plan.workers()
 }
 
-/// The levels of all commands, where they are below a bound. Their last eighth is looked at first, by itself: in an
-/// execution order the deepest come last, so that mostly it tells at once that there are too many.
+/// Returns the levels of all commands, if they are below a bound. Computes first the levels of the
+/// last eighth alone. In an execution order the deepest instances come last, so this eighth
+/// usually shows already that there are too many levels.
 fn few_levels(
     alloc: Global,
     commands: &[Command],
@@ -271,8 +274,8 @@ fn few_levels(
     levels_below(alloc, commands, bound, seed)
 }
 
-/// All commands, level by level; where the levels turn out to be many and small, one after another, as they
-/// stand in memory.
+/// Runs all commands level by level. If the levels are many and small, runs the commands one after
+/// another in their order in memory.
 fn run_levels<R: Threads + RandomSource + Sync, G: Gate + Sync>(
     rt: &R,
     alloc: Global,
@@ -298,9 +301,10 @@ fn run_levels<R: Threads + RandomSource + Sync, G: Gate + Sync>(
     Ok(work)
 }
 
-/// The replies of the commands in order, and the store after them, as of one thread that executes them one
-/// after another, whatever the plan, the gate and what is drawn. They are executed on a copy of the store, which
-/// is moved in at the end. One worker needs no levels.
+/// Executes the commands in order. Returns their replies and changes the store as a single thread
+/// would that executes them one after another. The plan, the gate and the random seed never change
+/// the result. The commands run on a copy of the store, which replaces the store at the end, so
+/// after an error the store is unchanged. One worker needs no levels.
 pub fn run_order<R: Threads + RandomSource + Sync, G: Gate + Sync>(
     rt: &R,
     alloc: Global,

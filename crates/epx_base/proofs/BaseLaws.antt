@@ -1,4 +1,4 @@
--- Every reading of a base ends in one of two ways.
+-- Any bytes are a base or a bad base.
 use Rattle.std.proofs.Common.{◌≡◌, ◌⊎◌, inl, inr, ℕ, List, Result, Ok, Err, refl}
 use Rattle.std.specs.FinMap as contents
 use Rattle.epx_types.specs.declared.id.Id.{Id}

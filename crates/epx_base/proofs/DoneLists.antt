@@ -1,4 +1,4 @@
--- Rising lists of Ids and of keys that grow by one.
+-- Rising lists of Ids and of keys, with one more inserted.
 use Rattle.std.proofs.Common.{◌≡◌, ◌⊎◌, inl, inr, ℕ, suc, ◌-◌, true, false, T, Bool, Less, Equal, Greater, is_lt, ℤ, List, [], ◌∷◌, ◌++◌, Contains, length, slice_get, option_map, refl, sym, ap, ◌∙◌, subst, arith}
 use Rattle.std.specs.BTreeSet.{insert_key}
 use Rattle.std.specs.FinMap.{is_sorted}
@@ -47,11 +47,11 @@ Contains-insert_cases (y ∷ xs) x z h =
       ]
     ] refl
 
--- rising Ids are fixed by which they are
+-- a rising list is determined by which Ids it has
 pub same_ids : (xs ys : List Id) → IsRising xs → IsRising ys → ((x : Id) → Contains xs x → Contains ys x) → ((x : Id) → Contains ys x → Contains xs x) → xs ≡ ys
 same_ids xs ys h k there back = same_rising Below (below_itself id_cmp_total) (below_trans id_cmp_total) xs ys (AllPairs-from_IsRising xs h) (AllPairs-from_IsRising ys k) there back
 
--- ---- the next one is past the last one
+-- ---- the next one is greater than the last one
 
 pub last-cons : {X : Type 0} (x z : X) (zs : List X) → last (x ∷ z ∷ zs) ≡ last (z ∷ zs)
 last-cons x z zs =

@@ -1,4 +1,4 @@
--- What a base says is done rises.
+-- The done instances of a base rise.
 use Rattle.std.proofs.Common.{◌≡◌, ◌+◌, ℕ, Bool, true, false, List, [], ◌∷◌, Option, Some, None, Result, Ok, Err, refl, sym, ◌∙◌, subst}
 use Rattle.std.specs.Prelude.{if◌then◌else◌}
 use Rattle.std.specs.BTreeSet.{insert_key}
@@ -22,7 +22,7 @@ ok_where : (b : Bool) (n : ℕ) (s t : Seen) → (if b then Ok s else Err n) ≡
 ok_where true n s t e = cc e
 ok_where false n s t e = absurd (cc e)
 
--- a line adds at most one instance, at its place
+-- a line inserts at most one instance, so the done instances still rise
 rises-after_with : (c : Option Counts) (s : Seen) (l : BaseLine) (t : Seen) → after_with c s l ≡ Some t → IsRising s.done → IsRising t.done
 rises-after_with None s (Header c) t e h = subst (λ (x : Seen). IsRising x.done) (some_where true (record s { counts = Some c }) t e) h
 rises-after_with None s (Done x) t e h = absurd (cc e)
@@ -48,7 +48,7 @@ rises-after_line : (s : Seen) (bytes : List ℕ) (o : Option BaseLine) → base_
 rises-after_line s bytes None none h u is = let stopped : after_line s bytes ≡ None = rw none refl in absurd (cc (stopped, is))
 rises-after_line s bytes (Some said) says h u is = let goes : after_line s bytes ≡ after s said = rw says refl in rises-after s said u (sym goes ∙ is) h
 
--- each further line of a text leaves it so
+-- after all lines the done instances still rise
 rises-reading : (s : Seen) (n : ℕ) (ls : List (List ℕ)) (t : Seen) → reading s n ls ≡ Ok t → IsRising s.done → IsRising t.done
 rises-reading s n [] t e h = subst (λ (x : Seen). IsRising x.done) (ok_where (is_whole s) n s t e) h
 rises-reading s n (l ∷ ls) t e h =

@@ -74,7 +74,7 @@ unless_aborted_fits : (before : Contents) (j : ℕ) (o : Option (Contents × Lis
 unless_aborted_fits before j None proceed b l h rest = record { reply = l; after = b }
 unless_aborted_fits before j (Some r) proceed b l h rest = rest r h
 
--- at most j values were read before the operation at place j
+-- at most j values are read before the operation at index j
 operate_all_fits : (before : Contents) (j : ℕ) (ops : List Op) (c : Contents)
     (got : List (Option ℤ))
     → FitsContents before → FitsContents c → AllByRecursion FitsOp ops → AreHeld got

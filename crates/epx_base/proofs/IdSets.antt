@@ -1,4 +1,4 @@
--- Sets of rising Ids and late ones.
+-- The rising and the late Ids of a set.
 use Rattle.std.proofs.Common.{◌≡◌, ◌⊎◌, inl, inr, ℕ, ◌+◌, ◌<◌, true, false, cond, nat_lt, not, ◌==◌, ◌&&◌, Bool, Ordering, Less, Equal, Greater, is_lt, List, [], ◌∷◌, ◌++◌, length, get_or, Contains, Some, refl, sym, ap, ap₂, ◌∙◌, subst, arith}
 use Rattle.std.specs.BTreeSet.{insert_key}
 use Rattle.std.specs.List.{HoldsAt, dedup, AllByRecursion}
@@ -25,7 +25,7 @@ use Rattle.epx_base.specs.Seen.{last, is_past}
 use Rattle.epx_base.specs.IdSets.{with_late, AreRisingAndLate}
 use Rattle.epx_base.proofs.DoneLists.{Contains-insert_itself, Contains-insert_other, Contains-insert_cases, same_ids, last-cons}
 
--- ---- what is among them
+-- ---- which Ids are among them
 
 pub Contains-with_rising : (rising late : List Id) (x : Id) → Contains rising x → Contains (with_late rising late) x
 Contains-with_rising rising [] x h = h
@@ -76,7 +76,7 @@ past_each (z ∷ w ∷ ws) x y rising past h =
       | inr rest ↦ past_each (w ∷ ws) x y rising.1 further rest
     ]
 
--- none of a rising list is past it
+-- no Id of a rising list is greater than all of them
 within_not_past : (xs : List Id) (x : Id) → IsRising xs → Contains xs x → is_past id_cmp (last xs) x ≡ false
 within_not_past xs x rising h =
     elim (cases_Bool (is_past id_cmp (last xs) x)) [
@@ -98,7 +98,7 @@ IsRising-push (y ∷ xs) x rising each = (
     below_of y [] z h within = absurd (Contains-nil z within)
     below_of y (x ∷ xs) z h within = elim (Contains-cons_cases x xs z within) [ inl same ↦ subst (Below y) same h.0 | inr rest ↦ below_of y xs z h.1 rest ]
 
--- the last of a rising list is one that none is past
+-- an Id of a rising list is its last one if no Id of the list is greater
 last_is : (xs : List Id) (l : Id) → IsRising xs → Contains xs l → ((x : Id) → Contains xs x → is_past id_cmp (Some l) x ≡ false) → last xs ≡ Some l
 last_is [] l rising h level = absurd (Contains-nil l h)
 last_is (x ∷ []) l rising h level = elim (Contains-cons_cases x [] l h) [ inl same ↦ ap Some same | inr none ↦ absurd (Contains-nil l none) ]
@@ -137,7 +137,7 @@ module _ (rising late : List Id) (h : AreRisingAndLate rising late) where
             some.1 ∙ sym (last_is (with_late rising late) some.0 IsRising-with_late (Contains-with_rising rising late some.0 some.2) (λ x k. ap (λ o. is_past id_cmp o x) (sym some.1) ∙ none_past x k))
       ]
 
-  -- ---- an Id past all
+  -- ---- an Id greater than all others
 
   module _ (x : Id) (past : is_past id_cmp (last rising) x ≡ true) where
     pub past_is_new : true ≡ not (is_among (with_late rising late) x)
@@ -183,7 +183,7 @@ module _ (rising late : List Id) (h : AreRisingAndLate rising late) where
           ]
         ])
 
-  -- ---- an Id that is there
+  -- ---- an Id that is in the set
 
   module _ (x : Id) where
     pub found_rising : is_among rising x ≡ true → is_among (with_late rising late) x ≡ true
@@ -231,7 +231,7 @@ module _ (rising late : List Id) (h : AreRisingAndLate rising late) where
           ]
         ])
 
--- ---- found by halving
+-- ---- the binary search
 
 sorted_from_rising : (xs : List Id) → IsRising xs → IsSorted id_cmp xs
 sorted_from_rising xs rising k d low l =
@@ -241,7 +241,7 @@ sorted_from_rising xs rising k d low l =
       | inr level ↦ level
     ]
 
--- no element ties where all before a place are less and all others greater
+-- no element is equal if all before a position are less and all others greater
 absent : (xs : List Id) (x : Id) (i : ℕ) → IsRising xs → (IsNonDecreasingBy (λ y. ordering_index (id_cmp y x)) xs → IsPartitionPoint (λ y. id_cmp y x ≡ Less) (λ y. id_cmp y x ≡ Greater) xs i) → ¬ Contains xs x
 absent xs x i rising parts h =
     let point = parts (searchable_from_sorted id_cmp_total (λ (y : Id). y) xs x (sorted_from_rising xs rising)) in
@@ -259,7 +259,7 @@ present xs x i within h =
 pub missing : (xs : List Id) (x : Id) (i : ℕ) → IsRising xs → (IsNonDecreasingBy (λ y. ordering_index (id_cmp y x)) xs → IsPartitionPoint (λ y. id_cmp y x ≡ Less) (λ y. id_cmp y x ≡ Greater) xs i) → false ≡ is_among xs x
 missing xs x i rising parts = sym (not_among xs x (absent xs x i rising parts))
 
--- ---- handed out
+-- ---- the Ids as a vector
 
 rising_from_strict : (xs : List Id) → IsStrictlySortedBy id_cmp xs → IsRising xs
 unfolding IsStrictlySortedBy
@@ -282,11 +282,11 @@ tie_nat a b =
       | false ↦ λ e. elim (a == b) as (λ t. is_eq (cond t Equal Greater) ≡ t) [ true ↦ refl | false ↦ refl ]
     ] refl
 
--- Ids are equal where their order ties them
+-- two Ids are equal exactly if their order is equal
 pub id_ties : (x y : Id) → ((x.replica == y.replica) && (x.number == y.number)) ≡ eq_by_cmp id_cmp x y
 id_ties x y = ap₂ (λ a b. a && b) (sym (tie_nat x.replica y.replica)) (sym (tie_nat x.number y.number)) ∙ sym (tie_then (nat_cmp x.replica y.replica) (nat_cmp x.number y.number))
 
--- sorted, and without the Ids that stand there twice
+-- the rising and the late Ids, sorted and without repeats
 pub handed_out : (eq : Id → Id → Bool) (ties : (x y : Id) → eq x y ≡ eq_by_cmp id_cmp x y) (rising late both sorted ids : List Id) → AreRisingAndLate rising late → both ≡ rising ++ late → IsPermutation both sorted → IsSorted id_cmp sorted → IsFiltered (DiffersFromLast eq) [] sorted ids → ids ≡ with_late rising late
 handed_out eq ties rising late both sorted ids h is moved up kept =
     let left : ids ≡ dedup eq sorted = dedup_is eq sorted ids kept in

@@ -37,7 +37,7 @@ abbrev pub IsStoreKey : List ℕ → Type 0
 IsStoreKey k = FitsKey k × IsUtf8 k
 
 -- the key that an operation writes, and the value that it puts, are within their limits;
--- nothing is claimed of an operation that writes none
+-- nothing is claimed about an operation that writes no key
 abbrev pub FitsOp : Op → Type 0
 FitsOp (op.Put k v) = IsStoreKey k × FitsSigned w64 v
 FitsOp (op.Add k n) = IsStoreKey k
@@ -55,7 +55,7 @@ pub record FitsInstance (e : Instance) : Type 0 where
   pub deps : (x : Id) → Contains e.deps x → FitsNumbers x
   pub command : FitsCommand e.ops
 
--- what holds of all elements holds of each
+-- what holds for all elements holds for each
 pub of_all : {A : Type 0} (P : A → Type 0) (xs : List A) (x : A) → AllByRecursion P xs
     → Contains xs x → P x
 of_all P xs x h c = All-contains P xs x (All-from_recursion P xs h) c

@@ -1,4 +1,4 @@
--- The text of a report's line is that of its tokens.
+-- The text of a report's line is the text of its tokens.
 use Rattle.std.proofs.Common.{◌≡◌, ℕ, ℤ, pos, negsuc, List, [], ◌∷◌, ◌++◌, map, codes, Option, Some, None, refl, sym, ap, ◌∙◌}
 use Rattle.json.specs.Token.{Token, begin_array, end_array, string}
 use Rattle.json.specs.Print.{print}
@@ -19,14 +19,14 @@ use Rattle.epx_base.specs.ReportLines.{line_feed, array_of, line_of, reply_data,
 abbrev pub tokens_of : Data → List Token
 tokens_of d = json_tokens (outline d)
 
--- the line of an array whose tokens, but for the last, are written
+-- the line of an array of which all tokens but the last are written
 pub line_written : (ds : List Data) (ts now : List Token) (text before whole : List ℕ) → now ≡ ts → before ≡ [] → tokens_of (array_of ds) ≡ ts ++ end_array ∷ []
     → whole ≡ text ++ ((before ++ print (now ++ end_array ∷ [])) ++ line_feed ∷ []) → whole ≡ text ++ line_of ds
 line_written ds ts now text before whole same none is e =
     e ∙ ap (λ b. text ++ ((b ++ print (now ++ end_array ∷ [])) ++ line_feed ∷ [])) none ∙ ap (λ us. text ++ (print (us ++ end_array ∷ []) ++ line_feed ∷ [])) same
     ∙ ap (λ all. text ++ (print all ++ line_feed ∷ [])) (sym is) ∙ ap (λ t. text ++ (t ++ line_feed ∷ [])) (print-outline (array_of ds))
 
--- the same of a text that is this line alone
+-- the same for a text that is only this line
 pub line_alone : (ds : List Data) (ts now : List Token) (text before whole : List ℕ) → text ≡ [] → now ≡ ts → before ≡ [] → tokens_of (array_of ds) ≡ ts ++ end_array ∷ []
     → whole ≡ text ++ ((before ++ print (now ++ end_array ∷ [])) ++ line_feed ∷ []) → whole ≡ line_of ds
 line_alone ds ts now text before whole empty same none is e = line_written ds ts now text before whole same none is e ∙ ap (λ t. t ++ line_of ds) empty

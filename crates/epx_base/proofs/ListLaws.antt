@@ -1,4 +1,4 @@
--- Every reading of a list ends in one of two ways.
+-- Any bytes are a list or a bad list.
 use Rattle.std.proofs.Common.{◌≡◌, ◌⊎◌, inl, inr, ℕ, List, Result, Ok, Err, refl}
 use Rattle.epx_types.specs.declared.id.Id.{Id}
 use Rattle.epx_base.specs.Lists.{list_reading, IsList, IsBadList}

@@ -1,4 +1,4 @@
--- What a line says by what was read after its name.
+-- What a line says, by the parts that were read after its name.
 use Rattle.std.proofs.Common.{◌≡◌, ℕ, ℤ, ◌^◌, ◌<◌, ◌≤◌, true, nat_le, codes, List, [], ◌∷◌, ◌++◌, Some, None, option_map, is_some, refl, ap, ◌∙◌, arith, lt-ltb}
 use Rattle.std.proofs.lemmas.Bool.Decides.{nat_tests}
 use Rattle.std.specs.Prelude.{if◌then◌else◌}
@@ -31,7 +31,7 @@ form_named-reply (r ∷ []) x a b is ok = absurd (cc is)
 form_named-reply (r ∷ i ∷ []) x a b is ok = rw ok (ap (option_map Reply) is)
 form_named-reply (r ∷ i ∷ d ∷ ds) x a b is ok = absurd (cc is)
 
--- ---- the others
+-- ---- the other lines
 
 pub form_named-done : (ds : List Data) (x : Id) → id_of_pair ds ≡ Some x → form_named (codes "done") ds ≡ Some (Done x)
 unfolding short_line_of

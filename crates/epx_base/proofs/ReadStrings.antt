@@ -18,25 +18,25 @@ use Rattle.json.specs.Lex.{Lexeme, token, comma, colon, Class, quote, backslash,
 
 -- ---- tests and optional values
 
--- a choice satisfies P if each branch does, given what the test says there
+-- a choice satisfies P if each branch does under its result of the test
 pub by_test : {A : Type 0} (P : A → Type 0) (b : Bool) (x y : A) → (b ≡ true → P x)
     → (b ≡ false → P y) → P (cond b x y)
 by_test P true x y p q = p refl
 by_test P false x y p q = q refl
 
--- the same, whatever the test says
+-- the same, if both branches do without the test
 pub by_branch : {A : Type 0} (P : A → Type 0) (b : Bool) (x y : A) → P x → P y → P (cond b x y)
 by_branch P true x y p q = p
 by_branch P false x y p q = q
 
--- the same of a choice by an ordering
+-- the same for a choice by an ordering
 pub by_ordering : {A : Type 0} (P : A → Type 0) (o : Ordering) (x y z : A) → P x → P y → P z
     → P (match_ordering o x y z)
 by_ordering P Less x y z p q r = p
 by_ordering P Equal x y z p q r = q
 by_ordering P Greater x y z p q r = r
 
--- the same of optional values, where P holds of the value if there is one
+-- the same for optional values, if P holds for the value when there is one
 module _ {A : Type 0} (P : A → Type 0) (b : Bool) (o p : Option A) where
   pub IfSome-test : (b ≡ true → IfSome o P) → (b ≡ false → IfSome p P) → IfSome (cond b o p) P
   IfSome-test h k = by_test (λ (o : Option A). IfSome o P) b o p h k
@@ -56,7 +56,7 @@ module _ {A B : Type 0} (P : A → Type 0) (Q : B → Type 0) where
   IfSome-and_then f None h next = tt
   IfSome-and_then f (Some a) h next = next a h
 
--- nothing is claimed of the value
+-- nothing is claimed about the value
 pub IfSome-trivial : {A : Type 0} (o : Option A) → IfSome o (λ _. ⊤)
 IfSome-trivial None = tt
 IfSome-trivial (Some a) = tt
@@ -154,7 +154,7 @@ encoded : (u : ℕ) → scalar u ≡ true → IsUtf8 (encode_utf8 u)
 unfolding encode_utf8
 encoded u ok = IsUtf8-encode u ok
 
--- `content` reads byte by byte, so a step can fall inside a character: `front` has the bytes that
+-- `content` reads byte by byte, so a step can be inside a character: `front` has the bytes that
 -- were read before. An escape is ASCII, so the text after it is UTF-8 again.
 mutual
   unfolding content
@@ -211,12 +211,12 @@ mutual
 
 -- ---- lexemes
 
--- a string is UTF-8; nothing is claimed of a key, since no limit depends on it
+-- a string is UTF-8; nothing is claimed about a key, because no limit depends on it
 abbrev pub FitsToken : Token → Type 0
 FitsToken (string s) = IsUtf8 s
 FitsToken _ = ⊤
 
--- the same of a lexeme
+-- the same for a lexeme
 abbrev FitsLexeme : Lexeme → Type 0
 FitsLexeme (token t) = FitsToken t
 FitsLexeme _ = ⊤

@@ -21,7 +21,7 @@ use Rattle.epx_base.proofs.ReadStrings.{by_ordering, IfSome-test, IfSome-branch,
 abbrev pub FitsNum : Num → Type 0
 FitsNum n = IfSome (as_i64 n) (FitsSigned w64)
 
--- each string is UTF-8, and each number fits; nothing is claimed of the keys of an object
+-- each string is UTF-8, and each number fits; nothing is claimed about the keys of an object
 abbrev mutual
   pub FitsData : Data → Type 0
   FitsData (number n) = FitsNum n
@@ -77,7 +77,7 @@ number_of_fits s = search (rules, IfSome-branch FitsNum, number_from_fits)
 abbrev JsonFits : json.Json → Type 0
 JsonFits j = IfSome (of_json j) FitsData
 
--- the same of the items of an array
+-- the same for the items of an array
 abbrev JsonItemsFit : json.Items → Type 0
 JsonItemsFit js = IfSome (of_items js) FitItems
 
@@ -85,7 +85,7 @@ JsonItemsFit js = IfSome (of_items js) FitItems
 abbrev JsonMembersFit : json.Members → Type 0
 JsonMembersFit ms = (found : Members) → FitMembers found → IfSome (of_members ms found) FitMembers
 
--- what was read fits, and so do the tokens that are left
+-- the value that was read fits, and so do the tokens that are left
 abbrev Read : {A : Type 0} → (A → Type 0) → A × List Token → Type 0
 Read P r = P r.0 × FitTokens r.1
 

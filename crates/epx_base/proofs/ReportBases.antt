@@ -1,4 +1,4 @@
--- The lines of a report that stand in order may stand where they stand, and none is missing.
+-- If the lines of a report are in order, each is allowed at its position and none is missing.
 use Rattle.std.proofs.Common.{◌≡◌, ◌≢◌, ◌⊎◌, inl, inr, ◌↔◌, ℕ, ◌+◌, ◌<◌, ◌==◌, nat_lt, ℤ, true, false, T, List, [], ◌∷◌, ◌++◌, length, map, Contains, AllPairs, Some, Ok, refl, sym, ap, ◌∙◌, subst, arith, append-nil, length-append}
 use Rattle.std.proofs.lemmas.Bool.Decides.{nat_tests}
 use Rattle.std.proofs.lemmas.List.{append_assoc, length-map}
@@ -30,7 +30,7 @@ use Rattle.epx_base.specs.IdSets.{with_late}
 use Rattle.epx_base.proofs.IdSets.{Contains-with_rising, Contains-with_late, Contains-with_cases}
 use Rattle.epx_base.proofs.DoneLists.{Contains-insert_itself, Contains-insert_other, Contains-insert_cases, same_ids, past_last, past_last_key}
 
--- from s on the lines lead to the end, whatever their numbers
+-- reading the lines from s on leads to `end`, whatever their numbers
 abbrev pub LeadTo : Seen → List BaseLine → Seen → Type 0
 LeadTo s ls end = (n : ℕ) → saying s n ls ≡ Ok end
 
@@ -158,7 +158,7 @@ put_pairs-all : (ps : List (List ℕ × ℤ)) (m : Contents) → put_pairs ps m 
 put_pairs-all [] m = refl
 put_pairs-all (p ∷ ps) m = put_pairs-all ps (contents.insert m p.0 p.1)
 
--- the entries of contents make these contents
+-- putting all entries of contents yields these contents
 contents_of_entries : (m : Contents) → m ≡ put_pairs (contents.entries m) contents.empty
 contents_of_entries m =
     let rises = contents.entries_sorted m in

@@ -29,7 +29,7 @@ use Rattle.epx_base.specs.ReportLines.{array_of, data_of_number, header_data, do
 use Rattle.epx_base.specs.ReportReadings.{FitsNumbers, IsHeld, FitsReply}
 use Rattle.epx_base.proofs.WrittenData.{IsPlain, ArePlain, IsWritable-unsigned, IsWritable-of_integer, json_of-compact_text}
 
--- ---- a plain value of a base's form is written as a base's line
+-- ---- a plain value of the form of a base's line is written as a line of a base
 
 pub base_line_of-written : (d : Data) (l : BaseLine) → IsPlain d → depth d ≤ max_depth → length (compact_text d) ≤ max_line_bytes → form_of d ≡ Some l → base_line_of (compact_text d) ≡ Some l
 unfolding base_line_of

@@ -1,4 +1,4 @@
--- The text of a report is read as what its lines say.
+-- Reading the text of a report yields what its lines say.
 use Rattle.std.proofs.Common.{◌≡◌, ℕ, suc, ◌+◌, ℤ, true, List, [], ◌∷◌, ◌++◌, length, map, flat_map, All, IsUtf8, Option, Some, None, Result, refl, sym, ap, ap₂, ◌∙◌, arith, append_assoc, append-nil}
 use Rattle.std.proofs.lemmas.List.{map-append}
 use Rattle.std.specs.Int.{w64}
@@ -21,7 +21,7 @@ use Rattle.epx_base.proofs.Unbroken.{is_unbroken, lines_of-unbroken, lines_of-ea
 use Rattle.epx_base.proofs.WrittenData.{IsPlain, is_unbroken-compact_text}
 use Rattle.epx_base.proofs.ReportForms.{plain_header, plain_done, plain_reply, plain_waiting, plain_store, base_line_of-header, base_line_of-done, base_line_of-reply, base_line_of-waiting, base_line_of-store}
 
--- ---- lines that say something
+-- ---- lines with known meanings
 
 same_next : (n : ℕ) (o : Option Seen) (f g : Seen → Result Seen ℕ) → ((s : Seen) → f s ≡ g s) → or_bad n o f ≡ or_bad n o g
 same_next n None f g h = refl
@@ -44,13 +44,13 @@ reading-says s n (t ∷ ts) (l ∷ ls) e =
 
 -- ---- blocks of lines
 
--- each is a plain value in lines, and says this
+-- each item is written as a line that says this
 module _ {X : Type 0} (text : X → List ℕ) (says : X → BaseLine) where
   says-each : (xs : List X) → All (λ x. base_line_of (text x) ≡ Some (says x)) xs → map base_line_of (map text xs) ≡ map Some (map says xs)
   says-each [] h = refl
   says-each (x ∷ xs) h = ap₂ (λ l ls. l ∷ ls) (h 0 x (omega arith)) (says-each xs (λ k d l. h (suc k) d (omega arith)))
 
-  -- before other lines that say something
+  -- the same in front of other lines
   says-before : (xs : List X) (texts : List (List ℕ)) (ls : List BaseLine) → All (λ x. base_line_of (text x) ≡ Some (says x)) xs → map base_line_of texts ≡ map Some ls
       → map base_line_of (map text xs ++ texts) ≡ map Some (map says xs ++ ls)
   says-before xs texts ls h rest =

@@ -1,4 +1,5 @@
--- No line that is written for a plain value holds a line feed, so that the lines of a text are those that were written.
+-- Text without line feeds, such as that of a plain value. The lines of a text are those that were
+-- written.
 use Rattle.std.proofs.Common.{◌≡◌, ℕ, zero, suc, ◌+◌, ◌%◌, ◌^◌, ◌<◌, ◌≤◌, Bool, true, false, not, nat_lt, ◌==◌, ◌&&◌, List, [], ◌∷◌, ◌++◌, map, flat_map, All, decimal, refl, ap, ◌∙◌, arith, append_assoc}
 use Rattle.std.proofs.lemmas.Bool.Decides.{nat_tests}
 use Rattle.std.proofs.lemmas.Fmt.{decimal_by_steps}
@@ -24,7 +25,7 @@ pub lines_of-unbroken : (l rest : List ℕ) → is_unbroken l ≡ true → lines
 lines_of-unbroken [] rest h = refl
 lines_of-unbroken (b ∷ l) rest h = lines_of-unbroken_at (b == 10) b l rest refl h (lines_of-unbroken l rest)
 
--- the lines of one kind, one after another
+-- the lines of a text that begins with a line for each item
 pub lines_of-each : {X : Type 0} (text : X → List ℕ) (xs : List X) (rest : List ℕ) → All (λ x. is_unbroken (text x) ≡ true) xs → lines_of (flat_map (λ x. text x ++ 10 ∷ []) xs ++ rest) ≡ map text xs ++ lines_of rest
 lines_of-each text [] rest h = refl
 lines_of-each text (x ∷ xs) rest h =

@@ -1,4 +1,4 @@
--- The elements of a parsed array, beside what the definitions say of them.
+-- The elements of a parsed array, and what the definitions say about them.
 use Rattle.std.proofs.Common.{◌≡◌, ℕ, ◌<◌, ◌≤◌, ℤ, Bool, true, false, ◌&&◌, nat_le, List, [], ◌∷◌, length, get_or, drop, ◌+◌, cond, Option, Some, None, option_map, option_and_then, refl, ap, is_some, arith}
 use Rattle.std.proofs.lemmas.Bool.Decides.{nat_tests}
 use Rattle.std.proofs.lemmas.List.{drop_more}
@@ -24,7 +24,7 @@ pub is_value_list-many : (d : Data) (vs : List Value) → Some (items_view vs) �
 unfolding is_value_list
 is_value_list-many d vs is many = let past : nat_le (length vs) 64 ≡ false = grind (arith, nat_tests) in rw (← is, length-list_of vs, past) refl
 
--- few enough elements, so that each decides
+-- the array has few enough elements, so the result depends on each of them
 pub is_value_list-begin : (d : Data) (vs items : List Value) → Some (items_view vs) ≡ as_array d → length vs ≤ 64 → items ≡ vs → is_value_list d ≡ list_all is_held (drop 0 items)
 unfolding is_value_list
 is_value_list-begin d vs items is few same =

@@ -1,4 +1,4 @@
--- What is written for a value without objects and floats is read back as that value.
+-- The text of a value without objects and floats is read back as that value.
 use Rattle.std.proofs.Common.{◌≡◌, ℕ, suc, ◌+◌, ◌-◌, ◌^◌, ◌<◌, ◌≤◌, nat_lt, ℤ, pos, negsuc, Bool, true, false, [], ◌∷◌, ◌++◌, Some, IsUtf8, option_map, option_and_then, decimal, refl, sym, ap, ◌∙◌, arith, append-nil}
 use Rattle.std.proofs.lemmas.Str.{IsUtf8-append, IsUtf8-from_ascii}
 use Rattle.std.proofs.lemmas.Fmt.{IsAscii-decimal}
@@ -26,14 +26,14 @@ use Rattle.epx_base.proofs.Unbroken.{is_unbroken, both_unbroken, is_unbroken-dec
 use Rattle.epx_lines.specs.Meaning.{json_of}
 use Rattle.epx_lines.proofs.JsonTexts.{json_of-some}
 
--- a number whose text reads as it
+-- a number whose text is read as that number
 pub record IsWritable (n : Num) : Type 0 where
   pub reads : number_of (number_text n) ≡ Some n
   pub shaped : IsNumber (number_text n)
   pub utf8 : IsUtf8 (number_text n)
   pub unbroken : is_unbroken (number_text n) ≡ true
 
--- no object, numbers that can be written, and texts in UTF-8
+-- a value without objects, with numbers that can be written and texts in UTF-8
 abbrev mutual
   pub IsPlain : Data → Type 0
   IsPlain null = Unit {0}
@@ -120,7 +120,7 @@ tokens-compact_text d h =
     ∙ tokens-print (tree.json_tokens (outline d)) (ArePrintable-json_tokens (outline d) (numbers_shaped d h))
     ∙ sym (append-nil (tree.json_tokens (outline d)))
 
--- what is written for a plain value reads as it
+-- the text of a plain value is read as that value
 pub read-compact_text : (d : Data) → IsPlain d → depth d ≤ max_depth → read (compact_text d) ≡ Some d
 read-compact_text d h shallow =
     let value = ap (json.value max_depth) (tokens-compact_text d h) ∙ value-json_tokens (outline d) max_depth [] (omega (arith, depth-outline d h)) in
@@ -134,7 +134,7 @@ json_of-compact_text d h shallow = json_of-some (compact_text d) d (IsUtf8-compa
 pub IsWritable-unsigned : (n : ℕ) → n < 2 ^ 64 → IsWritable (unsigned n)
 IsWritable-unsigned n l = record { reads = number_of-decimal n l; shaped = IsNumber-decimal n l; utf8 = IsUtf8-from_ascii (decimal n) (IsAscii-decimal n l); unbroken = is_unbroken-decimal n l }
 
--- the least number of 64 bits, apart from the others
+-- the least signed number of 64 bits is a case of its own
 shaped-least : IsNumber (signed_decimal (negsuc (2 ^ 63 - 1)))
 unfolding after_number digits
 shaped-least = refl

@@ -1,4 +1,4 @@
--- What a base is: its lines read in turn.
+-- What a base is, by reading its lines in order.
 use Rattle.std.specs.Prelude.{◌≡◌, ℕ, ℤ, ◌+◌, List, [], ◌∷◌, Option, Some, None, Result, Ok, Err, option_and_then, if◌then◌else◌}
 use Rattle.std.specs.FinMap as contents
 use Rattle.epx_types.specs.declared.fault.Fault.{Fault}
@@ -11,47 +11,49 @@ use Rattle.epx_base.specs.declared.base.BaseFault.TheVariants.{Memory, Bad}
 use Rattle.epx_base.specs.Forms.{base_line_of}
 use Rattle.epx_base.specs.Seen.{Seen, nothing_seen, after, is_whole}
 
--- after one more line, if it may stand there
+-- the state after one more line, if the line is allowed at its position
 abbrev pub after_line : Seen → List ℕ → Option Seen
 after_line s bytes = option_and_then (after s) (base_line_of bytes)
 
--- next of what was seen, if a line may stand where it stands, and else its number
+-- `next` of the state, if the line was allowed at its position, and the line's number otherwise
 abbrev pub or_bad : {S : Type 0} → ℕ → Option S → (S → Result S ℕ) → Result S ℕ
 or_bad n None next = Err n
 or_bad n (Some s) next = next s
 
--- what all lines say, of which the first has the number n; or the number of the first that may not stand where it
--- stands; or, where the text ends too early, of the line that is missing
+-- what all lines say, or the number of the first line that is not allowed at its position; if the
+-- text ends too early, this is the number of the missing line; the first line has the number n
 abbrev pub reading : Seen → ℕ → List (List ℕ) → Result Seen ℕ
 reading s n [] = if is_whole s then Ok s else Err n
 reading s n (l ∷ ls) = or_bad n (after_line s l) (λ t. reading t (n + 1) ls)
 
--- the lines of the bytes, the first of which has the number 1
+-- what all lines of the bytes say; the first line has the number 1
 abbrev pub base_reading : List ℕ → Result Seen ℕ
 base_reading bytes = reading nothing_seen 1 (lines_of bytes)
 
--- values put under keys, one after another
+-- the contents after values are put under keys, one after another
 abbrev pub put_pairs : List (List ℕ × ℤ) → Contents → Contents
 put_pairs [] c = c
 put_pairs (p ∷ ps) c = put_pairs ps (contents.insert c p.0 p.1)
 
--- the instances of its done lines and of its reply lines, rising, and the map of its store lines
+-- the bytes are a base: `done` has the instances of its done lines and reply lines, rising, and
+-- `stored` has the values of its store lines
 pub record IsBase (bytes : List ℕ) (done : List Id) (stored : Contents) : Type 0 where
   pub seen : Seen
   pub read : base_reading bytes ≡ Ok seen
   pub done_is : done ≡ seen.done
   pub stored_is : stored ≡ put_pairs seen.stored contents.empty
 
--- the first line that may not stand where it stands, or the one after the last where the text ends too early
+-- `line` is the number of the first line that is not allowed at its position, or one more than the
+-- number of lines if the text ends too early
 abbrev pub IsBadBase : List ℕ → ℕ → Type 0
 IsBadBase bytes line = base_reading bytes ≡ Err line
 
--- want of memory says nothing of the bytes
+-- `Memory` says nothing about the bytes
 abbrev pub IsBaseFault : List ℕ → BaseFault → Type 0
 IsBaseFault bytes Memory = Unit {0}
 IsBaseFault bytes (Bad line) = IsBadBase bytes line
 
--- the same among all faults
+-- the fault that the program reports for it
 abbrev pub fault_of : BaseFault → Fault
 fault_of Memory = fault.Memory
 fault_of (Bad line) = fault.BadBase line

@@ -1,4 +1,4 @@
--- What one line of a base says by its form, wherever it stands: a JSON array in any spelling.
+-- What one line of a base says, whatever its position. The line is a JSON array in any spelling.
 use Rattle.std.specs.Prelude.{ℕ, ◌^◌, ◌&&◌, ◌||◌, Bool, false, nat_lt, nat_le, List, [], ◌∷◌, length, codes, Option, Some, None, is_some, option_map, option_and_then, if◌then◌else◌}
 use Rattle.std.specs.List.{list_all}
 use Rattle.std.specs.Str.{bytes_eq}
@@ -17,11 +17,11 @@ abbrev pub is_same_text : List ℕ → Option (List ℕ) → Bool
 is_same_text text None = false
 is_same_text text (Some found) = bytes_eq found text
 
--- this very text
+-- the value is exactly this text
 abbrev pub is_text : List ℕ → Data → Bool
 is_text text d = is_same_text text (as_str d)
 
--- the instance of a replica and a number
+-- the Id of a replica and a number
 abbrev pub id_from : Data → Data → Option Id
 id_from r i = id_of_pair (r ∷ i ∷ [])
 
@@ -30,7 +30,7 @@ id_from r i = id_of_pair (r ∷ i ∷ [])
 abbrev pub counts_within : ℕ → ℕ → ℕ → Option Counts
 counts_within executed waiting components = if nat_le components executed then Some (record { executed = executed; waiting = waiting }) else None
 
--- no more components than executed instances
+-- the counts, if there are no more components than executed instances
 unfoldable pub counts_of : Data → Data → Data → Option Counts
 counts_of e w c =
     option_and_then (λ executed. option_and_then (λ waiting. option_and_then (λ components. counts_within executed waiting components) (whole (2 ^ 64) c)) (whole (2 ^ 64) w)) (whole (2 ^ 64) e)
@@ -49,7 +49,7 @@ are_few_values (Some ds) = nat_le (length ds) 64 && list_all (λ d. is_some (val
 unfoldable pub is_value_list : Data → Bool
 is_value_list d = are_few_values (elements d)
 
--- the place of an operation
+-- the index of an operation: a whole number below 64
 unfoldable pub is_place : Data → Bool
 is_place d = is_some (option_and_then (below 64) (whole (2 ^ 64) d))
 
@@ -57,7 +57,7 @@ is_place d = is_some (option_and_then (below 64) (whole (2 ^ 64) d))
 unfoldable pub is_outcome : Data → Data → Bool
 is_outcome a b = (is_text (codes "ok") a && is_value_list b) || (is_text (codes "abort") a && is_place b)
 
--- ---- the lines by their lengths
+-- ---- lines of each length
 
 -- `["reply",r,i,..]` or `["waiting",r,i,mr,mi]`
 unfoldable pub id_line_of : Data → Data → Data → Data → Data → Option BaseLine
@@ -77,14 +77,14 @@ form_of_list (n ∷ r ∷ i ∷ a ∷ b ∷ []) = id_line_of n r i a b
 form_of_list (n ∷ e ∷ o ∷ w ∷ p ∷ c ∷ []) = header_of n e o w p c
 form_of_list _ = None
 
--- what a line says by the elements after its name
+-- what a line says, by its name and the elements after it
 abbrev pub form_named : List ℕ → List Data → Option BaseLine
 form_named name ds = form_of_list (string name ∷ ds)
 
--- what the value of a line says
+-- what a line says, by its value
 unfoldable pub form_of : Data → Option BaseLine
 form_of d = option_and_then form_of_list (elements d)
 
--- what the bytes of a line say, without its line feed
+-- what a line says, by its bytes without the line feed
 unfoldable pub base_line_of : List ℕ → Option BaseLine
 base_line_of bytes = if nat_lt max_line_bytes (length bytes) then None else option_and_then form_of (json_of bytes)

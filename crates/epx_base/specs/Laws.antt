@@ -1,4 +1,4 @@
--- Bytes are a base or a bad base, never both, and in one way.
+-- Any bytes are a base or a bad base, never both, and in one way only.
 use Rattle.std.specs.Prelude.{◌≡◌, ◌⊎◌, ℕ, List}
 use Rattle.epx_types.specs.declared.id.Id.{Id}
 use Rattle.epx_types.specs.Contents.{Contents}

@@ -1,4 +1,4 @@
--- The tokens of parts of a report's lines; for private clauses.
+-- The tokens of parts of a report's lines. Only private clauses use them.
 use Rattle.std.specs.Prelude.{ℤ, List, [], ◌∷◌, ◌++◌, map, codes, decimal, Option, Some, None}
 use Rattle.std.specs.Fmt.{signed_decimal}
 use Rattle.json.specs.Token.{Token, begin_array, end_array, string, number, null}

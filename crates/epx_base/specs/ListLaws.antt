@@ -1,4 +1,4 @@
--- Bytes are a list or a bad list, never both, and in one way.
+-- Any bytes are a list or a bad list, never both, and in one way only.
 use Rattle.std.specs.Prelude.{◌≡◌, ◌⊎◌, ℕ, List}
 use Rattle.epx_types.specs.declared.id.Id.{Id}
 use Rattle.epx_base.specs.Lists.{IsList, IsBadList}

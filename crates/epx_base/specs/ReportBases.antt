@@ -1,4 +1,5 @@
--- A report whose lines stand in order is a base, of the instances that are done after it and of its store.
+-- When a report is a base: its lines are in order, and the base has the instances that are done
+-- after the report and the report's store.
 use Rattle.std.specs.Prelude.{◌≡◌, ◌≢◌, ◌⊎◌, ◌↔◌, List, map, Contains, AllPairs}
 use Rattle.std.specs.FinMap as contents
 use Rattle.epx_types.specs.declared.id.Id.{Id}
@@ -19,7 +20,7 @@ pub record IsInOrder (r : Reported) : Type 0 where
   pub waiting_rise : IsRising (waiting_ids r.waiting)
   pub waiting_left : (x : Id) → Contains (waiting_ids r.waiting) x → (¬ Contains r.done x) × (¬ Contains (replied_ids r.replies) x)
 
--- the instances that were done before or are replied to, each once, by rising Id
+-- the instances that were done before or that have a reply, each once, by rising Id
 pub record AreDoneAfter (r : Reported) (done : List Id) : Type 0 where
   pub rising : IsRising done
   pub each : (x : Id) → Contains done x ↔ Contains r.done x ⊎ Contains (replied_ids r.replies) x
@@ -27,6 +28,6 @@ pub record AreDoneAfter (r : Reported) (done : List Id) : Type 0 where
 abbrev pub DoneAfterExists : Type 0
 DoneAfterExists = (r : Reported) → IsRising r.done → (done : List Id) × AreDoneAfter r done
 
--- the store lines are those of the contents
+-- a report in order whose store lines list the contents is a base
 abbrev pub ReportIsBase : Type 0
 ReportIsBase = (r : Reported) (done : List Id) (stored : Contents) → FitsReported r → IsInOrder r → AreDoneAfter r done → r.stored ≡ contents.entries stored → IsBase (reported_text r) done stored

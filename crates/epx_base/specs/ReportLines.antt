@@ -22,7 +22,8 @@ line_of ds = compact_text (array_of ds) ++ line_feed ∷ []
 abbrev pub data_of_number : ℕ → Data
 data_of_number n = number (unsigned n)
 
--- how many instances are executed, how many wait, and how many components the executed ones make up
+-- the number of executed instances, of waiting ones, and of components that the executed ones make
+-- up
 abbrev pub header_data : ℕ → ℕ → ℕ → List Data
 header_data executed waiting components =
     string (codes "executed") ∷ data_of_number executed ∷ string (codes "waiting") ∷ data_of_number waiting

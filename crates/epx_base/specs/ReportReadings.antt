@@ -1,4 +1,4 @@
--- A report, and what its lines say when it is read as a base.
+-- A report, and the result of reading it as a base.
 use Rattle.std.specs.Prelude.{◌≡◌, ℕ, ℤ, ◌+◌, ◌^◌, ◌<◌, ◌≤◌, List, [], ◌∷◌, ◌++◌, length, map, flat_map, All, Option, IfSome, IsUtf8, Result, Ok, Err, if◌then◌else◌}
 use Rattle.std.specs.Int.{w64}
 use Rattle.std.specs.Int.RustNames.{FitsSigned}
@@ -15,7 +15,7 @@ use Rattle.epx_base.specs.ReportLines.{header_line, done_line, reply_line, waiti
 
 -- ---- a report
 
--- what a report is written of
+-- the data that a report is written from
 pub record Reported : Type 0 where
   pub components : ℕ
   pub done : List Id
@@ -28,7 +28,7 @@ reported_text r =
     header_line (length r.replies) (length r.waiting) r.components
     ++ (flat_map done_line r.done ++ (flat_map reply_line r.replies ++ (flat_map waiting_line r.waiting ++ flat_map store_line r.stored)))
 
--- what its lines say, one after another
+-- what the lines of a report say, in order
 abbrev pub said : Reported → List BaseLine
 said r =
     line.Header (record { executed = length r.replies; waiting = length r.waiting })
@@ -55,12 +55,12 @@ pub record FitsReported (r : Reported) : Type 0 where
   pub waiting_fit : All (λ w. FitsNumbers w.id × FitsNumbers w.missing) r.waiting
   pub stored_fit : All (λ p. FitsKey p.0 × IsUtf8 p.0 × FitsSigned w64 p.1) r.stored
 
--- ---- the reading of what lines say
+-- ---- reading lines with known meanings
 
 abbrev pub saying : Seen → ℕ → List BaseLine → Result Seen ℕ
 saying s n [] = if is_whole s then Ok s else Err n
 saying s n (l ∷ ls) = or_bad n (after s l) (λ t. saying t (n + 1) ls)
 
--- the text of a report is read as what its lines say
+-- reading the text of a report yields what its lines say
 abbrev pub ReportIsReadAsItSays : Type 0
 ReportIsReadAsItSays = (r : Reported) → FitsReported r → base_reading (reported_text r) ≡ saying nothing_seen 1 (said r)

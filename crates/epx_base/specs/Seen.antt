@@ -1,4 +1,4 @@
--- What the lines before a line of a base say, and where each line may stand.
+-- What the lines before a line of a base say, and which lines are allowed next.
 use Rattle.std.specs.Prelude.{ℕ, ℤ, ◌+◌, ◌-◌, ◌==◌, ◌&&◌, Bool, true, false, not, nat_lt, List, [], ◌∷◌, ◌++◌, length, slice_get, Option, Some, None, option_map, if◌then◌else◌}
 use Rattle.std.specs.BTreeSet.{insert_key}
 use Rattle.std.specs.Ordering.{is_lt}
@@ -13,11 +13,11 @@ use Rattle.epx_base.specs.declared.form.BaseLine.TheVariants.{Header, Done, Repl
 
 -- what the lines so far say
 pub record Seen : Type 0 where
-  -- those of the first line; none before it
+  -- the counts of the first line; None before it
   pub counts : Option Counts
   -- the instances of done lines and of reply lines, rising
   pub done : List Id
-  -- how many reply lines there were
+  -- the number of reply lines
   pub replies : ℕ
   -- the instances of waiting lines, in order
   pub waiting : List Id
@@ -28,7 +28,7 @@ pub record Seen : Type 0 where
 abbrev pub nothing_seen : Seen
 nothing_seen = record { counts = None; done = []; replies = 0; waiting = []; stored = [] }
 
--- what follows a line: the next of what was seen, where the line may stand there
+-- the next state, if the line is allowed at its position
 abbrev pub next_if : {S : Type 0} → Bool → S → Option S
 next_if stands next = if stands then Some next else None
 
@@ -37,39 +37,42 @@ next_if stands next = if stands then Some next else None
 abbrev pub last : {A : Type 0} → List A → Option A
 last xs = slice_get xs (length xs - 1)
 
--- greater than the last one, if there is one
+-- x is greater than the last one, if there is one
 abbrev pub is_past : {A : Type 0} → (A → A → Ordering) → Option A → A → Bool
 is_past cmp None x = true
 is_past cmp (Some y) x = is_lt (cmp y x)
 
--- ---- after a line of each kind, if it may stand there
+-- ---- the state after a line of each kind, if it is allowed at its position
 
--- before any reply, waiting and store line, and with a greater Id than the done line before it
+-- a done line: before all reply, waiting and store lines, with a greater Id than the last done
+-- line
 abbrev pub after_done : Seen → Id → Option Seen
 after_done s x =
     if (s.replies == 0) && (length s.waiting == 0) && (length s.stored == 0) && is_past id_cmp (last s.done) x
     then Some (record s { done = insert_key id_cmp s.done x }) else None
 
--- while replies are left (so that no waiting line and no store line came), for an instance that is not done yet
+-- a reply line: while replies are missing (so there was no waiting and no store line), for an
+-- instance that is not done yet
 abbrev pub after_reply : Counts → Seen → Id → Option Seen
 after_reply c s x =
     if nat_lt s.replies c.executed && not (is_among s.done x)
     then Some (record s { done = insert_key id_cmp s.done x; replies = s.replies + 1 }) else None
 
--- after all replies, while waiting lines are left (so that no store line came), for an instance that is not done, and
--- with a greater Id than the waiting line before it
+-- a waiting line: after all replies, while waiting lines are missing (so there was no store line),
+-- for an instance that is not done, with a greater Id than the last waiting line
 abbrev pub after_waiting : Counts → Seen → Id → Option Seen
 after_waiting c s x =
     if (s.replies == c.executed) && nat_lt (length s.waiting) c.waiting && is_past id_cmp (last s.waiting) x && not (is_among s.done x)
     then Some (record s { waiting = s.waiting ++ x ∷ [] }) else None
 
--- after all replies and all waiting lines, and with a greater key than the store line before it
+-- a store line: after all replies and all waiting lines, with a greater key than the last store
+-- line
 abbrev pub after_store : Counts → Seen → List ℕ → ℤ → Option Seen
 after_store c s k v =
     if (s.replies == c.executed) && (length s.waiting == c.waiting) && is_past key_cmp (option_map (λ p. p.0) (last s.stored)) k
     then Some (record s { stored = s.stored ++ (k, v) ∷ [] }) else None
 
--- the header stands first and nowhere else
+-- the header is the first line and no other
 abbrev pub after_with : Option Counts → Seen → BaseLine → Option Seen
 after_with None s (Header c) = Some (record s { counts = Some c })
 after_with None s line = None

@@ -1,4 +1,4 @@
-//! Reading a base.
+//! Reads a base.
 ghost use Rattle.std.specs.Prelude.{◌≡◌, IfOk, IfErr};
 ghost use Rattle.epx_base.specs.Bases.{IsBase, IsBaseFault};
 ghost use Rattle.epx_types.specs.Ids.{IsRising};
@@ -11,8 +11,8 @@ use epx_types::{Fault, Id, Memory};
 use std::alloc::Global;
 use std::marker::Model;
 
-/// What an earlier report leaves to go on from. Contracts see it as the done instances by rising Id
-/// and the contents of the store.
+/// A base: the part of an earlier report from which a run can resume. Contracts see it as the done
+/// instances by rising Id and the contents of the store.
 #[derive(Debug, Drop)]
 pub struct Base {
     done: Vec<Id>,
@@ -41,7 +41,7 @@ impl Base {
         Base { done, store }
     }
 
-    /// The instances that are done, by rising Id.
+    /// Returns the instances that are done, by rising Id.
     pub fn done(&self) -> &[Id]
         ensures done { result.now ≡ self.now.done }
         ensures rising { IsRising result.now }
@@ -49,7 +49,7 @@ impl Base {
         self.done.as_slice()
     }
 
-    /// The instances that are done, by rising Id, and the store.
+    /// Returns the instances that are done, by rising Id, and the store.
     pub fn into_parts(self) -> (Vec<Id>, Store)
         ensures done { result.0.items ≡ self.done }
         ensures rising { IsRising result.0.items }
@@ -59,13 +59,13 @@ impl Base {
     }
 }
 
-/// Why bytes were not read as a base.
+/// Why bytes were not read as a base or as a list.
 #[derive(Clone, Copy, Debug, PartialEq, Eq)]
 pub enum BaseFault {
-    /// A growth was refused.
+    /// Out of memory.
     Memory,
-    /// The first line that may not stand where it stands, counted from 1; or one more than the number
-    /// of lines, where the text ends too early.
+    /// The first line that is not allowed at its position, counted from 1. If the text ends too
+    /// early, this is one more than the number of lines.
     Bad { line: usize },
 }
 
@@ -94,8 +94,9 @@ impl From<BaseFault> for Fault {
     }
 }
 
-/// What an earlier report says is done and stored, in time in proportion to n log n for n bytes.
-/// `Memory` comes only where a growth was refused.
+/// Reads an earlier report as a base: the done instances and the store. Takes O(n log n) time for
+/// n bytes. Returns `Bad` with the first line that is out of place, and `Memory` only if an
+/// allocation fails.
 pub fn read_base(alloc: Global, bytes: &[u8]) -> Result<Base, BaseFault>
     ensures base { IfOk result (λ b. IsBase bytes.now b.done b.stored) }
     ensures bad { IfErr result (λ f. IsBaseFault bytes.now f) }

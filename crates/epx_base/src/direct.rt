@@ -1,6 +1,6 @@
-//! Reading a line of a base from the line's tokens, with no value in between. Each function takes
-//! what it names from the front of the tokens. None says nothing of the line: it is then read as a
-//! value.
+//! Reads a line of a base from its tokens, without a JSON value. Each function takes the part that
+//! it is named after from the front of the tokens. None is not a fault: the caller then reads the
+//! line as a JSON value.
 ghost use Rattle.std.specs.Prelude.{◌≡◌, true, [], ◌∷◌, codes, Some, IfSome, option_and_then};
 ghost use Rattle.serde_json.specs.Data.{Data};
 ghost use Rattle.epx_lines.specs.Meaning.{json_of};
@@ -14,7 +14,7 @@ use json::{Reader, Scratch, Token};
 use std::alloc::Global;
 use std::str;
 
-/// The list of a reply: its values are looked at and not kept.
+/// Takes the list of values of a reply. The values are checked and dropped.
 fn take_values(reader: &mut Reader<'_>) -> Option<()>
     ensures { IfSome result
         (λ _. (d : Data) × BeginsWith 1 reader.old d reader.new × (is_value_list d ≡ true)) }
@@ -33,7 +33,7 @@ fn take_values(reader: &mut Reader<'_>) -> Option<()>
     Some(())
 }
 
-/// The place of an operation.
+/// Takes the index of an operation that aborted.
 fn take_place(reader: &mut Reader<'_>) -> Option<()>
     ensures { IfSome result
         (λ _. (d : Data) × BeginsWith 0 reader.old d reader.new × (is_place d ≡ true)) }
@@ -118,7 +118,7 @@ fn take_header(reader: &mut Reader<'_>) -> Option<BaseLine>
     Some(BaseLine::Header(Counts { executed, waiting }))
 }
 
-/// What follows the name of a line.
+/// Takes what follows the name of a line.
 fn take_named(alloc: Global, name: &str, reader: &mut Reader<'_>) -> Option<BaseLine>
     ensures { IfSome result
         (λ l. GivesInTurn 1 (form_named name.now) reader.old l reader.new) }
@@ -152,7 +152,7 @@ fn take_line(alloc: Global, reader: &mut Reader<'_>) -> Option<BaseLine>
     Some(line)
 }
 
-/// What a line says that holds one array and nothing else.
+/// Reads a line that is one array and nothing else.
 pub(crate) fn direct_line(alloc: Global, scratch: &mut Scratch, bytes: &[u8]) -> Option<BaseLine>
     ensures { IfSome result (λ l. option_and_then form_of (json_of bytes.now) ≡ Some l) }
 {

@@ -1,4 +1,4 @@
-//! The form of a base's lines, read from the value of a line.
+//! Reads a line of a base from its JSON value.
 ghost use Rattle.std.specs.Prelude.{◌≡◌, IfOk};
 ghost use Rattle.serde_json.specs.View.{view};
 ghost use Rattle.epx_base.specs.Forms.{is_text, counts_of, header_of, is_value_list, is_place, is_outcome, id_line_of, short_line_of, form_of};
@@ -9,7 +9,7 @@ use epx_types::{Id, Key, Memory};
 use serde_json::Value;
 use std::alloc::Global;
 
-/// How many instances a report executed, and how many it left waiting.
+/// The numbers of executed and of waiting instances in a report.
 #[derive(Clone, Copy, Debug, PartialEq, Eq)]
 pub(crate) struct Counts {
     pub(crate) executed: u64,
@@ -23,11 +23,11 @@ pub(crate) enum BaseLine {
     Header(Counts),
     /// The instance was done before the report.
     Done(Id),
-    /// The instance was executed in the report.
+    /// The instance was executed by the report.
     Reply(Id),
     /// The instance was left waiting.
     Waiting(Id),
-    /// The key had the value at the end.
+    /// The key has the value in the final store.
     Store { key: Key, value: i64 },
 }
 

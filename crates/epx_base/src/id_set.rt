@@ -1,4 +1,4 @@
-//! A set of instances that mostly come by rising Id.
+//! A set of Ids that mostly arrive in rising order.
 ghost use Rattle.std.specs.Prelude.{◌≡◌, [], not, IfOk, OnOk, option_copied};
 ghost use Rattle.std.specs.BTreeSet.{insert_key};
 ghost use Rattle.epx_types.specs.Ids.{id_cmp, IsRising};
@@ -10,7 +10,7 @@ use std::alloc::Global;
 use std::collections::BTreeSet;
 use std::marker::Model;
 
-/// Greater than the last one, if there is one.
+/// Whether the item is greater than the last one. True if there is no last one.
 pub(crate) fn is_past<T: Ord>(last: Option<&T>, item: &T) -> bool
     ensures { result ≡ is_past T.cmp (option_copied last.entry) item.now }
 {
@@ -20,7 +20,7 @@ pub(crate) fn is_past<T: Ord>(last: Option<&T>, item: &T) -> bool
     }
 }
 
-/// Whether the Id is among rising ones, by halving.
+/// Whether the Id is among rising ones, by binary search.
 fn is_found(rising: &[Id], id: &Id) -> bool
     requires { IsRising rising.now }
     ensures { result ≡ is_among rising.now id.now }
@@ -31,12 +31,13 @@ fn is_found(rising: &[Id], id: &Id) -> bool
     }
 }
 
-/// Contracts see it as its Ids, rising. An Id past all that came before costs a push, and no more.
+/// A set of Ids. Contracts see it as the rising list of its Ids. To insert an Id that is greater
+/// than all others is only a push.
 #[derive(Debug, Drop)]
 pub(crate) struct IdSet {
-    /// Those that were past all that came before them.
+    /// The Ids that were greater than all earlier ones.
     rising: Vec<Id>,
-    /// The others.
+    /// The other Ids.
     late: BTreeSet<Id>,
 }
 
@@ -78,7 +79,7 @@ impl IdSet {
         is_found(&self.rising, id) || self.late.contains(id)
     }
 
-    /// Whether the Id was not there before.
+    /// Inserts an Id. Returns true if it is new.
     pub(crate) fn insert(&mut self, id: Id) -> Result<bool, Memory>
         ensures added { IfOk result (λ added. added ≡ not (is_among self.old id)) }
         ensures ids { OnOk result (self.new ≡ insert_key id_cmp self.old id) }
@@ -93,7 +94,7 @@ impl IdSet {
         Ok(self.late.insert(id)?)
     }
 
-    /// The Ids, rising; where all came so, without a look at them.
+    /// Returns the Ids in rising order. If they arrived in that order, nothing is sorted.
     pub(crate) fn into_vec(self) -> Result<Vec<Id>, Memory>
         ensures ids { IfOk result (λ ids. ids.items ≡ self) }
         ensures rising { IfOk result (λ ids. IsRising ids.items) }

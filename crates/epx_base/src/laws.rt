@@ -1,30 +1,30 @@
-//! Laws of the definitions.
+//! Laws about bases, lists and reports.
 ghost use Rattle.epx_base.specs.Laws.{BaseOrBadBase, BaseIsNoBadBase, BaseSaysOneThing, BadBaseIsBadAtOneLine};
 ghost use Rattle.epx_base.specs.ListLaws.{ListOrBadList, ListIsNoBadList, ListNamesOneList, BadListIsBadAtOneLine};
 ghost use Rattle.epx_base.specs.ReportReadings.{ReportIsReadAsItSays};
 ghost use Rattle.epx_base.specs.ReportBases.{DoneAfterExists, ReportIsBase};
 
-/// Bytes are a base or a bad base.
+/// Any bytes are a base or a bad base.
 pub fn base_or_bad_base()
     ensures { BaseOrBadBase }
 {}
 
-/// A base is no bad base.
+/// A base is not a bad base.
 pub fn base_is_no_bad_base()
     ensures { BaseIsNoBadBase }
 {}
 
-/// A base has one list of done instances and one map.
+/// A base has only one list of done instances and one store.
 pub fn base_says_one_thing()
     ensures { BaseSaysOneThing }
 {}
 
-/// A bad base is bad at one line.
+/// A bad base is bad at only one line.
 pub fn bad_base_is_bad_at_one_line()
     ensures { BadBaseIsBadAtOneLine }
 {}
 
-/// The text of a report, with done lines or without, is read as what its lines say.
+/// Reading the text of a report, with or without done lines, yields what its lines say.
 pub fn report_is_read_as_it_says()
     ensures { ReportIsReadAsItSays }
 {}
@@ -34,27 +34,28 @@ pub fn done_after_exists()
     ensures { DoneAfterExists }
 {}
 
-/// A report whose lines stand in order is a base, of what is done after it and of its store.
+/// A report with its lines in order is a base. Its done instances are those that are done after
+/// the report, and its store is the final store.
 pub fn report_is_a_base()
     ensures { ReportIsBase }
 {}
 
-/// Bytes are a list or a bad list.
+/// Any bytes are a list or a bad list.
 pub fn list_or_bad_list()
     ensures { ListOrBadList }
 {}
 
-/// A list is no bad list.
+/// A list is not a bad list.
 pub fn list_is_no_bad_list()
     ensures { ListIsNoBadList }
 {}
 
-/// A list names its instances in one order.
+/// A list names only one sequence of instances.
 pub fn list_names_one_list()
     ensures { ListNamesOneList }
 {}
 
-/// A bad list is bad at one line.
+/// A bad list is bad at only one line.
 pub fn bad_list_is_bad_at_one_line()
     ensures { BadListIsBadAtOneLine }
 {}

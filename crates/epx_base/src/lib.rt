@@ -1,6 +1,5 @@
-//! The lines of a report, how they are written, and what is read again from them: bases, which are
-//! earlier reports, for what they say is done and stored. And lists of instances. What they are, line
-//! by line, is defined in `specs/`.
+//! Writes the lines of reports, and reads bases and lists of instances. A base is an earlier
+//! report, read for its done instances and its store. `specs/` defines each of their lines.
 #![tactic(auto)]
 
 mod base;

@@ -1,4 +1,4 @@
-//! Reading a list of instances.
+//! Reads a list of instances.
 ghost use Rattle.std.specs.Prelude.{◌≡◌, IfOk, IfErr};
 ghost use Rattle.epx_base.specs.Lists.{IsList, IsListFault, listed_id_of, with_line};
 ghost use Rattle.epx_base.specs.Seen.{next_if};
@@ -8,7 +8,7 @@ use epx_lines::{MAX_LINE_BYTES, cut_line, is_blank_line, read_id, read_json};
 use epx_types::{Id, Memory};
 use std::alloc::Global;
 
-/// The instance that a line names, without its line feed.
+/// Reads the instance that a line names, without its line feed. None if it names no instance.
 #[tactic(auto, unfolding(crate::specs::Lists::listed_id_of))]
 fn read_listed(alloc: Global, bytes: &[u8]) -> Result<Option<Id>, Memory>
     ensures { IfOk result (λ id. id ≡ listed_id_of bytes.now) }
@@ -22,7 +22,8 @@ fn read_listed(alloc: Global, bytes: &[u8]) -> Result<Option<Id>, Memory>
     Ok(read_id(&value))
 }
 
-/// One more line of a list; false where it is not blank and names no instance.
+/// Adds the instance of one more line to the list. False if the line is not blank and names no
+/// instance.
 fn take_line(alloc: Global, ids: &mut Vec<Id>, bytes: &[u8]) -> Result<bool, Memory>
     ensures { IfOk result (λ named. with_line ids.old.items bytes.now ≡ next_if named ids.new.items) }
 {
@@ -36,9 +37,9 @@ fn take_line(alloc: Global, ids: &mut Vec<Id>, bytes: &[u8]) -> Result<bool, Mem
     Ok(true)
 }
 
-/// The instances that a text lists, one a line as `[r,i]`, in time in proportion to its bytes. Blank lines are passed
-/// over and counted. `Bad` has the first line that is neither, counted from 1, and `Memory` comes only where a growth
-/// was refused.
+/// Reads a list of instances, one `[r,i]` on each line, in time linear in the bytes. Blank lines
+/// are skipped but counted. Returns `Bad` with the first line that is neither blank nor an
+/// instance, counted from 1, and `Memory` only if an allocation fails.
 pub fn read_list(alloc: Global, bytes: &[u8]) -> Result<Vec<Id>, BaseFault>
     ensures list { IfOk result (λ ids. IsList bytes.now ids.items) }
     ensures bad { IfErr result (λ f. IsListFault bytes.now f) }

@@ -1,4 +1,4 @@
-//! What the lines of a base say, as they are read one after another.
+//! The state of reading the lines of a base one after another.
 ghost use Rattle.std.specs.Prelude.{◌≡◌, None, IfOk};
 ghost use Rattle.std.specs.FinMap as contents;
 ghost use Rattle.epx_base.specs.Seen.{nothing_seen, after_done, after_reply, after_waiting, after_store, after_with, after, next_if, is_whole};
@@ -13,7 +13,7 @@ use epx_types::{Id, Key, Memory};
 use std::alloc::Global;
 use std::marker::Model;
 
-/// The store of these values, put in one after another.
+/// Puts the values into a new store, one after another.
 fn store_of(alloc: Global, pairs: Vec<(Key, i64)>) -> Result<Store, Memory>
     ensures { IfOk result (λ s. s ≡ put_pairs pairs.items contents.empty) }
 {
@@ -27,11 +27,11 @@ fn store_of(alloc: Global, pairs: Vec<(Key, i64)>) -> Result<Store, Memory>
 /// What the lines so far say.
 #[derive(Debug, Drop)]
 pub(crate) struct Progress {
-    /// Those of the first line; None before it.
+    /// The counts of the first line; None before it.
     counts: Option<Counts>,
     /// The instances of done lines and of reply lines.
     done: IdSet,
-    /// How many reply lines there were.
+    /// The number of reply lines.
     replies: u64,
     /// The instances of waiting lines, in order.
     waiting: Vec<Id>,
@@ -48,7 +48,7 @@ impl Model for Progress {
 }
 
 impl Progress {
-    /// Before the first line.
+    /// The state before the first line.
     pub(crate) fn new(alloc: Global) -> Progress
         ensures { result ≡ nothing_seen }
     {
@@ -61,7 +61,8 @@ impl Progress {
         }
     }
 
-    /// One more done line; false where it may not stand there. So with the lines below.
+    /// Takes one more done line. False if it is not allowed at its position. The methods below do
+    /// the same for the other kinds of lines.
     fn take_done(&mut self, id: Id) -> Result<bool, Memory>
         ensures { IfOk result (λ stands. after_done self.old id ≡ next_if stands self.new) }
     {
@@ -123,7 +124,7 @@ impl Progress {
         }
     }
 
-    /// One more line that says this; false where it may not stand there.
+    /// Takes one more line that was read. False if it is not allowed at its position.
     #[tactic(auto, unfolding(crate::specs::Seen::after))]
     pub(crate) fn take(&mut self, line: BaseLine) -> Result<bool, Memory>
         ensures { IfOk result (λ stands. after self.old line ≡ next_if stands self.new) }
@@ -140,7 +141,7 @@ impl Progress {
         }
     }
 
-    /// One more line; false where it may not stand there.
+    /// Reads and takes one more line. False if it is not allowed at its position.
     pub(crate) fn take_line(
         &mut self,
         alloc: Global,
@@ -155,7 +156,7 @@ impl Progress {
         }
     }
 
-    /// No line is missing.
+    /// Whether no line is missing.
     pub(crate) fn is_whole(&self) -> bool
         ensures { result ≡ is_whole self.now }
     {
@@ -167,7 +168,7 @@ impl Progress {
         }
     }
 
-    /// The done instances and the store.
+    /// Returns the base: the done instances and the store.
     pub(crate) fn into_base(self, alloc: Global) -> Result<Base, Memory>
         ensures done { IfOk result (λ b. b.done ≡ self.done) }
         ensures stored { IfOk result (λ b. b.stored ≡ put_pairs self.stored contents.empty) }

@@ -1,4 +1,4 @@
-//! Reading the lines of a base.
+//! Reads the lines of a base.
 ghost use Rattle.std.specs.Prelude.{◌≡◌, IfOk, option_and_then};
 ghost use Rattle.epx_lines.specs.Meaning.{json_of};
 ghost use Rattle.epx_base.specs.Forms.{form_of, base_line_of};
@@ -10,7 +10,7 @@ use epx_types::Memory;
 use json::Scratch;
 use std::alloc::Global;
 
-/// What a line says that is not too long, by its value.
+/// Reads a line that is not too long, from its JSON value.
 fn read_whole(alloc: Global, bytes: &[u8]) -> Result<Option<BaseLine>, Memory>
     ensures { IfOk result (λ o. o ≡ option_and_then form_of (json_of bytes.now)) }
 {
@@ -20,7 +20,7 @@ fn read_whole(alloc: Global, bytes: &[u8]) -> Result<Option<BaseLine>, Memory>
     read_form(alloc, &value)
 }
 
-/// Reads lines one after another, over memory that it keeps.
+/// Reads lines one after another and reuses its buffers.
 #[derive(Drop)]
 pub(crate) struct BaseLineReader {
     scratch: Scratch,
@@ -33,7 +33,7 @@ impl BaseLineReader {
         }
     }
 
-    /// What a line of a base says, without its line feed; None where it is none of a base's lines.
+    /// Reads one line, without its line feed. None if it is not a line of a base.
     #[tactic(auto, unfolding(crate::specs::Forms::base_line_of))]
     pub(crate) fn read(&mut self, alloc: Global, bytes: &[u8]) -> Result<Option<BaseLine>, Memory>
         ensures { IfOk result (λ o. o ≡ base_line_of bytes.now) }

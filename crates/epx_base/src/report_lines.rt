@@ -1,4 +1,4 @@
-//! The lines of a report, written token by token: JSON (RFC 8259) in compact form, each ended by a
+//! Writes the lines of a report token by token: JSON (RFC 8259) in compact form, each ended by a
 //! line feed.
 ghost use Rattle.std.specs.Prelude.{◌≡◌, ◌++◌, ◌∷◌, [], map, flat_map, zip, OnOk, IfOk};
 ghost use Rattle.std.specs.FinMap as contents;
@@ -15,8 +15,9 @@ use std::mem::replace;
 
 const LINE_FEED: u8 = 10;
 
-/// The array of a line, up to its first element. It is written into the room of the last line: a
-/// writer behind the whole text would first clear the room that the text has left.
+/// Begins the array of a line and writes its name. The line is written into the buffer of the
+/// previous line, because a writer at the end of the whole text would first clear the text's spare
+/// capacity.
 pub fn begin_line(alloc: Global, line: &mut Vec<u8>, name: &str) -> Result<Writer, AllocError>
     ensures tokens { IfOk result (λ out. out.tokens ≡ begin_array ∷ string name.now ∷ []) }
     ensures before { IfOk result (λ out. out.before ≡ []) }
@@ -40,7 +41,7 @@ pub fn end_line(text: &mut Vec<u8>, line: &mut Vec<u8>, mut out: Writer) -> Resu
     Ok(())
 }
 
-/// Writes the two numbers of an Id.
+/// Writes the replica and the number of an Id.
 pub fn write_name(out: &mut Writer, id: Id) -> Result<(), AllocError>
     ensures tokens { OnOk result (out.new.tokens ≡ out.old.tokens ++ name_tokens id) }
     ensures before { out.new.before ≡ out.old.before }
@@ -87,8 +88,8 @@ fn write_reply(out: &mut Writer, reply: &Reply) -> Result<(), AllocError>
     }
 }
 
-/// Appends the header: how many instances are executed, how many wait, and how many components the
-/// executed ones make.
+/// Appends the header: the number of executed instances, of waiting instances, and of components
+/// that the executed ones make up.
 pub fn append_header(
     alloc: Global,
     text: &mut Vec<u8>,
@@ -169,7 +170,7 @@ pub fn append_waiter(
     end_line(text, line, out)
 }
 
-/// Appends the instances that were done before.
+/// Appends the lines of the instances that were done before.
 pub fn append_done(alloc: Global, text: &mut Vec<u8>, done: &[Id]) -> Result<(), AllocError>
     ensures { OnOk result (text.new.items ≡ text.old.items ++ flat_map done_line done.now) }
 {
@@ -180,7 +181,7 @@ pub fn append_done(alloc: Global, text: &mut Vec<u8>, done: &[Id]) -> Result<(),
     Ok(())
 }
 
-/// Appends a reply for each instance.
+/// Appends the reply lines of instances, up to the end of the shorter list.
 pub fn append_replies(
     alloc: Global,
     text: &mut Vec<u8>,
@@ -197,7 +198,7 @@ pub fn append_replies(
     Ok(())
 }
 
-/// Appends the pairs of a store, by byte order of the keys.
+/// Appends the lines of a store, in byte order of the keys.
 pub fn append_store(alloc: Global, text: &mut Vec<u8>, store: &Store) -> Result<(), Memory>
     ensures { OnOk result (text.new.items ≡ text.old.items
         ++ flat_map store_line (contents.entries store.now)) }

@@ -10,7 +10,7 @@ use Rattle.epx_types.proofs.KeyLists.{key_cases}
 differs : (j k : List ℕ) → eq_by_cmp key_cmp j k ≡ false → j ≢ k
 differs j k e = elim (key_cases j k) [ inl tied ↦ absurd (cc (e, tied.0)) | inr other ↦ other.1 ]
 
--- no key stands twice in them
+-- no key is in them twice
 pub two_apart : (vs ws : List Write) (j k : List ℕ) (v w : Option ℤ) → vs ≡ (j, v) ∷ [] → ws ≡ (k, w) ∷ [] → eq_by_cmp key_cmp j k ≡ false → NoKeyTwice (vs ++ (ws ++ []))
 two_apart vs ws j k v w first second e =
     let Apart : Write → Write → Type 0 = λ x y. x.0 ≢ y.0 in

@@ -1,4 +1,4 @@
-//! Commands in order. The operations are given as text.
+//! Tests of `run_order` and `levels`. The operations are written as text.
 use crate::effects::{Wanted, is_reply, is_stored, stored};
 use crate::gates::WaitingGate;
 use crate::given::{id, key};
@@ -15,7 +15,7 @@ fn number(rt: &impl Abort, word: &str) -> i64 {
     word.parse::<i64>().expect(rt, "a number")
 }
 
-/// An operation from its words, as `put a 5`.
+/// Parses an operation, such as `put a 5`.
 fn operation(rt: &impl Abort, alloc: Global, text: &str) -> Result<Op, Memory> {
     let mut words = text.split(' ');
     let name = words.next().expect(rt, "a name");
@@ -40,7 +40,7 @@ fn operation(rt: &impl Abort, alloc: Global, text: &str) -> Result<Op, Memory> {
     }
 }
 
-/// A command from its operations, as `put a 5, get a`.
+/// Parses a command, such as `put a 5, get a`.
 fn operations(rt: &impl Abort, alloc: Global, text: &str) -> Result<Vec<Op>, Memory> {
     let mut ops = Vec::new(alloc);
     for part in text.split(", ") {
@@ -70,8 +70,8 @@ fn are_replies(rt: &impl Abort, replies: &[Reply], wanted: &[Wanted]) {
     }
 }
 
-/// By this plan and gate the commands give these replies, and the opening store becomes this one.
-/// Where memory runs out the store must be the opening one.
+/// Runs the commands with one plan and gate, from the opening store, and checks the replies and
+/// the store. If memory runs out, the store must be the opening one.
 fn run_by<R: Threads + RandomSource + Sync + Abort, G: Gate + Sync>(
     rt: &R,
     alloc: Global,
@@ -96,7 +96,7 @@ fn run_by<R: Threads + RandomSource + Sync + Abort, G: Gate + Sync>(
     }
 }
 
-/// The same by several plans, with the commands as text.
+/// Parses the commands and runs them with several plans.
 fn run<R: Threads + RandomSource + Sync + Abort>(
     rt: &R,
     alloc: Global,
@@ -139,7 +139,8 @@ fn two_levels_of_four_commands(rt: HostRuntime) -> Result<(), Fail> {
 
 const FOUR_PUTS: [&str; 4] = ["put a 1", "put b 2", "put c 3", "put d 4"];
 
-/// Two workers apply the commands, while the piece of one waits until the others were entered.
+/// Two workers apply the commands, while one command waits in the gate until all others were
+/// entered.
 fn apply_while_one_waits<R: Threads + RandomSource + Sync + Abort>(
     rt: &R,
     alloc: Global,
@@ -167,7 +168,7 @@ fn workers_share_a_level(rt: HostRuntime) -> Result<(), Fail> {
     Ok(())
 }
 
-/// Whether the commands have these levels, with these members.
+/// Whether the commands have these levels, and the levels these members.
 fn have_levels(
     alloc: Global,
     commands: &[Command],
@@ -185,7 +186,7 @@ fn have_levels(
     Ok(same)
 }
 
-/// The commands, as text, have these levels, with these members.
+/// Parses the commands, and expects these levels with these members.
 fn expect_levels(
     rt: &impl Abort,
     alloc: Global,

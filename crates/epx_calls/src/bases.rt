@@ -1,11 +1,11 @@
-//! An earlier report, read as a base. The worked cases of scripts say what else is one.
+//! A report that is read as a base. The worked cases in scripts test which texts are bases.
 use crate::effects::is_stored;
 use crate::given::id;
 use epx_base::{Base, BaseFault, read_base};
 use std::alloc::Global;
 use std::test::Fail;
 
-/// One instance was done before, and two are executed.
+/// A report of one instance that was done before and two that are executed.
 const REPORT: &str = r#"["executed",2,"waiting",0,"components",2]
 ["done",0,0]
 ["reply",0,1,"ok",[]]

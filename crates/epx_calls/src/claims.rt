@@ -1,4 +1,4 @@
-//! Draws whose order is known, and maps whose workers wait for one another.
+//! Claims in a known order, and parallel maps whose workers wait for one another.
 ghost use Rattle.std.specs.Prelude.{◌≡◌, ◌<◌, ◌≤◌, ◌*◌, ℕ, Some, length, slice_get, IfOk};
 
 use crate::gates::WaitingGate;
@@ -9,7 +9,7 @@ use std::process::Abort;
 use std::test::Fail;
 use std::thread::Threads;
 
-/// An error of the caller's own.
+/// The caller's own error type.
 #[derive(Debug, PartialEq, Drop)]
 enum Trouble {
     NoMemory,
@@ -29,7 +29,7 @@ fn ten_times(i: usize) -> Result<usize, Memory>
     Ok(10 * i)
 }
 
-/// A caller whose contract names each answer.
+/// A caller whose contract states each answer.
 fn tens<R: Threads + Sync, G: Gate + Sync>(
     rt: &R,
     alloc: Global,
@@ -43,7 +43,7 @@ fn tens<R: Threads + Sync, G: Gate + Sync>(
     claimed_map(rt, alloc, n, plan, gate, |i| ten_times(i))
 }
 
-/// Maps the numbers to their tens, while one of them waits until each was entered once.
+/// Maps the numbers to ten times themselves, while one waits in the gate until all were entered.
 fn maps_while_one_waits<R: Threads + Sync + Abort>(
     rt: &R,
     alloc: Global,
@@ -61,7 +61,7 @@ fn maps_while_one_waits<R: Threads + Sync + Abort>(
     gate.saw_all()
 }
 
-/// Maps the numbers below n to the numbers after them, or to an error at one of them.
+/// Maps the numbers below n to their successors, or to an error at one of them.
 fn maps_to_the_next<R: Threads + Sync + Abort>(
     rt: &R,
     alloc: Global,

@@ -1,4 +1,4 @@
-//! Whole transfers over each kind of device, and devices that fail at each byte.
+//! Whole transfers over each kind of device, and devices that fail after each number of bytes.
 ghost use Rattle.std.specs.Prelude.{◌≡◌, ◌≤◌, false};
 
 use epx_devices::{
@@ -14,7 +14,7 @@ use std::test::Fail;
 
 const TEXT: &str = "{\"r\":0,\"i\":1,\"seq\":5}\n";
 
-/// The source, as log 5, gives this text whole.
+/// Expects that the source, as log 5, delivers this whole text.
 fn expect_text<S: Source>(rt: &impl Abort, alloc: Global, source: &mut S) -> Result<(), Fail>
     requires { S.has_failed source.old ≡ false }
 {
@@ -24,7 +24,7 @@ fn expect_text<S: Source>(rt: &impl Abort, alloc: Global, source: &mut S) -> Res
     Ok(())
 }
 
-/// The source can not be read as log 5.
+/// Expects that the source cannot be read as log 5.
 fn expect_unreadable<S: Source>(rt: &impl Abort, alloc: Global, source: &mut S) -> Result<(), Fail>
     requires { S.has_failed source.old ≡ false }
 {
@@ -37,7 +37,7 @@ fn expect_unreadable<S: Source>(rt: &impl Abort, alloc: Global, source: &mut S) 
     Ok(())
 }
 
-/// The text is written whole to a sink that fails only where it can not grow.
+/// Writes the whole text to a sink that can fail only if memory runs out.
 fn is_written<W: Sink>(sink: &mut W) -> Result<(), Fail>
     requires { W.has_failed sink.old ≡ false }
 {
@@ -62,7 +62,7 @@ fn one_byte_a_call_is_enough(rt: HostRuntime) -> Result<(), Fail> {
     expect_text(&rt, rt.alloc(), &mut FuseSource::new(sink.bytes(), 1, None))
 }
 
-/// A source that gives so many bytes a call fails after each number of bytes.
+/// Expects that a source which delivers `at_once` bytes a call fails after each number of bytes.
 fn fails_after_any_byte(rt: &impl Abort, alloc: Global, at_once: usize) -> Result<(), Fail>
     requires { 1 ≤ at_once }
 {
@@ -81,7 +81,8 @@ fn a_source_that_fails_after_any_byte_can_not_be_read(rt: HostRuntime) -> Result
     fails_after_any_byte(&rt, rt.alloc(), 3)
 }
 
-/// A sink that takes so many bytes a call, and so many in all, ends so with these bytes.
+/// Expects this result and these bytes in a sink that takes `at_once` bytes a call and fails after
+/// `fuse` bytes.
 fn expect_taken(
     rt: &impl Abort,
     alloc: Global,
@@ -103,7 +104,7 @@ fn expect_taken(
     Ok(())
 }
 
-/// The same for each number of bytes in all.
+/// The same for each number of bytes after which the sink fails.
 fn expect_any_prefix(rt: &impl Abort, alloc: Global, at_once: usize) -> Result<(), Fail>
     requires { 1 ≤ at_once }
 {
@@ -155,7 +156,7 @@ fn std_readers_and_writers_carry_the_same_bytes(rt: HostRuntime) -> Result<(), F
     expect_text(&rt, rt.alloc(), &mut StdSource::new(TEXT.as_bytes()))
 }
 
-/// Fails each read, and takes nothing of what is written.
+/// A device that fails each read and each write.
 #[derive(Drop)]
 struct Broken;
 
@@ -175,7 +176,7 @@ impl Write for Broken {
     }
 }
 
-/// The bytes can not be written to a broken sink, which tells so.
+/// Expects that the bytes cannot be written to a broken sink, and that the sink reports it.
 fn expect_unwritable(rt: &impl Abort, bytes: &[u8]) {
     let mut sink = StdSink::new(Broken);
     assert!(rt; write_out(bytes, &mut sink) == Err(Fault::Write));
@@ -190,7 +191,7 @@ fn std_devices_tell_of_failures(rt: HostRuntime) -> Result<(), Fail> {
     Ok(())
 }
 
-/// The file can not be read, and the source tells so.
+/// Expects that the file cannot be read, and that the source reports it.
 fn expect_no_file(rt: &(impl Abort + Files), alloc: Global, path: &str) -> Result<(), Fail> {
     expect_unreadable(rt, alloc, &mut PathSource::new(rt, path))
 }

@@ -1,4 +1,4 @@
-//! The store, and what a command does to it.
+//! Tests of the store and of the effects of commands.
 ghost use Rattle.std.specs.Prelude.{◌≡◌, [], ◌∷◌, IfOk};
 
 use crate::given::key;
@@ -10,7 +10,7 @@ use std::slice::from_ref;
 use std::test::Fail;
 use std::thread::Threads;
 
-/// The store holds these pairs and no other, in this order.
+/// Expects that the store has exactly these pairs, in this order.
 pub(crate) fn is_stored(
     rt: &impl Abort,
     store: &Store,
@@ -26,7 +26,8 @@ pub(crate) fn is_stored(
     Ok(())
 }
 
-/// Puts a value, which is then there; where memory runs out the store must be as it was.
+/// Puts a value, and expects it to be in the store. If memory runs out, the store must be
+/// unchanged.
 fn put(rt: &impl Abort, store: &mut Store, key: Key, value: i64) -> Result<(), Memory> {
     let opening = store.copy()?;
     let text = key.copy()?;
@@ -48,7 +49,7 @@ fn is_same(rt: &impl Abort, store: &Store, other: &Store) -> Result<(), Memory> 
     Ok(())
 }
 
-/// A store into which these pairs were put one after another.
+/// A store into which these pairs are put one after another.
 pub(crate) fn stored(
     rt: &impl Abort,
     alloc: Global,
@@ -61,7 +62,7 @@ pub(crate) fn stored(
     Ok(store)
 }
 
-/// The store that holds 5 under a.
+/// A store with 5 under a.
 fn five(rt: &impl Abort, alloc: Global) -> Result<Store, Memory> {
     stored(rt, alloc, &[("a", 5)])
 }
@@ -77,7 +78,7 @@ fn store_holds_what_was_put(rt: HostRuntime) -> Result<(), Fail> {
     Ok(())
 }
 
-/// What a command answers.
+/// The expected reply of a command.
 #[derive(Clone, Copy, Debug)]
 pub(crate) enum Wanted<'a> {
     Values(&'a [Option<i64>]),
@@ -100,8 +101,7 @@ fn are_writes(rt: &impl Abort, made: &[(Key, Option<i64>)], wanted: &[(&str, Opt
     }
 }
 
-/// Over the store that holds 5 under a the operations have this effect, and leave the store as it
-/// is.
+/// Over a store with 5 under a, expects this effect of the operations, and an unchanged store.
 fn have_effect(
     rt: &impl Abort,
     alloc: Global,
@@ -116,7 +116,7 @@ fn have_effect(
     is_stored(rt, &store, &[("a", 5)])
 }
 
-/// The operation, and then reading a, have this effect.
+/// Expects this effect of the operation followed by a read of a.
 fn have_effect_on_a(
     rt: &impl Abort,
     alloc: Global,
@@ -175,7 +175,7 @@ fn one_write(alloc: Global, key: Key, value: Option<i64>) -> Result<Effect, Memo
     })
 }
 
-/// The store that holds 5 under a, after removing a key and putting 7 under another.
+/// A store with 5 under a, after one key is removed and 7 is put under another.
 fn moved<R: Threads + Sync + Abort>(
     rt: &R,
     alloc: Global,
@@ -200,7 +200,7 @@ fn all_writes_are_merged(rt: HostRuntime) -> Result<(), Fail> {
     Ok(())
 }
 
-/// Puts of the letters from z down to a, each with its place in the alphabet.
+/// Puts of the letters from z down to a, each with its position in the alphabet.
 fn letters(rt: &impl Abort, alloc: Global) -> Result<Vec<Op>, Memory> {
     let mut ops = Vec::new(alloc);
     for (place, letter) in "abcdefghijklmnopqrstuvwxyz".char_indices().rev() {
@@ -213,7 +213,7 @@ fn letters(rt: &impl Abort, alloc: Global) -> Result<Vec<Op>, Memory> {
     Ok(ops)
 }
 
-/// The store after one command.
+/// The store after one more command.
 fn after<R: Threads + Sync + Abort>(
     rt: &R,
     alloc: Global,
@@ -224,7 +224,7 @@ fn after<R: Threads + Sync + Abort>(
     merge_effects(rt, alloc, store, from_ref(&effect))
 }
 
-/// Puts of all letters, and then a sum and a removal, each read.
+/// Puts of all letters, then a sum and a removal, each followed by a read.
 fn letters_and_more(rt: &impl Abort, alloc: Global) -> Result<Vec<Op>, Memory> {
     let mut ops = letters(rt, alloc)?;
     ops.push(Op::Add {
@@ -263,7 +263,7 @@ fn command_may_write_many_keys(rt: HostRuntime) -> Result<(), Fail> {
     Ok(())
 }
 
-/// Puts of so many numbers under their decimal texts.
+/// Puts of the numbers below `count`, each under its decimal text.
 fn numbers(rt: &impl Abort, alloc: Global, count: i64) -> Result<Vec<Op>, Memory> {
     let mut ops = Vec::new(alloc);
     for value in 0..count {
@@ -290,7 +290,7 @@ fn many_writes_are_merged(rt: HostRuntime) -> Result<(), Fail> {
     Ok(())
 }
 
-/// These are the keys.
+/// Expects these keys.
 fn are_keys(rt: &impl Abort, keys: &[&Key], wanted: &[&str]) {
     assert!(rt; keys.len() == wanted.len());
     for (key, text) in keys.iter().zip(wanted) {
@@ -298,7 +298,7 @@ fn are_keys(rt: &impl Abort, keys: &[&Key], wanted: &[&str]) {
     }
 }
 
-/// The operations touch and write these keys.
+/// Expects that the operations touch and write these keys.
 fn expect_keys(
     rt: &impl Abort,
     alloc: Global,

@@ -1,4 +1,4 @@
-//! Entries in memory: what they commit, and how they are refused.
+//! Tests of entries in memory: which map they commit, and how they are refused.
 use crate::given::{accepted, id, logs_of, merged_of};
 use epx_merge::{Merged, from_entries};
 use epx_types::{Entry, Fault, Id, Place};
@@ -12,13 +12,13 @@ const THREE: &str = r#"{"r":2,"i":7,"seq":3,"deps":[[0,9]],"ops":[]}
 {"r":1,"i":1,"seq":1,"deps":[[0,9]],"ops":[]}
 "#;
 
-/// An instance without operations that depends on one other.
+/// An instance without operations that depends on one other instance.
 fn entry(alloc: Global, of: Id, seq: u64, dependency: Id) -> Result<Entry, Fail> {
     let deps = vec![in alloc; dependency]?;
     Ok(Entry::new(of, seq, deps, Vec::new(alloc)).ok_or("an entry")?)
 }
 
-/// Three instances that do not stand by rising Id.
+/// Three instances that are not by increasing Id.
 fn three(alloc: Global) -> Result<Vec<Entry>, Fail> {
     let mut entries = Vec::new(alloc);
     entries.push(entry(alloc, id(2, 7), 3, id(0, 9))?)?;
@@ -27,7 +27,7 @@ fn three(alloc: Global) -> Result<Vec<Entry>, Fail> {
     Ok(entries)
 }
 
-/// Both maps have the same entries at the same positions.
+/// Expects the same entries at the same positions in both maps.
 fn expect_same(rt: &impl Abort, found: &Merged, wanted: &Merged) {
     assert!(rt; found.len() == wanted.len());
     for position in 0..found.len() {
@@ -40,7 +40,7 @@ fn expect_same(rt: &impl Abort, found: &Merged, wanted: &Merged) {
     }
 }
 
-/// The entries are refused, since those of this instance on these lines differ.
+/// Expects that the entries are refused, because those of one instance on these two lines differ.
 fn expect_disagreement(
     rt: &impl Abort,
     alloc: Global,
@@ -90,8 +90,8 @@ fn equal_entries_are_one(rt: HostRuntime) -> Result<(), Fail> {
     Ok(())
 }
 
-// 2.7 differs first, on lines 1 and 4; of the lesser 0.9 line 5 repeats line 2, and line 6 differs
-// from it.
+// 2.7 is the first to differ, on lines 1 and 4. The fault names the lesser 0.9: its line 5 repeats
+// line 2, and line 6 differs from it.
 #[test]
 fn the_least_instance_is_named_by_lines_from_1(rt: HostRuntime) -> Result<(), Fail> {
     let mut entries = three(rt.alloc())?;

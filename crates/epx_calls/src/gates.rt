@@ -1,11 +1,12 @@
-//! A gate in which one number waits for others.
+//! A gate in which one item waits for others.
 use epx_claims::Gate;
 use std::sync::atomic::{AtomicBool, AtomicU64, Ordering};
 use std::test::Fail;
 
 const MOST_LOADS: u32 = 100_000_000;
 
-/// One number waits in the gate until all were entered. It gives up after so many loads.
+/// A gate in which one item waits until all items were entered. It gives up after `MOST_LOADS`
+/// loads.
 #[derive(Drop)]
 pub(crate) struct WaitingGate {
     waiter: usize,
@@ -24,8 +25,8 @@ impl WaitingGate {
         }
     }
 
-    /// All were entered, and the one that waited saw it. Where it did not, a worker may have been
-    /// missing, whose thread could not be started.
+    /// Expects that all items were entered and that the waiting one saw it. If it did not, a
+    /// worker may be missing because its thread could not be started.
     pub(crate) fn saw_all(&self) -> Result<(), Fail> {
         if self.entered.load(Ordering::SeqCst) != self.all {
             return Err(Fail::from("not each number was entered once"));

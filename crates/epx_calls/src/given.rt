@@ -8,11 +8,11 @@ use std::random::RandomSource;
 use std::test::Fail;
 use std::thread::Threads;
 
-/// The line of an instance without dependencies that puts a key and gets it.
+/// The line of an instance without dependencies that puts and gets a key.
 pub(crate) const PUT_AND_GET: &str =
     r#"{"r":0,"i":0,"seq":1,"deps":[],"ops":[["put","a",5],["get","a"]]}"#;
 
-/// An Id in few letters.
+/// Makes an Id.
 pub(crate) fn id(replica: u8, number: u64) -> Id {
     Id { replica, number }
 }
@@ -21,12 +21,12 @@ pub(crate) fn key(rt: &impl Abort, alloc: Global, text: &str) -> Result<Key, Mem
     Ok(Key::new(alloc, text)?.expect(rt, "a key"))
 }
 
-/// The plan that the program takes by default.
+/// The default plan of the program.
 pub(crate) fn plan(rt: &impl Abort) -> Plan {
     Plan::new(4, 256).expect(rt, "a plan")
 }
 
-/// Adds the line of an instance without operations, with these dependencies as JSON.
+/// Adds the line of an instance without operations. The dependencies are written as JSON.
 pub(crate) fn push_line(
     alloc: Global,
     log: &mut Vec<u8>,
@@ -41,7 +41,7 @@ pub(crate) fn push_line(
     log.extend_from_slice(line.as_bytes())
 }
 
-/// Logs of these texts.
+/// Logs with these texts.
 pub(crate) fn logs_of(alloc: Global, texts: &[&str]) -> Result<Vec<Vec<u8>>, AllocError> {
     let mut logs = Vec::new(alloc);
     for text in texts {
@@ -50,7 +50,7 @@ pub(crate) fn logs_of(alloc: Global, texts: &[&str]) -> Result<Vec<Vec<u8>>, All
     Ok(logs)
 }
 
-/// The map of logs that must be accepted.
+/// The map that was read from logs. Fails if they were refused.
 pub(crate) fn accepted(read: Result<Merged, Fault>) -> Result<Merged, Fail> {
     match read {
         Ok(merged) => Ok(merged),
@@ -59,7 +59,7 @@ pub(crate) fn accepted(read: Result<Merged, Fault>) -> Result<Merged, Fail> {
     }
 }
 
-/// What the logs commit; they must be accepted.
+/// The map that the logs commit. Fails if they are refused.
 pub(crate) fn merged_of<R: Abort + Threads + RandomSource + Sync>(
     rt: &R,
     alloc: Global,

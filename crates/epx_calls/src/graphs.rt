@@ -1,4 +1,4 @@
-//! Maps as logs: their graphs, and the instances that wait.
+//! Tests of the graphs of small logs, and of the instances that wait.
 ghost use Rattle.epx_types.specs.Ids.{IsRising};
 
 use crate::given::{id, logs_of, merged_of, plan, push_line};
@@ -15,7 +15,7 @@ fn waiter(of: Id, missing: Id) -> Waiter {
     Waiter { id: of, missing }
 }
 
-/// The graph of logs of these texts.
+/// The graph of logs with these texts.
 fn graph_of_texts<R: Abort + Threads + RandomSource + Sync>(
     rt: &R,
     alloc: Global,
@@ -25,7 +25,7 @@ fn graph_of_texts<R: Abort + Threads + RandomSource + Sync>(
     Ok(build(rt, alloc, &merged, plan(rt))?)
 }
 
-/// The graph of what is left of a log of this text.
+/// The graph of the remaining instances of a log, after some are done.
 fn graph_after<R: Abort + Threads + RandomSource + Sync>(
     rt: &R,
     alloc: Global,
@@ -38,7 +38,7 @@ fn graph_after<R: Abort + Threads + RandomSource + Sync>(
     Ok(build_after(rt, alloc, &merged, done, plan(rt))?)
 }
 
-/// The nodes are these, and so many are committed.
+/// Expects these nodes, of which the first `committed` are committed.
 fn expect_nodes(rt: &impl Abort, graph: &Graph, wanted: &[Id], committed: usize) {
     assert!(rt; graph.len() == wanted.len());
     assert!(rt; graph.is_empty() == wanted.is_empty());
@@ -51,13 +51,13 @@ fn expect_nodes(rt: &impl Abort, graph: &Graph, wanted: &[Id], committed: usize)
     }
 }
 
-/// The node leads to these.
+/// Expects these edges of a node.
 fn expect_edges(rt: &impl Abort, graph: &Graph, node: usize, wanted: &[usize]) {
     assert!(rt; node < graph.len());
     assert!(rt; graph.edges(node) == wanted);
 }
 
-/// The instances that wait, each with the missing one.
+/// Expects these waiting instances, each with the missing instance it waits for.
 fn expect_waiters(
     rt: &impl Abort,
     alloc: Global,
@@ -98,7 +98,7 @@ fn a_done_instance_is_not_missing(rt: HostRuntime) -> Result<(), Fail> {
     expect_waiters(&rt, rt.alloc(), &graph, &waiters)
 }
 
-/// A chain of so many instances, of which one depends on an instance without a line as well.
+/// A chain of `count` instances. One of them also depends on a missing instance.
 fn chain(alloc: Global, count: u64, lacking: u64) -> Result<Vec<u8>, Fail> {
     let mut log = Vec::new(alloc);
     push_line(alloc, &mut log, id(0, 0), 1, "")?;
@@ -111,7 +111,7 @@ fn chain(alloc: Global, count: u64, lacking: u64) -> Result<Vec<u8>, Fail> {
     Ok(log)
 }
 
-/// What is left of so many: the done ones are those below 5,000.
+/// The remaining instances of 10,000, of which those below 5,000 are done.
 #[test]
 fn many_instances_are_left(rt: HostRuntime) -> Result<(), Fail> {
     let mut logs = Vec::new(rt.alloc());

@@ -1,8 +1,10 @@
-//! Single calls of each crate, with values worked out by hand: whether the clauses say what is
-//! meant, texts that no clause says, and that each call that needs memory succeeds where there is
-//! some. Tests alone, so that no library is proved again for them. A test of stores, effects or
-//! commands that meets a refused allocation ends out of memory, and what was lent is then as it
-//! was.
+//! Tests of single calls of each crate, with values that were worked out by hand. They check that
+//! the clauses mean what they should, and the texts that no clause states. Each call that needs
+//! memory must succeed if there is enough.
+//!
+//! The tests are a crate of their own, so that no library has to be proved again for them. A test
+//! of stores, effects or commands whose allocation is refused ends with out of memory, and checks
+//! that what it lent is unchanged.
 #![tactic(auto)]
 
 #[cfg(test)]

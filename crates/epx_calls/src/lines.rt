@@ -1,4 +1,5 @@
-//! Lines, cut out of a log, read and written. The worked cases of scripts say what lines mean.
+//! Tests of lines: cut out of a log, read and written. The worked cases in scripts test their
+//! meaning.
 use crate::given::{PUT_AND_GET, id};
 use epx_lines::{Line, LineFault, cut_lines, read_line, write_line};
 use epx_types::{Entry, Key, Memory, Op};
@@ -14,7 +15,7 @@ fn repeated(alloc: Global, piece: &str, count: usize) -> Result<String, AllocErr
     Ok(text)
 }
 
-/// The lines of the bytes, each between angle brackets, are this text.
+/// Expects these lines of the bytes. Each line is shown between angle brackets.
 fn expect_lines(rt: &impl Abort, alloc: Global, bytes: &str, wanted: &str) -> Result<(), Fail> {
     let mut shown = Vec::new(alloc);
     for line in &cut_lines(alloc, bytes.as_bytes())? {
@@ -35,7 +36,7 @@ fn lines_end_at_line_feeds(rt: HostRuntime) -> Result<(), Fail> {
     expect_lines(&rt, rt.alloc(), "a\r\nb", "<a\r><b>")
 }
 
-/// As many copies between the longest keys as there may be.
+/// The greatest number of copy operations, each between keys of the greatest length.
 fn longest_ops(alloc: Global) -> Result<Vec<Op>, Memory> {
     let text = repeated(alloc, "\u{1}", 64)?;
     let mut ops = Vec::new(alloc);
@@ -49,7 +50,7 @@ fn longest_ops(alloc: Global) -> Result<Vec<Op>, Memory> {
     Ok(ops)
 }
 
-/// An entry with as many of the longest parts as there may be.
+/// An entry with the greatest number of parts, each of the greatest length.
 fn longest_entry(alloc: Global) -> Result<Option<Entry>, Memory> {
     let mut deps = Vec::new(alloc);
     for below in 0..256 {
@@ -59,7 +60,7 @@ fn longest_entry(alloc: Global) -> Result<Option<Entry>, Memory> {
     Ok(Entry::new(of, u64::MAX, deps, longest_ops(alloc)?))
 }
 
-/// The entry of a line.
+/// The entry that a line is read as.
 fn entry_of(alloc: Global, line: &str) -> Result<Entry, Fail> {
     match read_line(alloc, line.as_bytes()) {
         Ok(Line::Entry(entry)) => Ok(entry),

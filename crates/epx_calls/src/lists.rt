@@ -1,4 +1,4 @@
-//! Lists of instances, checked against the lawful orders of small maps.
+//! Tests of lists of instances, checked against the lawful orders of small maps.
 ghost use Rattle.epx_graph.specs.GraphOf.{IsGraphOf};
 ghost use Rattle.std.specs.Prelude.{IfOk};
 
@@ -28,7 +28,7 @@ fn read<R: Abort + Threads + RandomSource + Sync>(
     Ok((merged, graph))
 }
 
-/// What is wrong with a list, if anything is.
+/// The fault of a list, if it has one.
 fn fault_of(
     alloc: Global,
     merged: &Merged,

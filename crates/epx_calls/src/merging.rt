@@ -1,4 +1,5 @@
-//! Logs as text, and look-ups of what they commit. The worked cases of scripts have the refusals.
+//! Tests of reading logs and of looking up instances. The worked cases in scripts test the
+//! refusals.
 use crate::gates::WaitingGate;
 use crate::given::{PUT_AND_GET, accepted, id, logs_of, merged_of, plan};
 use epx_merge::{Merged, read_logs};
@@ -23,7 +24,7 @@ const FOUR_LINES: &str = r#"{"r":0,"i":0,"seq":1,"deps":[],"ops":[]}
 {"r":0,"i":3,"seq":1,"deps":[],"ops":[]}
 "#;
 
-/// The instance stands at this place of the map, or is not in it.
+/// Expects the instance at this position of the map, or that the map does not have it.
 fn expect_position(rt: &impl Abort, merged: &Merged, of: Id, wanted: Option<usize>) {
     assert!(rt; merged.position(of) == wanted);
     assert!(rt; merged.get(of).is_some() == wanted.is_some());
@@ -64,7 +65,7 @@ fn instances_stand_by_rising_id(rt: HostRuntime) -> Result<(), Fail> {
     Ok(())
 }
 
-/// Two workers read four lines, while the piece of one waits until the others were entered.
+/// Two workers read four lines, while one line waits in the gate until all others were entered.
 fn reads_while_one_waits<R: Abort + Threads + RandomSource + Sync>(
     rt: &R,
     alloc: Global,

@@ -1,4 +1,4 @@
-//! Small graphs with their components and orders worked out by hand.
+//! Tests of small graphs whose components and orders were worked out by hand.
 ghost use Rattle.epx_graph.specs.GraphOf.{IsGraphAfter};
 ghost use Rattle.std.specs.Prelude.{IfOk};
 
@@ -28,7 +28,7 @@ fn read<R: Abort + Threads + RandomSource + Sync>(
     Ok((merged, graph))
 }
 
-/// What an order says of the instance at a place.
+/// What an order has for the instance at a position.
 #[derive(Clone, Copy, Debug, PartialEq, Eq)]
 struct Row {
     id: Id,
@@ -45,7 +45,7 @@ fn row_of(number: u64, leader: u64, depth: usize) -> Row {
     }
 }
 
-/// What an order says, place by place.
+/// The rows of an order, position by position.
 fn rows(alloc: Global, order: &OrderList) -> Result<Vec<Row>, Memory> {
     let mut rows = Vec::new(alloc);
     for (place, of) in order.ids().iter().enumerate() {
@@ -70,7 +70,8 @@ fn leaders(alloc: Global, graph: &Graph) -> Result<Vec<usize>, Memory> {
     Ok(leaders)
 }
 
-/// The log has nodes with these leaders, and so many components in an order of these rows.
+/// Expects these leaders of the nodes of the log, and an order with these rows and `count`
+/// components.
 fn expect_order<R: Abort + Threads + RandomSource + Sync>(
     rt: &R,
     alloc: Global,
@@ -101,7 +102,7 @@ fn deps_of(alloc: Global, numbers: &[u64]) -> Result<String, Memory> {
     Ok(deps)
 }
 
-/// The same of instances 0.0, 0.1 and so on, by the numbers of those that each depends on.
+/// The same for instances 0.0, 0.1 and so on. `edges` has the numbers that each depends on.
 fn expect_order_of<R: Abort + Threads + RandomSource + Sync>(
     rt: &R,
     alloc: Global,
@@ -120,7 +121,7 @@ fn expect_order_of<R: Abort + Threads + RandomSource + Sync>(
     expect_order(rt, alloc, log, lead, count, wanted)
 }
 
-// 0, 1 and 2 are a ring with an edge to 3; 3 and 4 lead to each other; 5 leads nowhere.
+// 0, 1 and 2 are a cycle with an edge to 3. 3 and 4 depend on each other. 5 has no edges.
 #[test]
 fn ring_over_a_pair(rt: HostRuntime) -> Result<(), Fail> {
     let edges: [&[u64]; 6] = [&[1], &[2, 3], &[0], &[4], &[3], &[]];
@@ -135,8 +136,8 @@ fn ring_over_a_pair(rt: HostRuntime) -> Result<(), Fail> {
     expect_order_of(&rt, rt.alloc(), &edges, &[0, 0, 0, 3, 3, 5], 3, &wanted)
 }
 
-// 0, 1 and 2 are a ring with an edge to 3; 3 and 4 lead to each other, and 4 to the missing 6; 5
-// leads to 0 and 3.
+// 0, 1 and 2 are a cycle with an edge to 3. 3 and 4 depend on each other, and 4 on the missing 6.
+// 5 depends on 0 and 3.
 #[test]
 fn ring_of_seven_nodes_that_waits(rt: HostRuntime) -> Result<(), Fail> {
     let edges: [&[u64]; 6] = [&[1], &[2, 3], &[0], &[4], &[3, 6], &[0, 3]];

@@ -1,4 +1,5 @@
-//! What a seed makes of an Id. The numbers are Rust's own `DefaultHasher`'s, over the same bytes.
+//! Tests of hashes of Ids by seed. The values are those of Rust's `DefaultHasher` over the same
+//! bytes.
 use crate::given::id;
 use epx_seed::Seed;
 use std::hash::{BuildHasher, DefaultHasher, Hash};
@@ -6,7 +7,7 @@ use std::io;
 use std::random::RandomSource;
 use std::test::Fail;
 
-/// Gives the bytes 0, 1, 2 and so on.
+/// A random source that returns the bytes 0, 1, 2 and so on.
 struct Counting;
 
 impl RandomSource for Counting {
@@ -20,7 +21,7 @@ impl RandomSource for Counting {
     }
 }
 
-/// Fails after the first byte.
+/// A random source that fails after the first byte.
 struct Broken;
 
 impl RandomSource for Broken {

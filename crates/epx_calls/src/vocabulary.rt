@@ -1,4 +1,4 @@
-//! Ids, keys, entries, plans, replies and a fault: orders, limits and texts.
+//! Tests of Ids, keys, entries, plans, replies and a fault: their orders, limits and texts.
 use crate::given::id;
 use epx_types::{Entry, Fault, Id, Key, Memory, Op, Place, Plan, Reply, Values};
 use std::alloc::Global;
@@ -18,7 +18,7 @@ fn a_fault_has_a_number_a_status_and_a_text(rt: HostRuntime) -> Result<(), Fail>
     Ok(())
 }
 
-/// Whether the text is a key, and then has it as its text and as that of its copy.
+/// Expects that the text is a key or is not. A key and its copy must have the text.
 fn is_key(rt: &impl Abort, alloc: Global, text: &str, wanted: bool) -> Result<(), Fail> {
     let made = Key::new(alloc, text)?;
     assert!(rt; made.is_some() == wanted);
@@ -39,7 +39,7 @@ fn a_key_has_1_to_64_bytes(rt: HostRuntime) -> Result<(), Fail> {
     is_key(&rt, rt.alloc(), sixty_five, false)
 }
 
-/// The first text is the lesser key.
+/// Expects that the first text is the lesser key.
 fn expect_below(rt: &impl Abort, alloc: Global, low: &str, high: &str) -> Result<(), Fail> {
     let below = Key::new(alloc, low)?.ok_or("a key")?;
     let above = Key::new(alloc, high)?.ok_or("a key")?;
@@ -80,7 +80,7 @@ fn a_plan_keeps_its_limits(rt: HostRuntime) {
     expect_plan(&rt, 1, 65_537, false);
 }
 
-/// The plan cuts so many items into so many pieces, of which the last is this.
+/// Expects that the plan cuts the items into this number of pieces, with this last piece.
 fn expect_pieces(rt: &impl Abort, plan: Plan, items: usize, pieces: usize, last: (usize, usize)) {
     let made = plan.pieces(items);
     assert!(rt; made == pieces);
@@ -100,7 +100,7 @@ fn a_plan_cuts_items_into_pieces(rt: HostRuntime) -> Result<(), Fail> {
     Ok(())
 }
 
-/// Whether instance 1.2 may depend on these two.
+/// Expects that instance 1.2 may depend on these two, or may not.
 fn may_depend(rt: &impl Abort, alloc: Global, deps: [Id; 2], wanted: bool) -> Result<(), Fail> {
     let deps = Vec::from_slice(alloc, &deps)?;
     let entry = Entry::new(id(1, 2), 5, deps, Vec::new(alloc));
@@ -116,7 +116,7 @@ fn an_entry_needs_rising_dependencies_without_itself(rt: HostRuntime) -> Result<
     may_depend(&rt, rt.alloc(), [id(0, 9), id(1, 2)], false)
 }
 
-/// Whether an entry may have so many dependencies.
+/// Expects that an entry may have `count` dependencies, or may not.
 fn may_have_deps(rt: &impl Abort, alloc: Global, count: u64, wanted: bool) -> Result<(), Fail> {
     let mut deps = Vec::new(alloc);
     for number in 0..count {
@@ -127,7 +127,7 @@ fn may_have_deps(rt: &impl Abort, alloc: Global, count: u64, wanted: bool) -> Re
     Ok(())
 }
 
-/// Whether an entry may have so many operations.
+/// Expects that an entry may have `count` operations, or may not.
 fn may_have_ops(rt: &impl Abort, alloc: Global, count: usize, wanted: bool) -> Result<(), Fail> {
     let mut ops = Vec::new(alloc);
     for _ in 0..count {
@@ -147,7 +147,7 @@ fn an_entry_has_at_most_256_dependencies_and_64_operations(rt: HostRuntime) -> R
     may_have_ops(&rt, rt.alloc(), 65, false)
 }
 
-/// An entry has the parts that it was made of.
+/// Expects that an entry has the parts that it was made of.
 fn keeps_its_parts(rt: &impl Abort, alloc: Global, ops: Vec<Op>) -> Result<(), Fail> {
     let count = ops.len();
     let deps = vec![in alloc; id(0, 1)]?;

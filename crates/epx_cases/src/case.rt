@@ -1,4 +1,4 @@
-//! A case of a script.
+//! A case of a script, and its runs.
 use crate::directive::Directive;
 use crate::flow::Flow;
 use crate::given::{Failing, Given};
@@ -15,7 +15,8 @@ use std::random::RandomSource;
 use std::rt::Files;
 use std::thread::Threads;
 
-/// The workers and cuts under which a case runs that names none. Devices take the last.
+/// The workers and cuts of the runs of a case that names no plan. Runs through devices use the
+/// last.
 const PLANS: [(usize, usize); 7] = [
     (1, 1),
     (2, 1),
@@ -29,14 +30,14 @@ const PLANS: [(usize, usize); 7] = [
 /// The line of a failed write.
 const FAILED_WRITE: &[u8] = b"epx: fault 8: the answer can not be written\n";
 
-/// What a case is about.
+/// What a case tests.
 #[derive(Clone, Copy)]
 enum Subject<'a> {
     /// What these words ask for.
     Words(&'a str),
     /// What each line of logs means.
     Lines,
-    /// What comes of texts.
+    /// The answer to texts.
     Task(Task),
 }
 
@@ -49,14 +50,14 @@ fn subject_of(head: &str) -> Option<Subject<'_>> {
     }
 }
 
-/// A command over texts, and the text that it must give.
+/// A command over texts, and the expected text.
 #[derive(Drop)]
 pub(crate) struct Case<'a> {
     /// Its first line.
     head: &'a str,
     subject: Option<Subject<'a>>,
     given: Given,
-    /// The plans that it runs under.
+    /// The plans of its runs.
     plans: Vec<Plan>,
     wanted: Vec<u8>,
     /// Whether the line `----` was read.
@@ -78,7 +79,7 @@ impl<'a> Case<'a> {
         }
     }
 
-    /// Adds a plan, and answers whether it is within the limits.
+    /// Adds a plan. Returns false if the plan is not within the limits.
     fn add_plan(&mut self, workers: usize, cut: usize) -> io::Result<bool> {
         let Some(plan) = Plan::new(workers, cut) else {
             return Ok(false);
@@ -87,7 +88,7 @@ impl<'a> Case<'a> {
         Ok(true)
     }
 
-    /// Follows a line before `----`, and answers whether it has a meaning.
+    /// Reads a line above `----`. Returns false if the line has no meaning.
     fn read_given(&mut self, alloc: Global, line: &str) -> io::Result<bool> {
         let Some(directive) = Directive::parse(line) else {
             return self.given.add_line(alloc, line);
@@ -117,7 +118,7 @@ impl<'a> Case<'a> {
         Ok(true)
     }
 
-    /// Reads a line below the first.
+    /// Reads a line after the first.
     pub(crate) fn read_line(&mut self, alloc: Global, line: &'a str) -> io::Result<()> {
         let is_read = if self.has_wanted {
             add_line(alloc, &mut self.wanted, line)?
@@ -133,7 +134,7 @@ impl<'a> Case<'a> {
         Ok(())
     }
 
-    /// Adds the text of the file that a line below the first names.
+    /// Adds the text of the file that a line after the first names.
     pub(crate) fn read_file<R: AllocGlobal + Files>(
         &mut self,
         rt: &R,
@@ -154,7 +155,7 @@ impl<'a> Case<'a> {
         Ok(())
     }
 
-    /// Whether this is the wanted text. Any other is printed.
+    /// Whether a text is the expected one. Prints it if it is not.
     fn is_found<R: Print>(
         &self,
         rt: &R,
@@ -171,7 +172,7 @@ impl<'a> Case<'a> {
         Ok(false)
     }
 
-    /// Takes the plans of all cases where it names none.
+    /// Adds the seven plans, if the case names no plan.
     fn fill_plans(&mut self) -> io::Result<()> {
         if self.plans.is_empty() {
             for (workers, cut) in PLANS {
@@ -181,7 +182,7 @@ impl<'a> Case<'a> {
         Ok(())
     }
 
-    /// Whether the task gives the wanted text in memory, under each plan.
+    /// Whether the answer in memory is the expected text, under each plan.
     fn holds_in_memory<R: Print + Threads + RandomSource + Sync>(
         &self,
         rt: &R,
@@ -199,7 +200,7 @@ impl<'a> Case<'a> {
         Ok(true)
     }
 
-    /// Whether the task gives the wanted text through devices, under the last plan.
+    /// Whether the answer through devices is the expected text, under the last plan.
     fn holds_through_devices<R: Print + Threads + RandomSource + Sync>(
         &self,
         rt: &R,
@@ -213,8 +214,8 @@ impl<'a> Case<'a> {
         self.is_found(rt, alloc, "through devices", &found)
     }
 
-    /// The text that a run through devices must give where one fails after so many bytes: of a sink
-    /// what it has taken, and the line of the failed write.
+    /// The expected text of a run through devices of which one fails after `bytes`. If it is the
+    /// sink, the text is what the sink has taken and the line of the failed write.
     fn wanted_after(&self, alloc: Global, failing: Failing, bytes: usize) -> io::Result<Vec<u8>> {
         let mut text = Vec::new(alloc);
         match failing {
@@ -228,7 +229,8 @@ impl<'a> Case<'a> {
         Ok(text)
     }
 
-    /// Whether each run is right in which a device fails, after no byte, one byte and so on.
+    /// Whether all runs in which a device fails have the expected text. The device fails after 0
+    /// bytes, 1 byte and so on.
     fn holds_where_one_fails<R: Print + Threads + RandomSource + Sync>(
         &mut self,
         rt: &R,
@@ -257,7 +259,7 @@ impl<'a> Case<'a> {
         Ok(true)
     }
 
-    /// Whether each run gives the wanted text.
+    /// Whether all runs of the task have the expected text.
     fn holds<R: Print + Threads + RandomSource + Sync>(
         &mut self,
         rt: &R,
@@ -273,7 +275,7 @@ impl<'a> Case<'a> {
         self.holds_through_devices(rt, alloc, task)
     }
 
-    /// Whether what it is about gives the wanted text.
+    /// Whether all runs of the case have the expected text.
     fn is_right<R: Print + Threads + RandomSource + Sync>(
         &mut self,
         rt: &R,
@@ -293,7 +295,7 @@ impl<'a> Case<'a> {
         }
     }
 
-    /// What is wrong with its lines, if anything is.
+    /// The reason why the case cannot be read, if it cannot.
     fn complaint(&self) -> Option<&'a str> {
         if self.bad_line.is_some() {
             return self.bad_line;
@@ -305,7 +307,7 @@ impl<'a> Case<'a> {
         }
     }
 
-    /// Runs it, and prints its first line if all is right.
+    /// Runs the case, and prints its first line if all runs have the expected text.
     pub(crate) fn run<R: Print + Threads + RandomSource + Sync>(
         &mut self,
         rt: &R,

@@ -1,28 +1,28 @@
 //! The directives of a script.
 use crate::flow::Flow;
 
-/// A line that begins a text of a case, or sets how it runs.
+/// A line that begins a text of a case, or sets how the case runs.
 #[derive(Clone, Copy)]
 pub(crate) enum Directive {
-    /// The text begins that a report is resumed from.
+    /// Begins the base that the report resumes from.
     Base,
-    /// The text begins that is checked.
+    /// Begins the list to check.
     List,
-    /// So many logs begin, which are alike.
+    /// Begins this number of equal logs.
     Logs(usize),
-    /// The source of the last text gives so.
+    /// Sets the flow of the source of the last text.
     Gives(Flow),
-    /// The sink takes so.
+    /// Sets the flow of the sink.
     Takes(Flow),
-    /// The source of the last text gives so, and fails after each number of bytes in turn.
+    /// Sets the flow of the source of the last text, which fails after each number of bytes.
     GivesEach(Flow),
-    /// The sink takes so, and fails after each number of bytes in turn.
+    /// Sets the flow of the sink, which fails after each number of bytes.
     TakesEach(Flow),
-    /// The case runs under this plan.
+    /// Adds a plan to the case.
     Plan { workers: usize, cut: usize },
 }
 
-/// The numbers of a directive: two at most.
+/// The numbers of a directive, at most two.
 fn numbers_in(written: &str) -> Option<(Option<usize>, Option<usize>)> {
     if written.is_empty() {
         return Some((None, None));
@@ -34,7 +34,7 @@ fn numbers_in(written: &str) -> Option<(Option<usize>, Option<usize>)> {
 }
 
 impl Directive {
-    /// The directive that a line is, if it is one.
+    /// The directive of a line, if it is one.
     pub(crate) fn parse(line: &str) -> Option<Directive> {
         let (word, rest) = line.split_once(' ').unwrap_or((line, ""));
         if let Some(written) = rest.strip_suffix(" each") {

@@ -1,24 +1,25 @@
-//! How devices give and take bytes.
+//! How many bytes devices transfer in one call, and when they fail.
 ghost use Rattle.std.specs.Prelude.{◌≡◌, false};
 
 use epx_tool::{FuseSink, FuseSource};
 use std::alloc::Global;
 
-/// The bytes that pass a device in one call, at most, and those after which it fails, if it fails.
+/// The greatest number of bytes in one call, and the number of bytes after which the device fails,
+/// if it fails.
 #[derive(Clone, Copy)]
 pub(crate) struct Flow {
     at_once: usize,
     fuse: Option<usize>,
 }
 
-/// A device that does not fail.
+/// The flow of a device that does not fail.
 pub(crate) const WHOLE: Flow = Flow {
     at_once: 65_536,
     fuse: None,
 };
 
 impl Flow {
-    /// A flow of at least one byte in a call.
+    /// A flow, or None if a call would transfer no bytes.
     pub(crate) fn new(at_once: usize, fuse: Option<usize>) -> Option<Flow> {
         if at_once == 0 {
             return None;
@@ -26,7 +27,7 @@ impl Flow {
         Some(Flow { at_once, fuse })
     }
 
-    /// The same flow, but that it fails after so many bytes.
+    /// The same flow of a device that fails after this number of bytes.
     pub(crate) fn failing_after(self, bytes: usize) -> Flow {
         Flow {
             at_once: self.at_once,
@@ -34,14 +35,14 @@ impl Flow {
         }
     }
 
-    /// A source that gives these bytes so.
+    /// A source of these bytes with this flow.
     pub(crate) fn source<'a>(&self, bytes: &'a [u8]) -> FuseSource<'a>
         ensures { result.failed ≡ false }
     {
         FuseSource::new(bytes, self.at_once.max(1), self.fuse)
     }
 
-    /// A sink that takes bytes so.
+    /// A sink with this flow.
     pub(crate) fn sink(&self, alloc: Global) -> FuseSink
         ensures { result.failed ≡ false }
     {

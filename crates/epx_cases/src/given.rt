@@ -4,36 +4,36 @@ use crate::line::add_line;
 use std::alloc::Global;
 use std::io;
 
-/// Where the next lines go.
+/// The texts that the next lines are added to.
 #[derive(Clone, Copy)]
 enum Target {
     Nowhere,
-    /// To the base or the list.
+    /// The base or the list.
     First,
-    /// To so many of the last logs.
+    /// This number of the last logs.
     Logs(usize),
 }
 
-/// The device that fails after each number of bytes in turn.
+/// The device that fails after each number of bytes.
 #[derive(Clone, Copy)]
 pub(crate) enum Failing {
-    /// The source of the texts that were begun last.
+    /// The source of the last text, or of the last equal logs.
     Source,
     Sink,
 }
 
-/// The texts of a case, and how devices carry them.
+/// The texts of a case, and the flows of the devices.
 #[derive(Drop)]
 pub(crate) struct Given {
-    /// The base that a report is resumed from, or the list that is checked.
+    /// The base to resume from, or the list to check.
     pub first: Vec<u8>,
     pub first_flow: Flow,
     pub logs: Vec<Vec<u8>>,
     pub log_flows: Vec<Flow>,
     pub sink_flow: Flow,
-    /// Whether the case names a flow, so that devices alone show what it is about.
+    /// Whether the case names a flow. Then it runs through devices alone.
     pub has_flows: bool,
-    /// The device that fails after each number of bytes in turn, with how it does without.
+    /// The device that fails after each number of bytes, and its flow without the failure.
     pub failing: Option<(Failing, Flow)>,
     target: Target,
 }
@@ -57,7 +57,7 @@ impl Given {
         self.target = Target::First;
     }
 
-    /// Begins so many logs, which are alike.
+    /// Begins `count` equal logs.
     pub(crate) fn begin_logs(&mut self, alloc: Global, count: usize) -> io::Result<()> {
         for _ in 0..count {
             self.logs.push(Vec::new(alloc))?;
@@ -67,7 +67,7 @@ impl Given {
         Ok(())
     }
 
-    /// Adds a line to the texts that were begun last, and answers whether it can be read.
+    /// Adds a line to the last texts. Returns false if the line cannot be read.
     pub(crate) fn add_line(&mut self, alloc: Global, line: &str) -> io::Result<bool> {
         if !line.starts_with(['{', '[', '%']) {
             return Ok(false);
@@ -86,7 +86,7 @@ impl Given {
         }
     }
 
-    /// Adds a whole text to those that were begun last, and answers whether there are any.
+    /// Adds a whole text to the last texts. Returns false if there are none.
     pub(crate) fn add_text(&mut self, text: &[u8]) -> io::Result<bool> {
         match self.target {
             Target::Nowhere => return Ok(false),
@@ -101,7 +101,7 @@ impl Given {
         Ok(true)
     }
 
-    /// Sets how the texts that were begun last are given, and answers whether there are any.
+    /// Sets the flow of the last texts. Returns false if there are none.
     pub(crate) fn give(&mut self, flow: Flow) -> bool {
         self.has_flows = true;
         match self.target {
@@ -117,13 +117,13 @@ impl Given {
         true
     }
 
-    /// Sets how the sink takes what is written.
+    /// Sets the flow of the sink.
     pub(crate) fn take(&mut self, flow: Flow) {
         self.has_flows = true;
         self.sink_flow = flow;
     }
 
-    /// How many bytes the texts have that were begun last.
+    /// The length of the last text in bytes.
     pub(crate) fn last_len(&self) -> usize {
         match self.target {
             Target::Nowhere => 0,
@@ -132,13 +132,14 @@ impl Given {
         }
     }
 
-    /// Lets a device fail after each number of bytes in turn, and answers whether there is one.
+    /// Sets the device that fails after each number of bytes. Returns false if there is no such
+    /// device.
     pub(crate) fn fail(&mut self, failing: Failing, flow: Flow) -> bool {
         self.failing = Some((failing, flow));
         self.fail_after(failing, flow)
     }
 
-    /// Sets after how many bytes the device fails, and answers whether there is one.
+    /// Sets the flow of the device that fails. Returns false if there is no such device.
     pub(crate) fn fail_after(&mut self, failing: Failing, flow: Flow) -> bool {
         match failing {
             Failing::Source => self.give(flow),

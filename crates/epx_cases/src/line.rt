@@ -1,4 +1,4 @@
-//! Lines of a script, some of which repeat a text or hold bytes that a plain line can not.
+//! Lines of a script. Some repeat a text or have bytes that a plain line cannot have.
 use std::alloc::{AllocError, Global};
 use std::io;
 
@@ -8,7 +8,7 @@ fn add_number(alloc: Global, text: &mut Vec<u8>, number: u64) -> Result<(), Allo
     text.extend_from_slice(digits.as_bytes())
 }
 
-/// Adds a piece that follows a backslash: its first letter has a meaning.
+/// Adds the piece after a backslash. Its first letter selects what is added.
 fn add_piece(
     alloc: Global,
     text: &mut Vec<u8>,
@@ -32,8 +32,8 @@ fn add_piece(
     text.extend_from_slice(rest)
 }
 
-/// Adds a text once. In it `\n`, `\r`, `\t` and `\s` are a line feed, a carriage return, a tab and
-/// a space; `\i`, `\j` and `\d` are the round, the next round and how many rounds are left.
+/// Adds one round of a text. `\n`, `\r`, `\t` and `\s` are a line feed, a carriage return, a tab
+/// and a space. `\i`, `\j` and `\d` are the round, the next round and the number of rounds left.
 fn add_round(
     alloc: Global,
     text: &mut Vec<u8>,
@@ -56,7 +56,7 @@ fn has_numbers(written: &str) -> bool {
     written.contains("\\i") || written.contains("\\j") || written.contains("\\d")
 }
 
-/// Adds a text so many times over.
+/// Adds `count` rounds of a text.
 fn add_rounds(
     alloc: Global,
     text: &mut Vec<u8>,
@@ -77,8 +77,8 @@ fn add_rounds(
     Ok(())
 }
 
-/// Adds so many instances of replica 0. Each depends on the 255 that follow it, around the end, and
-/// on one that is missing: 5.5 for the last, and 9.9 for the others.
+/// Adds `count` instances of replica 0. Each depends on the next 255, where the first follows the
+/// last, and on a missing instance: the last on 5.5, and all others on 9.9.
 fn add_fan(alloc: Global, text: &mut Vec<u8>, count: u32) -> Result<(), AllocError> {
     for number in 0..count {
         let missing = if number == count - 1 { 5 } else { 9 };
@@ -96,8 +96,9 @@ fn add_fan(alloc: Global, text: &mut Vec<u8>, count: u32) -> Result<(), AllocErr
     Ok(())
 }
 
-/// Adds a line of a script to a text, and answers whether it can be read. `%3 TEXT` is a text three
-/// times over, with no line end, and `%fan 3` a fan of three instances; any other line is itself.
+/// Adds a line of a script to a text. Returns false if the line cannot be read. `%3 TEXT` is three
+/// rounds of a text without a line end. `%fan 3` is a fan of three instances. Any other line is
+/// added as it is.
 pub(crate) fn add_line(alloc: Global, text: &mut Vec<u8>, line: &str) -> io::Result<bool> {
     let Some(rest) = line.strip_prefix('%') else {
         text.extend_from_slice(line.as_bytes())?;

@@ -1,5 +1,5 @@
-//! The cases of the scripts that are named, and then the program under several lists of words: what
-//! each prints on standard output and on standard error, and the status that it ends with.
+//! Runs the cases of the scripts that its words name, and then `epx` with several lists of words.
+//! It prints what `epx` writes to standard output and to standard error, and its exit status.
 #![tactic(auto)]
 
 mod case;
@@ -23,7 +23,7 @@ use std::env;
 use std::io::{self, ErrorKind};
 use std::process::ExitCode;
 
-/// A log that is handed to the program as its input.
+/// The log that `epx` has as its input.
 const INPUT: &str =
     "{\"r\":9,\"i\":0,\"seq\":1,\"deps\":[],\"ops\":[[\"put\",\"a\",5],[\"get\",\"a\"]]}\n";
 

@@ -1,9 +1,9 @@
-//! What the lines of logs mean, each by itself.
+//! The meanings of the lines of logs.
 use epx_lines::{Line, LineFault, cut_lines, read_line, write_line};
 use epx_types::Memory;
 use std::alloc::Global;
 
-/// What a line means: `blank`, its fault, or its instance as it is written.
+/// The meaning of a line: `blank`, its fault, or its instance as `write_line` writes it.
 fn meaning(alloc: Global, line: &[u8]) -> Result<String, Memory> {
     match read_line(alloc, line) {
         Ok(Line::Blank) => Ok(String::from_str(alloc, "blank")?),
@@ -13,7 +13,7 @@ fn meaning(alloc: Global, line: &[u8]) -> Result<String, Memory> {
     }
 }
 
-/// What each line of the logs means, a line each.
+/// The meanings of all lines of the logs, one a line.
 pub(crate) fn meanings(alloc: Global, logs: &[Vec<u8>]) -> Result<Vec<u8>, Memory> {
     let mut text = Vec::new(alloc);
     for log in logs {

@@ -1,4 +1,4 @@
-//! What comes of the texts of a case: the text that is answered, or the line of the fault.
+//! The outcome of the texts of a case: the answer, or the line of the fault.
 ghost use Rattle.std.specs.Prelude.{◌≡◌, All, IfOk, false};
 
 use crate::flow::Flow;
@@ -26,7 +26,7 @@ pub(crate) fn task_named(command: &str) -> Option<Task> {
     }
 }
 
-/// What a task asks of the logs, where it asks neither for a report nor about a list.
+/// The view that a task writes, or None if it writes a report or checks a list.
 fn ask_of(task: Task) -> Option<Ask> {
     match task {
         Task::Order => Some(Ask::Order),
@@ -44,7 +44,7 @@ fn add_fault(alloc: Global, text: &mut Vec<u8>, fault: Fault) -> io::Result<()> 
     Ok(())
 }
 
-/// What comes of the texts in memory.
+/// The outcome of the texts in memory.
 pub(crate) fn answer_given<R: Threads + RandomSource + Sync>(
     rt: &R,
     alloc: Global,
@@ -84,7 +84,7 @@ fn sources_of<'a>(
     Ok(sources)
 }
 
-/// What comes of the texts through devices: what the sink holds, and the line of the fault.
+/// The outcome of the texts through devices: the bytes of the sink, and the line of the fault.
 pub(crate) fn deliver_given<R: Threads + RandomSource + Sync>(
     rt: &R,
     alloc: Global,

@@ -1,4 +1,4 @@
-//! Scripts, case by case.
+//! Runs scripts, case by case.
 use crate::case::Case;
 use std::alloc::{AllocGlobal, Global};
 use std::io::{self, Print};
@@ -7,7 +7,7 @@ use std::rt::{Env, Files};
 use std::thread::Threads;
 use std::{env, fs};
 
-/// Runs the case that these lines are, and prints its result. Lines that begin with `#` explain.
+/// Runs the case with these lines, and prints its result. Lines that begin with `#` are comments.
 fn run_case<R>(rt: &R, alloc: Global, written: &str) -> io::Result<()>
 where
     R: AllocGlobal + Files + Print + Threads + RandomSource + Sync,
@@ -28,7 +28,7 @@ where
     case.run(rt, alloc)
 }
 
-/// Runs the cases of a script, which blank lines separate.
+/// Runs the cases of a script. Blank lines separate them.
 fn run_script<R>(rt: &R, alloc: Global, script: &str) -> io::Result<()>
 where
     R: AllocGlobal + Files + Print + Threads + RandomSource + Sync,
@@ -39,8 +39,8 @@ where
     Ok(())
 }
 
-/// Runs the scripts at the paths that the program is given, and answers whether the word `--scripts`
-/// is among them, which asks for nothing else.
+/// Runs the scripts at the paths that are the words of this program. Returns whether `--scripts`
+/// is one of the words, with which the program runs nothing else.
 pub(crate) fn run_scripts<R>(rt: &R) -> io::Result<bool>
 where
     R: AllocGlobal + Env + Files + Print + Threads + RandomSource + Sync,

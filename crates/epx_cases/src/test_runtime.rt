@@ -1,4 +1,4 @@
-//! A runtime whose words are given, and whose standard error can be compared.
+//! A runtime with given words, whose standard error goes to standard output and can be compared.
 
 use std::alloc::Allocator;
 use std::env::FillError;
@@ -9,10 +9,10 @@ use std::random::RandomSource;
 use std::rt::{Env, Files};
 use std::thread::Threads;
 
-/// The word that is handed on as a byte that no UTF-8 has.
+/// The word that `epx` gets as a byte that is not UTF-8.
 pub(crate) const NOT_UTF_8: &str = "not UTF-8";
 
-/// The runtime itself, but for the words, and for standard error, which goes to standard output.
+/// The given runtime with other words. Its standard error goes to standard output.
 #[derive(Clone, Copy)]
 pub(crate) struct TestRuntime<'a, R> {
     pub rt: &'a R,

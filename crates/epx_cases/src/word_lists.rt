@@ -1,8 +1,8 @@
-//! The lists of words that the program is run under.
+//! The lists of words that `epx` is run with.
 
 use crate::test_runtime::NOT_UTF_8;
 
-/// Words of every kind, each list with the program's name.
+/// Words of every kind. Each list begins with the name of the program.
 pub(crate) fn word_lists() -> [&'static [&'static str]; 42] {
     [
         &["epx"],
@@ -50,7 +50,7 @@ pub(crate) fn word_lists() -> [&'static [&'static str]; 42] {
     ]
 }
 
-/// The words of a run over 65 logs, which is one too many.
+/// The words of a run over 65 logs, one more than the limit.
 pub(crate) fn too_many_logs() -> [&'static str; 67] {
     let mut words = ["0.jsonl"; 67];
     words[0] = "epx";

@@ -4,7 +4,7 @@ use epx_types::Memory;
 use std::alloc::Global;
 use std::io::{self, ErrorKind};
 
-/// The task with its plan, and the paths, one a line; or the status of a text, with its first line.
+/// The task with its plan, and the paths, one a line. For a text, its status and its first line.
 fn text_of(alloc: Global, words: Words) -> io::Result<String> {
     match words {
         Words::Text { text, status } => {
@@ -27,7 +27,7 @@ fn text_of(alloc: Global, words: Words) -> io::Result<String> {
     }
 }
 
-/// What these words ask for. Spaces separate them.
+/// What these words ask for. Spaces separate the words.
 pub(crate) fn words_text(alloc: Global, line: &str) -> io::Result<Vec<u8>> {
     let mut words = Vec::new(alloc);
     for word in line.split_whitespace() {

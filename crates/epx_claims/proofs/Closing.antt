@@ -1,4 +1,4 @@
--- The seat that has every share has drawn all that was dealt.
+-- The seat that has every share has drawn all the pieces that were drawn.
 use Rattle.std.proofs.Common.{◌≡◌, ℕ, eqb, min, true, List, [], ◌∷◌, ◌++◌, length, get_or, sym, refl, ap, ◌∙◌, subst, arith}
 use mathlib.Core.Option.{some, some-injective, some-ne-none}
 use lib.ListN.{get_elem?}
@@ -13,19 +13,20 @@ use Rattle.epx_claims.proofs.Moving.{drawn_in_all, picked}
 use Rattle.epx_claims.proofs.Numbers.{positive_from_count}
 use Rattle.epx_claims.proofs.Sums.{others, picked_sum}
 
--- hands without a share are none
+-- seat states whose shares add up to 0 are none
 no_hands : (hs : List Hand) → total (λ h. h.share) hs ≡ 0 → total (λ h. one_if (eqb h.share 0)) hs ≡ 0 → hs ≡ []
 no_hands [] none full = refl
 no_hands (h ∷ hs) none full = let p = positive_from_count h.share (omega arith) in absurd (omega arith)
 
--- what the close of a deal answers: how many pieces stand in the list, each once; where the seat has ended, all
+-- what `close` returns: the length of the list, which has each number below it once; if the seat
+-- has ended, the number of pieces
 pub record IsAllDrawn (pieces workers answer : ℕ) (h : Hand) : Type 0 where
   pub length : answer ≡ length h.drawn
   pub each_once : (x : ℕ) → times x h.drawn ≡ once_below x answer
   pub all : h.ended ≡ true → answer ≡ pieces
   pub deal : (word : ℕ) × (answer ≡ min word pieces) × Deal pieces workers word (h ∷ [])
 
--- an index of a list of one
+-- the element of a list of one
 at_zero : (xs : List ℕ) (x : ℕ) → get_elem? xs 0 ≡ some x → get_or xs 0 0 ≡ x
 at_zero [] x e = absurd (some-ne-none x (sym e))
 at_zero (y ∷ ys) x e = some-injective y x e
@@ -54,7 +55,7 @@ closed_with terms id word v h ws xs is every found final =
       deal = (word, refl, d);
     }
 
--- the same, at a number of pieces and an answer that are known
+-- the same, with the number of pieces and the answer under other names
 pub closes : (terms : Terms) (id word pieces answer : ℕ) (v : View) (h : Hand) (ws : List ℕ) (xs : List (Unit {0})) → v.hands ≡ h ∷ [] → h.share ≡ terms.workers → get_elem? ws 0 ≡ some word
     → terms.pieces ≡ pieces → answer ≡ min word pieces → Final (Seen (IsDealt terms) id v) ws xs → IsAllDrawn pieces terms.workers answer h
 closes terms id word pieces answer v h ws xs is every found same answer_is final =

@@ -1,4 +1,5 @@
--- Deals, as lists of hands: what each step does to them, and what they tell of one hand.
+-- States of the claims, as lists of seat states: what each step does to them, and what follows for
+-- one seat.
 use Rattle.std.proofs.Common.{◌≡◌, ℕ, ◌+◌, ◌-◌, ◌/◌, ◌<◌, ◌≤◌, eqb, Bool, true, false, cond, ◌||◌, List, [], ◌∷◌, get_or, sym, ap, ◌∙◌, arith}
 use Rattle.std.specs.List.{All}
 use Rattle.epx_claims.specs.declared.hand.Hand.{Hand}
@@ -8,12 +9,12 @@ use Rattle.epx_claims.specs.Rule.{with_piece, at_end, halved, merged}
 use Rattle.epx_claims.proofs.Sums.{total-le}
 use Rattle.epx_claims.proofs.Numbers.{once_more, once_full, total-append, times_at, below_from_once, below_min, positive_from_count, count_of_positive}
 
--- one of two has ended
+-- if the join of two has ended, one of them has
 either_ended : (a b : Bool) → one_if (a || b) ≤ one_if a + one_if b
 either_ended true b = omega arith
 either_ended false b = omega arith
 
--- the stops of two
+-- the ended shares of two are at most those of their join
 both_stops : (a b : Bool) (x y : ℕ) → cond a x 0 + cond b y 0 ≤ cond (a || b) (x + y) 0
 both_stops true true x y = omega arith
 both_stops true false x y = omega arith
@@ -24,7 +25,7 @@ stops_fit : (h : Hand) → cond h.ended h.share 0 ≤ h.share
 stops_fit h = elim h.ended as (λ b. cond b h.share 0 ≤ h.share) [ true ↦ omega arith | false ↦ omega arith ]
 
 module _ (n w c : ℕ) where
-  -- a deal is told by sums, so another list with the same sums shows it too
+  -- consistency is about sums, so another list with the same sums is consistent too
   pub same_sums : (xs ys : List Hand) → ((f : Hand → ℕ) → total f xs ≡ total f ys) → Deal n w c xs → Deal n w c ys
   same_sums xs ys same d = record {
     each_once = λ x. sym (same (λ h. times x h.drawn)) ∙ d.each_once x;
@@ -34,7 +35,7 @@ module _ (n w c : ℕ) where
     few_stops = let e = same (λ h. cond h.ended h.share 0) in let g = d.few_stops in omega arith;
   }
 
-  -- the next piece is dealt
+  -- a seat draws the next piece
   pub deals_piece : (h : Hand) (hs : List Hand) → c < n → Deal n w c (h ∷ hs) → Deal n w (c + 1) (with_piece c h ∷ hs)
   deals_piece h hs left d = record {
     each_once = λ x. let p = total-append (λ y. one_if (eqb y x)) h.drawn (c ∷ []) in let g = d.each_once x in let m = once_more x c n left in omega arith;
@@ -44,7 +45,7 @@ module _ (n w c : ℕ) where
     few_stops = omega arith;
   }
 
-  -- a hand ends
+  -- a seat stops
   pub deals_stop : (h : Hand) (hs : List Hand) → h.ended ≡ false → n ≤ c → Deal n w c (h ∷ hs) → Deal n w (c + 1) (at_end h ∷ hs)
   deals_stop h hs not_ended full d = record {
     each_once = λ x. let g = d.each_once x in let m = once_full x c n full in omega arith;
@@ -59,7 +60,7 @@ module _ (n w c : ℕ) where
         omega arith;
   }
 
-  -- a hand is cut in two
+  -- a seat is split
   pub deals_half : (h : Hand) (hs : List Hand) → h.ended ≡ false → 2 ≤ h.share → Deal n w c (h ∷ hs) → Deal n w c (halved (h ∷ hs))
   deals_half h hs not_ended enough d = record {
     each_once = λ x. let g = d.each_once x in omega arith;
@@ -76,7 +77,7 @@ module _ (n w c : ℕ) where
         omega arith;
   }
 
-  -- two hands become one
+  -- two seats are joined
   pub deals_both : (h k : Hand) (hs : List Hand) → Deal n w c (h ∷ k ∷ hs) → Deal n w c (merged (h ∷ k ∷ hs))
   deals_both h k hs d = record {
     each_once = λ x. let g = d.each_once x in let p = total-append (λ y. one_if (eqb y x)) h.drawn k.drawn in omega arith;
@@ -90,7 +91,7 @@ module _ (n w c : ℕ) where
     few_stops = let g = d.few_stops in let b = both_stops h.ended k.ended h.share k.share in omega arith;
   }
 
-  -- what a hand has drawn is below the word
+  -- what a seat has drawn is below the word
   pub drawn_below : (h : Hand) (hs : List Hand) → Deal n w c (h ∷ hs) → All (λ p. p < c) h.drawn
   drawn_below h hs d k d0 inside =
       let x : ℕ = get_or h.drawn k d0 in
@@ -98,10 +99,10 @@ module _ (n w c : ℕ) where
       let o = d.each_once x in
       below_from_once x c n (omega arith)
 
-  -- no number stands in the lists of two hands, or twice in one
+  -- no number is in the lists of two seats, or twice in one
   pub apart : (h k : Hand) (hs : List Hand) → Deal n w c (h ∷ k ∷ hs) → (x : ℕ) → times x h.drawn + times x k.drawn ≤ once_below x n
   apart h k hs d x = let e = d.each_once x in let b = below_min x c n in omega arith
 
-  -- the word stays small
+  -- the word is at most the numbers of pieces and workers together, so it never wraps
   pub word_fits : (hs : List Hand) → Deal n w c hs → c ≤ n + w
   word_fits hs d = let t = total-le (λ k. cond k.ended k.share 0) (λ k. k.share) stops_fit hs in let a = d.all_shares in let b = d.few_stops in omega arith

@@ -1,4 +1,4 @@
--- A draw keeps the deal.
+-- A draw or a stop keeps the state consistent.
 use Rattle.std.proofs.Common.{◌≡◌, ℕ, ◌+◌, ◌%◌, ◌^◌, ◌<◌, ◌≤◌, min, false, List, [], ◌∷◌, ◌++◌, length-append, get_or, sym, refl, ap, subst, ⊎_elim, arith}
 use Rattle.std.proofs.lemmas.Bool.{cases_lt}
 use mathlib.Core.Option.{none}
@@ -12,7 +12,7 @@ use Rattle.epx_claims.proofs.Deals.{deals_piece, deals_stop, word_fits}
 use Rattle.epx_claims.proofs.Moving.{drawn_in_all, known, picked, changed}
 use Rattle.epx_claims.proofs.Sums.{others}
 
--- a hand that has not ended may draw
+-- a seat that has not ended may draw
 pub draws : (terms : Terms) (few_pieces : terms.pieces ≤ 2 ^ 40) (few_workers : terms.workers ≤ 64) (slots id : ℕ) (me : Sat) (h : Hand) → me.0.hands ≡ h ∷ [] → h.ended ≡ false
     → Allows (IsDealt terms) slots id me 0 (λ k. (k + 1) % 2 ^ 64) (Draws (step slots 0 1 0 none) me)
 draws terms few_pieces few_workers slots id me h is not_ended s r wide at small =

@@ -1,4 +1,5 @@
--- What a step has to show: the rule holds again once the word and one view have changed. And the steps that change the hands alone.
+-- What a step must show: the rule holds again after the word and one view change. Then the steps
+-- that change the seat states and not the word.
 use Rattle.std.proofs.Common.{◌≡◌, ⊎_elim, inr, ℕ, ◌+◌, ◌≤◌, min, false, List, [], ◌∷◌, ◌++◌, length, length-append, length-set, set, get_or, get_or-set_same, sym, refl, ap, ◌∙◌, subst, arith}
 use mathlib.Core.Option.{some, none}
 use lib.ListN.{get_elem?}
@@ -18,15 +19,15 @@ abbrev pub drawn_in_all : List Hand → ℕ
 drawn_in_all hs = total (λ h. length h.drawn) hs
 
 module _ (terms : Terms) where
-  -- a view with a hand knows the terms
+  -- a view with a seat state has the terms
   pub known : (v : View) (h : Hand) (hs : List Hand) → v.hands ≡ h ∷ hs → Knows terms v → v.terms ≡ terms
   known v h hs is knows = ⊎_elim (λ none. let e : length (h ∷ hs) ≡ 0 = ap length (sym is ∙ none) in absurd (omega arith)) (λ same. same) knows
 
-  -- the views know the terms after one was written
+  -- the views have the terms after one was written
   pub told_set : (vs : List View) (id : ℕ) (w : View) → ((j : ℕ) (v : View) → get_elem? vs j ≡ some v → Knows terms v) → Knows terms w → (j : ℕ) (v : View) → get_elem? (set vs id w) j ≡ some v → Knows terms v
   told_set vs id w told new j v at = ⊎_elim (λ here. subst (Knows terms) here.1 new) (λ there. told j v there.1) (at_set vs id j w v at)
 
-  -- one view's hands, beside those of all others
+  -- one view's seat states, followed by those of all other views
   pub picked : (c : ℕ) (vs : List View) (id : ℕ) (v : View) → get_elem? vs id ≡ some v → Deal terms.pieces terms.workers c (all_hands vs) → Deal terms.pieces terms.workers c (v.hands ++ others vs id)
   picked c vs id v at d = same_sums _ _ _ (all_hands vs) (v.hands ++ others vs id) (λ f. picked_sum f vs id v at ∙ sym (total-append f v.hands (others vs id))) d
 
@@ -49,7 +50,7 @@ module _ (terms : Terms) where
         told = told_set s.views id w r.told (inr knows);
       }
 
-  -- a hand may be cut in two
+  -- a seat state may be split
   pub halves : (slots id : ℕ) (me : Sat) (h : Hand) → me.0.hands ≡ h ∷ [] → h.ended ≡ false → 2 ≤ h.share → Allows (IsDealt terms) slots id me 0 (λ n. n) (Halves (step slots 0 0 0 none) me)
   halves slots id me h is not_ended enough s r wide at small =
       let c : ℕ = get_or s.words 0 0 in
@@ -62,7 +63,7 @@ module _ (terms : Terms) where
       let change : Change terms.pieces terms.workers c c (h ∷ []) w.hands = record { others = others s.views id; before = before; after = after } in
       (w, keeps, tt, changed s r id v w c me.1 at refl after lengths, (refl, subst (λ (p : Terms × List Hand). IsMove halved p.0 p.1 c w) (λ i. (sym same i, sym is i)) (change, refl)))
 
-  -- two hands may become one
+  -- two seat states may be joined
   pub merges : (slots id : ℕ) (me : Sat) (h k : Hand) → me.0.hands ≡ h ∷ k ∷ [] → Allows (IsDealt terms) slots id me 0 (λ n. n) (Merges (step slots 0 0 0 none) me)
   merges slots id me h k is s r wide at small =
       let c : ℕ = get_or s.words 0 0 in

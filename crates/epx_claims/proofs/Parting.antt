@@ -1,4 +1,4 @@
--- A hand goes from one seat to another, and the deal stays.
+-- A seat state moves from one seat to another, and the state of the claims stays consistent.
 use Rattle.std.proofs.Common.{◌≡◌, ⊎_elim, inl, inr, ℕ, List, [], ◌∷◌, ◌++◌, length, set, take, drop, sym, refl, ap, ◌∙◌, subst, arith}
 use mathlib.Core.Option.{some}
 use lib.ListN.{get_elem?}
@@ -14,7 +14,7 @@ use Rattle.epx_claims.proofs.Moving.{known, told_set}
 use Rattle.epx_claims.proofs.Numbers.{total-append}
 use Rattle.epx_claims.proofs.Sums.{placed_sum, picked_sum, pushed_sum, parts_sum}
 
--- the sums stay where a view is cut in two
+-- the sums stay when a view is split
 parted_sum : (f : Hand → ℕ) (vs : List View) (id : ℕ) (v : View) → get_elem? vs id ≡ some v → total f (all_hands vs) ≡ total f (all_hands (set vs id (first_part v) ++ other_part v ∷ []))
 parted_sum f vs id v at =
     let a = picked_sum f vs id v at in
@@ -23,7 +23,7 @@ parted_sum f vs id v at =
     let d = parts_sum f v.hands in
     omega arith
 
--- the sums stay where a view takes the hands of another
+-- the sums stay when a view gets the seat states of another
 joined_sum : (f : Hand → ℕ) (vs : List View) (id other : ℕ) (v w : View) → get_elem? vs id ≡ some v → get_elem? (set vs id (both_parts v w)) other ≡ some w
     → total f (all_hands vs) ≡ total f (all_hands (set (set vs id (both_parts v w)) other spent_view))
 joined_sum f vs id other v w at there =
@@ -34,7 +34,7 @@ joined_sum f vs id other v w at there =
     omega arith
 
 module _ (terms : Terms) where
-  -- a seat may give its second hand to a new seat
+  -- a seat may pass its second seat state to a new seat
   pub splits : (id : ℕ) (v : View) → Splits (IsDealt terms) id v (first_part v) (other_part v)
   splits id v s r at =
       let same = (λ (f : Hand → ℕ). parted_sum f s.views id v at) in
@@ -48,7 +48,7 @@ module _ (terms : Terms) where
         told = λ j u found. ⊎_elim (told_set terms s.views id (first_part v) r.told first j u) (λ is. subst (Knows terms) is second) (at_snoc (set s.views id (first_part v)) (other_part v) u j found);
       }
 
-  -- a seat may take the hands of another
+  -- a seat may get the seat states of another
   pub joins : (id other : ℕ) (v w : View) (h : Hand) → v.hands ≡ h ∷ [] → Joins (IsDealt terms) id v other w (both_parts v w) spent_view
   joins id other v w h is s r at apart there =
       let same = (λ (f : Hand → ℕ). joined_sum f s.views id other v w at there) in

@@ -1,4 +1,4 @@
--- Sums over the hands of all views, after one view is written or added.
+-- Sums over the seat states of all views, after one view is written or added.
 use Rattle.std.proofs.Common.{◌≡◌, ℕ, ◌+◌, ◌≤◌, List, [], ◌∷◌, ◌++◌, set, take, drop, sym, ap, ◌∙◌, arith, zero, suc}
 use mathlib.Core.Option.{some, some-ne-none}
 use lib.ListN.{get_elem?}
@@ -9,7 +9,7 @@ use Rattle.epx_claims.specs.Count.{total}
 use Rattle.epx_claims.specs.Rule.{all_hands, spent_view}
 use Rattle.epx_claims.proofs.Numbers.{total-append}
 
--- the hands of all views but one
+-- the seat states of all views but one
 abbrev pub others : List View → ℕ → List Hand
 others vs i = all_hands (set vs i spent_view)
 

@@ -1,4 +1,4 @@
--- The answers that a seat brings back, after one more piece and after a join.
+-- The answers of a part of the work, after one more piece and after a join.
 use Rattle.std.proofs.Common.{◌≡◌, ℕ, ◌+◌, Bool, ◌||◌, true, false, List, [], ◌∷◌, ◌++◌, map, sym, refl, ap, ◌∙◌, subst, arith}
 use mathlib.Core.List.{map-append}
 use Rattle.std.specs.List.{All}
@@ -11,16 +11,16 @@ use Rattle.epx_claims.specs.Worked.{HasAnswers, IsFresh, piece_of}
 abbrev pub with_piece : SeatView → ℕ → SeatView
 with_piece s p = record { claims = s.claims; drawn = s.drawn ++ p ∷ []; share = s.share; ended = s.ended }
 
--- the seat at its end
+-- the seat after it ended
 abbrev pub at_end : SeatView → SeatView
 at_end s = record { claims = s.claims; drawn = s.drawn; share = s.share; ended = true }
 
--- the seat of two
+-- the seat after a join of two
 abbrev pub both_seats : SeatView → SeatView → SeatView
 both_seats s t = record { claims = s.claims; drawn = s.drawn ++ t.drawn; share = s.share + t.share; ended = s.ended || t.ended }
 
 module _ {T : Type 0} (answers : ℕ → T → Type 0) (claims : ClaimsView) where
-  -- at the start there is no answer
+  -- at the start there are no answers
   pub no_answer : (share : ℕ) (seat : SeatView) (items : List (Answer T)) → IsFresh claims share seat → items ≡ [] → HasAnswers answers claims share false seat items
   no_answer share seat items fresh none = record {
     own = fresh.own;
@@ -53,7 +53,7 @@ module _ {T : Type 0} (answers : ℕ → T → Type 0) (claims : ClaimsView) whe
         each = has.each;
       })
 
-  -- two seats, and their answers
+  -- two seats are joined, and their answers appended
   pub both_parts : (share one other : ℕ) (s t seat : SeatView) (xs ys items : List (Answer T)) → HasAnswers answers claims one true s xs → HasAnswers answers claims other true t ys
       → one + other ≡ share → seat ≡ both_seats s t → items ≡ xs ++ ys → HasAnswers answers claims share true seat items
   both_parts share one other s t seat xs ys items left right whole seat_is items_is =

@@ -1,18 +1,21 @@
--- The deal as contracts tell it, by the seats that take part in a step. The kinds of step are six:
--- to make claims: the word is 0, and one seat has every share and has drawn nothing;
--- to draw a piece: the word, below the number of pieces, goes behind the seat's list, and becomes one more;
--- to draw a stop: the word, no longer below the number of pieces, becomes one more, and the seat ends;
--- to split: the word stays, and two seats have the share of one;
--- to join: the word stays, and one seat has the lists and the shares of two;
--- to close: the seat that has every share is the only one.
+-- The state of the claims and its steps, as contracts see them: by the seats that take part in a
+-- step. There are six kinds of step:
+-- make: the word is 0, and one seat has every share and has drawn nothing;
+-- draw: the word is below the number of pieces; it is appended to the seat's list, and grows by
+-- one;
+-- stop: the word is the number of pieces or more; it grows by one, and the seat ends;
+-- split: the word stays, and two seats have the share of one;
+-- join: the word stays, and one seat has the lists and the shares of two;
+-- close: the only seat has every share.
 use Rattle.std.specs.Prelude.{ℕ, List, map}
 use Rattle.epx_claims.specs.Deal.{Deal, Change}
 use Rattle.epx_claims.specs.Seated.{ClaimsView, SeatView, hand_of}
 
--- the word and the hands of these seats, and of no others, show a deal
+-- the word and these seats are the whole state of the claims, and it is consistent
 abbrev pub IsDeal : ClaimsView → ℕ → List SeatView → Type 0
 IsDeal claims word seats = Deal claims.pieces claims.workers word (map hand_of seats)
 
--- the word becomes the next, and the seats before become those after. Beside the same other seats both show a deal
+-- the word becomes the next, and the seats before become those after. All other seats stay, and
+-- the state is consistent before and after
 abbrev pub Event : ClaimsView → ℕ → ℕ → List SeatView → List SeatView → Type 0
 Event claims word next before after = Change claims.pieces claims.workers word next (map hand_of before) (map hand_of after)

@@ -1,11 +1,11 @@
--- What contracts see of the fields of a seat, and what these keep.
+-- What contracts see of a seat, and the invariant of its fields.
 use Rattle.std.specs.Prelude.{◌≡◌, ℕ, List, [], ◌∷◌}
 use Rattle.epx_claims.specs.declared.hand.Hand.{Hand}
 use Rattle.epx_claims.specs.declared.seat.ClaimSeat.TheInside.{Inside}
 use Rattle.epx_claims.specs.Rule.{hand}
 use Rattle.epx_claims.specs.Seated.{SeatView}
 
--- what the first hand has drawn
+-- what the first seat state has drawn
 abbrev pub drawn_of : List Hand → List ℕ
 drawn_of [] = []
 drawn_of (h ∷ hs) = h.drawn
@@ -18,7 +18,7 @@ seat_view s = record {
   ended = s.ended;
 }
 
--- the seat has one hand and holds no slot, and its share and mark are those of its hand
+-- the seat has one seat state and holds no slot; its share and mark are those of the state
 pub record IsSeated (s : Inside) : Type 0 where
   pub shown : s.seat.me.0.hands ≡ hand (drawn_of s.seat.me.0.hands) s.share s.ended ∷ []
   pub no_slot : s.seat.me.1 ≡ []

@@ -14,7 +14,7 @@ pub record SeatView : Type 0 where
   pub share : ℕ
   pub ended : Bool
 
--- the seat is one of these claims
+-- the seat belongs to these claims
 abbrev pub IsSeatOf : ClaimsView → SeatView → Type 0
 IsSeatOf claims seat = seat.claims ≡ claims
 
@@ -22,6 +22,6 @@ IsSeatOf claims seat = seat.claims ≡ claims
 abbrev pub fresh_seat : ClaimsView → ℕ → SeatView
 fresh_seat claims share = record { claims = claims; drawn = []; share = share; ended = false }
 
--- a seat's part of the deal
+-- the state of the seat
 abbrev pub hand_of : SeatView → Hand
 hand_of seat = record { drawn = seat.drawn; share = seat.share; ended = seat.ended }

@@ -1,4 +1,4 @@
-//! Pieces that threads draw from one word, each once.
+//! Numbered pieces of work, which threads draw from one shared counter, each piece once.
 ghost use Rattle.std.specs.Prelude.{◌≡◌, ◌<◌, ◌≤◌, ◌^◌, ◌+◌, ◌-◌, ◌/◌, ◌++◌, ◌||◌, [], ◌∷◌, ℕ, min, true, false, None, length, IfOk, IfSome, IfNone};
 ghost use Rattle.std.specs.List.{All};
 ghost use Rattle.epx_claims.specs.Count.{times, once_below};
@@ -13,10 +13,12 @@ use epx_types::Memory;
 use std::alloc::Global;
 use std::marker::Model;
 
-/// The pieces of a piece of work, which threads draw, each piece once. Threads share it by reference, and each
-/// draws by a seat of its own. Whatever they do, between any two steps of theirs the word and all seats that are
-/// not spent show a deal. A call tells what its step did to the deal, and that all other seats stayed meanwhile;
-/// who they are, it does not tell.
+/// Pieces of work with numbers from 0, which threads draw, each piece once.
+///
+/// Threads share the claims by reference; each draws through its own seat. Between any two atomic
+/// steps of any threads, the shared counter and the seats that are not spent are in a consistent
+/// state (`IsDeal`). Each call's contract says how its own step changes that state, and that all
+/// other seats stay the same during it. It does not say which other seats exist.
 #[derive(Drop)]
 pub struct Claims {
     table: Table<(), View, Terms, Dealing, Global>,
@@ -36,7 +38,8 @@ impl Model for Claims {
 }
 
 impl Claims {
-    /// Claims for so many pieces, and the seat of all workers.
+    /// Claims for this many pieces, and one seat whose share is all workers. Runs in constant
+    /// time. `Memory` if the table cannot be allocated.
     pub fn new(alloc: Global, pieces: u64, workers: usize) -> Result<(Claims, ClaimSeat), Memory>
         requires pieces { pieces ≤ 2 ^ 40 }
         requires workers { (1 ≤ workers) × (workers ≤ 64) }
@@ -56,7 +59,8 @@ impl Claims {
         ))
     }
 
-    /// Draws the next piece, or ends the seat where none is left. A seat that has ended takes no step.
+    /// Draws the next piece, or ends the seat if none is left: one `fetch_add`, in constant time.
+    /// A seat that has ended takes no step.
     pub fn claim(&self, seat: &mut ClaimSeat) -> Option<u64>
         requires { IsSeatOf self.now seat.old }
         ensures some { IfSome result (λ p. (seat.old.ended ≡ false) × (p < self.now.pieces) × All (λ q. q < p) seat.old.drawn × (seat.new ≡ record seat.old { drawn = seat.old.drawn ++ p ∷ [] })) }
@@ -77,7 +81,7 @@ impl Claims {
         }
     }
 
-    /// Gives half of the seat's share, rounded down, to a new seat.
+    /// Moves half of the seat's share, rounded down, to a new seat that has drawn nothing.
     pub fn split(&self, seat: &mut ClaimSeat) -> ClaimSeat
         requires own { IsSeatOf self.now seat.old }
         requires open { seat.old.ended ≡ false }
@@ -98,7 +102,8 @@ impl Claims {
         }
     }
 
-    /// Takes the share and the pieces of another seat, and its end. No piece stands in both lists.
+    /// Adds the other seat's share and pieces to this one, which has ended if either had. No piece
+    /// is in both lists.
     pub fn join(&self, seat: &mut ClaimSeat, other: ClaimSeat)
         requires own { IsSeatOf self.now seat.old }
         requires other { IsSeatOf self.now other }
@@ -114,12 +119,12 @@ impl Claims {
         let shared = &self.table.shared;
         shared.join_seat::<Taking>(&mut seat.seat, theirs);
         shared.load::<Merging>(&mut seat.seat, 0);
-        // The deal has shown that the shares together are at most 64.
+        // The state of the claims shows that the shares together are at most 64.
         seat.share += share;
         seat.ended = seat.ended || ended;
     }
 
-    /// Ends the deal, once one seat has every share. Answers how many pieces were drawn.
+    /// Frees the claims, once one seat has every share. Returns how many pieces were drawn.
     pub fn close(self, seat: ClaimSeat) -> u64
         requires own { IsSeatOf self seat }
         requires share { seat.share ≡ self.workers }

@@ -1,21 +1,23 @@
-//! What a seat knows, and what a table of claims is told when it is made. No value of these is made but for the terms.
+//! The state of a seat, and the terms of a table of claims. Only the terms exist when the program
+//! runs; the other types are used by specifications.
 use std::collections::LinkedList;
 
-/// What a seat has drawn, in order, its share, and whether it has ended.
+/// The pieces that a seat has drawn, in order; its share, in workers; and whether it has ended.
 pub struct Hand {
     pub drawn: LinkedList<u64>,
     pub share: usize,
     pub ended: bool,
 }
 
-/// The number of pieces, and how many seats there can be at once.
+/// The number of pieces, and the number of workers: at most so many seats exist at once.
 #[derive(Clone, Copy)]
 pub struct Terms {
     pub pieces: u64,
     pub workers: usize,
 }
 
-/// The terms, and the hands that a seat has.
+/// The terms, and the states that a seat holds: one; two during a split or a join; none once it is
+/// spent.
 pub struct View {
     pub terms: Terms,
     pub hands: LinkedList<Hand>,

@@ -1,5 +1,5 @@
-//! Claims: threads draw the pieces of a piece of work from one shared word, each piece once, and a
-//! parallel map is built on that. What a deal of pieces is, is defined in `specs/`.
+//! Claims: threads draw pieces of work from one shared counter, each piece once. A parallel map is
+//! built on them. `specs/` defines the state of the claims and its steps.
 #![tactic(auto)]
 
 mod claims;

@@ -1,4 +1,4 @@
-//! A parallel map whose workers draw the numbers.
+//! A parallel map whose workers draw the numbers that they work on.
 ghost use Rattle.std.specs.Prelude.{◌≡◌, ◌<◌, ◌≤◌, ◌^◌, ◌++◌, ◌∷◌, [], ℕ, IfOk, IfErr};
 ghost use Rattle.epx_claims.specs.Answered.{IsInOrder, IsFault};
 ghost use Rattle.epx_types.specs.declared.memory.Memory.{Memory};
@@ -11,10 +11,12 @@ use epx_types::{Memory, Plan};
 use std::alloc::Global;
 use std::thread::Threads;
 
-/// The answers of `f` for all numbers below `n`, in order. The plan's workers draw the numbers, each in a
-/// thread of its own where one can be made; with one worker, or at most one number, the caller goes through
-/// them. Each number passes the gate once before `f` is called for it. The plan's cut plays no part. An error
-/// is one that `f` answered, or want of memory.
+/// The answers of `f` for all numbers below `n`, in order.
+///
+/// The plan's workers draw the numbers, each worker in its own thread if one can be started. With
+/// one worker, or at most one number, the caller's thread does all the work. A worker enters the
+/// gate once for each number, before it calls `f`. The plan's cut is not used. An error is one
+/// that `f` returned, or out of memory.
 pub fn claimed_map<
     R: Threads + Sync,
     T: Send + Drop,
@@ -37,7 +39,7 @@ pub fn claimed_map<
     Ok(lay_out(alloc, drawn as usize, answers, &f)?)
 }
 
-// The same in the caller's thread alone.
+// The same map, in the caller's thread alone.
 fn plain_map<T: Drop, E: From<Memory> + Drop, G: Gate, F: Fn(usize) -> Result<T, E>>(
     alloc: Global,
     n: usize,
@@ -57,7 +59,7 @@ fn plain_map<T: Drop, E: From<Memory> + Drop, G: Gate, F: Fn(usize) -> Result<T,
     Ok(values)
 }
 
-// Adds a value at the end.
+// Appends a value.
 fn keep_value<T: Drop>(values: &mut Vec<T>, value: T) -> Result<(), Memory>
     ensures { IfOk result (λ _. values.new.items ≡ values.old.items ++ value ∷ []) }
 {

@@ -1,8 +1,8 @@
-//! The rule of a table of claims, and its steps.
+//! The rule of a table of claims, and the kinds of its steps.
 use crate::hand::{Terms, View};
 use atomic_table::{Join, Play, Split, TableRule};
 
-/// The word and the hands show a deal.
+/// The rule: the counter and the seats are in a consistent state.
 pub struct Dealing;
 
 impl TableRule<(), View, Terms> for Dealing {
@@ -13,7 +13,7 @@ impl TableRule<(), View, Terms> for Dealing {
     ghost first = { opening_view };
 }
 
-/// A hand draws the next piece, or ends.
+/// A seat draws the next piece, or stops.
 pub struct Drawing;
 
 impl Play<(), View> for Drawing {
@@ -22,7 +22,7 @@ impl Play<(), View> for Drawing {
     ghost then = { Draws };
 }
 
-/// One hand becomes two.
+/// First half of a split: the seat's one state becomes two.
 pub struct Halving;
 
 impl Play<(), View> for Halving {
@@ -31,7 +31,7 @@ impl Play<(), View> for Halving {
     ghost then = { Halves };
 }
 
-/// Two hands become one.
+/// Second half of a join: the seat's two states become one.
 pub struct Merging;
 
 impl Play<(), View> for Merging {
@@ -40,7 +40,7 @@ impl Play<(), View> for Merging {
     ghost then = { Merges };
 }
 
-/// A seat gives its second hand to a new seat.
+/// Second half of a split: a new seat gets the second of the two states.
 pub struct Handing;
 
 impl Split<View> for Handing {
@@ -51,7 +51,7 @@ impl Split<View> for Handing {
     ghost right = { other_part };
 }
 
-/// A seat takes the hand of another, which is spent.
+/// First half of a join: a seat gets the state of another seat, which is spent then.
 pub struct Taking;
 
 impl Join<View> for Taking {

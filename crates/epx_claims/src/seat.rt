@@ -1,12 +1,12 @@
-//! A seat of claims.
+//! A seat: the right to draw pieces.
 ghost use Rattle.std.specs.Prelude.{◌≡◌};
 
 use crate::hand::View;
 use atomic_table::Seat;
 use std::marker::Model;
 
-/// The right to draw pieces, with a share. Contracts see the pieces that it has drawn, in order. A seat that is
-/// dropped keeps its share, so that its claims cannot be closed any more.
+/// The right to draw pieces, with a share. Contracts see the pieces that it has drawn, in order. A
+/// dropped seat keeps its share, so its claims can no longer be closed.
 #[derive(Drop)]
 pub struct ClaimSeat {
     pub(crate) seat: Seat<(), View>,
@@ -27,14 +27,14 @@ impl Model for ClaimSeat {
 }
 
 impl ClaimSeat {
-    /// How many workers it stands for.
+    /// How many workers the seat counts for.
     pub fn share(&self) -> usize
         ensures { result ≡ self.now.share }
     {
         self.share
     }
 
-    /// Whether it was told that no piece is left.
+    /// Whether a draw has found no piece left.
     pub fn ended(&self) -> bool
         ensures { result ≡ self.now.ended }
     {

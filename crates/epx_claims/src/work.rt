@@ -13,21 +13,21 @@ use epx_types::Memory;
 use std::alloc::Global;
 use std::thread::{Threads, join};
 
-/// A piece, and what the map answered for it.
+/// A piece, and the value that the map's function returned for it.
 #[derive(Drop)]
 pub(crate) struct Answer<T> {
     pub(crate) piece: usize,
     pub(crate) value: T,
 }
 
-/// What a part of the work brings back: its seat, and the answers for the pieces that it drew.
+/// The result of one part of the work: its seat, and the answers for the pieces that it drew.
 #[derive(Drop)]
 pub(crate) struct Worked<T> {
     pub(crate) seat: ClaimSeat,
     pub(crate) answers: Vec<Answer<T>>,
 }
 
-// One worker: draws until no piece is left, or until there is an error.
+// One worker: draws until no piece is left, or until an error.
 fn draw_all<T: Drop, E: From<Memory> + Drop, G: Gate, F: Fn(usize) -> Result<T, E>>(
     alloc: Global,
     claims: &Claims,
@@ -51,7 +51,7 @@ fn draw_all<T: Drop, E: From<Memory> + Drop, G: Gate, F: Fn(usize) -> Result<T, 
     Ok(Worked { seat, answers })
 }
 
-// Adds an answer at the end.
+// Appends an answer.
 fn keep<T: Drop>(answers: &mut Vec<Answer<T>>, answer: Answer<T>) -> Result<(), Memory>
     ensures { IfOk result (λ _. answers.new.items ≡ answers.old.items ++ answer ∷ []) }
 {
@@ -59,7 +59,7 @@ fn keep<T: Drop>(answers: &mut Vec<Answer<T>>, answer: Answer<T>) -> Result<(), 
     Ok(())
 }
 
-// Two parts as one.
+// Joins the seats and the answers of two parts.
 fn gather<T: Drop>(claims: &Claims, left: Worked<T>, right: Worked<T>) -> Result<Worked<T>, Memory>
     requires left { IsSeatOf claims.now left.seat }
     requires right { IsSeatOf claims.now right.seat }
@@ -79,7 +79,8 @@ fn gather<T: Drop>(claims: &Claims, left: Worked<T>, right: Worked<T>) -> Result
     Ok(Worked { seat, answers })
 }
 
-/// Splits the seat down to shares of one, each drawn by a worker in a thread of its own where one can be made, and joins the seats and the answers on the way back.
+/// Splits the seat down to shares of one. Each is drawn by one worker, in its own thread if one
+/// can be started. Joins the seats and the answers on the way back.
 #[cycle(workers)]
 pub(crate) fn work<
     R: Threads + Sync,

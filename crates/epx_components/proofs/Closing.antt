@@ -1,4 +1,4 @@
--- Open nodes from a place on that are closed: what a node was, and what it is now.
+-- Closing the open nodes from a position on: the state of a node before and after.
 use Rattle.std.proofs.Common.{◌≡◌, ◌≢◌, ℕ, ◌+◌, ◌-◌, ◌<◌, ◌≤◌, ◌⊎◌, inl, inr, ⊎_elim, List, length, get_or, take, drop, refl, sym, ◌∙◌, ap, arith}
 use Rattle.std.proofs.lemmas.List.{get_or-drop, length-drop}
 use Rattle.std.proofs.lemmas.Bool.{cases_lt}
@@ -9,13 +9,13 @@ use Rattle.epx_components.specs.SearchSteps.{Closes}
 use Rattle.epx_components.specs.declared.visit.Visit.{Visit}
 use Rattle.epx_components.specs.declared.visit.Visit.TheVariants.{Closed, Open, Unseen}
 
--- the cases of a node, with what each is
+-- `Closes` by the three states of a node before
 Closes-by : (s c : ℕ) (x y : Visit) → (x ≡ Unseen → y ≡ Unseen) → ((p : ℕ) → x ≡ Open p → ((p < s) × (y ≡ Open p)) ⊎ ((s ≤ p) × (y ≡ Closed c))) → ((d : ℕ) → x ≡ Closed d → y ≡ Closed d) → Closes s c x y
 Closes-by s c Unseen y un open' closed = un refl
 Closes-by s c (Open p) y un open' closed = open' p refl
 Closes-by s c (Closed d) y un open' closed = closed d refl
 
--- a group whose nodes were closed, and no others
+-- the nodes of a group are closed, and no others
 pub closes_group : (place new : List Visit) (opened : List ℕ) (s c : ℕ) → IsRow place opened → ((i : ℕ) → i < length (drop s opened) → visit_of new (get_or (drop s opened) i 0) ≡ Closed c) → ((k : ℕ) → ((i : ℕ) → i < length (drop s opened) → get_or (drop s opened) i 0 ≢ k) → visit_of new k ≡ visit_of place k) → (k : ℕ) → Closes s c (visit_of place k) (visit_of new k)
 closes_group place new opened s c r closed others k =
     let stands : (i : ℕ) → i < length (drop s opened) → visit_of place (get_or (drop s opened) i 0) ≡ Open (s + i) = λ i l.
@@ -33,7 +33,7 @@ closes_group place new opened s c r closed others k =
     (cases_lt p s))
     (λ d e. kept (λ q _ f. let wrong : Closed d ≡ Open q = sym e ∙ f in cc) ∙ e)
 
--- what a node was
+-- the state of a node before
 pub was_unseen : (s c : ℕ) (x y : Visit) → Closes s c x y → y ≡ Unseen → x ≡ Unseen
 was_unseen s c Unseen y h e = refl
 was_unseen s c (Open p) y h e = ⊎_elim (λ (f : (p < s) × (y ≡ Open p)). let wrong : Open p ≡ Unseen = sym f.1 ∙ e in cc) (λ (f : (s ≤ p) × (y ≡ Closed c)). let wrong : Closed c ≡ Unseen = sym f.1 ∙ e in cc) h
@@ -58,7 +58,7 @@ was_closed s c (Open q) y d h e = ⊎_elim
     h
 was_closed s c (Closed b) y d h e = inl (sym h ∙ e)
 
--- what a node is now
+-- the state of a node after
 pub stays_open : (s c : ℕ) (x y : Visit) (p : ℕ) → Closes s c x y → x ≡ Open p → p < s → y ≡ Open p
 stays_open s c x y p h e l = let f = rw e at h in ⊎_elim (λ (g : (p < s) × (y ≡ Open p)). g.1) (λ (g : (s ≤ p) × (y ≡ Closed c)). absurd (omega arith)) f
 
@@ -68,7 +68,7 @@ is_closed s c x y p h e l = let f = rw e at h in ⊎_elim (λ (g : (p < s) × (y
 pub stays_closed : (s c : ℕ) (x y : Visit) (d : ℕ) → Closes s c x y → x ≡ Closed d → y ≡ Closed d
 stays_closed s c x y d h e = rw e at h
 
--- where an edge leads now: n is the last group, which starts at s
+-- an edge after the last group is closed: n is the last group, which starts at s
 pub Leads-close : (starts : List ℕ) (n s c : ℕ) (x y x' y' : Visit) → n < length starts → get_or starts n 0 ≡ s → ((d : ℕ) → y ≡ Closed d → d < c) → Closes s c x x' → Closes s c y y' → Leads starts x y → Leads (take n starts) x' y'
 Leads-close starts n s c Unseen y x' y' l e b hx hy h = absurd h
 Leads-close starts n s c (Open p) Unseen x' y' l e b hx hy h = absurd h

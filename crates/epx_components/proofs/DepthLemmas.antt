@@ -1,4 +1,4 @@
--- The depths of the components, in the order in which they were finished.
+-- The depths of the components, in the order in which the search finishes them.
 use Rattle.std.proofs.Common.{◌≡◌, ◌≢◌, ℕ, ◌+◌, ◌<◌, ◌≤◌, ◌⊎◌, inl, inr, max, List, [], ◌∷◌, length, get_or, set, sym, subst, ◌∙◌, ap, arith, Contains}
 use Rattle.std.proofs.lemmas.Bool.{cases_eq, cases_lt}
 use Rattle.std.proofs.lemmas.List.{get_or_default, get_or-set_same, get_or-set_other}
@@ -27,7 +27,7 @@ over_target component depths own targets found over j h ne =
     let at : get_or targets h.0 0 ≡ j = get_or_default targets h.0 0 j h.1 ∙ h.2 in
     (rw at at (over.all h.0 h.1)) ne
 
--- the greater of the depth so far and that over the targets has a reason
+-- the greater of the depth so far and the depth over the targets belongs to some descent
 depth_reason : (edges : ℕ → List ℕ) (p : Parts) (depths : List ℕ) (k found depth : ℕ) → IsDepthOver p.component depths (component_of p k) (edges k) (length (edges k)) found → depth ≡ max (number_for p depths k) found → (depth ≡ number_for p depths k) ⊎ ((j : ℕ) × Contains (edges k) j × (component_of p j ≢ component_of p k) × (depth ≡ number_for p depths j + 1))
 depth_reason edges p depths k found depth over e = elim over.one [
   | inl none ↦ inl (omega arith)

@@ -1,4 +1,4 @@
--- What a graph keeps, said of its nodes and edges.
+-- The invariant of a graph, for its nodes and edges.
 use Rattle.std.proofs.Common.{ℕ, ◌<◌, length, get_or, arith, Contains}
 use Rattle.std.proofs.lemmas.List.Elements.{Contains-get_or}
 use Rattle.epx_graph.specs.Graphs.{DependencyGraph, edges_of, IsGraph}
@@ -8,6 +8,6 @@ use Rattle.epx_graph.proofs.GraphNodes.{edge_from_committed, edge_within}
 pub edge_from : (g : DependencyGraph) → IsGraph g → (k j : ℕ) → Contains (edges_of g k) j → k < length g.ids
 edge_from g is k j h = omega (arith, edge_from_committed g is k j h, is.committed_nodes)
 
--- and only nodes are led to
+-- and edges lead only to nodes
 pub edge_to : (g : DependencyGraph) → IsGraph g → (k i : ℕ) → i < length (edges_of g k) → get_or (edges_of g k) i 0 < length g.ids
 edge_to g is k i l = edge_within g is k (get_or (edges_of g k) i 0) (Contains-get_or (edges_of g k) i 0 l)

@@ -1,4 +1,4 @@
--- Where every node was seen and none is open, the components are those of the graph.
+-- When every node is seen and none is open, the finished components are those of the graph.
 use Rattle.std.proofs.Common.{◌≡◌, ℕ, ◌<◌, ◌≤◌, List, length, get_or, refl, sym, ◌∙◌, ap, arith, Contains}
 use Rattle.std.proofs.lemmas.List.{get_or_default}
 use Rattle.std.proofs.lemmas.List.Elements.{All-from_get_or}

@@ -20,7 +20,7 @@ finish_components edges n seen s place start w at in' last off =
     let all = s.order ++ group in
     let was : (k c : ℕ) → visit_of place k ≡ Closed c → (visit_of s.place k ≡ Closed c) ⊎ WasOpen start s.count (visit_of s.place k) c = λ k c e. was_closed start s.count _ _ c (at k) e in
     let counted : (k c : ℕ) → visit_of place k ≡ Closed c → c < s.count + 1 = λ k c e. elim (was k c e) [ inl h ↦ omega (arith, w.finished.counted k c h) | inr h ↦ omega (arith, h.3) ] in
-    -- a node of the order was closed already, or is closed now
+    -- a node of the order is closed already, or is closed in this step
     let old : (i : ℕ) → i < length s.order → (c : ℕ) × (visit_of s.place (get_or s.order i 0) ≡ Closed c) × (visit_of place (get_or all i 0) ≡ Closed c) = λ i l.
     let c = w.finished.closed i l in
     (c.0, c.1, rw (get_or_append_left s.order group 0 i l) (stays_closed start s.count _ _ c.0 (at _) c.1)) in

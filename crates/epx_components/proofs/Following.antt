@@ -60,7 +60,7 @@ edges_left-set (row ∷ rows) [] k l h = absurd (omega arith)
 edges_left-set (row ∷ rows) (n ∷ looked_at) zero l h = omega arith
 edges_left-set (row ∷ rows) (n ∷ looked_at) (suc k) l h = omega (arith, edges_left-set rows looked_at k (omega arith) h)
 
--- an edge brings at most one node, which the path and the starts get
+-- an edge leads to at most one new node, which is added to the path and to the starts
 arrive_less : (x : Visit) (k : ℕ) (s new : SearchState) → Arrives x k s new → (new.looked_at ≡ s.looked_at) × (length new.path + length new.starts ≤ length s.path + length s.starts + 2)
 arrive_less Unseen k s new h = (ap (λ t. t.looked_at) h, omega (arith, ap (λ t. length t.path) h, ap (λ t. length t.starts) h, length_push s.path (length s.opened), length_push s.starts (length s.opened)))
 arrive_less (Open t) k s new h = (ap (λ t. t.looked_at) h.1, omega (arith, ap (λ t. length t.path) h.1, ap length h.0.same, length-take h.0.kept s.starts))

@@ -19,7 +19,7 @@ module _ (m : List Instance) (g : DependencyGraph) (is : IsGraphOf m g) where
       let rest = descent_from_nodes c y.0 y.1 cs down.2 in
       (y.0 ∷ rest.0, ((node_reaches m g is k c x y.0 at y.1).0 down.0, λ back. down.1 ((node_reaches m g is c k y.0 x y.1 at).1 back), rest.1), omega (arith, rest.2))
 
-  -- and the other way round
+  -- the converse
   nodes_from_descent : (k : ℕ) (x : Id) → slice_get g.ids k ≡ Some x → (ys : List Id) → Descends m x ys → (cs : List ℕ) × DescendsByNodes (edges_of g) k cs × (length cs ≡ length ys)
   nodes_from_descent k x at [] down = ([], tt, refl)
   nodes_from_descent k x at (y ∷ ys) down =

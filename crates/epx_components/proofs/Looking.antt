@@ -1,4 +1,4 @@
--- An edge that was looked at, and a place that leaves the path.
+-- An edge has been looked at; a position leaves the path.
 use Rattle.std.proofs.Common.{◌≡◌, ◌≢◌, ℕ, ◌+◌, ◌-◌, ◌<◌, ◌≤◌, inl, inr, ⊎_elim, List, length, get_or, set, take, sym, subst, ◌∙◌, ap, arith, Contains, length-take, length-set}
 use Rattle.std.proofs.lemmas.List.{get_or-take, get_or_default, get_or-set_same, get_or-set_other}
 use Rattle.std.proofs.lemmas.Bool.{cases_eq, cases_lt}
@@ -53,7 +53,7 @@ look_search edges n seen s k p w is left leads =
       };
     }
 
--- the last place leaves the path, where its node has no edge left
+-- the last position leaves the path, since its node has no edge left
 pub pop_search : (edges : ℕ → List ℕ) (n seen : ℕ) (s : SearchState) (k : ℕ) → IsSearch edges n seen s → IsTop s k → length (edges k) ≤ get_or s.looked_at k 0 → IsSearch edges n seen (record s { path = take (length s.path - 1) s.path })
 pop_search edges n seen s k w top none =
     let last = length s.path - 1 in

@@ -1,4 +1,4 @@
--- The groups from a place on that become one.
+-- The groups from a position on become one.
 use Rattle.std.proofs.Common.{◌≡◌, ℕ, ◌<◌, ◌≤◌, ⊎_elim, List, sym, subst, arith, length-take}
 use Rattle.std.proofs.lemmas.Bool.{cases_lt}
 use Rattle.epx_graph.specs.NodePaths.{NodeReaches}

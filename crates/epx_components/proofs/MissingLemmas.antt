@@ -1,4 +1,5 @@
--- The marks of the components that reach one of some nodes, in the order in which they were finished.
+-- The marks of the components that reach certain nodes, in the order in which the search finishes
+-- them.
 use Rattle.std.proofs.Common.{◌≡◌, ◌≢◌, ℕ, ◌+◌, ◌<◌, ◌≤◌, ◌↔◌, ◌⊎◌, inl, inr, Bool, true, false, List, [], ◌∷◌, length, get_or, set, replicate, sym, subst, ◌∙◌, ap, arith, Contains, IsTrue}
 use Rattle.std.proofs.lemmas.Bool.{cases_lt, false≢true}
 use Rattle.std.proofs.lemmas.List.{get_or_default, get_or_past, get_or-replicate, length-replicate}
@@ -16,7 +17,7 @@ pub record AreMarks (edges : ℕ → List ℕ) (P : ℕ → Type 0) (p : Parts) 
   pub itself : (q : ℕ) → q < n → P (node_at p q) → IsTrue (mark_for p marks (node_at p q))
   pub edge : (q j : ℕ) → q < n → Contains (edges (node_at p q)) j → IsTrue (mark_for p marks j) → IsTrue (mark_for p marks (node_at p q))
 
--- what an edge to a marked component shows
+-- what follows from an edge to a marked component
 pub marks_found : (edges : ℕ → List ℕ) (P : ℕ → Type 0) (p : Parts) (marks : List Bool) (n k : ℕ) → IsPartition edges p → AreMarks edges P p marks n → LeadsToMarked p.component marks (edges k) → ReachesSome edges P k
 marks_found edges P p marks n k is m f =
     let h = Contains-get_or (edges k) f.0 0 f.1 in
@@ -84,7 +85,7 @@ path_marked edges P p marks is m k j (c ∷ cs) l le h =
 pub marks_all : (edges : ℕ → List ℕ) (P : ℕ → Type 0) (p : Parts) (marks : List Bool) → IsPartition edges p → AreMarks edges P p marks (length p.order) → (k : ℕ) → k < length p.component → IsTrue (mark_for p marks k) ↔ ReachesSome edges P k
 marks_all edges P p marks is m k l = (m.reason k l, λ r. path_marked edges P p marks is m k r.0 r.2.0 l r.1 r.2.1)
 
--- where all nodes are committed, none reaches a missing one
+-- if all nodes are committed, none reaches a missing node
 pub none_missing : (edges : ℕ → List ℕ) (p : Parts) (marks : List Bool) (count : ℕ) → IsPartition edges p → marks ≡ replicate count false → (k : ℕ) → k < length p.component → IsTrue (mark_for p marks k) ↔ ReachesMissing edges (length p.component) k
 none_missing edges p marks count is unmarked k l =
     let none : mark_for p marks k ≡ false = ap (λ ms. get_or ms (component_of p k) false) unmarked ∙ unmarked_at (component_of p k) in (

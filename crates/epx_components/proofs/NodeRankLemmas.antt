@@ -1,4 +1,4 @@
--- What is known of a component's values, said of the nodes.
+-- The values of a component are those of its nodes.
 use Rattle.std.proofs.Common.{◌≡◌, ◌<◌, ◌↔◌, ℕ, List, Bool, map, length, get_or, slice_get, Some, sym, subst, ap, ◌∙◌, arith, IsTrue}
 use Rattle.std.proofs.lemmas.List.{get_or-map}
 use Rattle.std.proofs.lemmas.Option.{slice_get_within, get_or_from_slice_get}

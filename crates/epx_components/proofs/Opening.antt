@@ -1,4 +1,4 @@
--- A node that is opened.
+-- A node is opened.
 use Rattle.std.proofs.Common.{◌≡◌, ◌≢◌, ℕ, ◌<◌, ◌≤◌, ◌⊎◌, inl, inr, ⊎_elim, List, [], ◌∷◌, ◌++◌, length, get_or, set, sym, subst, ◌∙◌, ap, arith, Contains, length-set}
 use Rattle.std.proofs.lemmas.List.{get_or-set_same, get_or-set_other, get_or_append_left, get_or_push, length_push}
 use Rattle.std.proofs.lemmas.List.Elements.{Contains-push, Contains-append_left}
@@ -32,7 +32,7 @@ enter_row place opened k r l un =
           (set_cases place k (Open m) j l);
     }
 
--- the finished components are as they were
+-- the finished components stay the same
 enter_finished : (edges : ℕ → List ℕ) (place : List Visit) (looked_at order : List ℕ) (count k m : ℕ) → AreFinished edges place looked_at order count → k < length place → visit_of place k ≡ Unseen → AreFinished edges (set place k (Open m)) looked_at order count
 enter_finished edges place looked_at order count k m d l un =
     let new = set place k (Open m) in

@@ -1,4 +1,4 @@
--- What holds of a partition node by node, and after a write for one component.
+-- Facts of a partition node by node, and after a write for one component.
 use Rattle.std.proofs.Common.{◌≡◌, ◌≢◌, ◌⊎◌, inl, inr, ⊎_elim, ℕ, ◌<◌, List, length, get_or, set, ap, ◌∙◌, All}
 use Rattle.std.proofs.lemmas.Bool.{cases_eq}
 use Rattle.std.proofs.lemmas.List.{get_or-set_same, get_or-set_other}
@@ -14,7 +14,7 @@ component_below edges p is k l = All-get_or (λ c. c < p.count) p.component k 0 
 pub targets_below : (edges : ℕ → List ℕ) (p : Parts) → IsPartition edges p → (k : ℕ) → All (λ j. j < length p.component) (edges k)
 targets_below edges p is k = All-from_get_or (λ j. j < length p.component) (edges k) 0 (λ x l. is.within k _ (Contains-get_or (edges k) x 0 l))
 
--- what a list has for a node, once it was written for the component of b
+-- the value of a node after a write for the component of b
 pub set_for : {A : Type 0} (none : A) (p : Parts) (xs : List A) (b : ℕ) (x : A) → component_of p b < length xs → (k : ℕ) → ((component_of p k ≡ component_of p b) × (get_or (set xs (component_of p b) x) (component_of p k) none ≡ x)) ⊎ ((component_of p k ≢ component_of p b) × (get_or (set xs (component_of p b) x) (component_of p k) none ≡ get_or xs (component_of p k) none))
 set_for none p xs b x l k =
     let own = component_of p b in

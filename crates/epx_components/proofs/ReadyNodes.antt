@@ -1,4 +1,4 @@
--- A committed node is that of a ready instance exactly where it reaches no missing node.
+-- A committed node reaches no missing node exactly if its instance is ready.
 use Rattle.std.proofs.Common.{◌≡◌, ℕ, ◌<◌, List, slice_get, Some, inl, inr, arith}
 use Rattle.std.proofs.lemmas.Bool.{cases_lt}
 use Rattle.std.proofs.lemmas.Option.{slice_get_within}

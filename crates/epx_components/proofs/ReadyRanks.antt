@@ -19,7 +19,7 @@ use Rattle.epx_components.specs.NodeRanks.{IsNodeRank}
 use Rattle.epx_components.specs.declared.node_ranks.NodeRank.{NodeRank}
 
 module _ (m : List Instance) (g : DependencyGraph) (is : IsGraphOf m g) where
-  -- the node with the number of a place of the map is that of the instance there
+  -- the node with the number of a position of the map is that of the instance there
   pub node_of_place : (k : ℕ) (e : Instance) → slice_get m k ≡ Some e → k < g.committed → slice_get g.ids k ≡ Some e.id
   node_of_place k e at l =
       let x = node_id g is.graph k (omega (arith, is.graph.committed_nodes)) in
@@ -28,7 +28,7 @@ module _ (m : List Instance) (g : DependencyGraph) (is : IsGraphOf m g) where
       let one : d.0 ≡ e = cc same in
       x.1 ∙ ap Some (sym d.2 ∙ ap (λ (i : Instance). i.id) one)
 
-  -- instances with one Id are one
+  -- instances with equal Ids are equal
   instance_is_one : (d e : Instance) → Contains m d → Contains m e → d.id ≡ e.id → d ≡ e
   instance_is_one d e in_d in_e same =
       let rising = subst IsRising is.committed is.graph.committed_rise in
@@ -47,7 +47,7 @@ module _ (m : List Instance) (g : DependencyGraph) (is : IsGraphOf m g) where
         depth = depth_from_node m g is k e.id s.depth node stands.depth;
       }
 
--- the same of what is left of a map, from the whole entry
+-- the same for what is left of a map, with the entry of the whole map
 pub rank_left : (done : List Id) (m : List Instance) (g : DependencyGraph) → IsGraphOf (remaining done m) g → (k : ℕ) (x : Id) (e : Instance) (s : NodeRank) (leader : Id) → slice_get g.ids k ≡ Some x → Contains m e → e.id ≡ x → k < g.committed → IsNodeRank g k s → ¬ IsTrue s.reaches_missing → slice_get g.ids s.leader ≡ Some leader → IsRanked (remaining done m) (record { id = x; seq = e.seq; leader = leader; depth = s.depth })
 rank_left done m g is k x e s leader at in_m same l stands complete to =
     let committed = (node_committed (remaining done m) g is k x at).0 l in

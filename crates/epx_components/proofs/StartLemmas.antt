@@ -1,10 +1,10 @@
--- Rising lists of starts, and the places from a group on, once starts are added or cut.
+-- Rising lists of starts, and the positions from a group on, after starts are added or cut.
 use Rattle.std.proofs.Common.{◌≡◌, ℕ, ◌<◌, ◌≤◌, ⊎_elim, List, [], ◌∷◌, ◌++◌, length, get_or, take, refl, sym, subst, ◌∙◌, arith, length-take}
 use Rattle.std.proofs.lemmas.List.{get_or-take, get_or_append_left, get_or_push, length_push, get_or_past}
 use Rattle.std.proofs.lemmas.Bool.{cases_lt}
 use Rattle.epx_components.specs.Starts.{IsFrom, IsRising}
 
--- an element of a list with one more
+-- an element of a list with one more at its end
 pub push_cases : (xs : List ℕ) (x : ℕ) (P : ℕ → ℕ → Type 0) → ((i : ℕ) → i < length xs → P i (get_or xs i 0)) → P (length xs) x → (i : ℕ) → i < length (xs ++ x ∷ []) → P i (get_or (xs ++ x ∷ []) i 0)
 push_cases xs x P old new i h =
     ⊎_elim
@@ -61,7 +61,7 @@ IsFrom-take starts n p q h i l =
     let all : i < length starts = omega (arith, length-take n starts) in
     rw (get_or-take n starts i 0) (h i all)
 
--- what holds of the starts that are left, where those that were cut are past p
+-- what holds of the starts left, if the starts that were cut are greater than p
 pub IsFrom-untake : (starts : List ℕ) (n p q : ℕ) → ((i : ℕ) → n ≤ i → i < length starts → p < get_or starts i 0) → IsFrom (take n starts) p q → IsFrom starts p q
 IsFrom-untake starts n p q past h i l le =
     ⊎_elim

@@ -1,4 +1,4 @@
--- A node that was seen, and the search that goes on from it.
+-- A node that was seen already, and the search from a node.
 use Rattle.std.proofs.Common.{◌≡◌, ◌≢◌, ℕ, ◌+◌, ◌<◌, ⊎_elim, List, length, sym, subst, ◌∙◌, arith, set}
 use Rattle.std.proofs.lemmas.Bool.{cases_eq}
 use Rattle.std.proofs.lemmas.List.{get_or-set_same}
@@ -25,7 +25,7 @@ seen_more edges n k s w h = record {
   finished = w.finished;
 }
 
--- A search goes on from a node, where nothing is open.
+-- the search from a node, when nothing is open
 pub root_search : (edges : ℕ → List ℕ) (n k : ℕ) (s new : SearchState) (x : Visit) → visit_of s.place k ≡ x → IsSearch edges n k s → k < n → length s.starts ≡ 0 → Arrives x k s new → IsSearch edges n (k + 1) new
 root_search edges n k s new Unseen e w l none h =
     let P : SearchState → Type 0 = λ t. IsSearch edges n (k + 1) t in

@@ -1,4 +1,4 @@
--- What the ends of the path and of the starts say.
+-- What follows from the last elements of the path and of the starts.
 use Rattle.std.proofs.Common.{◌≡◌, ℕ, ◌-◌, ◌<◌, ◌≤◌, ⊎_elim, List, length, get_or, sym, ◌∙◌, ap, arith}
 use Rattle.std.proofs.lemmas.Bool.{cases_lt}
 use Rattle.epx_components.proofs.VisitLemmas.{placed_below}

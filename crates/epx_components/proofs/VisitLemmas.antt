@@ -1,4 +1,4 @@
--- Places of nodes: a write, and where edges lead once the groups are others.
+-- States of nodes: after a write, and where edges lead after the groups change.
 use Rattle.std.proofs.Common.{◌≡◌, ◌≢◌, ℕ, ◌<◌, ◌≤◌, ◌⊎◌, inl, inr, ⊎_elim, List, [], ◌∷◌, ◌++◌, length, set, take, refl, ◌∙◌, ap}
 use Rattle.std.proofs.lemmas.List.{get_or-set_same, get_or-set_other, get_or_past}
 use Rattle.std.proofs.lemmas.Bool.{cases_eq, cases_lt}
@@ -9,7 +9,7 @@ use Rattle.epx_components.specs.SearchStates.{visit_of}
 use Rattle.epx_components.specs.declared.visit.Visit.{Visit}
 use Rattle.epx_components.specs.declared.visit.Visit.TheVariants.{Closed, Open, Unseen}
 
--- a node after a write
+-- the state of a node after a write
 pub set_cases : (ps : List Visit) (k : ℕ) (x : Visit) (j : ℕ) → k < length ps → ((j ≡ k) × (visit_of (set ps k x) j ≡ x)) ⊎ ((j ≢ k) × (visit_of (set ps k x) j ≡ visit_of ps j))
 set_cases ps k x j l =
     ⊎_elim
@@ -17,7 +17,7 @@ set_cases ps k x j l =
     (λ (ne : j ≢ k). inr (ne, get_or-set_other ps k j x Unseen ne))
     (cases_eq j k)
 
--- a node that has a place is in the list
+-- a node that is not unseen is in the list
 pub placed_below : (ps : List Visit) (k : ℕ) → visit_of ps k ≢ Unseen → k < length ps
 placed_below ps k h = ⊎_elim (λ (l : k < length ps). l) (λ (l : length ps ≤ k). absurd (h (get_or_past ps k Unseen l))) (cases_lt k (length ps))
 
@@ -33,7 +33,7 @@ Leads-to starts Unseen Unseen h = absurd h
 Leads-to starts (Open p) Unseen h = absurd h
 Leads-to starts (Closed c) Unseen h = absurd h
 
--- starts that keep each place of the row from its groups on
+-- an edge stays good if the new starts keep each position in the groups from its own on
 Leads-weaker : (old new : List ℕ) (x y : Visit) → ((p q : ℕ) → x ≡ Open p → IsFrom old p q → IsFrom new p q) → Leads old x y → Leads new x y
 Leads-weaker old new Unseen y on h = absurd h
 Leads-weaker old new (Open p) Unseen on h = absurd h

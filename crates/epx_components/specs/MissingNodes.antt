@@ -1,8 +1,8 @@
--- Nodes that are not committed: those from some number on.
+-- Missing nodes: those from some number on.
 use Rattle.std.specs.Prelude.{ℕ, ◌≤◌, List}
 use Rattle.epx_graph.specs.NodePaths.{NodeReaches}
 
--- k reaches one of some nodes
+-- k reaches a node for which the fact holds
 abbrev pub ReachesSome : (ℕ → List ℕ) → (ℕ → Type 0) → ℕ → Type 0
 ReachesSome edges P k = (j : ℕ) × P j × NodeReaches edges k j
 

@@ -1,4 +1,4 @@
--- The depth of a node: its longest descent through components.
+-- The depth of a node: the length of its longest descent through components.
 use Rattle.std.specs.Prelude.{◌≡◌, ℕ, ◌≤◌, List, [], ◌∷◌, length}
 use Rattle.epx_graph.specs.NodePaths.{NodeReaches}
 

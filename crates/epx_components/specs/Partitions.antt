@@ -1,16 +1,17 @@
--- The nodes of a graph in components, numbered so that no edge leads to a component with a greater number.
+-- The components of a graph's nodes, numbered so that no edge leads to a component with a greater
+-- number.
 use Rattle.std.specs.Prelude.{◌≡◌, ℕ, ◌<◌, ◌≤◌, List, length, slice_index, slice_index_or, Bool, false, Contains, All}
 use Rattle.epx_graph.specs.Graphs.{DependencyGraph, edges_of}
 use Rattle.epx_graph.specs.NodePaths.{NodeReaches}
 use Rattle.epx_components.specs.declared.partition.Partition.{Partition}
 
--- the component of each node, the nodes component by component, and how many components there are
+-- the component of each node, the nodes by rising component, and the number of components
 pub record Parts : Type 0 where
   pub component : List ℕ
   pub order : List ℕ
   pub count : ℕ
 
--- a partition without where it lies in memory
+-- the model of a partition
 abbrev pub parts : Partition → Parts
 parts p = record { component = p.component.items; order = p.order.items; count = p.count }
 
@@ -27,7 +28,7 @@ pub record IsPartition (edges : ℕ → List ℕ) (p : Parts) : Type 0 where
   pub falls : EdgesFall edges p.component
   pub joined : MembersReach edges p.component
   pub counted : All (λ c. c < p.count) p.component
-  -- each node stands in the order, which goes from component to component
+  -- the order has each node, by rising component
   pub listed : (k : ℕ) → k < length p.component → Contains p.order k
   pub nodes : All (λ k. k < length p.component) p.order
   pub sorted : (i j : ℕ) → i ≤ j → j < length p.order → slice_index p.component (slice_index p.order i) ≤ slice_index p.component (slice_index p.order j)
@@ -41,14 +42,14 @@ pub record IsPartitionOf (g : DependencyGraph) (p : Parts) : Type 0 where
 abbrev pub component_of : Parts → ℕ → ℕ
 component_of p k = slice_index p.component k
 
--- the node at this place of the order
+-- the node at this position of the order
 abbrev pub node_at : Parts → ℕ → ℕ
 node_at p i = slice_index p.order i
 
--- what a list with a number for each component has for that of a node
+-- the number of a node's component, from a list with a number for each component
 abbrev pub number_for : Parts → List ℕ → ℕ → ℕ
 number_for p numbers k = slice_index numbers (component_of p k)
 
--- what a list with a mark for each component has for that of a node
+-- the mark of a node's component, from a list with a mark for each component
 abbrev pub mark_for : Parts → List Bool → ℕ → Bool
 mark_for p marks k = slice_index_or marks (component_of p k) false

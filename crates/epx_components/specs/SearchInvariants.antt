@@ -1,4 +1,4 @@
--- What a search for components keeps true.
+-- The invariant of the search for components.
 use Rattle.std.specs.Prelude.{◌≡◌, ◌≢◌, ℕ, ◌<◌, ◌≤◌, ◌⊎◌, List, length, slice_index, Contains}
 use Rattle.epx_graph.specs.NodePaths.{NodeReaches}
 use Rattle.epx_components.specs.declared.visit.Visit.{Visit}
@@ -6,7 +6,7 @@ use Rattle.epx_components.specs.declared.visit.Visit.TheVariants.{Unseen, Open, 
 use Rattle.epx_components.specs.Starts.{IsRising, IsFrom}
 use Rattle.epx_components.specs.SearchStates.{SearchState, visit_of}
 
--- where an edge that was looked at leads
+-- an edge that was looked at leads from a node in the first state to a node in the second
 abbrev pub Leads : List ℕ → Visit → Visit → Type 0
 Leads starts Unseen to = ⊥
 Leads starts (Open p) Unseen = ⊥
@@ -16,12 +16,12 @@ Leads starts (Closed c) Unseen = ⊥
 Leads starts (Closed c) (Open q) = ⊥
 Leads starts (Closed c) (Closed d) = d ≤ c
 
--- the open nodes are those in the row, each at its place
+-- the open nodes are those of the row, each at its position
 pub record IsRow (place : List Visit) (opened : List ℕ) : Type 0 where
   pub stands : (p : ℕ) → p < length opened → visit_of place (slice_index opened p) ≡ Open p
   pub placed : (k p : ℕ) → visit_of place k ≡ Open p → (p < length opened) × (slice_index opened p ≡ k)
 
--- the finished components, and their nodes in order
+-- the finished components, and their nodes by rising component
 pub record AreFinished (edges : ℕ → List ℕ) (place : List Visit) (looked_at order : List ℕ) (count : ℕ) : Type 0 where
   pub counted : (k c : ℕ) → visit_of place k ≡ Closed c → c < count
   pub joined : (k j c : ℕ) → visit_of place k ≡ Closed c → visit_of place j ≡ Closed c → NodeReaches edges k j
@@ -31,7 +31,7 @@ pub record AreFinished (edges : ℕ → List ℕ) (place : List Visit) (looked_a
   pub sorted : (i j c d : ℕ) → i ≤ j → j < length order → visit_of place (slice_index order i) ≡ Closed c → visit_of place (slice_index order j) ≡ Closed d → c ≤ d
   pub count_below : count ≤ length order
 
--- a search that has seen the nodes below seen, of n
+-- a search of n nodes that has seen all nodes below `seen`
 pub record IsSearch (edges : ℕ → List ℕ) (n seen : ℕ) (s : SearchState) : Type 0 where
   pub places : length s.place ≡ n
   pub looks : length s.looked_at ≡ n
@@ -41,11 +41,11 @@ pub record IsSearch (edges : ℕ → List ℕ) (n seen : ℕ) (s : SearchState) 
   pub starts : IsRising s.starts (length s.opened)
   pub begins : slice_index s.starts 0 ≡ 0
   pub grouped : 0 < length s.opened → 0 < length s.starts
-  -- an open node that isn't on the path has no edge left
+  -- an open node that is not on the path has no edge left
   pub path : IsRising s.path (length s.opened)
   pub waits : (k p : ℕ) → visit_of s.place k ≡ Open p → (length (edges k) ≤ slice_index s.looked_at k) ⊎ Contains s.path p
   pub leads : (k i : ℕ) → i < slice_index s.looked_at k → Leads s.starts (visit_of s.place k) (visit_of s.place (slice_index (edges k) i))
-  -- an open node reaches those of its own group and of the later ones
+  -- an open node reaches the nodes of its own group and of later groups
   pub reaches : (k j p q : ℕ) → visit_of s.place k ≡ Open p → visit_of s.place j ≡ Open q → IsFrom s.starts p q → NodeReaches edges k j
   pub finished : AreFinished edges s.place s.looked_at s.order s.count
 

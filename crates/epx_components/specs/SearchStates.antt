@@ -1,10 +1,10 @@
--- What a search for components is seen as.
+-- The model of a search for components.
 use Rattle.std.specs.Prelude.{ℕ, List, slice_index_or}
 use Rattle.epx_components.specs.declared.visit.Visit.{Visit}
 use Rattle.epx_components.specs.declared.visit.Visit.TheVariants.{Unseen}
 use Rattle.epx_components.specs.declared.search.Search.{Search}
 
--- a search without where it lies in memory
+-- the lists and the count of a search
 pub record SearchState : Type 0 where
   pub place : List Visit
   pub looked_at : List ℕ
@@ -25,6 +25,6 @@ state s = record {
   count = s.count;
 }
 
--- where a node stands
+-- the progress of the search at a node
 abbrev pub visit_of : List Visit → ℕ → Visit
 visit_of places k = slice_index_or places k Unseen

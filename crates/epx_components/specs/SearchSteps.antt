@@ -20,11 +20,11 @@ pub record IsTop (s : SearchState) (k : ℕ) : Type 0 where
   pub node : slice_index s.opened place ≡ k
   pub is_last : IsInLast s.starts place
 
--- the path ends before the last group
+-- no node of the path is in the last group
 abbrev pub IsOff : SearchState → Type 0
 IsOff s = (i : ℕ) → i < length s.path → slice_index s.path i < slice_index s.starts (length s.starts - 1)
 
--- with a node opened, as a group of its own
+-- after a node is opened as a group of its own
 abbrev pub entered : SearchState → ℕ → SearchState
 entered s k = record s {
   place = slice_set s.place k (Open (length s.opened));
@@ -33,23 +33,23 @@ entered s k = record s {
   starts = s.starts ++ length s.opened ∷ [];
 }
 
--- with the next edge of a node looked at
+-- after the next edge of a node is looked at
 abbrev pub looked : SearchState → ℕ → SearchState
 looked s k = record s { looked_at = slice_set s.looked_at k (slice_index s.looked_at k + 1) }
 
--- what an edge to a node at this place does
+-- what an edge does that leads to a node in this state
 abbrev pub Arrives : Visit → ℕ → SearchState → SearchState → Type 0
 Arrives Unseen k old new = new ≡ entered old k
 Arrives (Open t) k old new = IsCut t old.starts new.starts × (new ≡ record old { starts = new.starts })
 Arrives (Closed c) k old new = new ≡ old
 
--- the open nodes from a place on are closed
+-- the open nodes from a position on are closed
 abbrev pub Closes : ℕ → ℕ → Visit → Visit → Type 0
 Closes start c Unseen new = new ≡ Unseen
 Closes start c (Open p) new = ((p < start) × (new ≡ Open p)) ⊎ ((start ≤ p) × (new ≡ Closed c))
 Closes start c (Closed d) new = new ≡ Closed d
 
--- the last group became a component
+-- the last group has become a component
 pub record IsFinished (old new : SearchState) : Type 0 where
   pub start : ℕ
   pub last : (0 < length old.starts) × (slice_index old.starts (length old.starts - 1) ≡ start)

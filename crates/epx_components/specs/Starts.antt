@@ -1,4 +1,4 @@
--- The groups of a row: where each starts, in a list of rising numbers.
+-- The groups of a row: the position where each starts, in rising order.
 use Rattle.std.specs.Prelude.{◌≡◌, ℕ, ◌<◌, ◌≤◌, List, length, take, slice_index}
 
 -- numbers below n, each greater than those before it
@@ -6,15 +6,15 @@ pub record IsRising (xs : List ℕ) (n : ℕ) : Type 0 where
   pub below : (i : ℕ) → i < length xs → slice_index xs i < n
   pub rises : (i j : ℕ) → i < j → j < length xs → slice_index xs i < slice_index xs j
 
--- q stands in the group of p or in a later one
+-- position q is in the group of p or in a later one
 abbrev pub IsFrom : List ℕ → ℕ → ℕ → Type 0
 IsFrom starts p q = (i : ℕ) → i < length starts → slice_index starts i ≤ p → slice_index starts i ≤ q
 
--- p stands in the last group
+-- position p is in the last group
 abbrev pub IsInLast : List ℕ → ℕ → Type 0
 IsInLast starts p = (i : ℕ) → i < length starts → slice_index starts i ≤ p
 
--- new is old without what is past t
+-- new is old without the numbers greater than t
 pub record IsCut (t : ℕ) (old new : List ℕ) : Type 0 where
   pub kept : ℕ
   pub same : new ≡ take kept old

@@ -1,4 +1,4 @@
--- What the edges of a node lead to: nodes, of which each is in some component.
+-- The targets of a node's edges, and the components that they are in.
 use Rattle.std.specs.Prelude.{◌≡◌, ◌≢◌, ◌⊎◌, ℕ, ◌+◌, ◌<◌, ◌≤◌, List, Bool, false, length, slice_index, slice_index_or, IsTrue}
 
 -- a target in a component that is marked

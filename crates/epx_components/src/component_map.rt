@@ -1,4 +1,4 @@
-//! The strongly connected components of the graph.
+//! The strongly connected components of a graph.
 ghost use Rattle.std.specs.Prelude.{◌≡◌, ℕ, ◌<◌, List, Some, length, slice_get, slice_index, IfOk};
 ghost use Rattle.epx_types.specs.declared.id.Id.{Id};
 ghost use Rattle.epx_types.specs.Components.{IsLeader};
@@ -14,7 +14,7 @@ use epx_types::Memory;
 use std::alloc::Global;
 use std::marker::Model;
 
-/// The component of each node. Contracts see the leaders, node by node.
+/// The component of each node. Contracts see each node's leader.
 #[derive(Debug, Drop)]
 pub struct ComponentMap {
     component: Vec<usize>,
@@ -31,8 +31,9 @@ impl Model for ComponentMap {
     ghost invariant = { λ m. All (λ c. c < length m.leaders.items) m.component.items };
 }
 
-/// The components of a graph, in time linear in its nodes and edges. Nodes are in one component
-/// where each reaches the other, so a missing instance is one by itself.
+/// The components of a graph. Two nodes are in one component if each reaches the other, so a
+/// missing instance is a component by itself. Takes time linear in nodes and edges. `Memory` is
+/// the only error.
 pub fn components(alloc: Global, graph: &Graph) -> Result<ComponentMap, Memory>
     ensures len { IfOk result (λ found. length found ≡ length graph.now.ids) }
     ensures leaders { IfOk result (λ found. (k : ℕ) → k < length graph.now.ids → IsNodeLeader (edges_of graph.now) k (slice_index found k)) }
@@ -45,14 +46,15 @@ pub fn components(alloc: Global, graph: &Graph) -> Result<ComponentMap, Memory>
 }
 
 impl ComponentMap {
-    /// How many nodes there are.
+    /// The number of nodes.
     pub fn len(&self) -> usize
         ensures { result ≡ length self.now }
     {
         self.component.len()
     }
 
-    /// The least node of the component of a node: two nodes are in one component where it is the same.
+    /// The leader of a node's component: its least node. Two nodes are in one component exactly if
+    /// their leaders are equal. Takes constant time.
     pub fn leader_of(&self, node: usize) -> usize
         requires { node < length self.now }
         ensures { result ≡ slice_index self.now node }

@@ -10,7 +10,7 @@ use epx_graph::Graph;
 use epx_types::Memory;
 use std::alloc::Global;
 
-/// The greatest number of steps down from each component.
+/// The depth of each component: the greatest number of steps down from it.
 pub(crate) fn find_depths(
     alloc: Global,
     graph: &Graph,
@@ -29,7 +29,8 @@ pub(crate) fn find_depths(
     Ok(depths)
 }
 
-/// One more than the greatest depth of the other components that edges lead to, or 0.
+/// One more than the greatest depth of the other components that the edges lead to, or 0 if there
+/// is none.
 fn depth_over(targets: &[usize], component: &[usize], depths: &[usize], own: usize) -> usize
     requires targets { All (λ j. j < length component.now) targets.now }
     requires falls { (i : ℕ) → i < length targets.now → slice_index component.now (slice_index targets.now i) ≤ own }

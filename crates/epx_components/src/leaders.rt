@@ -9,7 +9,7 @@ use epx_graph::Graph;
 use epx_types::Memory;
 use std::alloc::Global;
 
-/// The least node of each component.
+/// The leader of each component: its least node.
 pub(crate) fn find_leaders(
     alloc: Global,
     graph: &Graph,

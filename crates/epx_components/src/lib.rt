@@ -1,5 +1,5 @@
-//! The strongly connected components of a dependency graph: which nodes each holds, its leader, how
-//! deep it lies, and whether it reaches an instance that no log commits.
+//! The strongly connected components of a dependency graph: the nodes of each, its leader, its
+//! depth, and whether it reaches an instance that no log commits.
 #![tactic(auto)]
 
 mod component_map;

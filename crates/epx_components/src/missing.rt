@@ -1,4 +1,4 @@
-//! The components that reach a missing node.
+//! Finds the components that reach a missing node.
 ghost use Rattle.std.specs.Prelude.{◌≡◌, ◌↔◌, ◌⊎◌, ℕ, ◌<◌, ◌≤◌, length, All, IsTrue, IfOk};
 ghost use Rattle.epx_graph.specs.Graphs.{edges_of};
 ghost use Rattle.epx_components.specs.MissingNodes.{ReachesMissing};
@@ -10,7 +10,7 @@ use epx_graph::Graph;
 use epx_types::Memory;
 use std::alloc::Global;
 
-/// Whether each component reaches a node that is not committed.
+/// For each component, whether it reaches a missing node. Takes time linear in nodes and edges.
 pub fn find_missing(
     alloc: Global,
     graph: &Graph,
@@ -21,7 +21,7 @@ pub fn find_missing(
     ensures each { IfOk result (λ marks. (k : ℕ) → k < length graph.now.ids → IsTrue (mark_for (parts partition.now) marks.items k) ↔ ReachesMissing (edges_of graph.now) graph.now.committed k) }
 {
     let mut marks = vec![in alloc; false; partition.count]?;
-    // Where no node is missing, no edge has to be looked at.
+    // If no node is missing, no edge needs to be looked at.
     if graph.committed_len() == graph.len() {
         return Ok(marks);
     }
@@ -33,7 +33,7 @@ pub fn find_missing(
     Ok(marks)
 }
 
-/// Whether a node is missing itself or has an edge to a component that is marked.
+/// Whether a node is missing, or has an edge to a marked component.
 fn leads_to_missing(graph: &Graph, node: usize, component: &[usize], marks: &[bool]) -> bool
     requires node { node < length graph.now.ids }
     requires targets { All (λ j. j < length component.now) (edges_of graph.now node) }
@@ -46,7 +46,7 @@ fn leads_to_missing(graph: &Graph, node: usize, component: &[usize], marks: &[bo
     any_marked(graph.edges(node), component, marks)
 }
 
-/// Whether an edge leads to a component that is marked.
+/// Whether one of the targets is in a marked component.
 pub fn any_marked(targets: &[usize], component: &[usize], marks: &[bool]) -> bool
     requires targets { All (λ j. j < length component.now) targets.now }
     requires counted { All (λ c. c < length marks.now) component.now }

@@ -1,4 +1,4 @@
-//! What the order needs to know of each node.
+//! What the execution order needs of each node.
 ghost use Rattle.std.specs.Prelude.{◌≡◌, ℕ, ◌<◌, length, slice_get, Some, IfOk};
 ghost use Rattle.epx_components.specs.NodeRanks.{IsNodeRank};
 
@@ -11,7 +11,7 @@ use epx_types::Memory;
 use std::alloc::Global;
 use std::marker::Model;
 
-/// A node's leader, its depth, and whether it reaches a node that is not committed.
+/// A node's leader, its depth, and whether it reaches a missing node.
 #[derive(Clone, Copy, Debug, PartialEq, Eq)]
 pub struct NodeRank {
     pub leader: usize,
@@ -19,7 +19,7 @@ pub struct NodeRank {
     pub reaches_missing: bool,
 }
 
-/// The rank of each node, which those of a component share.
+/// The rank of each node. The nodes of a component share their rank.
 #[derive(Debug, Drop)]
 pub struct NodeRanks {
     component: Vec<usize>,
@@ -41,7 +41,8 @@ impl Model for NodeRanks {
 }
 
 impl NodeRanks {
-    /// The ranks of the nodes of a graph, in time linear in nodes and edges.
+    /// The ranks of the nodes of a graph. Takes time linear in nodes and edges. `Memory` is the
+    /// only error.
     pub fn of(alloc: Global, graph: &Graph) -> Result<NodeRanks, Memory>
         ensures len { IfOk result (λ found. length found ≡ length graph.now.ids) }
         ensures each { IfOk result (λ found. (k : ℕ) (node_rank : NodeRank) → slice_get found k ≡ Some node_rank → IsNodeRank graph.now k node_rank) }
@@ -59,7 +60,7 @@ impl NodeRanks {
         })
     }
 
-    /// The rank of a node.
+    /// The rank of a node. Takes constant time.
     pub fn get(&self, node: usize) -> NodeRank
         requires { node < length self.now }
         ensures { slice_get self.now node ≡ Some result }

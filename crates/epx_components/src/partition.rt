@@ -1,12 +1,12 @@
-//! The nodes of a graph in components.
+//! The components of a graph's nodes, by number.
 
-/// Strongly connected components by numbers, the ones that are reached before those that reach them.
+/// Strongly connected components with numbers: no edge leads to a component with a greater number.
 #[derive(Debug, Drop)]
 pub struct Partition {
     /// The component of each node.
     pub component: Vec<usize>,
-    /// The nodes, component by component.
+    /// The nodes, by rising component.
     pub order: Vec<usize>,
-    /// How many components there are.
+    /// The number of components.
     pub count: usize,
 }

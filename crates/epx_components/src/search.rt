@@ -1,4 +1,4 @@
-//! The search for components.
+//! The depth-first search for components.
 ghost use Rattle.std.specs.Prelude.{◌≡◌, ℕ, List, ◌+◌, ◌<◌, ◌≤◌, length, OnOk, IfOk, IfSome, IfNone};
 ghost use Rattle.epx_graph.specs.Graphs.{IsGraph, edges_of};
 ghost use Rattle.epx_components.specs.Partitions.{parts, IsPartitionOf};
@@ -15,28 +15,28 @@ use epx_graph::Graph;
 use epx_types::Memory;
 use std::alloc::Global;
 
-/// A search in depth that keeps its own path, so that no graph is too deep for it.
+/// A depth-first search with its own stack, so no graph is too deep for it.
 ///
-/// The open nodes stand in a row, in groups of nodes that reach each other. An edge back into the
-/// row merges the groups from there on; a group without an edge left is a component.
+/// The open nodes are in a row, in groups of nodes that reach each other. An edge back into the
+/// row merges the groups from there on. A last group without an edge left is a component.
 #[derive(Drop)]
 pub(crate) struct Search {
     place: Vec<Visit>,
-    /// How many of a node's edges were looked at.
+    /// How many edges of each node have been looked at.
     looked_at: Vec<usize>,
     /// The row of open nodes.
     opened: Vec<usize>,
-    /// The places in the row of the nodes that may have an edge left.
+    /// The positions in the row of the nodes that may have an edge left.
     path: Vec<usize>,
-    /// Where each group starts in the row.
+    /// The position in the row where each group starts.
     starts: Vec<usize>,
-    /// The nodes of the finished components.
+    /// The nodes of the finished components, by rising component.
     order: Vec<usize>,
-    /// How many components are finished.
+    /// The number of finished components.
     count: usize,
 }
 
-/// The components of a graph.
+/// The components of a graph. Takes time linear in nodes and edges. `Memory` is the only error.
 pub fn find_components(alloc: Global, graph: &Graph) -> Result<Partition, Memory>
     ensures { IfOk result (λ p. IsPartitionOf graph.now (parts p)) }
 {
@@ -70,7 +70,7 @@ impl Search {
         })
     }
 
-    /// Finishes all that a node reaches.
+    /// Finishes every node that the root reaches.
     pub(crate) fn explore(&mut self, graph: &Graph, root: usize) -> Result<(), Memory>
         requires graph { IsGraph graph.now }
         requires root { root < length graph.now.ids }
@@ -86,7 +86,7 @@ impl Search {
         Ok(())
     }
 
-    /// Looks at an edge of the last group, or finishes it.
+    /// Looks at one edge of the last group, or finishes the group if it has none left.
     fn step(&mut self, graph: &Graph) -> Result<(), Memory>
         requires graph { IsGraph graph.now }
         requires search { (seen : ℕ) × IsSearch (edges_of graph.now) (length graph.now.ids) seen (state self.old) }
@@ -106,7 +106,7 @@ impl Search {
         }
     }
 
-    /// The node at the end of the path, if it is in the last group.
+    /// The last node of the path, if it is in the last group.
     fn top(&self) -> Option<usize>
         requires some { 0 < length (state self.now).starts }
         requires starts { IsRising (state self.now).starts (length (state self.now).opened) }
@@ -121,7 +121,7 @@ impl Search {
         }
     }
 
-    /// Looks at the next edge of a node of the last group.
+    /// Looks at the next edge of a node in the last group.
     fn follow(&mut self, graph: &Graph, node: usize) -> Result<(), Memory>
         requires graph { IsGraph graph.now }
         requires search { (seen : ℕ) × IsSearch (edges_of graph.now) (length graph.now.ids) seen (state self.old) }
@@ -135,7 +135,8 @@ impl Search {
         self.arrive(target)
     }
 
-    /// Comes to a node: opens it, or merges the groups from its own on.
+    /// Arrives at a node: opens it if it is unseen. If it is open, merges the groups from its own
+    /// on.
     fn arrive(&mut self, node: usize) -> Result<(), Memory>
         requires node { node < length (state self.old).place }
         requires starts { IsRising (state self.old).starts (length (state self.old).opened) }
@@ -149,7 +150,7 @@ impl Search {
         Ok(())
     }
 
-    /// Opens a node, as a group of its own.
+    /// Opens a node as a group of its own.
     fn enter(&mut self, node: usize) -> Result<(), Memory>
         requires { node < length (state self.old).place }
         ensures { OnOk result (state self.new ≡ entered (state self.old) node) }

@@ -1,4 +1,4 @@
-//! How far the search is with the nodes.
+//! The progress of the search, node by node.
 ghost use Rattle.std.specs.Prelude.{◌≡◌, ◌≢◌, ℕ, ◌<◌, length, slice_index, IfOk};
 ghost use Rattle.epx_components.specs.SearchStates.{visit_of};
 ghost use Rattle.epx_components.specs.declared.visit.Visit.TheVariants.{Closed};
@@ -6,13 +6,13 @@ ghost use Rattle.epx_components.specs.declared.visit.Visit.TheVariants.{Closed};
 use epx_types::Memory;
 use std::alloc::Global;
 
-/// How far the search is with a node.
+/// The progress of the search at a node.
 #[derive(Clone, Copy, Debug)]
 pub(crate) enum Visit {
     Unseen,
-    /// At this place among the open nodes.
+    /// Open, at this position of the row.
     Open(usize),
-    /// In this component.
+    /// Finished, in this component.
     Closed(usize),
 }
 
@@ -27,7 +27,7 @@ pub(crate) fn close_nodes(place: &mut [Visit], nodes: &[usize], component: usize
     }
 }
 
-/// The components of nodes that are all closed.
+/// The component of each node, when all nodes are closed.
 pub(crate) fn component_numbers(alloc: Global, place: &[Visit]) -> Result<Vec<usize>, Memory>
     requires { (k : ℕ) → k < length place.now → (c : ℕ) × (visit_of place.now k ≡ Closed c) }
     ensures len { IfOk result (λ component. length component.items ≡ length place.now) }

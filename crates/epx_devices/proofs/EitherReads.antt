@@ -1,4 +1,4 @@
--- A source of one of two kinds that fails is one of that kind that fails.
+-- Reads of a source of one of two types are reads of a source of that type.
 use Rattle.std.proofs.Common.{◌≡◌, ℕ, List, [], ◌∷◌, flat_map, refl, sym, subst}
 use Rattle.epx_devices.specs.declared.either_source.EitherSource.{EitherSource}
 use Rattle.epx_devices.specs.declared.either_source.EitherSource.TheVariants.{First, Second}
@@ -9,7 +9,7 @@ module _ {A B : Type 0} (ra : ReadRelation A) (rb : ReadRelation B) where
   abbrev either_reads : ReadRelation (EitherSource A B)
   either_reads = reads_by ra rb
 
-  -- reads from a source of the first kind end in one of it
+  -- reads of a source of the first type end in a source of that type
   abbrev FirstFrom : EitherSource A B → EitherSource A B → Type 0
   FirstFrom (First a) now =
       (steps : List (ReadStep A)) × (last : A) × (now ≡ First last) × AreReads ra a steps last
@@ -29,7 +29,7 @@ module _ {A B : Type 0} (ra : ReadRelation A) (rb : ReadRelation B) where
   first_reads (First a) (r ∷ steps) now h =
       first_step a r.room r.bytes r.next now h.0 (first_reads r.next steps now h.1)
 
-  -- reads from a source of the second kind end in one of it
+  -- reads of a source of the second type end in a source of that type
   abbrev SecondFrom : EitherSource A B → EitherSource A B → Type 0
   SecondFrom (First a) now = Unit {0}
   SecondFrom (Second b) now =

@@ -1,11 +1,11 @@
--- What the two transfers keep from call to call.
+-- The loop invariants of the two transfers.
 use Rattle.std.proofs.Common.{◌≡◌, ℕ, ◌+◌, ◌-◌, ◌≤◌, Bool, false, List, [], ◌∷◌, ◌++◌, length, take, drop, flat_map, Option, refl, sym, ap, ◌∙◌, subst, arith, append-nil}
 use Rattle.std.proofs.lemmas.Grind.{common_steps, flat_map-append}
 use Rattle.epx_devices.specs.Deliveries.{ReadRelation, ReadStep, AreReads, Delivers}
 use Rattle.epx_devices.proofs.KnownBytes.{appends-then, consumes-then, take-more}
 use Rattle.std.specs.Io.KnownBytes.{Appends, Consumes}
 
--- these bytes have come, and no call has failed
+-- the reads have returned these bytes, and no call has failed
 pub record IsRead {S : Type 0} (remaining : S → Option (List ℕ)) (reads : ReadRelation S)
     (has_failed : S → Bool) (first now : S) (bytes : List ℕ) : Type 0 where
   pub whole : has_failed now ≡ false
@@ -13,13 +13,13 @@ pub record IsRead {S : Type 0} (remaining : S → Option (List ℕ)) (reads : Re
   pub delivered : Delivers reads first now bytes
   pub few : length bytes ≤ 67108865
 
--- n of the bytes are taken, and no call has failed
+-- the sink has accepted the first n bytes, and no call has failed
 pub record IsWritten {S : Type 0} (contents : S → Option (List ℕ)) (has_failed : S → Bool) (first now : S) (bytes : List ℕ) (n : ℕ) : Type 0 where
   pub whole : has_failed now ≡ false
   pub within : n ≤ length bytes
   pub gone : Appends (contents first) (contents now) (take n bytes)
 
--- the rest from n on, as a slice has it
+-- the bytes from n on, as a slice
 pub take-rest : (n : ℕ) (xs : List ℕ) → take (length xs - n) (drop n xs) ≡ drop n xs
 take-rest n xs = grind (arith, common_steps)
 
@@ -44,7 +44,7 @@ module _ {S : Type 0} (reads : ReadRelation S) where
   one_more_read first now (r ∷ steps) next before read =
       (before.0, one_more_read r.next now steps next before.1 read)
 
-  -- one more read returned a part
+  -- one more read returned a part of the bytes
   delivered-then : (first now later : S) (bytes part : List ℕ) (room : ℕ)
       → Delivers reads first now bytes → reads now room part later
       → Delivers reads first later (bytes ++ part)

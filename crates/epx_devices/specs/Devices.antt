@@ -1,10 +1,10 @@
--- What the calls on a source or a sink tell of it.
+-- Facts on the results of calls on a source or a sink.
 use Rattle.std.specs.Prelude.{ℕ, ◌<◌, Bool, ◌||◌, is_err, List, length, Result, IfOk}
 
--- whether a device has failed: it had before, or this call answered an error
+-- whether a device has failed: it had failed before, or this call returned an error
 abbrev pub failed_after : {T E : Type 0} → Bool → Result T E → Bool
 failed_after before r = before || is_err r
 
--- of a part that has bytes, at least one is taken
+-- of a part that is not empty, at least one byte is accepted
 abbrev pub TakesSome : {E : Type 0} → Result ℕ E → List ℕ → Type 0
 TakesSome r part = IfOk r (λ n. 0 < length part → 0 < n)

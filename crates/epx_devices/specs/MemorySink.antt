@@ -1,7 +1,7 @@
--- What is seen of a sink in memory.
+-- The model of a sink in memory.
 use Rattle.std.specs.Prelude.{ℕ, Bool, List}
 
--- the bytes that it has taken, and whether a call has answered an error
+-- the bytes that it has accepted, and whether a call has returned an error
 pub record Taken : Type 0 where
   pub bytes : List ℕ
   pub failed : Bool

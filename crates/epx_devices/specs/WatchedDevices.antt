@@ -1,4 +1,4 @@
--- Readers, writers and files whose failures are watched.
+-- Models of readers, writers and files that record whether a call has failed.
 use Rattle.std.specs.Prelude.{◌≡◌, ℕ, Bool, List, Option, Some, IfSome}
 use Rattle.std.specs.Io.KnownBytes.{Consumes}
 
@@ -8,17 +8,17 @@ pub record WatchedReader (R : Type 0) : Type 0 where
 
 pub record WatchedWriter (W : Type 0) : Type 0 where
   pub writer : W
-  -- nothing was written since a flush
+  -- a flush succeeded, and nothing was written after it
   pub flushed : Bool
   pub failed : Bool
 
--- the file at this path, once it is opened
+-- the file at this path, which is present once it is open
 pub record WatchedPath (F : Type 0) : Type 0 where
   pub path : List ℕ
   pub file : Option F
   pub failed : Bool
 
--- these are the next bytes of a file: of the one that was open, or of one that is opened now
+-- these are the next bytes of the file that was open, or of the one that this read opened
 abbrev pub GivesNext : {F : Type 0} → (F → Option (List ℕ)) → Option F → Option F → List ℕ → Type 0
 GivesNext {F} remaining old new bytes = (before : F) × (after : F) × IfSome old (λ first. first ≡ before) × (new ≡ Some after)
     × Consumes (remaining before) (remaining after) bytes

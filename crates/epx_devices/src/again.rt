@@ -1,17 +1,17 @@
-//! Calls that a signal interrupted, made again.
+//! Calls that are repeated if a signal interrupts them.
 ghost use Rattle.std.specs.Io.{ReadsAtMost, WritesAtMost};
 ghost use Rattle.std.specs.Io.KnownBytes.{Keeps, ReadConsumes, WriteAppends};
 
 use std::io::{self, Error, ErrorKind, Read, Write};
 
-/// A call that is interrupted more often than this in a row fails, so that each call returns.
+/// A call that is interrupted more often than this in a row fails. So each call returns.
 const MOST_AGAIN: usize = 1_000;
 
 fn is_interrupted(error: &Error) -> bool {
     error.kind() == ErrorKind::Interrupted
 }
 
-/// Reads, and again where that was interrupted.
+/// Reads, and repeats a read that was interrupted.
 pub(crate) fn read_again<R: Read>(reader: &mut R, part: &mut [u8]) -> io::Result<usize>
     ensures bound { ReadsAtMost result part.new }
     ensures bytes { ReadConsumes (R.remaining reader.old) (R.remaining reader.new) result part.new }
@@ -29,7 +29,7 @@ pub(crate) fn read_again<R: Read>(reader: &mut R, part: &mut [u8]) -> io::Result
     reader.read(part)
 }
 
-/// Writes, and again where that was interrupted.
+/// Writes, and repeats a write that was interrupted.
 pub(crate) fn write_again<W: Write>(writer: &mut W, part: &[u8]) -> io::Result<usize>
     ensures bound { WritesAtMost result part.now }
     ensures bytes { WriteAppends (W.contents writer.old) (W.contents writer.new) result part.now }
@@ -47,7 +47,7 @@ pub(crate) fn write_again<W: Write>(writer: &mut W, part: &[u8]) -> io::Result<u
     writer.write(part)
 }
 
-/// Flushes, and again where that was interrupted.
+/// Flushes, and repeats a flush that was interrupted.
 pub(crate) fn flush_again<W: Write>(writer: &mut W) -> io::Result<()>
     ensures { Keeps (W.contents writer.old) (W.contents writer.new) }
 {

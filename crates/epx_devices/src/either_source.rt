@@ -1,9 +1,9 @@
-//! A source of one of two kinds.
+//! A source of one of two types.
 ghost use Rattle.epx_devices.specs.EitherSources.{fails_by, reads_by, told_by};
 
 use crate::device::{DeviceFault, Source};
 
-/// Sources of two kinds in one list: each is of the one or of the other.
+/// A source of type `A` or of type `B`, so that one list can hold both.
 #[derive(Drop)]
 pub enum EitherSource<A, B> {
     First(A),

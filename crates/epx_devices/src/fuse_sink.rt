@@ -1,4 +1,4 @@
-//! A sink in memory that fails once a set number of bytes have passed.
+//! A sink in memory that fails after a set number of bytes.
 ghost use Rattle.std.specs.Prelude.{◌≡◌, ◌≤◌, ◌↔◌, false, true, [], ◌++◌, Some, IfOk, OnOk, OnErr, IsErr, length, take};
 ghost use Rattle.std.specs.Io.{WritesAtMost};
 ghost use Rattle.std.specs.Io.KnownBytes.{Keeps, WriteAppends};
@@ -10,8 +10,8 @@ use crate::fuse::{burnt, passing};
 use std::alloc::Global;
 use std::marker::Model;
 
-/// Keeps what it takes, and fails each call once so many bytes have passed. A growth that is refused
-/// fails the call too, and takes nothing.
+/// Keeps the bytes that it accepts. Once its fuse is spent, each call fails. If an allocation
+/// fails, the call fails and accepts nothing.
 #[derive(Drop)]
 pub struct FuseSink {
     bytes: Vec<u8>,
@@ -32,7 +32,8 @@ impl Model for FuseSink {
 }
 
 impl FuseSink {
-    /// At most `at_once` bytes pass in a call, and at most `fuse` in all.
+    /// A call accepts at most `at_once` bytes, and all calls together at most `fuse`. `None` means
+    /// any number.
     pub fn new(alloc: Global, at_once: usize, fuse: Option<usize>) -> FuseSink
         requires { 1 ≤ at_once }
         ensures { result ≡ record { bytes = []; at_once = at_once; fuse = fuse; failed = false } }
@@ -45,7 +46,7 @@ impl FuseSink {
         }
     }
 
-    /// What it has taken.
+    /// The bytes that it has accepted.
     pub fn bytes(&self) -> &[u8]
         ensures { result.now ≡ self.now.bytes }
     {

@@ -1,4 +1,4 @@
-//! A source over memory that fails once a set number of bytes have passed.
+//! A source over memory that fails after a set number of bytes.
 ghost use Rattle.std.specs.Prelude.{◌≡◌, ◌≤◌, ◌↔◌, ◌++◌, false, Some, IfOk, OnErr, IsErr, length, min, take, drop};
 ghost use Rattle.std.specs.Io.{ReadsAtMost};
 ghost use Rattle.std.specs.Io.KnownBytes.{ReadConsumes};
@@ -9,7 +9,8 @@ use crate::device::{DeviceFault, Source};
 use crate::fuse::{burnt, passing};
 use std::marker::Model;
 
-/// Gives the bytes of a slice, and fails each call once so many have passed.
+/// Returns the bytes of a slice. Once its fuse is spent, each call fails, also at the end of the
+/// bytes.
 #[derive(Drop)]
 pub struct FuseSource<'a> {
     bytes: &'a [u8],
@@ -30,7 +31,8 @@ impl<'a> Model for FuseSource<'a> {
 }
 
 impl<'a> FuseSource<'a> {
-    /// At most `at_once` bytes pass in a call, and at most `fuse` in all.
+    /// A call returns at most `at_once` bytes, and all calls together at most `fuse`. `None` means
+    /// any number.
     pub fn new(bytes: &'a [u8], at_once: usize, fuse: Option<usize>) -> FuseSource<'a>
         requires { 1 ≤ at_once }
         ensures { result ≡ record { bytes = bytes.now; at_once = at_once; fuse = fuse; failed = false } }

@@ -1,4 +1,4 @@
-//! Devices: where logs come from and where the report goes, and the two transfers over them, reading
+//! Devices: the sources of logs and the sinks of reports, and the two transfers over them, reading
 //! a whole log and writing a whole text.
 #![tactic(auto)]
 

@@ -8,7 +8,7 @@ use crate::device::{DeviceFault, Sink};
 use std::alloc::Global;
 use std::marker::Model;
 
-/// Keeps what it takes. A growth that is refused fails the call, and takes nothing.
+/// Keeps the bytes that it accepts. If an allocation fails, the call fails and accepts nothing.
 #[derive(Drop)]
 pub struct MemorySink {
     bytes: Vec<u8>,
@@ -33,7 +33,7 @@ impl MemorySink {
         }
     }
 
-    /// What it has taken.
+    /// The bytes that it has accepted.
     pub fn bytes(&self) -> &[u8]
         ensures { result.now ≡ self.now.bytes }
     {

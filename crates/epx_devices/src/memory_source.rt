@@ -7,7 +7,7 @@ ghost use Rattle.epx_devices.specs.Devices.{failed_after};
 use crate::device::{DeviceFault, Source};
 use std::marker::Model;
 
-/// Gives the bytes of a slice, as many at once as there is room for. It never fails.
+/// Returns the bytes of a slice. Each read fills the part or ends the source. No read fails.
 #[derive(Drop)]
 pub struct MemorySource<'a> {
     bytes: &'a [u8],

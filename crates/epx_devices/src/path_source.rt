@@ -11,9 +11,9 @@ use std::marker::Model;
 use std::rt::Files;
 use std::{fs, io};
 
-/// Reads the file at a path. The file is opened at the first read, so an open that fails is a read
-/// that fails, and what is never read is never opened. A read that was interrupted is made again, unless it is again
-/// and again.
+/// Reads the file at a path. The first read opens the file. So if the file cannot be opened, that
+/// read fails, and a source that is never read opens nothing. An interrupted read is repeated, up
+/// to `MOST_AGAIN` times.
 #[derive(Drop)]
 pub struct PathSource<'a, R: Files> {
     rt: &'a R,
@@ -31,7 +31,7 @@ impl<'a, R: Files> Model for PathSource<'a, R> {
 }
 
 impl<'a, R: Files> PathSource<'a, R> {
-    /// Opens nothing yet.
+    /// Opens nothing: the first read opens the file.
     pub fn new(rt: &'a R, path: &'a str) -> PathSource<'a, R>
         ensures { result ≡ record { path = path.now; file = None; failed = false } }
     {
@@ -43,7 +43,7 @@ impl<'a, R: Files> PathSource<'a, R> {
         }
     }
 
-    /// The next bytes of the file, opened where it is not yet.
+    /// Reads the next bytes of the file, and opens it first if it is not open.
     fn next_bytes(&mut self, part: &mut [u8]) -> io::Result<usize>
         ensures bound { ReadsAtMost result part.new }
         ensures bytes { let left = option_and_then R.File.remaining self.new.file in
@@ -63,7 +63,7 @@ impl<'a, R: Files> PathSource<'a, R> {
 }
 
 impl<'a, R: Files> Source for PathSource<'a, R> {
-    // What reads of the open file will give.
+    // The bytes that the remaining reads of the open file will return.
     ghost remaining = { λ s. option_and_then R.File.remaining s.file };
 
     ghost reads = { λ s _ bytes t. ReadsPath R.File.remaining s t bytes };

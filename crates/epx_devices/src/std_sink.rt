@@ -6,8 +6,8 @@ use crate::device::{DeviceFault, Sink};
 use std::io::Write;
 use std::marker::Model;
 
-/// Writes to any writer. A write that takes nothing of a part that has bytes counts as an error. A call that was
-/// interrupted is made again, unless it is again and again.
+/// Writes to any writer. A write that accepts no byte of a part that is not empty counts as an
+/// error. An interrupted call is repeated, up to `MOST_AGAIN` times.
 #[derive(Drop)]
 pub struct StdSink<W> {
     writer: W,

@@ -7,7 +7,7 @@ use crate::device::{DeviceFault, Source};
 use std::io::Read;
 use std::marker::Model;
 
-/// Reads from any reader. A read that was interrupted is made again, unless it is again and again.
+/// Reads from any reader. An interrupted read is repeated, up to `MOST_AGAIN` times.
 #[derive(Drop)]
 pub struct StdSource<R> {
     reader: R,

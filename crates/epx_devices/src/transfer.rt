@@ -11,10 +11,13 @@ use std::alloc::Global;
 /// A log has at most this many bytes.
 pub const MAX_LOG_BYTES: usize = 67_108_864;
 
-/// So many bytes are asked for at once.
+/// One read has room for at most this many bytes.
 const PART_BYTES: usize = 65_536;
 
-/// All bytes of the source. It stops at the first byte past the limit, and takes no further one.
+/// Reads all bytes of the source; `log` is the number of the log in a fault.
+///
+/// Fails with `LogTooLong` at the first byte past `MAX_LOG_BYTES`, and reads no byte after that
+/// one. Fails with `Read` if the source fails, and with `Memory` if an allocation fails.
 pub fn read_log<R: Source>(alloc: Global, log: usize, source: &mut R) -> Result<Vec<u8>, Fault>
     requires { R.has_failed source.old ≡ false }
 
@@ -45,7 +48,8 @@ pub fn read_log<R: Source>(alloc: Global, log: usize, source: &mut R) -> Result<
     Err(Fault::LogTooLong { log })
 }
 
-/// Adds the bytes to the sink and flushes it.
+/// Writes all bytes to the sink and flushes it. If the sink fails, it has accepted a prefix of the
+/// bytes, and the fault is `Write`.
 pub fn write_out<W: Sink>(bytes: &[u8], sink: &mut W) -> Result<(), Fault>
     requires { W.has_failed sink.old ≡ false }
 

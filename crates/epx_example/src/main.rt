@@ -1,5 +1,5 @@
-//! Orders three instances that are in memory, and prints the order: how a program uses the crates
-//! as libraries.
+//! Uses the crates as libraries: it orders three instances that are in memory, and prints the
+//! order.
 #![tactic(auto)]
 
 mod ordered;
@@ -20,7 +20,7 @@ fn order_of_three<R: Threads + Sync>(rt: &R, alloc: Global) -> Result<OrderList,
     ordered(rt, alloc, three_entries(alloc)?, plan)
 }
 
-/// One line for each instance, in the order in which they are executed.
+/// Prints one line for each instance, in execution order.
 fn print_order(rt: &impl Print, order: &OrderList) -> io::Result<()> {
     for (place, id) in order.ids().iter().enumerate() {
         let depth = order.depth_of(place);

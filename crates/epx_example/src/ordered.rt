@@ -1,4 +1,4 @@
-//! From entries to the order in which their instances are executed.
+//! From entries to the execution order of their instances.
 ghost use Rattle.std.specs.Prelude.{List, MatchResult};
 ghost use Rattle.epx_types.specs.ExecutionOrder.{IsExecutionOrder};
 ghost use Rattle.epx_types.specs.Instances.{Instance};
@@ -12,7 +12,8 @@ use epx_types::{Entry, Fault, Plan};
 use std::alloc::Global;
 use std::thread::Threads;
 
-/// The execution order of the map that the entries commit, or why they commit none.
+/// The execution order of the map that the entries commit, or the fault for which they commit
+/// none.
 pub(crate) fn ordered<R: Threads + Sync>(
     rt: &R,
     alloc: Global,

@@ -4,7 +4,7 @@ ghost use Rattle.std.specs.Prelude.{◌≡◌, ◌≢◌};
 use epx_types::{Entry, Id, Memory};
 use std::alloc::Global;
 
-/// An instance without operations that depends on one other.
+/// An instance without operations that depends on one other instance.
 fn entry(alloc: Global, id: Id, seq: u64, dependency: Id) -> Result<Entry, Memory>
     requires { dependency ≢ id }
 {
@@ -19,7 +19,8 @@ fn first_of(replica: u8) -> Id
     Id { replica, number: 1 }
 }
 
-/// Two that depend on each other, and before them one that depends on both through the first.
+/// Three entries: two instances that depend on each other, and one that depends on both through
+/// the first of these. That one comes first.
 pub(crate) fn three_entries(alloc: Global) -> Result<Vec<Entry>, Memory> {
     let mut entries = Vec::new(alloc);
     entries.push(entry(alloc, first_of(2), 3, first_of(0))?)?;

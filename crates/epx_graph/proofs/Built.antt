@@ -20,7 +20,7 @@ use Rattle.epx_graph.proofs.GraphNodes.{committed_node, node_is_one}
 use Rattle.epx_graph.proofs.Numbering.{nodes_long}
 use Rattle.epx_graph.proofs.RisingPlaces.{slice_get-take}
 
--- rows without numbers at the end change no row
+-- appending empty rows changes no row
 pub row_padded : (rows : List (List ℕ)) (n k : ℕ) → row_of (rows ++ replicate n []) k ≡ row_of rows k
 row_padded rows n k =
     elim (cases_lt k (length rows)) [

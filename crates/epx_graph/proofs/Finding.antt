@@ -1,4 +1,4 @@
--- Ids found by halving, among rising ones.
+-- Ids found by binary search in a list by rising Id.
 use Rattle.std.proofs.Common.{◌≡◌, inl, inr, ℕ, ◌+◌, List, get_or, Contains, Less, Equal, Greater, ap, ◌∙◌, arith}
 use Rattle.std.specs.List.Sorted.{IsSorted, IsNonDecreasingBy, IsPartitionPoint}
 use Rattle.std.specs.Ordering.{is_lt, ordering_index}
@@ -19,7 +19,7 @@ sorted_from_rising xs rising k d low l =
       | inr level ↦ level
     ]
 
--- no element ties where all before a place are less and all others greater
+-- no element is equal if all before an index are less and all others greater
 pub absent : (xs : List Id) (x : Id) (i : ℕ) → IsRising xs → (IsNonDecreasingBy (λ y. ordering_index (id_cmp y x)) xs → IsPartitionPoint (λ y. id_cmp y x ≡ Less) (λ y. id_cmp y x ≡ Greater) xs i) → ¬ Contains xs x
 absent xs x i rising parts h =
     let point = parts (searchable_from_sorted id_cmp_total (λ (y : Id). y) xs x (sorted_from_rising xs rising)) in

@@ -1,4 +1,4 @@
--- What is gathered of some instances, and of those that come next.
+-- What is gathered of some instances, and of the next ones.
 use Rattle.std.proofs.Common.{◌≡◌, ℕ, ◌+◌, ◌-◌, ◌≤◌, List, [], ◌∷◌, ◌++◌, length, take, drop, drop-cons, get_or, Some, slice_get, refl, sym, ap, subst, ◌∙◌, append-nil, arith, slice_range}
 use Rattle.std.proofs.Math.Seq.{take-add}
 use Rattle.std.proofs.lemmas.List.{drop-drop, map-append, take_all}
@@ -10,7 +10,7 @@ use Rattle.epx_types.specs.Ids.{IsRising}
 use Rattle.epx_types.specs.Instances.{Instance}
 use Rattle.epx_graph.specs.Nodes.{positions_of, lacking, IsGatheredOf}
 
--- a part of a list, and the part that comes next
+-- a part of a list, and the next part
 parts_joined : {X : Type 0} (xs : List X) (a b c : ℕ) → a ≤ b → b ≤ c → slice_range xs a b ++ slice_range xs b c ≡ slice_range xs a c
 parts_joined xs a b c low high =
     let at : a + (b - a) ≡ b = omega arith in
@@ -46,7 +46,7 @@ gathered_joined m es ds rows later ids others is are =
       deps_rise = All-append (λ (e : Instance). IsRising e.deps) es ds is.deps_rise are.deps_rise;
     }
 
--- one instance more
+-- one more instance
 pub gathered_more : (m : List Instance) (start i : ℕ) (e : Instance) (rows : List (List ℕ)) (ids : List Id) → start ≤ i → slice_get m i ≡ Some e → IsRising e.deps → IsGatheredOf m (slice_range m start i) rows ids → IsGatheredOf m (slice_range m start (i + 1)) (rows ++ positions_of m e.deps ∷ []) (ids ++ lacking m e.deps)
 gathered_more m start i e rows ids low at rise is =
     let one : IsGatheredOf m (e ∷ []) (positions_of m e.deps ∷ []) (lacking m e.deps) = record {

@@ -34,7 +34,7 @@ pub row_gathered : (m : List Instance) (rows : List (List ℕ)) (i : ℕ) (e : I
 row_gathered m rows i e is at =
     ap (λ r. row_of r i) is ∙ get_or_from_slice_get (all_positions m m) i (positions_of m e.deps) [] (slice_get-map (λ (d : Instance). positions_of m d.deps) m i e at)
 
--- what an instance lacks stands before what the later ones lack
+-- what an instance lacks comes before what later instances lack
 pub lacking_next : (m : List Instance) (i : ℕ) (e : Instance) → slice_get m i ≡ Some e → all_lacking m (drop i m) ≡ lacking m e.deps ++ all_lacking m (drop (i + 1) m)
 lacking_next m i e at =
     let same : get_or m i e ≡ e = get_or_from_slice_get m i e e at in
@@ -43,7 +43,7 @@ lacking_next m i e at =
     ∙ ap (λ (d : Instance). lacking m d.deps ++ all_lacking m (drop (suc i) m)) same
     ∙ ap (λ k. lacking m e.deps ++ all_lacking m (drop k m)) (sym next)
 
--- where nothing is missing, what was gathered are the rows
+-- if nothing is missing, the gathered rows are the graph's rows
 pub rows_whole : (m : List Instance) (ids : List Id) (rows : List (List ℕ)) (missing : List Id) → AreNodesOf m ids → IsGathered m rows missing → missing ≡ [] → AreRowsOf m ids rows (length m)
 rows_whole m ids rows missing nodes is none = (ap length is.all.committed ∙ length-map m (λ (e : Instance). positions_of m e.deps), each) where
   lacks_none : (e : Instance) → Contains m e → (x : Id) → ¬ Contains (lacking m e.deps) x
@@ -61,7 +61,8 @@ rows_whole m ids rows missing nodes is none = (ap length is.all.committed ∙ le
 
 -- ---- the second pass
 
--- what is left of the missing dependencies begins with those of an instance, as many as its row is short of its dependencies
+-- the missing dependencies left begin with those of an instance: as many as its row is shorter
+-- than its dependencies
 pub record BeginsWithThese (m : List Instance) (i : ℕ) (e : Instance) (row : List ℕ) (left : List Id) (short : ℕ) : Type 0 where
   pub known : row ≡ positions_of m e.deps
   pub within : short ≤ length left
@@ -85,7 +86,7 @@ module _ (m : List Instance) (rows : List (List ℕ)) (ids : List Id) (is : IsGa
         later = ap (drop short) whole ∙ drop_at (lacking m e.deps) (all_lacking m (drop (i + 1) m)) short many;
       }
 
--- what an instance lacks rises, and is not committed
+-- what an instance lacks is by rising Id, and is not committed
 pub lacking_rises : (m : List Instance) (xs : List Id) → IsRising xs → AllPairs Below (lacking m xs)
 lacking_rises m xs rising = AllPairs-filter Below (λ (x : Id). not (is_some (position_of m x))) xs (AllPairs-from_IsRising xs rising)
 

@@ -1,4 +1,4 @@
--- The nodes of a graph, and the instances that they stand for.
+-- The nodes of a graph and their instances.
 use Rattle.std.proofs.Common.{◌≡◌, ◌↔◌, ℕ, ◌+◌, ◌-◌, ◌<◌, ◌≤◌, List, [], ◌∷◌, length, get_or, slice_get, Some, All, Contains, subst, inl, inr, arith}
 use Rattle.std.proofs.lemmas.Bool.{cases_lt}
 use Rattle.std.proofs.lemmas.List.Elements.{All-contains, All-get_or}
@@ -39,7 +39,7 @@ module _ (g : DependencyGraph) (is : IsGraph g) where
       let p = slice_get-from_Contains (missing_ids g) x h in
       (g.committed + p.0, omega arith, slice_get-from_drop g.ids g.committed p.0 x p.1)
 
-  -- ---- each Id is that of one node
+  -- ---- each Id has one node
 
   pub node_is_one : (k j : ℕ) (x : Id) → slice_get g.ids k ≡ Some x → slice_get g.ids j ≡ Some x → k ≡ j
   node_is_one k j x p q =
@@ -56,7 +56,7 @@ module _ (g : DependencyGraph) (is : IsGraph g) where
         ]
       ]
 
-  -- ---- the order of nodes is that of their Ids, among the committed ones and among the missing ones
+  -- ---- nodes are by rising Id, among the committed ones and among the missing ones
 
   pub committed_order : (k j : ℕ) (x y : Id) → slice_get g.ids k ≡ Some x → slice_get g.ids j ≡ Some y → k < g.committed → j < g.committed → (k < j) ↔ Below x y
   committed_order k j x y p q l m = (
@@ -82,7 +82,7 @@ module _ (g : DependencyGraph) (is : IsGraph g) where
         | inr l ↦ absurd (Contains-nil j (subst (λ (row : List ℕ). Contains row j) (is.missing_lead_nowhere k (omega (arith, is.edge_lists, is.committed_nodes))) h))
       ]
 
-  -- and comes from a committed one
+  -- and comes from a committed node
   pub edge_from_committed : (k j : ℕ) → Contains (edges_of g k) j → k < g.committed
   edge_from_committed k j h =
       elim (cases_lt k g.committed) [

@@ -24,7 +24,7 @@ use Rattle.epx_graph.specs.Nodes.{AreMissingIds, AreNodesOf, ArePlacesOf, AreRow
 use Rattle.epx_graph.specs.Rows.{row_of}
 use Rattle.epx_graph.proofs.Built.{graph_built}
 
--- ---- the places of Ids
+-- ---- the positions of Ids
 
 less_from_is_lt : (i j : ℕ) → is_lt (nat_cmp i j) ≡ true → i < j
 less_from_is_lt i j e = by (nat_cmp i j) (ranked i j (nat_cmp i j) refl) e where
@@ -34,7 +34,7 @@ less_from_is_lt i j e = by (nat_cmp i j) (ranked i j (nat_cmp i j) refl) e where
   by Greater l e = absurd (cc e)
 
 module _ (ids xs : List Id) where
-  -- one of the Ids stands at this place
+  -- one of the Ids is at this position
   abbrev IsPlace : ℕ → Type 0
   IsPlace j = (x : Id) × Contains xs x × (slice_get ids j ≡ Some x)
 

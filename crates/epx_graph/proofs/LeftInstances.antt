@@ -1,4 +1,4 @@
--- What is left of a map: where its instances and other Ids stand.
+-- What is left of a map: the positions of its instances and of other Ids.
 use Rattle.std.proofs.Common.{◌≡◌, ℕ, zero, suc, ◌+◌, ◌<◌, List, [], ◌∷◌, ◌++◌, length, take, Option, Some, None, cond, not, get_or, slice_get, Contains, refl, sym, ap, ◌∙◌, subst, inl, inr, append-nil, arith}
 use Rattle.std.proofs.lemmas.Bool.{cases_lt}
 use Rattle.std.proofs.lemmas.List.{append_assoc, length_push, nil_from_length, get_or_append_left, get_or_push, get_or_read, take_all, take_more}
@@ -39,7 +39,7 @@ module _ (done : List Id) where
   pub rest_more : (xs : List Id) (x : Id) → ¬ Contains done x → rest_of done (xs ++ x ∷ []) ≡ rest_of done xs ++ x ∷ []
   rest_more xs x left = rest_push xs x ∙ ap (λ b. rest_of done xs ++ cond (not b) (x ∷ []) []) (not_among done x left)
 
-  -- one Id more of a list
+  -- one more Id of a list
   pub count_skip : (xs : List Id) (i : ℕ) (d : Id) → i < length xs → Contains done (get_or xs i d) → length (rest_of done (take (i + 1) xs)) ≡ length (rest_of done (take i xs))
   count_skip xs i d l among = ap (λ ys. length (rest_of done ys)) (take_more xs i d l) ∙ ap length (rest_skip (take i xs) (get_or xs i d) among)
 
@@ -67,7 +67,7 @@ module _ (r : Remains) (none : length r.done ≡ 0) where
   pub all_left : left_of r ≡ r.whole
   all_left = ap (λ done. remaining done r.whole) (nil_from_length r.done none) ∙ remaining-nil r.whole
 
-  -- each instance stands where it stood
+  -- each instance has the same position as in the map
   pub stands_there : (p : ℕ) → p < length (left_of r) → StandsAt r p p
   stands_there p l =
       let d : Instance = record { id = record { replica = 0; number = 0 }; seq = 0; deps = []; ops = [] } in
@@ -100,7 +100,7 @@ module _ (r : Remains) (positions : List ℕ) (places : List (Option ℕ)) (n : 
             subst (IsPlaceLeft r d) (sym last) (subst (λ (i : Instance). IsPlaceLeft r i place) (sym of) is)
       ]
 
-  -- with a done instance more
+  -- one more instance, which is done
   pub tables_skip : Contains r.done e.id → AreTables r positions (places ++ None ∷ []) (n + 1)
   tables_skip among = record {
     many = are.many ∙ ap length (sym (remaining_skip r.done r.whole n e at among));
@@ -109,7 +109,7 @@ module _ (r : Remains) (positions : List ℕ) (places : List (Option ℕ)) (n : 
     places_left = place_more None among;
   }
 
-  -- with one more that is left
+  -- one more instance, which is left
   pub tables_more : ¬ Contains r.done e.id → AreTables r (positions ++ n ∷ []) (places ++ Some (length positions) ∷ []) (n + 1)
   tables_more left = record {
     many = length_push positions n ∙ ap (λ k. k + 1) are.many ∙ sym (ap length (remaining_more r.done r.whole n e at left) ∙ length_push (remaining r.done (take n r.whole)) (without_deps r.done e));
@@ -133,19 +133,19 @@ module _ (r : Remains) (positions : List ℕ) (places : List (Option ℕ)) (are 
   pub tables_long : length positions ≡ length (left_of r)
   tables_long = are.many ∙ ap (λ es. length (remaining r.done es)) (take_all (length r.whole) r.whole (omega arith))
 
-  -- what is read of the place of an instance that is left
+  -- what the table says of the position of an instance that is left
   pub stands_at : (k p : ℕ) → k < length (left_of r) → p ≡ get_or positions k p → StandsAt r p k
   stands_at k p l read =
       let within : k < length positions = omega (arith, l, tables_long) in
       subst (λ i. StandsAt r i k) (sym (get_or_read positions k p within read 0)) (are.stand k within)
 
-  -- what is read of the instance at a position
+  -- what the table says of the instance at a position
   place_read : (p : ℕ) (e : Instance) (place : Option ℕ) → slice_get r.whole p ≡ Some e → place ≡ get_or places p place → IsPlaceLeft r e place
   place_read p e place at read =
       let l = slice_get_within r.whole p e at in
       subst (IsPlaceLeft r e) (sym (get_or_read places p place (omega (arith, are.all)) read None)) (are.places_left p e l at)
 
-  -- and of the Id that stands there
+  -- and of the Id at it
   pub found_left : IsRising (ids_of r.whole) → (p k : ℕ) (x : Id) (place : Option ℕ) → position_of r.whole x ≡ Some p → place ≡ get_or places p place → place ≡ Some k → IsFound r x (found.Left k)
   found_left rising p k x place at read some =
       let e = position_of-stands r.whole x p at in
@@ -166,7 +166,7 @@ found_missing r x none left = (left, none_position (left_of r) x (λ h. no_posit
 
 -- ---- Ids gathered one after another
 
--- what an Id adds to the places, and to the missing Ids
+-- what an Id adds to the positions, and to the missing Ids
 abbrev pub places_found : Found → List ℕ
 places_found (found.Left k) = k ∷ []
 places_found found.Done = []
@@ -201,7 +201,7 @@ module _ (r : Remains) where
         ap (lacking (left_of r)) rest ∙ lacking_take (left_of r) (rest_of r.done xs) x is.1,
       )
 
-  -- one Id more
+  -- one more Id
   pub gathered_next : (xs : List Id) (i : ℕ) (d : Id) → i < length xs → (f : Found) → IsFound r (get_or xs i d) f → (old numbers new : List ℕ) (before missing after : List Id) → numbers ≡ old ++ places_in (take i xs) → missing ≡ before ++ missing_in (take i xs) → new ≡ numbers ++ places_found f → after ≡ missing ++ missing_found (get_or xs i d) f → (new ≡ old ++ places_in (take (i + 1) xs)) × (after ≡ before ++ missing_in (take (i + 1) xs))
   gathered_next xs i d l f is old numbers new before missing after numbers_are missing_are new_is after_is =
       let x = get_or xs i d in

@@ -18,13 +18,13 @@ use Rattle.epx_graph.proofs.GraphNodes.{committed_at, committed_node, missing_no
 module _ (m : List Instance) (g : DependencyGraph) (is : IsGraphOf m g) where
   -- ---- nodes and instances
 
-  -- as many nodes are committed as the map has instances
+  -- the number of committed nodes is the number of instances of the map
   pub committed_count : g.committed ≡ length m
   committed_count =
       let long : length (committed_ids g) ≡ length m = ap length is.committed ∙ length-map m (λ (e : Instance). e.id) in
       omega (arith, length-take g.committed g.ids, is.graph.committed_nodes)
 
-  -- a node is committed exactly where its instance is
+  -- a node is committed exactly if its instance is
   pub node_committed : (k : ℕ) (x : Id) → slice_get g.ids k ≡ Some x → (k < g.committed) ↔ IsCommitted m x
   node_committed k x at = (there, back) where
     there : k < g.committed → IsCommitted m x
@@ -37,7 +37,7 @@ module _ (m : List Instance) (g : DependencyGraph) (is : IsGraphOf m g) where
           | inr l ↦ absurd (((is.missing x).0 (Contains-missing g is.graph k x at l)).1 h)
         ]
 
-  -- the instance at a place of the map is that of the node with this number
+  -- the instance at a position of the map is that of the node with this number
   pub node_instance : (k : ℕ) (x : Id) → slice_get g.ids k ≡ Some x → k < g.committed → (e : Instance) × (slice_get m k ≡ Some e) × (e.id ≡ x)
   node_instance k x at l = slice_get-from_map (λ (e : Instance). e.id) m k x (ap (λ ids. slice_get ids k) (sym is.committed) ∙ committed_at g is.graph k x at l)
 
@@ -76,7 +76,7 @@ module _ (m : List Instance) (g : DependencyGraph) (is : IsGraphOf m g) where
       let rest = map_path c.0 z c.1 via y path.1 in
       (rest.0, rest.1, (c.0 ∷ rest.2.0, ((is.edges k c.0 x z at c.1).1 path.0, rest.2.1)))
 
-  -- what an instance with a node reaches has a node that this node reaches
+  -- if an instance has a node, each instance that it reaches has a node that this node reaches
   pub reached_node : (k : ℕ) (x y : Id) → slice_get g.ids k ≡ Some x → Reaches m x y → (j : ℕ) × (slice_get g.ids j ≡ Some y) × NodeReaches (edges_of g) k j
   reached_node k x y at (inl same) = (k, at ∙ ap Some same, ([], refl))
   reached_node k x y at (inr path) = map_path k x at path.0 y path.1
@@ -88,7 +88,7 @@ module _ (m : List Instance) (g : DependencyGraph) (is : IsGraphOf m g) where
       let j = reached_node k.0 x y k.2 there in
       (j.0, j.1)
 
-  -- one node reaches another exactly where its instance reaches that of the other
+  -- one node reaches another exactly if its instance reaches the other's instance
   pub node_reaches : (k j : ℕ) (x y : Id) → slice_get g.ids k ≡ Some x → slice_get g.ids j ≡ Some y → NodeReaches (edges_of g) k j ↔ Reaches m x y
   node_reaches k j x y at to = (λ path. node_path k x at path.0 j y to path.1, back) where
     back : Reaches m x y → NodeReaches (edges_of g) k j

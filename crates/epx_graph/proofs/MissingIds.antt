@@ -86,7 +86,7 @@ Contains-all_lacking m x = (there, back) where
       let d = h.0.1 in
       Contains-flat_map (λ (e : Instance). lacking m e.deps) m d.0 x d.1 (Contains-filter (λ (y : Id). not (is_some (position_of m y))) d.0.deps x d.3 (lacks-from_missing m x h.1))
 
--- one Id more
+-- one more Id
 pub lacking_skip : (m : List Instance) (xs : List Id) (x : Id) (i : ℕ) → position_of m x ≡ Some i → lacking m (xs ++ x ∷ []) ≡ lacking m xs
 lacking_skip m xs x i some =
     let p = λ (y : Id). not (is_some (position_of m y)) in
@@ -110,7 +110,7 @@ rising_from_strict (x ∷ xs) h = (below_all xs h.0, rising_from_strict xs h.1) 
 ids_tie : (x y : Id) → id_eq.eq-value.it x y ≡ eq_by_cmp id_cmp x y
 ids_tie x y = grind (arith, nat_tests)
 
--- the sorted Ids without those that follow their like
+-- the sorted Ids without equal neighbours
 pub each_kept : (gathered sorted ids : List Id) → IsPermutation gathered sorted → IsSorted id_cmp sorted → IsFiltered (DiffersFromLast id_eq.eq-value.it) [] sorted ids → IsRising ids × ((x : Id) → Contains ids x ↔ Contains gathered x)
 each_kept gathered sorted ids moved sorts filtered =
     let E = id_eq.eq-value.it in
@@ -137,7 +137,7 @@ each_kept gathered sorted ids moved sorts filtered =
     keeps : (xs : List Id) (x : Id) → Contains xs x → Contains (dedup id_eq.eq-value.it xs) x
     keeps xs x h = Contains-dedup {E = id_eq.eq-value.it} equal same xs x h
 
--- where they are all that the instances lack, they are the missing ones
+-- if they are all that the instances lack, they are the missing ones
 pub missing_kept : (m : List Instance) (gathered ids : List Id) → gathered ≡ all_lacking m m → IsRising ids → ((x : Id) → Contains ids x ↔ Contains gathered x) → AreMissingIds m ids
 missing_kept m gathered ids is rising exact = record {
   rising = rising;
@@ -149,7 +149,7 @@ missing_kept m gathered ids is rising exact = record {
 
 -- ---- committed Ids
 
--- one instance more
+-- one more instance
 pub ids_more : (m : List Instance) (i : ℕ) (e : Instance) → slice_get m i ≡ Some e → ids_of (take (i + 1) m) ≡ ids_of (take i m) ++ e.id ∷ []
 ids_more m i e at =
     let same : get_or m i e ≡ e = get_or_from_slice_get m i e e at in

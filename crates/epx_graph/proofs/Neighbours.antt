@@ -1,4 +1,4 @@
--- An Id that would stand between two neighbours is not among rising ones.
+-- An Id between two neighbours in a list by rising Id is not in the list.
 use Rattle.std.proofs.Common.{◌≡◌, ◌-◌, ◌<◌, ◌≤◌, ℕ, List, length, true, get_or, Contains, Some, Ordering, Less, Equal, Greater, is_lt, inl, inr, sym, subst, ◌∙◌, arith}
 use Rattle.std.specs.Ordering.{ordering_then, partial_ordering_then, is_some_and}
 use Rattle.std.proofs.lemmas.Bool.{cases_lt}
@@ -11,17 +11,17 @@ use Rattle.epx_types.proofs.Comparisons.{id_cmp_total}
 use Rattle.epx_types.proofs.Rising.{AllPairs-from_IsRising}
 use Rattle.epx_types.proofs.TotalOrders.{below_itself, below_trans}
 
--- what `<` tells of the comparisons of two fields
+-- `<` of two fields, from their comparisons
 pub is_lt-from_lt : (r s : Ordering) → is_some_and is_lt (partial_ordering_then (Some r) (Some s)) ≡ true → is_lt (ordering_then r s) ≡ true
 is_lt-from_lt Less s p = p
 is_lt-from_lt Equal s p = p
 is_lt-from_lt Greater s p = p
 
--- what `==` tells
+-- `==` decides equality
 pub same_from_eq : (x y : Id) → id_eq.eq-value.it x y ≡ true → x ≡ y
 same_from_eq x y h = grind (arith, nat_tests)
 
--- within a list no default is read
+-- inside a list the default does not matter
 pub other_default : (ids : List Id) (k : ℕ) (d e : Id) → k < length ids → get_or ids k d ≡ get_or ids k e
 other_default ids k d e within =
     let one = slice_get-get_or ids k d within in

@@ -30,7 +30,7 @@ module _ (m : List Instance) (ids : List Id) (is : AreNodesOf m ids) where
       let long : length (take (length m) ids) ≡ length m = ap length is.committed ∙ length-map m (λ (e : Instance). e.id) in
       omega (arith, length-take (length m) ids)
 
-  -- and an Id that is not committed stands after them
+  -- and an Id that is not committed comes after them
   pub missing_above : (x : Id) (j : ℕ) → ¬ IsCommitted m x → slice_get ids j ≡ Some x → length m ≤ j
   missing_above x j missing at =
       elim (cases_lt j (length m)) [

@@ -1,4 +1,4 @@
--- Places of rising Ids, and of what is taken from a list and dropped from it.
+-- Positions of rising Ids, and of what is taken from a list and dropped from it.
 use Rattle.std.proofs.Common.{◌≡◌, ℕ, ◌+◌, ◌-◌, ◌<◌, ◌≤◌, List, take, drop, get_or, slice_get, Some, sym, ap, subst, ◌∙◌, inl, inr, arith}
 use Rattle.std.proofs.lemmas.Bool.{cases_lt}
 use Rattle.std.proofs.lemmas.List.{length-take, length-drop, get_or-take, get_or-drop}
@@ -38,11 +38,11 @@ slice_get-from_drop xs n i x at =
 
 -- ---- rising Ids
 
--- of two places the lower one has the lower Id
+-- the lower of two positions has the lower Id
 pub rising_places : (xs : List Id) → IsRising xs → (i j : ℕ) (x y : Id) → slice_get xs i ≡ Some x → slice_get xs j ≡ Some y → i < j → Below x y
 rising_places xs rising i j x y p q l = AllPairs-slice_get Below xs (AllPairs-from_IsRising xs rising) i j x y l p q
 
--- an Id stands at one place
+-- an Id has one position
 pub rising_place_is_one : (xs : List Id) → IsRising xs → (i j : ℕ) (x : Id) → slice_get xs i ≡ Some x → slice_get xs j ≡ Some x → i ≡ j
 rising_place_is_one xs rising i j x p q =
     elim (cases_lt i j) [
@@ -53,7 +53,7 @@ rising_place_is_one xs rising i j x p q =
       ]
     ]
 
--- the lower Id stands at the lower place
+-- the lower Id has the lower position
 pub rising_places_back : (xs : List Id) → IsRising xs → (i j : ℕ) (x y : Id) → slice_get xs i ≡ Some x → slice_get xs j ≡ Some y → Below x y → i < j
 rising_places_back xs rising i j x y p q below =
     elim (cases_lt i j) [

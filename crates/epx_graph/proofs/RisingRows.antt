@@ -1,4 +1,4 @@
--- Rising Ids have rising places, so that a row of places needs no sorting.
+-- Rising Ids have rising positions, so a row of positions needs no sorting.
 use Rattle.std.proofs.Common.{◌≡◌, inl, inr, ℕ, ◌+◌, ◌-◌, ◌<◌, ◌≤◌, not, cond, List, [], ◌∷◌, ◌++◌, length, take, drop, get_or, Option, Some, None, is_some, slice_get, Contains, All, AllPairs, refl, sym, ap, subst, ◌∙◌, arith}
 use Rattle.std.specs.List.{cons_option}
 use Rattle.std.proofs.lemmas.Bool.{cases_lt}
@@ -17,7 +17,7 @@ use Rattle.epx_graph.proofs.MissingIds.{no_position, lacks-from_missing, lacking
 use Rattle.epx_graph.proofs.Numbering.{missing_above}
 use Rattle.epx_graph.proofs.RisingPlaces.{slice_get-take, slice_get-from_take, slice_get-drop, slice_get-from_drop, rising_places_back, rising_place_is_one}
 
--- ---- the places of no Ids
+-- ---- the positions of no Ids
 
 pub places_none : (ids : List Id) → ArePlacesOf ids [] []
 places_none ids = record {
@@ -111,14 +111,14 @@ module _ (m : List Instance) (ids : List Id) (nodes : AreNodesOf m ids) where
               Contains-append_right (positions_of m xs) high j ((are.exact j).1 (x, Contains-filter (λ (y : Id). not (is_some (position_of m y))) xs x h (lacks-from_missing m x missing), at))
         ]
 
-    -- the positions of committed Ids, and then the places of missing ones
+    -- the positions of committed Ids, and then those of missing ones
     pub row_joined : ArePlacesOf ids xs (positions_of m xs ++ high)
     row_joined = record {
       rising = AllPairs-append (λ i j. i < j) (positions_of m xs) high low.rising are.rising apart;
       exact = λ j. (there j, λ h. back j h.0 h.1 h.2);
     }
 
-  -- ---- one missing Id more
+  -- ---- one more missing Id
 
   module _ (xs : List Id) (rise : AllPairs Below xs) (lacks : All (λ x. ¬ IsCommitted m x) xs) (i : ℕ) (l : i < length xs) (row : List ℕ) (are : ArePlacesOf ids (take i xs) row) where
     abbrev pub x : Id
@@ -130,7 +130,7 @@ module _ (m : List Instance) (ids : List Id) (nodes : AreNodesOf m ids) where
     lacks_x : ¬ IsCommitted m x
     lacks_x = All-get_or (λ y. ¬ IsCommitted m y) xs i (record { replica = 0; number = 0 }) l lacks
 
-    -- an Id that was numbered is not this one, and stands before it
+    -- a numbered Id is not this one, and comes before it
     above : (j : ℕ) → Contains row j → (y : Id) × Below y x × (length m ≤ j) × (slice_get ids j ≡ Some y)
     above j h =
         let there = (are.exact j).0 h in

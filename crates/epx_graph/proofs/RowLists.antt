@@ -1,11 +1,11 @@
--- Rows of one list: as many as there are ends, each within the list, and joined they are the list.
+-- Rows of one list: one for each end, each inside the list; appended they are the list.
 use Rattle.std.proofs.Common.{◌≡◌, ◌≢◌, ◌⊎◌, inl, inr, ℕ, zero, suc, ◌+◌, ◌-◌, ◌<◌, ◌≤◌, List, [], ◌∷◌, ◌++◌, length, take, drop, get_or, Contains, refl, sym, ap, subst, ◌∙◌, arith, slice_range}
 use Rattle.std.specs.List.{concat}
 use Rattle.std.proofs.lemmas.Bool.{cases_lt}
 use Rattle.std.proofs.lemmas.List.{length-take, length-drop, take_all, drop_all, drop_at, drop-drop, take-append-drop, take-append-le, drop-append-le, length-append, get_or-take, get_or-drop, get_or_default}
 use Rattle.epx_graph.specs.Rows.{rows_from, AreEnds, row_of}
 
--- two numbers are one, or differ
+-- two numbers are equal, or not
 pub same_or_other : (i j : ℕ) → (i ≡ j) ⊎ (i ≢ j)
 same_or_other i j =
     elim (cases_lt i j) [
@@ -17,7 +17,7 @@ pub length_rows : (start : ℕ) (ends numbers : List ℕ) → length (rows_from 
 length_rows start [] numbers = refl
 length_rows start (end ∷ ends) numbers = omega (arith, length_rows end ends numbers)
 
--- a row goes from the end of the one before to its own
+-- a row goes from the end of the row before it to its own end
 pub row_is : (start : ℕ) (ends numbers : List ℕ) (k : ℕ) → k < length ends → row_of (rows_from start ends numbers) k ≡ slice_range numbers (get_or (start ∷ ends) k 0) (get_or ends k 0)
 row_is start [] numbers k l = absurd (omega arith)
 row_is start (end ∷ ends) numbers zero l = refl
@@ -27,18 +27,18 @@ pub start_within : (start : ℕ) (ends : List ℕ) (n : ℕ) → AreEnds start e
 start_within start [] n h = omega arith
 start_within start (end ∷ ends) n h = let rest = start_within end ends n h.1 in omega arith
 
--- a row ends where it begins or later, and within the list
+-- a row ends at or after its start, and inside the list
 pub ends_rise : (start : ℕ) (ends : List ℕ) (n : ℕ) → AreEnds start ends n → (k : ℕ) → k < length ends → (get_or (start ∷ ends) k 0 ≤ get_or ends k 0) × (get_or ends k 0 ≤ n)
 ends_rise start [] n h k l = absurd (omega arith)
 ends_rise start (end ∷ ends) n h zero l = (h.0, start_within end ends n h.1)
 ends_rise start (end ∷ ends) n h (suc k) l = ends_rise end ends n h.1 k (omega arith)
 
--- where a row begins
+-- the start of a row
 pub start_later : (ends : List ℕ) (k : ℕ) → 0 < k → get_or (0 ∷ ends) k 0 ≡ get_or ends (k - 1) 0
 start_later ends zero l = absurd (omega arith)
 start_later ends (suc k) l = let same : k ≡ suc k - 1 = omega arith in ap (λ i. get_or ends i 0) same
 
--- ---- one row more
+-- ---- one more row
 
 AreEnds-push : (start : ℕ) (ends : List ℕ) (n m : ℕ) → n ≤ m → AreEnds start ends n → AreEnds start (ends ++ m ∷ []) m
 AreEnds-push start [] n m l h = (omega arith, refl)
@@ -61,7 +61,7 @@ rows_push start (end ∷ ends) numbers row n is h =
     let rest = rows_push end ends numbers row n is h.1 in
     λ i. first i ∷ rest i
 
--- the numbers of one row more, and where it ends
+-- the numbers of one more row, and its end
 module _ (ends numbers row ends' numbers' : List ℕ) (n : ℕ) (ends_are : ends' ≡ ends ++ n ∷ []) (numbers_are : numbers' ≡ numbers ++ row) (last : n ≡ length numbers') (h : AreEnds 0 ends (length numbers)) where
   long : n ≡ length numbers + length row
   long = last ∙ ap length numbers_are ∙ length-append numbers row
@@ -81,7 +81,7 @@ concat_rows start (end ∷ ends) numbers h =
     ap (λ rest. slice_range numbers start end ++ rest) (concat_rows end ends numbers h.1 ∙ ap (λ k. drop k numbers) (sym same) ∙ sym (drop-drop (end - start) start numbers))
     ∙ take-append-drop (end - start) (drop start numbers)
 
--- ---- what stands in a part of a list
+-- ---- what is in a part of a list
 
 pub range_place : (xs : List ℕ) (a b x : ℕ) → b ≤ length xs → Contains (slice_range xs a b) x → (i : ℕ) × (a ≤ i) × (i < b) × (get_or xs i 0 ≡ x)
 range_place xs a b x within h =

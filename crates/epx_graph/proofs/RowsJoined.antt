@@ -1,4 +1,4 @@
--- The rows of one list of numbers, and behind them those of another.
+-- The rows of one list of numbers, followed by those of another.
 use Rattle.std.proofs.Common.{◌≡◌, ℕ, ◌+◌, ◌-◌, ◌≤◌, List, [], ◌∷◌, ◌++◌, length, take, drop, map, All, refl, sym, ap, subst, ◌∙◌, arith, slice_range}
 use Rattle.std.proofs.Math.Seq.{drop-append-add}
 use Rattle.std.proofs.lemmas.List.{length-append}
@@ -6,7 +6,7 @@ use Rattle.epx_graph.specs.Rows.{rows_from, AreEnds}
 use Rattle.std.proofs.lemmas.List.Elements.{All-from_get_or}
 use Rattle.epx_graph.proofs.RowLists.{range_kept, start_within, ends_rise}
 
--- a part of the second list stands in both by as much later as the first is long
+-- a part of the second list is in both lists together, moved by the length of the first
 range_moved : (xs ys : List ℕ) (a b : ℕ) → slice_range (xs ++ ys) (length xs + a) (length xs + b) ≡ slice_range ys a b
 range_moved xs ys a b =
     let long : (length xs + b) - (length xs + a) ≡ b - a = omega arith in
@@ -38,11 +38,11 @@ ends_joined start [] n later m h k =
     subst (λ a. AreEnds a (map (λ end. n + end) later) (n + m)) begins (ends_moved n 0 later m k)
 ends_joined start (end ∷ ends) n later m h k = (h.0, ends_joined end ends n later m h.1 k)
 
--- each row ends within the list
+-- each row ends inside the list
 pub ends_within : (start : ℕ) (ends : List ℕ) (n : ℕ) → AreEnds start ends n → All (λ end. end ≤ n) ends
 ends_within start ends n h = All-from_get_or (λ end. end ≤ n) ends 0 (λ k l. (ends_rise start ends n h k l).1)
 
--- the numbers of both, and where their rows end
+-- the numbers of both, and the ends of their rows
 module _ (ends xs later ys ends' numbers' : List ℕ) (n : ℕ) (many : n ≡ length xs) (ends_are : ends' ≡ ends ++ map (λ end. n + end) later) (numbers_are : numbers' ≡ xs ++ ys) (h : AreEnds 0 ends (length xs)) (k : AreEnds 0 later (length ys)) where
   ends_is : ends' ≡ ends ++ map (λ end. length xs + end) later
   ends_is = ends_are ∙ ap (λ a. ends ++ map (λ end. a + end) later) many

@@ -1,4 +1,5 @@
--- The search back from the missing nodes finds the least one that each committed node reaches.
+-- The search backwards from the missing nodes finds the least one that each committed node
+-- reaches.
 use Rattle.std.proofs.Common.{◌≡◌, ◌⊎◌, inl, inr, ℕ, ◌+◌, ◌<◌, ◌≤◌, true, false, not, cond, List, [], ◌∷◌, ◌++◌, length, take, get_or, set, replicate, Option, Some, None, is_some, Contains, All, refl, sym, ap, subst, ◌∙◌, arith}
 use Rattle.std.proofs.lemmas.Bool.{cases_lt}
 use Rattle.std.proofs.lemmas.List.{take_more, length-set, length_push, length-replicate, get_or-set_same, get_or-set_other, get_or-replicate, get_or_past}
@@ -45,7 +46,7 @@ module _ (nodes : List ℕ) (root : ℕ) (old new : Searched) (x : ℕ) (is : Vi
     same_work = is.same_work;
   }
 
-  -- a node that has none
+  -- a node that has no mark
   pub visits_mark : mark_of new.marks x ≡ None → x < length new.marks → Visits (nodes ++ x ∷ []) root old (record { marks = set new.marks x (Some root); stack = new.stack ++ x ∷ [] })
   visits_mark none l = record {
     len = length-set new.marks x (Some root) ∙ is.len;
@@ -106,7 +107,7 @@ module _ (nodes : List ℕ) (root : ℕ) (old new : Searched) (x : ℕ) (is : Vi
         let had : f (get_or new.marks x None) ≡ 1 = ap f none in
         omega (arith, counted, had, length_push new.stack x, is.same_work)
 
--- ---- one node more of those to be marked
+-- ---- one more node to mark
 
 is_marked : (o : Option ℕ) → is_some o ≡ true → (z : ℕ) × (o ≡ Some z)
 is_marked None e = absurd (cc e)
@@ -127,7 +128,7 @@ visit_mark nodes i root old new mark l at none within is =
     let after : Searched = record { marks = set new.marks (get_or nodes i 0) (Some root); stack = new.stack ++ get_or nodes i 0 ∷ [] } in
     subst (λ (xs : List ℕ). Visits xs root old after) (sym (take_more nodes i 0 l)) (visits_mark (take i nodes) root old new (get_or nodes i 0) is (sym at ∙ is_unmarked mark none) within)
 
--- ---- one node looked at
+-- ---- one node visited
 
 module _ (g : DependencyGraph) (graph : IsGraph g) (root : ℕ) (sources : List (List ℕ)) (turned : AreTurned g.edges sources) where
   module _ (old : Searched) (rest : List ℕ) (node : ℕ) (new : Searched) (top : old.stack ≡ rest ++ node ∷ []) (is : IsSearch g root old) (visits : Visits (row_of sources node) root (record { marks = old.marks; stack = rest }) new) where
@@ -153,7 +154,7 @@ module _ (g : DependencyGraph) (graph : IsGraph g) (root : ℕ) (sources : List 
       by None e = e
       by (Some z) e = let had = visits.kept k z e in absurd (cc (had, none))
 
-    -- what was on the stack is still there, or its sources are marked
+    -- a node on the stack is still there, or its sources are marked
     followed : (k j : ℕ) → Contains (edges_of g k) j → Contains old.stack j → Contains new.stack j ⊎ IsMarked new.marks k
     followed k j edge on =
         elim (Contains-push_cases rest node j (subst (λ (l : List ℕ). Contains l j) top on)) [

@@ -1,4 +1,4 @@
--- The marked nodes give the waiting list of the map.
+-- The marked nodes are the waiting list of the map.
 use Rattle.std.proofs.Common.{◌≡◌, inl, inr, ℕ, ◌+◌, ◌<◌, ◌≤◌, List, [], ◌∷◌, ◌++◌, Option, Some, None, slice_get, Contains, refl, sym, ap, subst, ◌∙◌, arith}
 use Rattle.std.proofs.lemmas.Bool.{cases_lt}
 use Rattle.std.proofs.lemmas.List.{map_push}
@@ -54,7 +54,7 @@ waiters_skip g marks n ws none is = record {
   rising = is.rising;
 }
 
--- a node is one waiter
+-- a node has one waiter
 waiter_is_one : (g : DependencyGraph) (marks : List (Option ℕ)) (k n : ℕ) (v w : Waiting) → k ≡ n → IsWaiter g marks k v → IsWaiter g marks n w → w ≡ v
 waiter_is_one g marks k n v w same p q =
     let ids : Some w.id ≡ Some v.id = sym q.id ∙ ap (slice_get g.ids) (sym same) ∙ p.id in
@@ -101,7 +101,7 @@ module _ (m : List Instance) (g : DependencyGraph) (is : IsGraphOf m g) (marks :
   missing_id : (j : ℕ) (y : Id) → slice_get g.ids j ≡ Some y → g.committed ≤ j → ¬ IsCommitted m y
   missing_id j y at past h = let l = (node_committed m g is j y at).1 h in absurd (omega arith)
 
-  -- numbers of missing nodes rise with their Ids
+  -- the numbers of missing nodes rise with their Ids
   up_to : (s j : ℕ) (x y : Id) → slice_get g.ids s ≡ Some x → slice_get g.ids j ≡ Some y → g.committed ≤ s → s ≤ j → UpTo x y
   up_to s j x y p q past l =
       elim (cases_lt s j) [

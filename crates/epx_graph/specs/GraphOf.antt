@@ -11,13 +11,14 @@ use Rattle.epx_graph.specs.Graphs.{DependencyGraph, edges_of, committed_ids, mis
 abbrev pub IsMissing : List Instance → Id → Type 0
 IsMissing m y = ((x : Id) × DependsOn m x y) × ¬ IsCommitted m y
 
--- first the committed instances, then the missing ones; an edge exactly where one instance depends on the other
+-- the committed instances, then the missing ones; an edge from one to another exactly if the first
+-- depends on the second
 pub record IsGraphOf (m : List Instance) (g : DependencyGraph) : Type 0 where
   pub graph : IsGraph g
   pub committed : committed_ids g ≡ ids_of m
   pub missing : (x : Id) → Contains (missing_ids g) x ↔ IsMissing m x
   pub edges : (k j : ℕ) (x y : Id) → slice_get g.ids k ≡ Some x → slice_get g.ids j ≡ Some y → Contains (edges_of g k) j ↔ DependsOn m x y
 
--- the graph of what is left of the map, whatever is done
+-- the graph of what is left of the map, for some list of done Ids
 abbrev pub IsGraphAfter : List Instance → DependencyGraph → Type 0
 IsGraphAfter m g = (done : List Id) × IsGraphOf (remaining done m) g

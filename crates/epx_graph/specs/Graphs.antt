@@ -1,15 +1,16 @@
--- Graphs of dependencies over node numbers.
+-- Dependency graphs over node numbers.
 use Rattle.std.specs.Prelude.{◌≡◌, ℕ, ◌-◌, ◌<◌, ◌≤◌, List, [], ◌++◌, length, take, drop, replicate, slice_index_or, All, AllPairs, Contains}
 use Rattle.epx_types.specs.declared.id.Id.{Id}
 use Rattle.epx_types.specs.Ids.{IsRising}
 
--- what a graph is seen as: its nodes by number, how many of them are committed, and where the edges of each lead
+-- the model of a graph: the Id of each node, the number of committed nodes, and the targets of
+-- each node's edges
 pub record DependencyGraph : Type 0 where
   pub ids : List Id
   pub committed : ℕ
   pub edges : List (List ℕ)
 
--- where the edges of a node lead
+-- the targets of a node's edges
 abbrev pub edges_of : DependencyGraph → ℕ → List ℕ
 edges_of g k = slice_index_or g.edges k []
 
@@ -20,7 +21,8 @@ committed_ids g = take g.committed g.ids
 abbrev pub missing_ids : DependencyGraph → List Id
 missing_ids g = drop g.committed g.ids
 
--- what every graph keeps: edges to nodes alone, by rising number and none from a missing node; committed nodes by rising Id, then missing ones by rising Id, no Id twice
+-- the invariant of a graph: edges lead to nodes, by rising number, and none leads from a missing
+-- node; committed nodes are by rising Id, missing nodes are by rising Id, and no Id is there twice
 pub record IsGraph (g : DependencyGraph) : Type 0 where
   pub edge_lists : length g.edges ≡ length g.ids
   pub committed_nodes : g.committed ≤ length g.ids
@@ -31,6 +33,6 @@ pub record IsGraph (g : DependencyGraph) : Type 0 where
   pub missing_rise : IsRising (missing_ids g)
   pub apart : (x : Id) → Contains (committed_ids g) x → ¬ Contains (missing_ids g) x
 
--- a graph by the Ids of its nodes and the edges of the committed ones
+-- the graph with these node Ids and the edges of the committed nodes
 abbrev pub graph_over : List Id → List (List ℕ) → DependencyGraph
 graph_over ids rows = record { ids = ids; committed = length rows; edges = rows ++ replicate (length ids - length rows) [] }

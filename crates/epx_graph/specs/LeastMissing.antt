@@ -13,7 +13,8 @@ pub record IsLeastMissing (g : DependencyGraph) (k s : ℕ) : Type 0 where
 abbrev pub mark_of : List (Option ℕ) → ℕ → Option ℕ
 mark_of marks k = slice_index_or marks k None
 
--- each committed node is marked by the least missing node that it reaches, and has no mark where it reaches none
+-- the mark of each committed node is the least missing node that it reaches; a node without a mark
+-- reaches none
 pub record AreMarksOf (g : DependencyGraph) (marks : List (Option ℕ)) : Type 0 where
   pub nodes : length marks ≡ g.committed
   pub marked : (k s : ℕ) → mark_of marks k ≡ Some s → IsLeastMissing g k s

@@ -1,4 +1,4 @@
--- The nodes and the edges that a committed map has, as they are built.
+-- The nodes and edges of a committed map, while its graph is built.
 use Rattle.std.specs.Prelude.{◌≡◌, ◌↔◌, ℕ, ◌<◌, not, List, length, take, drop, map, filter, filter_map, flat_map, All, AllPairs, Contains, Some, slice_get, is_some}
 use Rattle.epx_types.specs.declared.id.Id.{Id}
 use Rattle.epx_types.specs.Ids.{IsRising}
@@ -7,7 +7,7 @@ use Rattle.epx_types.specs.CommittedMap.{ids_of, position_of}
 use Rattle.epx_graph.specs.GraphOf.{IsMissing}
 use Rattle.epx_graph.specs.Rows.{row_of}
 
--- the positions of those of the Ids that are committed
+-- the positions of the Ids that are committed
 abbrev pub positions_of : List Instance → List Id → List ℕ
 positions_of m xs = filter_map (position_of m) xs
 
@@ -15,26 +15,26 @@ positions_of m xs = filter_map (position_of m) xs
 abbrev pub lacking : List Instance → List Id → List Id
 lacking m xs = filter (λ x. not (is_some (position_of m x))) xs
 
--- of each instance the positions of its committed dependencies
+-- for each instance, the positions of its committed dependencies
 abbrev pub all_positions : List Instance → List Instance → List (List ℕ)
 all_positions m es = map (λ e. positions_of m e.deps) es
 
--- of each instance those of its dependencies that are not committed
+-- the dependencies of all instances that are not committed, instance by instance
 abbrev pub all_lacking : List Instance → List Instance → List Id
 all_lacking m es = flat_map (λ e. lacking m e.deps) es
 
--- the dependencies of some of the instances, those that are committed by position and the others by Id
+-- the dependencies of some instances: committed ones by position, missing ones by Id
 pub record IsGatheredOf (m es : List Instance) (rows : List (List ℕ)) (ids : List Id) : Type 0 where
   pub committed : rows ≡ all_positions m es
   pub missing : ids ≡ all_lacking m es
   pub deps_rise : All (λ e. IsRising e.deps) es
 
--- the dependencies of all instances, which rise
+-- the dependencies of all instances; the Ids rise
 pub record IsGathered (m : List Instance) (rows : List (List ℕ)) (ids : List Id) : Type 0 where
   pub all : IsGatheredOf m m rows ids
   pub instances_rise : IsRising (ids_of m)
 
--- missing instances, each once
+-- the missing instances, each once
 pub record AreMissingIds (m : List Instance) (ids : List Id) : Type 0 where
   pub rising : IsRising ids
   pub exact : (x : Id) → Contains ids x ↔ IsMissing m x
@@ -45,7 +45,7 @@ pub record AreNodesOf (m : List Instance) (ids : List Id) : Type 0 where
   pub committed : take (length m) ids ≡ ids_of m
   pub missing : AreMissingIds m (drop (length m) ids)
 
--- the places at which Ids of xs stand in the list, by rising place
+-- the positions of Ids of xs in the list, by rising position
 pub record ArePlacesOf (ids xs : List Id) (row : List ℕ) : Type 0 where
   pub rising : AllPairs (λ i j. i < j) row
   pub exact : (j : ℕ) → Contains row j ↔ ((x : Id) × Contains xs x × (slice_get ids j ≡ Some x))

@@ -1,12 +1,12 @@
--- Lists of numbers that stand one after another in one list.
+-- Lists of numbers, one after another in one list.
 use Rattle.std.specs.Prelude.{◌≡◌, ◌↔◌, ℕ, ◌≤◌, List, [], ◌∷◌, Contains, slice_range, slice_index_or}
 
--- the rows of the list, where each ends and the first begins
+-- the rows of the list, from the end of each; the first begins at `start`
 abbrev pub rows_from : ℕ → List ℕ → List ℕ → List (List ℕ)
 rows_from start [] numbers = []
 rows_from start (end ∷ ends) numbers = slice_range numbers start end ∷ rows_from end ends numbers
 
--- each row ends where the next begins, and the last at the end of the list
+-- the rows' ends do not fall, and the last is the end of the list
 abbrev pub AreEnds : ℕ → List ℕ → ℕ → Type 0
 AreEnds start [] end = start ≡ end
 AreEnds start (next ∷ ends) end = (start ≤ next) × AreEnds next ends end
@@ -14,6 +14,6 @@ AreEnds start (next ∷ ends) end = (start ≤ next) × AreEnds next ends end
 abbrev pub row_of : List (List ℕ) → ℕ → List ℕ
 row_of rows k = slice_index_or rows k []
 
--- each row lists the rows of the other that list its number
+-- each row has the numbers of the rows of the other that have its number
 abbrev pub AreTurned : List (List ℕ) → List (List ℕ) → Type 0
 AreTurned rows turned = (k j : ℕ) → Contains (row_of rows k) j ↔ Contains (row_of turned j) k

@@ -1,24 +1,24 @@
--- The search back along edges from the missing nodes, one after another.
+-- The search backwards along edges from the missing nodes, one after another.
 use Rattle.std.specs.Prelude.{◌≡◌, ◌⊎◌, ℕ, ◌+◌, ◌<◌, ◌≤◌, List, [], ◌∷◌, length, All, Contains, Option, Some, None, not, is_some, count_by}
 use Rattle.epx_graph.specs.Graphs.{DependencyGraph, edges_of, IsGraph}
 use Rattle.epx_graph.specs.NodePaths.{NodeReaches}
 use Rattle.epx_graph.specs.Rows.{AreTurned}
 use Rattle.epx_graph.specs.LeastMissing.{IsLeastMissing, mark_of}
 
--- the mark of each committed node, and the nodes to look at
+-- the mark of each committed node, and the nodes whose sources are to be visited
 pub record Searched : Type 0 where
   pub marks : List (Option ℕ)
   pub stack : List ℕ
 
--- some root has marked the node
+-- the node is marked with some root
 abbrev pub IsMarked : List (Option ℕ) → ℕ → Type 0
 IsMarked marks k = (root : ℕ) × (mark_of marks k ≡ Some root)
 
--- how much is left to do
+-- how much is left to do: it falls with each step
 abbrev pub work : Searched → ℕ
 work s = length s.stack + count_by (λ mark. not (is_some mark)) s.marks
 
--- those of the nodes that have no mark are marked by the root, and are to be looked at
+-- the nodes without a mark are marked with the root, and are pushed onto the stack
 pub record Visits (nodes : List ℕ) (root : ℕ) (old new : Searched) : Type 0 where
   pub len : length new.marks ≡ length old.marks
   pub kept : (k s : ℕ) → mark_of old.marks k ≡ Some s → mark_of new.marks k ≡ Some s
@@ -28,7 +28,8 @@ pub record Visits (nodes : List ℕ) (root : ℕ) (old new : Searched) : Type 0 
   pub from : (k : ℕ) → Contains new.stack k → Contains old.stack k ⊎ Contains nodes k
   pub same_work : work new ≡ work old
 
--- The missing nodes below the root are done. A node that is marked, or the root, is still to be looked at, or all nodes with an edge to it are marked.
+-- The missing nodes below the root are done. If a node is marked or is the root, then it is on the
+-- stack, or all nodes with an edge to it are marked
 pub record IsSearch (g : DependencyGraph) (root : ℕ) (s : Searched) : Type 0 where
   pub len : length s.marks ≡ g.committed
   pub sound : (k z : ℕ) → mark_of s.marks k ≡ Some z → IsLeastMissing g k z
@@ -36,11 +37,12 @@ pub record IsSearch (g : DependencyGraph) (root : ℕ) (s : Searched) : Type 0 w
   pub leads : (k : ℕ) → Contains s.stack k → NodeReaches (edges_of g) k root
   pub closed : (k j : ℕ) → Contains (edges_of g k) j → (j ≡ root) ⊎ IsMarked s.marks j → Contains s.stack j ⊎ IsMarked s.marks k
 
--- the search of a graph that is about to begin with this root
+-- the search just before it begins with this root
 abbrev pub Begins : DependencyGraph → ℕ → List (Option ℕ) → Type 0
 Begins g root marks = IsSearch g root (record { marks = marks; stack = root ∷ [] })
 
--- the search from one root, where its nodes stand on the stack and the marks were these when it began
+-- the search from one root, where `marks` are the marks when it began and the nodes to visit are
+-- on the stack
 pub record IsSpreading (sources : List (List ℕ)) (root : ℕ) (marks : List (Option ℕ)) (s : Searched) : Type 0 where
   pub within : All (λ k. k < length sources) s.stack
   pub len : length s.marks ≡ length marks

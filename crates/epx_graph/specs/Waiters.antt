@@ -1,4 +1,4 @@
--- The list of the nodes that are marked.
+-- The list of the marked nodes.
 use Rattle.std.specs.Prelude.{◌≡◌, ℕ, ◌<◌, List, Contains, Option, Some, slice_get}
 use Rattle.epx_types.specs.Ids.{IsRising}
 use Rattle.epx_types.specs.WaitingLists.{Waiting, waiting_ids}

@@ -1,4 +1,4 @@
-//! The graph of a committed map, and of what is left of one.
+//! Builds the graph of a committed map, or of what is left of one.
 ghost use Rattle.std.specs.Prelude.{◌≡◌, ◌↔◌, ◌++◌, length, All, AllPairs, Contains, IfOk, OnOk};
 ghost use Rattle.epx_types.specs.declared.id.Id.{Id};
 ghost use Rattle.epx_types.specs.Ids.{Below, IsRising};
@@ -30,7 +30,7 @@ fn each_once(alloc: Global, ids: &[Id]) -> Result<Vec<Id>, Memory>
     Ok(kept)
 }
 
-/// The Ids of what is left, with room for more.
+/// The Ids of the instances that are left, with room for more.
 fn committed_ids(alloc: Global, left: &Left, more: usize) -> Result<Vec<Id>, Memory>
     ensures { IfOk result (λ ids. ids.items ≡ ids_of (left_of left.now)) }
 {
@@ -41,7 +41,7 @@ fn committed_ids(alloc: Global, left: &Left, more: usize) -> Result<Vec<Id>, Mem
     Ok(ids)
 }
 
-/// The instances that are left, and then the missing ones.
+/// The Ids of the nodes: the instances that are left, and then the missing ones.
 fn nodes(alloc: Global, left: &Left, gathered: &Gathered) -> Result<Vec<Id>, Memory>
     requires { IsGathered (left_of left.now) gathered.now.rows gathered.now.missing.items }
     ensures { IfOk result (λ ids. AreNodesOf (left_of left.now) ids.items) }
@@ -52,7 +52,7 @@ fn nodes(alloc: Global, left: &Left, gathered: &Gathered) -> Result<Vec<Id>, Mem
     Ok(ids)
 }
 
-/// The numbers of missing nodes, in `row`.
+/// Puts the nodes of missing Ids into `row`, in their order.
 fn number_missing(
     left: &Left,
     ids: &[Id],
@@ -74,7 +74,8 @@ fn number_missing(
     Ok(())
 }
 
-/// The edges of the nodes that are left: what was gathered of each, and then its missing dependencies.
+/// The edges of the nodes that are left: the committed dependencies of each, and then its missing
+/// ones.
 fn numbered_rows(
     alloc: Global,
     left: &Left,
@@ -112,10 +113,11 @@ fn rows(alloc: Global, left: &Left, ids: &[Id], gathered: Gathered) -> Result<Ro
     numbered_rows(alloc, left, ids, &gathered)
 }
 
-/// The graph of a map, in time n log n in its instances and dependencies: of a map of which nothing is done.
+/// The graph of a committed map of which nothing is done.
 ///
-/// The node of a committed instance is its position in the map. The plan's workers look the
-/// dependencies up. The graph is the same for every plan.
+/// The node of a committed instance is its position in the map. The plan's workers look up the
+/// dependencies. The graph is the same for every plan. Takes time n log n in the instances and
+/// dependencies. `Memory` is the only error.
 pub fn build<R: Threads + Sync>(
     rt: &R,
     alloc: Global,
@@ -128,10 +130,12 @@ pub fn build<R: Threads + Sync>(
     build_after(rt, alloc, merged, &[], plan)
 }
 
-/// The graph of what is left of a map once some instances are done, given by rising Id: a done instance
-/// has no node, and nothing waits for it. An Id that is done need not be in the map.
+/// The graph of what is left of a map once some instances are done. `done` lists their Ids by
+/// rising Id; an Id in it need not be in the map.
 ///
-/// A node is then no position of the map. The time is n log n in all instances, done Ids and dependencies.
+/// A done instance has no node, and no instance waits for it. So a node is a position among the
+/// instances that are left, and not in the map. Takes time n log n in all instances, done Ids and
+/// dependencies. `Memory` is the only error.
 pub fn build_after<R: Threads + Sync>(
     rt: &R,
     alloc: Global,

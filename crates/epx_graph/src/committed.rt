@@ -1,4 +1,4 @@
-//! What one look-up of each dependency finds.
+//! Looks up each dependency once.
 ghost use Rattle.std.specs.Prelude.{◌≡◌, ◌≤◌, ◌++◌, ◌∷◌, [], length, slice_range, IfOk, OnOk};
 ghost use Rattle.std.specs.Thread.{IsSync};
 ghost use Rattle.epx_types.specs.Done.{rest_of};
@@ -12,24 +12,25 @@ use epx_types::{Id, Memory, Plan};
 use std::alloc::Global;
 use std::thread::{Threads, join};
 
-/// Fewer instances than these are left to one thread: threads cost more than they save there.
+/// Fewer instances than this are left to one thread: more threads would cost more time than they
+/// save.
 const MANY: usize = 4_096;
 
-/// At most so many instances, spread evenly, are asked how many dependencies they have.
+/// How many instances are sampled to estimate the number of dependencies.
 const SAMPLES: usize = 1_024;
 
-/// The dependencies of the instances that are left, those that are left apart from the missing ones. Nothing waits for a
-/// done one, so it is passed over.
+/// For each remaining instance: the positions of its remaining dependencies, and separately the
+/// Ids of its missing ones. Done dependencies are skipped, since nothing waits for them.
 #[derive(Debug, Drop)]
 pub(crate) struct Gathered {
-    /// For each instance that is left the places of those of its dependencies that are left.
+    /// For each remaining instance, the positions of its remaining dependencies.
     pub(crate) rows: Rows,
-    /// The missing dependencies, those of one instance after those of another: as many of each as
+    /// The missing dependencies of all instances, instance by instance. An instance has as many as
     /// its row is shorter than its list of dependencies that are not done.
     pub(crate) missing: Vec<Id>,
 }
 
-/// Adds the place of each Id that is left, and each missing Id.
+/// Appends the position of each Id that is left, and each missing Id.
 fn gather(
     left: &Left,
     deps: &[Id],
@@ -50,8 +51,8 @@ fn gather(
 }
 
 impl Rows {
-    /// With the places of the dependencies that are left as one row more. Those that are missing go
-    /// into a list of their own.
+    /// Appends a row: the positions of the dependencies that are left. Missing dependencies are
+    /// appended to `missing`.
     fn push_committed(self, left: &Left, deps: &[Id], missing: &mut Vec<Id>) -> Result<Rows, Memory>
         ensures rows { IfOk result (λ rows. rows ≡ self ++ positions_of (left_of left.now) (rest_of left.now.done deps.now) ∷ []) }
         ensures missing { OnOk result (missing.new.items ≡ missing.old.items ++ lacking (left_of left.now) (rest_of left.now.done deps.now)) }
@@ -67,7 +68,7 @@ impl Rows {
 }
 
 impl Gathered {
-    /// With what was gathered of the instances that come next.
+    /// Appends what was gathered of the next instances.
     fn append(self, later: Gathered) -> Result<Gathered, Memory>
         ensures rows { IfOk result (λ gathered. gathered.rows ≡ self.rows ++ later.rows) }
         ensures missing { IfOk result (λ gathered. gathered.missing.items ≡ self.missing.items ++ later.missing.items) }
@@ -81,7 +82,7 @@ impl Gathered {
     }
 }
 
-/// The dependencies of a part of the instances that are left, one after another.
+/// The dependencies of a part of the remaining instances.
 fn gather_part(alloc: Global, left: &Left, part: Part) -> Result<Gathered, Memory>
     requires start { part.start ≤ part.end }
     requires end { part.end ≤ length (left_of left.now) }
@@ -95,8 +96,8 @@ fn gather_part(alloc: Global, left: &Left, part: Part) -> Result<Gathered, Memor
     Ok(Gathered { rows, missing })
 }
 
-/// The dependencies of a part of the instances that are left: halved down to a part for each worker, as long as there are
-/// many, and joined on the way back.
+/// The dependencies of a part of the remaining instances. The part is halved for the workers as
+/// long as it has many instances, and the results are appended on the way back.
 #[cycle(workers)]
 fn gather_parts<R: Threads + Sync>(
     rt: &R,
@@ -128,8 +129,8 @@ fn gather_parts<R: Threads + Sync>(
     Ok(gathered)
 }
 
-/// About how many dependencies an instance has, told from some of them: to fetch each instance for it once more takes
-/// long. Only how much room is made rests on it.
+/// An estimate of the dependencies an instance has, from a sample: counting all would fetch each
+/// instance once more. Only the reserved room depends on it.
 fn deps_each(left: &Left) -> usize {
     let step = left.len() / SAMPLES + 1;
     let mut seen: usize = 0;
@@ -146,7 +147,7 @@ fn deps_each(left: &Left) -> usize {
     count.div_ceil(seen)
 }
 
-/// The dependencies of the instances that are left, each looked up once.
+/// The dependencies of the remaining instances, each looked up once.
 pub(crate) fn committed_rows<R: Threads + Sync>(
     rt: &R,
     alloc: Global,

@@ -1,11 +1,11 @@
-//! Ids found among rising ones.
+//! Finds an Id in a list by rising Id.
 ghost use Rattle.std.specs.Prelude.{◌≡◌, ◌<◌, ◌≤◌, ℕ, length, Contains, IsTrue, MatchOption, Some, slice_get, slice_index_or};
 ghost use Rattle.epx_types.specs.declared.id.Id.{Id};
 ghost use Rattle.epx_types.specs.Ids.{Below, IsRising};
 
 use epx_types::Id;
 
-/// The place of an Id among rising ones, by halving.
+/// The position of an Id in a list by rising Id, by binary search.
 pub(crate) fn find(ids: &[Id], id: Id) -> Option<usize>
     requires { IsRising ids.now }
     ensures { MatchOption result (¬ Contains ids.now id) (λ k. slice_get ids.now k ≡ Some id) }
@@ -16,7 +16,7 @@ pub(crate) fn find(ids: &[Id], id: Id) -> Option<usize>
     }
 }
 
-/// Whether rising Ids are seen to be below one, as far as a place.
+/// Whether all Ids before a position are below this one. False says nothing.
 fn is_above_before(ids: &[Id], place: usize, id: Id) -> bool
     requires { IsRising ids.now }
     ensures { IsTrue result → (k : ℕ) (d : Id) → k < place → Below (slice_index_or ids.now k d) id }
@@ -27,7 +27,7 @@ fn is_above_before(ids: &[Id], place: usize, id: Id) -> bool
     place <= ids.len() && ids[place - 1] < id
 }
 
-/// Whether rising Ids are seen to be above one, from a place on.
+/// Whether all Ids from a position on are above this one. False says nothing.
 fn is_below_from(ids: &[Id], place: usize, id: Id) -> bool
     requires { IsRising ids.now }
     ensures { IsTrue result → (k : ℕ) (d : Id) → place ≤ k → k < length ids.now → Below id (slice_index_or ids.now k d) }
@@ -38,7 +38,7 @@ fn is_below_from(ids: &[Id], place: usize, id: Id) -> bool
     id < ids[place]
 }
 
-/// Whether an Id is seen to be absent from rising ones, since it would stand between the neighbours of a place.
+/// Whether the neighbours at a position show that the Id is not in the list. False says nothing.
 pub(crate) fn is_absent(ids: &[Id], place: usize, id: Id) -> bool
     requires { IsRising ids.now }
     ensures { IsTrue result → ¬ Contains ids.now id }

@@ -1,4 +1,4 @@
-//! The graph of dependencies.
+//! The dependency graph.
 ghost use Rattle.std.specs.Prelude.{◌≡◌, ◌==◌, ◌↔◌, ◌<◌, length, Contains, IfOk, IsTrue, MatchOption, Some, slice_get};
 ghost use Rattle.epx_graph.specs.Graphs.{edges_of, graph_over, missing_ids, IsGraph};
 ghost use Rattle.epx_graph.specs.Rows.{AreTurned};
@@ -9,10 +9,10 @@ use epx_types::{Id, Memory};
 use std::alloc::Global;
 use std::marker::Model;
 
-/// The instances of a committed map and those that they depend on, as nodes with numbers: first the
-/// committed ones in order of Id, and then the missing ones in order of Id.
+/// The instances of a committed map and their dependencies, as numbered nodes: first the committed
+/// instances by rising Id, then the missing ones by rising Id.
 ///
-/// It takes one word an edge. No call on it takes memory.
+/// Takes one word for each edge. No call on it allocates.
 #[derive(Debug, Drop)]
 pub struct Graph {
     ids: Vec<Id>,
@@ -38,7 +38,7 @@ impl Graph {
         Graph { ids, rows }
     }
 
-    /// How many nodes there are.
+    /// The number of nodes.
     pub fn len(&self) -> usize
         ensures len { result ≡ length self.now.ids }
         ensures fits { IsGraph self.now }
@@ -46,20 +46,21 @@ impl Graph {
         self.ids.len()
     }
 
+    /// Whether there are no nodes.
     pub fn is_empty(&self) -> bool
         ensures { result ≡ (length self.now.ids == 0) }
     {
         self.ids.is_empty()
     }
 
-    /// How many nodes are committed: those with the numbers below this one.
+    /// The number of committed nodes: those with a lower number than this.
     pub fn committed_len(&self) -> usize
         ensures { result ≡ self.now.committed }
     {
         self.rows.len()
     }
 
-    /// The node of an instance, if it has one, in logarithmic time.
+    /// The node of an instance, if it has one. Takes logarithmic time.
     pub fn node(&self, id: Id) -> Option<usize>
         ensures { MatchOption result (¬ Contains self.now.ids id) (λ node. slice_get self.now.ids node ≡ Some id) }
     {
@@ -73,7 +74,7 @@ impl Graph {
         }
     }
 
-    /// The instance that a node stands for.
+    /// The Id of a node's instance.
     pub fn id(&self, node: usize) -> Id
         requires { node < length self.now.ids }
         ensures { slice_get self.now.ids node ≡ Some result }
@@ -88,6 +89,7 @@ impl Graph {
         &self.ids[self.committed_len()..]
     }
 
+    /// Whether the instance of a node is committed.
     pub fn is_committed(&self, node: usize) -> bool
         requires { node < length self.now.ids }
         ensures { IsTrue result ↔ (node < self.now.committed) }
@@ -95,7 +97,7 @@ impl Graph {
         node < self.committed_len()
     }
 
-    /// The nodes of the dependencies of a committed node, by rising number; none of a missing one.
+    /// The nodes of a committed node's dependencies, by rising number. A missing node has none.
     pub fn edges(&self, node: usize) -> &[usize]
         requires { node < length self.now.ids }
         ensures edges { result.now ≡ edges_of self.now node }
@@ -107,7 +109,7 @@ impl Graph {
         &[]
     }
 
-    /// For each node those with an edge to it.
+    /// For each node, the nodes with an edge to it.
     pub(crate) fn sources(&self, alloc: Global) -> Result<Rows, Memory>
         ensures nodes { IfOk result (λ sources. length sources ≡ length self.now.ids) }
         ensures turned { IfOk result (AreTurned self.now.edges) }

@@ -1,4 +1,4 @@
-//! What shows that the graph of a map means what it should: each function's contract is a law.
+//! Laws of the graph of a map: each function's contract is a law.
 ghost use Rattle.epx_graph.specs.GraphLaws.{GraphExists, GraphIsOne};
 
 /// A committed map has a graph.

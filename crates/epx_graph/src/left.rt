@@ -11,27 +11,28 @@ use epx_types::{Entry, Id, Memory};
 use std::alloc::Global;
 use std::marker::Model;
 
-/// Where an Id stands once some instances are done.
+/// What an Id is once some instances are done.
 #[derive(Clone, Copy, Debug)]
 pub(crate) enum Found {
-    /// At this place among the instances that are left.
+    /// At this position among the instances that are left.
     Left(usize),
     Done,
     /// Neither committed nor done.
     Missing,
 }
 
-/// A committed map, of which some instances are done.
+/// A committed map and the instances of it that are done.
 #[derive(Debug, Drop)]
 pub(crate) struct Left<'a> {
     merged: &'a Merged,
     done: &'a [Id],
-    /// Where the done instances stand.
+    /// Guesses of the positions of the done instances.
     guesses: Guesses,
-    /// The position in the map of each instance that is left. Empty where nothing is done: the map itself is left then,
-    /// and no table is looked up.
+    /// The position in the map of each instance that is left. Empty if nothing is done: the whole
+    /// map is left then, and no look-up needs a table.
     positions: Vec<usize>,
-    /// For each instance of the map its place among those that are left, if it is left. Empty where nothing is done.
+    /// For each instance of the map, its position among those that are left, if it is left. Empty
+    /// if nothing is done.
     places: Vec<Option<usize>>,
 }
 
@@ -49,7 +50,7 @@ impl<'a> Model for Left<'a> {
         IsRising (ids_of r.whole) × IsRising r.done × (0 < length r.done → AreTables r l.positions.items l.places.items (length r.whole)) };
 }
 
-/// Guesses of where done instances stand.
+/// Guesses of the positions of the done instances.
 fn guesses_of(alloc: Global, done: &[Id]) -> Result<Guesses, Memory> {
     let mut guesses = Guesses::new(alloc);
     for (place, id) in done.iter().enumerate() {
@@ -58,14 +59,14 @@ fn guesses_of(alloc: Global, done: &[Id]) -> Result<Guesses, Memory> {
     Ok(guesses)
 }
 
-/// Whether an instance stands at a place among done ones.
+/// Whether the Id at this position of the done ones is the given one.
 fn is_at(done: &[Id], place: usize, id: Id) -> bool
     ensures { IsTrue result → Contains done.now id }
 {
     place < done.len() && done[place] == id
 }
 
-/// Whether an instance stands where it is guessed, so that it is done.
+/// Whether the Id is at its guessed position, which shows that it is done.
 fn is_guessed(done: &[Id], guesses: &Guesses, id: Id) -> bool
     ensures { IsTrue result → Contains done.now id }
 {
@@ -75,7 +76,7 @@ fn is_guessed(done: &[Id], guesses: &Guesses, id: Id) -> bool
     }
 }
 
-/// Whether an instance is done: mostly it stands where it is guessed, and else is looked for by halving.
+/// Whether an Id is done. The guess is usually right; otherwise a binary search decides.
 fn is_done(done: &[Id], guesses: &Guesses, id: Id) -> bool
     requires { IsRising done.now }
     ensures { IsTrue result ↔ Contains done.now id }
@@ -83,7 +84,7 @@ fn is_done(done: &[Id], guesses: &Guesses, id: Id) -> bool
     is_guessed(done, guesses, id) || find(done, id).is_some()
 }
 
-/// The first place from one on whose Id is not below.
+/// The first position, from `start` on, whose Id is not below the given one.
 fn first_from(done: &[Id], start: usize, id: Id) -> usize {
     let mut place = start;
     while place < done.len() && done[place] < id {
@@ -92,7 +93,8 @@ fn first_from(done: &[Id], start: usize, id: Id) -> usize {
     place
 }
 
-/// Whether an instance is done: mostly its neighbours at a place show it, and else it is looked for by halving.
+/// Whether an Id is done. Its neighbours at a position usually show it; otherwise a binary search
+/// decides.
 fn is_done_near(done: &[Id], place: usize, id: Id) -> bool
     requires { IsRising done.now }
     ensures { IsTrue result ↔ Contains done.now id }
@@ -104,7 +106,8 @@ fn is_done_near(done: &[Id], place: usize, id: Id) -> bool
 }
 
 impl<'a> Left<'a> {
-    /// What is left of a map, in time n log n where something is done and at once where nothing is.
+    /// What is left of a map. Takes time n log n if something is done, and constant time if
+    /// nothing is.
     pub(crate) fn new(alloc: Global, merged: &'a Merged, done: &'a [Id]) -> Result<Left<'a>, Memory>
         requires { IsRising done.now }
         ensures { IfOk result (λ left. left ≡ record { whole = merged.now; done = done.now }) }
@@ -117,7 +120,7 @@ impl<'a> Left<'a> {
         let mut below = 0;
         for position in 0..tabled {
             let id = merged.id_at(position);
-            // Both rise, so the done instances are gone over once.
+            // Both lists rise, so one pass over the done Ids is enough.
             below = first_from(done, below, id);
             if is_done_near(done, below, id) {
                 places.push(None)?;
@@ -146,7 +149,7 @@ impl<'a> Left<'a> {
         self.positions.len()
     }
 
-    /// The position in the map of the instance at a place.
+    /// The position in the map of the instance at a position of those that are left.
     fn position_at(&self, place: usize) -> usize
         requires { place < length (left_of self.now) }
         ensures { StandsAt self.now result place }
@@ -157,7 +160,7 @@ impl<'a> Left<'a> {
         self.positions[place]
     }
 
-    /// The name of the instance at a place, counted from 0.
+    /// The Id of the instance at a position of those that are left.
     pub(crate) fn id_at(&self, place: usize) -> Id
         requires { place < length (left_of self.now) }
         ensures { slice_get (ids_of (left_of self.now)) place ≡ Some result }
@@ -165,7 +168,7 @@ impl<'a> Left<'a> {
         self.merged.id_at(self.position_at(place))
     }
 
-    /// The entry at a place, counted from 0, with its done dependencies.
+    /// The entry at a position of those that are left. It still has its done dependencies.
     pub(crate) fn entry_at(&self, place: usize) -> &Entry
         requires { place < length (left_of self.now) }
         ensures { slice_get (left_of self.now) place ≡ Some (without_deps self.now.done result.now) }
@@ -173,11 +176,11 @@ impl<'a> Left<'a> {
         self.merged.entry_at(self.position_at(place))
     }
 
-    /// Where an Id stands.
+    /// Whether an Id is left, done or missing.
     pub(crate) fn look_up(&self, id: Id) -> Found
         ensures { IsFound self.now id result }
     {
-        // What is done is seldom in the map as well, and would then be searched there for nothing.
+        // Most done Ids are not in the map: this test avoids a search of the map in vain.
         if is_guessed(self.done, &self.guesses, id) {
             return Found::Done;
         }

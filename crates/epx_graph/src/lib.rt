@@ -1,4 +1,5 @@
-//! The graph of dependencies of a committed map or of what is left of one, and the instances that wait.
+//! The dependency graph of a committed map, or of what is left of one, and the instances that
+//! wait.
 #![tactic(auto)]
 
 mod building;

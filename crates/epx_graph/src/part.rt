@@ -1,23 +1,23 @@
-//! Parts of the instances that are left.
+//! Parts of the remaining instances.
 ghost use Rattle.std.specs.Prelude.{◌≡◌, ◌≤◌, [], IfOk};
 
 use crate::rows::Rows;
 use epx_types::Memory;
 use std::alloc::Global;
 
-/// The instances at the positions from `start` to before `end`, with the room that is made for their rows.
+/// The instances at positions `start..end`, with the room that is reserved for their rows.
 #[derive(Clone, Copy, Debug)]
 pub(crate) struct Part {
     pub(crate) start: usize,
     pub(crate) end: usize,
-    /// For how many rows there is to be room.
+    /// How many rows to reserve room for.
     rows: usize,
-    /// For how many numbers of each row, on average.
+    /// How many numbers to reserve room for in each row, on average.
     each: usize,
 }
 
 impl Part {
-    /// All of so many instances, with room for so many numbers each.
+    /// All instances, with room for `each` numbers in each row.
     pub(crate) fn whole(instances: usize, each: usize) -> Part
         ensures start { result.start ≡ 0 }
         ensures end { result.end ≡ instances }
@@ -30,8 +30,8 @@ impl Part {
         }
     }
 
-    /// Two parts, of one half each. The first has room for the second as well, so that what is gathered of this one
-    /// is not moved.
+    /// The two halves. The first keeps the room for both, so that appending the second does not
+    /// move it.
     pub(crate) fn halves(self) -> (Part, Part)
         requires { self.start ≤ self.end }
         ensures start { result.0.start ≡ self.start }

@@ -6,10 +6,10 @@ use epx_types::Memory;
 use std::alloc::Global;
 use std::marker::Model;
 
-/// Rows of numbers, at one word a number and one a row.
+/// Rows of numbers. Takes one word for each number and one for each row.
 #[derive(Debug, Drop)]
 pub(crate) struct Rows {
-    /// Where each row ends.
+    /// The end of each row in `numbers`.
     pub(crate) ends: Vec<usize>,
     pub(crate) numbers: Vec<usize>,
 }
@@ -25,7 +25,7 @@ impl Model for Rows {
     ghost invariant = { λ r. AreEnds 0 r.ends.items (length r.numbers.items) };
 }
 
-/// Where a row begins and ends.
+/// The start and the end of a row.
 fn bounds(ends: &[usize], place: usize) -> (usize, usize)
     requires { place < length ends.now }
     ensures { result ≡ (slice_index (0 ∷ ends.now) place, slice_index ends.now place) }
@@ -36,7 +36,7 @@ fn bounds(ends: &[usize], place: usize) -> (usize, usize)
     (ends[place - 1], ends[place])
 }
 
-/// Adds where rows end that stand after so many numbers.
+/// Appends the ends of later rows, moved by the count of numbers before them.
 fn push_ends(ends: &mut Vec<usize>, before: usize, later: &[usize]) -> Result<(), Memory>
     requires { All (λ end. before + end < 2 ^ 64) later.now }
     ensures { OnOk result (ends.new.items ≡ ends.old.items ++ map (λ end. before + end) later.now) }
@@ -56,7 +56,7 @@ fn part(numbers: &[usize], start: usize, end: usize) -> &[usize]
 }
 
 impl Rows {
-    /// No rows, with room for some.
+    /// No rows, with room for some rows and numbers.
     pub(crate) fn with_capacity(alloc: Global, rows: usize, numbers: usize) -> Result<Rows, Memory>
         ensures { IfOk result (λ rows. rows ≡ []) }
     {
@@ -66,7 +66,7 @@ impl Rows {
         })
     }
 
-    /// No rows, with room for as many as these, and for more numbers.
+    /// No rows, with room for as many rows and numbers as these have, and for more numbers.
     pub(crate) fn room(&self, alloc: Global, more: usize) -> Result<Rows, Memory>
         ensures { IfOk result (λ rows. rows ≡ []) }
     {
@@ -91,7 +91,7 @@ impl Rows {
         part(&self.numbers, start, end)
     }
 
-    /// With one row more, of two parts.
+    /// Appends a row that consists of two parts.
     pub(crate) fn push_row(self, low: &[usize], high: &[usize]) -> Result<Rows, Memory>
         ensures { IfOk result (λ rows. rows ≡ self ++ (low.now ++ high.now) ∷ []) }
     {
@@ -105,7 +105,7 @@ impl Rows {
         Ok(Rows { ends, numbers })
     }
 
-    /// With other rows after these.
+    /// Appends other rows.
     pub(crate) fn append(self, later: Rows) -> Result<Rows, Memory>
         ensures { IfOk result (λ rows. rows ≡ self ++ later) }
     {
@@ -119,7 +119,7 @@ impl Rows {
         } = later;
         let before = numbers.len();
         numbers.extend_from_slice(&later_numbers)?;
-        // Freed at once: the numbers are held twice until then.
+        // Frees the numbers early: until here they are in memory twice.
         drop(later_numbers);
         push_ends(&mut ends, before, &later_ends)?;
         Ok(Rows { ends, numbers })

@@ -1,4 +1,4 @@
-//! The least missing node that each committed node reaches.
+//! Finds the least missing node that each committed node reaches.
 ghost use Rattle.std.specs.Prelude.{◌≡◌, ◌+◌, ◌<◌, ◌≤◌, [], None, length, replicate, All, IfOk, OnOk};
 ghost use Rattle.epx_graph.specs.Graphs.{DependencyGraph, IsGraph};
 ghost use Rattle.epx_graph.specs.LeastMissing.{AreMarksOf};
@@ -11,12 +11,12 @@ use epx_types::Memory;
 use std::alloc::Global;
 use std::marker::Model;
 
-/// A search back along the edges, from missing nodes in rising order.
+/// A search backwards along the edges, from the missing nodes in rising order.
 #[derive(Drop)]
 struct Search {
-    /// The least missing node that each committed node was found to reach.
+    /// The least missing node that each committed node is known to reach.
     marks: Vec<Option<usize>>,
-    /// Nodes to which edges lead that were not looked at yet.
+    /// Marked nodes whose sources have not been visited yet.
     stack: Vec<usize>,
 }
 
@@ -38,7 +38,7 @@ impl Search {
         })
     }
 
-    /// Marks those of the nodes that have no mark, and puts them on the stack.
+    /// Marks the nodes that have no mark with the root, and pushes them onto the stack.
     fn visit(&mut self, nodes: &[usize], root: usize) -> Result<(), Memory>
         requires { All (λ k. k < length self.old.marks) nodes.now }
         ensures { OnOk result (Visits nodes.now root self.old self.new) }
@@ -53,7 +53,7 @@ impl Search {
         Ok(())
     }
 
-    /// Marks the nodes that reach the root and have no mark yet.
+    /// Marks all nodes that reach the root and have no mark yet.
     fn spread(&mut self, sources: &Rows, root: usize) -> Result<(), Memory>
         requires root { root < length sources.now }
         requires sources { All (λ row. All (λ k. k < length self.old.marks) row) sources.now }
@@ -72,14 +72,14 @@ impl Search {
     }
 }
 
-/// The least missing node that each committed node reaches, if it reaches one, in time that is linear
-/// in nodes and edges.
+/// For each committed node, the least missing node that it reaches, if it reaches one. Takes time
+/// linear in nodes and edges.
 pub(crate) fn least_missing(alloc: Global, graph: &Graph) -> Result<Vec<Option<usize>>, Memory>
     ensures marks { IfOk result (λ marks. AreMarksOf graph.now marks.items) }
     ensures fits { OnOk result (IsGraph graph.now) }
 {
     let mut search = Search::new(alloc, graph.committed_len())?;
-    // Where no node is missing, no edge has to be turned round.
+    // If no node is missing, no edge needs to be transposed.
     if graph.committed_len() == graph.len() {
         let Search { marks, stack: _ } = search;
         return Ok(marks);

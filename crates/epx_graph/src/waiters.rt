@@ -1,4 +1,4 @@
-//! The instances that wait.
+//! Lists the instances that wait.
 ghost use Rattle.std.specs.Prelude.{List, IfOk};
 ghost use Rattle.epx_types.specs.Instances.{Instance};
 ghost use Rattle.epx_types.specs.WaitingLists.{IsWaitingList};
@@ -10,7 +10,7 @@ use epx_types::{Id, Memory};
 use std::alloc::Global;
 use std::marker::Model;
 
-/// A committed instance that is not ready, and the least missing one that it reaches.
+/// A committed instance that is not ready, and the least missing instance that it reaches.
 #[derive(Clone, Copy, Debug, PartialEq, Eq)]
 pub struct Waiter {
     pub id: Id,
@@ -27,7 +27,7 @@ impl Model for Waiter {
     ghost inverse = { λ w. record { id = w.id; missing = w.missing } };
 }
 
-/// The waiting list of the map whose graph this is, in linear time.
+/// The waiting list of the map that this is the graph of, by rising Id. Takes linear time.
 pub fn waiting(alloc: Global, graph: &Graph) -> Result<Vec<Waiter>, Memory>
     ensures { IfOk result (λ waiters. (m : List Instance) → IsGraphOf m graph.now → IsWaitingList m waiters.items) }
 {

@@ -1,4 +1,4 @@
-//! Logs of bytes that nobody meant as a log.
+//! Runs over logs of arbitrary bytes.
 use crate::given::{LEAST, LEAST_REPORT, NOTHING, Wanted, bad, is_report, repeated};
 use epx_types::Why;
 use std::alloc::AllocGlobal;
@@ -21,9 +21,9 @@ fn each_prefix_of_a_line(rt: HostRuntime) -> Result<(), Fail> {
     Ok(())
 }
 
-/// Each is no JSON: bytes that are not UTF-8 (a byte that none has, a second byte first, a NUL in
-/// two bytes, half of a pair of UTF-16, more than U+10FFFF, a character that is cut off), a NUL,
-/// and escapes that name no character.
+/// Texts that are not JSON. Some are not UTF-8: an invalid byte, a continuation byte first, a NUL
+/// in two bytes, half of a surrogate pair, more than U+10FFFF, a truncated character. The others
+/// have a NUL or escapes that name no character.
 const NO_JSON: [&[u8]; 9] = [
     b"\xff",
     b"{\"x\":\"\x80\"}",
@@ -62,7 +62,8 @@ fn a_good_line_among_bytes_that_spoil_it(rt: HostRuntime) -> Result<(), Fail> {
     Ok(())
 }
 
-/// Whether so many nested arrays between these texts come to this.
+/// Whether a run over `depth` arrays, one inside the other, between two texts has the expected
+/// result.
 fn nested<R: AllocGlobal + Threads + RandomSource + Sync>(
     rt: &R,
     before: &str,

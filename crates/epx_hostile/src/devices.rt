@@ -9,7 +9,7 @@ use std::random::RandomSource;
 use std::test::Fail;
 use std::thread::Threads;
 
-/// What comes of a run over a reader of so many spaces.
+/// Whether a run over a reader of `count` spaces has the expected result.
 fn run_over_spaces<R: AllocGlobal + Threads + RandomSource + Sync>(
     rt: &R,
     count: u64,
@@ -30,7 +30,8 @@ fn a_log_has_at_most_67108864_bytes(rt: HostRuntime) -> Result<(), Fail> {
     Ok(())
 }
 
-/// Gives or takes bytes one by one, and is interrupted so often before each call that succeeds.
+/// A reader and writer of one byte a call, with `times` interruptions before each call that
+/// succeeds.
 #[derive(Drop)]
 struct Interrupted<'a> {
     left: &'a [u8],
@@ -49,7 +50,7 @@ impl<'a> Interrupted<'a> {
         }
     }
 
-    /// An error where an interruption is due.
+    /// Returns an error while interruptions are left before the next call.
     fn interrupt(&mut self) -> io::Result<()> {
         if self.due > 0 {
             self.due -= 1;
@@ -86,7 +87,8 @@ impl Write for Interrupted<'_> {
     }
 }
 
-/// What comes of a run over a reader that is interrupted so often before each byte.
+/// Whether a run over a reader with `times` interruptions before each byte has the expected
+/// result.
 fn run_over_interrupted<R: AllocGlobal + Threads + RandomSource + Sync>(
     rt: &R,
     times: usize,
@@ -111,7 +113,7 @@ fn a_reader_that_is_always_interrupted(rt: HostRuntime) -> Result<(), Fail> {
     Ok(())
 }
 
-/// What comes of a run to a writer that is interrupted so often before each byte, and what it took.
+/// Whether a run with `times` interruptions before each byte written has the expected result.
 fn run_to_interrupted<R: AllocGlobal + Threads + RandomSource + Sync>(
     rt: &R,
     times: usize,

@@ -1,4 +1,4 @@
-//! Runs over two logs, and whether what came of them is right.
+//! Runs over two logs, and checks of their results.
 use epx_tool::{MemorySink, MemorySource, run};
 use epx_types::{Fault, Place, Plan, Why};
 use std::alloc::{AllocGlobal, Global};
@@ -6,7 +6,7 @@ use std::random::RandomSource;
 use std::test::Fail;
 use std::thread::Threads;
 
-/// The line of the least whole path.
+/// The line of one instance without dependencies that puts and gets a key.
 pub(crate) const LEAST: &str =
     r#"{"r":0,"i":0,"seq":1,"deps":[],"ops":[["put","a",5],["get","a"]]}"#;
 
@@ -16,25 +16,26 @@ pub(crate) const LEAST_REPORT: &str = r#"["executed",1,"waiting",0,"components",
 ["store","a",5]
 "#;
 
-/// The report where nothing is executed and nothing waits.
+/// The report if nothing is executed and nothing waits.
 pub(crate) const NOTHING: &str = "[\"executed\",0,\"waiting\",0,\"components\",0]\n";
 
-/// What must come of a run: a text, whole, or a fault, with nothing written.
+/// The expected result of a run: the whole text, or a fault with nothing written.
 pub(crate) type Wanted<'a> = Result<&'a str, Fault>;
 
-/// A bad first line of the first log.
+/// The fault of the first line of the first log.
 pub(crate) fn bad(why: Why) -> Wanted<'static> {
     let place = Place { log: 0, line: 1 };
     Err(Fault::BadLine { place, why })
 }
 
-/// Two workers that draw items one by one.
+/// A plan of two workers that take single items.
 pub(crate) fn plan() -> Result<Plan, Fail> {
     Ok(Plan::new(2, 1).ok_or("a plan")?)
 }
 
-/// Whether what was wanted has come. Running out of memory ends the test: with nothing written, or,
-/// where it was the sink in memory that could not grow, with a failed write and a part of the text.
+/// Whether a run has the expected result. Out of memory fails the test. Then nothing may be
+/// written, except that a sink in memory that could not grow has a failed write and a prefix of
+/// the text.
 pub(crate) fn is_right(
     outcome: Result<(), Fault>,
     held: &[u8],
@@ -51,7 +52,7 @@ pub(crate) fn is_right(
     }
 }
 
-/// Whether the report of these two logs is the wanted one.
+/// Whether the run over these two logs has the expected result.
 pub(crate) fn is_report<R: AllocGlobal + Threads + RandomSource + Sync>(
     rt: &R,
     first: &[u8],
@@ -64,7 +65,7 @@ pub(crate) fn is_report<R: AllocGlobal + Threads + RandomSource + Sync>(
     is_right(outcome, sink.bytes(), wanted)
 }
 
-/// A text so many times.
+/// A text repeated `count` times.
 pub(crate) fn repeated(alloc: Global, text: &str, count: usize) -> Result<String, Fail> {
     let mut all = String::new(alloc);
     for _ in 0..count {

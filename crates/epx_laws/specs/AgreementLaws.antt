@@ -20,15 +20,15 @@ CommittedLinesAgree = (lines : List Placed) (m : List Instance) → IsCommittedB
 abbrev pub DisagreementIsNoAgreement : Type 0
 DisagreementIsNoAgreement = (lines : List Placed) (id : Id) (first second : Placed) → IsFirstDisagreement lines id first second → ¬ Agree lines
 
--- two first disagreements of lines with places of their own are equal
+-- two first disagreements of lines with distinct places are equal
 abbrev pub FirstDisagreementIsOne : Type 0
 FirstDisagreementIsOne = (lines : List Placed) → HavePlacesOfTheirOwn lines → (id id' : Id) (first second first' second' : Placed) →
     IsFirstDisagreement lines id first second → IsFirstDisagreement lines id' first' second' → (id ≡ id') × (first ≡ first') × (second ≡ second')
 
--- the instance that a look-up finds is the one of that Id
+-- a look-up of an Id finds exactly the instance of that Id
 abbrev pub LookUpFindsInstance : Type 0
 LookUpFindsInstance = (m : List Instance) → IsRising (ids_of m) → (x : Id) (e : Instance) → (instance_of m x ≡ Some e) ↔ Contains m e × (e.id ≡ x)
 
--- the position of an Id is the place at which its instance stands
+-- the position of an Id is the position of its instance in the map
 abbrev pub PositionIsWhereItStands : Type 0
 PositionIsWhereItStands = (m : List Instance) → IsRising (ids_of m) → (x : Id) (i : ℕ) → (position_of m x ≡ Some i) ↔ (e : Instance) × (slice_get m i ≡ Some e) × (e.id ≡ x)

@@ -8,15 +8,15 @@ use Rattle.epx_types.specs.Commands.{command_on}
 use Rattle.epx_types.specs.CommandKeys.{touched_keys, written_keys}
 use Rattle.epx_types.specs.Writes.{Write, writes_of, put_all, NoKeyTwice}
 
--- a command's writes, put into the contents, give the contents after it
+-- the contents after a command are those before it with its writes applied
 abbrev pub WritesGiveAfter : Type 0
 WritesGiveAfter = (ops : List Op) (c : Contents) → put_all (writes_of ops c) c ≡ (command_on ops c).after
 
--- an aborted command leaves the contents as they were, and writes nothing
+-- an aborted command leaves the contents unchanged and writes nothing
 abbrev pub AbortLeavesContents : Type 0
 AbortLeavesContents = (ops : List Op) (c : Contents) (j : ℕ) → (command_on ops c).reply ≡ Abort j → ((command_on ops c).after ≡ c) × (writes_of ops c ≡ [])
 
--- an abort names the place of an operation, and those in front of it go through
+-- an abort names the index of an operation, and the operations before it succeed
 abbrev pub AbortNamesPlace : Type 0
 AbortNamesPlace = (ops : List Op) (c : Contents) (j : ℕ) → (command_on ops c).reply ≡ Abort j →
     (j < length ops) × ((reads : List (Option ℤ)) × ((command_on (take j ops) c).reply ≡ Values reads))
@@ -28,11 +28,11 @@ WritesNameWrittenKeys = (ops : List Op) (c : Contents) (w : Write) → Contains 
 abbrev pub WritesAreApart : Type 0
 WritesAreApart = (ops : List Op) (c : Contents) → NoKeyTwice (writes_of ops c)
 
--- over contents that agree on the touched keys a command gives the same reply and the same writes
+-- over contents that agree on the touched keys, a command has the same reply and the same writes
 abbrev pub TouchedKeysDecide : Type 0
 TouchedKeysDecide = (ops : List Op) (c d : Contents) → AgreeOn (touched_keys ops) c d →
     ((command_on ops c).reply ≡ (command_on ops d).reply) × (writes_of ops c ≡ writes_of ops d)
 
--- touched and written keys are those that the operations name, in rising order
+-- the rising keys of a list rise and are exactly its keys
 abbrev pub KeysRise : Type 0
 KeysRise = (ks : List (List ℕ)) → AllPairs KeyBelow (rising_keys ks) × ((k : List ℕ) → Contains (rising_keys ks) k ↔ Contains ks k)

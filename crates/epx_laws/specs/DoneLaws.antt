@@ -1,4 +1,4 @@
--- Laws of what is left of a committed map.
+-- Laws of the remaining map, a committed map without its done instances.
 use Rattle.std.specs.Prelude.{◌≡◌, ◌↔◌, [], List, Contains}
 use Rattle.epx_types.specs.declared.id.Id.{Id}
 use Rattle.epx_types.specs.Ids.{IsRising}
@@ -8,22 +8,23 @@ use Rattle.epx_types.specs.Reaching.{DependsOn}
 use Rattle.epx_types.specs.Readiness.{IsReady}
 use Rattle.epx_types.specs.Done.{remaining}
 
--- where nothing is done the whole map is left
+-- if nothing is done, the whole map remains
 abbrev pub NothingDoneLeavesAll : Type 0
 NothingDoneLeavesAll = (m : List Instance) → remaining [] m ≡ m
 
--- what is left has the Ids that are not done
+-- the remaining map has exactly the Ids that are not done
 abbrev pub LeftIsNotDone : Type 0
 LeftIsNotDone = (done : List Id) (m : List Instance) (x : Id) → Contains (ids_of (remaining done m)) x ↔ Contains (ids_of m) x × (¬ Contains done x)
 
--- what is left of a map whose Ids rise is such a map
+-- if the Ids of a map rise, those of the remaining map rise
 abbrev pub LeftRises : Type 0
 LeftRises = (done : List Id) (m : List Instance) → IsRising (ids_of m) → IsRising (ids_of (remaining done m))
 
--- what is left depends on what it depended on and is not done
+-- a remaining instance depends exactly on its former dependencies that are not done
 abbrev pub LeftDependsOnLeft : Type 0
 LeftDependsOnLeft = (done : List Id) (m : List Instance) (x y : Id) → DependsOn (remaining done m) x y ↔ DependsOn m x y × (¬ Contains done x) × (¬ Contains done y)
 
--- where all that is done is ready, what is not done is ready in what is left exactly where it is in the whole map
+-- if all done instances are ready, an instance that is not done is ready in the remaining map
+-- exactly if it is ready in the whole map
 abbrev pub LeftIsReadyAlike : Type 0
 LeftIsReadyAlike = (done : List Id) (m : List Instance) → ((x : Id) → Contains done x → IsReady m x) → (x : Id) → ¬ Contains done x → IsReady (remaining done m) x ↔ IsReady m x

@@ -6,7 +6,7 @@ use Rattle.epx_types.specs.Commands.{command_on}
 use Rattle.epx_types.specs.Execution.{execute}
 use Rattle.epx_types.specs.Rearrangements.{commands_at, IsRearrangement}
 
--- one command is executed by itself
+-- executing a list of one command is executing that command
 abbrev pub OneCommandExecutes : Type 0
 OneCommandExecutes = (ops : List Op) (c : Contents) →
     ((execute (ops ∷ []) c).replies ≡ (command_on ops c).reply ∷ []) × ((execute (ops ∷ []) c).final ≡ (command_on ops c).after)
@@ -15,13 +15,14 @@ OneCommandExecutes = (ops : List Op) (c : Contents) →
 abbrev pub EachCommandReplies : Type 0
 EachCommandReplies = (commands : List (List Op)) (c : Contents) → length (execute commands c).replies ≡ length commands
 
--- to execute two lists one after the other is to execute both as one
+-- executing two lists one after the other is executing their concatenation
 abbrev pub ExecutionGoesOn : Type 0
 ExecutionGoesOn = (first rest : List (List Op)) (c : Contents) →
     ((execute (first ++ rest) c).replies ≡ (execute first c).replies ++ (execute rest (execute first c).final).replies)
     × ((execute (first ++ rest) c).final ≡ (execute rest (execute first c).final).final)
 
--- commands in another order that keeps the order of each two that conflict leave the same contents, and each gives the same reply
+-- a rearrangement that keeps the order of any two commands that conflict leaves the same contents,
+-- and each command has the same reply
 abbrev pub RearrangementsExecuteAlike : Type 0
 RearrangementsExecuteAlike = (commands : List (List Op)) (places : List ℕ) → IsRearrangement commands places → (c : Contents) →
     ((execute (commands_at commands places) c).final ≡ (execute commands c).final)

@@ -4,11 +4,11 @@ use Rattle.epx_types.specs.declared.op.Op.{Op}
 use Rattle.epx_types.specs.Levels.{ConflictAt, IsLevel, AreLevels, level_count, RisesWithConflicts}
 use Rattle.epx_laws.specs.AtMostOne.{AtMostOne}
 
--- commands have levels
+-- every list of commands has levels
 abbrev pub LevelsExist : Type 0
 LevelsExist = (commands : List (List Op)) → (levels : List ℕ) × AreLevels commands levels
 
--- two levels of one place are equal
+-- two levels of one position are equal
 abbrev pub LevelIsOne : Type 0
 LevelIsOne = (commands : List (List Op)) (j : ℕ) → AtMostOne (IsLevel commands j)
 
@@ -20,19 +20,20 @@ LevelsAreOne = (commands : List (List Op)) → AtMostOne (AreLevels commands)
 abbrev pub LevelIsApart : Type 0
 LevelIsApart = (commands : List (List Op)) (i j l : ℕ) → i ≢ j → IsLevel commands i l → IsLevel commands j l → ¬ ConflictAt commands i j
 
--- of two commands that conflict the later stands in the greater level
+-- of two commands that conflict, the later has the greater level
 abbrev pub ConflictsClimb : Type 0
 ConflictsClimb = (commands : List (List Op)) (i j k l : ℕ) → i < j → ConflictAt commands i j → IsLevel commands i k → IsLevel commands j l → k < l
 
--- levels are the least numbers that rise from each command to each later one that conflicts with it
+-- levels are the least numbers that are greater at each later command that conflicts
 abbrev pub LevelsAreLeast : Type 0
 LevelsAreLeast = (commands : List (List Op)) (f : ℕ → ℕ) → RisesWithConflicts commands f → (j l : ℕ) → IsLevel commands j l → l ≤ f j
 
--- no numbers that rise so are fewer than the levels: a list that holds the number of each command is at least as long as there are levels
+-- no such numbers are fewer than the levels: a list with the number of each command has at least
+-- as many elements as there are levels
 abbrev pub LevelsAreFewest : Type 0
 LevelsAreFewest = (commands : List (List Op)) (f : ℕ → ℕ) → RisesWithConflicts commands f → (levels : List ℕ) → AreLevels commands levels →
     (numbers : List ℕ) → ((j : ℕ) → j < length commands → Contains numbers (f j)) → level_count levels ≤ length numbers
 
--- and as many are in use: each level below their count is the level of a place
+-- each number below the number of levels is the level of some command
 abbrev pub EachLevelIsReached : Type 0
 EachLevelIsReached = (commands : List (List Op)) (levels : List ℕ) → AreLevels commands levels → (l : ℕ) → l < level_count levels → Contains levels l

@@ -11,20 +11,21 @@ use Rattle.epx_types.specs.Readiness.{IsReady}
 use Rattle.epx_types.specs.Conflicts.{IsCovered}
 use Rattle.epx_types.specs.LawfulOrders.{IsLawful, commands_in}
 
--- each instance of the one map is one of the other
+-- each instance of m is an instance of the other map
 abbrev pub IsWithin : List Instance → List Instance → Type 0
 IsWithin m more = (e : Instance) → Contains m e → Contains more e
 
--- lines that give whatever others give commit whatever those commit
+-- if more lines commit all instances that some lines commit, the map of the former contains the
+-- map of the latter
 abbrev pub MoreLinesCommitMore : Type 0
 MoreLinesCommitMore = (lines more : List Placed) → ((p : Placed) → Contains lines p → (q : Placed) × Contains more q × (q.instance ≡ p.instance)) →
     (m n : List Instance) → IsCommittedBy lines m → IsCommittedBy more n → IsWithin m n
 
--- what is ready in a map is ready in every map that holds it
+-- an instance that is ready in a map is ready in every map that contains it
 abbrev pub ReadyStaysReady : Type 0
 ReadyStaysReady = (m more : List Instance) → IsRising (ids_of more) → IsWithin m more → (x : Id) → IsReady m x → IsReady more x
 
--- and has the same reply there if that map is covered, in whichever lawful orders
+-- if that map is covered, the instance has the same reply there, in any two lawful orders
 abbrev pub RepliesStay : Type 0
 RepliesStay = (m more : List Instance) → IsRising (ids_of more) → IsWithin m more → IsCovered more → (ids other : List Id) → IsLawful m ids → IsLawful more other → (c : Contents) →
     (i j : ℕ) (x : Id) → slice_get ids i ≡ Some x → slice_get other j ≡ Some x → slice_get (execute (commands_in more other) c).replies j ≡ slice_get (execute (commands_in m ids) c).replies i

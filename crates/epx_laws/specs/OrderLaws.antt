@@ -23,12 +23,14 @@ ExecutionOrderIsOne = (m : List Instance) → AtMostOne (IsExecutionOrder m)
 abbrev pub ExecutionOrderIsLawful : Type 0
 ExecutionOrderIsLawful = (m : List Instance) (order : List Ranked) → IsExecutionOrder m order → IsLawful m (map (λ r. r.id) order)
 
--- the leader of each instance in an execution order stands there too, with itself as its leader: so one leader is counted for each component
+-- the leader of each instance of an execution order is in the order, and is its own leader; so
+-- each component has one leader in it
 abbrev pub LeadersStandInOrder : Type 0
 LeadersStandInOrder = (m : List Instance) (order : List Ranked) → IsExecutionOrder m order → (r : Ranked) → Contains order r →
     (l : Ranked) × Contains order l × (l.id ≡ r.leader) × (l.leader ≡ l.id)
 
--- the leaders of an order: each once, each leads some instance, each leader is among them, and they are as many as the components
+-- These are the leaders of an order: each occurs once and leads some instance, each leader is
+-- among them, and there are as many as components
 pub record AreLeaders (order : List Ranked) (leaders : List Id) : Type 0 where
   pub once : AllPairs (λ x y. x ≢ y) leaders
   pub lead : (x : Id) → Contains leaders x → (r : Ranked) × Contains order r × (r.leader ≡ x)
@@ -38,20 +40,20 @@ pub record AreLeaders (order : List Ranked) (leaders : List Id) : Type 0 where
 abbrev pub ComponentsAreCounted : Type 0
 ComponentsAreCounted = (m : List Instance) (order : List Ranked) → IsExecutionOrder m order → (leaders : List Id) × AreLeaders order leaders
 
--- x stands before y in this order too, where one reaches the other
+-- x is before y in this order if one of them reaches the other
 pub record StandsAlike (m : List Instance) (ids : List Id) (x y : Id) : Type 0 where
   pub there : Reaches m x y → Before ids x y
   pub back : Reaches m y x → Before ids x y
 
--- of two instances of which one reaches the other, the same one stands first in all lawful orders
+-- if one of two instances reaches the other, they come in the same order in all lawful orders
 abbrev pub RelatedStandAlike : Type 0
 RelatedStandAlike = (m : List Instance) (ids other : List Id) → IsLawful m ids → IsLawful m other → (x y : Id) → Before ids x y → StandsAlike m other x y
 
--- lawful orders of one map hold the same instances
+-- lawful orders of one map have the same instances
 abbrev pub LawfulOrdersHoldTheSame : Type 0
 LawfulOrdersHoldTheSame = (m : List Instance) (ids other : List Id) → IsLawful m ids → IsLawful m other → (x : Id) → Contains ids x → Contains other x
 
--- d and e are ready instances that conflict
+-- d and e are different ready instances that conflict
 pub record AreReadyAndConflict (m : List Instance) (d e : Instance) : Type 0 where
   pub first : Contains m d
   pub second : Contains m e
@@ -60,7 +62,7 @@ pub record AreReadyAndConflict (m : List Instance) (d e : Instance) : Type 0 whe
   pub second_ready : IsReady m e.id
   pub conflict : Conflict d.ops e.ops
 
--- of two instances of a covered map that conflict, the same one stands first in all lawful orders
+-- two ready instances of a covered map that conflict come in the same order in all lawful orders
 abbrev pub ConflictsStandAlike : Type 0
 ConflictsStandAlike = (m : List Instance) → IsCovered m → (ids other : List Id) → IsLawful m ids → IsLawful m other →
     (d e : Instance) → AreReadyAndConflict m d e → Before ids d.id e.id → Before other d.id e.id

@@ -1,4 +1,4 @@
--- Laws of the orders that types carry.
+-- Laws of the orders of types.
 use Rattle.std.specs.Prelude.{◌≡◌}
 use Rattle.epx_types.specs.Keys.{key_cmp}
 use Rattle.epx_types.specs.Ids.{id_cmp}
@@ -7,7 +7,7 @@ use Rattle.epx_types.specs.contracts.key.KeyOrd.TheImpl as key_ord
 use Rattle.epx_types.specs.contracts.id.IdOrd.TheImpl as id_ord
 use Rattle.epx_types.specs.contracts.place.PlaceOrd.TheImpl as place_ord
 
--- what `cmp` answers for keys, Ids and places is the order that the definitions state
+-- `cmp` of keys, Ids and places is the order that the definitions state
 pub record OrdersAreTheStatedOnes : Type 0 where
   pub keys : key_ord.cmp-value.it ≡ key_cmp
   pub ids : id_ord.cmp-value.it ≡ id_cmp

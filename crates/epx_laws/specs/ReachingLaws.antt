@@ -11,7 +11,7 @@ use Rattle.epx_types.specs.Components.{InOneComponent, IsLeader}
 use Rattle.epx_types.specs.Depth.{IsDepth, FallsOneWay}
 use Rattle.epx_laws.specs.AtMostOne.{AtMostOne}
 
--- committed instances alone depend on others, each on those that it lists
+-- only committed instances depend on others, each exactly on the Ids in its list of dependencies
 pub record DependenciesAreListed : Type 0 where
   pub committed : (m : List Instance) (x y : Id) → DependsOn m x y → IsCommitted m x
   pub listed : (m : List Instance) → IsRising (ids_of m) → (e : Instance) → Contains m e → (y : Id) → DependsOn m e.id y ↔ Contains e.deps y
@@ -25,11 +25,11 @@ ReachingIsTransitive = (m : List Instance) (x y z : Id) → Reaches m x y → Re
 abbrev pub DependenciesAreReached : Type 0
 DependenciesAreReached = (m : List Instance) (x y : Id) → DependsOn m x y → Reaches m x y
 
--- a test that each dependency of an instance passes where the instance does
+-- if an instance passes the test, each of its dependencies passes it
 abbrev pub PassesOn : List Instance → (Id → Bool) → Type 0
 PassesOn m p = (x y : Id) → DependsOn m x y → p x ≡ true → p y ≡ true
 
--- nothing is reached but by dependencies: what passes on to these passes on to all that is reached
+-- a test that passes from instances to their dependencies passes to all that they reach
 abbrev pub ReachingIsLeast : Type 0
 ReachingIsLeast = (m : List Instance) (p : Id → Bool) → PassesOn m p → (x y : Id) → Reaches m x y → p x ≡ true → p y ≡ true
 
@@ -59,11 +59,11 @@ DepthExists = (m : List Instance) (x : Id) → (depth : ℕ) × IsDepth m x dept
 abbrev pub DepthIsOne : Type 0
 DepthIsOne = (m : List Instance) (x : Id) → AtMostOne (IsDepth m x)
 
--- what is reached one way alone lies lower
+-- if x reaches y and y does not reach x, the depth of y is less
 abbrev pub DepthFalls : Type 0
 DepthFalls = (m : List Instance) (x y : Id) (j k : ℕ) → Reaches m x y → ¬ Reaches m y x → IsDepth m x j → IsDepth m y k → k < j
 
--- depths are the least numbers that fall to each instance that is reached one way alone
+-- depths are the least numbers that fall from x to y if x reaches y and y does not reach x
 abbrev pub DepthIsLeast : Type 0
 DepthIsLeast = (m : List Instance) (f : Id → ℕ) → FallsOneWay m f → (x : Id) (k : ℕ) → IsDepth m x k → k ≤ f x
 
@@ -75,7 +75,7 @@ MissingIsOne = (m : List Instance) (x : Id) → AtMostOne (WaitsFor m x)
 abbrev pub WaitingListExists : Type 0
 WaitingListExists = (m : List Instance) → IsRising (ids_of m) → (ws : List Waiting) × IsWaitingList m ws
 
--- a map has one waiting list
+-- a map has at most one waiting list
 abbrev pub WaitingListIsOne : Type 0
 WaitingListIsOne = (m : List Instance) → AtMostOne (IsWaitingList m)
 
@@ -83,10 +83,10 @@ WaitingListIsOne = (m : List Instance) → AtMostOne (IsWaitingList m)
 abbrev pub ReadyOrWaits : Type 0
 ReadyOrWaits = (m : List Instance) (x : Id) → IsCommitted m x → IsReady m x ⊎ ((y : Id) × WaitsFor m x y)
 
--- a committed instance is ready exactly where it waits for nothing
+-- a committed instance is ready exactly if it waits for nothing
 abbrev pub ReadyWaitsForNothing : Type 0
 ReadyWaitsForNothing = (m : List Instance) (x : Id) → IsCommitted m x → (IsReady m x ↔ ((y : Id) → ¬ WaitsFor m x y))
 
--- where each dependency is committed, each instance is ready
+-- if each dependency is committed, each committed instance is ready
 abbrev pub AllReadyWhereNothingLacks : Type 0
 AllReadyWhereNothingLacks = (m : List Instance) → LacksNothing m → (x : Id) → IsCommitted m x → IsReady m x

@@ -1,7 +1,7 @@
 //! Laws of what the lines of logs commit.
 ghost use Rattle.epx_laws.specs.AgreementLaws.{PositionIsWhereItStands, CommittedMapIsOne, CommittedLinesAgree, DisagreementIsNoAgreement, FirstDisagreementIsOne, LookUpFindsInstance};
 
-/// Lines have one committed map.
+/// Lines have at most one committed map.
 pub fn committed_map_is_one()
     ensures { CommittedMapIsOne }
 {}
@@ -16,17 +16,17 @@ pub fn disagreement_is_no_agreement()
     ensures { DisagreementIsNoAgreement }
 {}
 
-/// Lines with places of their own have one first disagreement.
+/// Lines with distinct places have at most one first disagreement.
 pub fn first_disagreement_is_one()
     ensures { FirstDisagreementIsOne }
 {}
 
-/// The instance that a look-up finds is the one of that Id.
+/// A look-up of an Id finds exactly the instance of that Id.
 pub fn look_up_finds_instance()
     ensures { LookUpFindsInstance }
 {}
 
-/// The position of an Id is the place at which its instance stands.
+/// The position of an Id is the position of its instance in the map.
 pub fn position_is_where_it_stands()
     ensures { PositionIsWhereItStands }
 {}

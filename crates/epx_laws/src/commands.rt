@@ -1,22 +1,22 @@
 //! Laws of what commands read and write.
 ghost use Rattle.epx_laws.specs.CommandLaws.{WritesGiveAfter, AbortLeavesContents, AbortNamesPlace, WritesNameWrittenKeys, WritesAreApart, TouchedKeysDecide, KeysRise};
 
-/// A command's writes, put into the contents one after another, give the contents after it.
+/// The contents after a command are those before it with its writes applied, one after another.
 pub fn writes_give_after()
     ensures { WritesGiveAfter }
 {}
 
-/// An aborted command leaves the contents as they were, and writes nothing.
+/// An aborted command leaves the contents unchanged and writes nothing.
 pub fn abort_leaves_contents()
     ensures { AbortLeavesContents }
 {}
 
-/// An abort names the place of an operation, and those in front of it go through.
+/// An abort names the index of an operation, and the operations before it succeed.
 pub fn abort_names_place()
     ensures { AbortNamesPlace }
 {}
 
-/// A command's writes name its written keys alone.
+/// The keys of a command's writes are written keys of the command.
 pub fn writes_name_written_keys()
     ensures { WritesNameWrittenKeys }
 {}
@@ -26,12 +26,12 @@ pub fn writes_are_apart()
     ensures { WritesAreApart }
 {}
 
-/// Over contents that agree on its touched keys a command gives the same reply and the same writes.
+/// Over contents that agree on its touched keys, a command has the same reply and the same writes.
 pub fn touched_keys_decide()
     ensures { TouchedKeysDecide }
 {}
 
-/// The rising keys of a list are its keys, each once.
+/// The rising keys of a list are its distinct keys.
 pub fn keys_rise()
     ensures { KeysRise }
 {}

@@ -1,7 +1,7 @@
 //! Laws of commands that conflict, and of those that do not.
 ghost use Rattle.epx_laws.specs.ConflictLaws.{ConflictIsMutual, ApartCommandsExchange};
 
-/// Conflict does not depend on which command is named first.
+/// Conflict is symmetric.
 pub fn conflict_is_mutual()
     ensures { ConflictIsMutual }
 {}

@@ -1,28 +1,28 @@
-//! Laws of what is left of a committed map.
+//! Laws of the remaining map, a committed map without its done instances.
 ghost use Rattle.epx_laws.specs.DoneLaws.{LeftDependsOnLeft, LeftIsReadyAlike, NothingDoneLeavesAll, LeftIsNotDone, LeftRises};
 
-/// Where nothing is done the whole map is left.
+/// If nothing is done, the whole map remains.
 pub fn nothing_done_leaves_all()
     ensures { NothingDoneLeavesAll }
 {}
 
-/// What is left has the Ids that are not done.
+/// The remaining map has exactly the Ids that are not done.
 pub fn left_is_not_done()
     ensures { LeftIsNotDone }
 {}
 
-/// What is left of a map whose Ids rise is such a map.
+/// If the Ids of a map rise, those of the remaining map rise.
 pub fn left_rises()
     ensures { LeftRises }
 {}
 
-/// What is left depends on what it depended on and is not done.
+/// A remaining instance depends exactly on its former dependencies that are not done.
 pub fn left_depends_on_left()
     ensures { LeftDependsOnLeft }
 {}
 
-/// Where all that is done is ready, what is not done is ready in what is left exactly where it is in
-/// the whole map.
+/// If all done instances are ready, an instance that is not done is ready in the remaining map
+/// exactly if it is ready in the whole map.
 pub fn left_is_ready_alike()
     ensures { LeftIsReadyAlike }
 {}

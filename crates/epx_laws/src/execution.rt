@@ -1,7 +1,7 @@
 //! Laws of commands executed one after another.
 ghost use Rattle.epx_laws.specs.ExecutionLaws.{OneCommandExecutes, EachCommandReplies, ExecutionGoesOn, RearrangementsExecuteAlike};
 
-/// One command is executed by itself.
+/// Executing a list of one command is executing that command.
 pub fn one_command_executes()
     ensures { OneCommandExecutes }
 {}
@@ -11,12 +11,13 @@ pub fn each_command_replies()
     ensures { EachCommandReplies }
 {}
 
-/// To execute two lists one after the other is to execute both as one.
+/// Executing two lists one after the other is executing their concatenation.
 pub fn execution_goes_on()
     ensures { ExecutionGoesOn }
 {}
 
-/// Commands in another order that keeps the order of each two that conflict execute alike.
+/// A rearrangement that keeps the order of any two commands that conflict leaves the same
+/// contents, and each command has the same reply.
 pub fn rearrangements_execute_alike()
     ensures { RearrangementsExecuteAlike }
 {}

@@ -1,17 +1,17 @@
 //! Laws of conflict levels.
 ghost use Rattle.epx_laws.specs.LevelLaws.{LevelsExist, LevelIsOne, LevelsAreOne, LevelIsApart, ConflictsClimb, LevelsAreLeast, LevelsAreFewest, EachLevelIsReached};
 
-/// Commands have levels.
+/// Every list of commands has levels.
 pub fn levels_exist()
     ensures { LevelsExist }
 {}
 
-/// A place has one level.
+/// A position has at most one level.
 pub fn level_is_one()
     ensures { LevelIsOne }
 {}
 
-/// Commands have one list of levels.
+/// A list of commands has at most one list of levels.
 pub fn levels_are_one()
     ensures { LevelsAreOne }
 {}
@@ -21,22 +21,22 @@ pub fn level_is_apart()
     ensures { LevelIsApart }
 {}
 
-/// Of two commands that conflict the later stands in the greater level.
+/// Of two commands that conflict, the later has the greater level.
 pub fn conflicts_climb()
     ensures { ConflictsClimb }
 {}
 
-/// Levels are the least numbers that rise wherever commands conflict.
+/// Levels are the least numbers that rise with conflicts.
 pub fn levels_are_least()
     ensures { LevelsAreLeast }
 {}
 
-/// Numbers that rise wherever commands conflict are at least as many as the levels.
+/// There are at least as many numbers that rise with conflicts as levels.
 pub fn levels_are_fewest()
     ensures { LevelsAreFewest }
 {}
 
-/// Each level below their count has a member.
+/// Each number below the number of levels is the level of some command.
 pub fn each_level_is_reached()
     ensures { EachLevelIsReached }
 {}

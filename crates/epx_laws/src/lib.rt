@@ -1,5 +1,5 @@
-//! What shows that the definitions of `epx_types` mean what they should. Each function here has an
-//! empty body, and its contract is a law over the definitions.
+//! Laws that show that the definitions of `epx_types` mean what they should. Each function has an
+//! empty body, and its contract is a law.
 #![tactic(auto)]
 
 pub mod agreement;

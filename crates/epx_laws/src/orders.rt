@@ -1,4 +1,4 @@
-//! Laws of the orders that types carry.
+//! Laws of the orders of types.
 ghost use Rattle.epx_laws.specs.OrderingLaws.{OrdersAreTheStatedOnes};
 
 /// Keys are ordered by bytes, Ids by replica and then number, places by log and then line.

@@ -6,7 +6,7 @@ pub fn pieces_follow_each_other()
     ensures { PiecesFollowEachOther }
 {}
 
-/// A piece is not empty and has at most as many items as the cut.
+/// A piece has at least one item and at most `cut`.
 pub fn pieces_have_few_items()
     ensures { PiecesHaveFewItems }
 {}

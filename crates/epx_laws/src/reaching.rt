@@ -1,7 +1,7 @@
 //! Laws of reaching, of components and of readiness.
 ghost use Rattle.epx_laws.specs.ReachingLaws.{DependenciesAreListed, ReachingIsReflexive, ReachingIsTransitive, DependenciesAreReached, ReachingIsLeast, OneComponentIsEquivalence, MembersAreAlike, LeaderExists, LeaderIsOne, DepthExists, DepthIsOne, DepthFalls, DepthIsLeast, MissingIsOne, WaitingListExists, WaitingListIsOne, ReadyOrWaits, ReadyWaitsForNothing, AllReadyWhereNothingLacks};
 
-/// Committed instances alone depend on others, each on those that it lists.
+/// Only committed instances depend on others, each exactly on the Ids in its list of dependencies.
 pub fn dependencies_are_listed()
     ensures { DependenciesAreListed }
 {}
@@ -11,7 +11,7 @@ pub fn reaching_is_reflexive()
     ensures { ReachingIsReflexive }
 {}
 
-/// What is reached from a reached instance is reached.
+/// Reaching is transitive.
 pub fn reaching_is_transitive()
     ensures { ReachingIsTransitive }
 {}
@@ -21,7 +21,7 @@ pub fn dependencies_are_reached()
     ensures { DependenciesAreReached }
 {}
 
-/// Nothing is reached but by dependencies.
+/// Reaching is the least relation that is reflexive and follows dependencies.
 pub fn reaching_is_least()
     ensures { ReachingIsLeast }
 {}
@@ -41,7 +41,7 @@ pub fn leader_exists()
     ensures { LeaderExists }
 {}
 
-/// A component has one leader.
+/// An instance has at most one leader.
 pub fn leader_is_one()
     ensures { LeaderIsOne }
 {}
@@ -51,17 +51,17 @@ pub fn depth_exists()
     ensures { DepthExists }
 {}
 
-/// An instance has one depth.
+/// An instance has at most one depth.
 pub fn depth_is_one()
     ensures { DepthIsOne }
 {}
 
-/// What is reached one way alone lies lower.
+/// If x reaches y and y does not reach x, the depth of y is less.
 pub fn depth_falls()
     ensures { DepthFalls }
 {}
 
-/// Depths are the least numbers that fall along each one-way reach.
+/// Depths are the least numbers that fall from x to y if x reaches y and y does not reach x.
 pub fn depth_is_least()
     ensures { DepthIsLeast }
 {}
@@ -76,7 +76,7 @@ pub fn waiting_list_exists()
     ensures { WaitingListExists }
 {}
 
-/// A map has one waiting list.
+/// A map has at most one waiting list.
 pub fn waiting_list_is_one()
     ensures { WaitingListIsOne }
 {}
@@ -86,12 +86,12 @@ pub fn ready_or_waits()
     ensures { ReadyOrWaits }
 {}
 
-/// A committed instance is ready exactly where it waits for nothing.
+/// A committed instance is ready exactly if it waits for nothing.
 pub fn ready_waits_for_nothing()
     ensures { ReadyWaitsForNothing }
 {}
 
-/// Where each dependency is committed, each instance is ready.
+/// If each dependency is committed, each committed instance is ready.
 pub fn all_ready_where_nothing_lacks()
     ensures { AllReadyWhereNothingLacks }
 {}

@@ -1,4 +1,4 @@
--- Elements of a parsed array, one after another, beside what the definitions read of them.
+-- A loop over the elements of a parsed array, and what the definitions read from them.
 use Rattle.std.proofs.Common.{◌≡◌, ℕ, suc, ◌+◌, ◌<◌, ◌≤◌, List, [], ◌∷◌, ◌++◌, length, get_or, drop, map, Option, Some, None, option_map, option_and_then, refl, sym, ap, ◌∙◌, arith}
 use Rattle.std.proofs.lemmas.Bool.Decides.{nat_tests}
 use Rattle.std.proofs.lemmas.List.{append_assoc, drop_more}
@@ -22,7 +22,7 @@ pub length-list_of : (vs : List Value) → length (list_of (items_view vs)) ≡ 
 length-list_of [] = refl
 length-list_of (v ∷ vs) = ap suc (length-list_of vs)
 
--- ---- one element more is read
+-- ---- one more element is read
 
 joined : {B : Type 0} (done : List B) (y : B) (rest : Option (List B)) → option_map (λ more. done ++ more) (option_map (λ ys. y ∷ ys) rest) ≡ option_map (λ more. (done ++ y ∷ []) ++ more) rest
 joined done y None = refl
@@ -35,7 +35,7 @@ read_one_more f xs i x y done whole l at is e =
     ∙ ap (λ o. option_map (λ more. done ++ more) (option_and_then (λ z. option_map (λ ys. z ∷ ys) (every f (drop (i + 1) xs))) o)) is
     ∙ joined done y (every f (drop (i + 1) xs))
 
--- ---- lists of the wrong length are no pair and no operation
+-- ---- lists of the wrong length are neither a pair nor an operation
 
 no_pair : (vs : List Value) → length vs < 2 → id_of_pair (list_of (items_view vs)) ≡ None
 no_pair [] l = refl
@@ -76,7 +76,7 @@ pub op_of_long : (d : Data) (vs : List Value) → Some (items_view vs) ≡ as_ar
 unfolding op_of
 op_of_long d vs e l = rw (← e) (sym (no_op_of_more vs l))
 
--- ---- arrays with too many elements, and the others
+-- ---- arrays with too many elements, and arrays with few enough
 
 pub at_most-within : {A : Type 0} (n : ℕ) (xs : List A) → length xs ≤ n → at_most n xs ≡ Some xs
 at_most-within n xs l = grind (arith, nat_tests)
@@ -110,26 +110,26 @@ same_option : {A : Type 0} (o : Option A) → o ≡ option_map (λ x. x) o
 same_option None = refl
 same_option (Some x) = refl
 
--- before the first element
+-- at the start of a loop, no element has been read
 pub ops_begin : (d : Data) (vs items : List Value) (ops : List Op) → Some (items_view vs) ≡ as_array d → length vs ≤ 64 → items ≡ vs → ops ≡ [] → ops_of d ≡ option_map (λ more. ops ++ more) (every (λ v. op_of (view v)) (drop 0 items))
 ops_begin d vs items ops e l same none = rw (same, none) (ops_of_some d vs e l ∙ same_option _)
 
 pub ids_begin : (d : Data) (vs items : List Value) (ids : List Id) → Some (items_view vs) ≡ as_array d → length vs ≤ 256 → items ≡ vs → ids ≡ [] → each_of_at_most 256 id_of d ≡ option_map (λ more. ids ++ more) (every (λ v. id_of (view v)) (drop 0 items))
 ids_begin d vs items ids e l same none = rw (same, none, ← e) (some_elements id_of 256 vs l ∙ same_option _)
 
--- ---- a loop over the elements: `ahead` takes what the rest gives, `later` what it gives without its head
+-- ---- a loop: `ahead` takes the results of the rest, `later` all of them but the first
 
 module _ {A B C : Type 0} (f : A → Option B) where
   heads : (o : Option (List B)) (y : B) (ahead later : List B → C) → ((ys : List B) → ahead (y ∷ ys) ≡ later ys) → option_map ahead (option_map (λ ys. y ∷ ys) o) ≡ option_map later o
   heads None y ahead later same = refl
   heads (Some ys) y ahead later same = ap Some (same ys)
 
-  -- the next element gives y
+  -- f of the next element is y
   pub every-more : (xs : List A) (i : ℕ) (x : A) (y : B) (ahead later : List B → C) → i < length xs → x ≡ get_or xs i x → f x ≡ Some y → ((ys : List B) → ahead (y ∷ ys) ≡ later ys)
       → option_map ahead (every f (drop i xs)) ≡ option_map later (every f (drop (i + 1) xs))
   every-more xs i x y ahead later l here gives same =
       rw (drop_more xs i x l, ← here, gives) (heads (every f (drop (i + 1) xs)) y ahead later same)
 
--- the next element gives nothing
+-- f has no value at the next element
 pub every-stop : {A B : Type 0} (f : A → Option B) (xs : List A) (i : ℕ) (x : A) → i < length xs → x ≡ get_or xs i x → f x ≡ None → every f (drop i xs) ≡ None
 every-stop f xs i x l here gives = rw (drop_more xs i x l, ← here, gives)

@@ -1,4 +1,4 @@
--- The lines of a log without recursion.
+-- The laws of `lines_of`: its description without recursion.
 use Rattle.std.proofs.Common.{◌≡◌, ℕ, zero, suc, ◌-◌, Bool, true, false, cond, eqb, nat_lt, not, ◌&&◌, tests, List, [], ◌∷◌, ◌++◌, length, refl, sym, ap, ap₂, subst, append_assoc, ◌∙◌, arith, rules}
 use Rattle.std.proofs.lemmas.Bool.Decides.{nat_tests}
 use Rattle.std.proofs.lemmas.Bool.{eqb-true}
@@ -7,7 +7,7 @@ use Rattle.std.specs.List.{All, Contains}
 use Rattle.epx_types.proofs.Membership.{Contains-head, Contains-cons}
 use Rattle.epx_lines.specs.Lines.{lengthen_first, lines_of, ends_open, closed, AreLinesOf}
 
--- ---- no line holds a line feed
+-- ---- no line contains a line feed
 
 no_feed-nil : ¬ Contains {X = ℕ} [] 10
 no_feed-nil h = absurd (omega (arith, h.1))
@@ -89,9 +89,9 @@ closed_lines (b ∷ c ∷ bs) = closed_step (eqb b 10) b (lines_of (c ∷ bs)) r
 pub lines_are : (bs : List ℕ) → AreLinesOf bs (lines_of bs)
 lines_are bs = record { unbroken = unbroken_lines bs; whole = closed_lines bs ∙ with_feed-value bs }
 
--- ---- no other lists are so
+-- ---- no other list of lines satisfies the description
 
--- what stands before the first line feed, and what after it
+-- what is before the first line feed and what is after it are unique
 first_feed_is_one : (l m after rest : List ℕ) → ¬ Contains l 10 → ¬ Contains m 10 → l ++ 10 ∷ after ≡ m ++ 10 ∷ rest → (l ≡ m) × (after ≡ rest)
 first_feed_is_one [] [] after rest p q e = (refl, cc)
 first_feed_is_one [] (y ∷ m) after rest p q e = let same : y ≡ 10 = cc in absurd (q (subst (Contains (y ∷ m)) same (Contains-head y m)))

@@ -1,4 +1,4 @@
--- What the text of a number means that is digits alone, or digits after a minus.
+-- The number that a text of only digits, or of digits after a minus, means.
 use Rattle.std.proofs.Common.{◌≡◌, ◌≢◌, ℕ, zero, suc, ◌+◌, ◌-◌, ◌*◌, ◌^◌, ◌<◌, ◌≤◌, pos, neg_ℤ, true, false, List, [], length, take, drop, get_or, Some, refl, sym, ap, ◌∙◌, arith, append-nil, lt-ltb, le-leb, ne_eqb, eq-eqb}
 use Rattle.std.proofs.lemmas.Bool.Decides.{nat_tests}
 use Rattle.std.proofs.lemmas.Float.Parse.{scan_numeral-text_of}
@@ -13,7 +13,7 @@ use Rattle.serde_json.specs.Find.{of_integer}
 use Rattle.serde_json.specs.Read.{number_of, number_from}
 use Rattle.epx_lines.specs.Tokens.{AreDigitsOf}
 
--- the numeral of digits alone
+-- a text of only digits
 abbrev digits_alone : List ℕ → Parts
 digits_alone text = record { whole = text; point = false; fraction = []; exponent_negative = false; exponent = []; len = length text }
 

@@ -8,7 +8,8 @@ use Rattle.epx_lines.specs.OperationList.{key_of, value_or_null, op_with_key, op
 use Rattle.epx_lines.specs.Meaning.{object_line}
 use Rattle.epx_lines.specs.Text.{data_of_op}
 
--- what an answer unfolds to compute the meaning of a line, or the line of an entry, that is written out
+-- what a proof must unfold to compute the meaning of a literal line, or the line of a literal
+-- entry
 unfoldable pub lines_on_literals : ⊤
 unfolding serde_json_on_literals digits is_utf8 chars whole id_of deps_of key_of value_or_null op_with_key op_with_value op_of ops_of object_line data_of_op
 lines_on_literals = tt

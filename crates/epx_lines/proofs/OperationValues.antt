@@ -1,4 +1,4 @@
--- What is read of the third part of an operation: each of a number, a key and null alone.
+-- The operation that is read from each kind of third part: a number, a key, or null.
 use Rattle.std.proofs.Common.{◌≡◌, ℕ, ℤ, is_some, false, List, Some, None, refl}
 use Rattle.serde_json.specs.Data.{Data, null, boolean, number, string, array, object}
 use Rattle.serde_json.specs.Find.{as_null}

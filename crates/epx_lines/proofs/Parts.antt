@@ -1,4 +1,4 @@
--- The parts of an instance beside the object that they are read of.
+-- The parts of an instance and the object that they are read from.
 use Rattle.std.proofs.Common.{◌≡◌, ℕ, ◌^◌, List, true, false, codes, Option, Some, None, option_map, option_and_then, bytes_eq, Vec, Global, refl, sym, ap, ◌∙◌}
 use Rattle.std.specs.Prelude.{Ok}
 use Rattle.std.proofs.lemmas.Bool.{false≢true}
@@ -16,7 +16,7 @@ use Rattle.epx_lines.specs.DependencyList.{id_of, rising_others, deps_of}
 use Rattle.epx_lines.specs.OperationList.{ops_of}
 use Rattle.epx_lines.specs.Meaning.{at_member, is_committed, object_line}
 
--- ---- a member that is put, and the others
+-- ---- a member that is put into an object, and the other members
 
 unlike : (q k : List ℕ) → bytes_eq q k ≡ false → q ≡ k → ⊥
 unlike q k e same = false≢true (sym e ∙ (bytes_eq-Decides q k).1 same)

@@ -1,4 +1,4 @@
--- A rising list without the instance itself is its own list of others.
+-- `rising_others` leaves a rising list without the instance itself unchanged.
 use Rattle.std.proofs.Common.{◌≡◌, true, not, Ordering, Less, Equal, Greater, List, [], ◌∷◌, ◌++◌, filter, fold, Contains, refl, sym, ap, ◌∙◌, subst, append-nil}
 use Rattle.std.proofs.lemmas.List.{append_assoc}
 use Rattle.std.specs.BTreeSet.{insert_key}
@@ -10,7 +10,7 @@ use Rattle.epx_types.proofs.Comparisons.{id_cmp_total, id_cmp-IsAntisymmetric}
 use Rattle.epx_types.proofs.TotalOrders.{Less-is_lt}
 use Rattle.epx_lines.specs.DependencyList.{is_other, rising_others}
 
--- ---- each goes last
+-- ---- each Id goes last
 
 above : (x y : Id) → Below y x → id_cmp x y ≡ Greater
 above x y h = id_cmp_total.antisymm x y ∙ ap ordering_reverse (Less-is_lt _ h)
@@ -30,7 +30,7 @@ fold_rising found (x ∷ xs) h =
     let rising : IsRising ((found ++ x ∷ []) ++ xs) = subst IsRising (sym next) h in
     ap (λ l. fold (insert_key id_cmp) l xs) (insert_last found x xs h) ∙ fold_rising (found ++ x ∷ []) xs rising ∙ next
 
--- ---- none is the instance
+-- ---- no Id is the instance itself
 
 unlike_at : (o : Ordering) (x self : Id) → id_cmp x self ≡ o → (x ≡ self → ⊥) → not (is_eq o) ≡ true
 unlike_at Less x self e h = refl
@@ -46,8 +46,8 @@ all_others self (x ∷ xs) h =
 pub rising_others-same : (self : Id) (xs : List Id) → IsRising xs → ¬ Contains xs self → rising_others self xs ≡ xs
 rising_others-same self xs rising apart = ap (fold (insert_key id_cmp) []) (all_others self xs apart) ∙ fold_rising [] xs rising
 
--- ---- others found one after another
+-- ---- other Ids inserted one after another
 
--- the Ids found so far, with the others among these each put at its place, unless it is there
+-- the Ids so far, into which the Ids of a list are inserted that are not the instance itself
 abbrev pub with_others : Id → List Id → List Id → List Id
 with_others self found ids = fold (insert_key id_cmp) found (filter (is_other self) ids)

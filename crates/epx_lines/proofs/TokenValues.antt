@@ -1,4 +1,4 @@
--- Values at the front of tokens, and lists and objects built of them.
+-- Values at the front of tokens, and the lists and objects that they make.
 use Rattle.std.proofs.Common.{◌≡◌, ℕ, ℤ, suc, ◌-◌, ◌<◌, ◌≤◌, List, [], ◌∷◌, ◌++◌, length, Option, Some, None, IfSome, ltb, option_map, option_and_then, refl, sym, ap, ◌∙◌, subst, arith, append-nil, lt-ltb, ◌^◌}
 use Rattle.std.proofs.lemmas.Option.{cond_some}
 use Rattle.std.specs.Int.{w64}
@@ -21,7 +21,7 @@ use Rattle.epx_lines.proofs.Elements.{at_most-within}
 use Rattle.epx_lines.proofs.WellFormed.{length-every}
 use Rattle.epx_lines.proofs.WrittenParts.{whole-fits, FitsValue-from_range}
 
--- ---- values that hold no other
+-- ---- numbers, strings and null
 
 pub BeginsWith-number : (s : List ℕ) (d : Data) (rest : List Token) → option_map number (number_of s) ≡ Some d → BeginsWith 0 (Token.number s ∷ rest) d rest
 BeginsWith-number s d rest e depth h = ap (converted of_json) (value_is depth (Token.number s ∷ rest)) ∙ ap (option_map (λ b. (b, rest))) e
@@ -35,9 +35,9 @@ BeginsWith-null rest depth h = ap (converted of_json) (value_is depth (Token.nul
 pub BeginsWith-deeper : (n m : ℕ) (ts : List Token) (d : Data) (rest : List Token) → n ≤ m → BeginsWith n ts d rest → BeginsWith m ts d rest
 BeginsWith-deeper n m ts d rest l h depth k = h depth (omega arith)
 
--- ---- what f gives for them
+-- ---- f of the value at the front
 
--- what f gives for the value at the front, if it gives something
+-- f of the value at the front, if it has one
 pub Gives-found : {A : Type 0} (n : ℕ) (f : Data → Option A) (ts rest : List Token) (d : Data) (o : Option A) → BeginsWith n ts d rest → o ≡ f d → IfSome o (λ x. Gives n f ts x rest)
 Gives-found n f ts rest d None h e = tt
 Gives-found n f ts rest d (Some x) h e = (d, h, sym e)
@@ -56,7 +56,7 @@ pub Gives-replica : (n : ℕ) (ts rest : List Token) → Gives 0 (whole (2 ^ 64)
 unfolding whole
 Gives-replica n ts rest g l = (g.0, g.1, narrower (2 ^ 64) 256 n (option_and_then as_u64 (as_number g.0)) g.2 l)
 
--- ---- what a value is read from
+-- ---- a value takes at least one token
 
 abbrev pick : {A : Type 0} → A → Option A → A
 pick d None = d
@@ -106,7 +106,7 @@ pub BeginsInTurn-append : (n : ℕ) (ts : List Token) (xs ys : List Data) (mid r
 BeginsInTurn-append n ts [] ys mid rest same h = rw same h
 BeginsInTurn-append n ts (x ∷ xs) ys mid rest (next, first, more) h = (next, first, BeginsInTurn-append n next xs ys mid rest more h)
 
--- one value before the others
+-- one value in front of the others
 pub GivesInTurn-more : {A : Type 0} (n : ℕ) (f : List Data → Option A) (ts : List Token) (d : Data) (mid : List Token) (x : A) (rest : List Token)
     → BeginsWith n ts d mid → GivesInTurn n (λ ds. f (d ∷ ds)) mid x rest → GivesInTurn n f ts x rest
 GivesInTurn-more n f ts d mid x rest first g = (d ∷ g.0, (mid, first, g.1), g.2)
@@ -143,7 +143,7 @@ pub list_of-items_of : (ds : List Data) → list_of (items_of ds) ≡ ds
 list_of-items_of [] = refl
 list_of-items_of (d ∷ ds) = ap (λ more. d ∷ more) (list_of-items_of ds)
 
--- an array of values for which f gives x
+-- an array of values for which f returns x
 pub GivesInTurn-array : {A : Type 0} (n : ℕ) (f : List Data → Option A) (ts : List Token) (x : A) (mid rest : List Token)
     → GivesInTurn n f ts x mid → after_end_array mid ≡ Some rest → Gives (suc n) (λ d. option_and_then f (elements d)) (Token.begin_array ∷ ts) x rest
 GivesInTurn-array n f ts x mid rest g end = (
@@ -152,7 +152,7 @@ GivesInTurn-array n f ts x mid rest g end = (
   rw (list_of-items_of g.0) g.2,
 )
 
--- ---- a list that grows by what f gives for each item
+-- ---- a list to which f of each item is added
 
 every-push_at : {B : Type 0} (o : Option B) (x : B) (p : Option (List B)) (xs : List B) (q : Option (List B)) → option_and_then (λ y. option_map (λ ys. y ∷ ys) p) o ≡ Some xs
     → ((ys : List B) → p ≡ Some ys → q ≡ Some (ys ++ x ∷ [])) → option_and_then (λ y. option_map (λ ys. y ∷ ys) q) o ≡ Some (xs ++ x ∷ [])
@@ -172,7 +172,7 @@ append-one [] d more = refl
 append-one (x ∷ ds) d more = ap (λ l. x ∷ l) (append-one ds d more)
 
 module _ {A : Type 0} (n : ℕ) (f : Data → Option A) (start : List Token) where
-  -- so far the items gave xs, and `now` follows
+  -- f of the items so far is xs, and the tokens `now` follow
   abbrev pub HasTaken : List A → List Token → Type 0
   HasTaken xs now = (ds : List Data) × (every f ds ≡ Some xs) × ((more : List Data) (rest : List Token) → AreItems n now more rest → AreItems n start (ds ++ more) rest)
 
@@ -240,7 +240,7 @@ pub put_each-last : (ms : List (List ℕ × Data)) (m : List ℕ × Data) (old :
 put_each-last [] m old = refl
 put_each-last (x ∷ ms) m old = put_each-last ms m (put x.0 x.1 old)
 
--- so far the members are such that P, and `now` follows
+-- the members so far satisfy P, and the tokens `now` follow
 abbrev pub HasMembers : ℕ → List Token → (List (List ℕ × Data) → Type 0) → List Token → Type 0
 HasMembers n start P now = (ms : List (List ℕ × Data)) × P ms × ((more : List (List ℕ × Data)) (rest : List Token) → AreMembers n now more rest → AreMembers n start (ms ++ more) rest)
 

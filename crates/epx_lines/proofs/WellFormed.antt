@@ -1,4 +1,4 @@
--- What is read of a line makes a well-formed entry.
+-- The parts that are read from a line make a well-formed entry.
 use Rattle.std.proofs.Common.{◌≡◌, ℕ, suc, ◌+◌, ◌≤◌, Bool, true, false, cond, not, nat_le, Ordering, Less, Equal, Greater, List, [], ◌∷◌, length, get_or, filter, fold, Contains, Option, Some, None, option_map, option_and_then, refl, sym, ap, ◌∙◌, arith}
 use Rattle.std.proofs.lemmas.Bool.{false≢true}
 use Rattle.std.proofs.lemmas.Bool.Decides.{nat_tests}
@@ -18,7 +18,7 @@ use Rattle.epx_lines.specs.Elements.{every, elements, at_most}
 use Rattle.epx_lines.specs.DependencyList.{id_of, is_other, rising_others, deps_of}
 use Rattle.epx_lines.specs.OperationList.{op_of, ops_of}
 
--- ---- what was put at its place keeps the list rising
+-- ---- an insertion keeps the list rising
 
 Below-trans : (x y z : Id) → Below x y → Below y z → Below x z
 Below-trans x y z p q = ap is_lt (id_cmp_total.trans x y z (Less-is_lt _ p) (Less-is_lt _ q))
@@ -140,7 +140,7 @@ unfolding ops_of
 few_ops None ops e = cc
 few_ops (Some d) ops e = few op_of 64 (elements d) ops (sym e)
 
--- what may stand as the dependencies of an entry
+-- valid dependencies of an entry
 pub record FitsDeps (self : Id) (deps : List Id) : Type 0 where
   pub rising : IsRising deps
   pub not_itself : ¬ Contains deps self

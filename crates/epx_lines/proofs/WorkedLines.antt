@@ -16,12 +16,12 @@ pub put_and_get : meaning_of (codes "{\"r\":0,\"i\":0,\"seq\":1,\"deps\":[],\"op
 unfolding lines_on_literals first_entry
 put_and_get = refl
 
--- how it is written
+-- the line that is written for it
 pub put_and_get_written : line_text first_entry ≡ codes "{\"deps\":[],\"i\":0,\"ops\":[[\"put\",\"a\",5],[\"get\",\"a\"]],\"r\":0,\"seq\":1}"
 unfolding lines_on_literals first_entry
 put_and_get_written = refl
 
--- a no-op whose dependencies are out of order, with a repeat and the instance itself among them
+-- a no-op with dependencies out of order, a repeat, and the instance itself among them
 pub unsorted_dependencies : meaning_of (codes "{\"r\":2,\"i\":0,\"seq\":2,\"deps\":[[1,0],[0,7],[2,0],[1,0]],\"ops\":[]}")
     ≡ Ok (Entry (record { id = record { replica = 2; number = 0 }; seq = 2; deps = record { replica = 0; number = 7 } ∷ record { replica = 1; number = 0 } ∷ []; ops = [] }))
 unfolding lines_on_literals
@@ -41,7 +41,7 @@ pub executed_line : meaning_of (codes "{\"r\":0,\"i\":0,\"seq\":1,\"status\":\"e
 unfolding lines_on_literals first_entry
 executed_line = refl
 
--- one that is only accepted, with dependencies that are none
+-- an instance that is only accepted, with invalid dependencies
 pub accepted_line : meaning_of (codes "{\"r\":0,\"i\":0,\"seq\":1,\"status\":\"accepted\",\"deps\":7,\"ops\":[]}") ≡ Ok Blank
 unfolding lines_on_literals
 accepted_line = refl

@@ -14,7 +14,7 @@ length-comma_if : (later : Bool) → length (comma_if later) ≤ 1
 length-comma_if true = omega arith
 length-comma_if false = omega arith
 
--- elements that are short make a short array
+-- short elements make a short array
 pub length-items_text : {A : Type 0} (f : A → Data) (m : ℕ) (later : Bool) (xs : List A) → All (λ x. length (compact_text (f x)) ≤ m) xs → length (items_text later (items_of (map f xs))) ≤ (m + 1) * length xs + 1
 length-items_text f m later [] h = omega arith
 length-items_text f m later (x ∷ xs) h =

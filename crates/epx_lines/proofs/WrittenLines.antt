@@ -1,4 +1,4 @@
--- The line that is written for an entry means the entry again.
+-- The line that is written for an entry means that entry.
 use Rattle.std.proofs.Common.{◌≡◌, ℕ, suc, ◌^◌, ◌≤◌, nat_lt, true, false, Ordering, Less, Equal, Greater, List, [], ◌∷◌, ◌++◌, length, map, filter, fold, All, Contains, Option, Some, None, Ok, refl, sym, ap, ◌∙◌, subst, append_assoc, append-nil, arith}
 use Rattle.std.proofs.lemmas.Bool.Decides.{nat_tests}
 use Rattle.std.specs.BTreeSet.{insert_key}
@@ -47,7 +47,7 @@ items_depth-mapped f h (x ∷ xs) = omega (arith, h x, items_depth-mapped f h xs
 depth-object_of : (e : Instance) → depth (object_of e) ≤ max_depth
 depth-object_of e = omega (arith, items_depth-mapped data_of_id (λ x. omega arith) e.deps, items_depth-mapped data_of_op depth-op e.ops)
 
--- what was written of the object reads as the object
+-- the written object reads as that object
 pub reads_back : (e : Instance) (text : List ℕ) (d : Data) → d ≡ object_of e → (depth d ≤ max_depth → read text ≡ Some d) → read text ≡ Some (object_of e)
 reads_back e text d is reads =
     let P : Data → Type 0 = λ d. depth d ≤ max_depth → read text ≡ Some d in
@@ -67,7 +67,7 @@ before_last : (y x : Id) (ys xs : List Id) → BelowAll y (ys ++ x ∷ xs) → B
 before_last y x [] xs h = h.0
 before_last y x (z ∷ ys) xs h = before_last y x ys xs h.1
 
--- an Id above all goes last
+-- an Id above all others goes last
 insert_key-last : (x : Id) (found xs : List Id) → IsRising (found ++ x ∷ xs) → insert_key id_cmp found x ≡ found ++ x ∷ []
 insert_key-last x [] xs h = refl
 insert_key-last x (y ∷ found) xs h =
@@ -91,7 +91,7 @@ filter-others self (x ∷ xs) h =
     let apart = λ (e : x ≡ self). h (subst (Contains (x ∷ xs)) e (Contains-head x xs)) in
     rw (other_at self x _ refl apart) (ap (λ l. x ∷ l) (filter-others self xs (λ k. h (Contains-cons x xs self k))))
 
--- dependencies that rise and lack the instance itself are read as they stand
+-- dependencies that rise and do not name the instance itself are read unchanged
 rising_others-rising : (self : Id) (deps : List Id) → IsRising deps → ¬ Contains deps self → rising_others self deps ≡ deps
 rising_others-rising self deps rising lacks = ap (fold (insert_key id_cmp) []) (filter-others self deps lacks) ∙ fold-rising [] deps rising
 

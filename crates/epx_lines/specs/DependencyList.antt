@@ -11,7 +11,7 @@ abbrev pub id_of_pair : List Data → Option Id
 id_of_pair (r ∷ i ∷ []) = option_and_then (λ replica. option_map (λ number. record { replica = replica; number = number }) (whole (2 ^ 64) i)) (whole 256 r)
 id_of_pair _ = None
 
--- the instance that `[r,i]` names
+-- the Id that is written as `[r,i]`
 unfoldable pub id_of : Data → Option Id
 id_of d = option_and_then id_of_pair (elements d)
 
@@ -22,10 +22,10 @@ is_other self x = not (is_eq (id_cmp x self))
 abbrev pub rising_ids : List Id → List Id
 rising_ids ids = fold (insert_key id_cmp) [] ids
 
--- the same without the instance itself
+-- the same without the Id of the instance itself
 abbrev pub rising_others : Id → List Id → List Id
 rising_others self ids = rising_ids (filter (is_other self) ids)
 
--- the dependencies of an instance: at most 256 as written
+-- the dependencies of an instance; the written list has at most 256 Ids
 unfoldable pub deps_of : Id → Data → Option (List Id)
 deps_of self d = option_map (rising_others self) (each_of_at_most 256 id_of d)

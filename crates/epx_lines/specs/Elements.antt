@@ -1,4 +1,4 @@
--- Numbers and lists, as a JSON value holds them.
+-- Numbers and lists in a JSON value.
 use Rattle.std.specs.Prelude.{ℕ, nat_lt, nat_le, ℤ, List, [], ◌∷◌, length, Option, Some, None, option_map, option_and_then, if◌then◌else◌}
 use Rattle.serde_json.specs.Data.{Data, Items, no_items, item}
 use Rattle.serde_json.specs.Find.{as_array, as_number, as_u64, as_i64}
@@ -6,11 +6,11 @@ use Rattle.serde_json.specs.Find.{as_array, as_number, as_u64, as_i64}
 abbrev pub below : ℕ → ℕ → Option ℕ
 below bound n = if nat_lt n bound then Some n else None
 
--- a whole number below the bound; one with a fraction or an exponent is none
+-- a whole number below the bound, written without fraction and exponent
 unfoldable pub whole : ℕ → Data → Option ℕ
 whole bound d = option_and_then (below bound) (option_and_then as_u64 (as_number d))
 
--- a whole number of 64 bits with a sign
+-- a signed whole number of 64 bits
 abbrev pub signed : Data → Option ℤ
 signed d = option_and_then as_i64 (as_number d)
 
@@ -26,11 +26,11 @@ elements d = option_map list_of (as_array d)
 abbrev pub at_most : {A : Type 0} → ℕ → List A → Option (List A)
 at_most n xs = if nat_le (length xs) n then Some xs else None
 
--- what f gives for each element, where it gives something for all
+-- f of each element, if it has a value for all of them
 abbrev pub every : {A B : Type 0} → (A → Option B) → List A → Option (List B)
 every f [] = Some []
 every f (x ∷ xs) = option_and_then (λ y. option_map (λ ys. y ∷ ys) (every f xs)) (f x)
 
--- what f gives for each element of an array of at most n elements, where it gives something for all
+-- f of each element of an array of at most n elements, if it has a value for all of them
 abbrev pub each_of_at_most : {B : Type 0} → ℕ → (Data → Option B) → Data → Option (List B)
 each_of_at_most n f d = option_and_then (every f) (option_and_then (at_most n) (elements d))

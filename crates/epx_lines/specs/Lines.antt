@@ -1,19 +1,19 @@
 -- The lines of a log.
 use Rattle.std.specs.Prelude.{◌≡◌, ℕ, ◌-◌, ◌==◌, ◌&&◌, Bool, not, nat_lt, List, [], ◌∷◌, ◌++◌, length, slice_index, flat_map, All, Contains, if◌then◌else◌}
 
--- a byte in front of the first line
+-- puts a byte in front of the first line
 abbrev pub lengthen_first : ℕ → List (List ℕ) → List (List ℕ)
 lengthen_first b [] = (b ∷ []) ∷ []
 lengthen_first b (l ∷ ls) = (b ∷ l) ∷ ls
 
--- the pieces between line feeds; an empty piece after the last line feed is none
+-- the pieces between line feeds; an empty piece after the last line feed is not a line
 abbrev pub lines_of : List ℕ → List (List ℕ)
 lines_of [] = []
 lines_of (b ∷ bs) = if b == 10 then [] ∷ lines_of bs else lengthen_first b (lines_of bs)
 
 -- ---- the same without recursion
 
--- something stands after the last line feed
+-- some bytes follow the last line feed
 abbrev pub ends_open : List ℕ → Bool
 ends_open bytes = nat_lt 0 (length bytes) && not (slice_index bytes (length bytes - 1) == 10)
 
@@ -21,16 +21,16 @@ ends_open bytes = nat_lt 0 (length bytes) && not (slice_index bytes (length byte
 abbrev pub closed : List (List ℕ) → List ℕ
 closed lines = flat_map (λ l. l ++ 10 ∷ []) lines
 
--- no line holds a line feed, and the lines, each followed by one, are the bytes,
--- followed by one where something stands after their last
+-- no line contains a line feed; the lines, each followed by one, are the bytes, to which one is
+-- added if some bytes follow their last line feed
 pub record AreLinesOf (bytes : List ℕ) (lines : List (List ℕ)) : Type 0 where
   pub unbroken : All (λ l. ¬ Contains l 10) lines
   pub whole : closed lines ≡ (if ends_open bytes then bytes ++ 10 ∷ [] else bytes)
 
--- the lines of bytes are such
+-- `lines_of` returns such lines
 abbrev pub LinesMakeUpTheBytes : Type 0
 LinesMakeUpTheBytes = (bytes : List ℕ) → AreLinesOf bytes (lines_of bytes)
 
--- and nothing else is
+-- no other list of lines is such
 abbrev pub LinesAreOne : Type 0
 LinesAreOne = (bytes : List ℕ) (lines : List (List ℕ)) → AreLinesOf bytes lines → lines ≡ lines_of bytes

@@ -16,7 +16,7 @@ use Rattle.epx_lines.specs.OperationList.{ops_of}
 
 -- ---- bytes
 
--- a line that is not blank may have this many
+-- the most bytes that a line may have if it is not blank
 abbrev pub max_line_bytes : ℕ
 max_line_bytes = 65536
 
@@ -24,7 +24,7 @@ max_line_bytes = 65536
 abbrev pub is_space : ℕ → Bool
 is_space b = (b == 32) || (b == 9) || (b == 13)
 
--- nothing but these
+-- the line has no other bytes
 abbrev pub is_blank : List ℕ → Bool
 is_blank bytes = list_all is_space bytes
 
@@ -34,27 +34,27 @@ json_of bytes = if is_utf8 bytes then read bytes else None
 
 -- ---- an object
 
--- what f gives for the member of this name, if it is there
+-- f of the member with this name, if there is one
 abbrev pub at_member : {A : Type 0} → List ℕ → (Data → Option A) → Data → Option A
 at_member name f d = option_and_then f (get name d)
 
--- whether an instance of this status is committed, if there is such a status
+-- whether an instance with this status is committed; None if there is no such status
 abbrev pub committed_by : List ℕ → Option Bool
 committed_by text =
     if bytes_eq text (codes "committed") || bytes_eq text (codes "executed") then Some true else
     (if bytes_eq text (codes "accepted") || bytes_eq text (codes "pre-accepted") then Some false else None)
 
--- the same of what the member `status` holds; without one the instance is committed
+-- the same by the member `status` of an object; without one the instance is committed
 abbrev pub is_committed : Option Data → Option Bool
 is_committed None = Some true
 is_committed (Some d) = option_and_then committed_by (as_str d)
 
--- next of the value, if there is one, and else the fault
+-- `next` of the value, if there is one, and the fault otherwise
 abbrev pub need : {A B : Type 0} → Why → Option A → (A → Result B Why) → Result B Why
 need why None next = Err why
 need why (Some x) next = next x
 
--- what an object means: an instance, nothing where it is not committed yet, or the first fault
+-- what an object means: an instance, nothing if it is not committed yet, or the first fault
 unfoldable pub object_line : Data → Result Line Why
 object_line d =
     need Replica (at_member (codes "r") (whole 256) d) (λ r.

@@ -17,7 +17,7 @@ abbrev pub data_of_value : Option ℤ → Data
 data_of_value None = null
 data_of_value (Some v) = number (of_integer v)
 
--- a name and a key, and a third part after them
+-- a name and a key; then the same with a third part
 abbrev pub keyed : List ℕ → List ℕ → Data
 keyed name k = array (item (string name) (item (string k) no_items))
 
@@ -33,7 +33,7 @@ data_of_op (Is k o) = keyed_with (codes "is") k (data_of_value o)
 data_of_op (Floor k v) = keyed_with (codes "floor") k (number (of_integer v))
 data_of_op (Copy k j) = keyed_with (codes "copy") k (string j)
 
--- the object with these members, by their names' order
+-- the object with these members, in the order of their names
 abbrev pub object_with : ℕ → ℕ → ℕ → Data → Data → Data
 object_with r i seq deps ops = object (
     member (codes "deps") deps (

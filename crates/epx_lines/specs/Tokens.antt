@@ -12,7 +12,7 @@ use Rattle.epx_lines.specs.DependencyList.{id_of}
 use Rattle.epx_lines.specs.OperationList.{ops_of}
 use Rattle.epx_lines.specs.Meaning.{at_member, is_committed}
 
--- the text is digits alone, one or more, and they write n
+-- the text is one or more digits and nothing else, and they write n
 abbrev pub AreDigitsOf : List ℕ → ℕ → Type 0
 AreDigitsOf text n = IsNumeral 10 text × (digits_value 10 text ≡ n)
 
@@ -20,7 +20,7 @@ AreDigitsOf text n = IsNumeral 10 text × (digits_value 10 text ≡ n)
 abbrev pub BeginsWith : ℕ → List Token → Data → List Token → Type 0
 BeginsWith n ts d rest = (depth : ℕ) → n ≤ depth → converted of_json (value depth ts) ≡ Some (d, rest)
 
--- with one for which f gives x
+-- the tokens begin with a value for which f returns x
 abbrev pub Gives : {A : Type 0} → ℕ → (Data → Option A) → List Token → A → List Token → Type 0
 Gives n f ts x rest = (d : Data) × BeginsWith n ts d rest × (f d ≡ Some x)
 
@@ -29,15 +29,15 @@ abbrev pub BeginsInTurn : ℕ → List Token → List Data → List Token → Ty
 BeginsInTurn n ts [] rest = ts ≡ rest
 BeginsInTurn n ts (d ∷ ds) rest = (mid : List Token) × BeginsWith n ts d mid × BeginsInTurn n mid ds rest
 
--- with some for which f gives x
+-- the tokens begin with values for which f returns x
 abbrev pub GivesInTurn : {A : Type 0} → ℕ → (List Data → Option A) → List Token → A → List Token → Type 0
 GivesInTurn n f ts x rest = (ds : List Data) × BeginsInTurn n ts ds rest × (f ds ≡ Some x)
 
--- what an object gives for a member, if the part is known
+-- if the part is known, it is f of the object's member
 abbrev pub IsMember : {A : Type 0} → List ℕ → (Data → Option A) → Members → Option A → Type 0
 IsMember name f ms part = IfSome part (λ x. at_member name f (object ms) ≡ Some x)
 
--- the parts that are known are those of the object, whose status is that of a committed instance
+-- the known parts are those of the object, and by its status the instance is committed
 pub record HoldsParts (ms : Members) (p : Parts) : Type 0 where
   pub replica : IsMember (codes "r") (whole 256) ms p.replica
   pub number : IsMember (codes "i") (whole (2 ^ 64)) ms p.number
@@ -46,6 +46,8 @@ pub record HoldsParts (ms : Members) (p : Parts) : Type 0 where
   pub ops : IsMember (codes "ops") ops_of ms (option_map (λ v. v.items) p.ops)
   pub status : is_committed (get (codes "status") (object ms)) ≡ Some true
 
--- a value was taken, and the parts hold with it under the name wherever they held before
+-- the tokens begin with a value; if the old parts are those of an object, the new ones are those
+-- of
+-- the object with this value under the name
 abbrev pub AddsMember : List ℕ → List Token → List Token → Parts → Parts → Type 0
 AddsMember name ts rest old new = (d : Data) × BeginsWith 2 ts d rest × ((ms : Members) → HoldsParts ms old → HoldsParts (put name d ms) new)

@@ -1,4 +1,4 @@
--- What a written part owes: it reads as what was written, and is short.
+-- What each written part must satisfy: it reads as what was written, and is short.
 use Rattle.std.specs.Prelude.{◌≡◌, ℕ, ◌^◌, ◌<◌, ◌≤◌, ℤ, length, Some, Ok}
 use Rattle.serde_json.specs.Data.{number}
 use Rattle.serde_json.specs.Find.{of_integer}

@@ -1,4 +1,4 @@
-//! Cutting a log into lines.
+//! Cuts a log into lines.
 ghost use Rattle.std.specs.Prelude.{◌≡◌, ◌<◌, ◌∷◌, length, map, IfOk};
 ghost use Rattle.epx_lines.specs.Lines.{lines_of};
 
@@ -6,7 +6,8 @@ use epx_types::Memory;
 use memchr::memchr;
 use std::alloc::Global;
 
-/// The first line of a log, without its line feed, and the bytes after it.
+/// Splits a nonempty log after its first line. Returns the line without its line feed, and the
+/// bytes after the line feed.
 pub fn cut_line(bytes: &[u8]) -> (&[u8], &[u8])
     requires { 0 < length bytes.now }
     ensures lines { lines_of bytes.now ≡ result.0.now ∷ lines_of result.1.now }
@@ -21,8 +22,9 @@ pub fn cut_line(bytes: &[u8]) -> (&[u8], &[u8])
     }
 }
 
-/// The lines of a log in order, without their line feeds. The last line may lack its line feed, and
-/// none comes after a last line feed. Nothing is copied.
+/// Returns the lines of a log in order, without their line feeds. The last line may lack its line
+/// feed. A line feed at the end of the log begins no further line. The lines are borrowed from the
+/// bytes.
 pub fn cut_lines(alloc: Global, bytes: &[u8]) -> Result<Vec<&[u8]>, Memory>
     ensures { IfOk result (λ v. map (λ l. l.now) v.items ≡ lines_of bytes.now) }
 {

@@ -1,4 +1,4 @@
-//! Dependencies of a line.
+//! Reads the dependencies of a line from a JSON value.
 ghost use Rattle.std.specs.Prelude.{◌≡◌, ◌^◌, [], ◌∷◌, IfOk, option_map};
 ghost use Rattle.serde_json.specs.View.{view};
 ghost use Rattle.epx_lines.specs.Elements.{whole};
@@ -10,7 +10,7 @@ use serde_json::Value;
 use std::alloc::Global;
 use std::collections::BTreeSet;
 
-/// The number of a replica.
+/// Reads the number of a replica, below 256.
 #[tactic(auto, unfolding(crate::specs::Elements::whole))]
 pub fn read_replica(value: &Value) -> Option<u8>
     ensures { result ≡ whole 256 (view value.now) }
@@ -19,7 +19,7 @@ pub fn read_replica(value: &Value) -> Option<u8>
     u8::try_from(number).ok()
 }
 
-/// A whole number of 64 bits.
+/// Reads a whole number below 2^64.
 #[tactic(auto, unfolding(crate::specs::Elements::whole))]
 pub fn read_number(value: &Value) -> Option<u64>
     ensures { result ≡ whole (2 ^ 64) (view value.now) }
@@ -27,7 +27,7 @@ pub fn read_number(value: &Value) -> Option<u64>
     value.as_u64()
 }
 
-/// The instance that a replica and a number name.
+/// Reads an Id from its replica and its number.
 pub fn read_id_parts(replica: &Value, number: &Value) -> Option<Id>
     ensures { result ≡ id_of_pair (view replica.now ∷ view number.now ∷ []) }
 {
@@ -37,7 +37,7 @@ pub fn read_id_parts(replica: &Value, number: &Value) -> Option<Id>
     })
 }
 
-/// The instance that `[r,i]` names.
+/// Reads an Id written as `[r,i]`.
 #[tactic(auto, unfolding(crate::specs::DependencyList::id_of))]
 pub fn read_id(value: &Value) -> Option<Id>
     ensures { result ≡ id_of (view value.now) }
@@ -49,7 +49,8 @@ pub fn read_id(value: &Value) -> Option<Id>
     read_id_parts(replica, number)
 }
 
-/// The rising list of these, each once, without the instance itself. A list that is so stays.
+/// Sorts the Ids, and removes repeats and the Id of the instance itself. A list that is already so
+/// is returned unchanged.
 pub fn other_ids(alloc: Global, id: Id, named: Vec<Id>) -> Result<Vec<Id>, Memory>
     ensures { IfOk result (λ v. v.items ≡ rising_others id named.items) }
 {
@@ -65,7 +66,8 @@ pub fn other_ids(alloc: Global, id: Id, named: Vec<Id>) -> Result<Vec<Id>, Memor
     Ok(others.into_iter().collect(alloc)?)
 }
 
-/// The rising list of the instances that are named, without the instance itself.
+/// Reads the dependencies of an instance: the distinct Ids, rising, without its own. None if the
+/// value is not a list of at most `MAX_DEPS` Ids.
 #[tactic(auto, unfolding(crate::specs::DependencyList::deps_of))]
 pub fn read_deps(alloc: Global, id: Id, value: &Value) -> Result<Option<Vec<Id>>, Memory>
     ensures { IfOk result (λ o. option_map (λ v. v.items) o ≡ deps_of id (view value.now)) }

@@ -1,15 +1,15 @@
-//! Whole numbers of a line, read from their digits. None says only that a text was not read here: the
-//! line is then read as a value.
+//! Reads whole numbers of a line from their digits, without a JSON value. None is not a fault: the
+//! caller then reads the whole line as a JSON value.
 ghost use Rattle.std.specs.Prelude.{◌≡◌, ◌^◌, ◌<◌, ◌≤◌, pos, neg_ℤ, Some, IfSome};
 ghost use Rattle.serde_json.specs.Data.{unsigned};
 ghost use Rattle.serde_json.specs.Find.{of_integer};
 ghost use Rattle.serde_json.specs.Read.{number_of};
 ghost use Rattle.epx_lines.specs.Tokens.{AreDigitsOf};
 
-/// Below this a number has room for one more digit.
+/// A number below this can take one more digit without overflow.
 const ROOM: u64 = 1 << 60;
 
-/// Digits alone, one or more.
+/// Reads one or more digits and nothing else.
 fn digits_number(bytes: &[u8]) -> Option<u64>
     ensures { IfSome result (λ n. AreDigitsOf bytes.now n) }
 {
@@ -26,14 +26,14 @@ fn digits_number(bytes: &[u8]) -> Option<u64>
     Some(number)
 }
 
-/// A number with no sign, no fraction and no exponent.
+/// Reads a number without sign, fraction and exponent.
 pub(crate) fn unsigned_number(text: &str) -> Option<u64>
     ensures { IfSome result (λ n. number_of text.now ≡ Some (unsigned n)) }
 {
     Some(digits_number(text.as_bytes())?)
 }
 
-/// The number under a minus, unless it is 0: `-0` is no whole number.
+/// Negates a number below 2^63. None for 0, because `-0` is not a whole number.
 fn negated(size: u64) -> Option<i64>
     ensures { IfSome result (λ z. (0 < size) × (size ≤ 2 ^ 63) × (z ≡ neg_ℤ (pos size))) }
 {
@@ -41,7 +41,7 @@ fn negated(size: u64) -> Option<i64>
     if size == 0 { None } else { Some(-size) }
 }
 
-/// A number with no fraction and no exponent.
+/// Reads a signed number without fraction and exponent.
 pub(crate) fn signed_number(text: &str) -> Option<i64>
     ensures { IfSome result (λ z. number_of text.now ≡ Some (of_integer z)) }
 {

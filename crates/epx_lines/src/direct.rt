@@ -1,6 +1,6 @@
-//! Reading an instance from the tokens of its line, with no value of the whole line in between. Each
-//! function takes what it names from the front of the tokens. None says nothing of the line: it is
-//! then read as a value.
+//! Reads an instance from the tokens of its line, without a JSON value of the whole line. Each
+//! function takes the part that it is named after from the front of the tokens. None is not a
+//! fault: the caller then reads the line as a JSON value.
 ghost use Rattle.std.specs.Prelude.{◌≡◌, ◌^◌, true, Ok, Some, IfSome};
 ghost use Rattle.serde_json.specs.Data.{Members, object};
 ghost use Rattle.epx_types.specs.declared.fault.Why.TheVariants.{NotJson};
@@ -22,7 +22,7 @@ use json::{Reader, Scratch, Token};
 use std::alloc::Global;
 use std::str;
 
-/// What was found of an instance.
+/// The parts of an instance that have been read so far.
 #[derive(Drop)]
 pub(crate) struct Parts {
     pub(crate) replica: Option<u8>,
@@ -32,7 +32,7 @@ pub(crate) struct Parts {
     pub(crate) ops: Option<Vec<Op>>,
 }
 
-/// The lists of the line at hand, gathered in vectors that the next line uses again.
+/// Buffers for the lists of the current line. The next line reuses them.
 #[derive(Drop)]
 pub(crate) struct Lists {
     ids: Vec<Id>,
@@ -61,7 +61,7 @@ fn take_id(reader: &mut Reader<'_>) -> Option<Id>
     Some(id)
 }
 
-/// What was gathered, moved into a vector that has room for it and no more.
+/// Moves the items into a new vector with room for just these.
 fn moved<T: Drop>(alloc: Global, gathered: &mut Vec<T>) -> Option<Vec<T>>
     ensures { IfSome result (λ v. v.items ≡ gathered.old.items) }
 {
@@ -87,7 +87,7 @@ fn take_ids(alloc: Global, reader: &mut Reader<'_>, ids: &mut Vec<Id>) -> Option
     moved(alloc, ids)
 }
 
-/// The operation of this name and key, by the value that follows them.
+/// Takes the value after the name and the key of an operation. Returns the operation.
 fn take_op_with(alloc: Global, reader: &mut Reader<'_>, name: &str, key: Key) -> Option<Op>
     ensures { IfSome result (λ op. Gives 0 (op_with_value name.now key) reader.old op reader.new) }
 {
@@ -133,7 +133,7 @@ fn take_ops(alloc: Global, reader: &mut Reader<'_>, ops: &mut Vec<Op>) -> Option
     moved(alloc, ops)
 }
 
-/// The status of a committed instance.
+/// Takes a status. None unless an instance with this status is committed.
 fn take_committed(reader: &mut Reader<'_>) -> Option<()>
     ensures { IfSome result
         (λ _. Gives 0 (λ d. is_committed (Some d)) reader.old true reader.new) }
@@ -145,7 +145,7 @@ fn take_committed(reader: &mut Reader<'_>) -> Option<()>
     }
 }
 
-/// The value of the member of this name.
+/// Takes the value of the member with this name, and stores it in `parts`.
 fn take_member(
     alloc: Global,
     name: &str,
@@ -212,7 +212,7 @@ fn entry_of(alloc: Global, parts: Parts) -> Option<Entry>
     Entry::new(id, seq?, deps, ops?)
 }
 
-/// The entry of a line that holds one and nothing else.
+/// Reads the entry of a line that is one object and nothing else.
 pub(crate) fn direct_entry(
     alloc: Global,
     scratch: &mut Scratch,

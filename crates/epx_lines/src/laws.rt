@@ -1,12 +1,12 @@
-//! Laws of the definitions.
+//! Laws about the definition of lines.
 ghost use Rattle.epx_lines.specs.Lines.{LinesMakeUpTheBytes, LinesAreOne};
 
-/// The lines of a log hold no line feed and, each followed by one, make up the log.
+/// The lines of a log contain no line feed. With a line feed after each, they make up the log.
 pub fn lines_make_up_the_bytes()
     ensures { LinesMakeUpTheBytes }
 {}
 
-/// No other list of lines does.
+/// No other list of lines has these two properties.
 pub fn lines_are_one()
     ensures { LinesAreOne }
 {}

@@ -1,5 +1,5 @@
-//! Lines of logs: cut, read and written. What a line means, and how an entry is written as one, is
-//! defined in `specs/`.
+//! Cuts logs into lines, reads lines and writes them. `specs/` defines what a line means and how
+//! an entry is written.
 #![tactic(auto)]
 
 mod cut;
@@ -27,7 +27,8 @@ pub use write::write_line;
 /// What a line of a log means.
 #[derive(Debug, Drop)]
 pub enum Line {
-    /// Nothing: spaces, tabs and carriage returns alone, no byte, or an instance that is not committed yet.
+    /// No instance: the line is empty, has only spaces, tabs and carriage returns, or is an
+    /// instance that is not committed yet.
     Blank,
     /// A committed instance.
     Entry(Entry),
@@ -36,9 +37,9 @@ pub enum Line {
 /// Why a line was not read.
 #[derive(Clone, Copy, Debug, PartialEq, Eq)]
 pub enum LineFault {
-    /// A growth was refused.
+    /// Out of memory.
     Memory,
-    /// The line is not blank and means no instance; the first reason, in the order of `Why`.
+    /// The line is neither blank nor an instance. Has the first reason, in the order of `Why`.
     Bad(Why),
 }
 

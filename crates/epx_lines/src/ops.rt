@@ -1,4 +1,4 @@
-//! Operations of a line.
+//! Reads the operations of a line from a JSON value.
 ghost use Rattle.std.specs.Prelude.{◌≡◌, Some, IfOk, option_map};
 ghost use Rattle.serde_json.specs.Data.{Data, null};
 ghost use Rattle.serde_json.specs.View.{view};
@@ -10,7 +10,7 @@ use epx_types::{Key, Memory, Op};
 use serde_json::Value;
 use std::alloc::Global;
 
-/// A key: a text of 1 to 64 bytes.
+/// Reads a key: a text of 1 to 64 bytes.
 #[tactic(auto, unfolding(crate::specs::OperationList::key_of))]
 pub fn read_key(alloc: Global, value: &Value) -> Result<Option<Key>, Memory>
     ensures { IfOk result (λ o. o ≡ key_of (view value.now)) }
@@ -21,7 +21,7 @@ pub fn read_key(alloc: Global, value: &Value) -> Result<Option<Key>, Memory>
     Ok(Key::new(alloc, text)?)
 }
 
-/// A value of 64 bits, or null for absence.
+/// Reads a value of 64 bits, or null for absence.
 #[tactic(auto, unfolding(crate::specs::OperationList::value_or_null))]
 pub fn read_value_or_null(value: &Value) -> Option<Option<i64>>
     ensures { result ≡ value_or_null (view value.now) }
@@ -132,7 +132,8 @@ fn read_op(alloc: Global, value: &Value) -> Result<Option<Op>, Memory>
     }
 }
 
-/// The operations of a command, in order.
+/// Reads the operations of a command, in order. None if the value is not a list of at most
+/// `MAX_OPS` operations.
 #[tactic(auto, unfolding(crate::specs::OperationList::ops_of))]
 pub fn read_ops(alloc: Global, value: &Value) -> Result<Option<Vec<Op>>, Memory>
     ensures { IfOk result (λ o. option_map (λ v. v.items) o ≡ ops_of (view value.now)) }

@@ -1,4 +1,4 @@
-//! Reading a line.
+//! Reads a line.
 ghost use Rattle.std.specs.Prelude.{◌≡◌, Ok, IfOk, IfErr, codes, option_map};
 ghost use Rattle.serde_json.specs.Find.{get};
 ghost use Rattle.serde_json.specs.View.{view};
@@ -18,17 +18,18 @@ use json::Scratch;
 use serde_json::Value;
 use std::alloc::Global;
 
-/// A line that is not blank may have this many bytes, without its line feed.
+/// The most bytes that a line may have if it is not blank, without its line feed.
 pub const MAX_LINE_BYTES: usize = 65_536;
 
-/// Whether a line holds spaces, tabs and carriage returns alone, or nothing.
+/// Whether a line is empty or has only spaces, tabs and carriage returns.
 pub fn is_blank_line(bytes: &[u8]) -> bool
     ensures { result ≡ is_blank bytes.now }
 {
     bytes.iter().all(|b| matches!(*b, b' ' | b'\t' | b'\r'))
 }
 
-/// Whether an object's instance is committed; None where its status is none.
+/// Whether an object's instance is committed. An object without a status is. None if there is no
+/// such status.
 fn is_committed(object: &Value) -> Option<bool>
     ensures { result ≡ is_committed (get (codes "status") (view object.now)) }
 {
@@ -90,7 +91,7 @@ fn read_object(alloc: Global, value: &Value) -> Result<Line, LineFault>
     Ok(Line::Entry(Entry::new(id, seq, deps, ops).unwrap()))
 }
 
-/// The value of a JSON text, if it is one.
+/// Parses a JSON text. None if the bytes are not JSON.
 pub fn read_json(alloc: Global, bytes: &[u8]) -> Result<Option<Value>, Memory>
     ensures { IfOk result (λ o. option_map view o ≡ json_of bytes.now) }
 {
@@ -105,7 +106,7 @@ pub fn read_json(alloc: Global, bytes: &[u8]) -> Result<Option<Value>, Memory>
     }
 }
 
-/// What a line means that is neither blank nor too long, by its value.
+/// Reads a line that is neither blank nor too long, from its JSON value.
 fn read_whole(alloc: Global, bytes: &[u8]) -> Result<Line, LineFault>
     ensures ok { IfOk result (λ l. need NotJson (json_of bytes.now) meaning_of_value ≡ Ok l) }
     ensures bad { IfErr result
@@ -120,7 +121,7 @@ fn read_whole(alloc: Global, bytes: &[u8]) -> Result<Line, LineFault>
     read_object(alloc, &value)
 }
 
-/// Reads lines one after another, over memory that it keeps.
+/// Reads lines one after another and reuses its buffers.
 #[derive(Drop)]
 pub struct LineReader {
     scratch: Scratch,
@@ -128,6 +129,7 @@ pub struct LineReader {
 }
 
 impl LineReader {
+    /// Returns a reader with empty buffers.
     pub fn new(alloc: Global) -> LineReader {
         LineReader {
             scratch: Scratch::new(alloc),
@@ -135,8 +137,8 @@ impl LineReader {
         }
     }
 
-    /// What one line means, without its line feed. Members that have no part in an instance may hold
-    /// anything. `Memory` is meant for a growth that was refused; that it comes only then, no clause says.
+    /// Reads one line, without its line feed. Unknown members of its object may have any value.
+    /// `Memory` is meant for a failed allocation. No clause says that it comes only then.
     pub fn read(&mut self, alloc: Global, bytes: &[u8]) -> Result<Line, LineFault>
         ensures ok { IfOk result (λ l. meaning_of bytes.now ≡ Ok l) }
         ensures bad { IfErr result (λ f. IsFaultOf f (meaning_of bytes.now)) }
@@ -154,7 +156,7 @@ impl LineReader {
     }
 }
 
-/// What one line means, as `LineReader` reads it.
+/// Reads one line with a new `LineReader`.
 pub fn read_line(alloc: Global, bytes: &[u8]) -> Result<Line, LineFault>
     ensures ok { IfOk result (λ l. meaning_of bytes.now ≡ Ok l) }
     ensures bad { IfErr result (λ f. IsFaultOf f (meaning_of bytes.now)) }

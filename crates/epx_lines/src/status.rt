@@ -1,8 +1,8 @@
-//! What a status says of an instance.
+//! The statuses of instances.
 ghost use Rattle.std.specs.Prelude.{◌≡◌};
 ghost use Rattle.epx_lines.specs.Meaning.{committed_by};
 
-/// Whether an instance of this status is committed; None where there is no such status.
+/// Whether an instance with this status is committed. None if there is no such status.
 pub(crate) fn committed_by(status: &str) -> Option<bool>
     ensures { result ≡ committed_by status.now }
 {

@@ -1,5 +1,5 @@
-//! Parts of a line, each taken from the front of the line's tokens with no value in between. None says
-//! nothing of the line: it is then read as a value.
+//! Takes parts of a line from the front of its tokens, without a JSON value. None is not a fault:
+//! the caller then reads the line as a JSON value.
 ghost use Rattle.std.specs.Prelude.{◌≡◌, ◌^◌, IfSome};
 ghost use Rattle.serde_json.specs.Data.{string};
 ghost use Rattle.epx_lines.specs.DependencyList.{id_of_pair};
@@ -12,7 +12,7 @@ use epx_types::{Id, Key};
 use json::{Reader, Token};
 use std::alloc::Global;
 
-/// A whole number of 64 bits.
+/// Takes a whole number below 2^64.
 pub fn take_number(reader: &mut Reader<'_>) -> Option<u64>
     ensures { IfSome result (λ n. Gives 0 (whole (2 ^ 64)) reader.old n reader.new) }
 {
@@ -22,14 +22,14 @@ pub fn take_number(reader: &mut Reader<'_>) -> Option<u64>
     Some(unsigned_number(text)?)
 }
 
-/// The number of a replica.
+/// Takes the number of a replica, below 256.
 pub fn take_replica(reader: &mut Reader<'_>) -> Option<u8>
     ensures { IfSome result (λ r. Gives 0 (whole 256) reader.old r reader.new) }
 {
     Some(u8::try_from(take_number(reader)?).ok()?)
 }
 
-/// The instance that a replica and a number name, one after the other.
+/// Takes a replica and then a number. Returns the Id of both.
 pub fn take_id_parts(reader: &mut Reader<'_>) -> Option<Id>
     ensures { IfSome result (λ x. GivesInTurn 0 id_of_pair reader.old x reader.new) }
 {
@@ -38,7 +38,7 @@ pub fn take_id_parts(reader: &mut Reader<'_>) -> Option<Id>
     Some(Id { replica, number })
 }
 
-/// A whole number of 64 bits with a sign.
+/// Takes a signed whole number of 64 bits.
 pub fn take_signed(reader: &mut Reader<'_>) -> Option<i64>
     ensures { IfSome result (λ z. Gives 0 signed reader.old z reader.new) }
 {
@@ -48,7 +48,7 @@ pub fn take_signed(reader: &mut Reader<'_>) -> Option<i64>
     Some(signed_number(text)?)
 }
 
-/// A value of 64 bits, or null for absence.
+/// Takes a value of 64 bits, or null for absence.
 pub fn take_value_or_null(reader: &mut Reader<'_>) -> Option<Option<i64>>
     ensures { IfSome result (λ v. Gives 0 value_or_null reader.old v reader.new) }
 {
@@ -59,7 +59,7 @@ pub fn take_value_or_null(reader: &mut Reader<'_>) -> Option<Option<i64>>
     }
 }
 
-/// A text, borrowed from the line or from the reader's scratch.
+/// Takes a text, borrowed from the line or from the reader's scratch.
 pub fn take_text<'a>(reader: &mut Reader<'a>) -> Option<&'a str>
     ensures { IfSome result (λ s. BeginsWith 0 reader.old (string s.now) reader.new) }
 {
@@ -69,7 +69,7 @@ pub fn take_text<'a>(reader: &mut Reader<'a>) -> Option<&'a str>
     }
 }
 
-/// A key: a text of 1 to 64 bytes.
+/// Takes a key: a text of 1 to 64 bytes.
 pub fn take_key(alloc: Global, reader: &mut Reader<'_>) -> Option<Key>
     ensures { IfSome result (λ k. Gives 0 key_of reader.old k reader.new) }
 {

@@ -1,4 +1,4 @@
-//! Writing a line.
+//! Writes an entry as a line.
 ghost use Rattle.std.specs.Prelude.{◌≡◌, ◌≤◌, length, map, All, Ok, IfOk, OnOk, IfSome, string_bytes};
 ghost use Rattle.serde_json.specs.Data.{number};
 ghost use Rattle.serde_json.specs.Find.{of_integer};
@@ -101,7 +101,7 @@ fn entry_value(alloc: Global, entry: &Entry) -> Result<Value, AllocError>
     object_value(alloc, replica, number, entry.seq(), deps, ops)
 }
 
-/// The line of an entry, without a line feed: a JSON object (RFC 8259) in compact form.
+/// Writes the line of an entry, without a line feed: a JSON object (RFC 8259) in compact form.
 pub fn write_line(alloc: Global, entry: &Entry) -> Result<String, Memory>
     ensures text { IfOk result (λ s. string_bytes s ≡ line_text entry.now) }
     ensures means { IfOk result (λ s. meaning_of (string_bytes s) ≡ Ok (line.Entry entry.now)) }

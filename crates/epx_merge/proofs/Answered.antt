@@ -1,4 +1,5 @@
--- What a ledger of the lines of whole logs answers is the answer to the logs, and so is what stops their reading.
+-- The result of a ledger of all lines is the answer to the logs, and so is a fault that stops the
+-- reading.
 use Rattle.std.proofs.Common.{List, Result, Ok, Err, MatchResult, ℕ}
 use Rattle.epx_types.specs.declared.fault.Fault.{Fault}
 use Rattle.epx_types.specs.declared.fault.Fault.TheVariants.{Memory, TooManyLogs, LogTooLong, BadLine, TooManyInstances, Disagree, Read, Write, BadBase}
@@ -26,7 +27,7 @@ pub answered : (logs : List (List ℕ)) → IsWhole logs → (r : Result (List I
 answered logs whole (Ok m) h = accepted logs whole m h
 answered logs whole (Err f) h = refused logs whole f h
 
--- what stops the reading of logs that fit is their refusal
+-- a fault that stops the reading of logs that fit is their refusal
 pub unread : (logs : List (List ℕ)) → Fits logs → (f : Fault) → IsReadFault (bad_lines_of logs) f → IsRefusal logs f
 unread logs fits Memory h = h
 unread logs fits TooManyLogs h = absurd h

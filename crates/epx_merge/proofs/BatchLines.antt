@@ -1,4 +1,4 @@
--- Lines that are put into a batch one after another, and batches one after another.
+-- Lines that are appended to a batch one by one, and batches in sequence.
 use Rattle.std.specs.Prelude.{◌==◌}
 use Rattle.std.proofs.Common.{◌≡◌, ℕ, zero, suc, false, ◌+◌, ◌<◌, ◌≤◌, ◌^◌, inl, inr, List, [], ◌∷◌, ◌++◌, length, Contains, Result, refl, sym, ap, subst, ◌∙◌, append_assoc, append-nil, length-append, arith}
 use Rattle.std.proofs.lemmas.List.Elements.{Contains-append_left, Contains-append_right}
@@ -19,7 +19,7 @@ use Rattle.epx_merge.proofs.KeptLines.{Keeps-append, length-kept, Tells-kept}
 
 -- ---- line by line
 
--- what tells nothing after some lines tells nothing after more
+-- what is redundant after some lines is redundant after more
 IsRedundant-append : (kept more : List MeaningAt) (m : Result Line Why) → IsRedundant kept m → IsRedundant (kept ++ more) m
 IsRedundant-append kept more m (inl blank) = inl blank
 IsRedundant-append kept more m (inr h) = inr (h.0, Contains-append_left kept more h.0 h.1, h.2)
@@ -38,7 +38,7 @@ module _ (old walk walk' lines : List MeaningAt) (line : MeaningAt) (before tabl
   gone_more : old ≡ (h.gone ++ line ∷ []) ++ walk'
   gone_more = h.whole ∙ ap (λ l. h.gone ++ l) next ∙ sym (append_assoc h.gone (line ∷ []) walk')
 
-  -- a batch with one line more
+  -- a batch with one more line
   pub batch_more : (lines' : List MeaningAt) → lines' ≡ lines ++ line ∷ [] → IsNextBatch old walk' before table' lines'
   batch_more lines' pushed =
       let all : (kept : List MeaningAt) → (kept ++ lines) ++ line ∷ [] ≡ kept ++ lines' = (λ kept. append_assoc kept lines (line ∷ []) ∙ ap (λ l. kept ++ l) (sym pushed)) in
@@ -55,7 +55,7 @@ module _ (old walk walk' lines : List MeaningAt) (line : MeaningAt) (before tabl
             );
       }
 
-  -- a redundant line is passed over
+  -- a redundant line is skipped
   pub batch_redundant : IsRedundantIn table line.meaning → IsNextBatch old walk' before table' lines
   batch_redundant redundant =
       let redundant_after : (kept : List MeaningAt) → IsTableOf kept before → IsRedundant (kept ++ lines) line.meaning = (λ kept good.
@@ -80,7 +80,8 @@ pub is_some_length : (n : ℕ) → (n == 0) ≡ false → 0 < n
 is_some_length zero e = absurd (cc e)
 is_some_length (suc n) e = omega arith
 
--- some lines are read and noted, then pieces of some are read, and then come those of the batch; the table holds none but these
+-- some lines are read and noted, then the pieces of the pending lines are read, then come those of
+-- the batch. The cache has only lines among these
 pub record IsUnderway {E : Type 0} (holds : List Placed → E → Type 0) (all walk lines : List MeaningAt) (pieces : List (Result E BadLine)) (table : List (Result Line Why)) (ledger : Noted) : Type 0 where
   pub gone : List MeaningAt
   pub read : List MeaningAt
@@ -119,12 +120,12 @@ module _ {E : Type 0} (holds : List Placed → E → Type 0) (all : List Meaning
       }
 
   module _ (walk lines : List MeaningAt) (pieces : List (Result E BadLine)) (table : List (Result Line Why)) (ledger : Noted) (h : IsUnderway holds all walk lines pieces table ledger) where
-    -- all that were gone over, without some redundant ones
+    -- all lines so far, without some redundant ones
     abbrev kept : List MeaningAt
     kept = (h.read ++ h.pending) ++ lines
 
     module _ (walk' lines' : List MeaningAt) (table' : List (Result Line Why)) (ledger' : Noted) (step : IsReadStep h.pending ledger ledger' walk walk' table table' lines') where
-      -- the batch is read meanwhile
+      -- the batch is read while the earlier lines are noted
       pub underway_next : (pieces' : List (Result E BadLine)) → AreRead holds lines pieces' → IsUnderway holds all walk' lines' pieces' table' ledger'
       underway_next pieces' given = record {
         gone = h.gone ++ step.batch.gone;
@@ -140,21 +141,21 @@ module _ {E : Type 0} (holds : List Placed → E → Type 0) (all : List Meaning
         few = step.few;
       }
 
-      -- less is left then
+      -- fewer lines are left then
       pub underway_less : 0 < length lines → length walk' + length lines' < length walk + length lines
       underway_less some =
           let few = length-kept step.batch.gone kept (kept ++ lines') (step.batch.keeps kept h.tabled) in
           let size = ap length step.batch.whole in
           omega (arith, length-append step.batch.gone walk', length-append kept lines')
 
-    -- the first bad line of those that are read and not noted is the first of all
+    -- the first bad line of the pending lines is the first of all
     pub underway_fault : (f : Fault) → IsReadFault (bad_lines_among h.pending) f → IsReadFault (bad_lines_among all) f
     underway_fault f bad =
         let tells = Tells-kept h.gone [] kept h.keeps in
         let here = fault_after h.read h.pending lines kept f h.clean bad (sym (append_assoc h.read h.pending lines)) in
         fault_after [] h.gone walk all f refl (tells.fault f here) (sym h.whole)
 
-    -- nothing is left, and the last that was read is noted
+    -- no line is left, and the last lines that were read are noted
     pub underway_over : (ledger' : Noted) → lines ≡ [] → bad_lines_among h.pending ≡ [] → Notes (placed_among h.pending) ledger ledger' → (bad_lines_among all ≡ []) × IsLedgerOf (placed_among all) ledger'
     underway_over ledger' none clean noted =
         let tells = Tells-kept h.gone [] kept h.keeps in

@@ -1,4 +1,4 @@
--- What a ledger tells of its lines, once its keys are sorted.
+-- What a ledger with sorted keys says of its lines.
 use Rattle.std.proofs.Common.{◌≡◌, inl, inr, List, [], ◌∷◌, map, Contains, Some, None, slice_get, IsPermutation, refl, sym, subst, ◌∙◌}
 use Rattle.std.specs.List.{IsDistinct}
 use Rattle.std.specs.List.Sorted.{IsSorted}
@@ -23,7 +23,7 @@ use Rattle.epx_merge.proofs.SortedKeys.{rising_from_sorted, first_is_least}
 abbrev pub instances_of : List (Id × Placed) → List Instance
 instances_of es = map (λ e. e.1.instance) es
 
--- the names, where each line stands under the name of its instance
+-- the Ids of the lines, where each line has the Id of its instance
 keys-named : (firsts : List (Id × Placed)) → ((x : Id) (p : Placed) → Contains firsts (x, p) → p.instance.id ≡ x) → keys firsts ≡ ids_of (instances_of firsts)
 keys-named [] named = refl
 keys-named (e ∷ es) named =
@@ -50,7 +50,7 @@ module _ (lines : List Placed) (noted : Noted) (ledger : IsLedgerOf lines noted)
       let f = first_of p in_p in
       sym (ledger.alike p.instance.id f.0 f.1 (none p.instance.id) p in_p refl) ∙ ledger.alike p.instance.id f.0 f.1 (none p.instance.id) q in_q (sym same)
 
-  -- two lines that differ are of an instance that has a disagreement
+  -- two lines that differ belong to an instance with a disagreement
   disagreement_of : (p q : Placed) → Contains lines p → Contains lines q → Differ p q → Contains (keys noted.disagreements) p.instance.id
   disagreement_of p q in_p in_q differ =
       elim (Contains-Id_cases (keys noted.disagreements) p.instance.id) [
@@ -67,7 +67,7 @@ module _ (lines : List Placed) (noted : Noted) (ledger : IsLedgerOf lines noted)
     there : (x : Id) (p : Placed) → Contains noted.firsts (x, p) → Contains firsts (x, p)
     there x p h = Contains-permutation noted.firsts firsts (x, p) moved h
 
-    -- the keys are the distinct instances of the lines
+    -- the keys are the distinct Ids of the lines
     pub AreNamedBy-sorted : AreNamedBy lines (keys firsts)
     AreNamedBy-sorted = record {
       rising = rising_from_sorted (keys firsts) sorted distinct;
@@ -78,7 +78,7 @@ module _ (lines : List Placed) (noted : Noted) (ledger : IsLedgerOf lines noted)
           (e.0.1, first_line e.0.0 e.0.1 old, first_named e.0.0 e.0.1 old ∙ e.2);
     }
 
-    -- where the lines agree, their first lines are what they commit
+    -- if the lines agree, they commit the instances of their first lines
     pub IsCommittedBy-sorted : Agree lines → IsCommittedBy lines (instances_of firsts)
     IsCommittedBy-sorted agree = record {
       rising = subst IsRising (keys-named firsts (λ x p h. first_named x p (back x p h))) (rising_from_sorted (keys firsts) sorted distinct);
@@ -119,7 +119,7 @@ module _ (lines : List Placed) (noted : Noted) (ledger : IsLedgerOf lines noted)
       let among = Contains-map (λ (d : Id × Disagreement). d.0) disagreements at.0 (Contains-permutation noted.disagreements disagreements at.0 moved at.1) in
       first_is_least x (keys rest) sorted y (subst (Contains (keys disagreements)) at.2 among))
 
-  -- the same, where it stands first in the list
+  -- the same, for the first element of the list
   pub first_disagreement : InPlaceOrder lines → (disagreements : List (Id × Disagreement)) (x : Id) (disagreement : Disagreement) → slice_get disagreements 0 ≡ Some (x, disagreement) → IsPermutation noted.disagreements disagreements → IsSorted id_cmp (keys disagreements) → IsDisagreementAt lines x disagreement.first disagreement.second
   first_disagreement order [] x disagreement at moved sorted = absurd (cc at)
   first_disagreement order (e ∷ rest) x disagreement at moved sorted =
@@ -127,7 +127,7 @@ module _ (lines : List Placed) (noted : Noted) (ledger : IsLedgerOf lines noted)
       IsDisagreementAt-sorted order x disagreement rest
       (subst (λ (d : Id × Disagreement). IsPermutation noted.disagreements (d ∷ rest)) first moved) (subst (λ (d : Id × Disagreement). IsSorted id_cmp (keys (d ∷ rest))) first sorted)
 
--- a list without a first element holds no key, nor did it before a sort
+-- a list without a first element has no key, nor had it before the sort
 pub no_disagreements : (before disagreements : List (Id × Disagreement)) → slice_get disagreements 0 ≡ None → IsPermutation before disagreements → (x : Id) → ¬ Contains (keys before) x
 no_disagreements before [] none moved x h =
     let e = Contains-from_map (λ (d : Id × Disagreement). d.0) before x h in Contains-nil e.0 (Contains-permutation before [] e.0 moved e.1)

@@ -1,4 +1,4 @@
--- The lines of entries in memory stand in the order of their places.
+-- The lines of entries in memory are sorted by place.
 use Rattle.std.proofs.Common.{◌≡◌, inl, inr, ℕ, suc, ◌≤◌, List, [], ◌∷◌, Contains, sym, ap, arith}
 use Rattle.epx_types.specs.Instances.{Instance}
 use Rattle.epx_types.specs.PlacedLines.{Placed, HavePlacesOfTheirOwn}
@@ -25,6 +25,6 @@ in_order_from n (e ∷ es) = (
 pub entries_in_order : (es : List Instance) → InPlaceOrder (entry_lines es)
 entries_in_order es = in_order_from 1 es
 
--- no two of them stand at one place
+-- no two of them have the same place
 pub entries_apart : (es : List Instance) → HavePlacesOfTheirOwn (entry_lines es)
 entries_apart es = own_places (entry_lines es) (entries_in_order es)

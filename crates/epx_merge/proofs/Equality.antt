@@ -1,4 +1,4 @@
--- The tests by which two entries are compared.
+-- The tests that compare two entries.
 use Rattle.std.proofs.Common.{◌≡◌, ◌≢◌, ◌⊎◌, inl, inr, ℕ, Bool, true, false, List, [], ◌∷◌, ap, arith, nat_cmp, is_eq, ℤ, refl, subst}
 use Rattle.std.specs.Bool.{Decides}
 use Rattle.std.specs.Cmp.Lexicographic.{slice_cmp}
@@ -13,7 +13,7 @@ use Rattle.epx_types.specs.contracts.op.OpPartialEq.TheImpl as op_eq
 use Rattle.epx_types.specs.declared.id.Id.{Id}
 use Rattle.epx_types.specs.contracts.id.IdPartialEq.TheImpl as id_eq
 
--- what a test that decides a fact tells
+-- the cases of a test that decides a fact
 tells : {P : Type 0} (r : Bool) → Decides r P → ((r ≡ true) × P) ⊎ ((r ≡ false) × ¬ P)
 tells true d = inl (refl, d.0 refl)
 tells false d = inr (refl, not_from_Decides false d refl)
@@ -30,14 +30,14 @@ op_true a b h = grind (arith, keys_tell, numbers_tell)
 op_itself : (a : Op) → op_eq.eq-value.it a a ≡ true
 op_itself a = grind (arith, keys_tell, numbers_tell)
 
--- `==` of operations, and of names, decides their equality
+-- `==` decides the equality of operations, and of Ids
 pub ops_decide : (a b : Op) → Decides (op_eq.eq-value.it a b) (a ≡ b)
 ops_decide a b = (op_true a b, λ e. let P : Op → Type 0 = λ o. op_eq.eq-value.it a o ≡ true in subst P e (op_itself a))
 
 pub ids_decide : (a b : Id) → Decides (id_eq.eq-value.it a b) (a ≡ b)
 ids_decide a b = (λ h. grind (arith, nat_tests), λ e. grind (arith, nat_tests))
 
--- ---- whether two instances are one can be told
+-- ---- the equality of two instances is decidable
 
 by_test : {X : Type 0} (r : Bool) (x y : X) → Decides r (x ≡ y) → (x ≡ y) ⊎ (x ≢ y)
 by_test r x y d = elim (tells r d) [ inl holds ↦ inl holds.1 | inr fails ↦ inr fails.1 ]

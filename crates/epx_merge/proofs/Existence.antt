@@ -64,7 +64,7 @@ BelowAll-from_each : (x : Id) (ys : List Id) → ((y : Id) → Contains ys y →
 BelowAll-from_each x [] h = tt
 BelowAll-from_each x (y ∷ ys) h = (h y (Contains-head y ys), BelowAll-from_each x ys (λ z c. h z (Contains-cons y ys z c)))
 
--- one Id more in a rising list
+-- one more Id in a rising list
 record IsPutInto (x : Id) (ids out : List Id) : Type 0 where
   rising : IsRising out
   has : Contains out x
@@ -252,7 +252,7 @@ module _ (lines : List Placed) (noted : Noted) (h : IsLedgerOf lines noted) (agr
     whole = λ p c. subst (Contains (map pick ids)) (picked p c) (Contains-map pick ids p.instance.id (names.whole p c));
   }
 
--- ---- the answer
+-- ---- every list of logs has an answer
 
 abbrev Answered : List (List ℕ) → Type 0
 Answered logs = ((m : List Instance) × IsAccepted logs m) ⊎ ((f : Fault) × (f ≢ Memory) × IsRefusal logs f)

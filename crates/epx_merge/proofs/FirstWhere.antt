@@ -1,4 +1,4 @@
--- The first of the lines of which a fact holds.
+-- The first of the lines for which a fact holds.
 use Rattle.std.proofs.Common.{◌≡◌, inl, inr, List, [], ◌∷◌, ◌++◌, Contains, refl, sym, subst, ◌∙◌}
 use Rattle.epx_types.specs.PlacedLines.{Placed, Earlier}
 use Rattle.epx_types.proofs.Comparisons.{place_cmp_total}
@@ -14,13 +14,13 @@ module _ (P : Placed → Type 0) where
   IsFirstWhere-contains (q ∷ lines) p (inl h) = subst (Contains (q ∷ lines)) h.0 (Contains-head q lines)
   IsFirstWhere-contains (q ∷ lines) p (inr h) = Contains-cons q lines p (IsFirstWhere-contains lines p h.1)
 
-  -- the fact holds of it
+  -- the fact holds for it
   pub IsFirstWhere-holds : (lines : List Placed) (p : Placed) → IsFirstWhere P lines p → P p
   IsFirstWhere-holds [] p h = absurd h
   IsFirstWhere-holds (q ∷ lines) p (inl h) = subst P h.0 h.1
   IsFirstWhere-holds (q ∷ lines) p (inr h) = IsFirstWhere-holds lines p h.1
 
-  -- there is one at most
+  -- there is at most one
   pub IsFirstWhere-unique : (lines : List Placed) (p q : Placed) → IsFirstWhere P lines p → IsFirstWhere P lines q → p ≡ q
   IsFirstWhere-unique [] p q h k = absurd h
   IsFirstWhere-unique (x ∷ lines) p q (inl h) (inl k) = sym h.0 ∙ k.0
@@ -28,18 +28,18 @@ module _ (P : Placed → Type 0) where
   IsFirstWhere-unique (x ∷ lines) p q (inr h) (inl k) = absurd (h.0 k.1)
   IsFirstWhere-unique (x ∷ lines) p q (inr h) (inr k) = IsFirstWhere-unique lines p q h.1 k.1
 
-  -- more lines leave it
+  -- appending lines does not change it
   pub IsFirstWhere-append : (lines more : List Placed) (p : Placed) → IsFirstWhere P lines p → IsFirstWhere P (lines ++ more) p
   IsFirstWhere-append [] more p h = absurd h
   IsFirstWhere-append (q ∷ lines) more p (inl h) = inl h
   IsFirstWhere-append (q ∷ lines) more p (inr h) = inr (h.0, IsFirstWhere-append lines more p h.1)
 
-  -- a line more, where the fact holds of none before it
+  -- one more line, if the fact holds for none of the earlier ones
   pub IsFirstWhere-push : (lines : List Placed) (p : Placed) → ((q : Placed) → Contains lines q → ¬ P q) → P p → IsFirstWhere P (lines ++ p ∷ []) p
   IsFirstWhere-push [] p none holds = inl (refl, holds)
   IsFirstWhere-push (q ∷ lines) p none holds = inr (none q (Contains-head q lines), IsFirstWhere-push lines p (λ r h. none r (Contains-cons q lines r h)) holds)
 
-  -- in lines that stand in order no other of which it holds is earlier
+  -- in lines sorted by place, the fact holds for no earlier line
   pub IsFirstWhere-earliest : (lines : List Placed) → InPlaceOrder lines → (p : Placed) → IsFirstWhere P lines p → (q : Placed) → Contains lines q → P q → ¬ Earlier q.place p.place
   IsFirstWhere-earliest [] order p h q in_q holds earlier = absurd h
   IsFirstWhere-earliest (x ∷ lines) order p (inl h) q in_q holds earlier =

@@ -1,4 +1,4 @@
--- Lines without some that are redundant say what all lines say: the first that is bad, and the ledger.
+-- The kept lines have the first bad line and the ledger of all lines.
 use Rattle.std.proofs.Common.{◌≡◌, ◌≢◌, inl, inr, ◌≤◌, ◌+◌, List, [], ◌∷◌, ◌++◌, length, Contains, Result, Ok, Err, refl, sym, ap, subst, ◌∙◌, append_assoc, append-nil, length-append, arith}
 use Rattle.std.proofs.lemmas.List.Elements.{Contains-append_left, Contains-append_cases, Contains-append_right}
 use Rattle.epx_types.specs.declared.fault.Fault.{Fault}
@@ -17,29 +17,29 @@ use Rattle.epx_merge.specs.Repeats.{IsRedundant, Keeps}
 use Rattle.epx_merge.proofs.ReadLines.{placed_among-append, bad_lines_among-append}
 use Rattle.epx_merge.proofs.Noting.{keys}
 
--- ---- in turn
+-- ---- list by list
 
 pub Keeps-append : (xs ys a b c : List MeaningAt) → Keeps xs a b → Keeps ys b c → Keeps (xs ++ ys) a c
 Keeps-append [] ys a b c h k = subst (λ l. Keeps ys l c) (sym h) k
 Keeps-append (x ∷ xs) ys a b c (inl h) k = inl (Keeps-append xs ys (a ++ x ∷ []) b c h k)
 Keeps-append (x ∷ xs) ys a b c (inr h) k = inr (h.0, Keeps-append xs ys a b c h.1 k)
 
--- no more are kept than there are
+-- at most as many lines are kept as there are
 pub length-kept : (lines old new : List MeaningAt) → Keeps lines old new → length new ≤ length old + length lines
 length-kept [] old new h = let same = ap length h in omega arith
 length-kept (l ∷ lines) old new (inl h) = let rest = length-kept lines (old ++ l ∷ []) new h in omega (arith, length-append old (l ∷ []))
 length-kept (l ∷ lines) old new (inr h) = let rest = length-kept lines old new h.1 in omega arith
 
--- ---- one line more, whose instance an earlier line gives too
+-- ---- one more line, whose instance an earlier line has
 
 module _ (P : Placed → Type 0) (q : Placed) where
-  -- a line of which the fact does not hold
+  -- a line for which the fact does not hold
   first_past : (a b : List Placed) (p : Placed) → ¬ P q → IsFirstWhere P (a ++ b) p → IsFirstWhere P (a ++ q ∷ b) p
   first_past [] b p fails h = inr (fails, h)
   first_past (x ∷ a) b p fails (inl h) = inl h
   first_past (x ∷ a) b p fails (inr h) = inr (h.0, first_past a b p fails h.1)
 
-  -- a line of which the fact holds only where it holds of an earlier one
+  -- a line for which the fact holds only if it holds for an earlier one
   first_repeated : (a b : List Placed) (p e : Placed) → Contains a e → (P q → P e) → IsFirstWhere P (a ++ b) p → IsFirstWhere P (a ++ q ∷ b) p
   first_repeated [] b p e has back h = absurd (Contains-nil e has)
   first_repeated (x ∷ a) b p e has back (inl h) = inl h
@@ -59,7 +59,7 @@ module _ (a b : List Placed) (e q : Placed) (has : Contains a e) (same : e.insta
   first_kept : (P : Instance → Type 0) (p : Placed) → IsFirstWhere (λ (r : Placed). P r.instance) (a ++ b) p → IsFirstWhere (λ (r : Placed). P r.instance) (a ++ q ∷ b) p
   first_kept P p first = first_repeated (λ (r : Placed). P r.instance) q a b p e has (as_one P) first
 
-  -- it is one of the others, or the one more
+  -- it is one of the others, or the new one
   others : (p : Placed) → Contains (a ++ q ∷ b) p → (r : Placed) × Contains (a ++ b) r × (r.instance ≡ p.instance)
   others p in_p =
       elim (Contains-append_cases a (q ∷ b) p in_p) [
@@ -91,9 +91,9 @@ module _ (a b : List Placed) (e q : Placed) (has : Contains a e) (same : e.insta
         h.alike x p in_p apart other.0 other.1 (ap (λ (i : Instance). i.id) other.2 ∙ named) ∙ other.2;
   }
 
--- ---- what lines that are kept tell of others
+-- ---- what the kept lines say of all lines
 
--- the first bad line and the ledger of some lines are those of all
+-- some lines have the first bad line and the ledger of all lines
 pub record Tells (some all : List MeaningAt) : Type 0 where
   pub fault : (f : Fault) → IsReadFault (bad_lines_among some) f → IsReadFault (bad_lines_among all) f
   pub clean : bad_lines_among some ≡ [] → bad_lines_among all ≡ []
@@ -113,7 +113,7 @@ Tells-trans some more all h k = record {
   ledger = λ noted is. k.ledger noted (h.ledger noted is);
 }
 
--- a bad line stays the first where others follow it
+-- a bad line stays the first if others follow it
 fault_ahead : (a b c : List BadLineAt) (x : BadLineAt) → Contains a x → (f : Fault) → IsReadFault (a ++ b) f → IsReadFault (a ++ c) f
 fault_ahead [] b c x has f h = absurd (Contains-nil x has)
 fault_ahead (y ∷ a) b c x has Memory h = h
@@ -130,7 +130,7 @@ not_clean : (a b : List BadLineAt) (x : BadLineAt) → Contains a x → ¬ (a ++
 not_clean [] b x has none = Contains-nil x has
 not_clean (y ∷ a) b x has none = cc none
 
--- what a line gives is among what its list gives
+-- the instance of a line is among those of its list
 given_placed : (lines : List MeaningAt) (l : MeaningAt) (p : Placed) → Contains lines l → Contains (placed_at l.place l.meaning) p → Contains (placed_among lines) p
 given_placed [] l p has h = absurd (Contains-nil l has)
 given_placed (k ∷ lines) l p has h =

@@ -1,4 +1,4 @@
--- The committed map, as rows name its lines.
+-- The committed map, from rows that name its lines.
 use Rattle.std.proofs.Common.{◌≡◌, ◌<◌, ℕ, get_or, arith, List, map, length, MatchOption, Option, None, Some, slice_get, Contains, refl, sym, ap, subst, subst₂, ◌∙◌}
 use Rattle.std.proofs.lemmas.List.{length-map}
 use Rattle.std.proofs.lemmas.List.Elements.{All-contains}
@@ -34,7 +34,7 @@ module _ (lines : List Placed) (rows : List Row) (h : IsKeyed lines rows) where
       let p = named r (Contains-slice_get rows k r at) in
       (p.0, p.1, p.2, stands_under lines rows named k r p.0 at p.1)
 
-  -- where a row stands, the instance of its line does
+  -- a row and the instance of its line have the same position
   pub stands_at : (k : ℕ) (r : Row) → k < length (instances_at lines rows) → r ≡ get_or rows k r → (p : Placed) × (slice_get lines r.line ≡ Some p) × (p.instance.id ≡ r.id) × (slice_get (instances_at lines rows) k ≡ Some p.instance)
   stands_at k r within is = row_stands k r (slice_get_read rows (length rows) k r refl (omega (arith, length_at, within)) is)
 
@@ -53,12 +53,12 @@ module _ (lines : List Placed) (rows : List Row) (h : IsKeyed lines rows) where
   no_position : (x : Id) → ¬ Contains (map (λ r. r.id) rows) x → position_of (instances_at lines rows) x ≡ None
   no_position x none = nowhere_at x none (position_of (instances_at lines rows) x) refl
 
-  -- the place that a search of the rows gives
+  -- the position that a search of the rows finds
   pub position_among : (x : Id) (o : Option ℕ) → MatchOption o (¬ Contains (map (λ r. r.id) rows) x) (λ k. (r : Row) × (slice_get rows k ≡ Some r) × (r.id ≡ x)) → o ≡ position_of (instances_at lines rows) x
   position_among x None none = sym (no_position x none)
   position_among x (Some k) r = sym (found_position k r.0 x r.1 r.2)
 
--- what stands nowhere is not found
+-- an Id without a position is not found
 module _ (m : List Instance) (rising : IsRising (ids_of m)) (x : Id) (none : position_of m x ≡ None) where
   not_found : (o : Option Instance) → instance_of m x ≡ o → None ≡ o
   not_found None found = refl

@@ -1,4 +1,4 @@
--- Lines as rows name them: the same lines in another order.
+-- Rows name lines: the same lines in another order.
 use Rattle.std.proofs.Common.{◌≡◌, inl, inr, ℕ, ◌+◌, List, [], ◌∷◌, ◌++◌, map, length, get_or, Contains, Some, slice_get, IsPermutation, refl, sym, ap, subst, subst₂, ◌∙◌, append_assoc, arith}
 use Rattle.std.specs.List.{IsDistinct}
 use Rattle.std.specs.List.Sorted.{IsSorted}
@@ -27,11 +27,11 @@ use Rattle.epx_merge.proofs.RowLines.{names_of}
 use Rattle.epx_merge.proofs.Closing.{AreNamedBy-sorted, IsCommittedBy-sorted}
 use Rattle.epx_merge.proofs.SortedKeys.{rising_from_sorted}
 
--- what is read where no line is
+-- a default line, read past the end of the list
 abbrev pub nowhere : Placed
 nowhere = record { place = record { log = 0; line = 0 }; instance = record { id = record { replica = 0; number = 0 }; seq = 0; deps = []; ops = [] } }
 
--- the line that a row names, under the row's name
+-- the line that a row names, with the row's Id
 abbrev pub under_row : List Placed → Row → Id × Placed
 under_row lines r = (r.id, get_or lines r.line nowhere)
 
@@ -69,9 +69,9 @@ module _ (lines : List Placed) where
       let instance = slice_get-map (λ (e : Id × Placed). e.1.instance) (under_rows lines rows) k (under_row lines r) row in
       ap (λ (l : List Instance). slice_get l k) (instances_under rows named) ∙ instance ∙ ap (λ (q : Placed). Some q.instance) (get_or_from_slice_get lines r.line p nowhere there)
 
--- ---- the rows of all names
+-- ---- the rows of all Ids
 
--- in order, the rows name the lines as they stand
+-- rows in the order of the lines name the lines in their order
 in_order : (before lines : List Placed) → under_rows (before ++ lines) (rows_from (length before) (map (λ p. p.instance.id) lines)) ≡ under_names lines
 in_order before [] = refl
 in_order before (p ∷ lines) =
@@ -101,7 +101,7 @@ names_there before (p ∷ lines) r h =
           (names_there (before ++ p ∷ []) lines r (subst (λ (n : ℕ). Contains (rows_from n (map (λ q. q.instance.id) lines)) r) (sym next) rest))
     ]
 
--- ---- the same, moved
+-- ---- rows in another order
 
 same_flips : (x y : Id) → same_id x y ≡ same_id y x
 same_flips x y = grind (arith, nat_tests)
@@ -138,14 +138,14 @@ module _ (lines : List Placed) (names : List Id) (rows : List Row) (stand : name
       rising = rising_from_sorted (map (λ r. r.id) rows) sorted distinct_rows;
     }
 
-    -- ---- what the rows tell of all lines that were noted
+    -- ---- what the rows say of all noted lines
 
     module _ (all : List Placed) (disagreements : List (Id × Disagreement)) (ledger : IsLedgerOf all (record { firsts = under_names lines; disagreements = disagreements })) where
-      -- the names of the rows are the distinct instances of the lines
+      -- the Ids of the rows are the distinct Ids of the lines
       pub AreNamedBy-rows : AreNamedBy all (map (λ r. r.id) rows)
       AreNamedBy-rows = subst (AreNamedBy all) (keys_under lines rows) (AreNamedBy-sorted all (record { firsts = under_names lines; disagreements = disagreements }) ledger (under_rows lines rows) under_moved sorted_keys distinct_keys)
 
-      -- where the lines agree, the rows name what they commit
+      -- if the lines agree, they commit the instances that the rows name
       pub IsCommittedBy-rows : Agree all → IsCommittedBy all (instances_at lines rows)
       IsCommittedBy-rows agree =
           subst (IsCommittedBy all) (sym instances_moved) (IsCommittedBy-sorted all (record { firsts = under_names lines; disagreements = disagreements }) ledger (under_rows lines rows) under_moved sorted_keys distinct_keys agree)

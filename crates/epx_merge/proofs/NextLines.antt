@@ -1,4 +1,4 @@
--- Lines that are read one after another: what they give so far, and the first that is bad.
+-- Lines read one after another: the instances so far, and the first bad line.
 use Rattle.std.proofs.Common.{◌≡◌, ℕ, ◌+◌, ◌<◌, List, [], ◌∷◌, ◌++◌, length, get_or, drop, Result, Ok, Err, refl, sym, subst, ap, ◌∙◌, add-one, append_assoc, append-nil}
 use Rattle.std.proofs.Math.Seq.{drop-cons, drop-length}
 use Rattle.epx_types.specs.PlacedLines.{Placed}
@@ -7,7 +7,8 @@ use Rattle.epx_merge.specs.LogLines.{MeaningAt, placed_at, placed_among, bad_lin
 use Rattle.epx_merge.specs.ReadPieces.{Gives, IsFirstBad, AreRead}
 use Rattle.epx_merge.proofs.ReadLines.{placed_among-append, bad_lines_among-append}
 
--- with what the rest gives these are all entries, and all bad lines are among the rest
+-- the entries and the instances of the rest are those of all lines, and all bad lines are in the
+-- rest
 pub record IsReading (lines rest : List MeaningAt) (entries : List Placed) : Type 0 where
   pub clean : bad_lines_among lines ≡ bad_lines_among rest
   pub placed : placed_among lines ≡ entries ++ placed_among rest
@@ -20,7 +21,7 @@ pub reading_none : (lines : List MeaningAt) (entries : List Placed) → entries 
 reading_none lines entries none = record { clean = refl; placed = ap (λ es. es ++ placed_among lines) (sym none) }
 
 module _ (lines : List MeaningAt) (i : ℕ) (line : MeaningAt) (entries : List Placed) (within : i < length lines) (is : line ≡ get_or lines i line) (h : IsReading lines (drop i lines) entries) where
-  -- one line more
+  -- one more line
   pub reading_more : (entries' : List Placed) → bad_lines_at line.place line.meaning ≡ [] → entries' ≡ entries ++ placed_at line.place line.meaning → IsReading lines (drop (i + 1) lines) entries'
   reading_more entries' clean added =
       let next = rest_from lines i line within is in
@@ -47,10 +48,11 @@ reading_all holds lines entries held h good = record {
   placed = subst (λ es. holds es held) (sym (h.placed ∙ ap (λ l. entries ++ placed_among l) (drop-length lines) ∙ append-nil entries)) good;
 }
 
--- ---- pieces that are gathered one after another
+-- ---- pieces gathered one after another
 
 module _ {E : Type 0} (holds : List Placed → E → Type 0) (lines : List MeaningAt) where
-  -- the lines of the pieces so far are clean and what they give is gathered; the pieces that are left are those of the rest
+  -- the lines of the pieces so far are clean and their instances are gathered; the pieces left are
+  -- those of the rest
   pub record IsGathering (gathered : List Placed → Type 0) (left : List (Result E BadLine)) : Type 0 where
     pub read : List MeaningAt
     pub rest : List MeaningAt
@@ -62,7 +64,7 @@ module _ {E : Type 0} (holds : List Placed → E → Type 0) (lines : List Meani
   pub gathering_none : (gathered : List Placed → Type 0) (left : List (Result E BadLine)) → gathered [] → AreRead holds lines left → IsGathering gathered left
   gathering_none gathered left good all = record { read = []; rest = lines; whole = refl; clean = refl; given = good; others = all }
 
-  -- one piece more
+  -- one more piece
   pub gathering_more : (before after : List Placed → Type 0) (left left' : List (Result E BadLine)) (held : E) → left ≡ Ok held ∷ left'
       → ((xs ys : List Placed) → before xs → holds ys held → after (xs ++ ys)) → IsGathering before left → IsGathering after left'
   gathering_more before after left left' held is add g =

@@ -1,4 +1,4 @@
--- Ledgers as the maps hold them: look-ups tell what was noted.
+-- A ledger as the hash maps hold it: what a look-up finds.
 use Rattle.std.proofs.Common.{◌≡◌, ◌≢◌, inl, inr, ℕ, Bool, true, false, not, List, [], ◌∷◌, ◌++◌, map, get_or, slice_get, Contains, Option, None, Some, is_some, refl, sym, ap, subst, subst₂, ◌∙◌, arith}
 use Rattle.std.specs.Map.{lookup}
 use Rattle.std.specs.List.{list_any}
@@ -23,11 +23,11 @@ abbrev pub same_id : Id → Id → Bool
 same_id = id_eq.eq-value.it
 
 module _ {V : Type 0} where
-  -- what a look-up finds is an entry
+  -- a look-up finds an entry
   pub entry_found : (x : Id) (v : V) (es : List (Id × V)) → lookup (same_id x) es ≡ Some v → Contains es (x, v)
   entry_found x v es e = Contains-from_lookup {eq = same_id} (λ y z t. (ids_decide y z).0 t) x v es e
 
-  -- where it finds none there is no entry
+  -- if it finds none there is no entry
   pub no_entry : (x : Id) (es : List (Id × V)) → lookup (same_id x) es ≡ None → ¬ Contains (keys es) x
   no_entry x [] none h = Contains-nil x h
   no_entry x (e ∷ es) none h =
@@ -53,18 +53,18 @@ module _ {V : Type 0} where
   pub no_key : (x : Id) (es : List (Id × V)) → is_some (lookup (same_id x) es) ≡ false → ¬ Contains (keys es) x
   no_key x es t = by_no_look_up x es (lookup (same_id x) es) refl t
 
--- ---- lines under the names of their instances
+-- ---- lines with the Ids of their instances
 
 pub names_under : (lines : List Placed) → keys (under_names lines) ≡ map (λ p. p.instance.id) lines
 names_under [] = refl
 names_under (p ∷ lines) = ap (λ l. p.instance.id ∷ l) (names_under lines)
 
--- a test that finds nothing
+-- a look-up that finds nothing
 pub is_none : {V : Type 0} (o : Option V) → is_some o ≡ false → o ≡ None
 is_none None e = refl
 is_none (Some v) e = absurd (cc e)
 
--- a name that no test ties with was not noted
+-- an Id that no test finds was not noted
 unseen : (x : Id) (names : List Id) → list_any (same_id x) names ≡ false → ¬ Contains names x
 unseen x [] e h = Contains-nil x h
 unseen x (y ∷ names) e h =
@@ -76,11 +76,11 @@ unseen x (y ∷ names) e h =
       ]
     ]
 
--- a name that was there goes nowhere
+-- an Id that is there is not inserted
 same_names : (x : Id) (names : List Id) → not (list_any (same_id x) names) ≡ false → insert_key same_id names x ≡ names
 same_names x names old = let there : list_any (same_id x) names ≡ true = grind (arith, old) in rw there refl
 
--- what stands where a known name does is the line of that name
+-- the line at the index of a known Id has that Id
 pub known_line : (lines : List Placed) (names after : List Id) (x y : Id) (place : ℕ) → names ≡ map (λ p. p.instance.id) lines → not (list_any (same_id x) names) ≡ false
     → after ≡ insert_key same_id names x → slice_get after place ≡ Some y → same_id x y ≡ true → (first : Placed) × (slice_get (under_names lines) place ≡ Some (x, first))
 known_line lines names after x y place stand old same_after at same =
@@ -88,7 +88,7 @@ known_line lines names after x y place stand old same_after at same =
     let id : p.0.instance.id ≡ x = p.2 ∙ sym ((ids_decide x y).0 same) in
     (p.0, slice_get-map (λ (q : Placed). (q.instance.id, q)) lines place p.0 p.1 ∙ ap (λ (z : Id). Some (z, p.0)) id)
 
--- the line that is read where one stands under a name
+-- the line that is read at an index with an Id
 pub line_under : (lines : List Placed) (disagreements : List (Id × Disagreement)) (noted : Noted) → ◌≡◌ {A = Noted} (record { firsts = under_names lines; disagreements = disagreements }) noted → (place : ℕ) (x : Id) (first : Placed)
     → (p : Placed) × (slice_get noted.firsts place ≡ Some (x, p)) → first ≡ get_or lines place first → Contains (under_names lines) (x, first)
 line_under lines disagreements noted view place x first h is =
@@ -101,7 +101,7 @@ module _ (lines : List Placed) (disagreements : List (Id × Disagreement)) (line
   abbrev pub noted : Noted
   noted = record { firsts = under_names lines; disagreements = disagreements }
 
-  -- the first line of an instance goes last
+  -- the first line of an instance is appended
   pub noted_first : (after : List Placed) (names : List Id) → names ≡ map (λ p. p.instance.id) lines → not (list_any (same_id x) names) ≡ true → after ≡ lines ++ line ∷ [] → Notes (line ∷ []) noted (record { firsts = under_names after; disagreements = disagreements })
   noted_first after names stand new is =
       let end : under_names after ≡ under_names lines ++ (line.instance.id, line) ∷ [] = ap under_names is ∙ map-append (λ (p : Placed). (p.instance.id, p)) lines (line ∷ []) in
@@ -110,15 +110,15 @@ module _ (lines : List Placed) (disagreements : List (Id × Disagreement)) (line
       (Notes-new noted line (subst₂ (λ (names : List Id) (y : Id). ¬ Contains names y) (stand ∙ sym (names_under lines)) named none))
 
   module _ (first : Placed) (known : Contains (under_names lines) (line.instance.id, first)) where
-    -- a line that commits the same as the first of its instance
+    -- a line equal to the first line of its instance
     pub noted_alike : first.instance ≡ line.instance → Notes (line ∷ []) noted noted
     noted_alike same = Notes-known noted line first known (inl same)
 
-    -- a line of an instance that has a disagreement
+    -- a line of an instance that has a disagreement already
     pub noted_disagreeing : is_some (lookup (same_id x) disagreements) ≡ true → Notes (line ∷ []) noted noted
     noted_disagreeing disagreeing = Notes-known noted line first known (inr (subst (Contains (keys disagreements)) named (key_found x disagreements disagreeing)))
 
-    -- a first disagreement goes last
+    -- a first disagreement is appended
     pub noted_disagreement : (disagreement : Disagreement) (after : List (Id × Disagreement)) → first.instance ≢ line.instance → is_some (lookup (same_id x) disagreements) ≡ false
         → disagreement.first ≡ first.place → disagreement.second ≡ line.place → after ≡ disagreements ++ (x, disagreement) ∷ [] → Notes (line ∷ []) noted (record { firsts = under_names lines; disagreements = after })
     noted_disagreement disagreement after differ none first_place second_place is =

@@ -1,4 +1,4 @@
--- One line more in a ledger.
+-- One more line in a ledger.
 use Rattle.std.proofs.Common.{◌≡◌, ◌≢◌, ◌⊎◌, inl, inr, List, [], ◌∷◌, ◌++◌, map, Contains, refl, sym, ap, subst, ◌∙◌, append_assoc, append-nil}
 use Rattle.std.proofs.lemmas.List.Elements.{Contains-append_left, Contains-push, Contains-push_cases}
 use Rattle.epx_types.specs.declared.id.Id.{Id}
@@ -9,7 +9,7 @@ use Rattle.epx_merge.specs.declared.ledger.Disagreement.{Disagreement}
 use Rattle.epx_merge.specs.Ledgers.{Noted, IsFirstWhere, Names, IsDisagreementOf, IsLedgerOf, Notes}
 use Rattle.epx_merge.proofs.FirstWhere.{IsFirstWhere-holds, IsFirstWhere-unique, IsFirstWhere-append, IsFirstWhere-push}
 
--- ---- entries under keys
+-- ---- entries with keys
 
 module _ {V : Type 0} where
   abbrev pub keys : List (Id × V) → List Id
@@ -26,7 +26,7 @@ module _ {V : Type 0} where
   key_added : (es : List (Id × V)) (x : Id) (v : V) → Contains (keys (es ++ (x, v) ∷ [])) x
   key_added es x v = Contains-map (λ (d : Id × V). d.0) (es ++ (x, v) ∷ []) (x, v) (Contains-push es (x, v))
 
--- ---- nothing more, and more in two goes
+-- ---- no more lines, and more lines in two steps
 
 pub Notes-nil : (noted : Noted) → Notes [] noted noted
 Notes-nil noted done h = let P : List Placed → Type 0 = λ lines. IsLedgerOf lines noted in subst P (sym (append-nil done)) h
@@ -35,10 +35,10 @@ pub Notes-append : (lines more : List Placed) (a b c : Noted) → Notes lines a 
 Notes-append lines more a b c first second done h =
     let P : List Placed → Type 0 = λ l. IsLedgerOf l c in subst P (append_assoc done lines more) (second (done ++ lines) (first done h))
 
--- ---- one line more
+-- ---- one more line
 
 module _ (done : List Placed) (p : Placed) where
-  -- a disagreement stays one
+  -- a disagreement stays the same
   IsDisagreementOf-push : (x : Id) (disagreement : Disagreement) → IsDisagreementOf done x disagreement → IsDisagreementOf (done ++ p ∷ []) x disagreement
   IsDisagreementOf-push x disagreement h = record {
     first = h.first;
@@ -81,7 +81,8 @@ Notes-new noted p none done h = record {
         let P : Id × Placed → Type 0 = λ f. IsFirstWhere (Names f.0) (done ++ p ∷ []) f.1 in
         subst P e (IsFirstWhere-push (Names p.instance.id) done p fresh refl)
 
--- a line of a known instance that commits the same as its first, or whose instance has a disagreement already
+-- a line of a known instance that equals its first line, or whose instance has a disagreement
+-- already
 pub Notes-known : (noted : Noted) (p f : Placed) → Contains noted.firsts (p.instance.id, f) → (f.instance ≡ p.instance) ⊎ Contains (keys noted.disagreements) p.instance.id → Notes (p ∷ []) noted noted
 Notes-known noted p f known reason done h = record {
   firsts = λ x q has. IsFirstWhere-append (Names x) done (p ∷ []) q (h.firsts x q has);
@@ -102,7 +103,7 @@ Notes-known noted p f known reason done h = record {
   ];
 }
 
--- the first line of an instance that differs from its first
+-- the first line of an instance that differs from its first line
 pub Notes-disagreement : (noted : Noted) (p f : Placed) (disagreement : Disagreement) → Contains noted.firsts (p.instance.id, f) → f.instance ≢ p.instance → ¬ Contains (keys noted.disagreements) p.instance.id
     → f.place ≡ disagreement.first → p.place ≡ disagreement.second → Notes (p ∷ []) noted (record { firsts = noted.firsts; disagreements = noted.disagreements ++ (p.instance.id, disagreement) ∷ [] })
 Notes-disagreement noted p f disagreement known differ none first_place second_place done h = record {

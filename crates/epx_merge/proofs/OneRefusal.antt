@@ -1,4 +1,5 @@
--- Logs are never both accepted and refused, they have one refusal besides out of memory, and they commit one map.
+-- Logs are never both accepted and refused. They have at most one refusal except out of memory,
+-- and commit at most one map.
 use Rattle.std.proofs.Common.{◌≡◌, ◌≢◌, ℕ, ◌<◌, List, ◌∷◌, length, Contains, refl, sym, ap, subst, ◌∙◌, arith}
 use Rattle.epx_types.specs.declared.id.Id.{Id}
 use Rattle.epx_types.specs.declared.place.Place.{Place}
@@ -20,7 +21,7 @@ use Rattle.epx_merge.proofs.PlaceOrder.{placed_apart}
 named_within : (lines : List Placed) (xs ys : List Id) → AreNamedBy lines xs → AreNamedBy lines ys → (z : Id) → Contains xs z → Contains ys z
 named_within lines xs ys a b z h = let p = a.named z h in subst (Contains ys) p.2 (b.whole p.0 p.1)
 
--- the distinct instances of lines are one list
+-- lines have one list of distinct Ids
 named_unique : (lines : List Placed) (xs ys : List Id) → AreNamedBy lines xs → AreNamedBy lines ys → xs ≡ ys
 named_unique lines xs ys a b =
     same_rising Below (below_itself id_cmp_total) (below_trans id_cmp_total) xs ys (AllPairs-from_IsRising xs a.rising) (AllPairs-from_IsRising ys b.rising)
@@ -32,11 +33,11 @@ not_small_and_large lines few many = omega (arith, few.2, many.2, ap length (nam
 none_and_first_too_long : (logs : List (List ℕ)) (log : ℕ) → NoneTooLong logs → ¬ IsFirstTooLong logs log
 none_and_first_too_long logs log none first = omega (arith, none log first.long.0 first.long.1, first.long.2)
 
--- what accepted logs commit is one map
+-- accepted logs commit one map
 pub accepted_unique : (logs : List (List ℕ)) (m n : List Instance) → IsAccepted logs m → IsAccepted logs n → m ≡ n
 accepted_unique logs m n a b = IsCommittedBy-unique (placed_of logs) m n a.committed b.committed
 
--- only out of memory refuses logs that are accepted
+-- accepted logs are refused only by out of memory
 pub accepted_not_refused : (logs : List (List ℕ)) (m : List Instance) (f : Fault) → IsAccepted logs m → IsRefusal logs f → f ≡ Memory
 accepted_not_refused logs m Memory a r = refl
 accepted_not_refused logs m TooManyLogs a r = absurd (omega (arith, r, a.whole.0.0))

@@ -1,4 +1,4 @@
--- Lines as pieces: what was read of each piece was read of pieces that follow each other; and how many lines logs have.
+-- Lines as pieces: the pieces of consecutive lines are consecutive. And how many lines logs have.
 use Rattle.std.proofs.Common.{◌≡◌, ℕ, suc, ◌+◌, ◌*◌, ◌<◌, ◌≤◌, List, [], ◌∷◌, ◌++◌, length, take, drop, slice_get, Result, Some, eqb, refl, sym, ap, subst, ◌∙◌, inl, inr, length-append, suc-mul, arith}
 use Rattle.std.proofs.Math.ListN.{drop_of_length-le}
 use Rattle.std.proofs.lemmas.Bool.{cases_lt, cases_Bool}
@@ -15,7 +15,7 @@ use Rattle.epx_merge.specs.ReadPieces.{IsRead, AreRead, lines_of_piece}
 use Rattle.epx_merge.specs.Refusals.{NoneTooLong}
 
 module _ {E : Type 0} (holds : List Placed → E → Type 0) (cut : ℕ) (some : 1 ≤ cut) (lines : List MeaningAt) where
-  -- the pieces from a number on
+  -- the pieces from an index on
   read_from : (k : ℕ) (pieces : List (Result E BadLine)) → k + length pieces ≡ piece_count cut (length lines)
       → ((i : ℕ) → i < length pieces → (x : Result E BadLine) × (slice_get pieces i ≡ Some x) × IsRead holds (lines_of_piece cut (k + i) lines) x)
       → AreRead holds (drop (k * cut) lines) pieces
@@ -37,7 +37,7 @@ module _ {E : Type 0} (holds : List Placed → E → Type 0) (cut : ℕ) (some :
       (next.0, next.1, (let number : k + suc i ≡ suc k + i = omega arith in subst (λ n. IsRead holds (lines_of_piece cut n lines) next.0) number next.2))) in
       (take cut left, drop (suc k * cut) lines, sym (take-append-drop cut left) ∙ ap (λ l. take cut left ++ l) more, here, rest)
 
-  -- what was read of each piece, in order
+  -- the result of each piece, in order
   pub read_in_order : (pieces : List (Result E BadLine)) → IsInOrder (λ i x. IsRead holds (lines_of_piece cut i lines) x) (piece_count cut (length lines)) pieces → AreRead holds lines pieces
   read_in_order pieces h =
       let none : 0 * cut ≡ 0 = omega arith in
@@ -69,7 +69,7 @@ length-meanings_in : (log n : ℕ) (ls : List (List ℕ)) → length (meanings_i
 length-meanings_in log n [] = refl
 length-meanings_in log n (l ∷ ls) = ap suc (length-meanings_in log (suc n) ls)
 
--- logs of which none is too long have no more lines than bytes
+-- if no log is too long, logs have at most as many lines as bytes
 pub few_lines : (n : ℕ) (logs : List (List ℕ)) → NoneTooLong logs → length (meanings_from n logs) ≤ length logs * max_log_bytes
 few_lines n [] none = omega arith
 few_lines n (log ∷ logs) none =

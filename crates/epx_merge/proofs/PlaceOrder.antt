@@ -1,4 +1,4 @@
--- The lines of logs stand in the order of their places.
+-- The lines of logs are sorted by place.
 use Rattle.std.proofs.Common.{◌≡◌, ◌⊎◌, inl, inr, ℕ, suc, ◌<◌, ◌≤◌, List, [], ◌∷◌, ◌++◌, flat_map, Contains, Result, Ok, Err, sym, ap, subst, subst₂, ◌∙◌, arith}
 use Rattle.std.proofs.lemmas.Bool.Decides.{nat_tests}
 use Rattle.std.proofs.lemmas.List.Elements.{Contains-append_cases}
@@ -21,7 +21,7 @@ earlier_log p q h = grind (arith, nat_tests)
 pub earlier_line : (p q : Place) → p.log ≡ q.log → p.line < q.line → Earlier p q
 earlier_line p q e h = grind (arith, nat_tests)
 
--- ---- two lists in order, of which all of the first stand before all of the second
+-- ---- two sorted lists, where all of the first is before all of the second
 
 InOrderOf-append : {X : Type 0} (at : X → Place) (xs ys : List X) → InOrderOf at xs → InOrderOf at ys → ((x y : X) → Contains xs x → Contains ys y → Earlier (at x) (at y)) → InOrderOf at (xs ++ ys)
 InOrderOf-append at [] ys a b before = b
@@ -33,7 +33,7 @@ InOrderOf-append at (x ∷ xs) ys a b before = (
   InOrderOf-append at xs ys a.1 b (λ z y hz hy. before z y (Contains-cons x xs z hz) hy),
 )
 
--- ---- what each line gives at its own place
+-- ---- the items of each line, at its own place
 
 module _ {Y : Type 0} (place : Y → Place) (given : MeaningAt → List Y) (at_line : (l : MeaningAt) (y : Y) → Contains (given l) y → place y ≡ l.place) (one : (l : MeaningAt) → InOrderOf place (given l)) where
   given_by : (lines : List MeaningAt) (y : Y) → Contains (flat_map given lines) y → (l : MeaningAt) × Contains lines l × (place y ≡ l.place)
@@ -82,7 +82,7 @@ logs_in_order n (log ∷ logs) =
     InOrderOf-append (λ (l : MeaningAt). l.place) (meanings_in n 1 (lines_of log)) (meanings_from (suc n) logs) (lines_in_order n 1 (lines_of log)) (logs_in_order (suc n) logs)
     (λ x y hx hy. earlier_log x.place y.place (omega (arith, (in_log n 1 (lines_of log) x hx).0, from_log (suc n) logs y hy)))
 
--- ---- the lines that give an instance
+-- ---- the lines that have an instance
 
 placed_there : (place : Place) (r : Result Line Why) (p : Placed) → Contains (placed_at place r) p → p.place ≡ place
 placed_there place (Ok Blank) p h = absurd (Contains-nil p h)
@@ -116,7 +116,7 @@ own_places (x ∷ lines) order p q in_p in_q same =
       ]
     ]
 
--- no two of them stand at one place
+-- no two of them have the same place
 pub placed_apart : (logs : List (List ℕ)) → HavePlacesOfTheirOwn (placed_of logs)
 placed_apart logs = own_places (placed_of logs) (placed_in_order logs)
 
@@ -134,7 +134,7 @@ one_bad_line : (place : Place) (r : Result Line Why) → InOrderOf (λ (x : BadL
 one_bad_line place (Ok l) = tt
 one_bad_line place (Err why) = ((λ y h. absurd (Contains-nil y h)), tt)
 
--- the first of them stands before all others
+-- the first of them is before all others
 pub first_bad_line_least : (logs : List (List ℕ)) (place : Place) (why : Why) → IsFirstBadLine (bad_lines_of logs) place why → (x : BadLineAt) → Contains (bad_lines_of logs) x → (place ≡ x.place) ⊎ Earlier place x.place
 first_bad_line_least logs place why f x h =
     let first : BadLineAt = record { place = place; why = why } in

@@ -1,4 +1,4 @@
--- Lines read one after another: what they give, and the first that has a fault.
+-- Lines read one after another: their instances, and the first bad line.
 use Rattle.std.proofs.Common.{◌≡◌, ℕ, suc, ◌+◌, ◌<◌, List, [], ◌∷◌, ◌++◌, map, length, get_or, drop, refl, sym, ap, subst, ◌∙◌, add-one, arith}
 use Rattle.std.proofs.Math.Seq.{drop-cons}
 use Rattle.std.proofs.lemmas.Grind.{flat_map-append}
@@ -16,7 +16,7 @@ placed_among-append xs ys = flat_map-append (λ (l : MeaningAt). placed_at l.pla
 pub bad_lines_among-append : (xs ys : List MeaningAt) → bad_lines_among (xs ++ ys) ≡ bad_lines_among xs ++ bad_lines_among ys
 bad_lines_among-append xs ys = flat_map-append (λ (l : MeaningAt). bad_lines_at l.place l.meaning) xs ys
 
--- lines after a bad one leave the first fault
+-- lines after a bad one do not change the first fault
 fault_before : (xs ys : List BadLineAt) (f : Fault) → IsReadFault xs f → IsReadFault (xs ++ ys) f
 fault_before xs ys Memory h = h
 fault_before xs ys TooManyLogs h = h
@@ -42,16 +42,16 @@ Reads-append xs ys a b c first clean noted = record {
   noted = subst (λ l. Notes l a c) (sym (placed_among-append xs ys)) (Notes-append (placed_among xs) (placed_among ys) a b c first.noted noted);
 }
 
--- a fault after clean lines, whatever follows
+-- a fault after clean lines, whatever lines follow
 pub fault_after : (xs ys zs all : List MeaningAt) (f : Fault) → bad_lines_among xs ≡ [] → IsReadFault (bad_lines_among ys) f → xs ++ (ys ++ zs) ≡ all → IsReadFault (bad_lines_among all) f
 fault_after xs ys zs all f clean h is =
     let whole = bad_lines_among-append xs (ys ++ zs) ∙ ap (λ l. l ++ bad_lines_among (ys ++ zs)) clean ∙ bad_lines_among-append ys zs in
     let P : List BadLineAt → Type 0 = λ l. IsReadFault l f in
     subst P (ap bad_lines_among is) (subst P (sym whole) (fault_before (bad_lines_among ys) (bad_lines_among zs) f h))
 
--- ---- what is left
+-- ---- the lines that are left
 
--- the lines from a place on begin with the line at that place
+-- the lines from an index on begin with the line at that index
 pub lines_from : {B : Type 0} (bytes : B → List ℕ) (items : List B) (log i : ℕ) (b : B) → i < length items
     → meanings_in log (i + 1) (map bytes (drop i items)) ≡ meaning_at (record { log = log; line = i + 1 }) (bytes (get_or items i b)) ∷ meanings_in log (i + 1 + 1) (map bytes (drop (i + 1) items))
 lines_from bytes items log i b within =
@@ -60,7 +60,7 @@ lines_from bytes items log i b within =
     ∙ ap (λ n. meaning_at (record { log = log; line = i + 1 }) (bytes (get_or items i b)) ∷ meanings_in log n (map bytes (drop (suc i) items))) more
     ∙ ap (λ k. meaning_at (record { log = log; line = i + 1 }) (bytes (get_or items i b)) ∷ meanings_in log (i + 1 + 1) (map bytes (drop k items))) (sym (add-one i))
 
--- the logs from a place on begin with the log at that place
+-- the logs from an index on begin with the log at that index
 pub logs_from : {V : Type 0} (bytes : V → List ℕ) (logs : List V) (n : ℕ) (log : V) → n < length logs → log ≡ get_or logs n log
     → meanings_from n (map bytes (drop n logs)) ≡ meanings_in n 1 (lines_of (bytes log)) ++ meanings_from (n + 1) (map bytes (drop (n + 1) logs))
 logs_from bytes logs n log within is =

@@ -1,4 +1,4 @@
--- Keys of Ids that a sort left: they rise, and the first is the least.
+-- Sorted keys: they rise, and the first is the least.
 use Rattle.std.proofs.Common.{◌≡◌, inl, inr, ◌+◌, ◌<◌, List, ◌∷◌, length, get_or, Contains, true≢false, sym, subst, ◌∙◌, arith}
 use Rattle.std.specs.List.{IsDistinct}
 use Rattle.std.specs.List.Sorted.{IsSorted}
@@ -17,7 +17,7 @@ not_below : (xs : List Id) → IsSorted id_cmp xs → (i j : _) (d : Id) → i <
 not_below xs sorted i j d l within below =
     true≢false (sym below ∙ sorted_far (λ x y. is_lt (id_cmp x y)) (ranks_by id_cmp_total (λ (x : Id). x)) xs sorted i j d (omega arith) within)
 
--- sorted keys of which no two are equal rise
+-- sorted keys rise if no two are equal
 pub rising_from_sorted : (xs : List Id) → IsSorted id_cmp xs → IsDistinct same_id xs → IsRising xs
 rising_from_sorted xs sorted distinct =
     IsRising-from_neighbours xs (λ k d within.
@@ -27,7 +27,7 @@ rising_from_sorted xs sorted distinct =
       | inr (inr above) ↦ absurd (not_below xs sorted k (k + 1) d (omega arith) within above)
     ])
 
--- the first of sorted keys is up to each
+-- the first of sorted keys is at most each key
 pub first_is_least : (x : Id) (xs : List Id) → IsSorted id_cmp (x ∷ xs) → (y : Id) → Contains (x ∷ xs) y → UpTo x y
 first_is_least x xs sorted y h =
     elim (below_cases id_cmp_total id_cmp-IsAntisymmetric x y) [

@@ -1,4 +1,5 @@
--- What a ledger keeps of the lines that were noted in it: the first line of each instance, and for each instance whose lines differ where.
+-- What a ledger keeps of the lines noted in it: the first line of each instance, and the
+-- disagreement of each instance whose lines differ.
 use Rattle.std.specs.Prelude.{◌≡◌, ◌⊎◌, List, [], ◌∷◌, ◌++◌, map, Contains}
 use Rattle.epx_types.specs.declared.id.Id.{Id}
 use Rattle.epx_types.specs.PlacedLines.{Placed}
@@ -9,7 +10,7 @@ pub record Noted : Type 0 where
   pub firsts : List (Id × Placed)
   pub disagreements : List (Id × Disagreement)
 
--- p is the first of the lines of which the fact holds
+-- p is the first of the lines for which the fact holds
 abbrev pub IsFirstWhere : (Placed → Type 0) → List Placed → Placed → Type 0
 IsFirstWhere P [] p = ⊥
 IsFirstWhere P (q ∷ lines) p = ((q ≡ p) × P q) ⊎ ((¬ P q) × IsFirstWhere P lines p)
@@ -17,7 +18,7 @@ IsFirstWhere P (q ∷ lines) p = ((q ≡ p) × P q) ⊎ ((¬ P q) × IsFirstWher
 abbrev pub Names : Id → Placed → Type 0
 Names x p = p.instance.id ≡ x
 
--- the first line of x, and the first that differs from it
+-- the first line of x, and the first line that differs from it
 pub record IsDisagreementOf (lines : List Placed) (x : Id) (disagreement : Disagreement) : Type 0 where
   pub first : Placed
   pub second : Placed
@@ -32,6 +33,6 @@ pub record IsLedgerOf (lines : List Placed) (noted : Noted) : Type 0 where
   pub disagreements : (x : Id) (disagreement : Disagreement) → Contains noted.disagreements (x, disagreement) → IsDisagreementOf lines x disagreement
   pub alike : (x : Id) (p : Placed) → Contains noted.firsts (x, p) → ¬ Contains (map (λ e. e.0) noted.disagreements) x → (q : Placed) → Contains lines q → q.instance.id ≡ x → p.instance ≡ q.instance
 
--- noting the lines takes the one to the other
+-- noting the lines takes the old ledger to the new one
 abbrev pub Notes : List Placed → Noted → Noted → Type 0
 Notes lines old new = (done : List Placed) → IsLedgerOf done old → IsLedgerOf (done ++ lines) new

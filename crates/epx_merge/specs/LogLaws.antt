@@ -10,15 +10,15 @@ use Rattle.epx_merge.specs.LogLines.{placed_of, BadLineAt, bad_lines_of}
 use Rattle.epx_merge.specs.Refusals.{IsFirstBadLine, IsRefusal}
 use Rattle.epx_merge.specs.Acceptance.{IsAccepted}
 
--- logs that are accepted are not refused, running out of memory aside
+-- accepted logs are not refused, except by running out of memory
 abbrev pub AcceptedIsNotRefused : Type 0
 AcceptedIsNotRefused = (logs : List (List ℕ)) (m : List Instance) (f : Fault) → IsAccepted logs m → f ≢ Memory → ¬ IsRefusal logs f
 
--- logs have one refusal, running out of memory aside
+-- logs have at most one refusal, except running out of memory
 abbrev pub RefusalIsOne : Type 0
 RefusalIsOne = (logs : List (List ℕ)) (f g : Fault) → f ≢ Memory → g ≢ Memory → IsRefusal logs f → IsRefusal logs g → f ≡ g
 
--- what accepted logs commit is one map
+-- accepted logs commit one map
 abbrev pub AcceptedMapIsOne : Type 0
 AcceptedMapIsOne = (logs : List (List ℕ)) (m n : List Instance) → IsAccepted logs m → IsAccepted logs n → m ≡ n
 
@@ -26,10 +26,10 @@ AcceptedMapIsOne = (logs : List (List ℕ)) (m n : List Instance) → IsAccepted
 abbrev pub LogsHaveAnAnswer : Type 0
 LogsHaveAnAnswer = (logs : List (List ℕ)) → ((m : List Instance) × IsAccepted logs m) ⊎ ((f : Fault) × (f ≢ Memory) × IsRefusal logs f)
 
--- no two lines of logs stand at one place
+-- no two lines of logs have the same place
 abbrev pub LinesHavePlacesOfTheirOwn : Type 0
 LinesHavePlacesOfTheirOwn = (logs : List (List ℕ)) → HavePlacesOfTheirOwn (placed_of logs)
 
--- the bad line that is named stands before all others
+-- the bad line in a refusal comes before all other bad lines
 abbrev pub NamedBadLineIsLeast : Type 0
 NamedBadLineIsLeast = (logs : List (List ℕ)) (place : Place) (why : Why) → IsFirstBadLine (bad_lines_of logs) place why → (x : BadLineAt) → Contains (bad_lines_of logs) x → (place ≡ x.place) ⊎ Earlier place x.place

@@ -1,4 +1,5 @@
--- The lines of logs: what each means at its place, those that give an instance, and those that have a fault.
+-- The lines of logs: the place and meaning of each, those that have an instance, and those that
+-- have a fault.
 use Rattle.std.specs.Prelude.{ℕ, suc, List, [], ◌∷◌, ◌++◌, flat_map, Result, Ok, Err}
 use Rattle.epx_types.specs.declared.place.Place.{Place}
 use Rattle.epx_types.specs.declared.fault.Why.{Why}
@@ -8,7 +9,7 @@ use Rattle.epx_lines.specs.Meaning.{meaning_of}
 use Rattle.epx_lines.specs.declared.Line.{Line}
 use Rattle.epx_lines.specs.declared.Line.TheVariants.{Blank, Entry}
 
--- a line, by what it means
+-- a line's place and its meaning
 pub record MeaningAt : Type 0 where
   pub place : Place
   pub meaning : Result Line Why
@@ -16,26 +17,26 @@ pub record MeaningAt : Type 0 where
 abbrev pub meaning_at : Place → List ℕ → MeaningAt
 meaning_at place bytes = record { place = place; meaning = meaning_of bytes }
 
--- the lines of one log, the first of which has this number
+-- the lines of one log. The first has this line number
 abbrev pub meanings_in : ℕ → ℕ → List (List ℕ) → List MeaningAt
 meanings_in log n [] = []
 meanings_in log n (l ∷ ls) = meaning_at (record { log = log; line = n }) l ∷ meanings_in log (suc n) ls
 
--- the lines of logs, the first of which has this number. In each log lines are numbered from 1
+-- the lines of logs. The first log has this number, and the lines of each log are numbered from 1
 abbrev pub meanings_from : ℕ → List (List ℕ) → List MeaningAt
 meanings_from n [] = []
 meanings_from n (log ∷ logs) = meanings_in n 1 (lines_of log) ++ meanings_from (suc n) logs
 
--- what is left of the lines where the first of them are gone over: of the log of this number the lines
--- after that of this number, which begin with these bytes, and the logs after it
+-- the lines that are left of logs: the rest of this log, from these bytes after this line, and
+-- then the later logs
 abbrev pub meanings_left : ℕ → ℕ → List ℕ → List (List ℕ) → List MeaningAt
 meanings_left log line rest others = meanings_in log (suc line) (lines_of rest) ++ meanings_from (suc log) others
 
--- the lines of all logs, by log and then by line
+-- the lines of all logs, by rising place
 abbrev pub meanings_of : List (List ℕ) → List MeaningAt
 meanings_of logs = meanings_from 0 logs
 
--- ---- the lines that give an instance
+-- ---- the lines that have an instance
 
 abbrev pub placed_at : Place → Result Line Why → List Placed
 placed_at p (Ok Blank) = []

@@ -1,11 +1,11 @@
--- What reading lines that follow each other answers, piece by piece.
+-- The result of reading consecutive lines, piece by piece.
 use Rattle.std.specs.Prelude.{◌≡◌, ◌*◌, ◌++◌, ◌∷◌, ℕ, List, [], Result, Ok, Err, take, drop}
 use Rattle.epx_types.specs.PlacedLines.{Placed}
 use Rattle.epx_merge.specs.declared.pieces.BadLine.{BadLine}
 use Rattle.epx_merge.specs.LogLines.{MeaningAt, placed_among, bad_lines_among}
 use Rattle.epx_merge.specs.Refusals.{IsFirstBadLine}
 
--- no line is bad, and what they give is held
+-- no line is bad, and `held` holds the instances of the lines
 pub record Gives {E : Type 0} (holds : List Placed → E → Type 0) (lines : List MeaningAt) (held : E) : Type 0 where
   pub clean : bad_lines_among lines ≡ []
   pub placed : holds (placed_among lines) held
@@ -13,12 +13,12 @@ pub record Gives {E : Type 0} (holds : List Placed → E → Type 0) (lines : Li
 abbrev pub IsFirstBad : List MeaningAt → BadLine → Type 0
 IsFirstBad lines bad = IsFirstBadLine (bad_lines_among lines) bad.place bad.why
 
--- what was read of lines that follow each other: what they give, or their first bad line
+-- the result of reading consecutive lines: their instances, or their first bad line
 abbrev pub IsRead : {E : Type 0} → (List Placed → E → Type 0) → List MeaningAt → Result E BadLine → Type 0
 IsRead holds lines (Ok held) = Gives holds lines held
 IsRead holds lines (Err bad) = IsFirstBad lines bad
 
--- what was read of pieces that follow each other and together are the lines
+-- the results of reading consecutive pieces, which together are the lines
 abbrev pub AreRead : {E : Type 0} → (List Placed → E → Type 0) → List MeaningAt → List (Result E BadLine) → Type 0
 AreRead holds lines [] = lines ≡ []
 AreRead holds lines (piece ∷ pieces) = (here rest : List MeaningAt) × (lines ≡ here ++ rest) × IsRead holds here piece × AreRead holds rest pieces

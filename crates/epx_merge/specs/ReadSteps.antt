@@ -6,7 +6,8 @@ use Rattle.epx_merge.specs.LogLines.{MeaningAt, placed_among, bad_lines_among}
 use Rattle.epx_merge.specs.Ledgers.{Noted, Notes}
 use Rattle.epx_merge.specs.Repeats.{IsNextBatch}
 
--- the lines that were read are noted, none of them being bad, and the next batch is made, which is empty only where no line is left
+-- the lines that were read are noted and none of them is bad; the next batch is empty only if no
+-- line is left
 pub record IsReadStep (read : List MeaningAt) (ledger ledger' : Noted) (walk walk' : List MeaningAt) (table table' : List (Result Line Why)) (lines : List MeaningAt) : Type 0 where
   pub clean : bad_lines_among read ≡ []
   pub noted : Notes (placed_among read) ledger ledger'

@@ -1,4 +1,4 @@
--- Refusals of logs, in their order.
+-- The refusals of logs, in their order.
 use Rattle.std.specs.Prelude.{◌≡◌, ℕ, ◌<◌, ◌≤◌, List, [], ◌∷◌, length, Contains, slice_get, Some}
 use Rattle.epx_types.specs.declared.id.Id.{Id}
 use Rattle.epx_types.specs.declared.place.Place.{Place}
@@ -20,23 +20,23 @@ pub record IsFirstTooLong (logs : List (List ℕ)) (log : ℕ) : Type 0 where
 abbrev pub NoneTooLong : List (List ℕ) → Type 0
 NoneTooLong logs = (k : ℕ) (bytes : List ℕ) → slice_get logs k ≡ Some bytes → length bytes ≤ max_log_bytes
 
--- not too many logs, and none too long
+-- not too many logs, and none is too long
 abbrev pub Fits : List (List ℕ) → Type 0
 Fits logs = (length logs ≤ max_logs) × NoneTooLong logs
 
 -- ---- the least bad line
 
--- bad lines stand by log and then by line, so the first of them is the least
+-- bad lines come by rising place, so the first of them is the least
 abbrev pub IsFirstBadLine : List BadLineAt → Place → Why → Type 0
 IsFirstBadLine lines place why = (rest : List BadLineAt) × (lines ≡ record { place = place; why = why } ∷ rest)
 
--- they fit, and no line is bad
+-- the logs fit, and no line is bad
 abbrev pub IsWhole : List (List ℕ) → Type 0
 IsWhole logs = Fits logs × (bad_lines_of logs ≡ [])
 
 -- ---- too many instances
 
--- the distinct instances of the lines
+-- the distinct Ids of the lines, by rising Id
 pub record AreNamedBy (lines : List Placed) (ids : List Id) : Type 0 where
   pub rising : IsRising ids
   pub whole : (p : Placed) → Contains lines p → Contains ids p.instance.id
@@ -50,13 +50,15 @@ IsLarge lines = (ids : List Id) × AreNamedBy lines ids × (max_instances < leng
 
 -- ---- the first disagreement
 
--- the least instance with two lines that differ, its first place, and the first later place that differs from that one
+-- the least instance with two lines that differ, the place of its first line, and of the first
+-- later line that differs from that one
 abbrev pub IsDisagreementAt : List Placed → Id → Place → Place → Type 0
 IsDisagreementAt lines id first second = (p q : Placed) × IsFirstDisagreement lines id p q × (p.place ≡ first) × (q.place ≡ second)
 
 -- ---- all of them
 
--- the refusal is the first that applies. Want of memory may stand in place of any answer; devices have faults of their own
+-- The fault is the first refusal that applies. Out of memory can come instead of any other.
+-- Devices have faults of their own
 abbrev pub IsRefusal : List (List ℕ) → Fault → Type 0
 IsRefusal logs Memory = Unit {0}
 IsRefusal logs TooManyLogs = max_logs < length logs

@@ -1,4 +1,4 @@
--- What each step of reading logs finds, or why it goes no further.
+-- The result of each step of reading logs, or the fault that stops it.
 use Rattle.std.specs.Prelude.{List}
 use Rattle.epx_types.specs.declared.fault.Fault.{Fault}
 use Rattle.epx_types.specs.declared.fault.Fault.TheVariants.{Memory, TooManyLogs, LogTooLong, BadLine, TooManyInstances, Disagree, Read, Write, BadBase}
@@ -9,7 +9,7 @@ use Rattle.epx_types.specs.CommittedMap.{IsCommittedBy}
 use Rattle.epx_merge.specs.LogLines.{BadLineAt}
 use Rattle.epx_merge.specs.Refusals.{IsFirstBadLine, IsSmall, IsLarge, IsDisagreementAt}
 
--- the first bad line; out of memory says nothing of the lines
+-- the first bad line. Out of memory says nothing about the lines
 abbrev pub IsReadFault : List BadLineAt → Fault → Type 0
 IsReadFault lines Memory = Unit {0}
 IsReadFault lines (BadLine place why) = IsFirstBadLine lines place why

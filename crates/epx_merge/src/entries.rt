@@ -1,4 +1,4 @@
-//! The answer to entries that are in memory: their committed map, or why they have none.
+//! The committed map of entries in memory, or why they commit none.
 ghost use Rattle.std.specs.Prelude.{MatchResult, OnOk};
 ghost use Rattle.epx_merge.specs.EntryLines.{entry_lines};
 ghost use Rattle.epx_merge.specs.Ledgers.{Notes};
@@ -12,7 +12,7 @@ use epx_types::{Entry, Fault, Memory, Place};
 use std::alloc::Global;
 use std::hash::{DefaultHasher, Hash};
 
-/// A seed that follows from the names of all entries, since nothing can be drawn here.
+/// A seed derived from the Ids of all entries, since this function has no random source.
 fn seed_after(entries: &[Entry]) -> Seed {
     let mut names = DefaultHasher::new();
     for entry in entries {
@@ -21,7 +21,7 @@ fn seed_after(entries: &[Entry]) -> Seed {
     Seed::after(names)
 }
 
-/// Notes each entry on a line of its own, the first on line 1.
+/// Records each entry as a line of its own. The first is line 1.
 fn note_each(entries: Vec<Entry>, ledger: &mut Ledger) -> Result<(), Memory>
     ensures { OnOk result (Notes (entry_lines entries.items) ledger.old ledger.new) }
 {
@@ -33,13 +33,18 @@ fn note_each(entries: Vec<Entry>, ledger: &mut Ledger) -> Result<(), Memory>
     Ok(())
 }
 
-/// The committed map of entries that are in memory, for whoever writes no text of them.
+/// The committed map of entries in memory, without writing and reading their text.
 ///
-/// It is the map that `read_logs` gives of one log with a line for each entry. Entries may stand in any order, and
-/// equal ones count as one. Else the answer is the first fault that applies: `TooManyInstances` where they have
-/// more than `MAX_INSTANCES` distinct Ids; `Disagree` with the least Id of which two entries differ, the first
-/// entry of it, and the first later one that differs from that one. Both are named by places in log 0, whose line is
-/// the number of the entry, counted from 1. `Memory` may stand in place of any answer.
+/// The map is the one that `read_logs` returns for one log with a line for each entry. The order
+/// of the entries does not matter, and equal entries count as one.
+///
+/// If the entries commit no map, the error is the first that applies:
+/// - `TooManyInstances`: they have more than `MAX_INSTANCES` distinct Ids.
+/// - `Disagree`: the least Id of which two entries differ, its first entry, and the first later
+///   entry that differs from that one. Both have places in log 0; the line is the number of the
+///   entry, counted from 1.
+///
+/// `Memory` can come instead of any result.
 pub fn from_entries(alloc: Global, entries: Vec<Entry>) -> Result<Merged, Fault>
     ensures { let lines = entry_lines entries.items in
         MatchResult result (IsMerged lines) (IsMergeFault lines) }

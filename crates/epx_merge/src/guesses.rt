@@ -1,25 +1,25 @@
-//! Guesses of where instances stand among instances by rising Id.
+//! Guesses of the positions of instances in a list by rising Id.
 
 use epx_types::{Id, Memory};
 use std::alloc::Global;
 
-/// So many numbers in turn share a block.
+/// How many consecutive numbers share a block.
 const BLOCK: u64 = 64;
 
-/// So many more blocks than instances may be made, for gaps among the first numbers.
+/// At most this many more blocks than instances are made, for gaps among the first numbers.
 const SPARE: u64 = 1_024;
 
-/// Some numbers in turn of one replica.
+/// Consecutive numbers of one replica.
 #[derive(Clone, Copy, Debug)]
 struct Block {
-    /// A bit for each number, the least first: whether its instance is noted.
+    /// A bit for each number, from the least bit up: whether its instance is noted.
     marks: u64,
-    /// Where the first of them stands.
+    /// The position of the first noted instance.
     position: usize,
 }
 
 impl Block {
-    /// Where the instance with a number of this block stands, if it is noted.
+    /// The position of the instance with a number of this block, if it is noted.
     fn guess(&self, number: u64) -> Option<usize> {
         let mark = 1_u64 << (number % BLOCK);
         if self.marks & mark == 0 {
@@ -30,18 +30,19 @@ impl Block {
     }
 }
 
-/// Where instances stand among instances by rising Id, told from their numbers with no search. A guess is a
-/// hint: nothing rests on it. There is none where the numbers of a replica leave wide gaps, since there are no more
-/// blocks than instances, and a thousand.
+/// Guesses the position of an instance in a list by rising Id from its number, without a search.
+///
+/// A guess is only a hint, which the caller checks. An instance may have none if the numbers of
+/// its replica have wide gaps: there are at most `SPARE` more blocks than instances.
 #[derive(Debug, Drop)]
 pub struct Guesses {
     blocks: Vec<Block>,
-    /// For each replica what its numbers, by blocks, lack to where their blocks stand.
+    /// For each replica: add this to a number's block number to get the index of its block.
     offsets: [Option<u64>; 256],
 }
 
 impl Guesses {
-    /// Of no instances.
+    /// Guesses for no instances.
     pub fn new(alloc: Global) -> Guesses {
         Guesses {
             blocks: Vec::new(alloc),
@@ -49,7 +50,7 @@ impl Guesses {
         }
     }
 
-    /// Notes that an instance stands at a position. They are noted by rising Id.
+    /// Records the position of an instance. Call it by rising Id.
     pub fn note(&mut self, id: Id, position: usize) -> Result<(), Memory> {
         self.open_block(id, position)?;
         if let Some(block) = self.blocks.last_mut() {
@@ -58,8 +59,8 @@ impl Guesses {
         Ok(())
     }
 
-    /// Makes the last block that of an instance. After a gap that would take too many blocks the replica's blocks begin
-    /// anew.
+    /// Makes the block of this instance the last block. If a gap would take too many blocks, the
+    /// replica's blocks start anew.
     fn open_block(&mut self, id: Id, position: usize) -> Result<(), Memory> {
         let len = self.blocks.len() as u64;
         let number = id.number / BLOCK;
@@ -80,7 +81,7 @@ impl Guesses {
         Ok(())
     }
 
-    /// Where an instance stands, if it is noted.
+    /// A guess of the position of an instance, if it has one.
     pub fn guess(&self, id: Id) -> Option<usize> {
         let offset = self.offsets[id.replica as usize]?;
         let place = offset.wrapping_add(id.number / BLOCK);

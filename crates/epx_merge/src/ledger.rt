@@ -1,4 +1,4 @@
-//! The first line of each instance, and where the lines of one instance differ.
+//! The first line of each instance, and the instances whose lines differ.
 ghost use Rattle.std.specs.Prelude.{◌≡◌, List, [], ◌∷◌, OnOk, MatchResult, Some, slice_get};
 ghost use Rattle.epx_types.specs.PlacedLines.{Placed};
 ghost use Rattle.epx_merge.specs.Ledgers.{IsLedgerOf, Notes};
@@ -16,20 +16,20 @@ use indexmap::{IndexMap, IndexSet};
 use std::alloc::Global;
 use std::marker::Model;
 
-/// The first line of an instance, and the first that differs from it.
+/// The first line of an instance, and the first line that differs from it.
 #[derive(Clone, Copy, Debug)]
 pub(crate) struct Disagreement {
     pub(crate) first: Place,
     pub(crate) second: Place,
 }
 
-/// Notes lines one by one, and keeps one entry an instance.
+/// Records lines one by one. Stores one entry for each instance.
 #[derive(Debug, Drop)]
 pub(crate) struct Ledger {
     alloc: Global,
-    /// The name of each first line, in the order of the lines.
+    /// The Ids of the first lines, in the order of the lines.
     names: IndexSet<Id, Seed>,
-    /// The first line of each instance. It stays where it was noted.
+    /// The first line of each instance, at the index of its Id in `names`.
     firsts: Vec<PlacedEntry>,
     disagreements: IndexMap<Id, Disagreement, Seed>,
 }
@@ -47,7 +47,7 @@ impl Model for Ledger {
 }
 
 impl Ledger {
-    /// A ledger of no lines, whose tables hash from the seed.
+    /// A ledger of no lines. Its tables hash with the seed.
     pub(crate) fn new(alloc: Global, seed: Seed) -> Ledger
         ensures { IsLedgerOf [] result }
     {
@@ -59,11 +59,11 @@ impl Ledger {
         }
     }
 
-    /// Notes one line more; the lines must come by log and then by line.
+    /// Records one more line. Lines must come by rising place.
     pub(crate) fn note(&mut self, line: PlacedEntry) -> Result<(), Memory>
         ensures { OnOk result (Notes (line ∷ []) self.old self.new) }
     {
-        // The name goes in only where there is room for the line.
+        // Reserve first, so that an Id never goes in without its line.
         self.firsts.reserve(1)?;
         let (place, is_new) = self.names.insert_full(line.id())?;
         if is_new {
@@ -73,7 +73,7 @@ impl Ledger {
         self.compare(place, &line)
     }
 
-    /// Notes a line of an instance whose first line stands at this place.
+    /// Records a line of an instance whose first line is at this index.
     fn compare(&mut self, place: usize, line: &PlacedEntry) -> Result<(), Memory>
         requires { (first : Placed) × (slice_get self.now.firsts place ≡ Some (line.now.instance.id, first)) }
         ensures { OnOk result (Notes (line.now ∷ []) self.old self.new) }
@@ -91,7 +91,7 @@ impl Ledger {
         Ok(())
     }
 
-    /// The map that the noted lines commit, or why they commit none.
+    /// The map that the noted lines commit, or the fault for which they commit none.
     pub(crate) fn close(self) -> Result<Merged, Fault>
         ensures { (lines : List Placed) → InPlaceOrder lines → IsLedgerOf lines self
             → MatchResult result (IsMerged lines) (IsMergeFault lines) }

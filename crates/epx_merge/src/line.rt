@@ -1,4 +1,4 @@
-//! A line of a log, not read yet.
+//! A line of a log, before it is parsed.
 ghost use Rattle.std.specs.Prelude.{◌≡◌, Ok, IfOk, IfErr, IsTrue};
 ghost use Rattle.epx_lines.specs.Meaning.{meaning_of};
 ghost use Rattle.epx_lines.specs.Faults.{IsFaultOf};
@@ -10,7 +10,7 @@ use epx_types::Place;
 use std::alloc::Global;
 use std::marker::Model;
 
-/// Where a line stands, and its bytes. Contracts see where it stands and what it means.
+/// A line's place and bytes. Contracts see its place and its meaning.
 #[derive(Drop)]
 pub(crate) struct PlacedLine<'a> {
     place: Place,
@@ -44,7 +44,7 @@ impl<'a> PlacedLine<'a> {
         self.bytes
     }
 
-    /// Whether it is passed over as it is.
+    /// Whether the line is seen to be blank without parsing it.
     pub(crate) fn is_blank(&self) -> bool
         ensures { IsTrue result → self.now.meaning ≡ Ok line.Blank }
     {

@@ -10,11 +10,11 @@ use crate::rows::{Row, find};
 use epx_types::{Entry, Id};
 use std::marker::Model;
 
-/// The committed instances of logs that agree. Contracts see them by rising Id.
+/// The committed instances of logs that agree. Contracts see the instances by rising Id.
 #[derive(Debug, Drop)]
 pub struct Merged {
     lines: Vec<PlacedEntry>,
-    /// The lines by rising Id.
+    /// The indices of the lines, by rising Id.
     rows: Vec<Row>,
     guesses: Guesses,
 }
@@ -43,7 +43,8 @@ impl Merged {
         }
     }
 
-    /// Where the instance stands: mostly where it is guessed, and else found by halving.
+    /// The position of an instance. Its guess is usually right; otherwise a binary search finds
+    /// it.
     fn found(&self, id: Id) -> Option<usize>
         ensures position { result ≡ position_of self.now id }
         ensures rising { IsRising (ids_of self.now) }
@@ -64,13 +65,14 @@ impl Merged {
         self.rows.len()
     }
 
+    /// Whether no instance is committed.
     pub fn is_empty(&self) -> bool
         ensures { result ≡ (length self.now == 0) }
     {
         self.len() == 0
     }
 
-    /// The entry of a committed instance, in at most logarithmic time.
+    /// The entry of an instance, if it is committed. Takes at most logarithmic time.
     pub fn get(&self, id: Id) -> Option<&Entry>
         ensures { option_copied result ≡ instance_of self.now id }
     {
@@ -80,15 +82,15 @@ impl Merged {
         }
     }
 
-    /// How many committed instances stand below this one, if it is committed, in at most logarithmic
-    /// time.
+    /// The position of an instance, if it is committed: how many committed instances have a lower
+    /// Id. Takes at most logarithmic time.
     pub fn position(&self, id: Id) -> Option<usize>
         ensures { result ≡ position_of self.now id }
     {
         self.found(id)
     }
 
-    /// The name of the instance at a position, counted from 0.
+    /// The Id of the instance at a position.
     pub fn id_at(&self, position: usize) -> Id
         requires { position < length self.now }
         ensures { slice_get (ids_of self.now) position ≡ Some result }
@@ -96,7 +98,7 @@ impl Merged {
         self.rows[position].id
     }
 
-    /// The entry at a position, counted from 0.
+    /// The entry of the instance at a position.
     pub fn entry_at(&self, position: usize) -> &Entry
         requires { position < length self.now }
         ensures { slice_get self.now position ≡ Some result.now }

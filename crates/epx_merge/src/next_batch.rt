@@ -1,4 +1,4 @@
-//! The next batch of lines for the workers.
+//! The next batch of lines that the workers read.
 ghost use Rattle.std.specs.Prelude.{◌≡◌, ◌<◌, ◌≤◌, ◌^◌, [], IfOk, IsTrue, length};
 ghost use Rattle.epx_merge.specs.Repeats.{IsRedundantIn, HoldsAfter, IsNextBatch};
 
@@ -8,18 +8,18 @@ use crate::walk::LineWalk;
 use epx_types::{Memory, Plan};
 use std::alloc::Global;
 
-/// A batch has so many lines for each worker, where pieces are small, so that threads are not started
-/// for few.
+/// The least number of lines in a batch for each of several workers. Fewer are not worth a thread.
 const LEAST_EACH: usize = 4_096;
 
-/// The same for one worker, which starts no thread: few lines stay in its cache until they are read.
+/// The same for one worker, which starts no thread. So few lines stay in its cache until it reads
+/// them.
 const LEAST_ALONE: usize = 1_024;
 
-/// A batch has no more lines than four pieces of the greatest cut, so that it takes no more room where
-/// logs are longer. Two batches may be held: one is read while the next is cut.
+/// The greatest number of lines in a batch, so that longer logs take no more memory. Up to two
+/// batches are in memory: one is read while the next is cut.
 const MOST_AT_ONCE: usize = 262_144;
 
-/// How many lines a batch has: for each worker four pieces, within the bounds.
+/// The number of lines in a batch: four pieces for each worker, within the bounds.
 fn lines_at_once(plan: Plan) -> usize
     ensures some { 0 < result }
     ensures few { result ≤ 262144 }
@@ -33,7 +33,7 @@ fn lines_at_once(plan: Plan) -> usize
     (plan.workers() * each).min(MOST_AT_ONCE)
 }
 
-/// Whether a line tells nothing: it is blank, or repeats one that the table holds.
+/// Whether a line is redundant: it is blank, or the cache has it already.
 fn is_redundant<'a>(line: &PlacedLine<'a>, table: &mut LineTable<'a>) -> bool
     ensures redundant { IsTrue result → IsRedundantIn table.old line.now.meaning }
     ensures held { HoldsAfter table.old line.now.meaning table.new }
@@ -41,8 +41,7 @@ fn is_redundant<'a>(line: &PlacedLine<'a>, table: &mut LineTable<'a>) -> bool
     line.is_blank() || table.finds(line.bytes())
 }
 
-/// The next lines, without blank ones and without those that repeat an earlier one. A batch is empty only
-/// where no line is left.
+/// The next lines that are not redundant. The batch is empty only if no line is left.
 pub(crate) fn next_batch<'a>(
     alloc: Global,
     plan: Plan,

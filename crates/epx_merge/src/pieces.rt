@@ -1,4 +1,4 @@
-//! Pieces of the lines, which workers read.
+//! Pieces of a batch, which workers read.
 ghost use Rattle.std.specs.Prelude.{◌≡◌, ◌<◌, ◌++◌, ◌∷◌, List, [], IfOk, OnOk, MatchOption, MatchResult, length};
 ghost use Rattle.epx_types.specs.Pieces.{piece_count};
 ghost use Rattle.epx_merge.specs.LogLines.{MeaningAt, placed_at, placed_among, bad_lines_at, bad_lines_among};
@@ -13,17 +13,17 @@ use epx_lines::{Line, LineFault, LineReader};
 use epx_types::{Fault, Memory, Place, Plan, Why};
 use std::alloc::Global;
 
-/// A line that gives no entry, and the reason.
+/// A line with a fault, and its reason.
 #[derive(Clone, Copy, Debug)]
 pub(crate) struct BadLine {
     pub(crate) place: Place,
     pub(crate) why: Why,
 }
 
-/// What pieces give, in order.
+/// The result of each piece, in order.
 pub(crate) type Pieces = Vec<Result<Vec<PlacedEntry>, BadLine>>;
 
-/// Reads one line, and adds its entry if it gives one. Answers the line if it is bad.
+/// Reads one line, and appends its entry if it has one. Returns the line if it is bad.
 fn read_next(
     alloc: Global,
     reader: &mut LineReader,
@@ -46,7 +46,7 @@ fn read_next(
     }
 }
 
-/// The entries that lines give, or the first bad line.
+/// The entries of lines, or the first bad line.
 fn read_lines(
     alloc: Global,
     lines: &[PlacedLine<'_>],
@@ -63,7 +63,7 @@ fn read_lines(
     Ok(Ok(entries))
 }
 
-/// The entries that the lines of a piece give, or its first bad line.
+/// The entries of the lines of a piece, or its first bad line.
 pub(crate) fn read_piece(
     alloc: Global,
     plan: Plan,
@@ -77,7 +77,7 @@ pub(crate) fn read_piece(
     read_lines(alloc, &lines[start..end])
 }
 
-/// Notes the entries of pieces in order, up to the first bad line.
+/// Records the entries of pieces in order, up to the first bad line.
 pub(crate) fn note_pieces(pieces: Pieces, ledger: &mut Ledger) -> Result<(), Fault>
     ensures { (lines : List MeaningAt) → AreRead (λ given entries. entries.items ≡ given) lines pieces.items → MatchResult result
         (λ _. (bad_lines_among lines ≡ []) × Notes (placed_among lines) ledger.old ledger.new)
@@ -92,7 +92,7 @@ pub(crate) fn note_pieces(pieces: Pieces, ledger: &mut Ledger) -> Result<(), Fau
     Ok(())
 }
 
-/// Notes entries in order.
+/// Records entries in order.
 fn note_entries(entries: Vec<PlacedEntry>, ledger: &mut Ledger) -> Result<(), Memory>
     ensures { OnOk result (Notes entries.items ledger.old ledger.new) }
 {

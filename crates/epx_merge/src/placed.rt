@@ -1,10 +1,10 @@
-//! Lines that give an instance.
+//! Entries with their places.
 ghost use Rattle.std.specs.Prelude.{◌≡◌};
 
 use epx_types::{Entry, Id, Place};
 use std::marker::Model;
 
-/// An entry and the line that gave it.
+/// An entry, and the place of its line.
 #[derive(Debug, Drop)]
 pub(crate) struct PlacedEntry {
     place: Place,

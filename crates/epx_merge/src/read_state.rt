@@ -1,4 +1,4 @@
-//! How far the reading of logs has come, and its next step.
+//! The state between two steps of reading logs, and the next step.
 ghost use Rattle.std.specs.Prelude.{◌≡◌, List, [], IfOk, MatchResult, map};
 ghost use Rattle.epx_merge.specs.ReadSteps.{IsReadStep};
 ghost use Rattle.epx_merge.specs.Ledgers.{IsLedgerOf};
@@ -16,7 +16,7 @@ use epx_seed::Seed;
 use epx_types::{Fault, Memory, Plan};
 use std::alloc::Global;
 
-/// What is noted of logs, and which of their lines are left.
+/// What is noted of the logs so far, and the lines that are left.
 #[derive(Drop)]
 pub(crate) struct ReadState<'a> {
     pub(crate) ledger: Ledger,
@@ -24,7 +24,8 @@ pub(crate) struct ReadState<'a> {
     table: LineTable<'a>,
 }
 
-/// A table for the lines of so many logs. One log is not compared with itself.
+/// The cache for this many logs. A single log needs none: its lines are not compared with each
+/// other.
 fn table_for<'a>(alloc: Global, logs: usize) -> Result<LineTable<'a>, Memory>
     ensures { IfOk result (λ table. table ≡ []) }
 {
@@ -36,7 +37,7 @@ fn table_for<'a>(alloc: Global, logs: usize) -> Result<LineTable<'a>, Memory>
 }
 
 impl<'a> ReadState<'a> {
-    /// Nothing is noted, and all lines are left. Names are looked up from the seed.
+    /// The state before the first line. The ledger hashes with the seed.
     pub(crate) fn new(
         alloc: Global,
         logs: &'a [Vec<u8>],
@@ -54,7 +55,7 @@ impl<'a> ReadState<'a> {
     }
 }
 
-/// Notes what was read, up to the first bad line, and makes the next batch.
+/// Records the entries that were read, up to the first bad line, and cuts the next batch.
 pub(crate) fn next_step<'a>(
     alloc: Global,
     plan: Plan,

@@ -1,4 +1,4 @@
-//! The answer to logs: their committed map, or the first refusal.
+//! Reads logs: returns their committed map, or the first refusal.
 ghost use Rattle.std.specs.Prelude.{◌≡◌, ◌≤◌, ◌^◌, List, [], IfOk, MatchResult, length, map};
 ghost use Rattle.std.specs.Thread.{IsSync};
 ghost use Rattle.epx_merge.specs.ReadSteps.{IsReadStep};
@@ -22,7 +22,7 @@ use std::alloc::Global;
 use std::random::RandomSource;
 use std::thread::{Threads, join};
 
-/// What each piece of the lines gives, in order.
+/// The result of each piece of the lines, in order.
 fn read_pieces<R: Threads + Sync, G: Gate + Sync>(
     rt: &R,
     alloc: Global,
@@ -39,8 +39,9 @@ fn read_pieces<R: Threads + Sync, G: Gate + Sync>(
     })
 }
 
-/// Reads a batch of lines; meanwhile one more thread notes what was read before them, and cuts those after
-/// them. Where one worker reads all of them, no thread is started. A fault in what was read before is named first.
+/// Reads a batch of lines. Meanwhile another thread notes what was read before, and cuts the next
+/// batch. If one worker can read the whole batch, no thread is started. A fault in the earlier
+/// lines is reported first.
 fn read_and_step<'a, R: Threads + Sync, G: Gate + Sync>(
     rt: &R,
     alloc: Global,
@@ -77,8 +78,8 @@ fn read_and_step<'a, R: Threads + Sync, G: Gate + Sync>(
     Ok((state, next, read?))
 }
 
-/// Reads the lines of all logs, and notes those that give an entry. What some lines give is noted while the next
-/// are read, and those after these are cut.
+/// Reads the lines of all logs into a ledger. While one batch is read, the previous one is noted
+/// and the next one is cut.
 fn read_all<R: Threads + RandomSource + Sync, G: Gate + Sync>(
     rt: &R,
     alloc: Global,
@@ -101,10 +102,10 @@ fn read_all<R: Threads + RandomSource + Sync, G: Gate + Sync>(
     Ok(ledger)
 }
 
-/// The committed map of logs that are accepted, or the first refusal of others.
+/// The committed map of the logs, or their first refusal.
 ///
-/// The lines of all logs are cut into the plan's pieces, which its workers claim. The answer is the same for
-/// every plan and gate, and whatever is drawn.
+/// The lines of all logs are cut into the plan's pieces, which its workers claim. The result is
+/// the same for every plan, gate and random source. `Memory` can come instead of any result.
 pub fn read_logs<R: Threads + RandomSource + Sync, G: Gate + Sync>(
     rt: &R,
     alloc: Global,

@@ -1,4 +1,4 @@
-//! Lines that were kept, found again by their bytes.
+//! A cache of lines, which recognizes repeated lines by their bytes.
 ghost use Rattle.std.specs.Prelude.{◌≡◌, [], IsTrue, IfOk, Contains};
 ghost use Rattle.epx_lines.specs.Meaning.{meaning_of};
 ghost use Rattle.epx_merge.specs.Repeats.{HoldsAfter};
@@ -8,27 +8,28 @@ use std::alloc::Global;
 use std::hash::{FoldHasher, Hasher};
 use std::marker::Model;
 
-/// A table has this many slots: twice as many as logs may name instances.
+/// The number of slots of a cache. A line that gets no slot is not recognized when it comes again.
 const SLOTS: u64 = 131_072;
 
-/// A line is looked for in this many slots. So no choice of lines makes a search long: where many fall
-/// together, some are not found again.
+/// A lookup examines this many slots, so no choice of lines makes it slow. If many lines collide,
+/// some are not recognized.
 const SEARCHED: usize = 8;
 
-/// What hashes the bytes of a line.
+/// Hashes the bytes of a line.
 type LineHasher = FoldHasher;
 
-/// What stands in a slot that names no line.
+/// A slot without a line.
 const FREE: u64 = u64::MAX;
 
-/// The bytes of lines that were kept. Contracts see what they mean.
+/// The bytes of lines in a cache. Contracts see what the lines mean.
 #[derive(Drop)]
 pub(crate) struct LineTable<'a> {
-    /// Near the slot that a line's hash names, the upper half of the hash over the line's number. So other lines
-    /// are seldom looked at, and most slots stay in a processor's cache. Nothing rests on what a slot says.
+    /// A slot holds the upper half of a line's hash, and the index of the line in `kept`. It is at
+    /// the hash or soon after. So other lines are seldom compared, and most slots stay in a
+    /// processor's cache. A slot is only a hint: the bytes are compared.
     slots: Vec<u64>,
-    /// Logs of one cluster name instances in much the same order, so that lines found one after another stand near
-    /// each other here.
+    /// The lines in the order of their arrival. Logs of one cluster name instances in much the
+    /// same order, so lines that are looked up one after another are close here.
     kept: Vec<&'a [u8]>,
 }
 
@@ -50,7 +51,7 @@ fn hash_of(bytes: &[u8]) -> u64 {
 }
 
 impl<'a> LineTable<'a> {
-    /// A table that finds no line.
+    /// A cache that never holds a line.
     pub(crate) fn closed(alloc: Global) -> LineTable<'a>
         ensures { result ≡ [] }
     {
@@ -77,7 +78,7 @@ impl<'a> LineTable<'a> {
         self.slots.get(at).copied()
     }
 
-    /// Whether the kept line of this number has these bytes.
+    /// Whether the line at this index has these bytes.
     fn holds(&self, number: usize, bytes: &[u8]) -> bool
         ensures { IsTrue result → Contains self.now (meaning_of bytes.now) }
     {
@@ -87,7 +88,7 @@ impl<'a> LineTable<'a> {
         }
     }
 
-    /// Gives a slot to a line. It stays free where there is no room for the line.
+    /// Stores a line in a slot. If out of memory, the slot stays free.
     fn keep(&mut self, at: usize, mark: u64, bytes: &'a [u8])
         ensures { HoldsAfter self.old (meaning_of bytes.now) self.new }
     {
@@ -97,7 +98,7 @@ impl<'a> LineTable<'a> {
         }
     }
 
-    /// Whether a line in the table has these bytes. If none has, a slot is given to them, where one is free.
+    /// Whether the cache has a line with these bytes. If not, keeps the line if a slot is free.
     pub(crate) fn finds(&mut self, bytes: &'a [u8]) -> bool
         ensures found { IsTrue result → Contains self.old (meaning_of bytes.now) }
         ensures held { HoldsAfter self.old (meaning_of bytes.now) self.new }

@@ -3,21 +3,21 @@ ghost use Rattle.std.specs.Prelude.{◌≡◌, ◌↔◌, IsTrue};
 
 use epx_types::{Entry, Id, Op};
 
-/// Whether two commands are one list of operations.
+/// Whether two commands have the same operations.
 fn same_command(first: &[Op], second: &[Op]) -> bool
     ensures { IsTrue result ↔ (first.now ≡ second.now) }
 {
     first == second
 }
 
-/// Whether two lists of names are one.
+/// Whether two lists of Ids are the same.
 fn same_ids(first: &[Id], second: &[Id]) -> bool
     ensures { IsTrue result ↔ (first.now ≡ second.now) }
 {
     first == second
 }
 
-/// Whether two entries are the same in name, sequence number, dependencies and command.
+/// Whether two entries have the same Id, sequence number, dependencies and command.
 pub(crate) fn same_entry(first: &Entry, second: &Entry) -> bool
     ensures { IsTrue result ↔ (first.now ≡ second.now) }
 {

@@ -1,4 +1,4 @@
-//! The lines of logs, one after another.
+//! Iterates over the lines of logs.
 ghost use Rattle.std.specs.Prelude.{◌≡◌, ◌∷◌, [], MatchOption, map};
 ghost use Rattle.epx_merge.specs.LogLines.{meanings_of};
 
@@ -7,7 +7,7 @@ use epx_lines::cut_line;
 use epx_types::Place;
 use std::marker::Model;
 
-/// Goes over the lines of logs, by log and then by line. Contracts see the lines that are left.
+/// Iterates over the lines of logs by rising place. Contracts see the lines that are left.
 #[derive(Drop)]
 pub(crate) struct LineWalk<'a> {
     log: usize,
@@ -47,7 +47,7 @@ impl<'a> LineWalk<'a> {
         }
     }
 
-    /// The next line.
+    /// The next line, if one is left.
     pub(crate) fn next_line(&mut self) -> Option<PlacedLine<'a>>
         ensures { MatchOption result ((self.old ≡ []) × (self.new ≡ [])) (λ line. self.old ≡ line ∷ self.new) }
     {

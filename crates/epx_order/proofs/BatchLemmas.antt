@@ -1,4 +1,4 @@
--- What the words of a batch say of a node.
+-- What the words of a batch say about a node.
 use Rattle.std.proofs.Common.{◌≡◌, inl, inr, ℕ, ◌<◌, List, Bool, length, get_or, IsTrue, sym, ◌∙◌, arith}
 use Rattle.std.proofs.lemmas.Bool.{cases_Bool, false≢true}
 use Rattle.epx_graph.specs.Graphs.{DependencyGraph, edges_of}

@@ -1,4 +1,4 @@
--- Words that get more bits.
+-- Words to which bits are added.
 use Rattle.std.proofs.Common.{◌≡◌, ◌↔◌, ◌⊎◌, inl, inr, ℕ, ◌^◌, ◌<◌, List, Bool, false, length, get_or, set, map, bit_or, bit_and, w64, IsTrue, sym, subst, ap, ◌∙◌, arith, tests}
 use Rattle.std.proofs.lemmas.Bool.{cases_Bool, cases_eq, cases_lt, false≢true}
 use Rattle.std.proofs.lemmas.List.{get_or-map, get_or_past, get_or-set_same, get_or-set_other, length-map}
@@ -30,7 +30,7 @@ or_bit b v w = (
   ]),
 )
 
--- after bits were added to one word
+-- after bits are added to one word
 pub or_at : (words : List ℕ) (k v : ℕ) → k < length words → (b c : ℕ) → IsTrue (has_bit b (get_or (set words k (bit_or (get_or words k 0) v)) c 0)) ↔ (IsTrue (has_bit b (get_or words c 0)) ⊎ ((k ≡ c) × IsTrue (has_bit b v)))
 or_at words k v l b c = elim (cases_eq c k) [
   | inl same ↦
@@ -74,7 +74,7 @@ bits_at b words c = elim (cases_lt c (length words)) [
 bit_zero : (b w : ℕ) → ¬ IsTrue (has_bit b w) → bit_at w b ≡ 0
 bit_zero b w not = elim (cases_Bool (has_bit b w)) [ inl has ↦ absurd (not has) | inr lacks ↦ bit_none b w lacks ]
 
--- the bits of s that neither r nor t has
+-- the bits of s that are in neither r nor t
 pub candidate_bits : (s r t b : ℕ) → b < 64 → bit_or r t < 2 ^ 64 → IsTrue (has_bit b (bit_and s (bit_not w64 (bit_or r t)))) ↔ (IsTrue (has_bit b s) × (¬ IsTrue (has_bit b r)) × (¬ IsTrue (has_bit b t)))
 candidate_bits s r t b l fits =
     let rest = bit_not w64 (bit_or r t) in

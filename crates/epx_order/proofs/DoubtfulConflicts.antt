@@ -29,14 +29,14 @@ module _ (m : List Instance) (g : DependencyGraph) (is : IsGraphOf m g) where
   within : (k : ℕ) (d : Instance) → slice_get m k ≡ Some d → k < g.committed
   within k d at = omega (arith, slice_get_within m k d at, committed_count m g is)
 
-  -- an instance stands at one position of the map
+  -- an instance is at one position of the map
   one_place : (k j : ℕ) (d e : Instance) → slice_get m k ≡ Some d → slice_get m j ≡ Some e → d.id ≡ e.id → k ≡ j
   one_place k j d e at to same =
       let rising = subst IsRising is.committed is.graph.committed_rise in
       let both : Some k ≡ Some j = sym (position_of-found m rising e.id k d at same) ∙ position_of-found m rising e.id j e to refl in
       cc both
 
-  -- where all nodes write one key
+  -- if all nodes write one key
   pub hold_by_one_key : (touches : List DoubtfulTouch) → ((k : ℕ) → k < length m → Contains touches (record { key = 0; node = k; writes = true })) → (ready : List Bool) → HoldAllConflicts m (edges_of g) ready touches
   hold_by_one_key touches all ready k j d e above at to k_ready j_ready conflict = inr (record {
     mine = record { key = 0; node = k; writes = true };
@@ -48,7 +48,7 @@ module _ (m : List Instance) (g : DependencyGraph) (is : IsGraphOf m g) where
   })
 
   module _ (order : List Ranked) (orders : IsExecutionOrder m order) (nodes : List ℕ) (are : AreNodesOf m order nodes) (start : DefaultHasher) (touches sure : List Touch) (hashes : List ℕ) (hold : HoldTouches start m nodes (length nodes) touches) (keeps : (t : Touch) → Contains touches t → ¬ Contains hashes t.hash → Contains sure t) (linked : AreLinked (edges_of g) nodes sure (length sure)) (doubtful : List DoubtfulTouch) (found : (t : Touch) (key : ℕ) → Contains touches t → key < length hashes → get_or hashes key 0 ≡ t.hash → Contains doubtful (doubtful_touch nodes key t)) where
-    -- commands that touch one key, which one of them writes
+    -- commands that touch one key, of which one writes it
     by_key : (d e : Instance) (s : Stands m g is order orders nodes are d) (t : Stands m g is order orders nodes are e) → d.id ≢ e.id → (k : List ℕ) (w v : Bool) → Contains (touches_of start s.position d.ops) (touch start s.position k w) → Contains (touches_of start t.position e.ops) (touch start t.position k v) → IsTrue w ⊎ IsTrue v → (Reaches m d.id e.id ⊎ Reaches m e.id d.id) ⊎ ShareKey doubtful (get_or nodes s.position 0) (get_or nodes t.position 0)
     by_key d e s t differ k w v in_d in_e one =
         let mine = hold s.position d (touch start s.position k w) s.within s.at in_d in

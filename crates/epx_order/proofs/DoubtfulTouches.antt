@@ -1,4 +1,4 @@
--- Touches that are picked by their hashes, one by one.
+-- Touches that are selected by their hashes, one by one.
 use Rattle.std.proofs.Common.{◌≡◌, inl, inr, ℕ, ◌+◌, ◌<◌, List, [], ◌∷◌, ◌++◌, true, length, get_or, Contains, sym, subst, ap, ◌∙◌, arith}
 use Rattle.std.proofs.lemmas.Bool.{cases_lt}
 use Rattle.std.proofs.lemmas.List.{get_or_default}
@@ -8,24 +8,24 @@ use Rattle.epx_order.specs.declared.touches.Touch.{Touch}
 use Rattle.epx_order.specs.DoubtfulKeys.{doubtful_touch, AreInRange}
 use Rattle.epx_order.specs.Links.{touch_at}
 
--- each of some touches is one of all
+-- each of some touches is one of all touches
 abbrev pub AreSome : List Touch → List Touch → Type 0
 AreSome touches sure = (t : Touch) → Contains sure t → Contains touches t
 
--- they hold those of the first n that are of none of these hashes
+-- they have those of the first n touches that are of none of these hashes
 abbrev pub HoldSure : List Touch → List ℕ → List Touch → ℕ → Type 0
 HoldSure touches hashes sure n = (i : ℕ) → i < n → ¬ Contains hashes (touch_at touches i).hash → Contains sure (touch_at touches i)
 
--- each is at one of these nodes and of one of these hashes
+-- each is of one of these nodes and of one of these hashes
 abbrev pub AreFound : List ℕ → List ℕ → List DoubtfulTouch → Type 0
 AreFound nodes hashes found = (t : DoubtfulTouch) → Contains found t → Contains nodes t.node × (t.key < length hashes)
 
--- they hold those of the first n that are of one of these hashes
+-- they have those of the first n touches that are of one of these hashes
 abbrev pub HoldFound : List ℕ → List Touch → List ℕ → List DoubtfulTouch → ℕ → Type 0
 HoldFound nodes touches hashes found n = (i key : ℕ) → i < n → key < length hashes → get_or hashes key 0 ≡ (touch_at touches i).hash → Contains found (doubtful_touch nodes key (touch_at touches i))
 
 module _ (touches : List Touch) (hashes : List ℕ) where
-  -- a touch by its number
+  -- a touch of a key by its number
   pub numbered : (t : Touch) (h : Contains touches t) → touch_at touches h.0 ≡ t
   numbered t h = get_or_default touches h.0 _ t h.1 ∙ h.2
 
@@ -79,7 +79,7 @@ module _ (touches : List Touch) (hashes : List ℕ) where
           absurd (none (subst (λ i. Contains hashes (touch_at touches i).hash) same there))
     ]
 
--- the touch of a key that all nodes write
+-- the touch of the one key that all nodes write
 abbrev pub writes_one_key : ℕ → DoubtfulTouch
 writes_one_key node = record { key = 0; node = node; writes = true }
 

@@ -90,7 +90,7 @@ module _ (component ends below : List ℕ) (own : ℕ) (targets : List ℕ) (n f
 
 -- ---- from component to component
 
--- the ends below, after the first n nodes of the order
+-- the ends below, after the first n nodes of the order of components
 pub record AreEndsBelow (edges : ℕ → List ℕ) (p : Parts) (ends below : List ℕ) (n : ℕ) : Type 0 where
   pub reason : (k : ℕ) → k < length p.component → (number_for p below k ≡ 0) ⊎ ((j : ℕ) × NodeReaches edges k j × (component_of p j ≢ component_of p k) × (number_for p below k ≡ number_for p ends j))
   pub above : (q j : ℕ) → q < n → Contains (edges (node_at p q)) j → component_of p j ≢ component_of p (node_at p q) → (number_for p ends j ≤ number_for p below (node_at p q)) × (number_for p below j ≤ number_for p below (node_at p q))
@@ -106,7 +106,7 @@ module _ (edges : ℕ → List ℕ) (p : Parts) (is : IsPartition edges p) (ends
   down_edge : (k b j : ℕ) → k < length p.component → b < length p.component → component_of p k ≡ component_of p b → Contains (edges b) j → NodeReaches edges k j
   down_edge k b j lk lb e h = reaches_on edges k b j (is.joined k b lk lb e) (reaches_edge edges b j h)
 
-  -- what lies over the targets of a node comes from what it reaches
+  -- the greatest end over the targets of a node is that of something the node reaches
   over_reason : (below : List ℕ) (n k b found : ℕ) → AreEndsBelow edges p ends below n → k < length p.component → b < length p.component → component_of p k ≡ component_of p b → IsEndOver p.component ends below (component_of p b) (edges b) (length (edges b)) found → (found ≡ 0) ⊎ ((j : ℕ) × NodeReaches edges k j × (component_of p j ≢ component_of p k) × (found ≡ number_for p ends j))
   over_reason below n k b found old lk lb e over = elim over.one [
     | inl none ↦ inl none

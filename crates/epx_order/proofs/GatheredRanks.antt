@@ -31,7 +31,7 @@ module _ (m : List Instance) (g : DependencyGraph) where
     once = λ i j d l k. absurd (omega arith);
   }
 
-  -- a node that isn't that of a ready instance is passed over
+  -- a node whose instance is not ready adds no rank
   pub gathered_past : (n : ℕ) (ranks : List Rank) → ((x : Id) → slice_get g.ids n ≡ Some x → ¬ IsReady m x) → AreGathered m g n ranks → AreGathered m g (n + 1) ranks
   gathered_past n ranks waits old = record {
     is_rank = old.is_rank;
@@ -46,7 +46,7 @@ module _ (m : List Instance) (g : DependencyGraph) where
     once = old.once;
   }
 
-  -- and the rank of one that is comes last
+  -- a node whose instance is ready adds its rank at the end
   pub gathered_push : IsGraph g → (n : ℕ) (ranks : List Rank) (r : Rank) → slice_get g.ids n ≡ Some r.id → IsRanked m (ranked r) → AreGathered m g n ranks → AreGathered m g (n + 1) (ranks ++ r ∷ [])
   gathered_push is n ranks r at ranks_r old = record {
     is_rank = λ a h.
@@ -72,7 +72,7 @@ module _ (m : List Instance) (g : DependencyGraph) where
         omega (arith, k.1, node_is_one g is k.0 n r.id (k.2 ∙ ap Some same) at));
   }
 
-  -- those of all committed nodes are those of all ready instances
+  -- the ranks of all committed nodes are those of all ready instances
   pub gathered_all : IsGraphOf m g → (ranks : List Rank) → AreGathered m g g.committed ranks → AreReadyRanks m ranks
   gathered_all is ranks all = record {
     is_rank = all.is_rank;

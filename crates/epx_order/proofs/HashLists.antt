@@ -1,4 +1,4 @@
--- Lists of numbers that rise.
+-- Strictly increasing lists of numbers.
 use Rattle.std.proofs.Common.{◌≡◌, ◌⊎◌, inl, inr, ℕ, zero, suc, ◌+◌, ◌-◌, ◌<◌, ◌≤◌, List, [], ◌∷◌, Option, Some, None, true, length, get_or, Contains, MatchOption, is_some, subst, ap, ◌∙◌, arith}
 use Rattle.std.specs.List.Sorted.{IsStrictlyIncreasing}
 use Rattle.std.proofs.lemmas.Bool.{cases_eq, cases_lt, false≢true}
@@ -31,7 +31,7 @@ module _ (xs : List ℕ) (rising : IsStrictlyIncreasing xs) where
       let at : i + (j - i - 1) + 1 ≡ j = omega arith in
       subst (λ j. get_or xs i 0 < get_or xs j 0) at (rises_by i (j - i - 1) (omega arith))
 
-  -- each number is at one index
+  -- each number is at one index only
   pub one_index : (i j : ℕ) → i < length xs → j < length xs → get_or xs i 0 ≡ get_or xs j 0 → i ≡ j
   one_index i j li lj same = elim (cases_lt i j) [
     | inl below ↦ absurd (omega (arith, rises i j below lj, same))
@@ -47,12 +47,12 @@ module _ (xs : List ℕ) (rising : IsStrictlyIncreasing xs) where
     | inr not ↦ let same : i ≡ j = omega arith in omega (arith, ap (λ i. get_or xs i 0) same)
   ]
 
--- what was found of a number
+-- what a binary search finds of a number
 pub present : (xs : List ℕ) (x : ℕ) (found : Option ℕ) → is_some found ≡ true → MatchOption found (¬ Contains xs x) (λ i. (i < length xs) × (get_or xs i 0 ≡ x)) → Contains xs x
 present xs x (Some i) some at = subst (Contains xs) at.1 (Contains-get_or xs i 0 at.0)
 present xs x None some at = absurd (false≢true some)
 
--- where all before it are less and all from it on are greater
+-- if all elements before an index are less and all from it on are greater
 pub absent : (xs : List ℕ) (x i : ℕ) → ((k : ℕ) → k < i → get_or xs k 0 < x) → ((k : ℕ) → i ≤ k → k < length xs → x < get_or xs k 0) → ¬ Contains xs x
 absent xs x i before after h =
     let at : get_or xs h.0 0 ≡ x = get_or_default xs h.0 0 x h.1 ∙ h.2 in

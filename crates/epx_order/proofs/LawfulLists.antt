@@ -1,4 +1,5 @@
--- A list of ready instances, each once, in which none stands too early or was overtaken is a lawful order, and the other way round.
+-- A list is a lawful order exactly if it has each ready instance once, and none is early or
+-- overtaken.
 use Rattle.std.proofs.Common.{◌≡◌, ◌≢◌, ℕ, inl, inr, List, true, length, slice_get, Some, sym, subst, ◌∙◌, ap, arith, is_lt, nat_cmp, Contains}
 use Rattle.std.specs.Ordering.{ordering_then}
 use Rattle.std.specs.Cmp.{nat_cmp_total, on_total, then_total}

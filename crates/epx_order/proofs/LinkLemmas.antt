@@ -1,4 +1,4 @@
--- What a look at sorted touches, one by one, keeps true.
+-- The invariant of the loop over the sorted touches.
 use Rattle.std.proofs.Common.{◌≡◌, ◌⊎◌, inl, inr, ℕ, ◌+◌, ◌<◌, ◌≤◌, List, Bool, IsTrue, refl, sym, subst, ap, ◌∙◌, arith}
 use Rattle.std.proofs.lemmas.Bool.{cases_Bool, cases_lt, false≢true}
 use Rattle.epx_order.specs.declared.touches.Touch.{Touch}
@@ -28,7 +28,7 @@ module _ (edges : ℕ → List ℕ) (nodes : List ℕ) (touches : List Touch) wh
   trans : (i j k : ℕ) → Reach i j → Reach j k → Reach i k
   trans i j k = reaches_on edges _ _ _
 
-  -- the first n + 1 are linked where touch n reaches what it has to
+  -- the first n + 1 touches are linked if touch n reaches what it has to reach
   linked_more : (n : ℕ) → AreLinked edges nodes touches n → ((j : ℕ) → j < n → hash j ≡ hash n → IsTrue (writes j) ⊎ IsTrue (writes n) → Reach n j) → AreLinked edges nodes touches (n + 1)
   linked_more n old now j i below within same one = elim (cases_lt i n) [
     | inl past ↦ old j i below past same one
@@ -52,7 +52,7 @@ module _ (edges : ℕ → List ℕ) (nodes : List ℕ) (touches : List Touch) wh
     ];
   }
 
-  -- one that writes
+  -- a touch that writes
   linking_write : (last_writer n : ℕ) → hash last_writer ≡ hash n → IsTrue (writes n) → IsRelatedBack edges nodes touches last_writer n → IsLinking edges nodes touches last_writer n → IsLinking edges nodes touches n (n + 1)
   linking_write last_writer n same writing follows old = record {
     linked = linked_more n old.linked (λ j below alike one. all j below alike);
@@ -72,7 +72,7 @@ module _ (edges : ℕ → List ℕ) (nodes : List ℕ) (touches : List Touch) wh
       | inr here ↦ follows j here below (inl writing)
     ]
 
-  -- one that reads
+  -- a touch that reads
   linking_read : (last_writer n : ℕ) → hash last_writer ≡ hash n → ¬ IsTrue (writes n) → IsRelatedBack edges nodes touches last_writer n → IsLinking edges nodes touches last_writer n → IsLinking edges nodes touches last_writer (n + 1)
   linking_read last_writer n same reading follows old = record {
     linked = linked_more n old.linked (λ j below alike one. elim one [ inl wrote ↦ last j below alike wrote | inr writing ↦ absurd (reading writing) ]);

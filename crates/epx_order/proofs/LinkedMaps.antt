@@ -24,7 +24,7 @@ use Rattle.epx_components.proofs.ReadyRanks.{node_of_place}
 use Rattle.epx_order.proofs.TouchLemmas.{touch_of_touched, touch_of_written}
 
 module _ (m : List Instance) (g : DependencyGraph) (is : IsGraphOf m g) (order : List Ranked) (orders : IsExecutionOrder m order) (nodes : List ℕ) (are : AreNodesOf m order nodes) where
-  -- where a ready instance stands in the order
+  -- the position of a ready instance in the order
   pub record Stands (d : Instance) : Type 0 where
     pub position : ℕ
     pub within : position < length nodes
@@ -48,11 +48,11 @@ module _ (m : List Instance) (g : DependencyGraph) (is : IsGraphOf m g) (order :
       }
 
   module _ (start : DefaultHasher) (touches : List Touch) (linked : AreLinked (edges_of g) nodes touches (length touches)) where
-    -- where a touch stands
+    -- the position of a touch
     index_of : (t : Touch) → Contains touches t → (i : ℕ) × (i < length touches) × (touch_at touches i ≡ t)
     index_of t found = (found.0, found.1, get_or_default touches found.0 _ t found.1 ∙ found.2)
 
-    -- the command at a position reaches that at another
+    -- the command at one position reaches the command at another
     abbrev Reach : ℕ → ℕ → Type 0
     Reach p q = NodeReaches (edges_of g) (get_or nodes p 0) (get_or nodes q 0)
 

@@ -18,7 +18,7 @@ module _ (m : List Instance) (order : List Ranked) (nodes : List ℕ) (are : Are
   entry : (p : ℕ) (r : Ranked) → slice_get order p ≡ Some r → (e : Instance) × (slice_get m (get_or nodes p 0) ≡ Some e) × (e.id ≡ r.id)
   entry p r at = slice_get-from_map (λ (e : Instance). e.id) m (get_or nodes p 0) r.id (are.each p r at)
 
-  -- each is that of an instance of the map
+  -- each node is that of an instance of the map
   pub nodes_in_map : All (λ k. k < length m) nodes
   nodes_in_map p d l = elim (slice_get_cases order p).1 [
     | inl some ↦
@@ -36,7 +36,7 @@ module _ (m : List Instance) (order : List Ranked) (nodes : List ℕ) (are : Are
         let e = entry p r at in
         node_of_place m g is (get_or nodes p 0) e.0 e.1 (omega (arith, slice_get_within m (get_or nodes p 0) e.0 e.1, committed_count m g is)) ∙ ap Some e.2
 
-    -- those of one component reach each other
+    -- the nodes of one component reach each other
     pub leaders_join : IsExecutionOrder m order → LeadersJoin (edges_of g) order nodes
     leaders_join orders p q r s at_p at_q same =
         let first = (orders.ranked r (Contains-slice_get order p r at_p)).leader.member in

@@ -20,7 +20,7 @@ use Rattle.epx_order.specs.declared.order_fault.OrderFault.{OrderFault}
 use Rattle.epx_order.specs.declared.order_fault.OrderFault.TheVariants.{Memory, Stranger, Repeat, Missing, Early, Sequence}
 use Rattle.epx_order.proofs.LawfulLists.{lawful_from_order}
 
--- ---- facts that can be told
+-- ---- decidable facts
 
 abbrev Told : Type 0 → Type 0
 Told A = A ⊎ (¬ A)
@@ -69,7 +69,7 @@ module _ (ids : List Id) where
     by None e = inr (λ h. let at = h.1 in cc (e, at))
     by (Some x) e = told_as (tell x) (λ p. (x, e, p)) (λ h. let at = h.1 in let same : h.0 ≡ x = cc (e, at) in subst P same h.2)
 
-  -- so has that at some place for which R holds
+  -- so does the Id at some place for which R holds
   place_cases : (R : ℕ → Type 0) (P : Id → Type 0) → ((k : ℕ) → Told (R k)) → ((x : Id) → Told (P x)) → Told ((k : ℕ) × R k × HasAt P k)
   place_cases R P among tell =
       elim (least_place (λ k. R k × HasAt P k) (λ k. both_cases (among k) (at_cases P tell k)) (length ids)) [
@@ -85,7 +85,7 @@ module _ (m : List Instance) (ids : List Id) where
         | inr none ↦ inr (λ ready. none ready.committed)
       ]
 
-  -- the instance follows d in sequence, as y follows x
+  -- the instance comes after d by sequence, as y comes after x
   abbrev Follows : Id → Id → Instance → Instance → Type 0
   Follows x y d e = (e.id ≡ y) × (is_lt (ordering_then (nat_cmp d.seq e.seq) (id_cmp x y)) ≡ true)
 
@@ -116,7 +116,7 @@ module _ (m : List Instance) (ids : List Id) where
       (λ x. place_cases ids (λ j. j < k) (λ y. InOneComponent m x y × SequenceBefore m x y) (λ j. less_cases j k) (λ y. both_cases (InOneComponent-cases m x y) (sequence_cases x y))) k)
       (λ h. (h.0, h.2.2.0, h.1, h.2.2.2.0, h.2.2.2.1, h.2.0, h.2.1, h.2.2.1)) (λ h. (h.0, h.2, (h.5, h.6, (h.1, h.7, (h.3, h.4)))))
 
-  -- ---- what is wrong first
+  -- ---- the first fault
 
   abbrev HasFault : Type 0
   HasFault = (fault : OrderFault) × (fault ≢ Memory) × IsOrderFault m ids fault

@@ -1,4 +1,4 @@
--- What a list's nodes show of its instances.
+-- What the nodes of a list say about its instances.
 use Rattle.std.proofs.Common.{◌≡◌, ℕ, ◌<◌, inl, inr, List, Bool, length, get_or, slice_get, Some, sym, ◌∙◌, ap, arith, IsTrue, Contains, All}
 use Rattle.std.proofs.lemmas.Bool.{cases_lt}
 use Rattle.std.proofs.lemmas.List.Elements.{All-from_get_or}
@@ -17,7 +17,7 @@ use Rattle.epx_order.specs.declared.order_fault.OrderFault.TheVariants.{Missing}
 use Rattle.epx_order.proofs.MarkedReady.{ready_from_mark, mark_from_ready}
 
 module _ (m : List Instance) (g : DependencyGraph) (is : IsGraphOf m g) (ids : List Id) (nodes : List ℕ) (marks : List Bool) (listed : AreListed g ids (length ids) nodes marks) where
-  -- an instance stands in the list exactly where its node is marked
+  -- an instance is in the list exactly if its node is marked
   pub listed_from_mark : (k : ℕ) (x : Id) → slice_get g.ids k ≡ Some x → IsTrue (is_marked marks k) → Contains ids x
   listed_from_mark k x at h =
       let i = (listed.marked k).0 h in
@@ -59,7 +59,7 @@ module _ (m : List Instance) (g : DependencyGraph) (is : IsGraphOf m g) (ids : L
               ],
         )
 
-  -- the nodes of ready instances are committed, and stand at places of the map
+  -- the nodes of ready instances are committed, and are positions of the map
   pub nodes_committed : ReadyOnce m ids (length ids) → All (λ k. k < length m) nodes
   nodes_committed once = All-from_get_or (λ k. k < length m) nodes 0 (λ i l.
       let in' : i < length ids = omega (arith, l, listed.whole) in

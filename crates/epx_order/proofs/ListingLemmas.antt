@@ -1,4 +1,4 @@
--- One instance more of a list.
+-- One more instance of a list.
 use Rattle.std.proofs.Common.{◌≡◌, ℕ, ◌+◌, ◌<◌, inl, inr, List, [], ◌∷◌, ◌++◌, Bool, true, false, get_or, set, slice_get, Some, sym, subst, ◌∙◌, ap, arith, IsTrue}
 use Rattle.std.proofs.lemmas.Bool.{cases_eq, cases_lt}
 use Rattle.std.proofs.lemmas.List.{length_push, length-set, get_or_push, get_or_append_left, get_or-set_same, get_or-set_other}
@@ -13,7 +13,7 @@ use Rattle.epx_order.specs.OrderFaults.{ReadyOnce}
 use Rattle.epx_order.specs.ReadyMarks.{is_marked}
 
 module _ (g : DependencyGraph) (is : IsGraph g) (ids : List Id) (n : ℕ) (nodes : List ℕ) (marks : List Bool) (old : AreListed g ids n nodes marks) (x : Id) (at : slice_get ids n ≡ Some x) (k : ℕ) (to : slice_get g.ids k ≡ Some x) where
-  -- where its node is marked, it stands earlier, and the other way round
+  -- its node is marked exactly if it is listed at an earlier position
   pub earlier_from_mark : IsTrue (is_marked marks k) → (i : ℕ) × (i < n) × (slice_get ids i ≡ Some x)
   earlier_from_mark h =
       let i = (old.marked k).0 h in

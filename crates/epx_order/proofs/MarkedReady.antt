@@ -1,4 +1,4 @@
--- The node of an instance is marked as ready exactly where the instance is.
+-- The node of an instance is marked as ready exactly if the instance is ready.
 use Rattle.std.proofs.Common.{◌≡◌, ℕ, List, Bool, slice_get, Some, refl, inl, inr, IsTrue}
 use Rattle.std.proofs.lemmas.Bool.{cases_lt}
 use Rattle.std.proofs.lemmas.Option.{slice_get_within}

@@ -1,4 +1,4 @@
--- A list has one fault at most, and a lawful order none.
+-- A list has at most one fault, and a lawful order has none.
 use Rattle.std.proofs.Common.{◌≡◌, ◌≢◌, ◌⊎◌, inl, inr, ℕ, ◌<◌, List, length, Some, refl, sym, ap, ◌∙◌, subst, arith}
 use Rattle.std.proofs.lemmas.Bool.{cases_lt}
 use Rattle.std.proofs.lemmas.Option.{slice_get_within}
@@ -17,7 +17,8 @@ module _ (m : List Instance) (ids : List Id) where
   abbrev IsWrongItselfAt : ℕ → Type 0
   IsWrongItselfAt place = IsStrangerAt m ids place ⊎ IsRepeatAt m ids place
 
-  -- a place that is wrong by itself is no lower one of a list that is right up to there
+  -- if a list has only ready instances, each once, up to a place, then no lower place has a
+  -- stranger or a repeat
   not_below : (n place : ℕ) → ReadyOnce m ids n → IsWrongItselfAt place → ¬ (place < n)
   not_below n place once (inl (x, at, waits)) l = waits (once place x l at).0
   not_below n place once (inr (x, at, ready, i, before, earlier)) l = (once place x l at).1 i before earlier
@@ -43,7 +44,7 @@ module _ (m : List Instance) (ids : List Id) where
       let same : Some y ≡ Some x = sym to ∙ at in
       waits (subst (IsReady m) (cc same) ready)
 
-  -- two places that are wrong by order, and nothing before them
+  -- two places where the order is wrong, each the least one, are equal
   one_order_place : (i j : ℕ) → IsEarlyAt m ids i ⊎ IsOvertakenAt m ids i → InOrder m ids i → IsEarlyAt m ids j ⊎ IsOvertakenAt m ids j → InOrder m ids j → i ≡ j
   one_order_place i j wrong order wrong' order' = elim (cases_lt i j) [
     | inl l ↦ absurd (clash i j l wrong order')

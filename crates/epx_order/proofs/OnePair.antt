@@ -1,4 +1,4 @@
--- What an uncovered pair shows, and that a least one is the only one.
+-- A map with an uncovered pair is not covered, and it has only one least uncovered pair.
 use Rattle.std.proofs.Common.{◌≡◌, ◌≢◌, inl, inr, List, sym, ◌∙◌, subst}
 use Rattle.epx_types.specs.declared.id.Id.{Id}
 use Rattle.epx_types.specs.Instances.{Instance}

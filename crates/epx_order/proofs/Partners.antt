@@ -1,4 +1,4 @@
--- Nodes that are settled with a node, by the keys of their commands and by a batch.
+-- Which nodes are settled with a node, from the keys of their commands and from a batch.
 use Rattle.std.proofs.Common.{◌≡◌, inl, inr, ℕ, ◌+◌, ◌<◌, ◌≤◌, List, Bool, length, map, slice_get, Some, IsTrue, sym, subst, subst₂, ap, ◌∙◌, arith}
 use Rattle.std.proofs.lemmas.Bool.{cases_lt}
 use Rattle.std.proofs.lemmas.Option.{slice_get_within}
@@ -11,14 +11,14 @@ use Rattle.epx_order.specs.NodeConflicts.{KeyLists, keys_of, KeysConflict, IsSet
 use Rattle.epx_order.specs.ReadyMarks.{is_marked}
 
 module _ (m : List Instance) (edges : ℕ → List ℕ) (ready : List Bool) (k : ℕ) where
-  -- past a node
+  -- after one more node
   pub settled_more : (j : ℕ) → ((i : ℕ) → k < i → i < j → IsSettled m edges ready k i) → IsSettled m edges ready k j → (i : ℕ) → k < i → i < j + 1 → IsSettled m edges ready k i
   settled_more j before here i above below = elim (cases_lt i j) [
     | inl past ↦ before i above past
     | inr now ↦ let same : j ≡ i = omega arith in subst (IsSettled m edges ready k) same here
   ]
 
-  -- a node that shares no doubtful key, or is related, is settled
+  -- a node that shares no doubtful key with k, or is related to k, is settled with k
   pub settled_by_rest : (touches : List DoubtfulTouch) → HoldAllConflicts m edges ready touches → (j : ℕ) → k < j → IsRelatedOrFree edges ready touches k j → IsSettled m edges ready k j
   settled_by_rest touches hold j above rest d e at to k_ready j_ready conflict = elim (hold k j d e above at to k_ready j_ready conflict) [
     | inl related ↦ related
@@ -29,7 +29,7 @@ module _ (m : List Instance) (edges : ℕ → List ℕ) (ready : List Bool) (k :
     instance_of_keys : (i : ℕ) (v : KeyLists) → slice_get keys i ≡ Some v → (d : Instance) × (slice_get m i ≡ Some d) × (keys_of d ≡ v)
     instance_of_keys i v at = slice_get-from_map keys_of m i v (ap (λ keys. slice_get keys i) (sym same) ∙ at)
 
-    -- nor is there anything to settle where the commands do not conflict
+    -- two commands that do not conflict are settled
     pub settled_by_keys : (j : ℕ) (v w : KeyLists) → slice_get keys k ≡ Some v → slice_get keys j ≡ Some w → ¬ KeysConflict v w → IsSettled m edges ready k j
     settled_by_keys j v w at to none d e at_d at_e k_ready j_ready conflict =
         let v_is : Some v ≡ Some (keys_of d) = sym at ∙ (ap (λ keys. slice_get keys k) same ∙ slice_get-map keys_of m k d at_d) in
@@ -52,7 +52,7 @@ module _ (m : List Instance) (edges : ℕ → List ℕ) (ready : List Bool) (k :
           least = before;
         }
 
-    -- past the last instance there is none
+    -- after the last instance there is no node
     pub settled_past : (n : ℕ) → length keys ≤ n → ((i : ℕ) → k < i → i < n → IsSettled m edges ready k i) → (j : ℕ) → k < j → IsSettled m edges ready k j
     settled_past n past before j above d e at to k_ready j_ready conflict =
         let there = slice_get-map keys_of m j e to in

@@ -1,4 +1,5 @@
--- What is wrong by order with a list of ready instances, each once, is what is wrong with its nodes.
+-- For a list of ready instances, each once: the order of the instances is wrong where the order of
+-- their nodes is wrong.
 use Rattle.std.proofs.Common.{◌≡◌, ◌≢◌, ℕ, ◌<◌, ◌≤◌, inl, inr, List, Bool, true, length, get_or, slice_get, Some, refl, sym, subst, subst₂, ◌∙◌, ap, arith, is_lt, nat_cmp, Contains}
 use Rattle.std.specs.Ordering.{ordering_then}
 use Rattle.std.proofs.lemmas.Bool.{cases_lt}
@@ -49,7 +50,7 @@ module _ (m : List Instance) (g : DependencyGraph) (is : IsGraphOf m g) (p : Par
   falls : (k j : ℕ) → NodeReaches (edges_of g) k j → component_of p j ≤ component_of p k
   falls k j there = reach_falls (edges_of g) p.component part.is.falls k j there
 
-  -- ---- too early
+  -- ---- early
 
   module _ (ends below : List ℕ) (are_ends : AreEnds p nodes (length nodes) ends) (are_below : (k : ℕ) → k < length g.ids → IsEndBelow (edges_of g) p ends k (number_for p below k)) where
     pub early_from_ahead : (i : ℕ) → i < length nodes → IsAheadAt p below nodes i → IsEarlyAt m ids i
@@ -100,7 +101,7 @@ module _ (m : List Instance) (g : DependencyGraph) (is : IsGraphOf m g) (p : Par
       let back = part.is.joined (get_or nodes j 0) (get_or nodes i 0) (node_in j y.0 y.1) (node_in i x.0 x.1) same in
       (d.id, e.id, at_x, (reaches i j d.id e.id at_x at_y there, reaches j i e.id d.id at_y at_x back), (d, e, Contains-slice_get m (get_or nodes i 0) d at_d, refl, Contains-slice_get m (get_or nodes j 0) e at_e, refl, lower), j, earlier, at_y)
 
-  -- the instance of a place of the list
+  -- the instance at a place of the list
   instance_at : (i : ℕ) (x : Id) (d : Instance) → slice_get ids i ≡ Some x → Contains m d → d.id ≡ x → slice_get m (get_or nodes i 0) ≡ Some d
   instance_at i x d at in_d same =
       let rising = subst IsRising is.committed is.graph.committed_rise in

@@ -1,4 +1,4 @@
--- Lists of ranks: what stands at a place, and one rank more.
+-- Lists of ranks: the element at a position, and one more rank.
 use Rattle.std.proofs.Common.{◌≡◌, ◌&&◌, ℕ, ◌+◌, ◌<◌, List, [], ◌∷◌, ◌++◌, length, take, get_or, slice_get, Some, Bool, true, false, eqb, is_eq, sym, ap, ◌∙◌, arith}
 use Rattle.std.proofs.lemmas.Bool.Decides.{nat_tests}
 use Rattle.std.proofs.lemmas.List.{get_or-map, length-map, map_more}
@@ -14,7 +14,7 @@ use Rattle.epx_order.specs.declared.rank.Rank.{Rank}
 pub rank_at : (ranks : List Rank) (i : ℕ) (r : Rank) → i < length (ranked_all ranks) → r ≡ get_or ranks i r → slice_get (ranked_all ranks) i ≡ Some (ranked r)
 rank_at ranks i r l at = slice_get-map ranked ranks i r (slice_get-get_or ranks i r (omega (arith, length-map ranks ranked)) ∙ ap Some (sym at))
 
--- whether two Ids are one
+-- whether two Ids are equal
 abbrev pub same_id : Id → Id → Bool
 same_id x y = eqb x.replica y.replica && eqb x.number y.number
 
@@ -40,10 +40,10 @@ module _ (ranks : List Rank) (i : ℕ) (d : Rank) (l : i < length ranks) where
       ∙ ap (λ (r : Ranked). ranked_ids (take i (ranked_all ranks)) ++ r.id ∷ []) (sym here)
       ∙ sym (map_more (λ (r : Ranked). r.id) (ranked_all ranks) i (ranked d) within)
 
-  -- one leader more
+  -- one more leader
   pub leader_more : same_id (get_or ranks i d).id (get_or ranks i d).leader ≡ true → component_count (take (i + 1) (ranked_all ranks)) ≡ component_count (take i (ranked_all ranks)) + 1
   leader_more same = count_by_more_yes leads (ranked_all ranks) i (ranked d) within (test ∙ same)
 
-  -- or none
+  -- or no leader
   pub leader_no_more : same_id (get_or ranks i d).id (get_or ranks i d).leader ≡ false → component_count (take (i + 1) (ranked_all ranks)) ≡ component_count (take i (ranked_all ranks))
   leader_no_more other = count_by_more_no leads (ranked_all ranks) i (ranked d) within (test ∙ other)

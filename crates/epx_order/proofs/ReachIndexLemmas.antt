@@ -12,11 +12,12 @@ use Rattle.epx_order.specs.declared.reach_index.ReachIndex.{ReachIndex}
 use Rattle.epx_order.specs.ReachIndexes.{IsChain, IsReachIndex}
 use Rattle.epx_components.proofs.NodePathLemmas.{reaches_itself, reaches_on}
 
--- names that `==` finds equal
+-- Ids that `==` finds equal
 pub equal_ids : (a b : Id) → id_eq.eq-value.it a b ≡ true → a ≡ b
 equal_ids a b h = grind (arith, nat_tests)
 
--- the next position, from where its start and all between a low position and it are reached
+-- the next position, if the chain's start reaches it and it reaches all positions from the low one
+-- on
 pub chain_next : (edges : ℕ → List ℕ) (nodes : List ℕ) (n : ℕ) (chain : Chain) → chain.start ≤ n → NodeReaches edges (get_or nodes chain.start 0) (get_or nodes n 0) → ((q : ℕ) → chain.low ≤ q → q < n → NodeReaches edges (get_or nodes n 0) (get_or nodes q 0)) → IsChain edges nodes (n + 1) chain
 chain_next edges nodes n chain l from down = record {
   start = λ some. (omega arith, subst (λ i. NodeReaches edges (get_or nodes chain.start 0) (get_or nodes i 0)) last from);
@@ -28,18 +29,18 @@ chain_next edges nodes n chain l from down = record {
   last : n ≡ n + 1 - 1
   last = omega arith
 
--- the next position, of which the node reaches that of the last one
+-- the next position, whose node reaches the node of the last one
 pub chain_on : (edges : ℕ → List ℕ) (nodes : List ℕ) (n : ℕ) (chain : Chain) → NodeReaches edges (get_or nodes n 0) (get_or nodes (n - 1) 0) → IsChain edges nodes n chain → (q : ℕ) → chain.low ≤ q → q < n → NodeReaches edges (get_or nodes n 0) (get_or nodes q 0)
 chain_on edges nodes n chain step is q low below = reaches_on edges (get_or nodes n 0) (get_or nodes (n - 1) 0) (get_or nodes q 0) step (is.down q low below)
 
--- what stands after the first n positions
+-- what is after the first n positions
 pub record AreChains (g : DependencyGraph) (nodes starts positions chain_start : List ℕ) (n : ℕ) : Type 0 where
   pub each_place : length starts ≡ n
   pub each_node : (length positions ≡ length g.ids) × (length chain_start ≡ length g.ids)
   pub start : (p : ℕ) → p < n → (get_or starts p 0 < n) × NodeReaches (edges_of g) (get_or nodes (get_or starts p 0) 0) (get_or nodes p 0)
   pub down : (k q : ℕ) → k < length g.ids → get_or chain_start k 0 ≤ q → q ≤ get_or positions k 0 → (q < n) × NodeReaches (edges_of g) k (get_or nodes q 0)
 
--- the next position, of which the chain is known
+-- the next position, whose chain is known
 pub chains_next : (g : DependencyGraph) (nodes starts positions chain_start : List ℕ) (n : ℕ) (chain : Chain) → get_or nodes n 0 < length g.ids → IsChain (edges_of g) nodes (n + 1) chain → AreChains g nodes starts positions chain_start n → AreChains g nodes (starts ++ chain.start ∷ []) (set positions (get_or nodes n 0) n) (set chain_start (get_or nodes n 0) chain.low) (n + 1)
 chains_next g nodes starts positions chain_start n chain node_in is old = record {
   each_place = omega (arith, length_push starts chain.start, old.each_place);

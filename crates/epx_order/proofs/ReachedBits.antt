@@ -1,4 +1,4 @@
--- Marks of components for several sources, of which each has a bit.
+-- Marks of components for several sources, one bit for each source.
 use Rattle.std.proofs.Common.{◌≡◌, ◌↔◌, ◌⊎◌, inl, inr, ℕ, ◌+◌, ◌<◌, List, Bool, true, false, All, length, get_or, set, map, replicate, bit_or, IsTrue, refl, sym, subst, ap, ◌∙◌, arith}
 use Rattle.std.proofs.lemmas.Bool.{cases_Bool, cases_lt, false≢true}
 use Rattle.std.proofs.lemmas.List.{get_or-map, get_or-replicate, get_or_past, length-map, length-replicate, map-set}
@@ -19,7 +19,7 @@ use Rattle.epx_order.proofs.ReachedMarks.{AreReached, reached_from, reached_same
 abbrev pub AreReachedBits : (ℕ → List ℕ) → Parts → List ℕ → List ℕ → ℕ → Type 0
 AreReachedBits edges p sources words n = (b : ℕ) → b < length sources → AreReached edges p (get_or sources b 0) (bits_of b words) n
 
--- source b, as the one node that has to be reached
+-- source b, as the only node that has to be reached
 abbrev pub IsSource : List ℕ → ℕ → ℕ → Type 0
 IsSource sources b j = j ≡ get_or sources b 0
 
@@ -61,7 +61,7 @@ module _ (edges : ℕ → List ℕ) (p : Parts) (is : IsPartition edges p) (sour
     )) (reached_skip edges p is (get_or sources b 0) (bits_of b words) n (λ h. false≢true (sym lacks ∙ (mark_bit b words _).0 h)) (old b lb))
   ]
 
-  -- where lacks source reaches the node
+  -- a node without any bit changes nothing
   pub reached_bits_skip : (words : List ℕ) (n : ℕ) → ((b : ℕ) → ¬ IsTrue (has_bit b (number_for p words (node_at p n)))) → AreReachedBits edges p sources words (n + 1) → AreReachedBits edges p sources words n
   reached_bits_skip words n none old b lb = reached_skip edges p is (get_or sources b 0) (bits_of b words) n (λ h. none b ((mark_bit b words _).0 h)) (old b lb)
 
@@ -70,7 +70,7 @@ module _ (edges : ℕ → List ℕ) (p : Parts) (is : IsPartition edges p) (sour
       let marks = reached_all edges p is (get_or sources b 0) (bits_of b words) (all b lb) in' k lk in
       ((λ h. marks.0 ((mark_bit b words _).1 h)), λ there. (mark_bit b words _).0 (marks.1 there))
 
-  -- no bit is set at first
+  -- at first no bit is set
   pub reaching_bits_first : (words : List ℕ) (n : ℕ) → words ≡ replicate n 0 → AreReachingBits edges p sources words 0
   reaching_bits_first words n zeros b lb = record {
     reason = λ k lk h. absurd (no_bit b (subst (λ w. IsTrue (has_bit b w)) (zero_at (component_of p k)) ((mark_bit b words _).0 h)));

@@ -1,4 +1,4 @@
--- The marks of the components that a node reaches, from the component that was finished last down.
+-- The marks of the components that a node reaches, from the last finished component down.
 use Rattle.std.proofs.Common.{◌≡◌, ℕ, ◌+◌, ◌<◌, ◌≤◌, ◌↔◌, ◌⊎◌, inl, inr, Bool, false, List, [], ◌∷◌, length, get_or, refl, subst, ◌∙◌, ap, arith, Contains, IsTrue}
 use Rattle.std.proofs.lemmas.Bool.{cases_lt}
 use Rattle.std.proofs.lemmas.List.{get_or_default}
@@ -15,7 +15,7 @@ pub record AreReached (edges : ℕ → List ℕ) (p : Parts) (root : ℕ) (marks
   pub edge : (q j : ℕ) → n ≤ q → q < length p.order → Contains (edges (node_at p q)) j → IsTrue (mark_for p marks (node_at p q)) → IsTrue (mark_for p marks j)
 
 module _ (edges : ℕ → List ℕ) (p : Parts) (is : IsPartition edges p) (root : ℕ) where
-  -- the component of the root alone is marked
+  -- only the component of the root is marked
   pub reached_from : (marks : List Bool) → root < length p.component → ((c : ℕ) → IsTrue (get_or marks c false) ↔ (component_of p root ≡ c)) → AreReached edges p root marks (length p.order)
   reached_from marks l own = record {
     reason = λ k lk h. is.joined root k l lk ((own (component_of p k)).0 h);
@@ -23,7 +23,7 @@ module _ (edges : ℕ → List ℕ) (p : Parts) (is : IsPartition edges p) (root
     edge = λ q j le lt. absurd (omega arith);
   }
 
-  -- marks that agree
+  -- two lists of marks that agree
   pub reached_same : (marks new : List Bool) (n : ℕ) → ((c : ℕ) → IsTrue (get_or new c false) ↔ IsTrue (get_or marks c false)) → AreReached edges p root marks n → AreReached edges p root new n
   reached_same marks new n same old = record {
     reason = λ k lk h. old.reason k lk ((same (component_of p k)).0 h);
@@ -69,7 +69,7 @@ module _ (edges : ℕ → List ℕ) (p : Parts) (is : IsPartition edges p) (root
     lb : b < length p.component
     lb = node_below edges p is n l
 
-    -- what is marked now of the later nodes was marked already
+    -- the step marks no later node
     before : (q : ℕ) → n ≤ q → q < length p.order → IsTrue (mark_for p new (node_at p q)) → IsTrue (mark_for p marks (node_at p q))
     before q le lt h = elim ((marks_new (component_of p (node_at p q))).0 h) [
       | inl was ↦ was

@@ -1,4 +1,4 @@
--- The latest sequence key in each component, of the nodes of a list.
+-- The greatest sequence key of each component, among the nodes of a list.
 use Rattle.std.proofs.Common.{◌≡◌, ◌≢◌, ℕ, ◌+◌, ◌<◌, ◌⊎◌, inl, inr, List, length, get_or, set, replicate, slice_get, Option, Some, None, true, refl, sym, subst, ◌∙◌, ap, arith, is_lt}
 use Rattle.std.specs.Cmp.{IsTotalOrder, nat_cmp_total, on_total, then_total}
 use Rattle.std.specs.FinMap.{IsAntisymmetric, nat_cmp-IsAntisymmetric}
@@ -15,7 +15,7 @@ use Rattle.epx_components.proofs.PartitionLemmas.{set_for}
 abbrev pub latest_in : Parts → List (Option SequenceKey) → ℕ → Option SequenceKey
 latest_in p latest k = get_or latest (component_of p k) None
 
--- for each component the latest sequence key of its nodes among the first n of the list
+-- for each component, the greatest sequence key of its nodes among the first n of the list
 pub record AreLatest (m : List Instance) (p : Parts) (nodes : List ℕ) (n : ℕ) (latest : List (Option SequenceKey)) : Type 0 where
   pub whole : length latest ≡ p.count
   pub from : (k : ℕ) (t : SequenceKey) → latest_in p latest k ≡ Some t → (j : ℕ) × (e : Instance) × (j < n) × (component_of p (get_or nodes j 0) ≡ component_of p k) × (slice_get m (get_or nodes j 0) ≡ Some e) × (sequence_key_of e ≡ t)
@@ -30,7 +30,7 @@ sequence_key_cmp-IsAntisymmetric a b e =
     let id = id_cmp-IsAntisymmetric a.id b.id (then_second _ _ e) in
     λ i. record { seq = seq i; id = id i }
 
--- a sequence key before another is before each that is not before that one
+-- a key less than another is less than each that is not less than the other
 before_later : (a b c : SequenceKey) → is_lt (sequence_key_cmp a b) ≡ true → ¬ (is_lt (sequence_key_cmp c b) ≡ true) → is_lt (sequence_key_cmp a c) ≡ true
 before_later a b c lower not = elim (below_cases sequence_key_cmp_total sequence_key_cmp-IsAntisymmetric c b) [
   | inl l ↦ absurd (not l)
@@ -109,7 +109,7 @@ module _ (m : List Instance) (p : Parts) (nodes : List ℕ) (n : ℕ) (latest : 
     cases : (k : ℕ) → ((component_of p k ≡ own) × (latest_in p (set latest own (Some (sequence_key_of e))) k ≡ Some (sequence_key_of e))) ⊎ ((component_of p k ≢ own) × (latest_in p (set latest own (Some (sequence_key_of e))) k ≡ latest_in p latest k))
     cases = set_for None p latest (get_or nodes n 0) (Some (sequence_key_of e)) in'
 
--- one place more
+-- one more position
 pub none_aside_step : (m : List Instance) (p : Parts) (below nodes : List ℕ) (n : ℕ) → ¬ IsAheadAt p below nodes n → ¬ IsPassedAt m p nodes n → NoneAside m p below nodes n → NoneAside m p below nodes (n + 1)
 none_aside_step m p below nodes n ahead passed old i l = elim (cases_lt i n) [
   | inl past ↦ old i past

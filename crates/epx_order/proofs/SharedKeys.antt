@@ -1,4 +1,4 @@
--- Two tests for a key in common decide whether commands conflict.
+-- Commands conflict exactly if one of two tests finds a key in common.
 use Rattle.std.proofs.Common.{◌≡◌, ◌↔◌, inl, inr, ℕ, List, Bool, false, Contains, IsTrue, sym, ◌∙◌}
 use Rattle.std.proofs.lemmas.Bool.{false≢true}
 use Rattle.epx_order.specs.NodeConflicts.{KeyLists, KeysConflict}

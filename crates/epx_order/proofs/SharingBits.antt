@@ -1,4 +1,4 @@
--- The sources that share a doubtful key with nodes, touch by touch.
+-- The sources that share a doubtful key with each node, touch by touch.
 use Rattle.std.proofs.Common.{◌≡◌, ◌⊎◌, inl, inr, ℕ, ◌+◌, ◌<◌, List, Bool, true, false, cond, length, get_or, set, bit_or, Contains, IsTrue, IsFalse, refl, sym, subst, ◌∙◌, arith}
 use Rattle.std.proofs.lemmas.Bool.{cases_Bool, cases_lt, false≢true}
 use Rattle.std.proofs.lemmas.List.{get_or_default}
@@ -10,25 +10,25 @@ use Rattle.epx_order.proofs.BitLemmas.{or_at}
 abbrev pub doubtful_at : List DoubtfulTouch → ℕ → DoubtfulTouch
 doubtful_at touches i = get_or touches i (record { key = 0; node = 0; writes = false })
 
--- the sources of its key that matter to a touch: all where it writes, else those that write
+-- the sources of its key that matter to a touch: all if it writes, otherwise those that write
 abbrev pub word_of : List ℕ → List ℕ → DoubtfulTouch → ℕ
 word_of touching writing t = cond t.writes (get_or touching t.key 0) (get_or writing t.key 0)
 
 pub doubtful_numbered : (touches : List DoubtfulTouch) (t : DoubtfulTouch) (h : Contains touches t) → doubtful_at touches h.0 ≡ t
 doubtful_numbered touches t h = get_or_default touches h.0 _ t h.1 ∙ h.2
 
--- the bits of other words stay, and those that were added are there
+-- the bits of the other words stay, and the new bits are in the word
 pub had_bits : (words : List ℕ) (k v : ℕ) → k < length words → (c w : ℕ) → HasBitsOf w (get_or words c 0) → HasBitsOf w (get_or (set words k (bit_or (get_or words k 0) v)) c 0)
 had_bits words k v l c w old b h = (or_at words k v l b c).1 (inl (old b h))
 
 pub has_bits : (words : List ℕ) (k v : ℕ) → k < length words → HasBitsOf v (get_or (set words k (bit_or (get_or words k 0) v)) k 0)
 has_bits words k v l b h = (or_at words k v l b k).1 (inr (refl, h))
 
--- the first n touches have their sources in the words of their keys
+-- the sources of the first n touches are in the words of their keys
 abbrev pub AreKeyed : List DoubtfulTouch → List ℕ → Bool → List ℕ → ℕ → Type 0
 AreKeyed touches own only words n = (i : ℕ) → i < n → IsFalse only ⊎ IsTrue (doubtful_at touches i).writes → HasBitsOf (get_or own (doubtful_at touches i).node 0) (get_or words (doubtful_at touches i).key 0)
 
--- the first n touches have their words in those of their nodes
+-- the words of the first n touches are in the words of their nodes
 abbrev pub AreShared : List DoubtfulTouch → List ℕ → List ℕ → List ℕ → ℕ → Type 0
 AreShared touches touching writing words n = (i : ℕ) → i < n → HasBitsOf (word_of touching writing (doubtful_at touches i)) (get_or words (doubtful_at touches i).node 0)
 

@@ -1,4 +1,4 @@
--- A stable sort of the ranks of the ready instances is the execution order.
+-- A stable sort of the ranks of the ready instances has the execution order as its result.
 use Rattle.std.proofs.Common.{◌≡◌, ◌≢◌, ◌&&◌, ℕ, zero, suc, ◌<◌, List, [], ◌∷◌, Bool, true, false, not, cond, map, filter, slice_get, Some, Contains, AllPairs, Less, Equal, Greater, is_lt, nat_cmp, refl, sym, ap, ap₂, ◌∙◌, subst, subst₂, arith, IsPermutation}
 use Rattle.std.specs.Ordering.{ordering_reverse, ordering_then}
 use Rattle.std.specs.Cmp.{tied_itself}
@@ -16,7 +16,7 @@ use Rattle.epx_types.proofs.Places.{slice_get-from_map, Contains-slice_get, AllP
 use Rattle.epx_order.specs.Ranks.{ranked, ranked_all, AreReadyRanks}
 use Rattle.epx_order.specs.declared.rank.Rank.{Rank}
 
--- what holds of each pair that passes a test holds of two such elements
+-- if R holds of any two filtered elements in order, it holds of two elements that pass the test
 pair_passes : {X : Type 0} (R : X → X → Type 0) (p : X → Bool) (xs : List X) → AllPairs R (filter p xs) → (i j : ℕ) (x y : X) → i < j → slice_get xs i ≡ Some x → slice_get xs j ≡ Some y → p x ≡ true → p y ≡ true → R x y
 pair_passes R p [] h i j x y l at to px py = absurd (cc at)
 pair_passes R p (z ∷ zs) h i zero x y l at to px py = absurd (omega arith)
@@ -34,7 +34,7 @@ pair_passes {X} R p (z ∷ zs) h (suc i) (suc j) x y l at to px py = pair_passes
 abbrev lower : Rank → Rank → Bool
 lower a b = is_lt (rank_cmp (ranked a) (ranked b))
 
--- ranks that tie are of one instance
+-- ranks that compare as equal are of one instance
 tied_ids : (a b : Rank) → rank_cmp (ranked a) (ranked b) ≡ Equal → a.id ≡ b.id
 tied_ids a b e =
     let by_id = id_cmp a.id b.id in

@@ -1,4 +1,4 @@
--- What is settled once some of the sources are.
+-- What is settled when some of the sources are settled.
 use Rattle.std.proofs.Common.{◌≡◌, inl, inr, ℕ, ◌+◌, ◌-◌, ◌<◌, ◌≤◌, List, Bool, All, length, length-take, length-drop, take, drop, get_or, IsTrue, sym, subst, ap, ◌∙◌, arith}
 use Rattle.std.proofs.lemmas.Bool.{cases_lt}
 use Rattle.std.proofs.lemmas.List.{get_or_default, get_or-take, get_or-drop}
@@ -35,7 +35,7 @@ module _ (m : List Instance) (edges : ℕ → List ℕ) (ready : List Bool) (tou
     ]
   ]
 
--- the sources of a batch come after the first n
+-- the sources of a batch come after the first n sources
 pub settled_batch : (m : List Instance) (edges : ℕ → List ℕ) (ready : List Bool) (sources batch : List ℕ) (first n : ℕ) → ((i : ℕ) → i < length batch → get_or batch i 0 ≡ get_or sources (first + i) 0) → n ≤ length batch → AreSettled m edges ready sources first → AreSettled m edges ready batch n → AreSettled m edges ready sources (first + n)
 settled_batch m edges ready sources batch first n same within before now i j l above = elim (cases_lt i first) [
   | inl past ↦ before i j past above
@@ -45,7 +45,7 @@ settled_batch m edges ready sources batch first n same within before now i j l a
       subst (λ k. IsSettled m edges ready k j) is (now (i - first) j (omega arith) (omega (arith, is, above)))
 ]
 
--- a part of a list
+-- a sublist
 module _ (xs : List ℕ) (first n : ℕ) where
   pub part_within : (i : ℕ) → i < length (take n (drop first xs)) → (i < n) × (first + i < length xs)
   part_within i l = (omega (arith, l, length-take n (drop first xs)), omega (arith, l, length-take n (drop first xs), length-drop first xs))

@@ -1,11 +1,11 @@
--- Words to which the targets of edges are added, or which they give, one by one.
+-- Words to which the targets of edges are added, and words that are collected from the targets.
 use Rattle.std.proofs.Common.{◌≡◌, ◌↔◌, ◌⊎◌, inl, inr, ℕ, ◌+◌, ◌<◌, List, length, get_or, set, bit_or, IsTrue, subst, ap, ◌∙◌, arith}
 use Rattle.std.proofs.lemmas.Bool.{cases_lt}
 use Rattle.epx_order.specs.SourceBits.{has_bit}
 use Rattle.epx_order.proofs.BitLemmas.{or_bit, or_at}
 
 module _ (component targets : List ℕ) where
-  -- the word was added to the components of the first n targets
+  -- the word is added to the components of the first n targets
   abbrev pub AreAdded : List ℕ → List ℕ → ℕ → ℕ → Type 0
   AreAdded words new word n = (b c : ℕ) → IsTrue (has_bit b (get_or new c 0)) ↔ (IsTrue (has_bit b (get_or words c 0)) ⊎ (IsTrue (has_bit b word) × (i : ℕ) × (i < n) × (get_or component (get_or targets i 0) 0 ≡ c)))
 

@@ -64,6 +64,6 @@ module _ (start : DefaultHasher) (position : ℕ) where
     | inr later ↦ one_place j true t later
   ]
 
-  -- each is at the position of the command
+  -- each touch is at the position of the command
   pub touch_place : (ops : List Op) (t : Touch) → Contains (touches_of start position ops) t → t.position ≡ position
   touch_place ops t h = let f = Contains-from_flat_map (touches_by start position) ops t h in place_by f.0 t f.2

@@ -1,4 +1,4 @@
--- A committed map is covered, or has a least pair of instances that are not.
+-- A committed map is covered, or it has a least uncovered pair.
 use Rattle.std.proofs.Common.{◌≡◌, ◌⊎◌, List, Contains, refl, sym, subst, inl, inr}
 use Rattle.epx_types.specs.declared.id.Id.{Id}
 use Rattle.epx_types.specs.Ids.{Below, UpTo}
@@ -25,7 +25,7 @@ Below-cases x y = elim (below_cases id_cmp_total id_cmp-IsAntisymmetric x y) [
 ]
 
 module _ (m : List Instance) where
-  -- ---- whether two instances are an uncovered pair can be told
+  -- ---- whether two instances are an uncovered pair is decidable
 
   IsReady-cases : (x : Id) → IsReady m x ⊎ (¬ IsReady m x)
   IsReady-cases x = elim (Contains-Id_cases (ids_of m) x) [
@@ -36,7 +36,7 @@ module _ (m : List Instance) where
     | inr missing ↦ inr (λ ready. missing ready.committed)
   ]
 
-  -- an instance of this name, of which a fact can be told, that has it
+  -- the instance of an Id, if a decidable fact holds of it
   of_name : (P : Instance → Type 0) → ((d : Instance) → P d ⊎ (¬ P d)) → (x : Id) → ((d : Instance) × Contains m d × (d.id ≡ x) × P d) ⊎ (¬ ((d : Instance) × Contains m d × (d.id ≡ x) × P d))
   of_name P tell x = elim (some_or_none (λ d. (d.id ≡ x) × P d) (λ d. both_cases (Id-cases d.id x) (tell d)) m) [
     | inl found ↦ inl (found.0, found.1, found.2.0, found.2.1)
@@ -59,7 +59,7 @@ module _ (m : List Instance) where
         | inr none ↦ inr (λ h. none (h.ready, (h.conflict, h.apart)))
       ]
 
-  -- ---- the least one
+  -- ---- the least pair
 
   abbrev IsPairOf : Id → Id → Type 0
   IsPairOf x y = Below x y × IsUncovered m x y

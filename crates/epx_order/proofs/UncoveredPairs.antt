@@ -1,4 +1,4 @@
--- Nodes that are not settled are those of instances that are not covered.
+-- Nodes that are not settled are those of an uncovered pair.
 use Rattle.std.proofs.Common.{◌≡◌, ◌⊎◌, inl, inr, ℕ, ◌<◌, List, Bool, length, slice_get, Some, Contains, refl, sym, subst, ap, ◌∙◌, arith}
 use Rattle.std.proofs.lemmas.Bool.{cases_lt}
 use Rattle.std.proofs.lemmas.Option.{slice_get_within}
@@ -21,14 +21,14 @@ use Rattle.epx_order.proofs.MarkedReady.{ready_from_mark, mark_from_ready}
 use Rattle.epx_components.proofs.ReadyRanks.{node_of_place}
 
 module _ (m : List Instance) (g : DependencyGraph) (is : IsGraphOf m g) (ready : List Bool) (marked : AreReadyMarks g ready) where
-  -- the instance at the place of its node
+  -- the instance at the position of its node
   instance_at : (k : ℕ) (x : Id) (d : Instance) → slice_get g.ids k ≡ Some x → k < g.committed → Contains m d → d.id ≡ x → slice_get m k ≡ Some d
   instance_at k x d at l in_d same =
       let rising = subst IsRising is.committed is.graph.committed_rise in
       let f = node_instance m g is k x at l in
       f.1 ∙ ap Some (IsRising-same m rising f.0 d (Contains-slice_get m k f.0 f.1) in_d (f.2 ∙ sym same))
 
-  -- one of two instances that conflict reaches the other, where their nodes are settled
+  -- if the nodes of two instances that conflict are settled, one instance reaches the other
   related : (k j : ℕ) (x y : Id) (d e : Instance) → slice_get g.ids k ≡ Some x → slice_get g.ids j ≡ Some y → k < g.committed → j < g.committed → Contains m d → Contains m e → d.id ≡ x → e.id ≡ y → IsReady m x → IsReady m y → Conflict d.ops e.ops → IsSettled m (edges_of g) ready k j → Reaches m x y ⊎ Reaches m y x
   related k j x y d e at to l n in_d in_e is_x is_y x_ready y_ready conflict settled =
       elim (settled d e (instance_at k x d at l in_d is_x) (instance_at j y e to n in_e is_y) (mark_from_ready m g is ready marked k x at x_ready) (mark_from_ready m g is ready marked j y to y_ready) conflict) [
@@ -62,7 +62,7 @@ module _ (m : List Instance) (g : DependencyGraph) (is : IsGraphOf m g) (ready :
       let count = committed_count m g is in
       (omega (arith, slice_get_within m k d at, count, is.graph.committed_nodes), omega (arith, slice_get_within m j e to, count, is.graph.committed_nodes))
 
-  -- where the nodes of two instances are settled, these are no uncovered pair
+  -- if the nodes of two instances are settled, they are no uncovered pair
   not_uncovered : (k j : ℕ) (x y : Id) → slice_get g.ids k ≡ Some x → slice_get g.ids j ≡ Some y → k < g.committed → j < g.committed → IsSettled m (edges_of g) ready k j → ¬ IsUncovered m x y
   not_uncovered k j x y at to l n settled bad =
       let (d, e, in_d, in_e, is_x, is_y, conflict) = bad.conflict in

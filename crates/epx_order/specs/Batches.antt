@@ -1,4 +1,5 @@
--- What nodes have to do with the sources of a batch: words of the search for an uncovered pair alone.
+-- What nodes have to do with the sources of a batch. Only the search for an uncovered pair uses
+-- this.
 use Rattle.std.specs.Prelude.{◌≡◌, ◌↔◌, ℕ, ◌<◌, ◌≤◌, List, Bool, length, slice_index, All, IsTrue}
 use Rattle.epx_graph.specs.Graphs.{DependencyGraph, edges_of}
 use Rattle.epx_graph.specs.NodePaths.{NodeReaches}
@@ -21,13 +22,13 @@ AreReaching g p sources words =
     (b k : ℕ) → b < length sources → k < length g.ids →
     IsTrue (has_bit b (number_for p words k)) ↔ NodeReaches (edges_of g) k (slice_index sources b)
 
--- bit b of a node's word at least where source b shares a doubtful key with it
+-- bit b of a node's word is set at least if source b shares a doubtful key with the node
 abbrev pub AreSharing : List DoubtfulTouch → List ℕ → List ℕ → Type 0
 AreSharing touches sources words =
     (b j : ℕ) → b < length sources → ShareKey touches (slice_index sources b) j →
     IsTrue (has_bit b (slice_index words j))
 
--- the batch has a word for each component and each node
+-- the batch has one word for each component and one for each node
 pub record IsWhole (p : Parts) (ready : List Bool) (batch : Batch) : Type 0 where
   pub counted : All (λ c. c < p.count) p.component
   pub components : (length batch.reached.items ≡ p.count) × (length batch.reaching.items ≡ p.count)
@@ -41,7 +42,7 @@ pub record IsBatch (g : DependencyGraph) (p : Parts) (touches : List DoubtfulTou
   pub reaching : AreReaching g p sources batch.reaching.items
   pub sharing : AreSharing touches sources batch.sharing.items
 
--- a ready node that neither reaches k nor is reached from it
+-- a ready node that does not reach k and is not reached from k
 pub record IsReadyApart (edges : ℕ → List ℕ) (ready : List Bool) (k j : ℕ) : Type 0 where
   pub is_ready : IsTrue (is_marked ready j)
   pub apart : (¬ NodeReaches edges k j) × (¬ NodeReaches edges j k)

@@ -1,4 +1,4 @@
--- Keys of which the touches are not all seen to be related.
+-- Keys whose touches are not all found to be related.
 use Rattle.std.specs.Prelude.{◌≡◌, ◌⊎◌, ℕ, ◌<◌, List, Bool, length, slice_get, slice_index, Some, Contains, IsTrue}
 use Rattle.epx_types.specs.Conflicts.{Conflict}
 use Rattle.epx_types.specs.Instances.{Instance}
@@ -8,11 +8,11 @@ use Rattle.epx_order.specs.declared.doubtful_touches.DoubtfulTouch.{DoubtfulTouc
 use Rattle.epx_order.specs.declared.touches.Touch.{Touch}
 use Rattle.epx_order.specs.ReadyMarks.{is_marked, AreReadyMarks}
 
--- a touch of a key by its number, with the node at its position in an order
+-- a touch of a key, by the number of the key and the node at the position of the touch in an order
 abbrev pub doubtful_touch : List ℕ → ℕ → Touch → DoubtfulTouch
 doubtful_touch nodes key t = record { key = key; node = slice_index nodes t.position; writes = t.writes }
 
--- both nodes touch a doubtful key, and one of them writes it
+-- both nodes touch one doubtful key, and one of them writes it
 pub record ShareKey (touches : List DoubtfulTouch) (k j : ℕ) : Type 0 where
   pub mine : DoubtfulTouch
   pub other : DoubtfulTouch
@@ -31,7 +31,7 @@ HoldAllConflicts m edges ready touches =
     IsTrue (is_marked ready k) → IsTrue (is_marked ready j) → Conflict d.ops e.ops →
     AreRelated edges k j ⊎ ShareKey touches k j
 
--- nodes of a map, and keys by number
+-- each touch is of one of this many nodes, and of one of this many keys
 abbrev pub AreInRange : ℕ → ℕ → List DoubtfulTouch → Type 0
 AreInRange nodes keys touches =
     (t : DoubtfulTouch) → Contains touches t → (t.node < nodes) × (t.key < keys)
@@ -41,7 +41,7 @@ pub record AreDoubtful (m : List Instance) (g : DependencyGraph) (keys : ℕ) (t
   pub in_range : AreInRange (length m) keys touches
   pub whole : (ready : List Bool) → AreReadyMarks g ready → HoldAllConflicts m (edges_of g) ready touches
 
--- a ready node that shares a doubtful key with k is related to it
+-- if node j is ready and shares a doubtful key with k, the two are related
 abbrev pub IsRelatedOrFree : (ℕ → List ℕ) → List Bool → List DoubtfulTouch → ℕ → ℕ → Type 0
 IsRelatedOrFree edges ready touches k j =
     IsTrue (is_marked ready j) → ShareKey touches k j → AreRelated edges k j

@@ -1,20 +1,23 @@
--- How much of a list of nodes holds all of a component, and all that lies below it.
+-- For each component, the position in a list of nodes after which the component is complete, and
+-- the same for the components that it reaches.
 use Rattle.std.specs.Prelude.{◌≡◌, ◌≢◌, ◌⊎◌, ℕ, ◌+◌, ◌<◌, ◌≤◌, List, length, slice_index}
 use Rattle.epx_graph.specs.NodePaths.{NodeReaches}
 use Rattle.epx_components.specs.Partitions.{Parts, component_of, number_for}
 
--- one more than the last of the first n places at which each component has a member, or 0
+-- for each component: one more than the last of the first n positions at which it has a member, or
+-- 0
 pub record AreEnds (p : Parts) (nodes : List ℕ) (n : ℕ) (ends : List ℕ) : Type 0 where
   pub whole : length ends ≡ p.count
   pub all : (i : ℕ) → i < n → i + 1 ≤ number_for p ends (slice_index nodes i)
   pub one : (k : ℕ) → k < length p.component → (number_for p ends k ≡ 0) ⊎ ((i : ℕ) × (i < n) × (component_of p (slice_index nodes i) ≡ component_of p k) × (number_for p ends k ≡ i + 1))
 
--- the greatest end of the components that a node reaches, without its own, or 0
+-- the greatest end of the other components that a node reaches, or 0
 pub record IsEndBelow (edges : ℕ → List ℕ) (p : Parts) (ends : List ℕ) (k found : ℕ) : Type 0 where
   pub all : (j : ℕ) → NodeReaches edges k j → component_of p j ≢ component_of p k → number_for p ends j ≤ found
   pub one : (found ≡ 0) ⊎ ((j : ℕ) × NodeReaches edges k j × (component_of p j ≢ component_of p k) × (found ≡ number_for p ends j))
 
--- the greatest of the ends of the first n targets that are in other components, and of those below these, or 0
+-- the greatest end of the other components that the first n targets are in and of those below
+-- these, or 0
 pub record IsEndOver (component ends below : List ℕ) (own : ℕ) (targets : List ℕ) (n found : ℕ) : Type 0 where
   pub all : (i : ℕ) → i < n → slice_index component (slice_index targets i) ≢ own → (slice_index ends (slice_index component (slice_index targets i)) ≤ found) × (slice_index below (slice_index component (slice_index targets i)) ≤ found)
   pub one : (found ≡ 0) ⊎ ((i : ℕ) × (i < n) × (slice_index component (slice_index targets i) ≢ own) × ((found ≡ slice_index ends (slice_index component (slice_index targets i))) ⊎ (found ≡ slice_index below (slice_index component (slice_index targets i)))))

@@ -10,15 +10,18 @@ touch_at touches i = slice_index_or touches i (record { hash = 0; position = 0; 
 abbrev pub TouchReaches : (ℕ → List ℕ) → List ℕ → List Touch → ℕ → ℕ → Type 0
 TouchReaches edges nodes touches i j = NodeReaches edges (slice_index nodes (touch_at touches i).position) (slice_index nodes (touch_at touches j).position)
 
--- of the first n touches, the later of any two of one hash reaches the earlier one, where one of them writes
+-- of any two touches of one hash among the first n, of which one writes, the later one reaches the
+-- earlier one
 abbrev pub AreLinked : (ℕ → List ℕ) → List ℕ → List Touch → ℕ → Type 0
 AreLinked edges nodes touches n = (j i : ℕ) → j < i → i < n → (touch_at touches j).hash ≡ (touch_at touches i).hash → IsTrue (touch_at touches j).writes ⊎ IsTrue (touch_at touches i).writes → TouchReaches edges nodes touches i j
 
--- touch i reaches the touches from the last writer on that it has to reach: all of them if it writes, else the first one if that writes
+-- touch i reaches what it has to reach from the last writer on: if it writes, all of these
+-- touches, otherwise the last writer, if that one does write
 abbrev pub IsRelatedBack : (ℕ → List ℕ) → List ℕ → List Touch → ℕ → ℕ → Type 0
 IsRelatedBack edges nodes touches last_writer i = (j : ℕ) → last_writer ≤ j → j < i → IsTrue (touch_at touches i).writes ⊎ ((j ≡ last_writer) × IsTrue (touch_at touches j).writes) → TouchReaches edges nodes touches i j
 
--- i where that touch writes or is the first one of its hash
+-- the last writer after touch i: touch i if it writes or is the first of its hash, else the same
+-- one
 pub record IsNextWriter (touches : List Touch) (last_writer i next : ℕ) : Type 0 where
   pub moves : IsTrue (touch_at touches i).writes ⊎ ((touch_at touches last_writer).hash ≢ (touch_at touches i).hash) → next ≡ i
   pub stays : ¬ IsTrue (touch_at touches i).writes → (touch_at touches last_writer).hash ≡ (touch_at touches i).hash → next ≡ last_writer

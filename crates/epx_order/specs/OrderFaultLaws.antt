@@ -7,7 +7,7 @@ use Rattle.epx_order.specs.declared.order_fault.OrderFault.{OrderFault}
 use Rattle.epx_order.specs.declared.order_fault.OrderFault.TheVariants.{Memory}
 use Rattle.epx_order.specs.OrderFaults.{IsOrderFault}
 
--- a list has at most one fault, want of memory aside
+-- a list has at most one fault, except for out of memory
 abbrev pub OrderFaultIsOne : Type 0
 OrderFaultIsOne = (m : List Instance) (ids : List Id) (f g : OrderFault) → f ≢ Memory → g ≢ Memory → IsOrderFault m ids f → IsOrderFault m ids g → f ≡ g
 

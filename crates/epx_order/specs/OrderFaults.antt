@@ -1,4 +1,4 @@
--- What is wrong with a list of instances that is not a lawful order.
+-- The faults of a list of instances that is not a lawful order. A place is a position in the list.
 use Rattle.std.specs.Prelude.{◌≡◌, ◌≢◌, ℕ, ◌<◌, List, length, slice_get, Some, Contains}
 use Rattle.epx_types.specs.declared.id.Id.{Id}
 use Rattle.epx_types.specs.Ids.{UpTo}
@@ -14,35 +14,37 @@ use Rattle.epx_order.specs.declared.order_fault.OrderFault.TheVariants.{Memory, 
 abbrev pub IsStrangerAt : List Instance → List Id → ℕ → Type 0
 IsStrangerAt m ids place = (x : Id) × (slice_get ids place ≡ Some x) × ¬ IsReady m x
 
--- the instance at a place is ready, and stands earlier too
+-- the instance at a place is ready, and is at an earlier place too
 abbrev pub IsRepeatAt : List Instance → List Id → ℕ → Type 0
 IsRepeatAt m ids place = (x : Id) × (slice_get ids place ≡ Some x) × IsReady m x × (i : ℕ) × (i < place) × (slice_get ids i ≡ Some x)
 
--- something that the instance at a place reaches outside its component stands later
+-- the instance at a place reaches another one, outside its component, that is at a later place
 abbrev pub IsEarlyAt : List Instance → List Id → ℕ → Type 0
 IsEarlyAt m ids place = (x y : Id) × (slice_get ids place ≡ Some x) × Reaches m x y × ¬ Reaches m y x × (j : ℕ) × (place < j) × (slice_get ids j ≡ Some y)
 
--- an earlier place holds a member of the same component that belongs after the one at this place
+-- an earlier place has a member of the same component that belongs after the instance at this
+-- place
 abbrev pub IsOvertakenAt : List Instance → List Id → ℕ → Type 0
 IsOvertakenAt m ids place = (x y : Id) × (slice_get ids place ≡ Some x) × InOneComponent m x y × SequenceBefore m x y × (j : ℕ) × (j < place) × (slice_get ids j ≡ Some y)
 
--- below this place each instance is ready and stands at no earlier place
+-- below place n, each instance is ready and is at no earlier place
 abbrev pub ReadyOnce : List Instance → List Id → ℕ → Type 0
 ReadyOnce m ids n = (i : ℕ) (x : Id) → i < n → slice_get ids i ≡ Some x → IsReady m x × ((j : ℕ) → j < i → slice_get ids j ≢ Some x)
 
--- each ready instance stands in the list
+-- each ready instance is in the list
 abbrev pub HoldsReady : List Instance → List Id → Type 0
 HoldsReady m ids = (x : Id) → IsReady m x → Contains ids x
 
--- below this place none stands too early, and none was overtaken
+-- below place n, no instance is early and none is overtaken
 abbrev pub InOrder : List Instance → List Id → ℕ → Type 0
 InOrder m ids n = (i : ℕ) → i < n → ¬ IsEarlyAt m ids i × ¬ IsOvertakenAt m ids i
 
--- each instance of the list is ready and stands in it once, and each ready instance does
+-- the list has each ready instance once, and no other instance
 abbrev pub IsListOfReady : List Instance → List Id → Type 0
 IsListOfReady m ids = ReadyOnce m ids (length ids) × HoldsReady m ids
 
--- the fault of a list: the least place that is wrong by itself, else the least ready instance that is not in the list, else the least place that is wrong by order
+-- the fault of a list is the first of: the least place of a stranger or a repeat; the least ready
+-- instance that is not in the list; the least place where the order is wrong
 abbrev pub IsOrderFault : List Instance → List Id → OrderFault → Type 0
 IsOrderFault m ids Memory = Unit {0}
 IsOrderFault m ids (Stranger place) = IsStrangerAt m ids place × ReadyOnce m ids place

@@ -1,4 +1,4 @@
--- The ranks that the order is made of.
+-- The ranks that the order is sorted by.
 use Rattle.std.specs.Prelude.{◌≡◌, ◌≢◌, List, map, Contains, AllPairs}
 use Rattle.epx_types.specs.declared.id.Id.{Id}
 use Rattle.epx_types.specs.Instances.{Instance}
@@ -6,7 +6,7 @@ use Rattle.epx_types.specs.Readiness.{IsReady}
 use Rattle.epx_types.specs.ExecutionOrder.{Ranked, IsRanked}
 use Rattle.epx_order.specs.declared.rank.Rank.{Rank}
 
--- what a rank says of its instance
+-- what a rank says about its instance
 abbrev pub ranked : Rank → Ranked
 ranked r = record { id = r.id; seq = r.seq; leader = r.leader; depth = r.depth }
 

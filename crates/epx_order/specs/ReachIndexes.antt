@@ -13,16 +13,18 @@ pub record AreNodesOf (m : List Instance) (order : List Ranked) (nodes : List �
   pub whole : length nodes ≡ length order
   pub each : (p : ℕ) (r : Ranked) → slice_get order p ≡ Some r → slice_get (ids_of m) (slice_index nodes p) ≡ Some r.id
 
--- nodes at positions with one leader reach each other
+-- nodes at positions with the same leader reach each other
 abbrev pub LeadersJoin : (ℕ → List ℕ) → List Ranked → List ℕ → Type 0
 LeadersJoin edges order nodes = (p q : ℕ) (r s : Ranked) → slice_get order p ≡ Some r → slice_get order q ≡ Some s → r.leader ≡ s.leader → NodeReaches edges (slice_index nodes p) (slice_index nodes q)
 
--- the last of the first n positions is reached from the start of its component, and reaches all from the start of its chain on
+-- of the first n positions the last is reached from the start of its component; it reaches all
+-- positions from the start of its chain on
 pub record IsChain (edges : ℕ → List ℕ) (nodes : List ℕ) (n : ℕ) (chain : Chain) : Type 0 where
   pub start : 0 < n → (chain.start < n) × NodeReaches edges (slice_index nodes chain.start) (slice_index nodes (n - 1))
   pub down : (q : ℕ) → chain.low ≤ q → q < n → NodeReaches edges (slice_index nodes (n - 1)) (slice_index nodes q)
 
--- each node reaches those at the positions from its chain's start up to its own; each position has one from which it is reached
+-- each node reaches the nodes at all positions from its chain's start up to its own; each position
+-- is reached from the start of its component
 pub record IsReachIndex (g : DependencyGraph) (w : ReachIndex) : Type 0 where
   pub in_range : All (λ k. k < length g.ids) w.nodes.items
   pub each_place : length w.starts.items ≡ length w.nodes.items

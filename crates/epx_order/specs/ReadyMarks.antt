@@ -7,7 +7,7 @@ use Rattle.epx_components.specs.MissingNodes.{ReachesMissing}
 abbrev pub is_marked : List Bool → ℕ → Bool
 is_marked marks k = slice_index_or marks k false
 
--- a mark for each node: whether it reaches no missing node, of which it is itself one where it is missing
+-- for each node, whether it reaches no missing node; a missing node reaches itself
 pub record AreReadyMarks (g : DependencyGraph) (marks : List Bool) : Type 0 where
   pub nodes : length marks ≡ length g.ids
   pub exact : (k : ℕ) → k < length g.ids → IsTrue (is_marked marks k) ↔ (¬ ReachesMissing (edges_of g) g.committed k)

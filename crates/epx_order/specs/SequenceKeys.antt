@@ -1,4 +1,4 @@
--- The sequence keys of the nodes of a list, each inside its component.
+-- The sequence keys of the nodes of a list, compared inside each component.
 use Rattle.std.specs.Prelude.{◌≡◌, ℕ, ◌<◌, true, List, length, slice_get, slice_index, Option, Some, None}
 use Rattle.std.specs.Ordering.{nat_cmp, ordering_then, is_lt}
 use Rattle.std.specs.declared.cmp.Ordering.{Ordering}
@@ -16,27 +16,28 @@ sequence_key_of e = record { seq = e.seq; id = e.id }
 abbrev pub sequence_key_cmp : SequenceKey → SequenceKey → Ordering
 sequence_key_cmp a b = ordering_then (nat_cmp a.seq b.seq) (id_cmp a.id b.id)
 
--- there is another one, and it comes before that
+-- there is another key, and this one is less
 abbrev pub ComesBefore : SequenceKey → Option SequenceKey → Type 0
 ComesBefore turn None = ⊥
 ComesBefore turn (Some last) = is_lt (sequence_key_cmp turn last) ≡ true
 
--- the sequence key of the instance at place k of the map comes before that of the one at place j
+-- the sequence key of the instance at position k of the map is less than that of the instance at
+-- position j
 abbrev pub SequenceKeyBefore : List Instance → ℕ → ℕ → Type 0
 SequenceKeyBefore m k j = (d e : Instance) × (slice_get m k ≡ Some d) × (slice_get m j ≡ Some e) × (is_lt (sequence_key_cmp (sequence_key_of d) (sequence_key_of e)) ≡ true)
 
--- some end below the component of the node at place i is later
+-- a component below that of the node at position i has a later end
 abbrev pub IsAheadAt : Parts → List ℕ → List ℕ → ℕ → Type 0
 IsAheadAt p below nodes i = i < number_for p below (slice_index nodes i)
 
--- an earlier place holds a node of the same component with a later sequence key
+-- an earlier position has a node of the same component with a greater sequence key
 abbrev pub IsPassedAt : List Instance → Parts → List ℕ → ℕ → Type 0
 IsPassedAt m p nodes i = (j : ℕ) × (j < i) × (component_of p (slice_index nodes j) ≡ component_of p (slice_index nodes i)) × SequenceKeyBefore m (slice_index nodes i) (slice_index nodes j)
 
 abbrev pub NoneAside : List Instance → Parts → List ℕ → List ℕ → ℕ → Type 0
 NoneAside m p below nodes n = (i : ℕ) → i < n → ¬ IsAheadAt p below nodes i × ¬ IsPassedAt m p nodes i
 
--- the least place that is wrong by order
+-- the least position where the order is wrong
 abbrev pub IsPlaceFault : List Instance → Parts → List ℕ → List ℕ → OrderFault → Type 0
 IsPlaceFault m p below nodes Memory = Unit {0}
 IsPlaceFault m p below nodes (Stranger i) = ⊥

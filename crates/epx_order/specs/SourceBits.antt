@@ -1,11 +1,11 @@
--- Numbers whose bit b is for source b of a batch: words of the search for an uncovered pair alone.
+-- Numbers whose bit b is for source b of a batch. Only the search for an uncovered pair uses this.
 use Rattle.std.specs.Prelude.{◌≡◌, ◌↔◌, ℕ, ◌<◌, ◌==◌, List, Bool, length, slice_index, IsTrue}
 use Rattle.std.specs.Int.{bit_at}
 
 abbrev pub has_bit : ℕ → ℕ → Bool
 has_bit b word = bit_at word b == 1
 
--- the word of each slot has the bits of the sources with this slot
+-- the word of each slot has the bits of the sources that have this slot
 abbrev pub AreSourceMarks : List ℕ → List ℕ → Type 0
 AreSourceMarks slots words =
     (b s : ℕ) → b < length slots → IsTrue (has_bit b (slice_index words s)) ↔ (slice_index slots b ≡ s)
@@ -16,7 +16,7 @@ LeadsToBit component words targets b =
     (i : ℕ) × (i < length targets) ×
     IsTrue (has_bit b (slice_index words (slice_index component (slice_index targets i))))
 
--- the first word has the bit, and neither of the others does
+-- the first word has the bit, and the two others do not
 pub record HasAlone (b word other third : ℕ) : Type 0 where
   pub has : IsTrue (has_bit b word)
   pub first : ¬ IsTrue (has_bit b other)

@@ -1,4 +1,4 @@
--- The nodes from which an audit looks for uncovered pairs, by rising number.
+-- The nodes from which an audit looks for uncovered pairs, in increasing order.
 use Rattle.std.specs.Prelude.{◌≡◌, ℕ, ◌<◌, List, Bool, length, slice_index, Contains, IsTrue}
 use Rattle.epx_types.specs.Instances.{Instance}
 use Rattle.epx_order.specs.declared.doubtful_touches.DoubtfulTouch.{DoubtfulTouch}
@@ -16,14 +16,14 @@ abbrev pub AreSettled : List Instance → (ℕ → List ℕ) → List Bool → L
 AreSettled m edges ready sources n =
     (i j : ℕ) → i < n → slice_index sources i < j → IsSettled m edges ready (slice_index sources i) j
 
--- the first source that has a partner, and the least one
+-- the first source that has a partner, and that partner
 pub record IsFirstPair (m : List Instance) (edges : ℕ → List ℕ) (ready : List Bool) (sources : List ℕ) (k j : ℕ) : Type 0 where
   pub at : ℕ
   pub source : (at < length sources) × (slice_index sources at ≡ k)
   pub before : AreSettled m edges ready sources at
   pub partner : IsPartner m edges ready k j
 
--- the least pair: no lower node has a partner, and this is the least one
+-- the least pair: no lower node has a partner, and j is the partner of k
 pub record IsLeastPair (m : List Instance) (edges : ℕ → List ℕ) (ready : List Bool) (k j : ℕ) : Type 0 where
   pub before : (i n : ℕ) → i < k → i < n → IsSettled m edges ready i n
   pub partner : IsPartner m edges ready k j

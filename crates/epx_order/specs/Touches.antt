@@ -1,4 +1,4 @@
--- How commands touch keys, with keys told apart by their hashes alone.
+-- Which keys commands touch. Keys are distinguished by their hashes alone.
 use Rattle.std.specs.Prelude.{◌≡◌, ℕ, ◌<◌, Bool, true, false, List, [], ◌∷◌, fold, flat_map, slice_get, slice_index, Some, Contains}
 use Rattle.std.specs.declared.hash.DefaultHasher.{DefaultHasher}
 use Rattle.std.specs.Hash as fed
@@ -8,7 +8,7 @@ use Rattle.epx_types.specs.declared.op.Op.TheVariants.{Get, Put, Del, Add, Is, F
 use Rattle.epx_types.specs.Instances.{Instance}
 use Rattle.epx_order.specs.declared.touches.Touch.{Touch}
 
--- the hash of a key, from a hasher that has taken in something before
+-- the hash of a key, by a hasher whose state is the start
 abbrev pub hash_of : DefaultHasher → List ℕ → ℕ
 hash_of start key = sip.finish (fold sip.write start (fed.str key))
 
@@ -28,10 +28,10 @@ touches_by start position (Copy k j) = touch start position k false ∷ touch st
 abbrev pub touches_of : DefaultHasher → ℕ → List Op → List Touch
 touches_of start position ops = flat_map (touches_by start position) ops
 
--- the touches of the commands at the first n positions, each of which holds a node
+-- the touches of the commands at the first n positions, each of which has a node
 abbrev pub HoldTouches : DefaultHasher → List Instance → List ℕ → ℕ → List Touch → Type 0
 HoldTouches start m nodes n touches = (p : ℕ) (e : Instance) (t : Touch) → p < n → slice_get m (slice_index nodes p) ≡ Some e → Contains (touches_of start p e.ops) t → Contains touches t
 
--- each is of one of the first n positions
+-- each touch is at one of the first n positions
 abbrev pub ArePlaced : ℕ → List Touch → Type 0
 ArePlaced n touches = (t : Touch) → Contains touches t → t.position < n

@@ -13,7 +13,7 @@ pub record IsUncovered (m : List Instance) (x y : Id) : Type 0 where
   pub conflict : (d e : Instance) × Contains m d × Contains m e × (d.id ≡ x) × (e.id ≡ y) × Conflict d.ops e.ops
   pub apart : (¬ Reaches m x y) × (¬ Reaches m y x)
 
--- such a pair, the lower Id first, and the least one by its first Id and then by its second
+-- the least such pair: the lower Id first, compared by the first Id and then by the second
 pub record IsLeastUncovered (m : List Instance) (x y : Id) : Type 0 where
   pub rises : Below x y
   pub uncovered : IsUncovered m x y

@@ -16,7 +16,8 @@ use epx_graph::Graph;
 use epx_types::Memory;
 use std::alloc::Global;
 
-/// What nodes have to do with the sources of a batch. Bit b of each word is for source b.
+/// What each node and each component has to do with the sources of a batch. Bit b of each word is
+/// for source b.
 #[derive(Drop)]
 pub(crate) struct Batch {
     /// The sources that reach each component.
@@ -54,7 +55,8 @@ impl Batch {
         })
     }
 
-    /// The sources that share a doubtful key with a ready node and are not related to it.
+    /// The sources that share a doubtful key with a ready node, and neither reach it nor are
+    /// reached from it.
     pub(crate) fn candidates(&self, partition: &Partition, ready: &[bool], node: usize) -> u64
         requires whole { IsWhole (parts partition.now) ready.now self.now }
         requires node { node < length ready.now }
@@ -76,7 +78,7 @@ impl Batch {
         without(self.sharing[node], self.reached[own], self.reaching[own])
     }
 
-    /// Whether no source is a candidate of any node.
+    /// Whether no node has a candidate.
     pub(crate) fn has_none(&self, partition: &Partition, ready: &[bool]) -> bool
         requires whole { IsWhole (parts partition.now) ready.now self.now }
         ensures { IsTrue result →
@@ -94,7 +96,7 @@ impl Batch {
     }
 }
 
-/// The bits of a word that two others lack.
+/// The bits that are set in a word and in neither of two others.
 fn without(word: u64, first: u64, second: u64) -> u64
     ensures { (b : ℕ) → b < 64 → IsTrue (has_bit b result) ↔ HasAlone b word first second }
 {

@@ -16,12 +16,15 @@ use epx_merge::Merged;
 use epx_types::{Id, Memory};
 use std::alloc::Global;
 
-/// Whether a list is an order that the protocol allows, in time linear in the instances and their
-/// dependencies, but for finding the node of each Id of the list by halving.
+/// Checks that a list is an order that the protocol allows. The time is linear in the instances
+/// and their dependencies, and a binary search for each Id of the list.
 ///
-/// A list that is not has one fault: the least place that is wrong by itself, a `Stranger` or a `Repeat`;
-/// else the least ready instance that is `Missing`; else the least place that is wrong by order, `Early`
-/// before `Sequence`.
+/// Otherwise it returns the first fault in this order of search:
+/// - the least position of an instance that is not ready (`Stranger`) or listed twice (`Repeat`);
+/// - the least ready instance that is not listed (`Missing`);
+/// - the least position where the order is wrong, `Early` before `Sequence`.
+///
+/// `Memory` means out of memory. It says nothing about the list.
 pub fn check_order(
     alloc: Global,
     merged: &Merged,
@@ -42,7 +45,8 @@ pub fn check_order(
     check_places(alloc, merged, &partition, &below, &listing.nodes)
 }
 
-/// The least place of a list of ready nodes, each once, that is wrong by order.
+/// Returns the least position of a list of ready nodes, each listed once, where the order is
+/// wrong.
 fn check_places(
     alloc: Global,
     merged: &Merged,
@@ -73,14 +77,14 @@ fn check_places(
     Ok(())
 }
 
-/// No sequence key for each of some components.
+/// A list of `components` entries, all None.
 fn no_sequence_keys(alloc: Global, components: usize) -> Result<Vec<Option<SequenceKey>>, Memory>
     ensures { IfOk result (λ turns. turns.items ≡ replicate components None) }
 {
     Ok(vec![in alloc; None; components]?)
 }
 
-/// Whether a sequence key comes before another one, if there is one.
+/// Whether a sequence key is less than another one, if there is another one.
 fn comes_before(turn: SequenceKey, last: Option<SequenceKey>) -> bool
     ensures { IsTrue result ↔ ComesBefore turn last }
 {

@@ -1,4 +1,4 @@
-//! The keys of commands, and whether commands conflict by them.
+//! The keys of commands, and whether two commands conflict.
 ghost use Rattle.std.specs.Prelude.{◌≡◌, ◌↔◌, ℕ, List, map, Contains, IsTrue, IfOk};
 ghost use Rattle.epx_types.specs.CommandKeys.{touched_keys, written_keys};
 ghost use Rattle.epx_order.specs.NodeConflicts.{keys_of, KeysConflict};

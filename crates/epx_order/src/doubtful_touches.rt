@@ -1,4 +1,4 @@
-//! The keys that a quick audit leaves open.
+//! The keys for which the quick audit does not find all conflicting commands related.
 ghost use Rattle.std.specs.Prelude.{◌≡◌, ℕ, ◌-◌, ◌<◌, length, slice_index, true, Contains, IsTrue, IfOk, MatchOption};
 ghost use Rattle.std.specs.List.Sorted.{IsStrictlyIncreasing};
 ghost use Rattle.epx_types.specs.ExecutionOrder.{IsExecutionOrder};
@@ -20,20 +20,20 @@ use epx_types::Memory;
 use std::alloc::Global;
 use std::hash::DefaultHasher;
 
-/// A doubtful key that a command touches.
+/// A touch of a doubtful key by a command.
 #[derive(Clone, Copy)]
 pub(crate) struct DoubtfulTouch {
-    /// The number of the key.
+    /// The number of the doubtful key.
     pub(crate) key: usize,
     pub(crate) node: usize,
     pub(crate) writes: bool,
 }
 
-/// The touches of the doubtful keys, that is, of those whose touches are not all found to be
-/// related.
+/// The touches of the doubtful keys. A key is doubtful if the quick audit does not find all its
+/// touches related.
 #[derive(Drop)]
 pub(crate) struct DoubtfulTouches {
-    /// How many keys there are.
+    /// The number of doubtful keys.
     pub(crate) keys: usize,
     pub(crate) touches: Vec<DoubtfulTouch>,
 }
@@ -55,7 +55,8 @@ pub(crate) fn find_doubtful(
     let reach = ReachIndex::of(alloc, graph, order, nodes)?;
     let hashes = doubtful_hashes(alloc, graph, &reach, &touches)?;
     let sure = sure_touches(alloc, &touches, &hashes)?;
-    // No contract says which hashes are doubtful, so the touches of the others are tested again.
+    // No contract says which hashes are doubtful. So the touches of all other hashes are tested
+    // again.
     if !are_linked(alloc, graph, &reach, &sure)? {
         let one = one_key(alloc, merged.len())?;
         return Ok(one);
@@ -93,7 +94,7 @@ fn doubtful_hashes(
     Ok(hashes)
 }
 
-/// Whether a hash is greater than the last of some rising ones.
+/// Whether a hash is greater than the last of some increasing hashes.
 fn is_new(hashes: &[u64], hash: u64) -> bool
     ensures { IsTrue result → 0 < length hashes.now →
         slice_index hashes.now (length hashes.now - 1) < hash }
@@ -104,7 +105,7 @@ fn is_new(hashes: &[u64], hash: u64) -> bool
     }
 }
 
-/// The number of a hash among the doubtful ones.
+/// The index of a hash in the list of doubtful hashes.
 fn key_of(hashes: &[u64], hash: u64) -> Option<usize>
     requires { IsStrictlyIncreasing hashes.now }
     ensures { MatchOption result
@@ -117,7 +118,7 @@ fn key_of(hashes: &[u64], hash: u64) -> Option<usize>
     }
 }
 
-/// The touches of all other hashes.
+/// The touches of the hashes that are not doubtful.
 fn sure_touches(alloc: Global, touches: &[Touch], hashes: &[u64]) -> Result<Vec<Touch>, Memory>
     requires { IsStrictlyIncreasing hashes.now }
     ensures some { IfOk result
@@ -134,7 +135,7 @@ fn sure_touches(alloc: Global, touches: &[Touch], hashes: &[u64]) -> Result<Vec<
     Ok(sure)
 }
 
-/// The touches of these hashes.
+/// The touches of the doubtful hashes.
 fn doubtful_touches(
     alloc: Global,
     nodes: &[usize],
@@ -162,7 +163,7 @@ fn doubtful_touches(
     Ok(found)
 }
 
-/// A single key that every node writes, so that each two nodes share one.
+/// One doubtful key that every node writes, so that any two nodes share it.
 fn one_key(alloc: Global, nodes: usize) -> Result<DoubtfulTouches, Memory>
     ensures in_range { IfOk result (λ one. AreInRange nodes one.keys one.touches.items) }
     ensures whole { IfOk result (λ one. (k : ℕ) → k < nodes →

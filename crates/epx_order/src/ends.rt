@@ -1,4 +1,5 @@
-//! How much of a list of nodes holds all of a component, and all that lies below it.
+//! For each component, the position in a list of nodes after which the component is complete, and
+//! the same for the components that it reaches.
 ghost use Rattle.std.specs.Prelude.{◌≡◌, ℕ, ◌<◌, ◌≤◌, length, slice_index, All, IfOk};
 ghost use Rattle.epx_graph.specs.Graphs.{edges_of};
 ghost use Rattle.epx_order.specs.Ends.{AreEnds, IsEndBelow, IsEndOver};
@@ -9,7 +10,7 @@ use epx_graph::Graph;
 use epx_types::Memory;
 use std::alloc::Global;
 
-/// For each component one more than the last place at which it has a member, or 0.
+/// For each component: one more than the last position of a member, or 0 if there is no member.
 pub(crate) fn find_ends(
     alloc: Global,
     partition: &Partition,
@@ -26,7 +27,7 @@ pub(crate) fn find_ends(
     Ok(ends)
 }
 
-/// For each component the greatest end of the others that it reaches, or 0.
+/// For each component: the greatest end of the other components that it reaches, or 0.
 pub(crate) fn find_ends_below(
     alloc: Global,
     graph: &Graph,
@@ -47,7 +48,7 @@ pub(crate) fn find_ends_below(
     Ok(below)
 }
 
-/// The greatest of the ends of the other components that edges lead to and of those below them, or 0.
+/// The greatest end of the other components that the edges lead to and of those below them, or 0.
 fn end_over(
     targets: &[usize],
     component: &[usize],

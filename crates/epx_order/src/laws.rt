@@ -1,14 +1,14 @@
-//! What shows that the faults of orders and the pairs that are not covered mean what they should: each
-//! function's contract is a law.
+//! Laws of order faults and of uncovered pairs: these definitions mean what they should. Each
+//! function has an empty body, and its contract is the law.
 ghost use Rattle.epx_order.specs.OrderFaultLaws.{LawfulOrderHasNoFault, OrderFaultIsOne};
 ghost use Rattle.epx_order.specs.UncoveredLaws.{CoveredOrLeastUncovered, LeastUncoveredPairIsOne, UncoveredPairShowsNotCovered};
 
-/// A list has at most one fault, want of memory aside.
+/// A list has at most one fault, except for out of memory.
 pub fn order_fault_is_one()
     ensures { OrderFaultIsOne }
 {}
 
-/// A lawful order has no fault, want of memory aside.
+/// A lawful order has no fault, except for out of memory.
 pub fn lawful_order_has_no_fault()
     ensures { LawfulOrderHasNoFault }
 {}
@@ -23,7 +23,7 @@ pub fn least_uncovered_pair_is_one()
     ensures { LeastUncoveredPairIsOne }
 {}
 
-/// A map is covered, or has a least pair that is not.
+/// A map is covered, or it has a least uncovered pair.
 pub fn covered_or_least_uncovered()
     ensures { CoveredOrLeastUncovered }
 {}

@@ -1,6 +1,8 @@
-//! The order in which committed instances are executed: the ready ones by rank. Lists of instances,
-//! checked against the orders that the protocol allows. Audits: whether each two instances that
-//! conflict are related, so that all these orders have the same replies and the same store.
+//! The order in which the ready instances are executed, checks of lists, and audits.
+//!
+//! `order` sorts the ready instances by rank. `check_order` checks that a list is an order that
+//! the protocol allows. `audit` checks that any two ready instances that conflict are related. If
+//! they are, all orders that the protocol allows have the same replies and the same store.
 #![tactic(auto)]
 
 mod batch;

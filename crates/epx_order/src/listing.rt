@@ -1,4 +1,4 @@
-//! A list of instances, as nodes.
+//! A list of instances, as a list of nodes.
 ghost use Rattle.std.specs.Prelude.{◌≡◌, ℕ, ◌<◌, List, [], ◌∷◌, ◌++◌, length, replicate, slice_get, slice_set, Some, true, false, IsTrue, IfOk, OnOk, MatchOption, MatchResult};
 ghost use Rattle.epx_types.specs.Instances.{Instance};
 ghost use Rattle.epx_types.specs.Readiness.{IsReady};
@@ -17,14 +17,14 @@ use std::alloc::Global;
 /// The nodes of a list of instances.
 #[derive(Debug, Drop)]
 pub(crate) struct Listing {
-    /// The node at each place.
+    /// The node at each position.
     pub(crate) nodes: Vec<usize>,
-    /// Whether each node stands at some place.
+    /// For each node, whether it is in the list.
     pub(crate) marks: Vec<bool>,
 }
 
 impl Listing {
-    /// An empty list over a graph of this many nodes, with room for this many places.
+    /// An empty list for a graph of this many nodes, with capacity for this many positions.
     fn new(alloc: Global, nodes: usize, places: usize) -> Result<Listing, Memory>
         ensures nodes { IfOk result (λ listing. listing.nodes.items ≡ []) }
         ensures marks { IfOk result (λ listing. listing.marks.items ≡ replicate nodes false) }
@@ -47,7 +47,7 @@ impl Listing {
     }
 }
 
-/// Whether the instance of each node is ready.
+/// For each node, whether its instance is ready.
 pub(crate) fn ready_nodes(
     alloc: Global,
     graph: &Graph,
@@ -64,8 +64,8 @@ pub(crate) fn ready_nodes(
     Ok(ready)
 }
 
-/// The nodes of a list of instances, or the least place of which the instance is not ready or stands
-/// earlier too.
+/// The nodes of a list of instances. Otherwise the least position whose instance is not ready or
+/// is listed at an earlier position.
 pub(crate) fn list_nodes(
     alloc: Global,
     graph: &Graph,
@@ -101,7 +101,7 @@ fn ready_node(graph: &Graph, ready: &[bool], id: Id) -> Option<usize>
     if ready[node] { Some(node) } else { None }
 }
 
-/// The least node of a ready instance that is not in a list.
+/// The least node of a ready instance that is not in the list.
 pub(crate) fn first_left_out(ready: &[bool], marks: &[bool]) -> Option<usize>
     requires { length marks.now ≡ length ready.now }
     ensures { MatchOption result

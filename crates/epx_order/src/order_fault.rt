@@ -1,20 +1,23 @@
-//! What is wrong with a list that is not a lawful order.
+//! The fault of a list that is not a lawful order.
 use epx_types::{Id, Memory};
 
-/// Why a list of instances is not a lawful order. Places count from 0.
+/// Why a list of instances is not a lawful order. A `place` is a position in the list, counted
+/// from 0.
 #[derive(Clone, Copy, Debug, PartialEq, Eq)]
 pub enum OrderFault {
-    /// There was not memory enough to check the list.
+    /// Memory ran out before the list was checked.
     Memory,
-    /// The instance at this place is not ready.
+    /// The instance at this position is not ready.
     Stranger { place: usize },
-    /// The instance at this place stands earlier too.
+    /// The instance at this position is also listed at an earlier one.
     Repeat { place: usize },
     /// This ready instance is not in the list.
     Missing { id: Id },
-    /// Something that the instance at this place reaches outside its component stands later.
+    /// The instance at this position reaches another one, outside its component, that is listed
+    /// later.
     Early { place: usize },
-    /// A member of the same component that belongs after the instance at this place stands earlier.
+    /// An instance of the same component that belongs after the instance at this position is
+    /// listed before it.
     Sequence { place: usize },
 }
 

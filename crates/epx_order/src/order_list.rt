@@ -8,14 +8,13 @@ use epx_types::{Id, Memory};
 use std::alloc::Global;
 use std::marker::Model;
 
-/// The ready instances in the order in which they are executed, each with its component's leader
-/// and depth.
+/// The ready instances in execution order, each with the leader and the depth of its component.
 ///
-/// It takes eight words an instance. No call on it takes memory.
+/// It takes eight words of memory an instance. Its methods allocate nothing.
 #[derive(Debug, Drop)]
 pub struct OrderList {
     ranks: Vec<Rank>,
-    /// The names in the ranks, side by side for `ids`.
+    /// The Ids of the ranks, in one slice for `ids`.
     ids: Vec<Id>,
 }
 
@@ -39,7 +38,7 @@ impl OrderList {
         Ok(OrderList { ranks, ids })
     }
 
-    /// How many instances are ready.
+    /// The number of ready instances.
     pub fn len(&self) -> usize
         ensures { result ≡ length self.now }
     {
@@ -59,14 +58,14 @@ impl OrderList {
         &self.ids
     }
 
-    /// How many components the instances make up, in linear time.
+    /// The number of components of the instances, in linear time.
     pub fn component_count(&self) -> usize
         ensures { result ≡ component_count self.now }
     {
         count_leaders(&self.ranks)
     }
 
-    /// The leader of the component of the instance at a place, which is its least member.
+    /// The leader of the component of the instance at a position. The leader is the least member.
     pub fn component_of(&self, place: usize) -> Id
         requires { place < length self.now }
         ensures { (r : Ranked) × (slice_get self.now place ≡ Some r) × (r.leader ≡ result) }
@@ -74,8 +73,8 @@ impl OrderList {
         self.ranks[place].leader
     }
 
-    /// The depth of the component of the instance at a place: how many components follow one
-    /// another down from it, at most.
+    /// The depth of the component of the instance at a position: the largest number of components
+    /// that follow it in one chain, in which each reaches the next.
     pub fn depth_of(&self, place: usize) -> usize
         requires { place < length self.now }
         ensures { (r : Ranked) × (slice_get self.now place ≡ Some r) × (r.depth ≡ result) }
@@ -84,7 +83,7 @@ impl OrderList {
     }
 }
 
-/// The instances that have these ranks.
+/// The Ids of the instances that have these ranks.
 fn ids_of(alloc: Global, ranks: &[Rank]) -> Result<Vec<Id>, Memory>
     ensures { IfOk result (λ ids. ids.items ≡ ranked_ids (ranked_all ranks.now)) }
 {
@@ -95,7 +94,7 @@ fn ids_of(alloc: Global, ranks: &[Rank]) -> Result<Vec<Id>, Memory>
     Ok(ids)
 }
 
-/// How many instances lead their components.
+/// The number of instances that are the leaders of their components.
 fn count_leaders(ranks: &[Rank]) -> usize
     ensures { result ≡ component_count (ranked_all ranks.now) }
 {

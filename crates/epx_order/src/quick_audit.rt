@@ -1,4 +1,4 @@
-//! A quick audit, which proves of most covered maps that they are covered.
+//! A quick audit. It finds most covered maps to be covered.
 ghost use Rattle.std.specs.Prelude.{◌≡◌, ◌<◌, ◌≤◌, length, slice_get, All, IfOk, IsTrue};
 ghost use Rattle.epx_types.specs.CommittedMap.{IsCommitted, ids_of};
 ghost use Rattle.epx_types.specs.Conflicts.{IsCovered};
@@ -20,12 +20,13 @@ use epx_types::{Id, Memory};
 use std::alloc::Global;
 use std::hash::DefaultHasher;
 
-/// Whether the commands that touch a key are found to be related, key by key: each writer reaches
-/// the last writer before it and all that touched the key in between, and each reader reaches the
-/// last writer. The other pairs follow, so about two pairs a touch are tested.
+/// Whether, for each key, the commands that touch it are found to be related. Each writer has to
+/// reach the last writer before it and all readers in between. Each reader has to reach the last
+/// writer. The other pairs follow by transitivity, so about two pairs a touch are tested.
 ///
-/// A yes is certain. A no is not: two keys may share a hash, which is made from the start, and the
-/// searches have a limit.
+/// If the result is true, the map is covered. If it is false, the map may still be covered: two
+/// keys can share a hash, and the number of nodes that the searches open is limited. `start` is
+/// the state of the hasher.
 pub(crate) fn is_seen_covered(
     alloc: Global,
     merged: &Merged,
@@ -72,8 +73,8 @@ fn node_of(merged: &Merged, id: Id) -> usize
     }
 }
 
-/// Whether, of any two touches of one hash of which one writes, the later one is found to reach the
-/// earlier one.
+/// Whether all touches of each hash are found to be related: of any two of which one writes, the
+/// later one reaches the earlier one.
 pub(crate) fn are_linked(
     alloc: Global,
     graph: &Graph,
@@ -96,7 +97,8 @@ pub(crate) fn are_linked(
     Ok(true)
 }
 
-/// The index of the last touch that writes, or of the first one of the hash.
+/// The last writer after the touch at `index`: that touch if it writes or is the first of its
+/// hash, else the same one.
 pub(crate) fn next_writer(touches: &[Touch], last_writer: usize, index: usize) -> usize
     requires last_writer { last_writer ≤ index }
     requires index { index < length touches.now }
@@ -110,7 +112,8 @@ pub(crate) fn next_writer(touches: &[Touch], last_writer: usize, index: usize) -
     }
 }
 
-/// Whether a touch is in order, and is found to reach the touches before it that it has to reach.
+/// Whether a touch has no lower hash than the last writer, and is found to reach all touches that
+/// it has to reach.
 pub(crate) fn is_related_back(
     path_search: &mut Search,
     graph: &Graph,

@@ -1,8 +1,8 @@
-//! What decides an instance's place in the order.
+//! The rank of an instance, by which the execution order is sorted.
 use epx_types::Id;
 
-/// A ready instance with what decides its place. Ranks are ordered by their fields, the first one
-/// first, and so are their instances in the order.
+/// A ready instance and its sort key. Ranks are ordered by their fields, the first field first,
+/// and the instances are executed in the order of their ranks.
 #[derive(Clone, Copy, Debug, PartialEq, Eq, PartialOrd, Ord)]
 pub(crate) struct Rank {
     pub(crate) depth: usize,

@@ -1,4 +1,4 @@
-//! Reachability between nodes of an order that needs no search.
+//! An index that answers whether one node reaches another without a search.
 ghost use Rattle.std.specs.Prelude.{◌≡◌, ◌+◌, ◌<◌, ◌≤◌, length, slice_index, All, Contains, IfOk, IsTrue};
 ghost use Rattle.epx_graph.specs.Graphs.{edges_of};
 ghost use Rattle.epx_order.specs.ReachIndexes.{IsChain, IsReachIndex, LeadersJoin};
@@ -8,23 +8,25 @@ use epx_graph::Graph;
 use epx_types::Memory;
 use std::alloc::Global;
 
-/// The nodes of an order, and its chains: positions of which each reaches the one before it.
+/// The nodes of an order, and its chains. A chain is a run of positions in which each reaches the
+/// one before it.
 #[derive(Debug, Drop)]
 pub(crate) struct ReachIndex {
     /// The node at each position.
     pub(crate) nodes: Vec<usize>,
     /// The first position of the component at each position.
     pub(crate) starts: Vec<usize>,
-    /// The position of each node, and 0 where it has none.
+    /// The position of each node, or 0 if the node is not in the order.
     pub(crate) positions: Vec<usize>,
     /// For each node, the earliest position from which every position up to its own is reachable.
-    /// It is above its own where the node has no position.
+    /// If the node is not in the order, it is greater than `positions` has for the node, so that
+    /// the range is empty.
     pub(crate) chain_start: Vec<usize>,
 }
 
 impl ReachIndex {
-    /// The index of an order, in time linear in its positions and logarithmic in the dependencies
-    /// of each.
+    /// The index of an order. The time is linear in the positions, with a binary search among the
+    /// dependencies of each.
     pub(crate) fn of(
         alloc: Global,
         graph: &Graph,
@@ -56,7 +58,7 @@ impl ReachIndex {
         })
     }
 
-    /// Whether a node reaches the one at a position by the chains alone.
+    /// Whether a node reaches the node at a position by its chain.
     pub(crate) fn reaches_by_chain(&self, node: usize, position: usize) -> bool
         requires positions { node < length self.now.positions.items }
         requires chain_start { node < length self.now.chain_start.items }
@@ -67,17 +69,17 @@ impl ReachIndex {
     }
 }
 
-/// The chain that the last of some positions ends.
+/// The chain that ends at a position.
 #[derive(Clone, Copy, Debug)]
 struct Chain {
-    /// The first position of its component.
+    /// The first position of the component of its end.
     start: usize,
-    /// It reaches all from here on.
+    /// The end of the chain reaches every position from here up to its own.
     low: usize,
 }
 
 impl Chain {
-    /// The chain of a position, from that of the position before it.
+    /// The chain that ends at a position, from the chain that ends at the position before it.
     fn next(self, graph: &Graph, order: &OrderList, nodes: &[usize], position: usize) -> Chain
         requires whole { length nodes.now ≡ length order.now }
         requires in_range { All (λ k. k < length graph.now.ids) nodes.now }
@@ -105,7 +107,7 @@ impl Chain {
     }
 }
 
-/// Whether a node has an edge to another, in time logarithmic in its edges.
+/// Whether a node has an edge to another, by binary search.
 pub(crate) fn has_edge(graph: &Graph, from: usize, to: usize) -> bool
     requires { from < length graph.now.ids }
     ensures { IsTrue result → Contains (edges_of graph.now from) to }

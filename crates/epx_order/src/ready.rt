@@ -16,8 +16,8 @@ use epx_merge::Merged;
 use epx_types::{Entry, Id, Memory};
 use std::alloc::Global;
 
-/// The ranks of the ready instances of what is left of a map, in time linear in the dependencies and, where something is
-/// done, n log n in the instances.
+/// The ranks of the ready instances of the remaining map. The time is linear in the dependencies.
+/// If some instances are done, n log n in the instances is added.
 pub(crate) fn ready_ranks(
     alloc: Global,
     merged: &Merged,
@@ -36,7 +36,7 @@ pub(crate) fn ready_ranks(
     Ok(ranks)
 }
 
-/// The rank of the instance of a committed node, if it is ready.
+/// The rank of the instance of a committed node, if the instance is ready.
 fn rank_of(merged: &Merged, graph: &Graph, node: usize, node_rank: NodeRank) -> Option<Rank>
     requires graph { IsGraphAfter merged.now graph.now }
     requires committed { node < graph.now.committed }
@@ -57,8 +57,8 @@ fn rank_of(merged: &Merged, graph: &Graph, node: usize, node_rank: NodeRank) -> 
     })
 }
 
-/// The entry of a committed instance. Where nothing is done it stands at the number of its node, and no
-/// Id is looked up.
+/// The entry of a committed instance. If nothing is done, the node is the position in the map, and
+/// no Id has to be searched for.
 fn entry_of(merged: &Merged, node: usize, id: Id) -> &Entry
     requires { IsCommitted merged.now id }
     ensures among { Contains merged.now result.now }

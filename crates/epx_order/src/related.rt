@@ -1,4 +1,4 @@
-//! The components that sources reach, and those that reach them.
+//! Which components the sources reach, and which components reach the sources.
 ghost use Rattle.std.specs.Prelude.{◌≡◌, ◌↔◌, ◌⊎◌, ℕ, ◌<◌, ◌≤◌, length, map, slice_index, All, IsTrue, IfOk};
 ghost use Rattle.epx_graph.specs.Graphs.{edges_of};
 ghost use Rattle.epx_components.specs.Partitions.{parts, IsPartitionOf};
@@ -11,7 +11,7 @@ use epx_graph::Graph;
 use epx_types::Memory;
 use std::alloc::Global;
 
-/// The sources that reach each component.
+/// For each component, the sources that reach it.
 pub(crate) fn find_reached(
     alloc: Global,
     graph: &Graph,
@@ -50,7 +50,7 @@ fn components_of(alloc: Global, component: &[usize], nodes: &[usize]) -> Result<
     Ok(homes)
 }
 
-/// Adds sources to the components that edges lead to.
+/// Adds sources to the components that the edges lead to.
 fn mark_targets(targets: &[usize], component: &[usize], words: &mut [u64], word: u64)
     requires targets { All (λ j. j < length component.now) targets.now }
     requires counted { All (λ c. c < length words.old) component.now }
@@ -65,7 +65,7 @@ fn mark_targets(targets: &[usize], component: &[usize], words: &mut [u64], word:
     }
 }
 
-/// The sources that each component reaches. `own` has those at each node.
+/// For each component, the sources that it reaches. `own` has the sources at each node.
 pub(crate) fn find_reaching(
     alloc: Global,
     graph: &Graph,
@@ -88,7 +88,7 @@ pub(crate) fn find_reaching(
     Ok(words)
 }
 
-/// The sources of the components that edges lead to.
+/// The sources of the components that the edges lead to.
 fn marks_over(targets: &[usize], component: &[usize], words: &[u64]) -> u64
     requires targets { All (λ j. j < length component.now) targets.now }
     requires counted { All (λ c. c < length words.now) component.now }

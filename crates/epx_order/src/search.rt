@@ -1,4 +1,4 @@
-//! Searches for paths between nodes of an order.
+//! Searches for paths between the nodes of an order.
 ghost use Rattle.std.specs.Prelude.{◌≡◌, ℕ, ◌<◌, ◌≤◌, ◌⊎◌, length, slice_index, Contains, IfOk, OnOk, IsTrue};
 ghost use Rattle.epx_graph.specs.Graphs.{edges_of};
 ghost use Rattle.epx_graph.specs.NodePaths.{NodeReaches};
@@ -9,19 +9,19 @@ use epx_graph::Graph;
 use epx_types::Memory;
 use std::alloc::Global;
 
-/// The nodes that all searches together may open, for each node of the graph.
+/// All searches together may open this many times as many nodes as the graph has.
 const OPENED_EACH: usize = 64;
 
-/// The tables that searches share, so that none has to clear them.
+/// The state that searches share, so that a search does not have to clear the table of seen nodes.
 #[derive(Debug, Drop)]
 pub(crate) struct Search {
-    /// The last search that came to each node.
+    /// For each node, the number of the last search that opened it.
     seen: Vec<usize>,
-    /// The number of this search.
+    /// The number of the current search.
     search: usize,
-    /// Nodes whose edges have to be looked at.
+    /// The nodes whose edges are still to be followed.
     opened: Vec<usize>,
-    /// How many nodes may still be opened. At 0 each search ends without a path.
+    /// How many nodes may still be opened. When it is 0, each search ends without a path.
     left: usize,
 }
 
@@ -37,7 +37,8 @@ impl Search {
         })
     }
 
-    /// Whether the node at one position is found to reach the node at an earlier one.
+    /// Whether a search finds that the node at one position reaches the node at an earlier
+    /// position.
     pub(crate) fn reaches(
         &mut self,
         graph: &Graph,
@@ -60,8 +61,9 @@ impl Search {
         self.find(graph, reach, node, reach.starts[earlier])
     }
 
-    /// Whether a path leads from a node to the first position of a component. What reaches a
-    /// component from outside has a later position, so the search skips all earlier ones.
+    /// Whether a search finds a path from a node to the first position of a component. What
+    /// reaches a component from outside has a later position, so the search skips all earlier
+    /// positions.
     fn find(
         &mut self,
         graph: &Graph,
@@ -79,7 +81,7 @@ impl Search {
         self.search = self.search.wrapping_add(1);
         self.opened.clear();
         self.opened.push(from)?;
-        // No node but the first is opened twice.
+        // Each node is opened once, except that the first one may be opened twice.
         for _ in 0..=graph.len() {
             let Some(node) = self.opened.pop() else {
                 return Ok(false);
@@ -95,8 +97,8 @@ impl Search {
         Ok(false)
     }
 
-    /// Whether an edge of a node leads to a node that reaches the position by its chain. If none
-    /// does, the new targets after the position are opened.
+    /// Whether an edge of a node leads to a node that reaches the position by its chain. If not,
+    /// the unseen targets after the position are opened.
     fn look(
         &mut self,
         graph: &Graph,

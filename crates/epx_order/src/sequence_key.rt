@@ -1,11 +1,11 @@
-//! What decides an instance's place inside its component.
+//! The order of the instances inside a component.
 ghost use Rattle.std.specs.Prelude.{◌≡◌};
 ghost use Rattle.epx_order.specs.SequenceKeys.{sequence_key_of};
 
 use epx_types::{Entry, Id};
 
-/// What decides an instance's place among the members of its component. Turns are ordered by their
-/// fields, the first one first.
+/// The sort key of an instance among the members of its component. Keys are ordered by their
+/// fields, the first field first.
 #[derive(Clone, Copy, Debug, PartialEq, Eq, PartialOrd, Ord)]
 pub(crate) struct SequenceKey {
     pub(crate) seq: u64,

@@ -1,4 +1,4 @@
-//! The sources with which nodes share doubtful keys.
+//! The sources that share doubtful keys with each node.
 ghost use Rattle.std.specs.Prelude.{◌≡◌, ◌⊎◌, ℕ, ◌<◌, length, slice_index, Contains, IsTrue, IsFalse, IfOk};
 ghost use Rattle.epx_order.specs.declared.doubtful_touches.DoubtfulTouch.{DoubtfulTouch};
 ghost use Rattle.epx_order.specs.Batches.{AreSharing};
@@ -9,7 +9,8 @@ use crate::doubtful_touches::DoubtfulTouches;
 use epx_types::Memory;
 use std::alloc::Global;
 
-/// For each node the sources that share a doubtful key with it. `own` has those at each node.
+/// For each node, the sources that touch one of its doubtful keys, if the node or the source
+/// writes the key. `own` has the sources at each node.
 pub(crate) fn sharing_marks(
     alloc: Global,
     doubtful: &DoubtfulTouches,
@@ -36,7 +37,7 @@ pub(crate) fn sharing_marks(
     Ok(words)
 }
 
-/// For each key the sources that touch it, or those that write it.
+/// For each key, the sources that touch it, or only those that write it.
 fn key_marks(
     alloc: Global,
     doubtful: &DoubtfulTouches,

@@ -15,14 +15,15 @@ use rayon::prelude::*;
 use std::alloc::Global;
 use std::thread::Threads;
 
-/// The order in which the ready instances are executed of a committed map, or of what is left of one
-/// once those that have no node are done.
+/// The execution order of the ready instances of a committed map. If instances without a node are
+/// done, it is the order of the remaining ones.
 ///
-/// It takes time n log n in the instances and linear in their dependencies.
+/// The time is n log n in the instances and linear in their dependencies. The only error is out of
+/// memory.
 ///
-/// A component stands after each that it reaches: components go by rising depth, and those of one
-/// depth by their least members. Inside a component instances go by rising sequence number, and a
-/// tie goes by Id.
+/// A component comes after every component that it reaches. Components are sorted by increasing
+/// depth, and those of one depth by their least members. Inside a component instances are sorted
+/// by increasing sequence number, then by Id.
 pub fn order<R: Threads + Sync>(
     rt: &R,
     alloc: Global,
@@ -32,7 +33,7 @@ pub fn order<R: Threads + Sync>(
     requires { IsGraphAfter merged.now graph.now }
     ensures order { IfOk result (λ order. (done : List Id) → IsGraphOf (remaining done merged.now) graph.now → IsExecutionOrder (remaining done merged.now) order) }
     ensures lawful { IfOk result (λ order. (done : List Id) → IsGraphOf (remaining done merged.now) graph.now → IsLawful (remaining done merged.now) (ranked_ids order)) }
-    // Where nothing is done, it is the order of the whole map.
+    // If nothing is done, this is the order of the whole map.
     ensures whole { IfOk result (λ order. IsGraphOf merged.now graph.now → IsExecutionOrder merged.now order) }
     ensures whole_lawful { IfOk result (λ order. IsGraphOf merged.now graph.now → IsLawful merged.now (ranked_ids order)) }
 {

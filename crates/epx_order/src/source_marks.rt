@@ -1,14 +1,14 @@
-//! Words that hold a bit for each source of a batch.
+//! Words with one bit for each source of a batch.
 ghost use Rattle.std.specs.Prelude.{◌≡◌, ◌<◌, ◌≤◌, length, All, IfOk};
 ghost use Rattle.epx_order.specs.SourceBits.{has_bit, AreSourceMarks};
 
 use epx_types::Memory;
 use std::alloc::Global;
 
-/// How many sources a word holds.
+/// The number of sources of a word.
 pub(crate) const SOURCES: usize = 64;
 
-/// The sources of each slot, from the slot of each source.
+/// For each slot, the sources that have it. `slots` has the slot of each source.
 pub(crate) fn source_marks(alloc: Global, len: usize, slots: &[usize]) -> Result<Vec<u64>, Memory>
     requires few { length slots.now ≤ 64 }
     requires in_range { All (λ s. s < len) slots.now }

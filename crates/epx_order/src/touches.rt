@@ -1,4 +1,4 @@
-//! How the commands of an order touch keys.
+//! Which keys the commands of an order touch.
 ghost use Rattle.std.specs.Prelude.{◌≡◌, ◌<◌, [], ◌∷◌, ◌++◌, length, All, IfOk, OnOk};
 ghost use Rattle.epx_order.specs.Touches.{hash_of, touch, touches_by, touches_of, ArePlaced, HoldTouches};
 
@@ -8,8 +8,8 @@ use epx_types::{Key, Memory, Op};
 use std::alloc::Global;
 use std::hash::{BuildHasher, DefaultHasher, Hash, Hasher};
 
-/// A key that a command touches, by its hash. Keys that share a hash pass for one: then more is asked of
-/// the commands than need be.
+/// A touch of a key by a command. The key is known by its hash alone. Keys that share a hash count
+/// as one key, which can only make the audit ask for more.
 #[derive(Clone, Copy, Debug, PartialEq, Eq, PartialOrd, Ord)]
 pub(crate) struct Touch {
     pub(crate) hash: u64,
@@ -26,7 +26,7 @@ fn hash_of(start: DefaultHasher, key: &Key) -> u64
     hasher.finish()
 }
 
-/// Adds what the command at a position does to a key.
+/// Adds one touch of a key by the command at a position.
 fn add_key(
     touches: &mut Vec<Touch>,
     start: DefaultHasher,
@@ -45,7 +45,7 @@ fn add_key(
     Ok(())
 }
 
-/// Adds what an operation of the command at a position does.
+/// Adds the touches of one operation of the command at a position.
 fn add_operation(
     touches: &mut Vec<Touch>,
     start: DefaultHasher,
@@ -68,7 +68,7 @@ fn add_operation(
     }
 }
 
-/// Adds what the command at a position does.
+/// Adds the touches of the command at a position.
 fn add_command(
     touches: &mut Vec<Touch>,
     start: DefaultHasher,
@@ -83,7 +83,7 @@ fn add_command(
     Ok(())
 }
 
-/// A hasher that follows from all keys of a map, so that nobody can write keys of which two share a hash.
+/// A hasher whose state depends on all keys of a map, so that nobody can choose keys that collide.
 pub(crate) fn start_of(alloc: Global, merged: &Merged) -> Result<DefaultHasher, Memory> {
     let mut keys = DefaultHasher::new();
     let mut touches = Vec::new(alloc);
@@ -98,7 +98,8 @@ pub(crate) fn start_of(alloc: Global, merged: &Merged) -> Result<DefaultHasher, 
     Ok(Seed::after(keys).build_hasher())
 }
 
-/// The touches of the commands of an order, given as nodes, by rising hash and then by rising position.
+/// The touches of the commands of an order, by increasing hash and then by increasing position.
+/// The order is a list of nodes.
 pub(crate) fn find_touches(
     alloc: Global,
     merged: &Merged,

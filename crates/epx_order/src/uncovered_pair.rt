@@ -1,4 +1,4 @@
-//! Whether each two ready instances that conflict are related.
+//! Whether any two ready instances that conflict are related.
 ghost use Rattle.std.specs.Prelude.{◌≡◌, ℕ, ◌<◌, ◌≤◌, List, length, map, slice_index, All, Contains, IsTrue, IfOk, MatchOption};
 ghost use Rattle.epx_types.specs.Conflicts.{IsCovered};
 ghost use Rattle.epx_types.specs.Instances.{Instance};
@@ -28,8 +28,9 @@ use epx_types::{Id, Memory};
 use std::alloc::Global;
 use std::hash::DefaultHasher;
 
-/// The least two ready instances, by the lower Id and then by the other one, that conflict and of
-/// which neither reaches the other, if there are any.
+/// The least pair of ready instances that conflict and of which neither reaches the other, or
+/// None. Pairs are compared by the lower Id, then by the higher Id. None means that the map is
+/// covered. The only error is out of memory.
 pub fn audit(
     alloc: Global,
     merged: &Merged,
@@ -40,8 +41,8 @@ pub fn audit(
     requires order { IsExecutionOrder merged.now order.now }
     ensures { IfOk result (λ found. MatchOption found (IsCovered merged.now) (λ pair. IsLeastUncovered merged.now pair.0 pair.1)) }
 {
-    // To make a start from all keys takes as long as the audit itself, and only keys that were
-    // chosen to collide need one.
+    // `start_of` takes as long as the whole quick audit. It is needed only for keys that were
+    // chosen to collide, so the first quick audit does without it.
     if is_seen_covered(alloc, merged, graph, order, DefaultHasher::new())? {
         return Ok(None);
     }
@@ -56,8 +57,8 @@ pub fn audit(
     }
 }
 
-/// The least two nodes, by the lower one and then by the other, of ready instances that conflict
-/// and are not related.
+/// The least pair of nodes of ready instances that conflict and are not related. Pairs are
+/// compared by the lower node, then by the higher node.
 fn find_pair<'a>(
     alloc: Global,
     graph: &Graph,
@@ -88,7 +89,7 @@ fn find_pair<'a>(
     Ok(None)
 }
 
-/// The nodes of ready instances that touch a doubtful key, by rising number.
+/// The nodes of ready instances that touch a doubtful key, in increasing order.
 fn find_sources(
     alloc: Global,
     touches: &[DoubtfulTouch],
@@ -110,7 +111,7 @@ fn find_sources(
     Ok(sources)
 }
 
-/// The first source of a batch that has a partner, with its least one.
+/// The first source of a batch that has a partner, with that partner.
 fn first_pair<'a>(
     alloc: Global,
     graph: &Graph,
@@ -146,8 +147,8 @@ fn first_pair<'a>(
     Ok(None)
 }
 
-/// The least node above a source that conflicts with it and is not related to it, both of ready
-/// instances.
+/// The partner of a source: the least node after it that conflicts with it and is not related to
+/// it. Both are nodes of ready instances.
 fn first_partner<'a>(
     partition: &Partition,
     ready: &[bool],

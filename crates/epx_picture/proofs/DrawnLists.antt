@@ -1,4 +1,4 @@
--- One instance more that is shown.
+-- Adding the box of one more instance.
 use Rattle.std.proofs.Common.{◌≡◌, ℕ, ◌+◌, List, [], ◌∷◌, ◌++◌, map, take, get_or, slice_get, Some, Contains, sym, ap, ◌∙◌, subst, inl, inr}
 use Rattle.std.proofs.lemmas.List.{map-append, take_more}
 use Rattle.std.proofs.lemmas.List.Elements.{Contains-push_cases}
@@ -8,7 +8,7 @@ use Rattle.epx_types.specs.CommittedMap.{ids_of}
 use Rattle.epx_picture.specs.declared.drawn.Drawn.{Drawn}
 use Rattle.epx_picture.specs.Drawings.{IsDrawn}
 
--- those of the first n places are shown
+-- the boxes are those of the first n instances
 pub record AreDrawn (m : List Instance) (n : ℕ) (drawn : List Drawn) : Type 0 where
   pub named : map (λ d. d.id) drawn ≡ take n (ids_of m)
   pub shown : (d : Drawn) → Contains drawn d → IsDrawn m d

@@ -1,4 +1,4 @@
--- What is shown of an instance, from the rank of its node.
+-- What the box of an instance shows, from the rank of its node.
 use Rattle.std.proofs.Common.{◌≡◌, ℕ, ◌<◌, List, Bool, true, false, Option, slice_get, Some, sym, ap, ◌∙◌, subst, arith, refl, IsTrue}
 use Rattle.std.proofs.lemmas.Bool.{false≢true}
 use Rattle.std.proofs.lemmas.Option.{slice_get_within}
@@ -25,7 +25,7 @@ module _ (m : List Instance) (g : DependencyGraph) (is : IsGraphOf m g) (k : ℕ
   below : k < g.committed
   below = omega (arith, slice_get_within m k e at, committed_count m g is)
 
-  -- the node with the number of the place is that of the instance there
+  -- the node at a position of the map is that of the instance there
   pub own_node : slice_get g.ids k ≡ Some e.id
   own_node = node_of_place m g is k e at below
 

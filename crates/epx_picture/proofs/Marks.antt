@@ -1,4 +1,4 @@
--- Marks of the nodes that lead another one, with one rank more.
+-- Marks of the nodes that are the leader of another node, with one more rank.
 use Rattle.std.proofs.Common.{◌≡◌, ◌⊎◌, ℕ, ◌+◌, ◌<◌, inl, inr, List, Bool, true, false, length, get_or, set, slice_get, Some, replicate, sym, ◌∙◌, ap, arith}
 use Rattle.std.proofs.lemmas.Bool.{cases_eq, cases_lt, false≢true}
 use Rattle.std.proofs.lemmas.List.{length-set, length-replicate, get_or-replicate, get_or_past, get_or-set_same, get_or-set_other}
@@ -15,11 +15,11 @@ marked_none node_ranks n long = record {
 }
 
 module _ (node_ranks : List NodeRank) (n : ℕ) (marks : List Bool) (old : AreMarked node_ranks n marks) (s : NodeRank) (at : slice_get node_ranks n ≡ Some s) where
-  -- one that leads among the first leads among more
+  -- a node that is a leader among the first is one among more
   more : (l : ℕ) → LeadsAmong node_ranks n l → LeadsAmong node_ranks (n + 1) l
   more l (k, t, below, there, leads, other) = (k, t, omega arith, there, leads, other)
 
-  -- and where it leads no more among them, it leads the next one
+  -- a node that is a leader only among one more is the leader of the last one
   fewer : (l : ℕ) → LeadsAmong node_ranks (n + 1) l → LeadsAmong node_ranks n l ⊎ ((s.leader ≡ l) × ¬ (n ≡ l))
   fewer l (k, t, below, there, leads, other) = elim (cases_lt k n) [
     | inl past ↦ inl (k, t, past, there, leads, other)
@@ -30,7 +30,7 @@ module _ (node_ranks : List NodeRank) (n : ℕ) (marks : List Bool) (old : AreMa
         inr (ap (λ (r : NodeRank). r.leader) is ∙ leads, λ e. other (same ∙ e))
   ]
 
-  -- the next one leads itself
+  -- the next node is its own leader
   pub marked_past : s.leader ≡ n → AreMarked node_ranks (n + 1) marks
   marked_past own = record {
     nodes = old.nodes;
@@ -40,7 +40,7 @@ module _ (node_ranks : List NodeRank) (n : ℕ) (marks : List Bool) (old : AreMa
     );
   }
 
-  -- the next one is led by another
+  -- the next node has another leader
   pub marked_more : ¬ (s.leader ≡ n) → s.leader < length marks → AreMarked node_ranks (n + 1) (set marks s.leader true)
   marked_more other within = record {
     nodes = length-set marks s.leader true ∙ old.nodes;

@@ -1,4 +1,4 @@
--- What one element more adds to lists that are joined.
+-- One more element of a list whose lines are appended.
 use Rattle.std.proofs.Common.{◌≡◌, ℕ, ◌+◌, List, [], ◌∷◌, ◌++◌, take, flat_map, get_or, slice_get, Some, ap, ◌∙◌}
 use Rattle.std.proofs.lemmas.Grind.{flat_map-append}
 use Rattle.std.proofs.lemmas.List.{append-nil, take_more}

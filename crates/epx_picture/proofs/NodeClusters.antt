@@ -1,4 +1,5 @@
--- The cluster of an instance, from the leader of its node and the marks of the nodes that lead another one.
+-- The cluster of an instance, from the leader of its node and the marks of the nodes that are the
+-- leader of another one.
 use Rattle.std.proofs.Common.{◌≡◌, ℕ, inl, inr, List, Bool, false, length, get_or, slice_get, Some, None, sym, ap, ◌∙◌, subst, arith, IsTrue}
 use Rattle.std.proofs.lemmas.Bool.{cases_eq}
 use Rattle.std.proofs.lemmas.Option.{slice_get_within, slice_get-get_or}
@@ -18,7 +19,7 @@ use Rattle.epx_components.proofs.NodePathLemmas.{reaches_on}
 use Rattle.epx_picture.specs.Clusters.{AreNodeRanks, AreMarked}
 use Rattle.epx_picture.specs.Drawings.{IsCluster}
 
--- nodes of one component have one leader
+-- nodes of one component have the same leader
 one_leader : (edges : ℕ → List ℕ) (k j l i : ℕ) → InOneNodeComponent edges k j → IsNodeLeader edges k l → IsNodeLeader edges j i → l ≡ i
 one_leader edges k j l i one p q =
     let low = p.least i (reaches_on edges k j i one.0 q.member.0, reaches_on edges i j k q.member.1 one.1) in
@@ -29,7 +30,7 @@ module _ (m : List Instance) (g : DependencyGraph) (is : IsGraphOf m g) (k : ℕ
   in_component : (j : ℕ) (y : Id) → slice_get g.ids j ≡ Some y → InOneNodeComponent (edges_of g) k j → InOneComponent m x y
   in_component j y to one = ((node_reaches m g is k j x y at to).0 one.0, (node_reaches m g is j k y x to at).0 one.1)
 
-  -- its node is led by another one
+  -- its node has another leader
   pub cluster_led : (leader : Id) → slice_get g.ids s.leader ≡ Some leader → ¬ (s.leader ≡ k) → IsCluster m x (Some leader)
   cluster_led leader to other = (
     leader_from_node m g is k s.leader x leader at to stands.leader,
@@ -37,7 +38,7 @@ module _ (m : List Instance) (g : DependencyGraph) (is : IsGraphOf m g) (k : ℕ
   )
 
   module _ (own : s.leader ≡ k) (node_ranks : List NodeRank) (all : AreNodeRanks g node_ranks) (marks : List Bool) (marked : AreMarked node_ranks (length g.ids) marks) where
-    -- its node leads another one
+    -- its node is the leader of another node
     pub cluster_leading : IsTrue (get_or marks k false) → IsCluster m x (Some x)
     cluster_leading h =
         let led = (marked.exact k).0 h in
@@ -48,7 +49,7 @@ module _ (m : List Instance) (g : DependencyGraph) (is : IsGraphOf m g) (k : ℕ
           (y.0, in_component led.0 y.0 y.1 (member.1, member.0), λ same. led.5 (node_is_one g is.graph led.0 k x (y.1 ∙ ap Some same) at)),
         )
 
-    -- and no other one
+    -- its node is the leader of no other node
     pub cluster_alone : ¬ IsTrue (get_or marks k false) → IsCluster m x None
     cluster_alone none y one =
         let j = reached_node m g is k x y at one.0 in

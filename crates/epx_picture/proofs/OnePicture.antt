@@ -1,4 +1,4 @@
--- A map has one picture.
+-- A map has at most one picture.
 use Rattle.std.proofs.Common.{◌≡◌, List, [], ◌∷◌, length, map, Bool, true, false, Option, Some, None, Contains, refl, sym, ap, ap₂, ◌∙◌, subst, arith, IsTrue}
 use Rattle.epx_types.specs.declared.id.Id.{Id}
 use Rattle.epx_types.specs.Instances.{Instance}
@@ -25,7 +25,7 @@ IsCluster-unique m x None (Some l) p q = absurd (q.1.2 (p q.1.0 q.1.1))
 IsCluster-unique m x (Some k) None p q = absurd (p.1.2 (q p.1.0 p.1.1))
 IsCluster-unique m x (Some k) (Some l) p q = ap Some (IsLeader-unique m x k l p.0 q.0)
 
--- what is shown of an instance is one
+-- an instance has only one box
 IsDrawn-unique : (m : List Instance) (d f : Drawn) → IsCommitted m d.id → f.id ≡ d.id → IsDrawn m d → IsDrawn m f → d ≡ f
 IsDrawn-unique m d f committed same p q =
     let e = Contains-from_map (λ (e : Instance). e.id) m d.id committed in

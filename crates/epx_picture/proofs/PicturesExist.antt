@@ -1,4 +1,4 @@
--- Each committed map has a picture.
+-- Every committed map has a picture.
 use Rattle.std.proofs.Common.{◌≡◌, ℕ, List, [], ◌∷◌, map, Bool, true, false, Option, Some, None, Contains, refl, ap, ap₂, subst, inl, inr}
 use Rattle.std.proofs.lemmas.Bool.{false≢true}
 use Rattle.epx_types.specs.declared.id.Id.{Id}

@@ -1,4 +1,4 @@
--- Marks of the nodes that lead another one.
+-- Marks of the nodes that are the leader of another node.
 use Rattle.std.specs.Prelude.{◌≡◌, ◌≢◌, ◌↔◌, ℕ, ◌<◌, List, Bool, false, length, slice_get, slice_index_or, Some, IsTrue}
 use Rattle.epx_graph.specs.Graphs.{DependencyGraph}
 use Rattle.epx_components.specs.declared.node_ranks.NodeRank.{NodeRank}
@@ -9,11 +9,11 @@ pub record AreNodeRanks (g : DependencyGraph) (node_ranks : List NodeRank) : Typ
   pub nodes : length node_ranks ≡ length g.ids
   pub each : (k : ℕ) (s : NodeRank) → slice_get node_ranks k ≡ Some s → IsNodeRank g k s
 
--- one of the first n nodes has this leader and is another
+-- one of the first n nodes has this leader, and is not the leader itself
 abbrev pub LeadsAmong : List NodeRank → ℕ → ℕ → Type 0
 LeadsAmong node_ranks n leader = (k : ℕ) × (s : NodeRank) × (k < n) × (slice_get node_ranks k ≡ Some s) × (s.leader ≡ leader) × (k ≢ leader)
 
--- a mark for each node: whether it leads another one of the first n
+-- for each node, whether it is the leader of another of the first n nodes
 pub record AreMarked (node_ranks : List NodeRank) (n : ℕ) (marks : List Bool) : Type 0 where
   pub nodes : length marks ≡ length node_ranks
   pub exact : (l : ℕ) → IsTrue (slice_index_or marks l false) ↔ LeadsAmong node_ranks n l

@@ -1,4 +1,4 @@
--- What a picture shows of a committed instance.
+-- What the box of a committed instance shows.
 use Rattle.std.specs.Prelude.{◌≡◌, ◌≢◌, ◌↔◌, List, Option, Some, None, Contains, IsTrue}
 use Rattle.epx_types.specs.declared.id.Id.{Id}
 use Rattle.epx_types.specs.Components.{InOneComponent, IsLeader}
@@ -7,12 +7,13 @@ use Rattle.epx_types.specs.Instances.{Instance}
 use Rattle.epx_types.specs.Readiness.{IsReady}
 use Rattle.epx_picture.specs.declared.drawn.Drawn.{Drawn}
 
--- the cluster of an instance is named by the leader of its component; one that is alone in its component has none
+-- the cluster of an instance has the name of its component's leader; an instance that is alone in
+-- its component has no cluster
 abbrev pub IsCluster : List Instance → Id → Option Id → Type 0
 IsCluster m x None = (y : Id) → InOneComponent m x y → y ≡ x
 IsCluster m x (Some leader) = IsLeader m x leader × ((y : Id) × InOneComponent m x y × (y ≢ x))
 
--- what is shown of it is its own
+-- the box shows the instance's sequence number, depth and cluster, and whether it waits
 pub record IsDrawn (m : List Instance) (d : Drawn) : Type 0 where
   pub seq : (e : Instance) → Contains m e → e.id ≡ d.id → e.seq ≡ d.seq
   pub depth : IsDepth m d.id d.depth

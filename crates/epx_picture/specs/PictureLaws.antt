@@ -9,6 +9,6 @@ use Rattle.epx_picture.specs.Pictures.{IsPicture}
 abbrev pub PictureExists : Type 0
 PictureExists = (m : List Instance) → IsRising (ids_of m) → (text : List ℕ) × IsPicture m text
 
--- and only one
+-- a committed map has at most one picture
 abbrev pub PictureIsOne : Type 0
 PictureIsOne = (m : List Instance) (text other : List ℕ) → IsPicture m text → IsPicture m other → text ≡ other

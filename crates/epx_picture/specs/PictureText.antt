@@ -11,17 +11,17 @@ head_text = codes "digraph dependencies {\n  node [shape=box];\n"
 abbrev pub foot_text : List ℕ
 foot_text = codes "}\n"
 
--- instances that wait are dashed
+-- boxes of instances that wait are dashed
 abbrev pub style_text : Bool → List ℕ
 style_text true = codes ", style=dashed"
 style_text false = []
 
--- an instance with its depth and sequence number
+-- the box of an instance, with its depth and sequence number
 abbrev pub box_text : Drawn → List ℕ
 box_text d =
     codes "\"" ++ (id_text d.id ++ (codes "\" [label=\"" ++ (id_text d.id ++ (codes "\\ndepth " ++ (decimal d.depth ++ (codes ", seq " ++ (decimal d.seq ++ (codes "\"" ++ (style_text d.waits ++ codes "];")))))))))
 
--- by itself, or in a cluster
+-- a box by itself, or in a cluster
 abbrev pub in_cluster : Option Id → List ℕ → List ℕ
 in_cluster None box = codes "  " ++ (box ++ codes "\n")
 in_cluster (Some leader) box = codes "  subgraph \"cluster " ++ (id_text leader ++ (codes "\" { " ++ (box ++ codes " }\n")))
@@ -29,17 +29,17 @@ in_cluster (Some leader) box = codes "  subgraph \"cluster " ++ (id_text leader 
 abbrev pub drawn_line : Drawn → List ℕ
 drawn_line d = in_cluster d.cluster (box_text d)
 
--- missing instances are dotted
+-- boxes of missing instances are dotted
 abbrev pub missing_line : Id → List ℕ
 missing_line x = codes "  \"" ++ (id_text x ++ codes "\" [style=dotted];\n")
 
--- an arrow leads from an instance to one that it depends on
+-- an arrow goes from an instance to one that it depends on
 abbrev pub arrow_line : Id → Id → List ℕ
 arrow_line x y = codes "  \"" ++ (id_text x ++ (codes "\" -> \"" ++ (id_text y ++ codes "\";\n")))
 
 abbrev pub arrow_lines : Instance → List ℕ
 arrow_lines e = flat_map (arrow_line e.id) e.deps
 
--- the committed instances, the missing ones, and the arrows
+-- the boxes of the committed instances, those of the missing instances, and the arrows
 abbrev pub picture_text : List Instance → List Drawn → List Id → List ℕ
 picture_text m drawn missing = head_text ++ (flat_map drawn_line drawn ++ (flat_map missing_line missing ++ (flat_map arrow_lines m ++ foot_text)))

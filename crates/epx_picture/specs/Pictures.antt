@@ -9,7 +9,8 @@ use Rattle.epx_picture.specs.declared.drawn.Drawn.{Drawn}
 use Rattle.epx_picture.specs.Drawings.{IsDrawn}
 use Rattle.epx_picture.specs.PictureText.{picture_text}
 
--- each committed instance, by rising Id, each missing one, by rising Id, and an arrow for each dependency
+-- a box for each committed instance and one for each missing instance, both by increasing Id, and
+-- an arrow for each dependency
 pub record IsPicture (m : List Instance) (text : List ℕ) : Type 0 where
   pub drawn : List Drawn
   pub missing : List Id

@@ -1,4 +1,4 @@
-//! Which components have two members or more.
+//! Clusters: the components that have at least two members.
 ghost use Rattle.std.specs.Prelude.{◌≡◌, ◌<◌, List, length, slice_get, Some, IfOk};
 ghost use Rattle.epx_types.specs.declared.id.Id.{Id};
 ghost use Rattle.epx_types.specs.Instances.{Instance};
@@ -13,7 +13,7 @@ use epx_graph::Graph;
 use epx_types::{Id, Memory};
 use std::alloc::Global;
 
-/// Whether each node leads another one.
+/// For each node, whether it is the leader of another node.
 pub(crate) fn find_leading(
     alloc: Global,
     graph: &Graph,
@@ -32,7 +32,7 @@ pub(crate) fn find_leading(
     Ok(marks)
 }
 
-/// The cluster of a node.
+/// The cluster of a node, or None if its component has no other member.
 pub(crate) fn cluster_of(
     graph: &Graph,
     leading: &[bool],

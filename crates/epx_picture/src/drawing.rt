@@ -17,7 +17,7 @@ use epx_merge::Merged;
 use epx_types::Memory;
 use std::alloc::Global;
 
-/// What is shown of the instance at a position of the map, whose node has the same number.
+/// The box of the instance at a position of the map. The node of the instance has the same number.
 fn draw(
     merged: &Merged,
     graph: &Graph,
@@ -42,7 +42,7 @@ fn draw(
     }
 }
 
-/// What is shown of each committed instance.
+/// The box of each committed instance.
 fn draw_all(alloc: Global, merged: &Merged, graph: &Graph) -> Result<Vec<Drawn>, Memory>
     requires { IsGraphOf merged.now graph.now }
     ensures named { IfOk result (λ drawn. map (λ d. d.id) drawn.items ≡ ids_of merged.now) }
@@ -58,8 +58,11 @@ fn draw_all(alloc: Global, merged: &Merged, graph: &Graph) -> Result<Vec<Drawn>,
     Ok(drawn)
 }
 
-/// The picture of a map, whose graph this is, in time linear in the dependencies: a digraph in DOT, in UTF-8. Graphviz's `dot`
-/// puts all boxes that name one cluster into it.
+/// The picture of a map: its graph as a digraph in DOT, in UTF-8. `graph` has to be the graph of
+/// the map.
+///
+/// The time is linear in the dependencies. The only error is out of memory. Graphviz's `dot` draws
+/// all boxes of one cluster inside it.
 pub fn picture(alloc: Global, merged: &Merged, graph: &Graph) -> Result<Vec<u8>, Memory>
     requires { IsGraphOf merged.now graph.now }
     ensures { IfOk result (λ text. IsPicture merged.now text.items) }

@@ -12,12 +12,12 @@ pub struct Drawn {
     pub id: Id,
     pub seq: u64,
     pub depth: usize,
-    /// The leader of its component, where that has another member.
+    /// The leader of its component, if the component has another member.
     pub cluster: Option<Id>,
     pub waits: bool,
 }
 
-/// What stands behind the label of a box.
+/// What follows the label of a box.
 fn style_of(waits: bool) -> &'static str
     ensures { result.now ≡ style_text waits }
 {

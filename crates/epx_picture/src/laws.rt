@@ -1,4 +1,5 @@
-//! What shows that pictures mean what they should: each function's contract is a law.
+//! Laws of pictures: the definition means what it should. Each function has an empty body, and its
+//! contract is the law.
 ghost use Rattle.epx_picture.specs.PictureLaws.{PictureExists, PictureIsOne};
 
 /// A committed map has a picture.

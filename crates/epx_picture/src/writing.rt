@@ -1,4 +1,4 @@
-//! Pictures written.
+//! The text of pictures.
 ghost use Rattle.std.specs.Prelude.{◌≡◌, ◌++◌, OnOk, IfOk, flat_map, string_bytes};
 ghost use Rattle.epx_picture.specs.PictureText.{arrow_line, arrow_lines, drawn_line, missing_line, picture_text};
 

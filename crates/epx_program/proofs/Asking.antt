@@ -1,4 +1,4 @@
--- What is asked, from the words that were given.
+-- What the words ask for, from the words of the operating system.
 use Rattle.std.proofs.Common.{◌≡◌, ◌≢◌, ◌≤◌, ◌↔◌, ◌⊎◌, ◌++◌, ◌∙◌, ℕ, Bool, true, false, inl, inr, zero, suc, List, [], ◌∷◌, length, map, Option, Some, None, Result, Ok, Err, IfOk, sym, ap, refl, append-nil, arith}
 use Rattle.std.specs.Prelude.{string_bytes}
 use Rattle.std.specs.Io.KnownBytes.{Appends}
@@ -19,7 +19,7 @@ use Rattle.epx_words.specs.declared.asked.Words.TheVariants.{Work, Text as text}
 use Rattle.epx_program.specs.Calls.{AreTakenFor, Asks, EndsAsAsked, EndsTask, EndsWithText}
 use Rattle.epx_program.proofs.KeptBytes.{kept}
 
--- words are taken for one list of texts
+-- words are taken for only one list of texts
 pub one_taking : (words : Result (IntoIter (String Global) Global) Error) (texts others : List Text) → AreTakenFor words texts → AreTakenFor words others → texts ≡ others
 one_taking (Ok given) texts others these those = sym these ∙ those
 one_taking (Err why) texts others these those = absurd these
@@ -28,7 +28,7 @@ no_items : {A : Type 0} (xs : List A) → length xs ≡ 0 → xs ≡ []
 no_items [] none = refl
 no_items (x ∷ xs) none = absurd (omega arith)
 
--- where no word is to come, those that came are all
+-- if no word is left to read, the words read so far are all words
 pub all_taken : {A B : Type 0} (f : A → B) (came : List B) (rest : List A) → length rest ≡ 0 → came ++ map f rest ≡ came
 all_taken f came rest none = ap (λ xs. came ++ map f xs) (no_items rest none) ∙ append-nil came
 
@@ -81,7 +81,7 @@ module _ {S : Type 0} (contents : S → Option (List ℕ)) (before after : S)
       let ends = told (λ none. omega (arith, none)) in
       (ends.0, kept contents before after ends.1)
 
-  -- what was wanted is done, by what is said of doing it
+  -- how the program ends with what is wanted, from the contracts of the calls that do it
   pub ends_as_asked : (wanted : Words)
       → IfWork (λ task plan paths. EndsTask input Unread task paths status failed
       (contents before) (contents after)) wanted

@@ -1,4 +1,4 @@
--- Which source failed, where a run says that one can not be read.
+-- Which source failed, if a run returns that a source cannot be read.
 use Rattle.std.proofs.Common.{◌≡◌, ◌⊎◌, ℕ, zero, suc, List, [], ◌∷◌, Some, slice_get, Result, Err, IsErrOf, inl, inr, subst}
 use Rattle.std.specs.Prelude.{IfErr, ◌≢◌}
 use Rattle.epx_types.specs.declared.fault.Fault.{Fault}
@@ -24,7 +24,7 @@ module _ {S : Type 0} (reads : ReadRelation S) (fails : FailRelation S)
   unread_of log (inl (inr source)) = at_source log source
   unread_of log (inr refused) = absurd refused.refusal
 
-  -- a run over logs that ends so has a source that failed
+  -- a run over logs that ends this way has a source that failed
   pub unread : {A : Type 0} (done : Result A Fault)
       → IfErr done (λ fault. fault ≢ Write → EndsWithout reads fails before after fault)
       → (log : ℕ) → IsErrOf done (Read log) → OneHasFailedRead reads fails before
@@ -47,7 +47,7 @@ module _ {S : Type 0} (reads : ReadRelation S) (fails : FailRelation S)
     unread_of_both log (inl (inr input)) = inl (last, input.stopped.1)
     unread_of_both log (inr refused) = absurd refused.refusal.1
 
-    -- and so does one over an extra input and logs, or the extra input failed
+    -- so has a run over an extra input and logs, or the extra input failed
     pub unread_both : {A : Type 0} (done : Result A Fault)
         → IfErr done (λ fault. fault ≢ Write → Ends fault)
         → (log : ℕ) → IsErrOf done (Read log)
@@ -63,13 +63,13 @@ the_only : {S : Type 0} (log : ℕ) (source s : S) → slice_get (source ∷ [])
 the_only zero source s there = cc there
 the_only (suc log) source s there = absurd (cc there)
 
--- of one source alone it is that one
+-- if there is only one source, it is that one
 pub alone : {S : Type 0} (reads : ReadRelation S) (fails : FailRelation S) (source : S)
     → OneHasFailedRead reads fails (source ∷ []) → HasFailedRead reads fails source
 alone reads fails source h =
     subst (HasFailedRead reads fails) (the_only h.log source h.source h.there) h.failed
 
--- an input among files that failed is the input that failed
+-- if the input is the only source, the input failed
 pub input_failed : {P I M : Type 0} (path_reads : ReadRelation P) (path_fails : FailRelation P)
     (reads : ReadRelation I) (fails : FailRelation I)
     (memory_reads : ReadRelation M) (memory_fails : FailRelation M) (input : I)

@@ -29,7 +29,7 @@ module _ (task : Task) (IsBad : List ℕ → ℕ → Type 0)
   IsWritten Written text logs =
       (answer : List ℕ) × AnswersWithInput IsBad Is text logs (Ok answer) × Written answer
 
-  -- where the bytes of all sources are known
+  -- the outcome if the bytes of all sources are known
   module _ {F S : Type 0} (before : F → Option (List ℕ)) (remaining : S → Option (List ℕ))
       (first : F) (sources : List S) where
     abbrev OfKnown : (List ℕ → List (List ℕ) → Type 0) → Type 0
@@ -53,7 +53,7 @@ module _ (task : Task) (IsBad : List ℕ → ℕ → Type 0)
       nothing = nothing;
     }
 
-  -- by what their reads delivered
+  -- the outcome by what their reads delivered
   module _ {F S : Type 0} (input_reads : ReadRelation F) (reads : ReadRelation S)
       (first last : F) (before after : List S) where
     adds : (Written : List ℕ → Type 0)
@@ -78,7 +78,7 @@ module _ (task : Task) (IsBad : List ℕ → ℕ → Type 0)
         → AddsPart task (length before + 1) old new
     adds_part h = adds (AppendsPrefix old new) h
 
--- the texts of sources that begin with one begin with its text
+-- the texts of a first source and others begin with the text of the first
 pub from_first : {S : Type 0} (remaining : S → Option (List ℕ)) (P : List (List ℕ) → Type 0) (sources rest : List S) (source : S) → sources ≡ source ∷ rest
     → ((text : List ℕ) (logs : List (List ℕ)) → remaining source ≡ Some text → AreBytesOf remaining rest logs → P (text ∷ logs))
     → (texts : List (List ℕ)) → AreBytesOf remaining sources texts → P texts
@@ -103,14 +103,14 @@ without_text old new first.List fault h =
     record { named = h.named; part = h.part; nothing = h.nothing }
 
 module _ {A : Type 0} (old new : Option (List ℕ)) where
-  -- where no text is given the first one is empty
+  -- if there is no text, the first text is empty
   pub comes_of_nothing : (kind : FirstText) (done : Result A Fault)
       → ComesTo (task_over kind) ([] ∷ []) done old new → ComesTo (task_over kind) [] done old new
   comes_of_nothing first.Base (Ok x) h = h
   comes_of_nothing first.List (Ok x) h = h
   comes_of_nothing kind (Err fault) h = without_text old new kind fault h
 
-  -- an answer to no texts is added where that is what the task comes to
+  -- an answer to no texts is appended, if that is what the task comes to
   pub adds_to_nothing : (task : Task) (done : Result A Fault) → ComesTo task [] done old new
       → OnOk done (AddsAnswer task 0 old new)
   adds_to_nothing task (Ok x) h = ([], refl, h)
@@ -123,7 +123,7 @@ module _ {A : Type 0} (old new : Option (List ℕ)) where
       let named : fault ≡ Write = cc is in
       ([], refl, h.part named)
 
--- a source that failed is the first, or one of the others
+-- a source that failed is the first one or one of the others
 pub failed_of_all : {S : Type 0} (reads : ReadRelation S) (fails : FailRelation S)
     (sources rest : List S) (source : S) → sources ≡ source ∷ rest
     → HasFailedRead reads fails source ⊎ OneHasFailedRead reads fails rest

@@ -1,4 +1,4 @@
--- Outputs that are as before.
+-- Outputs that are unchanged.
 use Rattle.std.proofs.Common.{◌≡◌, ℕ, List, Option, Some, None, refl, subst}
 use Rattle.std.specs.Io.KnownBytes.{Keeps}
 
@@ -6,7 +6,7 @@ keeps_same : (known : Option (List ℕ)) → Keeps known known
 keeps_same None = tt
 keeps_same (Some bytes) = refl
 
--- an output that is as before has what it had
+-- an unchanged output has the contents that it had
 pub kept : {S : Type 0} (contents : S → Option (List ℕ)) (before after : S) → after ≡ before
     → Keeps (contents before) (contents after)
 kept contents before after same =

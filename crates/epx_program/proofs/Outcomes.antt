@@ -33,7 +33,7 @@ view_is_refused Levels logs fault h = h
 view_is_refused Audit logs fault h = h
 view_is_refused Graph logs fault h = h
 
--- a run over logs, whose text `Is` describes, is the task
+-- a run over logs whose text `Is` describes has the outcome of the task
 module _ (task : Task) (Is : List Instance → List ℕ → Type 0)
     (answers : (logs : List (List ℕ)) (text : List ℕ) → Answers Is logs (Ok text)
     → IsTaskAnswer task logs (Ok text))

@@ -1,4 +1,4 @@
--- With which status the program ends.
+-- The exit status of the program.
 use Rattle.std.proofs.Common.{◌≡◌, ◌≢◌, ◌⊎◌, ◌↔◌, ◌∙◌, ℕ, zero, suc, Bool, true, false, List, length, Option, Result, Ok, Err, IsErrOf, inl, inr, refl, arith, ap, sym}
 use Rattle.std.specs.Prelude.{OnOk, IfErr}
 use Rattle.std.specs.Io.KnownBytes.{Appends, Keeps}
@@ -18,13 +18,13 @@ use Rattle.epx_program.specs.Calls.{EndsTask}
 use Rattle.epx_program.specs.Endings.{AddsAnswer, AddsPart, ComesTo, EndsWith, IsStatus, IsTaskAnswer, status_of}
 use Rattle.epx_program.proofs.KeptBytes.{kept}
 
--- the status of a task that is done, or not
+-- the status of a task that succeeded or failed
 pub ends-as-done : {A : Type 0} (task : Task) (logs : List (List ℕ)) (done : Result A Fault) (old new : Option (List ℕ))
     → ComesTo task logs done old new → EndsWith task logs (status_of done) old new
 ends-as-done task logs (Ok x) old new written = inl (refl, written)
 ends-as-done task logs (Err fault) old new why = inr (fault, why, refl)
 
--- the answer to what sources delivered is one to as many texts
+-- the answer to what the sources delivered is an answer to that number of texts
 pub adds_answer : {A S : Type 0} (reads : ReadRelation S) (task : Task)
     (Is : List Instance → List ℕ → Type 0)
     (answers : (logs : List (List ℕ)) (text : List ℕ) → Answers Is logs (Ok text)
@@ -57,7 +57,7 @@ no_fault_ends_well (Read log) e = absurd (cc e)
 no_fault_ends_well Write e = absurd (cc e)
 no_fault_ends_well (BadBase line) e = absurd (cc e)
 
--- status 0 comes of work that is done
+-- status 0 means that the work was done
 pub of_done : {A P : Type 0} (done : Result A Fault) (status : ℕ) → status ≡ status_of done
     → OnOk done P → status ≡ 0 → P
 of_done (Ok x) status is h none = h
@@ -68,7 +68,7 @@ pub is_status : {A : Type 0} (done : Result A Fault) (status : ℕ) → status �
 is_status (Ok x) status is = inl is
 is_status (Err fault) status is = inr (fault, is)
 
--- status 4 is that of devices alone
+-- status 4 means that a device failed
 of_device : (fault : Fault) → fault_status fault ≡ 4
     → (fault ≡ Write) ⊎ (log : ℕ) × (fault ≡ Read log)
 of_device Memory e = absurd (cc e)
@@ -90,7 +90,7 @@ broken_by (Err fault) status is written read four =
       | inr unread ↦ inr (read unread.0 (ap Err unread.1))
     ]
 
--- an output that did not fail has nothing new, unless all went well
+-- an output that did not fail is unchanged, unless the status is 0
 pub kept_by_work : {A : Type 0} (done : Result A Fault) (status : ℕ) (failed : Bool)
     (old new : Option (List ℕ)) → status ≡ status_of done
     → IfErr done (λ fault. fault ≢ Write → Keeps old new)
@@ -108,7 +108,7 @@ kept_by_text contents before after zero result failed told bad well some =
 kept_by_text contents before after (suc n) result failed told bad well some =
     kept contents before after (told (λ none. omega (arith, none))).1
 
--- a text that was asked for is shown, or the output failed
+-- a text with status 0 is written, or the output failed
 pub of-text : {P : Type 0} (result : ℕ) → (result ≢ 0 → (result ≡ 4) × P) → (result ≡ 0) ⊎ ((result ≡ 4) × P)
 of-text zero failed = inl refl
 of-text (suc n) failed = inr (failed (λ none. omega (arith, none)))
@@ -124,7 +124,7 @@ pub work_status : (input : Option (List ℕ)) (Unread : Type 0) (status : ℕ) (
 work_status input Unread status failed old new (Work task plan paths) h = h.ends
 work_status input Unread status failed old new (Text text said) h = tt
 
--- whatever the words come to
+-- the program ends as the words ask, for every kind of words
 pub of-words : (P Q : Type 0) (words : Words) (result : ℕ) → IfText (λ status. (status ≡ 0) ⊎ (status ≡ 2)) words
     → IfWork (λ task plan paths. IsStatus result) words → IfText (λ status. status ≡ 0 → (result ≡ 0) ⊎ ((result ≡ 4) × Q)) words
     → IfText (λ status. status ≢ 0 → (result ≡ status) × P) words → IsStatus result ⊎ (result ≡ 2)

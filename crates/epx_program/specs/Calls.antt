@@ -1,4 +1,4 @@
--- What the program's words ask for, and how the program ends that does it.
+-- What the program's words ask for, and how the program ends.
 use Rattle.std.specs.Prelude.{◌≡◌, ◌≤◌, ◌↔◌, ◌⊎◌, ℕ, zero, suc, Bool, true, false, List, [], ◌∷◌, length, map, Option, Some, None, Result, Vec, MatchResult, option_map, string_bytes}
 use Rattle.std.specs.Io.KnownBytes.{Appends, Keeps}
 use Rattle.std.specs.Vec.Iter.{into_iter_items}
@@ -20,13 +20,13 @@ use Rattle.epx_words.specs.declared.asked.Words.TheVariants as asked
 use Rattle.epx_program.specs.Endings.{AddsAnswer, AddsPart, EndsWith, IsStatus}
 use Rattle.epx_program.specs.Inputs.{IsInputAlone, how_many}
 
--- the words of the operating system are these texts; words that could not be had are none
+-- the operating system's words are these texts; words that could not be read are no texts
 abbrev pub AreTakenFor : Result (IntoIter (String Global) Global) Error → List Text → Type 0
 AreTakenFor words texts = MatchResult words
     (λ given. map string_bytes (into_iter_items given) ≡ texts) (λ _. ⊥)
 
--- the words ask for this: the report of one log where no word follows the program's name, and else
--- what clap finds in them
+-- what the words ask for: the report of one log if no word follows the program's name, otherwise
+-- what clap finds in the words
 pub record Asks (words : List Text) (wanted : Words) : Type 0 where
   pub bare : length words ≤ 1 → wanted ≡ asked.Work Run (record { workers = 4; cut = 256 }) None
   pub work : 2 ≤ length words → IfWork (Fits (subcommand_of epx_app words)) wanted
@@ -35,36 +35,36 @@ pub record Asks (words : List Text) (wanted : Words) : Type 0 where
       → IfText (λ status. (takes epx_app words ≡ false)
       × EndsAs (fault_of epx_app words) status) wanted
 
--- how the program ends after a text with this status: one that was asked for is added, or the
--- output failed; any other is not
+-- how the program ends after a text with this status: a text of status 0 is appended to the
+-- output, or the output failed; any other text leaves the output unchanged
 abbrev pub EndsWithText : List ℕ → ℕ → ℕ → Bool → Option (List ℕ) → Option (List ℕ) → Type 0
 EndsWithText text zero status failed old new =
     ((status ≡ 0) × Appends old new text)
     ⊎ ((status ≡ fault_status Write) × (failed ≡ true) × AppendsPrefix old new text)
 EndsWithText text (suc n) status failed old new = (status ≡ suc n) × Keeps old new
 
--- How a task ends over the paths, where the input has these bytes, if they are known, and `Unread`
--- says that a read of the input failed.
+-- How a task over the paths ends. `input` has the bytes of the program's input, if they are known.
+-- `Unread` means that a read of the input failed.
 pub record EndsTask (input : Option (List ℕ)) (Unread : Type 0) (task : Task)
     (paths : Option (List (List ℕ))) (status : ℕ) (failed : Bool)
     (old new : Option (List ℕ)) : Type 0 where
-  -- with 0, or the status of a fault
+  -- the status is 0 or that of a fault
   pub ends : IsStatus status
-  -- over the input alone it ends as the task over its bytes
+  -- if only the input is read, it ends as the task over the bytes of the input
   pub over_input : (bytes : List ℕ) → IsInputAlone paths → input ≡ Some bytes
       → EndsWith task (bytes ∷ []) status old new
-  -- over any sources, 0 says that the answer to as many texts is added
+  -- over any sources, status 0 means that the answer to that number of texts is appended
   pub answered : status ≡ 0 → AddsAnswer task (how_many paths) old new
-  -- an output that failed has taken a prefix of an answer to as many texts
+  -- an output that failed has a prefix of an answer to that number of texts appended
   pub part : failed ≡ true → AddsPart task (how_many paths) old new
-  -- over the input alone, 4 says that the output failed, or a read of the input
+  -- if only the input is read, status 4 means that the output or a read of the input failed
   pub broken : IsInputAlone paths → status ≡ fault_status Write → (failed ≡ true) ⊎ Unread
 
 -- the paths, as bytes
 abbrev pub paths_of : Option (Vec (String Global) Global) → Option (List (List ℕ))
 paths_of paths = option_map (λ list. map string_bytes list.items) paths
 
--- how it ends once it did what is wanted
+-- how the program ends, by what is wanted
 abbrev pub EndsAsAsked : Option (List ℕ) → Type 0 → Words → ℕ → Bool
     → Option (List ℕ) → Option (List ℕ) → Type 0
 EndsAsAsked input Unread (asked.Work task plan paths) status failed old new =
@@ -72,7 +72,7 @@ EndsAsAsked input Unread (asked.Work task plan paths) status failed old new =
 EndsAsAsked input Unread (asked.Text text n) status failed old new =
     EndsWithText (string_bytes text) n status failed old new
 
--- it does what its words ask for, or ends because memory ran out
+-- the program does what its words ask for, or ends because memory ran out
 abbrev pub DoesAsAsked : Option (List ℕ) → Type 0 → List Text → ℕ → Bool
     → Option (List ℕ) → Option (List ℕ) → Type 0
 DoesAsAsked input Unread words status failed old new =

@@ -1,4 +1,4 @@
--- What a task writes, and with which status the program ends.
+-- What a task writes, and the exit status of the program.
 use Rattle.std.specs.Prelude.{◌≡◌, ◌≢◌, ◌⊎◌, ℕ, List, [], ◌∷◌, length, Option, Result, Ok, Err, MatchResult}
 use Rattle.std.specs.Io.KnownBytes.{Appends, Keeps}
 use Rattle.epx_types.specs.declared.fault.Fault.{Fault}
@@ -20,18 +20,18 @@ use Rattle.epx_tool.specs.declared.ask.Ask.TheVariants as ask
 use Rattle.epx_program.specs.declared.work.FirstText.{FirstText}
 use Rattle.epx_program.specs.declared.work.FirstText.TheVariants as first
 
--- the task that reads this text before its logs
+-- the task that reads this kind of text before its logs
 abbrev pub task_over : FirstText → Task
 task_over first.Base = Resume
 task_over first.List = Check
 
--- a first text and the logs after it; where no text is given the first one is empty
+-- the first of some texts and the logs after it; if there is no text, the first text is empty
 abbrev pub on_first_and_logs : (List ℕ → List (List ℕ) → Type 0) → List (List ℕ) → Type 0
 on_first_and_logs Is [] = Is [] []
 on_first_and_logs Is (text ∷ logs) = Is text logs
 
--- the answer that a task asks for of the texts at its paths: of logs, or of a base or a list and
--- then logs
+-- the answer of a task to the texts at its paths: to logs, or to a base or a list and the logs
+-- after it
 abbrev pub IsTaskAnswer : Task → List (List ℕ) → Result (List ℕ) Fault → Type 0
 IsTaskAnswer Run texts answer = Answers IsReport texts answer
 IsTaskAnswer Order texts answer = Answers (IsViewed ask.Order) texts answer
@@ -41,7 +41,7 @@ IsTaskAnswer Audit texts answer = Answers (IsViewed ask.Audit) texts answer
 IsTaskAnswer Resume texts answer = on_first_and_logs (λ base logs. Resumes base logs answer) texts
 IsTaskAnswer Check texts answer = on_first_and_logs (λ list logs. Checks list logs answer) texts
 
--- the faults of a task, those of devices among them
+-- the faults of a task, with those of devices
 abbrev pub IsTaskFault : Task → List (List ℕ) → Fault → Type 0
 IsTaskFault Run texts fault = IsRunFault IsReport texts fault
 IsTaskFault Order texts fault = IsRunFault (IsViewed ask.Order) texts fault
@@ -53,48 +53,48 @@ IsTaskFault Resume texts fault = on_first_and_logs
 IsTaskFault Check texts fault = on_first_and_logs
     (λ list logs. IsRunFaultWithInput IsBadList IsChecked list logs fault) texts
 
--- the text that the task asks for of these texts is added
+-- the answer of the task to these texts is appended
 abbrev pub AppendsAnswer : Task → List (List ℕ) → Option (List ℕ) → Option (List ℕ) → Type 0
 AppendsAnswer task texts old new =
     (text : List ℕ) × IsTaskAnswer task texts (Ok text) × Appends old new text
 
--- a prefix of it is added
+-- a prefix of the answer is appended
 abbrev pub AppendsPart : Task → List (List ℕ) → Option (List ℕ) → Option (List ℕ) → Type 0
 AppendsPart task texts old new =
     (text : List ℕ) × IsTaskAnswer task texts (Ok text) × AppendsPrefix old new text
 
--- there are so many texts, and the answer to them is added
+-- the answer to some list of this number of texts is appended
 abbrev pub AddsAnswer : Task → ℕ → Option (List ℕ) → Option (List ℕ) → Type 0
 AddsAnswer task count old new =
     (texts : List (List ℕ)) × (length texts ≡ count) × AppendsAnswer task texts old new
 
--- there are so many texts, and a prefix of the answer to them is added
+-- a prefix of the answer to some list of this number of texts is appended
 abbrev pub AddsPart : Task → ℕ → Option (List ℕ) → Option (List ℕ) → Type 0
 AddsPart task count old new =
     (texts : List (List ℕ)) × (length texts ≡ count) × AppendsPart task texts old new
 
--- a task over these texts has this fault: that of the output leaves a prefix of the answer there,
--- and any other leaves the output as it was
+-- the task over these texts has this fault; a fault of the output leaves a prefix of the answer
+-- there, and any other fault leaves the output unchanged
 pub record HasFault (task : Task) (texts : List (List ℕ)) (fault : Fault)
     (old new : Option (List ℕ)) : Type 0 where
   pub named : IsTaskFault task texts fault
   pub part : fault ≡ Write → AppendsPart task texts old new
   pub nothing : fault ≢ Write → Keeps old new
 
--- what a task over these texts comes to
+-- what a task over these texts comes to: the answer is appended, or there is a fault
 abbrev pub ComesTo : {A : Type 0} → Task → List (List ℕ) → Result A Fault
     → Option (List ℕ) → Option (List ℕ) → Type 0
 ComesTo task texts done old new =
     MatchResult done (λ _. AppendsAnswer task texts old new)
     (λ fault. HasFault task texts fault old new)
 
--- 0 where the work is done, and else the status of the fault
+-- 0 if the task succeeded, otherwise the status of the fault
 abbrev pub status_of : {A : Type 0} → Result A Fault → ℕ
 status_of (Ok _) = 0
 status_of (Err fault) = fault_status fault
 
--- the status with which a task over these texts ends: 0 once its answer is added, and else that of
--- a fault
+-- the status with which a task over these texts ends: 0 if its answer is appended, otherwise that
+-- of a fault
 abbrev pub EndsWith : Task → List (List ℕ) → ℕ → Option (List ℕ) → Option (List ℕ) → Type 0
 EndsWith task texts status old new =
     ((status ≡ 0) × AppendsAnswer task texts old new)

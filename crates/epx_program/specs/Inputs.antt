@@ -5,25 +5,25 @@ use Rattle.epx_devices.specs.EitherSources.{told_by}
 use Rattle.epx_devices.specs.WatchedDevices.{WatchedPath}
 use Rattle.epx_devices.specs.declared.either_source.EitherSource.{EitherSource}
 
--- all that is read is the input: no path is given, or a hyphen alone, which stands for it
+-- only the input is read: there are no paths, or the only path is a hyphen, which means the input
 abbrev pub IsInputAlone : Option (List (List ℕ)) → Type 0
 IsInputAlone None = ⊤
 IsInputAlone (Some paths) = paths ≡ codes "-" ∷ []
 
--- the path of a log: that of its file, or a hyphen
+-- the path of a source: that of its file, or a hyphen
 abbrev pub path_of : {F J : Type 0} → EitherSource (WatchedPath F) J → List ℕ
 path_of source = told_by (λ file. file.path) (λ input. codes "-") source
 
--- how many texts are read: one where no path is given, and else one a path
+-- the number of texts that are read: one if there are no paths, otherwise one a path
 abbrev pub how_many : Option (List (List ℕ)) → ℕ
 how_many None = 1
 how_many (Some paths) = length paths
 
--- reads of the source delivered some bytes or none, and the one after them failed
+-- reads of the source delivered some bytes or none, and the next read failed
 abbrev pub HasFailedRead : {S : Type 0} → ReadRelation S → FailRelation S → S → Type 0
 HasFailedRead {S} reads fails source = (last : S) × DeliversThenFails reads fails source last
 
--- this is so of one of these sources
+-- one of these sources has a failed read
 pub record OneHasFailedRead {S : Type 0} (reads : ReadRelation S) (fails : FailRelation S)
     (sources : List S) : Type 0 where
   pub log : ℕ

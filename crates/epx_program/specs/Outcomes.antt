@@ -12,27 +12,27 @@ use Rattle.epx_tool.specs.declared.ask.Ask.TheVariants as ask
 use Rattle.epx_program.specs.Endings.{AddsAnswer, AddsPart, ComesTo}
 use Rattle.epx_program.specs.Inputs.{OneHasFailedRead}
 
--- the task that shows this view
+-- the task that writes this view
 abbrev pub task_showing : Ask → Task
 task_showing ask.Order = Order
 task_showing ask.Levels = Levels
 task_showing ask.Audit = Audit
 task_showing ask.Graph = Graph
 
--- The outcome of a task over these sources, with an output of which `old` and `new` are the
--- contents.
+-- The outcome of a task over these sources. `old` and `new` are the contents of the output.
 pub record Outcome {S A : Type 0} (remaining : S → Option (List ℕ)) (reads : ReadRelation S)
     (fails : FailRelation S) (task : Task) (sources : List S) (done : Result A Fault)
     (is_flushed has_failed : Bool) (old new : Option (List ℕ)) : Type 0 where
-  -- where the bytes of the sources are known, it is what the task asks for of them
+  -- if the bytes of the sources are known, the outcome is that of the task over them
   pub known : (texts : List (List ℕ)) → AreBytesOf remaining sources texts
       → ComesTo task texts done old new
-  -- over any sources, success says that the answer to as many texts is added, and is flushed
+  -- over any sources, success means that the answer to that number of texts is appended and
+  -- flushed
   pub answered : OnOk done (AddsAnswer task (length sources) old new)
   pub flushed : OnOk done (is_flushed ≡ true)
-  -- a failed write leaves a prefix of such an answer, and no other fault leaves anything
+  -- a failed write leaves a prefix of such an answer; any other fault leaves the output unchanged
   pub part : IsErrOf done Write → AddsPart task (length sources) old new
   pub nothing : IfErr done (λ fault. fault ≢ Write → Keeps old new)
-  -- each fault of a device is that of one that failed
+  -- a fault of a device means that a device failed
   pub unread : (log : ℕ) → IsErrOf done (Read log) → OneHasFailedRead reads fails sources
   pub written : IsErrOf done Write ↔ (has_failed ≡ true)

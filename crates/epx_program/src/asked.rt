@@ -10,8 +10,8 @@ use std::alloc::Global;
 use std::env::Args;
 use std::io::{self, ErrorKind};
 
-/// A text for words of which one is no UTF-8. Words that fail in another way failed as memory ran
-/// out.
+/// The text with status 2 for words of which one is not UTF-8. Words that cannot be read for any
+/// other reason are out of memory.
 fn unread(alloc: Global, why: ErrorKind) -> Result<Words, Memory>
     ensures no_text { why ≡ ErrorKind.InvalidData → IfOk result (IsText 2) }
     ensures no_words { why ≢ ErrorKind.InvalidData → IsErrOf result (record {}) }
@@ -23,7 +23,7 @@ fn unread(alloc: Global, why: ErrorKind) -> Result<Words, Memory>
     Ok(Words::Text { text, status: 2 })
 }
 
-/// What the words ask for, or a text in its place where one is no UTF-8.
+/// What the words ask for. If a word is not UTF-8, it is a text with status 2.
 pub(crate) fn asked(alloc: Global, words: io::Result<Args>) -> Result<Words, Memory>
     ensures asked { (texts : _) → AreTakenFor words texts → IfOk result (Asks texts) }
     ensures status { IfOk result (IfText (λ status. (status ≡ 0) ⊎ (status ≡ 2))) }

@@ -8,21 +8,22 @@ use epx_tool::{Sink, write_out};
 use epx_types::Fault;
 use std::io::Eprint;
 
-/// The fault's line on standard error, and its status.
+/// Writes the line of a fault to standard error, and returns the exit status.
 pub(crate) fn end(rt: &impl Eprint, done: Result<(), Fault>) -> u8
     ensures { result ≡ status_of done }
 {
     match done {
         Ok(()) => 0,
         Err(fault) => {
-            // Where standard error takes nothing, the status still tells.
+            // If standard error cannot be written, the status still reports the fault.
             let _told = eprintln!(rt; "{fault}");
             fault.status()
         }
     }
 }
 
-/// A text that was asked for on standard output, and any other on standard error.
+/// Writes a text of status 0 to the output and any other to standard error. Returns the exit
+/// status, which is 4 if the output failed.
 pub(crate) fn end_with_text<R: Eprint, W: Sink>(
     rt: &R,
     text: &str,

@@ -1,4 +1,4 @@
-//! Where the texts come from that the words name: files, and the program's input.
+//! The sources that the paths name: files, and the program's input.
 ghost use Rattle.std.specs.Prelude.{◌≡◌, ◌∷◌, [], All, IfOk, IfSome, None, Some, codes, false, map, string_bytes};
 ghost use Rattle.epx_devices.specs.EitherSources.{told_by};
 ghost use Rattle.epx_devices.specs.declared.either_source.EitherSource.TheVariants as either;
@@ -9,16 +9,16 @@ use epx_devices::{EitherSource, MemorySource, PathSource, Source};
 use std::alloc::{AllocError, Global};
 use std::rt::Files;
 
-/// The path that stands for the input.
+/// The path that means the input.
 const INPUT: &str = "-";
 
-/// The file at a path; or the input, of which nothing is left where it is named again.
+/// A source at a path: a file, the input, or, where the input is named again, an empty source.
 pub(crate) type Input<'a, R, I> = EitherSource<
     PathSource<'a, R>,
     EitherSource<I, MemorySource<'static>>,
 >;
 
-/// What a path stands for. The input is given once.
+/// The source at a path. The first hyphen takes the input.
 fn source_at<'a, R: Files, I: Source>(
     rt: &'a R,
     path: &'a str,
@@ -40,7 +40,7 @@ fn source_at<'a, R: Files, I: Source>(
     }
 }
 
-/// A source for each path. Nothing is opened yet.
+/// A source for each path. No file is opened yet.
 pub(crate) fn sources_at<'a, R: Files, I: Source + Drop>(
     rt: &'a R,
     alloc: Global,

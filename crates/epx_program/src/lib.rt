@@ -1,4 +1,4 @@
-//! What the program `epx` does, apart from being a program: so that each way to call it can be one.
+//! What the program `epx` does, as a library, so that other programs can call it too.
 #![tactic(auto)]
 
 mod asked;

@@ -23,7 +23,7 @@ use std::random::RandomSource;
 use std::rt::Files;
 use std::thread::Threads;
 
-/// Does what the words say, and answers the status that the program is to end with.
+/// Does what the words say, and returns the exit status.
 pub fn act<R, I, W>(rt: &R, words: Words, input: I, output: &mut W) -> u8
 where
     R: AllocGlobal + Eprint + Files + Threads + RandomSource + Sync,
@@ -59,8 +59,8 @@ where
     }
 }
 
-/// Does what the words of the operating system ask for: the answer goes to the output; a fault,
-/// and what is said of words that are refused, to standard error; and the status tells which.
+/// Does what the operating system's words ask for, and returns the exit status. The answer is
+/// written to the output. Faults and the text about refused words are written to standard error.
 pub fn start<R, I, W>(rt: &R, words: io::Result<Args>, input: I, output: &mut W) -> ExitCode
 where
     R: AllocGlobal + Eprint + Files + Threads + RandomSource + Sync,

@@ -1,4 +1,4 @@
-//! The work itself: sources by the paths, and the answer that the task asks for.
+//! Tasks: opens the sources at the paths and writes the answer.
 ghost use Rattle.std.specs.Prelude.{◌≡◌, ◌≢◌, ◌↔◌, ◌⊎◌, ◌+◌, true, false, [], ◌∷◌, All, Some, IfErr, IsErrOf, OnOk, length};
 ghost use Rattle.std.specs.Io.KnownBytes.{Keeps};
 ghost use Rattle.epx_program.specs.Calls.{paths_of};
@@ -18,13 +18,13 @@ use std::thread::Threads;
 /// The text that a task reads before its logs.
 #[derive(Clone, Copy)]
 enum FirstText {
-    /// The base that it goes on from.
+    /// The base that the run resumes from.
     Base,
-    /// The list that it checks.
+    /// The list to check.
     List,
 }
 
-/// Goes on from the first text over the logs, or checks it against them.
+/// Resumes from the first text over the logs, or checks it against them.
 fn answer_with_input<R: Threads + RandomSource + Sync, F: Source, S: Source, W: Sink>(
     rt: &R,
     alloc: Global,
@@ -58,8 +58,8 @@ fn answer_with_input<R: Threads + RandomSource + Sync, F: Source, S: Source, W: 
     }
 }
 
-/// Answers the first source and the others, which are its logs. Where there is none, the first
-/// text is empty.
+/// Writes the answer to a first text and logs. The first source has the text, and the others are
+/// the logs. If there is no source, the text is empty.
 fn answer_from_first<R: Threads + RandomSource + Sync, S: Source, W: Sink>(
     rt: &R,
     alloc: Global,
@@ -101,7 +101,7 @@ fn answer_report<R: Threads + RandomSource + Sync, S: Source, W: Sink>(
     run(rt, alloc, sources, plan, output)
 }
 
-/// Writes the view of the logs that is asked for.
+/// Writes a view of the logs.
 fn answer_view<R: Threads + RandomSource + Sync, S: Source, W: Sink>(
     rt: &R,
     alloc: Global,
@@ -119,7 +119,7 @@ fn answer_view<R: Threads + RandomSource + Sync, S: Source, W: Sink>(
     show(rt, alloc, ask, sources, plan, output)
 }
 
-/// Writes what the task asks for.
+/// Writes the answer that the task asks for.
 fn answer<R: Threads + RandomSource + Sync, S: Source, W: Sink>(
     rt: &R,
     alloc: Global,
@@ -145,8 +145,8 @@ fn answer<R: Threads + RandomSource + Sync, S: Source, W: Sink>(
     }
 }
 
-/// Reads the texts at the paths, of which a hyphen is the input, or the input where no paths are
-/// meant, and answers them.
+/// Reads the texts at the paths, where a hyphen means the input, and writes the answer. If `paths`
+/// is None, it reads the input alone.
 pub(crate) fn work<R: Files + Threads + RandomSource + Sync, I: Source + Drop, W: Sink>(
     rt: &R,
     alloc: Global,

@@ -1,24 +1,27 @@
-//! What tables hash by whose keys come from outside, so that nobody can write keys that all fall together.
+//! A seeded hasher for tables whose keys come from outside, so that nobody can choose keys that
+//! collide.
 #![tactic(auto)]
 
 use std::hash::{BuildHasher, DefaultHasher, Hasher};
 use std::random::RandomSource;
 
-/// Hashes keys after words that were not known when the keys were picked.
+/// A seed for hashing. It is not known when the keys are chosen.
 ///
-/// `DefaultHasher` is SipHash, which was made for this: to whoever does not know what it took in before a key, the
-/// hashes look drawn, so that keys can only be guessed to fall together. The tables' usual hasher begins with a
-/// number that is known, and can be turned back besides.
+/// `DefaultHasher` is SipHash, which is made for this: without the seed its hashes look random, so
+/// nobody can compute keys that collide. The usual hasher of the tables begins with a known number
+/// and can be inverted.
 ///
-/// What a table holds, and in which order, is the same for every seed; only the time rests on it.
+/// What a table holds, and in which order, is the same for every seed. Only the time depends on
+/// it.
 #[derive(Clone, Copy)]
 pub struct Seed {
-    /// A hasher that has taken in the words.
+    /// A hasher to which the seed was written.
     start: DefaultHasher,
 }
 
 impl Seed {
-    /// From a source of random bytes. Where it fails the bytes are zeros: answers do not need them.
+    /// A seed of 16 random bytes of the runtime. If the runtime fails, the bytes are zeros: only
+    /// time depends on them.
     pub fn draw<R: RandomSource>(rt: &R) -> Seed {
         let mut bytes = [0; 16];
         if rt.fill_bytes(&mut bytes).is_err() {
@@ -29,8 +32,8 @@ impl Seed {
         Seed { start }
     }
 
-    /// From a hasher that has taken in all the keys, where there is no source of random bytes: whoever picks
-    /// another key picks another seed by it.
+    /// A seed computed from the keys themselves, where there is no source of random bytes. `keys`
+    /// is a hasher to which all of them were written, so another choice of keys has another seed.
     pub fn after(mut keys: DefaultHasher) -> Seed {
         let first = keys.finish();
         keys.write_u64(first);

@@ -1,4 +1,4 @@
--- What is known of accepted logs.
+-- What follows for accepted logs.
 use Rattle.std.proofs.Common.{◌≡◌, ◌≤◌, ℕ, List, length, Contains, ap, ◌∙◌, subst, arith}
 use Rattle.std.proofs.lemmas.List.{length-map}
 use Rattle.epx_types.specs.declared.id.Id.{Id}
@@ -15,7 +15,7 @@ use Rattle.epx_merge.specs.LogLines.{placed_of}
 use Rattle.epx_merge.specs.Refusals.{AreNamedBy}
 use Rattle.epx_merge.specs.Acceptance.{IsAccepted}
 
--- the instances that lines name are the committed ones
+-- the Ids that lines name are those of the committed instances
 named_are_committed : (lines : List Placed) (m : List Instance) (ids : List Id) → IsCommittedBy lines m → AreNamedBy lines ids → ids ≡ ids_of m
 named_are_committed lines m ids committed named =
     same_rising Below (below_itself id_cmp_total) (below_trans id_cmp_total) ids (ids_of m)

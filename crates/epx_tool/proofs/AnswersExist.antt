@@ -1,4 +1,4 @@
--- Each committed map has a report and its views, and every list of logs an answer.
+-- Every committed map has a report and its views, and every list of logs has an answer.
 use Rattle.std.proofs.Common.{◌≢◌, ℕ, List, Result, Ok, Err, refl, inl, inr}
 use Rattle.std.specs.FinMap as contents
 use Rattle.epx_types.specs.declared.fault.Fault.{Fault}
@@ -57,7 +57,7 @@ module _ (m : List Instance) (rising : IsRising (ids_of m)) where
   view_text_exists Audit = audit_text_exists
   view_text_exists Graph = picture_exists m rising
 
--- where each committed map has a text, every list of logs has an answer
+-- if every committed map has a text, every list of logs has an answer
 pub answer_exists : (Is : List Instance → List ℕ → Type 0) → ((m : List Instance) → IsRising (ids_of m) → (text : List ℕ) × Is m text) → (logs : List (List ℕ)) → (a : Result (List ℕ) Fault) × (a ≢ Err Memory) × Answers Is logs a
 answer_exists Is told logs =
     elim (answered_always logs) [

@@ -1,4 +1,5 @@
--- Logs and a text beside them have an answer, where the text is read in one way or is bad, and what is read of it has a text.
+-- Logs and an extra input have an answer. It is required that the input is bad, or every committed
+-- map has a text for it.
 use Rattle.std.proofs.Common.{◌≢◌, ◌⊎◌, ◌<◌, ℕ, List, length, Result, Ok, Err, inl, inr, arith}
 use Rattle.std.proofs.lemmas.Bool.{cases_lt}
 use Rattle.epx_types.specs.declared.fault.Fault.{Fault}

@@ -1,4 +1,4 @@
--- An answer to texts that are known by other names.
+-- An answer to texts that are equal to given ones.
 use Rattle.std.proofs.Common.{◌≡◌, ℕ, List, Result, subst}
 use Rattle.epx_types.specs.declared.fault.Fault.{Fault}
 

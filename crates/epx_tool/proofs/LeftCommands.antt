@@ -1,4 +1,4 @@
--- The commands of what is left of a map are those that the whole map gives them.
+-- The instances of the remaining map have the same commands as in the whole map.
 use Rattle.std.proofs.Common.{◌≡◌, ◌≤◌, List, [], ◌∷◌, length, Contains, refl, ap₂, subst, inl, inr, arith}
 use Rattle.std.specs.Ordering.{is_eq}
 use Rattle.std.specs.Cmp.{Equal-is}
@@ -15,7 +15,7 @@ use Rattle.epx_tool.specs.Report.{ops_of}
 use Rattle.epx_tool.proofs.OrderedCommands.{commands_by_id}
 
 module _ (done : List Id) where
-  -- no more is left than there was
+  -- the remaining map is not longer than the whole
   pub length-remaining : (m : List Instance) → length (remaining done m) ≤ length m
   length-remaining [] = omega arith
   length-remaining (e ∷ m) =

@@ -1,4 +1,4 @@
--- A list that is said to be lawful is, and over covered logs it executes as the report says.
+-- A list that is reported as lawful is lawful. Over covered logs it executes as the report says.
 use Rattle.std.proofs.Common.{◌≡◌, ℕ, List, [], ◌∷◌, Option, Some, None, Ok, refl, ap₂, subst, inl}
 use Rattle.std.specs.FinMap as contents
 use Rattle.epx_types.specs.declared.id.Id.{Id}
@@ -19,7 +19,7 @@ use Rattle.epx_tool.specs.Checking.{Checks}
 use Rattle.epx_tool.specs.CheckingLaws.{LawfulTextMeansLawful, LawfulListExecutesAlike}
 use Rattle.epx_tool.proofs.OneVerdict.{lawful-from_verdict}
 
--- ---- said to be lawful
+-- ---- reported as lawful
 
 lawful_if_said : (list : List ℕ) (logs : List (List ℕ)) (ids : List Id) (m : List Instance) → IsList list ids → IsAccepted logs m → Checks list logs (Ok lawful_text) → IsLawful m ids
 lawful_if_said list logs ids m is accepted said =

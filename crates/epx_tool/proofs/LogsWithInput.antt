@@ -1,4 +1,5 @@
--- Logs and one text more: which of them is the first that is too long, and which refusal comes first.
+-- Logs and an extra input: which of these texts is the first too long one, and which refusal comes
+-- first.
 use Rattle.std.proofs.Common.{◌≡◌, ◌⊎◌, ◌<◌, ◌≤◌, ◌+◌, ◌++◌, ℕ, zero, suc, List, [], ◌∷◌, length, Some, Option, Result, Ok, Err, MatchResult, IsErrOf, slice_get, refl, sym, ap, ◌∙◌, subst, inl, inr, arith}
 use Rattle.std.proofs.lemmas.Option.{slice_get_within}
 use Rattle.epx_types.specs.declared.fault.Fault.{Fault}
@@ -14,7 +15,7 @@ use Rattle.epx_tool.specs.RunsWithInput.{IsReadingRefusalWithInput, IsRunFaultWi
 use Rattle.epx_tool.specs.Sources.{StopsAt}
 use Rattle.epx_tool.proofs.SourcesRead.{longer}
 
--- ---- where they stand
+-- ---- positions of the texts
 
 log_of_input : (logs : List (List ℕ)) (input bytes : List ℕ) (k : ℕ) → slice_get logs k ≡ Some bytes → slice_get (logs ++ input ∷ []) k ≡ Some bytes
 log_of_input [] input bytes k there = absurd (cc there)
@@ -36,11 +37,11 @@ from_input : (logs : List (List ℕ)) (input bytes : List ℕ) (k : ℕ) → k <
 from_input logs input bytes k l there =
     elim (input_cases logs input bytes k there) [ inl among ↦ among | inr last ↦ absurd (omega (arith, l, last.0)) ]
 
--- the text stands behind all logs
+-- the extra input comes after all logs
 pub not_of_logs : (n : ℕ) (fault : Fault) (log : ℕ) → IsReadingFault n fault → fault ≡ Read log → ¬ log < n
 not_of_logs n fault log of_text named l = let at : log ≡ n = subst (IsReadingFault n) named of_text in omega (arith, at, l)
 
--- ---- the first that is too long
+-- ---- the first text that is too long
 
 module _ (logs : List (List ℕ)) (input : List ℕ) where
   pub first_too_long_before : (log : ℕ) → IsShort input → IsFirstTooLong (logs ++ input ∷ []) log → IsFirstTooLong logs log
@@ -78,14 +79,14 @@ module _ (logs : List (List ℕ)) (input : List ℕ) where
   reading_refusal_with_input Write h = absurd h
   reading_refusal_with_input (BadBase line) h = absurd h
 
-  -- where all logs fit, the text beside them may be the one that can not be read, or is too long
+  -- if all logs fit, the extra input may be the one that cannot be read or is too long
   pub unread_input : Fits logs → IsReadingRefusalWithInput input logs (Read (length logs))
   unread_input fits = (fits.0, omega arith, none_before_input (length logs) (omega arith) (λ k bytes lower there. fits.1 k bytes there))
 
   pub too_long_input : Fits logs → max_log_bytes < length input → IsReadingRefusalWithInput input logs (LogTooLong (length logs))
   too_long_input fits long = (fits.0, last_too_long fits.1 long)
 
-  -- the faults of reading the text, once the logs were read
+  -- the faults of reading the extra input, after the logs are read
   pub refusal_of_reading_with_input : {T : Type 0} (n : ℕ) (later : Option (List ℕ)) (fault : Fault) → n ≡ length logs → Fits logs → IsReadingFault n fault
       → (IsErrOf {T = T} (Err fault) (LogTooLong n) → ConsumesExactly (Some input) later (max_log_bytes + 1)) → IsReadingRefusalWithInput input logs fault
   refusal_of_reading_with_input n later Memory many fits of_text long = tt
@@ -124,7 +125,7 @@ module _ (logs : List (List ℕ)) (input : List ℕ) where
     refusal_of_logs Write short h = (short, h)
     refusal_of_logs (BadBase line) short h = absurd h
 
-    -- what is refused without the text's own lines
+    -- the refusals before the lines of the extra input are read
     pub refusal_before : (fault : Fault) → IsRefusalWithInput (λ _ _. ⊥) input logs fault → IsRefusalWithInput IsBad input logs fault
     refusal_before Memory h = h
     refusal_before TooManyLogs h = h
@@ -136,7 +137,7 @@ module _ (logs : List (List ℕ)) (input : List ℕ) where
     refusal_before Write h = h
     refusal_before (BadBase line) h = absurd h.2
 
-    -- where all fit, no refusal stops the reading
+    -- if all texts fit, no refusal stops the reading
     pub no_stop : {T : Type 0} (fault : Fault) (log : ℕ) → Fits logs → IsShort input → IsRefusalWithInput IsBad input logs fault → ¬ StopsAt {T = T} (Err fault) log
     no_stop fault log fits short h (inl long) =
         let named : fault ≡ LogTooLong log = cc long in

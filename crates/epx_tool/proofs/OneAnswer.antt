@@ -1,4 +1,4 @@
--- Logs fix their answer.
+-- Logs have at most one answer.
 use Rattle.std.proofs.Common.{◌≡◌, ◌≢◌, ℕ, List, Result, Ok, Err, inl, inr, sym, ap, ap₂, ◌∙◌, subst}
 use Rattle.std.specs.FinMap as contents
 use Rattle.epx_types.specs.declared.fault.Fault.{Fault}
@@ -53,7 +53,8 @@ IsViewed-unique Levels = IsLevelText-unique
 IsViewed-unique Audit = IsAuditText-unique
 IsViewed-unique Graph = picture_is_one
 
--- where each committed map has at most one text, logs have at most one answer, running out of memory aside
+-- if each committed map has at most one text, logs have at most one answer, except for out of
+-- memory
 module _ (Is : List Instance → List ℕ → Type 0) (one : (m : List Instance) (text other : List ℕ) → Is m text → Is m other → text ≡ other) where
   pub Answers-unique : (logs : List (List ℕ)) (a b : Result (List ℕ) Fault) → a ≢ Err Memory → b ≢ Err Memory → Answers Is logs a → Answers Is logs b → a ≡ b
   Answers-unique logs (Ok text) (Ok other) s t p q =

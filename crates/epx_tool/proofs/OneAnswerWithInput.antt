@@ -1,4 +1,4 @@
--- Logs and a text beside them fix their answer.
+-- Logs and an extra input have at most one answer.
 use Rattle.std.proofs.Common.{◌≡◌, ◌≢◌, ◌⊎◌, ◌<◌, ◌≤◌, ◌++◌, ℕ, List, [], ◌∷◌, length, Result, Ok, Err, refl, sym, ap, ◌∙◌, subst, inl, inr, arith}
 use Rattle.std.proofs.lemmas.Bool.{cases_lt}
 use Rattle.epx_types.specs.declared.fault.Fault.{Fault}
@@ -12,7 +12,7 @@ use Rattle.epx_tool.specs.WithInput.{IsShort, IsRefusalWithInput, AnswersWithInp
 use Rattle.epx_tool.proofs.LogsWithInput.{first_too_long_before}
 
 module _ (IsBad : List ℕ → ℕ → Type 0) (input : List ℕ) (logs : List (List ℕ)) where
-  -- beside a short text a refusal is that of the logs, or a bad line of the text
+  -- with a short input, a refusal is that of the logs, or a bad line of the input
   abbrev IsShortRefusal : Fault → Type 0
   IsShortRefusal fault = IsRefusal logs fault ⊎ ((line : ℕ) × (fault ≡ BadBase line) × ((m : List Instance) × IsAccepted logs m) × IsBad input line)
 
@@ -27,7 +27,7 @@ module _ (IsBad : List ℕ → ℕ → Type 0) (input : List ℕ) (logs : List (
   short_refusal short Write h = inl h.1
   short_refusal short (BadBase line) h = inr (line, refl, h.1, h.2)
 
-  -- beside a long one it is that of too many logs, or of the first text that is too long
+  -- with an input that is too long, a refusal is too many logs, or the first text that is too long
   abbrev IsLongRefusal : Fault → Type 0
   IsLongRefusal fault = ((fault ≡ TooManyLogs) × (max_logs < length logs)) ⊎ ((log : ℕ) × (fault ≡ LogTooLong log) × (length logs ≤ max_logs) × IsFirstTooLong (logs ++ input ∷ []) log)
 

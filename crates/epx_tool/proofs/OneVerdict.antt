@@ -1,4 +1,4 @@
--- What is found of a list is one text.
+-- A list has only one verdict.
 use Rattle.std.proofs.Common.{◌≡◌, ℕ, List, sym, ap, ◌∙◌, inl, inr}
 use Rattle.json.specs.Print.{escape_byte}
 use Rattle.epx_types.specs.declared.id.Id.{Id}
@@ -9,7 +9,7 @@ use Rattle.epx_order.specs.declared.order_fault.OrderFault.TheVariants.{Memory, 
 use Rattle.epx_order.proofs.OneFault.{fault_is_one, lawful_has_no_fault}
 use Rattle.epx_tool.specs.Verdicts.{lawful_text, fault_text, IsVerdict}
 
--- no fault's text is that of a lawful order
+-- no fault has the text of a lawful order
 lawful_text-apart : (fault : OrderFault) → ¬ (lawful_text ≡ fault_text fault)
 unfolding escape_byte
 lawful_text-apart Memory e = cc e

@@ -1,4 +1,4 @@
--- Lines of an execution order, printed one after another.
+-- The lines of an execution order, appended one by one.
 use Rattle.std.proofs.Common.{◌≡◌, ◌+◌, ◌++◌, ℕ, suc, List, ◌∷◌, flat_map, drop, get_or, Some, slice_get, sym, ap, ◌∙◌, append_assoc, add-one}
 use Rattle.std.proofs.Math.Seq.{drop-cons}
 use Rattle.std.proofs.lemmas.Option.{slice_get_within, get_or_from_slice_get}
@@ -8,7 +8,7 @@ use Rattle.epx_types.proofs.Places.{slice_get-map}
 use Rattle.epx_base.specs.ReportLines.{line_of}
 use Rattle.epx_tool.specs.OrderText.{order_data, order_line}
 
--- the parts of a line, each looked up by its place, are those of one instance
+-- the parts of a line, each looked up by its position, are those of one instance
 pub line_at : (order : List Ranked) (k : ℕ) (ids : List Id) (d : Id) (depth : ℕ) (leader : Id) → ids ≡ ranked_ids order
     → (s : (r : Ranked) × (slice_get order k ≡ Some r) × (r.depth ≡ depth)) → (r : Ranked) × (slice_get order k ≡ Some r) × (r.leader ≡ leader)
     → line_of (order_data (get_or ids k d) depth leader) ≡ order_line s.0

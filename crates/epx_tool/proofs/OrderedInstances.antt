@@ -20,7 +20,7 @@ same_id x y = (
   λ e. ap (λ z. is_eq (id_cmp x z)) (sym e) ∙ ap is_eq (tied_itself id_cmp_total x),
 )
 
--- distinct Ids, each of the list, are no more than it has
+-- a list of distinct Ids that are all in another list is not longer than that list
 pub fewer : (xs ys : List Id) → AllPairs (λ x y. x ≢ y) xs → ((x : Id) → Contains xs x → Contains ys x) → length xs ≤ length ys
 fewer xs ys once within =
     length-le_from_is_member (eq_by_cmp_equiv id_cmp_total) xs ys (IsDistinct-from_AllPairs same_id xs once)

@@ -58,7 +58,7 @@ each_holds P (x ∷ xs) h =
 
 -- ---- the instances of accepted logs
 
--- a line's instance, where it means one, is within the limits
+-- the instance of a line, if it has one, is within the limits
 CommitsFitting : MeaningAt → Type 0
 CommitsFitting l = (p : Placed) → Contains (placed_at l.place l.meaning) p → FitsInstance p.instance
 

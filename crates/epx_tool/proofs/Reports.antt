@@ -1,4 +1,4 @@
--- The report, the order and the levels of a committed map, from what the layers below answer.
+-- The report, the order and the levels of a committed map, from the results of the lower layers.
 use Rattle.std.proofs.Common.{◌≡◌, ◌≤◌, ◌^◌, ℕ, List, [], Option, Some, None, MatchOption, inl, inr, map, length, sym, ap, ap₂, ◌∙◌, subst, arith, Contains}
 use Rattle.std.specs.FinMap as contents
 use Rattle.std.proofs.lemmas.List.{length-map}

@@ -1,4 +1,4 @@
--- A report is a base of what it leaves.
+-- A report is a base of the instances done after it and of its final store.
 use Rattle.std.proofs.Common.{◌≡◌, ◌≢◌, ◌⊎◌, ◌↔◌, ◌++◌, ℕ, List, [], ◌∷◌, length, zip, flat_map, Contains, AllPairs, refl, sym, ap, ◌∙◌, subst, arith}
 use Rattle.std.specs.FinMap as contents
 use Rattle.std.proofs.lemmas.List.{length-map}
@@ -39,7 +39,7 @@ after_nothing m text p =
 pub report_is_after_nothing : ReportIsAfterNothing
 report_is_after_nothing m text = (after_nothing m text, IsReport-after_nothing m text)
 
--- as many replies as instances
+-- there are as many replies as instances
 replied_ids-zip : (ids : List Id) (replies : List Reply) → length replies ≡ length ids → replied_ids (zip ids replies) ≡ ids
 replied_ids-zip [] replies many = refl
 replied_ids-zip (x ∷ ids) [] many = absurd (omega (arith, many))
@@ -67,7 +67,7 @@ module _ (done : List Id) (stored : Contents) (m : List Instance) (text : List �
   text_is = p.printed ∙ ap (λ n. header_line n (length p.waiting) (component_count p.order)
       ++ (flat_map done_line done ++ (flat_map reply_line written.replies ++ (flat_map waiting_line p.waiting ++ flat_map store_line (contents.entries run.final))))) (sym count)
 
-  -- what waits is neither done nor executed
+  -- an instance that waits is neither done nor executed
   waits_still : (x : Id) → Contains (waiting_ids p.waiting) x → (¬ Contains done x) × (¬ Contains (replied_ids written.replies) x)
   waits_still x h =
       let w = Contains-from_map (λ (w : Waiting). w.id) p.waiting x h in

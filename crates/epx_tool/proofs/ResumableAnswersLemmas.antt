@@ -1,4 +1,4 @@
--- Each answer is a base, and going on from sound bases leads where the whole leads.
+-- Each answer is a base, and resumed runs have the replies and the store of the whole.
 use Rattle.std.proofs.Common.{◌≡◌, ◌⊎◌, ◌↔◌, ℕ, zero, suc, List, [], ◌∷◌, Contains, Some, slice_get, zip, inl, inr, sym, ap, ap₂, ◌∙◌, subst}
 use Rattle.std.specs.FinMap as contents
 use Rattle.epx_types.specs.declared.id.Id.{Id}
@@ -61,7 +61,7 @@ answer_is_base logs text answer m accepted =
     subst (λ (m : List Instance). LeavesBase [] contents.empty m text) same
     (report_leaves logs answer.0 answer.1 [] contents.empty none tt text report)
 
--- a base says one thing
+-- a base has only one list of done instances and one store
 base_is_one : (bytes : List ℕ) (done other : List Id) (stored held : Contents)
     → IsBase bytes done stored → IsBase bytes other held → (done ≡ other) × (stored ≡ held)
 base_is_one bytes done other stored held p q =
@@ -86,7 +86,7 @@ resumption_is_base base logs text resumed done stored is m accepted =
     report_leaves logs m accepted done stored (base_fits base done stored is)
     (base_done_rise base done stored is) text report
 
--- ---- what an answer leaves is sound
+-- ---- the base that an answer leaves is sound
 
 left_is_sound : (m : List Instance) → IsRising (ids_of m) → (done : List Id) (stored : Contents)
     → IsSound m done stored → (rest : List Instance) → HasWhatIsLeft m done rest
@@ -113,7 +113,7 @@ resumed_report_is_sound m base logs text g resumed =
     let left = resumption_is_base base logs text resumed b.done b.stored b.base g.rest g.accepted in
     left_is_sound m g.rising b.done b.stored b.sound g.rest g.has text left
 
--- ---- where going on leads
+-- ---- the replies and the final store of resumed runs
 
 in_zip : {A B : Type 0} (xs : List A) (ys : List B) (p : A × B) → Contains (zip xs ys) p
     → (i : ℕ) × (slice_get xs i ≡ Some p.0) × (slice_get ys i ≡ Some p.1)

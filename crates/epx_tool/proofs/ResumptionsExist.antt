@@ -1,4 +1,4 @@
--- A base and logs have an answer, and one alone.
+-- A base and logs have exactly one answer.
 use Rattle.std.proofs.Common.{◌≡◌, ◌⊎◌, ℕ, List, refl, sym, ap₂, ◌∙◌, subst, inl, inr}
 use Rattle.epx_types.specs.declared.id.Id.{Id}
 use Rattle.epx_types.specs.Contents.{Contents}

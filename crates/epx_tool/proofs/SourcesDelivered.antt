@@ -1,4 +1,4 @@
--- What sources that are read one after another delivered.
+-- What the sources delivered that are read one after another.
 use Rattle.std.proofs.Common.{◌≡◌, ◌++◌, ◌<◌, ◌≤◌, ℕ, zero, suc, Bool, List, [], ◌∷◌, length, get_or, set, All, Option, Some, ap, ◌∙◌, subst, inr, arith}
 use Rattle.std.proofs.lemmas.List.{length-set, get_or-set_same}
 use Rattle.std.proofs.lemmas.Option.{slice_get_within, slice_get-get_or, get_or_from_slice_get}
@@ -32,7 +32,7 @@ module _ {S : Type 0} (reads : ReadRelation S) where
       let rest = one_more_delivered first now read n d later log in
       (h.0, rest (omega arith) (omega arith) (omega arith) h.1 all)
 
-  -- reading one more source changes none that was read
+  -- reading one more source does not change those read already
   pub still_delivered : (first now : List S) (read : List (List ℕ)) (n : ℕ) (later : S)
       → length read ≤ n → FirstDeliver reads first now read
       → FirstDeliver reads first (set now n later) read
@@ -49,7 +49,7 @@ none_too_long read h k bytes there =
     let here = get_or_from_slice_get read k bytes bytes there in
     subst (λ b. length b ≤ max_log_bytes) here (h k bytes (slice_get_within read k bytes there))
 
--- reading the source of number n stopped with this fault
+-- reading source number n stopped with this fault
 module _ {S : Type 0} (remaining : S → Option (List ℕ)) (reads : ReadRelation S)
     (fails : FailRelation S) (has_failed : S → Bool) (first now : List S) (n : ℕ)
     (logs : List (List ℕ)) where

@@ -16,7 +16,7 @@ use Rattle.epx_tool.specs.Runs.{AreBytesOf, NoneTooLongBefore, IsReadingRefusal}
 use Rattle.epx_tool.specs.Sources.{EachConsumesUpTo}
 use Rattle.epx_tool.proofs.SourcesTaken.{none_consumed, one_consumed}
 
--- the first n sources are read, and gave these bytes
+-- the first n sources are read, and delivered these bytes
 pub record HaveBeenRead {S : Type 0} (remaining : S → Option (List ℕ)) (has_failed : S → Bool) (first now : List S) (n : ℕ) (read : List (List ℕ)) : Type 0 where
   pub as_many : length now ≡ length first
   pub within : n ≤ length first
@@ -28,7 +28,7 @@ pub record HaveBeenRead {S : Type 0} (remaining : S → Option (List ℕ)) (has_
   pub taken : EachConsumesUpTo remaining first now (max_log_bytes + 1)
   pub ended : All (λ s. IsAtEnd (remaining s)) (take n now)
 
--- bytes that begin with others are as many at least
+-- bytes that begin with other bytes are at least as many
 pub longer : (later : Option (List ℕ)) (bytes start : List ℕ) → Consumes (Some bytes) later start → length start ≤ length bytes
 longer None bytes start h = absurd h
 longer (Some rest) bytes start h = omega (arith, ap length h, length-append start rest)
@@ -61,13 +61,13 @@ module _ {S : Type 0} (remaining : S → Option (List ℕ)) (has_failed : S → 
   fault_in (Ok x) = Memory
   fault_in (Err f) = f
 
-  -- what was read has not failed
+  -- a source that was read has not failed
   pub read_well : {T : Type 0} (failed : Bool) (x : T) (log : ℕ) → IsErrOf {T = T} (Ok x) (Read log) ↔ (failed ≡ true) → failed ≡ false
   read_well true x log h = absurd (cc (h.1 refl))
   read_well false x log h = refl
 
   module _ (first now : List S) (n : ℕ) (read : List (List ℕ)) (h : HaveBeenRead remaining has_failed first now n read) where
-    -- the next source is as it was at first
+    -- the next source is unchanged
     pub same_next : (d : S) → get_or now n d ≡ get_or first n d
     same_next d =
         let none : n + 0 ≡ n = omega arith in
@@ -76,7 +76,7 @@ module _ {S : Type 0} (remaining : S → Option (List ℕ)) (has_failed : S → 
     next_source : n < length first → (d : S) → slice_get first n ≡ Some (get_or now n d)
     next_source l d = slice_get-get_or first n d l ∙ ap Some (sym (same_next d))
 
-    -- those after it too
+    -- the sources after it are unchanged too
     pub rest_after : (later : S) → drop (n + 1) (set now n later) ≡ drop (n + 1) first
     rest_after later = drop-set-lt (n + 1) now n later (omega arith) ∙ drop_more_same now first n h.rest
 
@@ -132,18 +132,18 @@ module _ {S : Type 0} (remaining : S → Option (List ℕ)) (has_failed : S → 
     reading_refusal l few d later Write of_log long logs e = absurd of_log
     reading_refusal l few d later (BadBase line) of_log long logs e = absurd of_log
 
-    -- logs that were all read fit
+    -- logs that were all read are within the limits
     pub all_fit : length first ≤ n → length first ≤ max_logs → Fits read
     all_fit all few = (
       omega (arith, few, h.count, h.within),
       λ k bytes there. subst (λ b. length b ≤ max_log_bytes) (get_or_from_slice_get read k bytes bytes there) (h.short k bytes (slice_get_within read k bytes there)),
     )
 
-    -- one for each source
+    -- there is one log for each source
     pub each_read : length first ≤ n → length read ≡ length first
     each_read all = omega (arith, all, h.count, h.within)
 
-    -- and their sources are at their ends
+    -- all sources are at their ends
     pub all_ended : length first ≤ n → All (λ s. IsAtEnd (remaining s)) now
     all_ended all = subst (All (λ s. IsAtEnd (remaining s))) (take_all n now (omega (arith, all, h.as_many))) h.ended
 
@@ -161,7 +161,7 @@ module _ {S : Type 0} (remaining : S → Option (List ℕ)) (has_failed : S → 
       λ bad. absurd (cc (well, bad)),
     )
 
-    -- the source that failed is the one that is named
+    -- the fault names the source that failed
     pub one_failed : {T V : Type 0} → n < length first → (later : S) (f : Fault) → IsReadingFault n f → IsErrOf {T = T} (Err f) (Read n) ↔ (has_failed later ≡ true)
         → (k : ℕ) (s : S) → slice_get (set now n later) k ≡ Some s → IsErrOf {T = V} (Err f) (Read k) ↔ (has_failed s ≡ true)
     unfolding fault_in

@@ -1,4 +1,4 @@
--- What is taken of sources, place by place.
+-- How many bytes are taken from each source.
 use Rattle.std.proofs.Common.{ℕ, zero, suc, List, [], ◌∷◌, get_or, set, Option, None, Some, refl, arith}
 use Rattle.epx_devices.specs.Transfers.{ConsumesUpTo}
 use Rattle.epx_tool.specs.Sources.{EachConsumesUpTo}

@@ -6,7 +6,7 @@ use Rattle.epx_merge.specs.Refusals.{IsRefusal}
 use Rattle.epx_merge.specs.Acceptance.{IsAccepted}
 use Rattle.epx_tool.specs.Report.{IsReport}
 
--- the answer, where Is says which text answers a committed map
+-- the answer; Is says which text answers a committed map
 abbrev pub Answers : (List Instance → List ℕ → Type 0) → List (List ℕ) → Result (List ℕ) Fault
     → Type 0
 Answers Is logs (Ok text) = (m : List Instance) × IsAccepted logs m × Is m text

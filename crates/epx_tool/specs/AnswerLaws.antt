@@ -17,48 +17,48 @@ use Rattle.epx_tool.specs.Answer.{Answers, IsAnswer}
 abbrev pub ReportExists : Type 0
 ReportExists = (m : List Instance) → IsRising (ids_of m) → (text : List ℕ) × IsReport m text
 
--- a committed map has a text of its execution order, one of its conflict levels, one of whether it
--- is covered, and a picture
+-- a committed map has a text of its execution order, a text of its conflict levels, a text of its
+-- audit, and a picture
 abbrev pub ViewTextExists : Type 0
 ViewTextExists = (ask : Ask) (m : List Instance) → IsRising (ids_of m) → (text : List ℕ)
     × IsViewed ask m text
 
--- a committed map has one report
+-- a committed map has at most one report
 abbrev pub ReportIsOne : Type 0
 ReportIsOne = (m : List Instance) (text other : List ℕ) → IsReport m text → IsReport m other
     → text ≡ other
 
--- a committed map has one text of its execution order
+-- a committed map has at most one text of its execution order
 abbrev pub OrderTextIsOne : Type 0
 OrderTextIsOne = (m : List Instance) (text other : List ℕ) → IsOrderText m text
     → IsOrderText m other → text ≡ other
 
--- a committed map has one text of its conflict levels
+-- a committed map has at most one text of its conflict levels
 abbrev pub LevelTextIsOne : Type 0
 LevelTextIsOne = (m : List Instance) (text other : List ℕ) → IsLevelText m text
     → IsLevelText m other → text ≡ other
 
--- a committed map has one text of whether it is covered
+-- a committed map has at most one text of its audit
 abbrev pub AuditTextIsOne : Type 0
 AuditTextIsOne = (m : List Instance) (text other : List ℕ) → IsAuditText m text
     → IsAuditText m other → text ≡ other
 
--- every list of logs has an answer other than running out of memory
+-- every list of logs has an answer other than out of memory
 abbrev pub AnswerExists : Type 0
 AnswerExists = (logs : List (List ℕ)) → (a : Result (List ℕ) Fault) × (a ≢ Err Memory)
     × IsAnswer logs a
 
--- and one that shows what is asked for
+-- every list of logs has an answer to each view other than out of memory
 abbrev pub ViewExists : Type 0
 ViewExists = (ask : Ask) (logs : List (List ℕ)) → (a : Result (List ℕ) Fault) × (a ≢ Err Memory)
     × Answers (IsViewed ask) logs a
 
--- logs have one answer, running out of memory aside
+-- logs have at most one answer, except for out of memory
 abbrev pub AnswerIsOne : Type 0
 AnswerIsOne = (logs : List (List ℕ)) (a b : Result (List ℕ) Fault) → a ≢ Err Memory
     → b ≢ Err Memory → IsAnswer logs a → IsAnswer logs b → a ≡ b
 
--- and one that shows what is asked for
+-- logs have at most one answer to each view, except for out of memory
 abbrev pub ViewIsOne : Type 0
 ViewIsOne = (ask : Ask) (logs : List (List ℕ)) (a b : Result (List ℕ) Fault) → a ≢ Err Memory
     → b ≢ Err Memory → Answers (IsViewed ask) logs a → Answers (IsViewed ask) logs b → a ≡ b

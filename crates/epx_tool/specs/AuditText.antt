@@ -1,4 +1,4 @@
--- Whether a committed map is covered, as bytes.
+-- The text of an audit: whether a committed map is covered.
 use Rattle.std.specs.Prelude.{◌≡◌, ◌⊎◌, ℕ, List, [], ◌∷◌, codes}
 use Rattle.serde_json.specs.Data.{Data, string}
 use Rattle.epx_types.specs.declared.id.Id.{Id}
@@ -21,7 +21,7 @@ covered_line = line_of covered_data
 abbrev pub uncovered_line : Id → Id → List ℕ
 uncovered_line x y = line_of (uncovered_data x y)
 
--- one line: that the map is covered, or the least two instances that are not
+-- one line: the map is covered, or the least two instances that are not
 abbrev pub IsAuditText : List Instance → List ℕ → Type 0
 IsAuditText m text = (IsCovered m × (text ≡ covered_line))
     ⊎ ((x y : Id) × IsLeastUncovered m x y × (text ≡ uncovered_line x y))

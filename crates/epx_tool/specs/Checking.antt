@@ -7,10 +7,10 @@ use Rattle.epx_base.specs.Lists.{IsList, IsBadList}
 use Rattle.epx_tool.specs.WithInput.{AnswersWithInput}
 use Rattle.epx_tool.specs.Verdicts.{IsVerdict}
 
--- what is found of the instances that the list names
+-- the verdict on the instances that the list names
 abbrev pub IsChecked : List ℕ → List Instance → List ℕ → Type 0
 IsChecked list m text = (ids : List Id) × IsList list ids × IsVerdict m ids text
 
--- that text, or the first refusal
+-- the verdict, or the first refusal
 abbrev pub Checks : List ℕ → List (List ℕ) → Result (List ℕ) Fault → Type 0
 Checks = AnswersWithInput IsBadList IsChecked

@@ -1,5 +1,5 @@
--- How a run ends, by what its sources delivered in it, whether or not their bytes were known
--- before.
+-- How a run ends, by what its sources delivered in it. The bytes of the sources need not be known
+-- before the run.
 use Rattle.std.specs.Prelude.{◌≡◌, ◌⊎◌, ℕ, ◌<◌, List, [], ◌∷◌, length, slice_get, Some, Ok}
 use Rattle.epx_types.specs.declared.fault.Fault.{Fault}
 use Rattle.epx_types.specs.declared.fault.Fault.TheVariants.{Memory, TooManyLogs}
@@ -11,7 +11,7 @@ use Rattle.epx_tool.specs.Answer.{Answers}
 
 -- ---- the logs that were delivered
 
--- the first sources delivered these logs, one each and whole
+-- the first sources delivered these logs, one whole log each
 abbrev pub FirstDeliver : {S : Type 0} → ReadRelation S
     → List S → List S → List (List ℕ) → Type 0
 FirstDeliver reads old new [] = Unit {0}
@@ -19,7 +19,7 @@ FirstDeliver reads (s ∷ old) (t ∷ new) (log ∷ logs) =
     DeliversAll reads s t log × FirstDeliver reads old new logs
 FirstDeliver reads _ _ (log ∷ logs) = ⊥
 
--- the sources delivered these logs, one each and whole
+-- the sources delivered these logs, one whole log each
 pub record EachDelivers {S : Type 0} (reads : ReadRelation S)
     (old new : List S) (logs : List (List ℕ)) : Type 0 where
   pub as_many : length logs ≡ length old
@@ -27,7 +27,7 @@ pub record EachDelivers {S : Type 0} (reads : ReadRelation S)
 
 -- ---- why reading stopped
 
--- the sources before that of this log delivered a log each, none of them too long
+-- the sources before this log's source delivered a log each, none of them too long
 pub record DeliveredBefore {S : Type 0} (reads : ReadRelation S)
     (old new : List S) (log : ℕ) : Type 0 where
   pub within : log < length old
@@ -47,7 +47,7 @@ pub record StopsAtSource {S : Type 0} (reads : ReadRelation S) (fails : FailRela
   pub is : slice_get new log ≡ Some last
   pub stopped : StopsLog reads fails log first last fault
 
--- the faults that no source is the reason of: there was no memory, or there are too many sources
+-- the faults without a source: out of memory, and too many sources
 abbrev pub IsOfNoSource : ℕ → Fault → Type 0
 IsOfNoSource count Memory = Unit {0}
 IsOfNoSource count TooManyLogs = max_logs < count
@@ -61,7 +61,7 @@ StopsReading reads fails old new fault =
 
 -- ---- how a run ends
 
--- there is an answer to the logs that the sources delivered, and it was written so
+-- the logs that the sources delivered have an answer, and it was written as `Written` says
 pub record AnswersDelivered {S : Type 0} (reads : ReadRelation S)
     (Is : List Instance → List ℕ → Type 0) (old new : List S)
     (Written : List ℕ → Type 0) : Type 0 where
@@ -71,14 +71,14 @@ pub record AnswersDelivered {S : Type 0} (reads : ReadRelation S)
   pub answer : Answers Is logs (Ok text)
   pub written : Written text
 
--- the sources delivered logs, of which this is the refusal
+-- the sources delivered logs, and the fault is the refusal of these logs
 pub record RefusesDelivered {S : Type 0} (reads : ReadRelation S)
     (old new : List S) (fault : Fault) : Type 0 where
   pub logs : List (List ℕ)
   pub delivered : EachDelivers reads old new logs
   pub refusal : IsRefusal logs fault
 
--- a run ends with this fault: reading stopped with it, or the logs that were delivered have it
+-- a run ends with this fault: reading stopped with it, or it is the refusal of the delivered logs
 abbrev pub EndsWithout : {S : Type 0} → ReadRelation S → FailRelation S
     → List S → List S → Fault → Type 0
 EndsWithout reads fails old new fault =

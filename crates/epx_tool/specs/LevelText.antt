@@ -1,4 +1,4 @@
--- The conflict levels of a run, as bytes.
+-- The text of the conflict levels.
 use Rattle.std.specs.Prelude.{◌≡◌, ℕ, List, [], ◌∷◌, ◌++◌, length, flat_map, zip, codes}
 use Rattle.serde_json.specs.Data.{Data, string}
 use Rattle.epx_types.specs.declared.id.Id.{Id}

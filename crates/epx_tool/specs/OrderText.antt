@@ -1,4 +1,4 @@
--- The execution order of a run, as bytes.
+-- The text of the execution order.
 use Rattle.std.specs.Prelude.{◌≡◌, ℕ, List, [], ◌∷◌, ◌++◌, length, flat_map, codes}
 use Rattle.serde_json.specs.Data.{Data, string}
 use Rattle.epx_types.specs.declared.id.Id.{Id}

@@ -1,4 +1,4 @@
--- The report of a run, as bytes.
+-- The text of a report.
 use Rattle.std.specs.Prelude.{◌≡◌, ℕ, List, [], ◌++◌, map, length, flat_map, zip, Option, Some, None}
 use Rattle.std.specs.FinMap as contents
 use Rattle.epx_types.specs.declared.op.Op.{Op}
@@ -17,7 +17,7 @@ ops_of (Some e) = e.ops
 abbrev pub commands_of : List Instance → List Ranked → List (List Op)
 commands_of m order = map (λ r. ops_of (instance_of m r.id)) order
 
--- the header, the replies in execution order, the instances that wait, and the store by byte order
+-- the header, the replies in execution order, the instances that wait, and the store, by the bytes
 -- of its keys
 abbrev pub report_text : List Ranked → List Waiting → Execution → List ℕ
 report_text order waiting run =
@@ -26,8 +26,7 @@ report_text order waiting run =
     ++ (flat_map waiting_line waiting
     ++ flat_map store_line (contents.entries run.final)))
 
--- one thread executes the ready commands one after another in the execution order, from the empty
--- store
+-- a single thread executes the ready commands one by one in execution order, from the empty store
 pub record IsReport (m : List Instance) (text : List ℕ) : Type 0 where
   pub order : List Ranked
   pub waiting : List Waiting

@@ -1,4 +1,4 @@
--- An answer is a base to go on from, and going on leads where a run over everything leads.
+-- Each answer is a base. Resumed runs have the same replies and store as one run over everything.
 use Rattle.std.specs.Prelude.{◌⊎◌, ◌↔◌, ℕ, List, [], Contains, zip, Ok}
 use Rattle.std.specs.FinMap as contents
 use Rattle.epx_types.specs.declared.id.Id.{Id}
@@ -23,13 +23,13 @@ use Rattle.epx_tool.specs.ResumptionLaws.{run_in}
 
 -- ---- each answer is a base
 
--- the instances that were done before or are executed now, each once, by rising Id
+-- the instances that were done before or are executed now, each once, by increasing Id
 pub record AreDoneInAll (done executed now : List Id) : Type 0 where
   pub rising : IsRising now
   pub each : (x : Id) → Contains now x ↔ Contains done x ⊎ Contains executed x
 
--- The text is a base: of the instances that were done before or are executed now, in the execution
--- order of what remained, and of what executing them left.
+-- The text is a base. Its done instances were done before or are executed now, in the execution
+-- order of the remaining map. Its store is what the execution leaves.
 pub record LeavesBase (done : List Id) (stored : Contents) (m : List Instance)
     (text : List ℕ) : Type 0 where
   pub order : List Ranked
@@ -38,12 +38,12 @@ pub record LeavesBase (done : List Id) (stored : Contents) (m : List Instance)
   pub done_now : AreDoneInAll done (ranked_ids order) now
   pub base : IsBase text now (execute (commands_of (remaining done m) order) stored).final
 
--- what is answered to logs is a base
+-- the answer to logs is a base
 abbrev pub AnswerIsBase : Type 0
 AnswerIsBase = (logs : List (List ℕ)) (text : List ℕ) → IsAnswer logs (Ok text)
     → (m : List Instance) → IsAccepted logs m → LeavesBase [] contents.empty m text
 
--- and so is what is answered to a base and logs
+-- the answer to a base and logs is a base
 abbrev pub ResumptionIsBase : Type 0
 ResumptionIsBase = (base : List ℕ) (logs : List (List ℕ)) (text : List ℕ)
     → Resumes base logs (Ok text) → (done : List Id) (stored : Contents) → IsBase base done stored
@@ -51,21 +51,21 @@ ResumptionIsBase = (base : List ℕ) (logs : List (List ℕ)) (text : List ℕ)
 
 -- ---- bases that are sound for a map
 
--- the text is a base of instances that m executes, and of what executing them leaves
+-- the text is a base that is sound for the map
 pub record IsSoundBase (m : List Instance) (text : List ℕ) : Type 0 where
   pub done : List Id
   pub stored : Contents
   pub base : IsBase text done stored
   pub sound : IsSound m done stored
 
--- the report of a part of a map is a base that is sound for the whole
+-- the report of a part of a map is a base that is sound for the whole map
 abbrev pub ReportOfAPartIsSound : Type 0
 ReportOfAPartIsSound = (m : List Instance) → IsRising (ids_of m) → (logs : List (List ℕ))
     → (part : List Instance) → IsAccepted logs part
     → ((e : Instance) → Contains part e → Contains m e)
     → (text : List ℕ) → IsAnswer logs (Ok text) → IsSoundBase m text
 
--- the base is sound for m, and each instance of the logs that is not done in it is one of m
+-- the base is sound for m, and the logs commit only instances of m and instances done in the base
 pub record GoesOn (m : List Instance) (base : List ℕ) (logs : List (List ℕ)) : Type 0 where
   pub rising : IsRising (ids_of m)
   pub before : IsSoundBase m base
@@ -73,19 +73,20 @@ pub record GoesOn (m : List Instance) (base : List ℕ) (logs : List (List ℕ))
   pub accepted : IsAccepted logs rest
   pub has : HasWhatIsLeft m before.done rest
 
--- going on from a base that is sound for a map gives a base that is sound for it
+-- resuming from a base that is sound for a map has a base as its report that is sound for the same
+-- map
 abbrev pub ResumedReportIsSound : Type 0
 ResumedReportIsSound = (m : List Instance) (base : List ℕ) (logs : List (List ℕ)) (text : List ℕ)
     → GoesOn m base logs → Resumes base logs (Ok text) → IsSoundBase m text
 
--- ---- where going on leads
+-- ---- the replies and the final store of resumed runs
 
 -- the replies of a report
 abbrev pub replies_in : (m : List Instance) (text : List ℕ) → IsReport m text → List (Id × Reply)
 replies_in m text p =
     zip (ranked_ids p.order) (execute (commands_of m p.order) contents.empty).replies
 
--- the replies of a report that goes on from a base
+-- the replies of a report that resumes from a base
 abbrev pub replies_after : (done : List Id) (stored : Contents) (m : List Instance) (text : List ℕ)
     → IsReportAfter done stored m text → List (Id × Reply)
 replies_after done stored m text p =
@@ -99,14 +100,15 @@ pub record RepliesAsTheWhole (m : List Instance) (base : List ℕ) (logs : List 
       → Contains (replies_after g.before.done g.before.stored g.rest text report) r
       → Contains (replies_in m whole q) r
 
--- over covered logs, each reply of a run that goes on is the one in the report of the whole
+-- over covered logs, each reply of a resumed run is the reply in the report of the whole
 abbrev pub ResumedReportRepeatsTheWhole : Type 0
 ResumedReportRepeatsTheWhole =
     (m : List Instance) (base : List ℕ) (logs : List (List ℕ)) (g : GoesOn m base logs)
     → IsCovered m → (text : List ℕ) → Resumes base logs (Ok text)
     → (whole : List ℕ) (q : IsReport m whole) → RepliesAsTheWhole m base logs g text whole q
 
--- a sound base that has all ready instances of covered logs done says what their report says
+-- if all ready instances of covered logs are done in a sound base, the report of the logs is a
+-- base too, with the same done instances and store
 abbrev pub LastReportIsTheWhole : Type 0
 LastReportIsTheWhole = (logs : List (List ℕ)) (m : List Instance) → IsAccepted logs m → IsCovered m
     → (text : List ℕ) (b : IsSoundBase m text) → ((x : Id) → IsReady m x → Contains b.done x)

@@ -1,4 +1,4 @@
--- The report of what is left of a committed map once some instances are done, as bytes.
+-- The text of a resumed report: of a committed map of which some instances are done.
 use Rattle.std.specs.Prelude.{◌≡◌, ℕ, List, ◌++◌, length, flat_map, zip}
 use Rattle.std.specs.FinMap as contents
 use Rattle.epx_types.specs.declared.id.Id.{Id}
@@ -11,8 +11,8 @@ use Rattle.epx_types.specs.WaitingLists.{Waiting, IsWaitingList}
 use Rattle.epx_base.specs.ReportLines.{header_line, done_line, reply_line, waiting_line, store_line}
 use Rattle.epx_tool.specs.Report.{commands_of}
 
--- the header, the instances that were done before, the replies in execution order, the instances
--- that wait, and the store by byte order of its keys
+-- the header, the done instances, the replies in execution order, the instances that wait, and the
+-- store, by the bytes of its keys
 abbrev pub resumed_text : List Id → List Ranked → List Waiting → Execution → List ℕ
 resumed_text done order waiting run =
     header_line (length order) (length waiting) (component_count order)
@@ -21,8 +21,8 @@ resumed_text done order waiting run =
     ++ (flat_map waiting_line waiting
     ++ flat_map store_line (contents.entries run.final))))
 
--- one thread executes the ready commands of what is left, one after another in its execution
--- order, from what is stored
+-- a single thread executes the ready commands of the remaining map one by one in execution order,
+-- from the stored contents
 pub record IsReportAfter (done : List Id) (stored : Contents) (m : List Instance)
     (text : List ℕ) : Type 0 where
   pub order : List Ranked

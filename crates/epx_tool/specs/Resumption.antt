@@ -1,4 +1,4 @@
--- Going on from a base: the answer to a base and logs.
+-- Resuming from a base: the answer to a base and logs.
 use Rattle.std.specs.Prelude.{ℕ, List, Result}
 use Rattle.epx_types.specs.declared.id.Id.{Id}
 use Rattle.epx_types.specs.declared.fault.Fault.{Fault}
@@ -8,7 +8,7 @@ use Rattle.epx_base.specs.Bases.{IsBase, IsBadBase}
 use Rattle.epx_tool.specs.ResumedReport.{IsReportAfter}
 use Rattle.epx_tool.specs.WithInput.{AnswersWithInput}
 
--- the report of what is left once what the base says is done, from what it says is stored
+-- the report after the instances of the base are done, from the store of the base
 abbrev pub IsResumed : List ℕ → List Instance → List ℕ → Type 0
 IsResumed base m text = (done : List Id) × (stored : Contents) × IsBase base done stored
     × IsReportAfter done stored m text

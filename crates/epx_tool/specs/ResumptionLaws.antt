@@ -1,4 +1,4 @@
--- Laws of going on from a base.
+-- Laws of resuming from a base.
 use Rattle.std.specs.Prelude.{◌≡◌, ◌≢◌, ◌⊎◌, ◌↔◌, ℕ, List, [], Contains, zip, Result, Err}
 use Rattle.std.specs.FinMap as contents
 use Rattle.epx_types.specs.declared.id.Id.{Id}
@@ -17,22 +17,22 @@ use Rattle.epx_tool.specs.Report.{IsReport, commands_of}
 use Rattle.epx_tool.specs.ResumedReport.{IsReportAfter}
 use Rattle.epx_tool.specs.Resumption.{Resumes}
 
--- a base and logs have an answer other than running out of memory
+-- a base and logs have an answer other than out of memory
 abbrev pub ResumptionExists : Type 0
 ResumptionExists = (base : List ℕ) (logs : List (List ℕ)) → (a : Result (List ℕ) Fault)
     × (a ≢ Err Memory) × Resumes base logs a
 
--- and one alone, running out of memory aside
+-- a base and logs have at most one answer, except for out of memory
 abbrev pub ResumptionIsOne : Type 0
 ResumptionIsOne = (base : List ℕ) (logs : List (List ℕ)) (a b : Result (List ℕ) Fault)
     → a ≢ Err Memory → b ≢ Err Memory → Resumes base logs a → Resumes base logs b → a ≡ b
 
--- a report is one after nothing is done, from the empty store
+-- the report of a map is its report after nothing is done, from the empty store
 abbrev pub ReportIsAfterNothing : Type 0
 ReportIsAfterNothing = (m : List Instance) (text : List ℕ) → IsReport m text
     ↔ IsReportAfter [] contents.empty m text
 
--- what a report is written of
+-- the parts that a report is written from
 abbrev pub reported_of : List Id → List Ranked → List Waiting → Execution → Reported
 reported_of done order waiting run = record {
   components = component_count order;
@@ -42,13 +42,13 @@ reported_of done order waiting run = record {
   stored = contents.entries run.final;
 }
 
--- what is executed in a report
+-- the execution of a report
 abbrev pub run_in : (done : List Id) (stored : Contents) (m : List Instance) (text : List ℕ)
     → IsReportAfter done stored m text → Execution
 run_in done stored m text p = execute (commands_of (remaining done m) p.order) stored
 
--- a report whose numbers and texts fit their types is a base: done are the instances that were
--- done before and those that it executes, and stored is its final store
+-- a report whose numbers and texts fit their types is a base. Its done instances were done before
+-- or are executed in the report, and its store is the final store of the report.
 abbrev pub ReportIsBase : Type 0
 ReportIsBase = (done : List Id) (stored : Contents) (m : List Instance) (text : List ℕ)
     (p : IsReportAfter done stored m text) → IsRising done →

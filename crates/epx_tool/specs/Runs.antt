@@ -7,7 +7,7 @@ use Rattle.epx_merge.specs.Limits.{max_logs, max_log_bytes}
 use Rattle.epx_merge.specs.Refusals.{IsFirstTooLong, IsRefusal}
 use Rattle.epx_tool.specs.Answer.{Answers}
 
--- these are the bytes that the sources will give, in order
+-- the bytes that each source has left to deliver
 abbrev pub AreBytesOf : {S : Type 0} → (S → Option (List ℕ)) → List S → List (List ℕ) → Type 0
 AreBytesOf remaining sources logs = map remaining sources ≡ map Some logs
 
@@ -16,7 +16,7 @@ abbrev pub NoneTooLongBefore : List (List ℕ) → ℕ → Type 0
 NoneTooLongBefore logs log = (k : ℕ) (bytes : List ℕ) → k < log → slice_get logs k ≡ Some bytes
     → length bytes ≤ max_log_bytes
 
--- the faults of reading the logs: too many of them, or the first that is too long or can not be
+-- the faults of reading the logs: too many logs, or the first log that is too long or cannot be
 -- read
 abbrev pub IsReadingRefusal : List (List ℕ) → Fault → Type 0
 IsReadingRefusal logs Memory = Unit {0}
@@ -26,7 +26,7 @@ IsReadingRefusal logs (Read log) = (length logs ≤ max_logs) × (log < length l
     × NoneTooLongBefore logs log
 IsReadingRefusal logs _ = ⊥
 
--- the faults of a run whose text is to be Is: the refusal of the logs, or that of a device
+-- the faults of a run whose text `Is` describes: the refusal of the logs, or the fault of a device
 abbrev pub IsRunFault : (List Instance → List ℕ → Type 0) → List (List ℕ) → Fault → Type 0
 IsRunFault Is logs (Read log) = (length logs ≤ max_logs) × (log < length logs)
     × NoneTooLongBefore logs log

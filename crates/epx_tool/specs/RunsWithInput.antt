@@ -1,4 +1,4 @@
--- A run over logs and a text beside them: the logs are read from their sources, then the text from
+-- A run over logs and an extra input. The logs are read from their sources, then the input from
 -- its own, and the answer is written to a sink.
 use Rattle.std.specs.Prelude.{ℕ, ◌<◌, ◌≤◌, List, [], ◌∷◌, ◌++◌, length, Ok}
 use Rattle.epx_types.specs.declared.fault.Fault.{Fault}
@@ -9,13 +9,13 @@ use Rattle.epx_merge.specs.Refusals.{IsFirstTooLong}
 use Rattle.epx_tool.specs.Runs.{NoneTooLongBefore}
 use Rattle.epx_tool.specs.WithInput.{AnswersWithInput, IsRefusalWithInput}
 
--- the source of this number can not be read: that of a log, or that of the text, whose number is
--- how many logs there are
+-- the source of this number can fail: that of a log, or that of the extra input, whose number is
+-- the number of logs
 abbrev pub CanBeUnread : List ℕ → List (List ℕ) → ℕ → Type 0
 CanBeUnread input logs log = (length logs ≤ max_logs) × (log ≤ length logs)
     × NoneTooLongBefore (logs ++ input ∷ []) log
 
--- the faults of reading the logs and then the text beside them
+-- the faults of reading the logs and then the extra input
 abbrev pub IsReadingRefusalWithInput : List ℕ → List (List ℕ) → Fault → Type 0
 IsReadingRefusalWithInput input logs Memory = Unit {0}
 IsReadingRefusalWithInput input logs TooManyLogs = max_logs < length logs
@@ -24,7 +24,7 @@ IsReadingRefusalWithInput input logs (LogTooLong log) = (length logs ≤ max_log
 IsReadingRefusalWithInput input logs (Read log) = CanBeUnread input logs log
 IsReadingRefusalWithInput input logs _ = ⊥
 
--- the faults of such a run: the refusal of the logs and the text, or that of a device
+-- the faults of such a run: the refusal of the logs and the input, or the fault of a device
 abbrev pub IsRunFaultWithInput : (List ℕ → ℕ → Type 0) → (List ℕ → List Instance → List ℕ → Type 0)
     → List ℕ → List (List ℕ) → Fault → Type 0
 IsRunFaultWithInput IsBad Is input logs (Read log) = CanBeUnread input logs log

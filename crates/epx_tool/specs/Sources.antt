@@ -5,11 +5,11 @@ use Rattle.epx_types.specs.declared.fault.Fault.{Fault}
 use Rattle.epx_types.specs.declared.fault.Fault.TheVariants.{LogTooLong, Read}
 use Rattle.epx_devices.specs.Transfers.{ConsumesUpTo}
 
--- each source has lost some of its first bytes, and at most n
+-- at most n bytes are taken from each source
 abbrev pub EachConsumesUpTo : {S : Type 0} → (S → Option (List ℕ)) → List S → List S → ℕ → Type 0
 EachConsumesUpTo remaining old new n = AllZip
     (λ before after. ConsumesUpTo (remaining before) (remaining after) n) old new
 
--- reading stopped at this log: it is too long, or can not be read
+-- reading stopped at this log: it is too long or cannot be read
 abbrev pub StopsAt : {T : Type 0} → Result T Fault → ℕ → Type 0
 StopsAt result log = IsErrOf result (LogTooLong log) ⊎ IsErrOf result (Read log)

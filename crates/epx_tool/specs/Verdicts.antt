@@ -1,4 +1,4 @@
--- What is found of a list of instances that is checked against a committed map, as bytes.
+-- The text of a verdict on a list of instances that is checked against a committed map.
 use Rattle.std.specs.Prelude.{◌≡◌, ◌≢◌, ◌⊎◌, ℕ, List, [], ◌∷◌, codes}
 use Rattle.serde_json.specs.Data.{Data, string}
 use Rattle.epx_types.specs.declared.id.Id.{Id}
@@ -12,7 +12,7 @@ use Rattle.epx_order.specs.OrderFaults.{IsOrderFault}
 abbrev pub lawful_text : List ℕ
 lawful_text = line_of (string (codes "lawful") ∷ [])
 
--- the name of a fault, and its place or its instance; out of memory is no finding
+-- the name of a fault with its position or its instance; out of memory has no verdict
 abbrev pub fault_data : OrderFault → List Data
 fault_data Memory = []
 fault_data (Stranger place) = string (codes "stranger") ∷ data_of_number place ∷ []
@@ -25,7 +25,7 @@ fault_data (Sequence place) = string (codes "sequence") ∷ data_of_number place
 abbrev pub fault_text : OrderFault → List ℕ
 fault_text fault = line_of (fault_data fault)
 
--- that the list is a lawful order, or its fault
+-- the verdict is that the list is a lawful order, or its fault
 abbrev pub IsVerdict : List Instance → List Id → List ℕ → Type 0
 IsVerdict m ids text = (IsLawful m ids × (text ≡ lawful_text))
     ⊎ ((fault : OrderFault) × (fault ≢ Memory) × IsOrderFault m ids fault

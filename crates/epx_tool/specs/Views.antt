@@ -1,4 +1,4 @@
--- What can be asked of logs beside their report.
+-- The views of logs: the texts other than the report.
 use Rattle.std.specs.Prelude.{ℕ, List}
 use Rattle.epx_types.specs.Instances.{Instance}
 use Rattle.epx_tool.specs.declared.ask.Ask.{Ask}
@@ -8,7 +8,7 @@ use Rattle.epx_tool.specs.LevelText.{IsLevelText}
 use Rattle.epx_tool.specs.AuditText.{IsAuditText}
 use Rattle.epx_picture.specs.Pictures.{IsPicture}
 
--- the text that answers a committed map
+-- the text of this view for a committed map
 abbrev pub IsViewed : Ask → List Instance → List ℕ → Type 0
 IsViewed Order = IsOrderText
 IsViewed Levels = IsLevelText

@@ -1,6 +1,5 @@
--- The answer to logs and a text that is read beside them, as a base is. The text counts as one
--- more log where it is asked which is too long, and for nothing else; its own bad lines are named
--- after all that is wrong with the logs.
+-- The answer to logs and an extra input, as a base or a list is. For the length limit the input
+-- counts as one more log after the others. Its bad lines come after all refusals of the logs.
 use Rattle.std.specs.Prelude.{ℕ, ◌<◌, ◌≤◌, List, [], ◌∷◌, ◌++◌, length, Result, Ok, Err}
 use Rattle.epx_types.specs.declared.fault.Fault.{Fault}
 use Rattle.epx_types.specs.declared.fault.Fault.TheVariants.{Memory, TooManyLogs, LogTooLong, BadBase}
@@ -12,8 +11,8 @@ use Rattle.epx_merge.specs.Acceptance.{IsAccepted}
 abbrev pub IsShort : List ℕ → Type 0
 IsShort bytes = length bytes ≤ max_log_bytes
 
--- the first that applies: too many logs; the first text that is too long; what the logs say; the
--- line of the text beside them for which IsBad holds
+-- the first that applies: too many logs; the first text that is too long; the refusal of the logs;
+-- the line of the extra input for which IsBad holds
 abbrev pub IsRefusalWithInput : (List ℕ → ℕ → Type 0) → List ℕ → List (List ℕ) → Fault → Type 0
 IsRefusalWithInput IsBad input logs Memory = Unit {0}
 IsRefusalWithInput IsBad input logs TooManyLogs = max_logs < length logs
@@ -23,7 +22,7 @@ IsRefusalWithInput IsBad input logs (BadBase line) = IsShort input
     × ((m : List Instance) × IsAccepted logs m) × IsBad input line
 IsRefusalWithInput IsBad input logs fault = IsShort input × IsRefusal logs fault
 
--- the answer, where Is says which text answers the text beside and a committed map
+-- the answer; Is says which text answers an extra input and a committed map
 abbrev pub AnswersWithInput : (List ℕ → ℕ → Type 0) → (List ℕ → List Instance → List ℕ → Type 0)
     → List ℕ → List (List ℕ) → Result (List ℕ) Fault → Type 0
 AnswersWithInput IsBad Is input logs (Ok text) = IsShort input

@@ -27,7 +27,7 @@ use std::alloc::Global;
 use std::random::RandomSource;
 use std::thread::{Threads, join};
 
-/// The commands of these instances.
+/// The commands of some instances.
 fn commands<'a>(alloc: Global, merged: &'a Merged, ids: &[Id]) -> Result<Vec<Command<'a>>, Memory>
     ensures { IfOk result (λ commands. map (λ c. c.ops.now) commands.items
         ≡ map (λ x. ops_of (instance_of merged.now x)) ids.now) }
@@ -43,8 +43,8 @@ fn commands<'a>(alloc: Global, merged: &'a Merged, ids: &[Id]) -> Result<Vec<Com
     Ok(commands)
 }
 
-/// The report of what was executed. The map is not needed for it, and is freed at the same time by
-/// a thread of its own where there are several workers.
+/// Writes the report of an execution. It does not need the map. With several workers another
+/// thread frees the map at the same time.
 fn write_report<R: Threads + Sync>(
     rt: &R,
     alloc: Global,
@@ -75,8 +75,8 @@ fn write_report<R: Threads + Sync>(
     text
 }
 
-/// The report of what is left of a committed map once some instances are done, given by rising Id,
-/// from a store.
+/// Executes the remaining instances of a committed map from a store, and returns the report.
+/// `done` has the done instances by increasing Id.
 pub(crate) fn report_of<R: Threads + RandomSource + Sync>(
     rt: &R,
     alloc: Global,
@@ -101,7 +101,7 @@ pub(crate) fn report_of<R: Threads + RandomSource + Sync>(
     )
 }
 
-/// The report of a committed map, of which nothing is done.
+/// The report of a committed map of which nothing is done.
 fn report_whole<R: Threads + RandomSource + Sync>(
     rt: &R,
     alloc: Global,
@@ -114,7 +114,7 @@ fn report_whole<R: Threads + RandomSource + Sync>(
     report_of(rt, alloc, merged, &[], Store::new(alloc), plan)
 }
 
-/// The execution order of a committed map, as text.
+/// The text of the execution order of a committed map.
 fn order_of<R: Threads + Sync>(
     rt: &R,
     alloc: Global,
@@ -129,7 +129,7 @@ fn order_of<R: Threads + Sync>(
     order_report(alloc, &order, &waiters)
 }
 
-/// The execution order of a committed map with the conflict levels of its commands, as text.
+/// The text of the conflict levels of a committed map, in execution order.
 fn levels_of<R: Threads + Sync>(
     rt: &R,
     alloc: Global,
@@ -146,7 +146,7 @@ fn levels_of<R: Threads + Sync>(
     level_report(alloc, &order, &waiters, &levels)
 }
 
-/// Whether a committed map is covered, as text.
+/// The text of the audit of a committed map.
 fn audit_of<R: Threads + Sync>(
     rt: &R,
     alloc: Global,
@@ -161,7 +161,7 @@ fn audit_of<R: Threads + Sync>(
     audit_line(alloc, found)
 }
 
-/// The dependency graph of a committed map, as a picture.
+/// The picture of the dependency graph of a committed map.
 fn picture_of<R: Threads + Sync>(
     rt: &R,
     alloc: Global,
@@ -174,7 +174,9 @@ fn picture_of<R: Threads + Sync>(
     picture(alloc, merged, &graph)
 }
 
-/// The report of the logs, or their first refusal. The answer is the same for every plan.
+/// The report of the logs, or the first refusal, in this order: `TooManyLogs`, `LogTooLong`,
+/// `BadLine`, `TooManyInstances`, `Disagree`. `Memory` means out of memory, and it says nothing
+/// about the logs. The result is the same for every plan.
 pub fn answer<R: Threads + RandomSource + Sync>(
     rt: &R,
     alloc: Global,
@@ -192,7 +194,7 @@ pub fn answer<R: Threads + RandomSource + Sync>(
     Ok(report_whole(rt, alloc, merged, plan)?)
 }
 
-/// As `answer`, of logs that are freed once they are read.
+/// Like `answer`, but it frees the logs when they are read.
 pub(crate) fn answer_owned<R: Threads + RandomSource + Sync>(
     rt: &R,
     alloc: Global,
@@ -212,7 +214,7 @@ pub(crate) fn answer_owned<R: Threads + RandomSource + Sync>(
     Ok(text)
 }
 
-/// As `answer`, with the text that is asked for in place of the report.
+/// Like `answer`, but it returns a view instead of the report.
 pub fn view<R: Threads + RandomSource + Sync>(
     rt: &R,
     alloc: Global,

@@ -1,14 +1,14 @@
-//! What can be asked of logs beside their report.
+//! The views of logs: the texts other than the report.
 
-/// Which text is wanted.
+/// Which view is asked for.
 #[derive(Clone, Copy, Debug, PartialEq, Eq)]
 pub enum Ask {
     /// The execution order, with the depth and the leader of each instance.
     Order,
     /// The execution order, with the conflict level of each instance's command.
     Levels,
-    /// Whether the instances are covered, with the least two that show it where they are not.
+    /// Whether the instances are covered, and if not, the least two that are not.
     Audit,
-    /// The dependency graph, as a picture for Graphviz.
+    /// The dependency graph, as a picture in DOT.
     Graph,
 }

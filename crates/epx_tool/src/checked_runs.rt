@@ -1,5 +1,5 @@
-//! A run that checks a list: logs and list are read from sources, and the answer is written to a
-//! sink.
+//! A run that checks a list: it reads the logs and the list from sources, and writes the verdict
+//! to a sink.
 ghost use Rattle.std.specs.Prelude.{◌≡◌, ◌≢◌, ◌↔◌, ◌+◌, ◌<◌, ℕ, true, false, drop, length, All, Some, slice_get, Ok, OnOk, IfErr, IsErrOf};
 ghost use Rattle.std.specs.Io.KnownBytes.{Appends, Keeps, IsAtEnd};
 ghost use Rattle.epx_base.specs.Lists.{IsBadList};
@@ -20,9 +20,12 @@ use std::alloc::Global;
 use std::random::RandomSource;
 use std::thread::Threads;
 
-/// Reads the logs from the sources in order and then the list from its own, and writes what is
-/// found of the list to the sink, whole or not at all; a sink that fails has taken a prefix. The
-/// list carries the number of logs in faults.
+/// Reads the logs from the sources in order, then the list from its own. Writes the verdict on the
+/// list to the sink. If there is a fault, nothing is written, except that a sink that fails has
+/// taken a prefix of the verdict.
+///
+/// The faults are those of `check`, `Fault::Read` of a source and `Fault::Write` of the sink. In
+/// `LogTooLong` and `Read` the list has the number of logs as its number.
 pub fn run_check<T: Threads + RandomSource + Sync, L: Source, S: Source, W: Sink>(
     rt: &T,
     alloc: Global,

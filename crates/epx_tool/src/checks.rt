@@ -17,7 +17,8 @@ use std::alloc::Global;
 use std::random::RandomSource;
 use std::thread::Threads;
 
-/// The committed map of the logs and, once they are not refused, the instances that the list names.
+/// The committed map of the logs and the instances that the list names. The list is read after the
+/// logs are accepted.
 fn read_in_turn<R: Threads + RandomSource + Sync>(
     rt: &R,
     alloc: Global,
@@ -39,7 +40,7 @@ fn read_in_turn<R: Threads + RandomSource + Sync>(
     }
 }
 
-/// What is found of a list of instances, over a committed map.
+/// The verdict on a list of instances, over a committed map.
 fn verdict_of<R: Threads + Sync>(
     rt: &R,
     alloc: Global,
@@ -54,11 +55,13 @@ fn verdict_of<R: Threads + Sync>(
     verdict_line(alloc, found)
 }
 
-/// Whether the instances that a list names, one a line as `[r,i]`, are in a lawful order of what
-/// the logs commit, as one line of text: `["lawful"]`, or what is wrong with the list, by name,
-/// with the place, counted from 0, or the instance that is missing. Or the first refusal: the list
-/// counts as one more log where it is asked which is too long, and its own bad line comes after
-/// all that is wrong with the logs. The answer is the same for every plan.
+/// Checks that the instances of a list are a lawful order of what the logs commit. Each line of
+/// the list names one instance, as `[r,i]`. The verdict is one line of text: `["lawful"]`, or the
+/// name of the list's fault with the position, counted from 0, or the missing instance.
+///
+/// The refusals are those of `answer`. For `LogTooLong` the list counts as one more log after the
+/// others. A bad line of the list is a `BadBase`, and comes after all refusals of the logs. The
+/// result is the same for every plan.
 pub fn check<R: Threads + RandomSource + Sync>(
     rt: &R,
     alloc: Global,
@@ -77,7 +80,7 @@ pub fn check<R: Threads + RandomSource + Sync>(
     Ok(verdict_of(rt, alloc, &merged, &ids, plan)?)
 }
 
-/// As `check`, of a list and logs that are freed once they are read.
+/// Like `check`, but it frees the list and the logs when they are read.
 pub(crate) fn check_owned<R: Threads + RandomSource + Sync>(
     rt: &R,
     alloc: Global,

@@ -1,4 +1,5 @@
-//! Laws of answers.
+//! Laws of answers: these definitions mean what they should. Each function has an empty body, and
+//! its contract is the law.
 ghost use Rattle.epx_tool.specs.AnswerLaws.{ReportExists, ViewTextExists, ReportIsOne, OrderTextIsOne, LevelTextIsOne, AuditTextIsOne, AnswerExists, ViewExists, AnswerIsOne, ViewIsOne};
 ghost use Rattle.epx_tool.specs.CheckingLaws.{CheckExists, CheckIsOne, LawfulTextMeansLawful, LawfulListExecutesAlike};
 ghost use Rattle.epx_tool.specs.ResumableAnswers.{AnswerIsBase, ResumptionIsBase, ReportOfAPartIsSound, ResumedReportIsSound, ResumedReportRepeatsTheWhole, LastReportIsTheWhole};
@@ -9,98 +10,99 @@ pub fn report_exists()
     ensures { ReportExists }
 {}
 
-/// A committed map has a text of its execution order, one of its conflict levels, one of whether
-/// it is covered, and a picture.
+/// A committed map has a text of its execution order, a text of its conflict levels, a text of its
+/// audit, and a picture.
 pub fn view_text_exists()
     ensures { ViewTextExists }
 {}
 
-/// A committed map has one report.
+/// A committed map has at most one report.
 pub fn report_is_one()
     ensures { ReportIsOne }
 {}
 
-/// A committed map has one text of its execution order.
+/// A committed map has at most one text of its execution order.
 pub fn order_text_is_one()
     ensures { OrderTextIsOne }
 {}
 
-/// A committed map has one text of its conflict levels.
+/// A committed map has at most one text of its conflict levels.
 pub fn level_text_is_one()
     ensures { LevelTextIsOne }
 {}
 
-/// A committed map has one text of whether it is covered.
+/// A committed map has at most one text of its audit.
 pub fn audit_text_is_one()
     ensures { AuditTextIsOne }
 {}
 
-/// Every list of logs has an answer other than running out of memory.
+/// Every list of logs has an answer other than out of memory.
 pub fn answer_exists()
     ensures { AnswerExists }
 {}
 
-/// Every list of logs has an answer that shows what is asked for, other than running out of memory.
+/// Every list of logs has an answer to each view other than out of memory.
 pub fn view_exists()
     ensures { ViewExists }
 {}
 
-/// Logs have one answer, running out of memory aside.
+/// Logs have at most one answer, except for out of memory.
 pub fn answer_is_one()
     ensures { AnswerIsOne }
 {}
 
-/// Logs have one answer that shows what is asked for, running out of memory aside.
+/// Logs have at most one answer to each view, except for out of memory.
 pub fn view_is_one()
     ensures { ViewIsOne }
 {}
 
-/// A base and logs have an answer other than running out of memory.
+/// A base and logs have an answer other than out of memory.
 pub fn resumption_exists()
     ensures { ResumptionExists }
 {}
 
-/// A base and logs have one answer, running out of memory aside.
+/// A base and logs have at most one answer, except for out of memory.
 pub fn resumption_is_one()
     ensures { ResumptionIsOne }
 {}
 
-/// A report is one after nothing is done, from the empty store.
+/// The report of a map is its report after nothing is done, from the empty store.
 pub fn report_is_after_nothing()
     ensures { ReportIsAfterNothing }
 {}
 
-/// A report, and a resumed one, is a base: of what is done after it, and of its final store.
+/// A report, resumed or not, is a base of the instances that are done after it and of its final
+/// store.
 pub fn report_is_base()
     ensures { ReportIsBase }
 {}
 
-/// A list and logs have an answer other than running out of memory.
+/// A list and logs have an answer other than out of memory.
 pub fn check_exists()
     ensures { CheckExists }
 {}
 
-/// A list and logs have one answer, running out of memory aside.
+/// A list and logs have at most one answer, except for out of memory.
 pub fn check_is_one()
     ensures { CheckIsOne }
 {}
 
-/// A list is said to be lawful exactly where it is a lawful order of what the logs commit.
+/// A list is reported as lawful exactly if it is a lawful order of what the logs commit.
 pub fn lawful_text_means_lawful()
     ensures { LawfulTextMeansLawful }
 {}
 
-/// Over covered logs, a list that is said to be lawful executes as the report of the logs says.
+/// Over covered logs, a list that is reported as lawful executes as the report of the logs says.
 pub fn lawful_list_executes_alike()
     ensures { LawfulListExecutesAlike }
 {}
 
-/// The report of logs is a base: of the instances that it executes, and of its final store.
+/// The report of logs is a base of the instances that it executes and of its final store.
 pub fn answer_is_base()
     ensures { AnswerIsBase }
 {}
 
-/// The report of a resumed run is a base: of the instances that were done before or that it
+/// The report of a resumed run is a base of the instances that were done before or that it
 /// executes, and of its final store.
 pub fn resumption_is_base()
     ensures { ResumptionIsBase }
@@ -111,17 +113,18 @@ pub fn report_of_a_part_is_sound()
     ensures { ReportOfAPartIsSound }
 {}
 
-/// A run that resumes from a sound base gives a base that is sound for the same map.
+/// The report of a run that resumes from a sound base is a base that is sound for the same map.
 pub fn resumed_report_is_sound()
     ensures { ResumedReportIsSound }
 {}
 
-/// Over covered logs, each reply of a resumed run is the one in the report of the whole.
+/// Over covered logs, each reply of a resumed run is the reply in the report of the whole.
 pub fn resumed_report_repeats_the_whole()
     ensures { ResumedReportRepeatsTheWhole }
 {}
 
-/// Once all ready instances of covered logs are done, a sound base holds the store of their report.
+/// If all ready instances of covered logs are done in a sound base, it has the store of their
+/// report.
 pub fn last_report_is_the_whole()
     ensures { LastReportIsTheWhole }
 {}

@@ -1,5 +1,5 @@
-//! From bytes to the report: the answer to logs, as text, runs over devices, and the program's
-//! words. Devices and words are crates of their own below; whoever uses epx finds them here.
+//! From the bytes of logs to the text of a report or a view, runs over devices, and the program's
+//! words. Devices and words have crates of their own. This crate re-exports them.
 #![tactic(auto)]
 
 mod answers;

@@ -1,4 +1,4 @@
-//! The report, the execution order and the conflict levels as text.
+//! The texts of the report, the execution order and the conflict levels.
 ghost use Rattle.std.specs.Prelude.{◌≡◌, ◌++◌, length, flat_map, zip, OnOk, IfOk};
 ghost use Rattle.epx_base.specs.ReportLines.{line_of, waiting_line};
 ghost use Rattle.epx_tool.specs.ResumedReport.{resumed_text};
@@ -87,8 +87,8 @@ fn append_levels(
     Ok(())
 }
 
-/// The header, the instances that were done before, the replies in execution order, the instances
-/// that wait, and the store by byte order of its keys.
+/// The header, the done instances, the replies in execution order, the instances that wait, and
+/// the store, by the bytes of its keys.
 pub(crate) fn report(
     alloc: Global,
     done: &[Id],
@@ -115,7 +115,7 @@ pub(crate) fn report(
     Ok(text)
 }
 
-/// The header, the instances in execution order with depth and leader, and the instances that wait.
+/// The header, the instances in execution order with depth and leader, and those that wait.
 pub(crate) fn order_report(
     alloc: Global,
     order: &OrderList,

@@ -1,5 +1,5 @@
-//! A run that goes on from an earlier report: logs and base are read from sources, and the answer
-//! is written to a sink.
+//! A run that resumes from an earlier report: it reads the logs and the base from sources, and
+//! writes the report to a sink.
 ghost use Rattle.std.specs.Prelude.{◌≡◌, ◌≢◌, ◌↔◌, ◌+◌, ◌<◌, ℕ, true, false, drop, length, All, Some, slice_get, Ok, OnOk, IfErr, IsErrOf};
 ghost use Rattle.std.specs.Io.KnownBytes.{Appends, Keeps, IsAtEnd};
 ghost use Rattle.epx_base.specs.Bases.{IsBadBase};
@@ -20,9 +20,12 @@ use std::alloc::Global;
 use std::random::RandomSource;
 use std::thread::Threads;
 
-/// Reads the logs from the sources in order and then the base from its own, and writes the report
-/// that goes on from the base to the sink, whole or not at all; a sink that fails has taken a
-/// prefix. The base carries the number of logs in faults.
+/// Reads the logs from the sources in order, then the base from its own. Writes the report that
+/// resumes from the base to the sink. If there is a fault, nothing is written, except that a sink
+/// that fails has taken a prefix of the report.
+///
+/// The faults are those of `resume`, `Fault::Read` of a source and `Fault::Write` of the sink. In
+/// `LogTooLong` and `Read` the base has the number of logs as its number.
 pub fn run_resume<T: Threads + RandomSource + Sync, B: Source, S: Source, W: Sink>(
     rt: &T,
     alloc: Global,

@@ -1,4 +1,4 @@
-//! Going on from an earlier report.
+//! Resuming from an earlier report.
 ghost use Rattle.std.specs.Prelude.{◌≤◌, length, map, IfOk, IfErr, MatchResult, Ok, Err};
 ghost use Rattle.std.specs.Thread.{IsSync};
 ghost use Rattle.epx_base.specs.Bases.{IsBase, IsBadBase, IsBaseFault};
@@ -18,7 +18,8 @@ use std::alloc::Global;
 use std::random::RandomSource;
 use std::thread::{Threads, join};
 
-/// The committed map of the logs and, once they are not refused, what the base says.
+/// The committed map of the logs and the contents of the base. The base is read after the logs are
+/// accepted.
 fn read_in_turn<R: Threads + RandomSource + Sync>(
     rt: &R,
     alloc: Global,
@@ -41,7 +42,7 @@ fn read_in_turn<R: Threads + RandomSource + Sync>(
     }
 }
 
-/// The same, with the base read beside the logs by one more thread where there are several workers.
+/// The same. With several workers one more thread reads the base at the same time as the logs.
 fn read_both<R: Threads + RandomSource + Sync>(
     rt: &R,
     alloc: Global,
@@ -80,7 +81,7 @@ fn read_both<R: Threads + RandomSource + Sync>(
     }
 }
 
-/// The report of what is left of a committed map once what a base says is done.
+/// The report of a committed map after the instances of a base are done.
 fn report_after<R: Threads + RandomSource + Sync>(
     rt: &R,
     alloc: Global,
@@ -96,11 +97,13 @@ fn report_after<R: Threads + RandomSource + Sync>(
     report_of(rt, alloc, merged, &done, store, plan)
 }
 
-/// The report of a run that goes on from a base, which is an earlier report: its done and its
-/// replied instances are done, so they are not executed again, and what depends on them need not
-/// wait for them; the store begins as it says. Or the first refusal: the base counts as one more
-/// log where it is asked which is too long, and its own bad line comes after all that is wrong
-/// with the logs. The answer is the same for every plan.
+/// The report of a run that resumes from a base, which is an earlier report. The instances that
+/// are done or have a reply in the base are done: they are not executed again, and no instance
+/// waits for them. The store begins as the store of the base.
+///
+/// The refusals are those of `answer`. For `LogTooLong` the base counts as one more log after the
+/// others. A bad line of the base is a `BadBase`, and comes after all refusals of the logs. The
+/// result is the same for every plan.
 pub fn resume<R: Threads + RandomSource + Sync>(
     rt: &R,
     alloc: Global,
@@ -119,7 +122,7 @@ pub fn resume<R: Threads + RandomSource + Sync>(
     Ok(report_after(rt, alloc, merged, base, plan)?)
 }
 
-/// As `resume`, of a base and logs that are freed once they are read.
+/// Like `resume`, but it frees the base and the logs when they are read.
 pub(crate) fn resume_owned<R: Threads + RandomSource + Sync>(
     rt: &R,
     alloc: Global,

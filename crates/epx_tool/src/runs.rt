@@ -1,4 +1,4 @@
-//! A run: logs are read from sources, and the answer to them is written to a sink.
+//! A run: it reads logs from sources, and writes the answer to a sink.
 ghost use Rattle.std.specs.Prelude.{◌≡◌, ◌≢◌, ◌↔◌, ◌+◌, ◌<◌, ℕ, true, false, map, drop, length, All, Some, slice_get, Ok, IfOk, OnOk, IfErr, IsErrOf};
 ghost use Rattle.std.specs.Io.KnownBytes.{Appends, Keeps, IsAtEnd};
 ghost use Rattle.epx_merge.specs.Limits.{max_log_bytes};
@@ -21,8 +21,10 @@ use std::alloc::Global;
 use std::random::RandomSource;
 use std::thread::Threads;
 
-/// Reads the logs from the sources in order, and writes the answer to them to the sink, whole or
-/// not at all; a sink that fails has taken a prefix.
+/// Reads the logs from the sources in order, and writes their report to the sink. If there is a
+/// fault, nothing is written, except that a sink that fails has taken a prefix of the report.
+///
+/// The faults are those of `answer`, `Fault::Read` of a source and `Fault::Write` of the sink.
 pub fn run<T: Threads + RandomSource + Sync, S: Source, W: Sink>(
     rt: &T,
     alloc: Global,
@@ -76,7 +78,7 @@ pub fn run<T: Threads + RandomSource + Sync, S: Source, W: Sink>(
     write_out(&text, sink)
 }
 
-/// As `run`, with the text that is asked for in place of the report.
+/// Like `run`, but it writes a view instead of the report.
 pub fn show<T: Threads + RandomSource + Sync, S: Source, W: Sink>(
     rt: &T,
     alloc: Global,

@@ -1,4 +1,4 @@
-//! The bytes of sources, read before anything is done with them.
+//! Reads sources to their ends before anything is done with the bytes.
 ghost use Rattle.std.specs.Prelude.{◌≡◌, ◌↔◌, ◌+◌, ◌<◌, ℕ, List, true, false, map, drop, length, All, Some, slice_get, IfOk, OnOk, IfErr, IsErrOf};
 ghost use Rattle.std.specs.Io.KnownBytes.{IsAtEnd};
 ghost use Rattle.epx_devices.specs.Transfers.{ConsumesUpTo};
@@ -59,7 +59,7 @@ pub(crate) fn read_sources<S: Source>(
     Ok(logs)
 }
 
-/// The bytes of all sources, read in order, and then those of a source beside them.
+/// The bytes of an extra input and of all sources. The sources are read in order, then the input.
 pub(crate) fn read_with_input<B: Source, S: Source>(
     alloc: Global,
     input: &mut B,

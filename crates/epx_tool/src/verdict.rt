@@ -1,5 +1,4 @@
-//! What is found of logs that are audited, and of a list of instances that is checked: a line of
-//! text.
+//! The texts of an audit and of the verdict on a checked list. Each is one line.
 ghost use Rattle.std.specs.Prelude.{◌≡◌, ◌≢◌, ◌∷◌, [], IfOk, MatchOption, MatchResult};
 ghost use Rattle.serde_json.specs.Data.{string};
 ghost use Rattle.epx_base.specs.ReportLines.{data_of_number, line_of};
@@ -44,7 +43,7 @@ fn missing_line(alloc: Global, id: Id) -> Result<Vec<u8>, AllocError>
     Ok(text)
 }
 
-/// The line of a fault other than running out of memory.
+/// The line of a fault. Out of memory has no line.
 fn fault_line(alloc: Global, fault: OrderFault) -> Result<Vec<u8>, Memory>
     ensures { IfOk result (λ text. (fault ≢ OrderFault.Memory) × (text.items ≡ fault_text fault)) }
 {
@@ -70,7 +69,7 @@ fn pair_line(alloc: Global, pair: (Id, Id)) -> Result<Vec<u8>, AllocError>
     Ok(text)
 }
 
-/// The line that says what an audit found: no two instances that are not covered, or these.
+/// The line of an audit: covered, or the least two instances that are not.
 pub(crate) fn audit_line(alloc: Global, found: Option<(Id, Id)>) -> Result<Vec<u8>, Memory>
     ensures { IfOk result (λ text. MatchOption found (text.items ≡ covered_line)
         (λ pair. text.items ≡ uncovered_line pair.0 pair.1)) }
@@ -81,7 +80,7 @@ pub(crate) fn audit_line(alloc: Global, found: Option<(Id, Id)>) -> Result<Vec<u
     }
 }
 
-/// The line that says what is found of a list.
+/// The line of a verdict.
 pub(crate) fn verdict_line(alloc: Global, found: Result<(), OrderFault>) -> Result<Vec<u8>, Memory>
     ensures { IfOk result (λ text. MatchResult found (λ _. text.items ≡ lawful_text)
         (λ fault. (fault ≢ OrderFault.Memory) × (text.items ≡ fault_text fault))) }

@@ -1,4 +1,4 @@
-//! Logs that are read before a text beside them.
+//! Logs that are read before an extra input.
 ghost use Rattle.std.specs.Prelude.{map, MatchResult};
 ghost use Rattle.epx_merge.specs.Acceptance.{IsAccepted};
 ghost use Rattle.epx_tool.specs.WithInput.{IsShort, IsRefusalWithInput};
@@ -10,8 +10,8 @@ use std::alloc::Global;
 use std::random::RandomSource;
 use std::thread::Threads;
 
-/// The committed map of the logs, or the first refusal of the logs and of a text beside them that
-/// is too long.
+/// The committed map of the logs, or the first refusal of the logs and of the length of the extra
+/// input.
 pub(crate) fn merge_before<R: Threads + RandomSource + Sync>(
     rt: &R,
     alloc: Global,

@@ -17,11 +17,11 @@ use Rattle.epx_txn.specs.declared.draft.Step.{Step}
 use Rattle.epx_txn.specs.declared.draft.Step.TheVariants.{Done}
 use Rattle.epx_txn.specs.Drafts.{Draft, seen_through, StepIs, AddsKeys}
 
--- what the draft has under a key is what the command sees there
+-- where the draft has a key, the command sees its value there
 pub read_written : (d : Draft) (c : Contents) (k : List ℕ) (w : Option ℤ) → contents.get d k ≡ Some w → w ≡ contents.get (seen_through d c) k
 read_written d c k w e = sym (get-put_entries d c k ∙ ap (λ o. unwrap_or o (contents.get c k)) e)
 
--- and where it has nothing, what the store holds
+-- where the draft does not have a key, the command sees the value in the store
 pub read_unwritten : (d : Draft) (c : Contents) (k : List ℕ) → contents.get d k ≡ None → contents.get c k ≡ contents.get (seen_through d c) k
 read_unwritten d c k e = sym (get-put_entries d c k ∙ ap (λ o. unwrap_or o (contents.get c k)) e)
 
@@ -32,7 +32,7 @@ adds_key op d k w one =
     ∙ keys_of-put k w (contents.entries d)
     ∙ ap (add_keys (contents.keys d)) (sym one)
 
--- an operation that writes one key, once the draft has the write
+-- an operation that writes one key, after its write is in the draft
 pub written_step : (r : Result Step Memory) (op by : Op) (c : Contents) (d e : Draft) (k : List ℕ) (w v : Option ℤ) → IfOk r (λ s. (s ≡ Done) × (e ≡ contents.insert d k w)) → op ≡ by → written_by by ≡ k ∷ [] → operate by (seen_through d c) ≡ Some (assign (seen_through d c) k v, []) → w ≡ v → IfOk r (λ s. StepIs s op c d e)
 written_step (Err x) op by c d e k w v h is one goes same = h
 written_step (Ok s) op by c d e k w v h is one goes same =

@@ -1,4 +1,4 @@
--- The operations of a command in turn, with the writes gathered in a draft.
+-- The operations of a command in order, with their writes in a draft.
 use Rattle.std.proofs.Common.{◌≡◌, ℕ, suc, ℤ, ◌+◌, ◌<◌, ◌≤◌, ◌∙◌, sym, ap, List, [], ◌∷◌, ◌++◌, length, map, flat_map, get_or, drop, append-nil, add-one, Option, Some, subst}
 use Rattle.std.specs.FinMap as contents
 use Rattle.std.specs.FinMap.{entries_sorted}
@@ -18,7 +18,7 @@ use Rattle.std.proofs.lemmas.List.{drop_all}
 use Rattle.epx_txn.specs.declared.draft.Step.TheVariants.{Read, Done, Abort}
 use Rattle.epx_txn.specs.Drafts.{Draft, seen_through, StepIs, AddsKeys}
 
--- the operations before place i have been done; d holds the writes and got the values read
+-- the operations before index i are done; d has their writes and `got` the values that they read
 pub record IsDoneUpTo (ops : List Op) (c : Contents) (i : ℕ) (d : Draft) (got : List (Option ℤ)) : Type 0 where
   pub run : operate_all c i (drop i ops) (seen_through d c) got ≡ command_on ops c
   pub keys : add_keys (contents.keys d) (flat_map written_by (drop i ops)) ≡ written_keys ops
@@ -30,17 +30,17 @@ at_start ops c =
       keys = ap (λ es. add_keys (map (λ e. e.0) es) (flat_map written_by ops)) entries-empty;
     }
 
--- the keys of an operation
+-- the keys that an operation writes
 keys_step : (op : Op) (rest : List Op) (d e : Draft) → AddsKeys op d e → add_keys (contents.keys e) (flat_map written_by rest) ≡ add_keys (contents.keys d) (flat_map written_by (op ∷ rest))
 keys_step op rest d e h =
     ap (λ ks. add_keys ks (flat_map written_by rest)) h ∙ sym (add_keys-append (contents.keys d) (written_by op) (flat_map written_by rest))
 
 module _ (ops : List Op) (c : Contents) (i : ℕ) (d e : Draft) (got : List (Option ℤ)) (op : Op) (before : IsDoneUpTo ops c i d got) (within : i < length ops) (here : op ≡ get_or ops i op) where
-  -- what is left begins with the operation
+  -- the remaining operations begin with this one
   first : drop i ops ≡ op ∷ drop (i + 1) ops
   first = left_at ops i op within here
 
-  -- how it goes on once the operation has been done
+  -- the loop goes on after the operation
   abbrev proceeds : Option (Contents × List (Option ℤ)) → Outcome
   proceeds o = unless_aborted c i o (λ r. operate_all c (suc i) (drop (i + 1) ops) r.0 (got ++ r.1))
 

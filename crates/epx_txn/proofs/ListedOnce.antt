@@ -1,4 +1,4 @@
--- Entries among which no key stands twice, in whatever order.
+-- Entries without two of the same key, in any order.
 use Rattle.std.proofs.Common.{◌≡◌, ◌≢◌, ℕ, zero, suc, ◌+◌, ◌≤◌, ℤ, cond, Bool, true, false, T, List, [], ◌∷◌, ◌++◌, length, length-append, map, flat_map, get_or, drop, sum_by, Contains, Option, Some, None, is_some, is_eq, is_lt, refl, sym, ap, ap₂, subst, ◌∙◌, inl, inr, arith, IsPermutation}
 use Rattle.std.specs.Ordering.{eq_by_cmp, ordering_then, ordering_reverse, int_cmp}
 use Rattle.std.specs.declared.cmp.Ordering.TheVariants.{Less, Equal, Greater}
@@ -23,12 +23,12 @@ use Rattle.epx_txn.proofs.RisingEntries.{both_of, below_all_trans}
 abbrev pub Entries : Type 0
 Entries = List (List ℕ × ℤ)
 
--- how often a key stands in entries
+-- the number of entries with a key
 abbrev pub times : List ℕ → Entries → ℕ
 times q [] = 0
 times q (e ∷ es) = cond (eq_by_cmp key_cmp q e.0) 1 0 + times q es
 
--- no key stands twice
+-- no key has two entries
 abbrev pub StandOnce : Entries → Type 0
 StandOnce es = (q : List ℕ) → times q es ≤ 1
 
@@ -43,7 +43,7 @@ times-sum_by : (q : List ℕ) (es : Entries) → times q es ≡ sum_by (λ e. co
 times-sum_by q [] = refl
 times-sum_by q (e ∷ es) = ap (λ n. cond (eq_by_cmp key_cmp q e.0) 1 0 + n) (times-sum_by q es) ∙ sym (sum_by-cons (λ (e : List ℕ × ℤ). cond (eq_by_cmp key_cmp q e.0) 1 0) e es)
 
--- a key is found where it stands, and nowhere else
+-- a key is found exactly if it has an entry
 times-none : (q : List ℕ) (es : Entries) → find key_cmp q es ≡ None → times q es ≡ 0
 times-none q [] h = refl
 times-none q (e ∷ es) h =
@@ -60,14 +60,14 @@ find-none q (e ∷ es) h =
       | false ↦ λ none. find-none q es (omega (arith, none))
     ] h
 
--- ---- where no key stands twice
+-- ---- entries in which no key has two entries
 
 times-below : (k : List ℕ) (es : Entries) → T (below_all key_cmp k es) → times k es ≡ 0
 times-below k [] h = refl
 times-below k (e ∷ es) h =
     ap (λ o. cond (is_eq o) 1 0 + times k es) (less_from_is_lt (key_cmp k e.0) (first_of _ _ h)) ∙ omega (arith, times-below k es (second_of _ _ h))
 
--- not in entries that rise
+-- entries whose keys rise have no key twice
 StandOnce-sorted : (es : Entries) → T (is_sorted key_cmp es) → StandOnce es
 StandOnce-sorted [] h q = omega arith
 StandOnce-sorted (e ∷ es) h q =
@@ -78,7 +78,7 @@ StandOnce-sorted (e ∷ es) h q =
       | inr other ↦ let rest : times q es ≤ 1 = StandOnce-sorted es (second_of (below_all key_cmp e.0 es) (is_sorted key_cmp es) h) q in omega (arith, ap {B = ℕ} (λ b. cond b 1 0) other.0, rest)
     ]
 
--- not in all entries of maps of which one alone may have the key
+-- maps together have no key twice if only one of them may have each key
 times-in_one : (q : List ℕ) (cs : List Contents) (n : ℕ) → ((m : ℕ) → n ≢ m → contents.get (get_or cs m none_in) q ≡ None) → times q (flat_map contents.entries cs) ≤ 1
 times-in_one q [] n h = omega arith
 times-in_one q (c ∷ cs) zero h =
@@ -90,18 +90,18 @@ times-in_one q (c ∷ cs) (suc n) h =
     let once : times q (flat_map contents.entries cs) ≤ 1 = times-in_one q cs n (λ m apart. h (suc m) (λ e. apart (omega (arith, e)))) in
     omega (arith, times-append q (contents.entries c) (flat_map contents.entries cs), none, once)
 
--- so not in the shards of a store
+-- the shards of a store have no key twice
 pub StandOnce-shards : (shards : List Contents) → AreShards shards → StandOnce (flat_map contents.entries shards)
 StandOnce-shards shards h q = times-in_one q shards (shard_of q) (λ m apart. h.own m q apart)
 
 StandOnce-tail : (e : List ℕ × ℤ) (es : Entries) → StandOnce (e ∷ es) → StandOnce es
 StandOnce-tail e es h q = omega (arith, h q)
 
--- the first key does not stand in the rest
+-- the first key has no entry in the rest
 first_alone : (e : List ℕ × ℤ) (es : Entries) → StandOnce (e ∷ es) → times e.0 es ≡ 0
 first_alone e es h = omega (arith, rw (itself e.0) at (h e.0))
 
--- ---- how many there are
+-- ---- the number of entries
 
 pub len-from_entries : (es : Entries) → StandOnce es → contents.len (contents.from_entries {R = key_cmp} es) ≡ length es
 len-from_entries [] h = len-empty key_cmp ℤ
@@ -119,7 +119,7 @@ length-all (c ∷ cs) =
     ∙ omega (arith, length-all cs, len-entries c)
     ∙ sym (sum_by-cons contents.len c cs)
 
--- as many as there are in all shards, once all were counted
+-- the loop counts the entries of all shards
 pub len-counted : (shards : List Contents) (c : Contents) (i n : ℕ) → AreShards shards → whole shards ≡ c → length shards ≤ i → n + sum_by contents.len (drop i shards) ≡ sum_by contents.len shards → n ≡ contents.len c
 len-counted shards c i n h is past counted =
     let all : n + sum_by (contents.len {X = ℤ} {R = key_cmp}) [] ≡ sum_by contents.len shards = ap (λ (cs : List Contents). n + sum_by contents.len cs) (sym (drop_all i shards past)) ∙ counted in
@@ -145,7 +145,7 @@ find-Contains (e ∷ es) h q v c =
           ]
     ]
 
--- what is found is an entry
+-- what is found for a key is an entry
 Contains-find : (es : Entries) (q : List ℕ) (v : ℤ) → find key_cmp q es ≡ Some v → Contains es (q, v)
 Contains-find [] q v h = absurd (cc h)
 Contains-find (e ∷ es) q v h =
@@ -168,14 +168,14 @@ module _ (es fs : Entries) (moved : IsPermutation es fs) (once : StandOnce es) w
   find-moved q None h = h ∙ sym (find-none q es (sym (times-moved q) ∙ times-none q fs h))
   find-moved q (Some v) h = h ∙ sym (find-Contains es once q v (Contains-permutation fs es (q, v) (IsPermutation-sym es fs moved) (Contains-find fs q v h)))
 
-  -- in rising order they are the entries of their map
+  -- entries in rising order are the entries of their map
   pub entries-moved : T (is_sorted key_cmp fs) → (c : Contents) → contents.from_entries {R = key_cmp} es ≡ c → fs ≡ contents.entries c
   entries-moved rises c is =
       let same : contents.from_entries {R = key_cmp} fs ≡ contents.from_entries {R = key_cmp} es =
       same_contents _ _ (λ q. get-from_entries key_cmp_total fs q ∙ find-moved q (find key_cmp q fs) refl ∙ sym (get-from_entries key_cmp_total es q)) in
       sym (entries-from_entries fs rises) ∙ ap contents.entries (same ∙ is)
 
--- ---- entries that were sorted, by key and then by value
+-- ---- entries sorted by key and then by value
 
 module _ {A : Type 0} (key : A → List ℕ) (value : A → ℤ) where
   abbrev shown : A → List ℕ × ℤ
@@ -211,7 +211,7 @@ module _ {A : Type 0} (key : A → List ℕ) (value : A → ℤ) where
       let below = next_below x y (map shown xs) (h 0 x (omega arith) (omega arith)) once in
       both_of _ _ (both_of _ _ (subst T (sym (ap is_lt below)) tt) (below_all_trans (key x) (key y) (map shown xs) below (first_of _ _ rest))) rest
 
-  -- the entries of all shards, once all were listed and moved, are those of the whole where they rise
+  -- the entries of all shards in any order are those of the store if their keys rise
   pub entries-rising : (shards : List Contents) (c : Contents) (xs ys : List A) → AreShards shards → whole shards ≡ c → map shown xs ≡ flat_map contents.entries shards → IsPermutation xs ys → (StandOnce (map shown ys) → T (is_sorted key_cmp (map shown ys))) → map shown ys ≡ contents.entries c
   entries-rising shards c xs ys h is listed moved rises =
       let all : Entries = flat_map contents.entries shards in
@@ -219,7 +219,7 @@ module _ {A : Type 0} (key : A → List ℕ) (value : A → ℤ) where
       let once : StandOnce all = StandOnce-shards shards h in
       entries-moved all (map shown ys) placed once (rises (StandOnce-moved all (map shown ys) placed once)) c is
 
-  -- the entries of each shard, listed, are those of all
+  -- the entries of each shard one after another are those of all shards
   pub entries-listed : {B : Type 0} (items : B → List A) (ls : List B) (shards : List Contents) → map (λ l. map shown (items l)) ls ≡ map contents.entries shards → map shown (flat_map items ls) ≡ flat_map contents.entries shards
   entries-listed items [] [] h = refl
   entries-listed items [] (c ∷ cs) h = absurd (cc h)

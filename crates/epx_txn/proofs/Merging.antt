@@ -1,4 +1,4 @@
--- The writes of several effects in turn.
+-- The writes of several effects, one after another.
 use Rattle.std.proofs.Common.{◌≡◌, ℕ, ◌+◌, ◌<◌, ◌∙◌, sym, ap, subst, append-nil, List, [], ◌∷◌, length, get_or, drop, flat_map}
 use Rattle.epx_types.specs.Contents.{Contents}
 use Rattle.epx_types.specs.declared.op.Op.{Op}

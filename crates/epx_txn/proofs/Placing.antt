@@ -1,4 +1,4 @@
--- Looking for a key among entries by rising key, one after another, and putting an entry in its place.
+-- The linear search for a key among entries by rising key, and the insertion at its slot.
 use Rattle.std.proofs.Common.{◌≡◌, ℕ, ◌+◌, ◌<◌, ◌≤◌, ℤ, T, List, [], ◌∷◌, ◌++◌, length, map, get_or, set, take, drop, Option, Some, None, cond, refl, sym, ap, subst, ◌∙◌, is_eq, append_assoc, add-one, arith}
 use Rattle.std.specs.List.{insert, take-map, drop-map}
 use Rattle.std.proofs.Math.ListN.{get_or-map}
@@ -19,7 +19,7 @@ use Rattle.epx_txn.proofs.RisingEntries.{below_all_trans, is_sorted-drop}
 abbrev pub Entries : Type 0
 Entries = List (List ℕ × Option ℤ)
 
--- all entries before place i have lower keys
+-- all entries before slot i have lower keys
 pub record IsPast (es : Entries) (k : List ℕ) (i : ℕ) : Type 0 where
   pub found : find key_cmp k es ≡ find key_cmp k (drop i es)
   pub put : (v : Option ℤ) → put key_cmp k v es ≡ take i es ++ put key_cmp k v (drop i es)
@@ -78,7 +78,7 @@ module _ (es : Entries) (k : List ℕ) (i : ℕ) (past : IsPast es k i) where
               ∙ ap (λ xs. xs ++ put key_cmp k v (drop (i + 1) es)) (sym (take_more es i e within ∙ ap (λ x. take i es ++ x ∷ []) (sym here)));
         }
 
-  -- no key is left to compare
+  -- no entry is left to compare
   pub belongs_last : (n : ℕ) → n ≡ i → length es ≡ n → BelongsAt es k n
   belongs_last n same last =
       let none : drop n es ≡ [] = drop_all n es (omega arith) in
@@ -99,12 +99,12 @@ module _ (es : Entries) (rises : T (is_sorted key_cmp es)) (k : List ℕ) (v : O
     pub rises_put : T (is_sorted key_cmp fs)
     rises_put = subst (λ xs. T (is_sorted key_cmp xs)) (entries_put ∙ sym is) (entries_sorted (contents.insert (contents.from_entries {R = key_cmp} es) k v))
 
-    -- an entry that is put in its place is inserted
+    -- an entry that is put at its slot is inserted
     pub inserted_put : (m : FinMap key_cmp (Option ℤ)) → contents.from_entries es ≡ m → contents.from_entries fs ≡ contents.insert m k v
     inserted_put m view_is =
         same_entries_map _ _ (entries-from_entries fs rises_put ∙ is ∙ sym entries_put) ∙ ap (λ n. contents.insert n k v) view_is
 
--- what is found at a key's place
+-- the value at the slot of a key
 module _ (es : Entries) (m : FinMap key_cmp (Option ℤ)) (view_is : contents.from_entries es ≡ m) (k : List ℕ) where
   got_at : find key_cmp k es ≡ contents.get m k
   got_at = sym (get-from_entries key_cmp_total es k) ∙ ap (λ n. contents.get n k) view_is
@@ -115,7 +115,7 @@ module _ (es : Entries) (m : FinMap key_cmp (Option ℤ)) (view_is : contents.fr
   pub got_nowhere : (i : ℕ) → BelongsAt es k i → None ≡ contents.get m k
   got_nowhere i h = sym h.absent ∙ got_at
 
--- ---- entries that are shown by other things, such as lent keys with values
+-- ---- entries that are the views of other values, such as borrowed keys with values
 
 module _ {A : Type 0} (shown : A → List ℕ × Option ℤ) (xs : List A) where
   pub shown_at : (i : ℕ) (x : A) → x ≡ get_or xs i x → shown x ≡ get_or (map shown xs) i (shown x)
@@ -124,7 +124,7 @@ module _ {A : Type 0} (shown : A → List ℕ × Option ℤ) (xs : List A) where
   pub shown_within : (i : ℕ) → i < length xs → i < length (map shown xs)
   shown_within i within = omega (arith, length-map xs shown)
 
-  -- the map has as many keys as there are
+  -- the map has as many keys as there are entries
   pub len_shown : (m : FinMap key_cmp (Option ℤ)) → T (is_sorted key_cmp (map shown xs)) → contents.from_entries (map shown xs) ≡ m → contents.len m ≡ length xs
   len_shown m rises view_is =
       ap contents.len (sym view_is)
@@ -132,7 +132,8 @@ module _ {A : Type 0} (shown : A → List ℕ × Option ℤ) (xs : List A) where
       ∙ ap length (entries-from_entries (map shown xs) rises)
       ∙ length-map xs shown
 
-  -- one that takes the place of the other with its key, or goes where its key belongs, is put in its place
+  -- an entry that replaces the one with its key, or is inserted at its slot, is inserted into the
+  -- map
   pub set_there : (i : ℕ) (x : A) → StandsAt (map shown xs) (shown x).0 i → map shown (set xs i x) ≡ put key_cmp (shown x).0 (shown x).1 (map shown xs)
   set_there i x there = map-set shown xs i x ∙ sym (there.put (shown x).1)
 
@@ -144,7 +145,7 @@ module _ {A : Type 0} (shown : A → List ℕ × Option ℤ) (xs : List A) where
       ∙ ap (λ zs. zs ++ shown x ∷ drop i (map shown xs)) (sym (take-map shown i xs))
       ∙ sym (there.put (shown x).1)
 
-  -- a loop over all, each listed
+  -- a loop that lists all entries
   pub listed_more : (i : ℕ) (x : A) (before after : Entries) → i < length xs → x ≡ get_or xs i x → before ≡ map shown (take i xs) → after ≡ before ++ shown x ∷ [] → after ≡ map shown (take (i + 1) xs)
   listed_more i x before after within here so_far is =
       is
@@ -152,7 +153,7 @@ module _ {A : Type 0} (shown : A → List ℕ × Option ℤ) (xs : List A) where
       ∙ sym (map-append shown (take i xs) (x ∷ []))
       ∙ ap (map shown) (sym (take_more xs i x within ∙ ap (λ y. take i xs ++ y ∷ []) (sym here)))
 
-  -- or each inserted
+  -- a loop that inserts all entries
   pub inserted_more : (i : ℕ) (x : A) (before after all : FinMap key_cmp (Option ℤ)) → i < length xs → x ≡ get_or xs i x → write_all contents.insert (map shown (drop i xs)) before ≡ all → after ≡ contents.insert before (shown x).0 (shown x).1 → write_all contents.insert (map shown (drop (i + 1) xs)) after ≡ all
   inserted_more i x before after all within here so_far is =
       ap (write_all contents.insert (map shown (drop (i + 1) xs))) is
@@ -167,7 +168,7 @@ module _ {A : Type 0} (shown : A → List ℕ × Option ℤ) (xs : List A) where
         ∙ sym (entries-from_entries (map shown items) rises)
         ∙ ap contents.entries view_is
 
-    -- all have been put into contents
+    -- all entries are put into the contents
     pub put_all_listed : (m : FinMap key_cmp (Option ℤ)) (i : ℕ) (before after : Contents) → contents.from_entries (map shown items) ≡ m → length xs ≤ i → put_all (map shown (drop i xs)) after ≡ put_all (map shown xs) before → after ≡ put_all (contents.entries m) before
     put_all_listed m i before after view_is past so_far =
         ap (λ ys. put_all (map shown ys) after) (sym (drop_all i xs past))

@@ -1,4 +1,4 @@
--- What a loop over all entries of a map has gathered at its end.
+-- The results of loops over all entries of a map.
 use Rattle.std.proofs.Common.{◌≡◌, ◌∙◌, ℕ, ℤ, Option, sym, ap, append-nil, List, [], ◌++◌}
 use Rattle.std.specs.BTreeMap.{BTreeMap, IsOrdered}
 use Rattle.std.specs.FinMap as contents
@@ -10,17 +10,17 @@ use Rattle.epx_types.proofs.SortedEntries.{entries-from_entries, write_all, inse
 use Rattle.epx_txn.proofs.TreeEntries.{is_sorted-from_order}
 
 module _ {X : Type 0} (tree : BTreeMap (List ℕ) X) (m : FinMap key_cmp X) (view_is : contents.from_entries tree.entries ≡ m) (rises : IsOrdered key_cmp tree) where
-  -- the tree's entries are the finite map's
+  -- the entries of the tree are those of the finite map
   pub entries_of_tree : tree.entries ≡ contents.entries m
   entries_of_tree =
       sym (entries-from_entries tree.entries (is_sorted-from_order tree.entries rises)) ∙ ap contents.entries view_is
 
-  -- all have been listed, after what was listed before
+  -- all entries are listed after the earlier ones
   pub listed_all : (before done rest start : List (List ℕ × X)) → rest ≡ [] → done ++ rest ≡ before ++ start → start ≡ tree.entries → done ≡ before ++ contents.entries m
   listed_all before done rest start e kept from =
       sym (append-nil done) ∙ ap (λ r. done ++ r) (sym e) ∙ kept ∙ ap (λ r. before ++ r) (from ∙ entries_of_tree)
 
-  -- all have been inserted
+  -- all entries are inserted
   pub inserted_all : (made : FinMap key_cmp X) (rest start : List (List ℕ × X)) → rest ≡ [] → write_all contents.insert rest made ≡ write_all contents.insert start contents.empty → start ≡ tree.entries → made ≡ m
   inserted_all made rest start e kept from =
       ap (λ r. write_all contents.insert r made) (sym e)
@@ -29,7 +29,7 @@ module _ {X : Type 0} (tree : BTreeMap (List ℕ) X) (m : FinMap key_cmp X) (vie
       ∙ insert_all-from_entries tree.entries (is_sorted-from_order tree.entries rises)
       ∙ view_is
 
--- all writes have been put in
+-- all writes are put in
 pub put_all_of_tree : (tree : BTreeMap (List ℕ) (Option ℤ)) (m : FinMap key_cmp (Option ℤ)) → contents.from_entries tree.entries ≡ m → IsOrdered key_cmp tree → (before after : Contents) (rest start : List Write) → rest ≡ [] → put_all rest after ≡ put_all start before → start ≡ tree.entries → after ≡ put_all (contents.entries m) before
 put_all_of_tree tree m view_is rises before after rest start e kept from =
     ap (λ r. put_all r after) (sym e) ∙ kept ∙ ap (λ r. put_all r before) (from ∙ entries_of_tree tree m view_is rises)

@@ -14,14 +14,14 @@ both_of true b g h = h
 both_of false b g h = absurd g
 
 module _ {X : Type 0} where
-  -- a key below one that is below all
+  -- a key that is below a lower bound is a lower bound
   pub below_all_trans : (j k : List ℕ) (es : List (List ℕ × X)) → key_cmp j k ≡ Less → T (below_all key_cmp k es) → T (below_all key_cmp j es)
   below_all_trans j k [] below h = tt
   below_all_trans j k (e ∷ es) below h =
       let next : is_lt (key_cmp j e.0) ≡ true = below_trans key_cmp_total j k e.0 (ap is_lt below) (ap is_lt (less_from_is_lt _ (first_of _ _ h))) in
       both_of _ _ (subst T (sym next) tt) (below_all_trans j k es below (second_of _ _ h))
 
-  -- the rest of entries that rise
+  -- the rest of rising entries rises
   pub is_sorted-drop : (es : List (List ℕ × X)) (i : ℕ) → T (is_sorted key_cmp es) → T (is_sorted key_cmp (drop i es))
   is_sorted-drop es zero h = h
   is_sorted-drop [] (suc i) h = h

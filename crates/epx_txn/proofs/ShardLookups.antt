@@ -1,4 +1,4 @@
--- The shards of a store: what is found in them, and what writes leave in them.
+-- Look-ups in the shards of a store.
 use Rattle.std.proofs.Common.{◌≡◌, ◌≢◌, ℕ, zero, suc, ◌<◌, ℤ, cond, true, false, List, [], ◌∷◌, ◌++◌, length, flat_map, get_or, Some, None, refl, sym, ap, ◌∙◌, inl, inr, All, arith}
 use Rattle.std.specs.Ordering.{eq_by_cmp}
 use Rattle.std.proofs.lemmas.Bool.{cases_lt}
@@ -28,13 +28,13 @@ find-append_first : (q : List ℕ) (es fs : List (List ℕ × ℤ)) → find key
 find-append_first q [] fs h = h
 find-append_first q (e ∷ es) fs h = ap (cond (eq_by_cmp key_cmp q e.0) (Some e.1)) (find-append_first q es fs h)
 
--- a key that no map has is not found in all of them
+-- a key that no map has is not found in them together
 pub find-nowhere : (q : List ℕ) (cs : List Contents) → ((n : ℕ) → contents.get (get_or cs n none_in) q ≡ None) → find key_cmp q (flat_map contents.entries cs) ≡ None
 find-nowhere q [] h = refl
 find-nowhere q (c ∷ cs) h =
     find-append_none q (contents.entries c) (flat_map contents.entries cs) (sym (get-entries c q) ∙ h 0) ∙ find-nowhere q cs (λ n. h (suc n))
 
--- a key that one map alone may have is found as in that map
+-- a key that only one map may have is found as in that map
 pub find-in_one : (q : List ℕ) (cs : List Contents) (n : ℕ) → ((m : ℕ) → n ≢ m → contents.get (get_or cs m none_in) q ≡ None) → find key_cmp q (flat_map contents.entries cs) ≡ contents.get (get_or cs n none_in) q
 find-in_one q [] n h = sym (get-empty key_cmp q)
 find-in_one q (c ∷ cs) zero h =
@@ -54,7 +54,7 @@ pub get-whole : (shards : List Contents) (q : List ℕ) → AreShards shards →
 get-whole shards q h =
     get-from_entries key_cmp_total (flat_map contents.entries shards) q ∙ find-in_one q shards (shard_of q) (λ m apart. h.own m q apart)
 
--- what the shard of a key has under it, in a store of sixteen shards
+-- a look-up in the shard of a key is a look-up in the store
 pub get-opened : (shards : List Contents) (c : Contents) (q : List ℕ) (n : ℕ) (d : Contents) → AreShards shards → whole shards ≡ c → n ≡ shard_of q → contents.get (get_or shards n d) q ≡ contents.get c q
 get-opened shards c q n d h is own =
     ap (λ x. contents.get x q) (get_or_default shards n d none_in (omega (arith, shard_of-below q, h.sixteen, own)))
@@ -62,7 +62,7 @@ get-opened shards c q n d h is own =
     ∙ sym (get-whole shards q h)
     ∙ ap (λ x. contents.get x q) is
 
--- of empty maps each is empty, and so is what stands past them
+-- each of several empty maps is empty, and so is the default after them
 empty_at : (shards : List Contents) → All (λ c. c ≡ contents.empty) shards → (n : ℕ) → get_or shards n none_in ≡ contents.empty
 empty_at shards h n = elim (cases_lt n (length shards)) [ inl within ↦ h n none_in within | inr past ↦ get_or_past shards n none_in past ]
 
@@ -74,7 +74,7 @@ module _ (shards : List Contents) (h : All (λ c. c ≡ contents.empty) shards) 
   pub AreShards-empty : length shards ≡ 16 → AreShards shards
   AreShards-empty sixteen = record { sixteen = sixteen; own = λ n k apart. nothing n k }
 
-  -- of nothing
+  -- empty maps contain nothing together
   pub whole-empty : whole shards ≡ contents.empty
   whole-empty =
       same_contents _ _ (λ q. get-from_entries key_cmp_total (flat_map contents.entries shards) q ∙ find-nowhere q shards (λ n. nothing n q) ∙ sym (get-empty key_cmp q))

@@ -1,4 +1,4 @@
--- Writes to the shards of a store, each in its own shard.
+-- Writes to the shards of a store, each to its own shard.
 use Rattle.std.proofs.Common.{◌≡◌, ◌≢◌, ℕ, ◌<◌, ℤ, cond, List, [], ◌∷◌, length, get_or, set, Option, refl, sym, ap, subst, OnOk, OnErr, ◌∙◌, inl, inr, arith}
 use Rattle.std.proofs.lemmas.Bool.{cases_lt}
 use Rattle.std.proofs.lemmas.Bool.Decides.{eqb_tells}
@@ -18,7 +18,7 @@ use Rattle.epx_txn.proofs.ShardLookups.{none_in, shard_of-below, get-whole}
 get-assign_other : (c : Contents) (k : List ℕ) (v : Option ℤ) (q : List ℕ) → q ≢ k → contents.get (assign c k v) q ≡ contents.get c q
 get-assign_other c k v q apart = elim (get-assign_cases c k v q) [ inl same ↦ absurd (apart same.0) | inr other ↦ other.1 ]
 
--- what all writes leave under a key, the writes to its shard leave there
+-- under a key, all writes leave what the writes to its shard leave
 pub get-writes_to_own : (ws : List Write) (c d : Contents) (q : List ℕ) → contents.get c q ≡ contents.get d q → contents.get (put_all ws c) q ≡ contents.get (put_all (writes_to (shard_of q) ws) d) q
 get-writes_to_own [] c d q same = same
 get-writes_to_own (w ∷ ws) c d q same =
@@ -29,7 +29,7 @@ get-writes_to_own (w ∷ ws) c d q same =
           ∙ ap (λ b. contents.get (put_all (cond b (w ∷ writes_to (shard_of q) ws) (writes_to (shard_of q) ws)) d) q) (sym other.0)
     ]
 
--- writes to one shard leave the keys of the others
+-- writes to one shard do not change the keys of the others
 pub get-writes_to_other : (ws : List Write) (c : Contents) (n : ℕ) (q : List ℕ) → shard_of q ≢ n → contents.get (put_all (writes_to n ws) c) q ≡ contents.get c q
 get-writes_to_other [] c n q apart = refl
 get-writes_to_other (w ∷ ws) c n q apart =
@@ -40,13 +40,13 @@ get-writes_to_other (w ∷ ws) c n q apart =
       | inr other ↦ ap (λ b. contents.get (put_all (cond b (w ∷ writes_to n ws) (writes_to n ws)) c) q) other.0 ∙ get-writes_to_other ws c n q apart
     ]
 
--- each of sixteen shards takes the writes to its keys
+-- sixteen shards, each with the writes to its keys put in
 pub record HaveTaken (ws : List Write) (before after : List Contents) : Type 0 where
   pub long : length after ≡ 16
   pub each : (n : ℕ) → n < 16 → get_or after n none_in ≡ put_all (writes_to n ws) (get_or before n none_in)
 
 module _ (ws : List Write) (before after : List Contents) (h : AreShards before) (taken : HaveTaken ws before after) where
-  -- they are shards again
+  -- the results are shards
   pub AreShards-taken : AreShards after
   AreShards-taken =
       record {
@@ -58,7 +58,7 @@ module _ (ws : List Write) (before after : List Contents) (h : AreShards before)
             ];
       }
 
-  -- and as a whole have all writes put in
+  -- the results together have all writes put in
   pub whole-taken : whole after ≡ put_all ws (whole before)
   whole-taken =
       same_contents _ _ (λ q.
@@ -66,7 +66,7 @@ module _ (ws : List Write) (before after : List Contents) (h : AreShards before)
       ∙ ap (λ c. contents.get c q) (taken.each (shard_of q) (shard_of-below q))
       ∙ sym (get-writes_to_own ws (whole before) (get_or before (shard_of q) none_in) q (get-whole before q h)))
 
--- one write, in the shard of its key
+-- one write to the shard of its key
 HaveTaken-one : (shards : List Contents) (k : List ℕ) (v : Option ℤ) (n : ℕ) (d c : Contents) → length shards ≡ 16 → n ≡ shard_of k → c ≡ assign (get_or shards n d) k v → HaveTaken ((k, v) ∷ []) shards (set shards n c)
 HaveTaken-one shards k v n d c sixteen own is =
     let within : n < length shards = omega (arith, shard_of-below k, own, sixteen) in
@@ -85,7 +85,7 @@ HaveTaken-one shards k v n d c sixteen own is =
           ];
     }
 
--- one shard after a write that was made or failed
+-- one shard after a write that succeeded or failed
 module _ {A : Type 0} (shards : List Contents) (before : Contents) (k : List ℕ) (v : Option ℤ) (n : ℕ) (d c : Contents) (h : AreShards shards) (own : n ≡ shard_of k) where
   pub AreShards-set : (r : Result A Memory) → OnOk r (c ≡ assign (get_or shards n d) k v) → OnErr r (c ≡ get_or shards n d) → AreShards (set shards n c)
   AreShards-set (Ok a) ok err = AreShards-taken ((k, v) ∷ []) shards (set shards n c) h (HaveTaken-one shards k v n d c h.sixteen own ok)

@@ -1,4 +1,4 @@
--- The entries of a tree map, as those of a finite map.
+-- The entries of a tree map are those of a finite map.
 use Rattle.std.proofs.Common.{◌≡◌, ℕ, ◌∙◌, refl, sym, ap, subst, T, cond, List, [], ◌∷◌, Option, Some, None}
 use Rattle.std.specs.Ordering.{eq_by_cmp, is_lt}
 use Rattle.std.specs.declared.cmp.Ordering.{Ordering}
@@ -40,7 +40,7 @@ module _ {X : Type 0} where
   same_after : (m : FinMap key_cmp X) (k q : List ℕ) (w : Option X) → cond (is_at (key_cmp k) q) w (contents.get m q) ≡ cond (eq_by_cmp key_cmp q k) w (contents.get m q)
   same_after m k q w = ap (λ b. cond b w (contents.get m q)) ((eq_by_cmp_equiv key_cmp_total).symm k q)
 
-  -- a tree's insertion is the finite map's
+  -- an insertion into a tree is one into the finite map
   pub from_entries-inserted : (m n : BTreeMap (List ℕ) X) (k : List ℕ) (v : X) → Updates key_cmp m n k (Some v) → contents.from_entries {R = key_cmp} n.entries ≡ contents.insert (contents.from_entries m.entries) k v
   from_entries-inserted m n k v u =
       same_map key_cmp_total key_cmp-IsAntisymmetric _ _ (λ q.
@@ -50,7 +50,7 @@ module _ {X : Type 0} where
       ∙ same_after (contents.from_entries m.entries) k q (Some v)
       ∙ sym (get-insert key_cmp_total (contents.from_entries m.entries) k v q))
 
-  -- a tree's removal is the finite map's
+  -- a removal from a tree is one from the finite map
   pub from_entries-removed : (m n : BTreeMap (List ℕ) X) (k : List ℕ) → Updates key_cmp m n k None → contents.from_entries {R = key_cmp} n.entries ≡ contents.remove (contents.from_entries m.entries) k
   from_entries-removed m n k u =
       same_map key_cmp_total key_cmp-IsAntisymmetric _ _ (λ q.

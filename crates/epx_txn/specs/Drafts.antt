@@ -1,4 +1,4 @@
--- Writes that a command has made so far, over contents that it only reads.
+-- The writes of a command so far, over contents that it only reads.
 use Rattle.std.specs.Prelude.{◌≡◌, ℤ, [], ◌∷◌, Option, Some, None}
 use Rattle.std.specs.FinMap as contents
 use Rattle.std.specs.FinMap.{FinMap}
@@ -11,7 +11,7 @@ use Rattle.epx_types.specs.declared.op.Op.{Op}
 use Rattle.epx_txn.specs.declared.draft.Step.{Step}
 use Rattle.epx_txn.specs.declared.draft.Step.TheVariants.{Read, Done, Abort}
 
--- a value, or absence, under each key that was written
+-- under each written key a value, or None for absence
 abbrev pub Draft : Type 0
 Draft = FinMap key_cmp (Option ℤ)
 
@@ -19,11 +19,11 @@ Draft = FinMap key_cmp (Option ℤ)
 abbrev pub seen_through : Draft → Contents → Contents
 seen_through d c = put_all (contents.entries d) c
 
--- the keys of the operation are added to the written ones
+-- the keys that the operation writes are added to the written ones
 abbrev pub AddsKeys : Op → Draft → Draft → Type 0
 AddsKeys op d e = contents.keys e ≡ add_keys (contents.keys d) (written_by op)
 
--- what an operation did to a draft d over the contents c, where e is the draft afterwards
+-- what an operation does to a draft d over the contents c; e is the draft afterwards
 abbrev pub StepIs : Step → Op → Contents → Draft → Draft → Type 0
 StepIs (Read v) op c d e = (operate op (seen_through d c) ≡ Some (seen_through e c, v ∷ [])) × AddsKeys op d e
 StepIs Done op c d e = (operate op (seen_through d c) ≡ Some (seen_through e c, [])) × AddsKeys op d e

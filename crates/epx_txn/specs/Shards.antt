@@ -8,12 +8,12 @@ use Rattle.epx_types.specs.Writes.{Write}
 abbrev pub shard_of : List ℕ → ℕ
 shard_of key = sum key % 16
 
--- sixteen shards, where no key stands in another shard than its own
+-- there are sixteen shards, and each key is only in its own shard
 pub record AreShards (shards : List Contents) : Type 0 where
   pub sixteen : length shards ≡ 16
   pub own : (n : ℕ) (k : List ℕ) → shard_of k ≢ n → contents.get (get_or shards n contents.empty) k ≡ None
 
--- what all shards contain
+-- the contents of all shards together
 abbrev pub whole : List Contents → Contents
 whole shards = contents.from_entries (flat_map contents.entries shards)
 

@@ -1,4 +1,4 @@
-//! The operations of a command over a lent store, with its writes held back.
+//! Runs the operations of a command over a borrowed store, and keeps its writes in a draft.
 ghost use Rattle.std.specs.Prelude.{◌≡◌, IfOk, OnOk, if◌then◌else◌};
 ghost use Rattle.std.specs.FinMap as contents;
 ghost use Rattle.epx_types.specs.Writes.{put_all};
@@ -11,13 +11,13 @@ use epx_types::{Key, Memory, Op};
 use std::alloc::Global;
 use std::marker::Model;
 
-/// What a command has written so far: a value, or None for absence, under each written key.
-/// Contracts see it as one finite map.
+/// The writes of a command so far: under each written key a value, or None for absence. Contracts
+/// see it as one finite map.
 #[derive(Drop)]
 pub(crate) struct Draft<'a> {
     alloc: Global,
     few: FewWrites<'a>,
-    /// All, where they are too many for the former, which is then left as it was.
+    /// All writes, once there are too many for `few`. From then on `few` is not used.
     many: Option<KeyMap<Option<i64>>>,
 }
 
@@ -69,7 +69,7 @@ impl<'a> Draft<'a> {
         Ok(())
     }
 
-    /// All of them, put into a store.
+    /// Puts all writes into a store.
     pub(crate) fn put_into(&self, store: &mut Store) -> Result<(), Memory>
         ensures { OnOk result (store.new ≡ put_all (contents.entries self.now) store.old) }
     {
@@ -79,7 +79,7 @@ impl<'a> Draft<'a> {
         }
     }
 
-    /// The keys, copied once, with their values, by rising key.
+    /// Returns copies of the keys with their values, by rising key. Each key is copied once.
     pub(crate) fn into_pairs(self) -> Result<Vec<(Key, Option<i64>)>, Memory>
         ensures { IfOk result (λ v. v.items ≡ contents.entries self.entry) }
     {
@@ -91,7 +91,7 @@ impl<'a> Draft<'a> {
     }
 }
 
-/// What one operation did.
+/// The result of one operation.
 #[derive(Clone, Copy, Debug, PartialEq, Eq)]
 pub(crate) enum Step {
     Read(Option<i64>),
@@ -99,7 +99,7 @@ pub(crate) enum Step {
     Abort,
 }
 
-/// The value under a key as the command sees it.
+/// Returns the value under a key as the command sees it: from the draft, or else from the store.
 fn read(draft: &Draft, store: &Store, key: &Key) -> Option<i64>
     ensures { result ≡ contents.get (seen_through draft.now store.now) key.now }
 {
@@ -109,7 +109,7 @@ fn read(draft: &Draft, store: &Store, key: &Key) -> Option<i64>
     }
 }
 
-/// One more write.
+/// Adds a write to the draft.
 fn write<'a>(draft: &mut Draft<'a>, key: &'a Key, value: Option<i64>) -> Result<Step, Memory>
     ensures { IfOk result
         (λ s. (s ≡ Step.Done) × (draft.new ≡ contents.insert draft.old key.now value)) }
@@ -124,7 +124,7 @@ fn done_if(holds: bool) -> Step
     if holds { Step::Done } else { Step::Abort }
 }
 
-/// One operation.
+/// Runs one operation: reads through the draft and writes into it.
 pub(crate) fn operate<'a>(draft: &mut Draft<'a>, store: &Store, op: &'a Op) -> Result<Step, Memory>
     ensures { IfOk result (λ s. StepIs s op.now store.now draft.old draft.new) }
 {

@@ -1,11 +1,11 @@
-//! What a command does.
+//! The effect of a command: its reply and its writes.
 ghost use Rattle.std.specs.Prelude.{◌≡◌};
 
 use epx_types::{Key, Reply};
 use std::marker::Model;
 
-/// Keys with the value that each holds afterwards, or None where it is absent. Contracts see it as
-/// a list.
+/// The written keys, each with its value after the command, or None if it is absent. Contracts see
+/// it as a list.
 #[derive(Debug, Drop)]
 pub struct Writes {
     items: Vec<(Key, Option<i64>)>,
@@ -27,6 +27,7 @@ impl Writes {
         Writes { items }
     }
 
+    /// Returns the written keys with their values, in their order.
     pub fn as_slice(&self) -> &[(Key, Option<i64>)]
         ensures { result.now ≡ self.now }
     {
@@ -34,7 +35,7 @@ impl Writes {
     }
 }
 
-/// The reply of a command, and what it writes.
+/// The reply of a command and its writes.
 #[derive(Debug, Drop)]
 pub struct Effect {
     pub reply: Reply,

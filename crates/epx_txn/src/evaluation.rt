@@ -1,4 +1,4 @@
-//! One command over a store.
+//! Runs one command over a store.
 ghost use Rattle.std.specs.Prelude.{◌≡◌, IfOk, OnOk};
 ghost use Rattle.std.specs.FinMap as contents;
 ghost use Rattle.epx_types.specs.Commands.{command_on};
@@ -10,7 +10,7 @@ use crate::store::Store;
 use epx_types::{Memory, Op, Reply, Values};
 use std::alloc::Global;
 
-/// The reply of a command over a store that it only reads, and what it would write.
+/// Runs a command over a store that it only reads. Returns its reply and its writes.
 fn operate_all<'a>(
     alloc: Global,
     store: &Store,
@@ -34,7 +34,7 @@ fn operate_all<'a>(
     Ok((Reply::Values(Values::new(got)), draft))
 }
 
-/// What a command does to a store, which it only reads.
+/// Runs a command over a store without changing the store. Returns its reply and its writes.
 pub fn eval(alloc: Global, store: &Store, ops: &[Op]) -> Result<Effect, Memory>
     ensures reply { IfOk result (λ e. e.reply ≡ (command_on ops.now store.now).reply) }
     ensures writes { IfOk result (λ e. e.writes ≡ writes_of ops.now store.now) }
@@ -44,8 +44,8 @@ pub fn eval(alloc: Global, store: &Store, ops: &[Op]) -> Result<Effect, Memory>
     Ok(Effect { reply, writes })
 }
 
-/// One command applied to a store at once: the store after it, and its reply. After want of memory some of its writes
-/// may stand in the store.
+/// Runs a command and puts its writes into the store. Returns its reply. After `Memory` the store
+/// may have some of the writes.
 pub fn apply(alloc: Global, store: &mut Store, ops: &[Op]) -> Result<Reply, Memory>
     ensures reply { IfOk result (λ r. r ≡ (command_on ops.now store.old).reply) }
     ensures after { OnOk result (store.new ≡ (command_on ops.now store.old).after) }

@@ -13,11 +13,11 @@ use std::alloc::Global;
 use std::cmp::Ordering;
 use std::marker::Model;
 
-/// So many keys are looked through one after another; more would be slow.
+/// The most keys for which a linear search is fast enough.
 const FEW: usize = 16;
 
-/// A value, or None for absence, under each of a few lent keys, by rising key. Contracts see it as
-/// one finite map.
+/// Under each of a few borrowed keys a value, or None for absence, by rising key. Contracts see it
+/// as one finite map.
 #[derive(Drop)]
 pub(crate) struct FewWrites<'a> {
     items: Vec<(&'a Key, Option<i64>)>,
@@ -39,7 +39,7 @@ impl<'a> Model for FewWrites<'a> {
     ghost invariant = { λ w. T (is_sorted key_cmp (map (λ p. (p.0.now, p.1)) w.items.items)) };
 }
 
-/// Where the key stands, or else where it belongs.
+/// Returns the slot of the key, or as the error the slot at which to insert it.
 fn place_of(writes: &[(&Key, Option<i64>)], key: &Key) -> Result<usize, usize>
     requires { T (is_sorted key_cmp (map (λ p. (p.0.now, p.1)) writes.now)) }
     ensures { MatchResult result
@@ -74,7 +74,7 @@ impl<'a> FewWrites<'a> {
         }
     }
 
-    /// False where there is no room for the key.
+    /// Puts a value under a key. False if the key is new and there is no room for it.
     pub(crate) fn set(&mut self, key: &'a Key, value: Option<i64>) -> Result<bool, Memory>
         ensures after { IfOk result
             (λ had_room. self.new ≡
@@ -93,7 +93,7 @@ impl<'a> FewWrites<'a> {
         Ok(true)
     }
 
-    /// The same in a tree, with copies of the keys.
+    /// Copies the writes into a tree.
     pub(crate) fn tree(&self, alloc: Global) -> Result<KeyMap<Option<i64>>, Memory>
         ensures { IfOk result (λ m. m ≡ self.now) }
     {
@@ -104,7 +104,7 @@ impl<'a> FewWrites<'a> {
         Ok(tree)
     }
 
-    /// All of them, put into a store.
+    /// Puts all writes into a store.
     pub(crate) fn put_into(&self, store: &mut Store) -> Result<(), Memory>
         ensures { OnOk result (store.new ≡ put_all (contents.entries self.now) store.old) }
     {
@@ -114,7 +114,7 @@ impl<'a> FewWrites<'a> {
         Ok(())
     }
 
-    /// Copies of the keys with their values, by rising key.
+    /// Returns copies of the keys with their values, by rising key.
     pub(crate) fn pairs(&self, alloc: Global) -> Result<Vec<(Key, Option<i64>)>, Memory>
         ensures { IfOk result (λ v. v.items ≡ contents.entries self.now) }
     {

@@ -1,4 +1,4 @@
-//! Values under keys.
+//! A map from keys to values.
 ghost use Rattle.std.specs.Prelude.{◌≡◌, ◌++◌, IfOk, OnOk, OnErr, map};
 ghost use Rattle.std.specs.FinMap as contents;
 ghost use Rattle.epx_types.specs.Keys.{key_cmp};
@@ -11,7 +11,7 @@ use std::alloc::Global;
 use std::collections::BTreeMap;
 use std::marker::Model;
 
-/// Values under keys, in the order of the keys. Contracts see it as one finite map.
+/// A map from keys to values, in the order of the keys. Contracts see it as one finite map.
 #[derive(Debug, Drop)]
 pub(crate) struct KeyMap<V> {
     alloc: Global,
@@ -60,7 +60,7 @@ impl<V: Copy> KeyMap<V> {
         Ok(())
     }
 
-    /// As `insert`, with a key that is lent and is copied only where it is new.
+    /// As `insert`, with a borrowed key. The key is copied only if it is new.
     pub(crate) fn set(&mut self, key: &Key, value: V) -> Result<(), Memory>
         ensures ok { OnOk result (self.new ≡ contents.insert self.old key.now value) }
         ensures err { OnErr result (self.new ≡ self.old) }
@@ -88,7 +88,7 @@ impl<V: Copy> KeyMap<V> {
         Ok(made)
     }
 
-    /// The keys with their values, by rising key.
+    /// Returns borrowed keys with their values, by rising key.
     pub(crate) fn list(&self) -> Result<Vec<(&Key, V)>, Memory>
         ensures { IfOk result (λ v. map (λ p. (p.0.now, p.1)) v.items ≡ contents.entries self.now) }
     {
@@ -99,7 +99,7 @@ impl<V: Copy> KeyMap<V> {
         Ok(pairs)
     }
 
-    /// The keys, moved out, with their values, by rising key.
+    /// Returns the keys with their values, by rising key.
     pub(crate) fn into_pairs(self) -> Result<Vec<(Key, V)>, Memory>
         ensures { IfOk result (λ v. v.items ≡ contents.entries self) }
     {
@@ -113,8 +113,8 @@ impl<V: Copy> KeyMap<V> {
 }
 
 impl KeyMap<i64> {
-    /// The key holds the value, or is absent where there is none. The key is copied only where it is
-    /// new.
+    /// Puts the value under the key, or removes the key if there is no value. The key is copied
+    /// only if it is new.
     pub(crate) fn assign(&mut self, key: &Key, value: Option<i64>) -> Result<(), Memory>
         ensures ok { OnOk result (self.new ≡ assign self.old key.now value) }
         ensures err { OnErr result (self.new ≡ self.old) }
@@ -128,7 +128,7 @@ impl KeyMap<i64> {
 }
 
 impl KeyMap<Option<i64>> {
-    /// Written values, put into a store; None is absence.
+    /// Puts written values into a store, where None removes the key.
     pub(crate) fn put_into(&self, store: &mut Store) -> Result<(), Memory>
         ensures { OnOk result (store.new ≡ put_all (contents.entries self.now) store.old) }
     {

@@ -1,4 +1,4 @@
-//! The keys that operations touch and write, by their text.
+//! The keys that operations touch and write, by the text of the operations.
 ghost use Rattle.std.specs.Prelude.{◌≡◌, IfOk, OnOk, map};
 ghost use Rattle.std.specs.BTreeSet.{insert_key};
 ghost use Rattle.epx_types.specs.Keys.{key_cmp, add_keys};
@@ -48,7 +48,7 @@ fn add_written<'a>(keys: &mut BTreeSet<&'a Key>, op: &'a Op) -> Result<(), Memor
     }
 }
 
-/// The keys that the operations touch, rising, each once.
+/// Returns the keys that the operations touch, rising, each once.
 pub fn touched<'a>(alloc: Global, ops: &'a [Op]) -> Result<Vec<&'a Key>, Memory>
     ensures { IfOk result (λ v. map (λ k. k.now) v.items ≡ touched_keys ops.now) }
 {
@@ -59,7 +59,7 @@ pub fn touched<'a>(alloc: Global, ops: &'a [Op]) -> Result<Vec<&'a Key>, Memory>
     Ok(keys.into_iter().collect(alloc)?)
 }
 
-/// The keys that the operations write, rising, each once.
+/// Returns the keys that the operations write, rising, each once.
 pub fn written<'a>(alloc: Global, ops: &'a [Op]) -> Result<Vec<&'a Key>, Memory>
     ensures { IfOk result (λ v. map (λ k. k.now) v.items ≡ written_keys ops.now) }
 {

@@ -1,4 +1,5 @@
-//! The store, one command over a lent store, and the writes of several commands put into a store.
+//! The store, the execution of one command over it, and the merging of the writes of several
+//! commands.
 #![tactic(auto)]
 
 mod draft;

@@ -1,4 +1,4 @@
-//! The writes of several commands, put into a store.
+//! Puts the writes of several commands into a store.
 ghost use Rattle.std.specs.Prelude.{◌≡◌, IfOk, OnOk, flat_map};
 ghost use Rattle.epx_types.specs.Writes.{put_all, NoKeyTwice};
 
@@ -8,7 +8,8 @@ use epx_types::Memory;
 use std::alloc::Global;
 use std::thread::Threads;
 
-/// Fewer writes than these are put in by one thread: to start and join threads takes as long.
+/// With fewer writes than this, one thread puts them in: starting and joining threads would take
+/// as long.
 const MANY: usize = 4_096;
 
 fn are_few(effects: &[Effect]) -> bool {
@@ -22,7 +23,7 @@ fn are_few(effects: &[Effect]) -> bool {
     true
 }
 
-/// The writes of one command, put into the store one after another.
+/// Puts the writes of one command into the store, one after another.
 fn put_writes(store: &mut Store, writes: &Writes) -> Result<(), Memory>
     ensures { OnOk result (store.new ≡ put_all writes.now store.old) }
 {
@@ -32,7 +33,7 @@ fn put_writes(store: &mut Store, writes: &Writes) -> Result<(), Memory>
     Ok(())
 }
 
-/// All writes, put into the store one after another.
+/// Puts the writes of all commands into the store, one after another.
 fn put_effects(store: &mut Store, effects: &[Effect]) -> Result<(), Memory>
     ensures { OnOk result
         (store.new ≡ put_all (flat_map (λ e. e.writes) effects.now) store.old) }
@@ -43,7 +44,8 @@ fn put_effects(store: &mut Store, effects: &[Effect]) -> Result<(), Memory>
     Ok(())
 }
 
-/// The store with all writes put in. After want of memory the store is gone.
+/// Puts the writes of all effects into the store, and returns it. After `Memory` the store is
+/// dropped.
 pub fn merge_effects<R: Threads + Sync>(
     rt: &R,
     _alloc: Global,

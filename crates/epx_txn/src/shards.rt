@@ -9,10 +9,10 @@ use epx_types::{Key, Memory};
 use std::alloc::Global;
 use std::array;
 
-/// A store has so many shards.
+/// The number of shards of a store.
 pub(crate) const SHARDS: usize = 16;
 
-/// The number of a key's shard: the sum of its bytes modulo the number of shards.
+/// Returns the number of a key's shard: the sum of its bytes modulo the number of shards.
 pub(crate) fn shard_of(key: &Key) -> usize
     ensures { result ≡ shard_of key.now }
 {
@@ -23,7 +23,7 @@ pub(crate) fn shard_of(key: &Key) -> usize
     sum % SHARDS
 }
 
-/// Shards without keys. Allocates nothing.
+/// Returns shards without keys. Allocates nothing.
 pub(crate) fn empty_shards(alloc: Global) -> [KeyMap<i64>; SHARDS]
     ensures { All (λ c. c ≡ contents.empty) result }
 {
@@ -43,7 +43,7 @@ pub(crate) fn copy_shards(
     Ok(copy)
 }
 
-/// Of each shard the keys with their values, by rising key.
+/// Returns for each shard its keys with their values, by rising key.
 pub(crate) fn list_shards<'a>(
     alloc: Global,
     shards: &'a [KeyMap<i64>; SHARDS],

@@ -14,7 +14,7 @@ use std::alloc::Global;
 use std::marker::Model;
 use std::thread::Threads;
 
-/// Signed numbers of 64 bits under keys. Contracts see it as one finite map.
+/// A map from keys to signed numbers of 64 bits. Contracts see it as one finite map.
 #[derive(Debug, Drop)]
 pub struct Store {
     alloc: Global,
@@ -37,7 +37,7 @@ impl Model for Store {
 }
 
 impl Store {
-    /// Allocates nothing; what is put in later comes from the allocator.
+    /// Returns an empty store. Allocates nothing; later insertions use the allocator.
     pub fn new(alloc: Global) -> Store
         ensures { result ≡ contents.empty }
     {
@@ -47,14 +47,14 @@ impl Store {
         }
     }
 
-    /// None where the key is absent.
+    /// Returns the value under the key. None if the key is absent.
     pub fn get(&self, key: &Key) -> Option<i64>
         ensures { result ≡ contents.get self.now key.now }
     {
         self.shards[shard_of(key)].get(key)
     }
 
-    /// How many keys are present.
+    /// Returns the number of keys.
     pub fn len(&self) -> u128
         ensures { result ≡ contents.len self.now }
     {
@@ -65,7 +65,7 @@ impl Store {
         present
     }
 
-    /// The key holds the value. On want of memory the key is dropped.
+    /// Puts the value under the key. On `Memory` the key is dropped.
     pub fn put(&mut self, key: Key, value: i64) -> Result<(), Memory>
         ensures ok { OnOk result (self.new ≡ contents.insert self.old key value) }
         ensures err { OnErr result (self.new ≡ self.old) }
@@ -73,8 +73,8 @@ impl Store {
         self.shards[shard_of(&key)].insert(key, value)
     }
 
-    /// The key holds the value, or is absent where there is none. The key is copied only where it is
-    /// new.
+    /// Puts the value under the key, or removes the key if there is no value. The key is copied
+    /// only if it is new.
     pub(crate) fn write(&mut self, key: &Key, value: Option<i64>) -> Result<(), Memory>
         ensures ok { OnOk result (self.new ≡ assign self.old key.now value) }
         ensures err { OnErr result (self.new ≡ self.old) }
@@ -82,9 +82,10 @@ impl Store {
         self.shards[shard_of(key)].assign(key, value)
     }
 
-    /// Each shard takes, of all effects, the writes of its own keys, in threads of their own. After
-    /// want of memory the store is gone.
-    // Not inlined, so that a merge of few writes does not clear the space of these routes.
+    /// Puts the writes of all effects into the shards, in several threads, and returns the store.
+    /// After `Memory` the store is dropped.
+    // Not inlined, because the caller would clear the stack space of the routes even for few
+    // writes.
     #[inline(never)]
     pub(crate) fn take_effects<R: Threads + Sync>(
         self,
@@ -99,6 +100,7 @@ impl Store {
         Ok(Store { alloc, shards })
     }
 
+    /// Returns a copy of the store. Takes O(n log n) key comparisons for n keys.
     pub fn copy(&self) -> Result<Store, Memory>
         ensures { IfOk result (λ s. s ≡ self.now) }
     {
@@ -109,13 +111,14 @@ impl Store {
         })
     }
 
-    /// The keys with their values, in byte order of the keys.
+    /// Returns the keys with their values, in byte order of the keys.
     pub fn pairs(&self) -> Result<Vec<(&Key, i64)>, Memory>
         ensures { IfOk result (λ v. map (λ p. (p.0.now, p.1)) v.items ≡ contents.entries self.now) }
     {
         let lists = list_shards(self.alloc, &self.shards)?;
         let (mut pairs, rises) = merge(self.alloc, lists)?;
-        // They rise, but only the heads were asked to show it, and some keys have the same.
+        // The keys rise, but their heads alone do not show it, because some keys have the same
+        // head.
         if !rises {
             pairs.sort()?;
         }

@@ -1,4 +1,4 @@
--- Lines of logs fix their committed map and their first disagreement.
+-- Lines of logs have at most one committed map and at most one first disagreement.
 use Rattle.std.proofs.Common.{◌↔◌, [], ◌∷◌, Some, is_eq, true, refl, ap, inl, inr, ◌≡◌, List, AllPairs, Contains, sym, ◌∙◌, subst}
 use Rattle.std.proofs.lemmas.Bool.{cases_Bool}
 use Rattle.std.specs.Cmp.{Equal-is, tied_itself}
@@ -51,7 +51,7 @@ instance_of-found (d ∷ m) x e found =
       | inr other ↦ let rest = instance_of-found m x e (rw other at found) in (Contains-cons d m e rest.0, rest.1)
     ]
 
--- a look-up finds an instance of the Id where one is committed
+-- a look-up finds an instance of the Id if one is committed
 pub instance_of-finds : (m : List Instance) (e : Instance) → Contains m e → (d : Instance) × (instance_of m e.id ≡ Some d)
 instance_of-finds [] e h = absurd (Contains-nil e h)
 instance_of-finds (d ∷ m) e h =
@@ -63,7 +63,7 @@ instance_of-finds (d ∷ m) e h =
       ]
     ]
 
--- a look-up finds the committed instance of an Id, and no other
+-- a look-up finds exactly the committed instance of an Id
 pub instance_of_iff : (m : List Instance) → IsRising (ids_of m) → (x : Id) (e : Instance) → (instance_of m x ≡ Some e) ↔ Contains m e × (e.id ≡ x)
 instance_of_iff m rising x e = (instance_of-found m x e, back) where
   back : Contains m e × (e.id ≡ x) → instance_of m x ≡ Some e
@@ -80,11 +80,11 @@ module _ (lines : List Placed) where
   pub IsFirstDisagreement-not_Agree : (id : Id) (first second : Placed) → IsFirstDisagreement lines id first second → ¬ Agree lines
   IsFirstDisagreement-not_Agree id first second h agree = h.differ.1 (agree first second h.has_first h.has_second h.differ.0)
 
-  -- no first disagreement names an Id below that of another
+  -- no first disagreement has an Id below that of another
   IsFirstDisagreement-least : (id id' : Id) (first second first' second' : Placed) → IsFirstDisagreement lines id first second → IsFirstDisagreement lines id' first' second' → UpTo id id'
   IsFirstDisagreement-least id id' first second first' second' p q = subst (UpTo id) q.named (p.least first' second' q.has_first q.has_second q.differ)
 
-  -- two first disagreements are equal, where no two lines stand at one place
+  -- two first disagreements are equal if no two lines have the same place
   pub IsFirstDisagreement-unique : HavePlacesOfTheirOwn lines → (id id' : Id) (first second first' second' : Placed) → IsFirstDisagreement lines id first second → IsFirstDisagreement lines id' first' second' → (id ≡ id') × (first ≡ first') × (second ≡ second')
   IsFirstDisagreement-unique own id id' first second first' second' p q =
       let ids = UpTo-both id id' (IsFirstDisagreement-least id id' first second first' second' p q) (IsFirstDisagreement-least id' id first' second' first second q p) in

@@ -1,4 +1,4 @@
--- Commands that do not conflict can be exchanged.
+-- Two commands that do not conflict can be exchanged.
 use Rattle.std.proofs.Common.{◌≡◌, ◌⊎◌, ℕ, List, Contains, sym, ◌∙◌, inl, inr}
 use Rattle.std.specs.FinMap as contents
 use Rattle.epx_types.specs.declared.op.Op.{Op}
@@ -9,25 +9,25 @@ use Rattle.epx_types.specs.CommandKeys.{touched_keys, written_keys}
 use Rattle.epx_types.proofs.ContentsLemmas.{same_contents}
 use Rattle.epx_types.proofs.Commands.{written_or_kept, written_keys-touched, command_on-EndsAlike}
 
--- conflict does not depend on which command is named first
+-- conflict is symmetric
 pub Conflict-turned : (a b : List Op) → Conflict a b → Conflict b a
 Conflict-turned a b (k, inl both) = (k, inr (both.1, both.0))
 Conflict-turned a b (k, inr both) = (k, inl (both.1, both.0))
 
--- a key that a command does not write keeps what it had
+-- a key that a command does not write keeps its value
 kept : (ops : List Op) (c : Contents) (q : List ℕ) → ¬ Contains (written_keys ops) q → contents.get (command_on ops c).after q ≡ contents.get c q
 kept ops c q not_written = elim (written_or_kept ops c q) [ inl written ↦ absurd (not_written written) | inr same ↦ same ]
 
 module _ (a b : List Op) (apart : ¬ Conflict a b) (c : Contents) where
-  -- what one touches the other leaves
+  -- the keys that b touches keep their values when a is executed
   pub touched_kept : AgreeOn (touched_keys b) (command_on a c).after c
   touched_kept k touched = kept a c k (λ written. apart (k, inl (written, touched)))
 
-  -- the second replies as it does alone
+  -- b has the same reply after a as without a
   pub reply-after_apart : (command_on b (command_on a c).after).reply ≡ (command_on b c).reply
   reply-after_apart = (command_on-EndsAlike b (command_on a c).after c touched_kept).0
 
-  -- a key that the second writes has what the second leaves there alone, in either order
+  -- a key that b writes has the same value in either order
   at_written : (q : List ℕ) → Contains (written_keys b) q → contents.get (command_on b (command_on a c).after).after q ≡ contents.get (command_on a (command_on b c).after).after q
   at_written q written =
       (command_on-EndsAlike b (command_on a c).after c touched_kept).1 q (written_keys-touched b q written)

@@ -1,4 +1,5 @@
--- Commands that do not conflict, in lists: one is moved past others, and all are executed over the contents before them.
+-- Lists of commands that do not conflict: one command can move past others, and all can be
+-- executed over the same contents.
 use Rattle.std.proofs.Common.{◌≡◌, ◌≢◌, ◌∙◌, List, [], ◌∷◌, ◌++◌, map, flat_map, Contains, refl, sym, ap, ap₂, subst, inl, inr, arith}
 use Rattle.std.proofs.lemmas.List.Elements.{Contains-append_cases}
 use Rattle.epx_types.specs.declared.op.Op.{Op}
@@ -15,38 +16,38 @@ use Rattle.epx_types.proofs.Commands.{put_all-writes_of, writes_of-written, writ
 use Rattle.epx_types.proofs.Executions.{execute-append}
 use Rattle.epx_types.proofs.GatheredWrites.{put_all-append}
 
--- ---- one command, past others with which it does not conflict
+-- ---- one command and others with which it does not conflict
 
 module _ (a : List Op) where
-  -- they reply as they do without it
+  -- the others have the same replies after a as without a
   pub replies-past : (others : List (List Op)) → ApartFrom a others → (c : Contents) → (execute others (command_on a c).after).replies ≡ (execute others c).replies
   replies-past [] apart c = refl
   replies-past (b ∷ others) apart c =
       let clear = apart b (Contains-head b others) in
       ap₂ (λ r rs. r ∷ rs) (reply-after_apart a b clear c) (ap (λ d. (execute others d).replies) (after-exchanged a b clear c) ∙ replies-past others (λ d h. apart d (Contains-cons b others d h)) (command_on b c).after)
 
-  -- it can as well be executed after them
+  -- a before the others leaves the same contents as a after them
   pub final-past : (others : List (List Op)) → ApartFrom a others → (c : Contents) → (execute others (command_on a c).after).final ≡ (command_on a (execute others c).final).after
   final-past [] apart c = refl
   final-past (b ∷ others) apart c =
       ap (λ d. (execute others d).final) (after-exchanged a b (apart b (Contains-head b others)) c)
       ∙ final-past others (λ d h. apart d (Contains-cons b others d h)) (command_on b c).after
 
-  -- and then replies the same
+  -- and a has the same reply after them
   pub reply-past : (others : List (List Op)) → ApartFrom a others → (c : Contents) → (command_on a (execute others c).final).reply ≡ (command_on a c).reply
   reply-past [] apart c = refl
   reply-past (b ∷ others) apart c =
       reply-past others (λ d h. apart d (Contains-cons b others d h)) (command_on b c).after
       ∙ reply-after_apart b a (λ conflict. apart b (Contains-head b others) (Conflict-turned b a conflict)) c
 
-  -- moved to the front, it leaves the same
+  -- moving a to the front leaves the same contents
   pub final-front : (front rest : List (List Op)) → ApartFrom a front → (c : Contents) → (execute (front ++ a ∷ rest) c).final ≡ (execute (front ++ rest) (command_on a c).after).final
   final-front front rest apart c =
       (execute-append front (a ∷ rest) c).1
       ∙ ap (λ d. (execute rest d).final) (sym (final-past front apart c))
       ∙ sym (execute-append front rest (command_on a c).after).1
 
-  -- and the replies are the same
+  -- and each command has the same reply
   pub replies-front : (front rest : List (List Op)) → ApartFrom a front → (c : Contents) → (execute (front ++ a ∷ rest) c).replies ≡ (execute front (command_on a c).after).replies ++ (command_on a c).reply ∷ (execute rest (execute front (command_on a c).after).final).replies
   replies-front front rest apart c =
       (execute-append front (a ∷ rest) c).0
@@ -59,7 +60,7 @@ module _ (a : List Op) where
 abbrev pub writes_over : List (List Op) → Contents → List Write
 writes_over commands c = flat_map (λ ops. writes_of ops c) commands
 
--- what one leaves gives the others the same replies
+-- after one of them the others have the same replies
 replies-over_after : (a : List Op) (others : List (List Op)) → ApartFrom a others → (c : Contents) → map (λ ops. (command_on ops (command_on a c).after).reply) others ≡ map (λ ops. (command_on ops c).reply) others
 replies-over_after a [] apart c = refl
 replies-over_after a (b ∷ others) apart c =
@@ -71,13 +72,13 @@ writes_over-after a [] apart c = refl
 writes_over-after a (b ∷ others) apart c =
     ap₂ (λ ws vs. ws ++ vs) (writes_of-alike b (command_on a c).after c (touched_kept a b (apart b (Contains-head b others)) c)) (writes_over-after a others (λ d h. apart d (Contains-cons b others d h)) c)
 
--- each replies as it does over the contents before all of them
+-- each has the reply that it has over the initial contents
 pub replies-all_apart : (commands : List (List Op)) → AllApart commands → (c : Contents) → (execute commands c).replies ≡ map (λ ops. (command_on ops c).reply) commands
 replies-all_apart [] apart c = refl
 replies-all_apart (a ∷ others) apart c =
     ap (λ rs. (command_on a c).reply ∷ rs) (replies-all_apart others apart.1 (command_on a c).after ∙ replies-over_after a others apart.0 c)
 
--- and their writes, put in together, leave what they leave one after another
+-- and applying all their writes leaves the contents that executing them leaves
 pub final-all_apart : (commands : List (List Op)) → AllApart commands → (c : Contents) → (execute commands c).final ≡ put_all (writes_over commands c) c
 final-all_apart [] apart c = refl
 final-all_apart (a ∷ others) apart c =
@@ -85,7 +86,7 @@ final-all_apart (a ∷ others) apart c =
     ∙ ap₂ put_all (writes_over-after a others apart.0 c) (sym (put_all-writes_of a c))
     ∙ sym (put_all-append (writes_of a c) (writes_over others c) c)
 
--- what is written over the same contents names keys that some command writes
+-- the keys of these writes are keys that some command writes
 writes_over-written : (commands : List (List Op)) (c : Contents) (w : Write) → Contains (writes_over commands c) w → (ops : List Op) × Contains commands ops × Contains (written_keys ops) w.0
 writes_over-written [] c w h = absurd (Contains-nil w h)
 writes_over-written (a ∷ others) c w h =
@@ -94,7 +95,7 @@ writes_over-written (a ∷ others) c w h =
       | inr rest ↦ let on = writes_over-written others c w rest in (on.0, Contains-cons a others on.0 on.1, on.2)
     ]
 
--- no key stands twice in them
+-- no key is written twice
 pub no_key_twice-all_apart : (commands : List (List Op)) → AllApart commands → (c : Contents) → NoKeyTwice (writes_over commands c)
 no_key_twice-all_apart [] apart c = λ i j d l k. absurd (omega arith)
 no_key_twice-all_apart (a ∷ others) apart c =

@@ -1,4 +1,4 @@
--- What a command changes, and what its reply and its writes rest on.
+-- What a command changes, and on what its reply and its writes depend.
 use Rattle.std.proofs.Common.{◌+◌, ◌<◌, length, take, arith, ◌≡◌, ◌⊎◌, ◌≢◌, ℕ, suc, ℤ, pos, ◌+ℤ◌, int_lt, Bool, true, false, List, [], ◌∷◌, ◌++◌, map, flat_map, Contains, Option, Some, None, unwrap_or, if◌then◌else◌, refl, sym, ap, ap₂, ◌∙◌, subst, inl, inr}
 use Rattle.std.specs.FinMap as contents
 use Rattle.std.proofs.lemmas.List.Elements.{Contains-append_left, Contains-append_right}
@@ -18,9 +18,9 @@ use Rattle.epx_types.proofs.TotalOrders.{below_itself}
 use Rattle.epx_types.proofs.KeyLists.{key_cmp_total, AllPairs-rising_keys, Contains-rising_keys, Contains-from_rising_keys, Contains-flat_map_within}
 use Rattle.epx_types.proofs.ContentsLemmas.{same_contents, get-assign_cases, get-assign_agree, get-put_all}
 
--- ---- what is written
+-- ---- what a command writes
 
--- keys that are not among those listed keep what they had, unless the operation aborts
+-- unless the operation aborts, all keys outside the list keep their values
 abbrev Keeps : List (List ℕ) → Contents → Option (Contents × List (Option ℤ)) → Type 0
 Keeps keys c None = Unit {0}
 Keeps keys c (Some r) = (q : List ℕ) → Contains keys q ⊎ (contents.get r.0 q ≡ contents.get c q)
@@ -45,12 +45,13 @@ operate-Keeps (Is k v) c = elim (same_value (contents.get c k) v) as (λ b. Keep
 operate-Keeps (Floor k least) c = elim (int_lt (amount_at c k) least) as (λ b. Keeps [] c (if b then None else Some (c, []))) [ true ↦ tt | false ↦ λ q. inr refl ]
 operate-Keeps (Copy k j) c = assign-Keeps c j (contents.get c k)
 
--- an abort gives back the contents before, and else keys that are not among those listed keep what they had
+-- after an abort the contents are those before; otherwise all keys outside the list keep their
+-- values
 abbrev Settles : List (List ℕ) → Contents → Contents → Reply → Contents → Type 0
 Settles keys before c (Values got) after = (q : List ℕ) → Contains keys q ⊎ (contents.get after q ≡ contents.get c q)
 Settles keys before c (Abort j) after = after ≡ before
 
--- one operation more in front
+-- one more operation at the front
 Settles-cons : (first rest : List (List ℕ)) (before c d : Contents) (reply : Reply) (after : Contents) → ((q : List ℕ) → Contains first q ⊎ (contents.get d q ≡ contents.get c q)) → Settles rest before d reply after → Settles (first ++ rest) before c reply after
 Settles-cons first rest before c d (Values got) after step on = λ q.
     elim (on q) [
@@ -71,14 +72,14 @@ operate_all-Settles before j (op ∷ ops) c got =
 command_on-Settles : (ops : List Op) (c : Contents) → Settles (flat_map written_by ops) c c (command_on ops c).reply (command_on ops c).after
 command_on-Settles ops c = operate_all-Settles c 0 ops c []
 
--- a key is written, or keeps what it had
+-- a key is written, or keeps its value
 pub written_or_kept : (ops : List Op) (c : Contents) (q : List ℕ) → Contains (written_keys ops) q ⊎ (contents.get (command_on ops c).after q ≡ contents.get c q)
 written_or_kept ops c q = by (command_on ops c).reply (command_on ops c).after (command_on-Settles ops c) where
   by : (reply : Reply) (after : Contents) → Settles (flat_map written_by ops) c c reply after → Contains (written_keys ops) q ⊎ (contents.get after q ≡ contents.get c q)
   by (Values got) after settles = elim (settles q) [ inl written ↦ inl (Contains-rising_keys (flat_map written_by ops) q written) | inr kept ↦ inr kept ]
   by (Abort j) after settles = inr (ap (λ d. contents.get d q) settles)
 
--- an aborted command leaves the contents as they were
+-- an aborted command leaves the contents unchanged
 pub after-abort : (ops : List Op) (c : Contents) (j : ℕ) → (command_on ops c).reply ≡ Abort j → (command_on ops c).after ≡ c
 after-abort ops c j e =
     let P : Reply → Type 0 = λ r. Settles (flat_map written_by ops) c c r (command_on ops c).after in
@@ -88,7 +89,7 @@ after-abort ops c j e =
 pub writes_of-abort : (ops : List Op) (c : Contents) (j : ℕ) → (command_on ops c).reply ≡ Abort j → writes_of ops c ≡ []
 writes_of-abort ops c j e = ap (λ r. writes_by r ops (command_on ops c).after) e
 
--- a command's writes, put into the contents, give the contents after it
+-- the contents after a command are those before it with its writes applied
 pub put_all-writes_of : (ops : List Op) (c : Contents) → put_all (writes_of ops c) c ≡ (command_on ops c).after
 put_all-writes_of ops c = by (command_on ops c).reply (command_on ops c).after (command_on-Settles ops c) where
   by : (reply : Reply) (after : Contents) → Settles (flat_map written_by ops) c c reply after → put_all (writes_by reply ops after) c ≡ after
@@ -99,7 +100,7 @@ put_all-writes_of ops c = by (command_on ops c).reply (command_on ops c).after (
         | inr kept ↦ inr (sym kept)
       ]))
 
--- the writes name written keys
+-- the keys of the writes are written keys
 pub writes_of-written : (ops : List Op) (c : Contents) (w : List ℕ × Option ℤ) → Contains (writes_of ops c) w → Contains (written_keys ops) w.0
 writes_of-written ops c w = by (command_on ops c).reply (command_on ops c).after where
   by : (reply : Reply) (after : Contents) → Contains (writes_by reply ops after) w → Contains (written_keys ops) w.0
@@ -124,7 +125,7 @@ writes_of-apart ops c = by (command_on ops c).reply (command_on ops c).after whe
 
 -- ---- where a command aborts
 
--- the operations in front of the one that aborts go through
+-- the operations before the one that aborts succeed
 operate_all-abort : (before : Contents) (j : ℕ) (ops : List Op) (c : Contents) (got : List (Option ℤ)) (k : ℕ) → (operate_all before j ops c got).reply ≡ Abort k → (i : ℕ) × (k ≡ j + i) × (i < length ops) × ((reads : List (Option ℤ)) × ((operate_all before j (take i ops) c got).reply ≡ Values reads))
 operate_all-abort before j [] c got k e = absurd (cc e)
 operate_all-abort before j (op ∷ ops) c got k e =
@@ -136,7 +137,7 @@ operate_all-abort before j (op ∷ ops) c got k e =
           (suc rest.0, omega (arith, rest.1), omega (arith, rest.2), (rest.3.0, rw is rest.3.1))
     ] refl e
 
--- the place of an abort is that of an operation, and those in front of it go through
+-- an abort names the index of an operation, and the operations before it succeed
 pub reply-abort : (ops : List Op) (c : Contents) (j : ℕ) → (command_on ops c).reply ≡ Abort j → (j < length ops) × ((reads : List (Option ℤ)) × ((command_on (take j ops) c).reply ≡ Values reads))
 reply-abort ops c j e =
     let at = operate_all-abort c 0 ops c [] j e in
@@ -144,30 +145,30 @@ reply-abort ops c j e =
     let P : ℕ → Type 0 = λ i. (i < length ops) × ((reads : List (Option ℤ)) × ((operate_all c 0 (take i ops) c []).reply ≡ Values reads)) in
     subst P place (at.2, at.3)
 
--- ---- what an answer rests on
+-- ---- on what a reply depends
 
--- both abort, or both read the same and leave the same under each of the keys
+-- both abort, or both read the same and leave the same value under each of the keys
 abbrev Alike : List (List ℕ) → Option (Contents × List (Option ℤ)) → Option (Contents × List (Option ℤ)) → Type 0
 Alike keys None None = Unit {0}
 Alike keys None (Some s) = ⊥
 Alike keys (Some r) None = ⊥
 Alike keys (Some r) (Some s) = (r.1 ≡ s.1) × AgreeOn keys r.0 s.0
 
--- by one test, which goes on where it holds
+-- by one test, after which the operation succeeds if the test holds
 Alike-where : (keys : List (List ℕ)) (t u : Bool) (r s : Contents × List (Option ℤ)) → t ≡ u → Alike keys (Some r) (Some s) → Alike keys (if t then Some r else None) (if u then Some s else None)
 Alike-where keys true true r s e alike = alike
 Alike-where keys true false r s e alike = absurd (cc e)
 Alike-where keys false true r s e alike = absurd (cc e)
 Alike-where keys false false r s e alike = tt
 
--- by one test, which aborts where it holds
+-- by one test, after which the operation aborts if the test holds
 Alike-unless : (keys : List (List ℕ)) (t u : Bool) (r s : Contents × List (Option ℤ)) → t ≡ u → Alike keys (Some r) (Some s) → Alike keys (if t then None else Some r) (if u then None else Some s)
 Alike-unless keys true true r s e alike = tt
 Alike-unless keys true false r s e alike = absurd (cc e)
 Alike-unless keys false true r s e alike = absurd (cc e)
 Alike-unless keys false false r s e alike = alike
 
--- over contents that have the same under the keys that it touches, an operation does alike
+-- over contents that agree on the keys that it touches, an operation has the same effect
 operate-Alike : (keys : List (List ℕ)) (c d : Contents) → AgreeOn keys c d → (op : Op) → ((k : List ℕ) → Contains (touched_by op) k → Contains keys k) → Alike keys (operate op c) (operate op d)
 operate-Alike keys c d agree (Get k) within = (ap (λ v. v ∷ []) (agree k (within k (Contains-head k []))), agree)
 operate-Alike keys c d agree (Put k v) within = (refl, λ q h. get-assign_agree c d k (Some v) q (agree q h))
@@ -184,7 +185,7 @@ operate-Alike keys c d agree (Copy k j) within =
     let same = agree k (within k (Contains-head k (j ∷ []))) in
     (refl, λ q h. get-assign_agree c d j (contents.get c k) q (agree q h) ∙ ap (λ v. contents.get (assign d j v) q) same)
 
--- the same reply, and the same left under each of the keys
+-- the same reply, and the same value left under each of the keys
 abbrev pub EndsAlike : List (List ℕ) → Outcome → Outcome → Type 0
 EndsAlike keys o p = (o.reply ≡ p.reply) × AgreeOn keys o.after p.after
 
@@ -215,11 +216,12 @@ written_keys-touched ops k h =
     by (Floor key least) q h = absurd (Contains-nil q h)
     by (Copy key j) q h = Contains-cons key (j ∷ []) q h
 
--- over contents that agree on the touched keys a command leaves contents that agree there, gives the same reply
+-- over contents that agree on the touched keys, a command leaves contents that agree on them and
+-- has the same reply
 pub command_on-EndsAlike : (ops : List Op) (c d : Contents) → AgreeOn (touched_keys ops) c d → EndsAlike (touched_keys ops) (command_on ops c) (command_on ops d)
 command_on-EndsAlike ops c d agree = operate_all-EndsAlike (touched_keys ops) c d agree 0 ops c d [] [] (Contains-rising_keys (flat_map touched_by ops)) agree refl
 
--- and the same writes
+-- and it has the same writes
 pub writes_of-alike : (ops : List Op) (c d : Contents) → AgreeOn (touched_keys ops) c d → writes_of ops c ≡ writes_of ops d
 writes_of-alike ops c d agree =
     let alike = command_on-EndsAlike ops c d agree in

@@ -1,4 +1,4 @@
--- The orders of Ids, places and ranks are total, and tie equal values alone.
+-- The orders of Ids, places and ranks are total, and only equal values compare as equal.
 use Rattle.std.proofs.Common.{◌≡◌, Ordering, Less, Equal, Greater, refl}
 use Rattle.std.specs.Ordering.{nat_cmp, ordering_then}
 use Rattle.std.specs.Cmp.{IsTotalOrder, nat_cmp_total, on_total, then_total}
@@ -7,7 +7,7 @@ use Rattle.epx_types.specs.Ids.{id_cmp}
 use Rattle.epx_types.specs.PlacedLines.{place_cmp}
 use Rattle.epx_types.specs.ExecutionOrder.{rank_cmp}
 
--- both comparisons tie
+-- both comparisons are equal
 pub then_first : (r s : Ordering) → ordering_then r s ≡ Equal → r ≡ Equal
 then_first Less s e = cc e
 then_first Equal s e = refl
@@ -18,33 +18,33 @@ then_second Less s e = absurd (cc e)
 then_second Equal s e = e
 then_second Greater s e = absurd (cc e)
 
--- Ids are in a total order
+-- the order of Ids is total
 pub id_cmp_total : IsTotalOrder id_cmp
 id_cmp_total = then_total (on_total (λ x. x.replica) nat_cmp_total) (on_total (λ x. x.number) nat_cmp_total)
 
--- Ids that tie are equal
+-- Ids that compare as equal are equal
 pub id_cmp-IsAntisymmetric : IsAntisymmetric id_cmp
 id_cmp-IsAntisymmetric x y e =
     let replica = nat_cmp-IsAntisymmetric x.replica y.replica (then_first _ _ e) in
     let number = nat_cmp-IsAntisymmetric x.number y.number (then_second _ _ e) in
     λ i. record { replica = replica i; number = number i }
 
--- places are in a total order
+-- the order of places is total
 pub place_cmp_total : IsTotalOrder place_cmp
 place_cmp_total = then_total (on_total (λ p. p.log) nat_cmp_total) (on_total (λ p. p.line) nat_cmp_total)
 
--- places that tie are equal
+-- places that compare as equal are equal
 pub place_cmp-IsAntisymmetric : IsAntisymmetric place_cmp
 place_cmp-IsAntisymmetric p q e =
     let log = nat_cmp-IsAntisymmetric p.log q.log (then_first _ _ e) in
     let line = nat_cmp-IsAntisymmetric p.line q.line (then_second _ _ e) in
     λ i. record { log = log i; line = line i }
 
--- ranks are in a total order
+-- the order of ranks is total
 pub rank_cmp_total : IsTotalOrder rank_cmp
 rank_cmp_total = then_total (on_total (λ r. r.depth) nat_cmp_total) (then_total (on_total (λ r. r.leader) id_cmp_total) (then_total (on_total (λ r. r.seq) nat_cmp_total) (on_total (λ r. r.id) id_cmp_total)))
 
--- ranks that tie are equal
+-- ranks that compare as equal are equal
 pub rank_cmp-IsAntisymmetric : IsAntisymmetric rank_cmp
 rank_cmp-IsAntisymmetric a b e =
     let rest = then_second (nat_cmp a.depth b.depth) _ e in

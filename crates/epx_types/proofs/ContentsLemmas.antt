@@ -9,16 +9,16 @@ use Rattle.epx_types.specs.Writes.{put_all}
 use Rattle.epx_types.proofs.Membership.{Contains-nil, Contains-cons_cases}
 use Rattle.epx_types.proofs.KeyLists.{key_cmp_total, key_cmp-IsAntisymmetric, key_cases}
 
--- contents that have the same under each key are equal
+-- contents in which each key has the same value are equal
 pub same_contents : (c d : Contents) → ((q : List ℕ) → contents.get c q ≡ contents.get d q) → c ≡ d
 same_contents c d same = same_map key_cmp_total key_cmp-IsAntisymmetric c d same
 
--- what a key has after an assignment
+-- the value of a key after an assignment
 pub get-assign : (c : Contents) (k : List ℕ) (v : Option ℤ) (q : List ℕ) → contents.get (assign c k v) q ≡ cond (eq_by_cmp key_cmp q k) v (contents.get c q)
 get-assign c k None q = get-remove key_cmp_total c k q
 get-assign c k (Some v) q = get-insert key_cmp_total c k v q
 
--- an assignment changes its key alone
+-- an assignment changes only its key
 pub get-assign_cases : (c : Contents) (k : List ℕ) (v : Option ℤ) (q : List ℕ) → (q ≡ k) × (contents.get (assign c k v) q ≡ v) ⊎ (¬ (q ≡ k)) × (contents.get (assign c k v) q ≡ contents.get c q)
 get-assign_cases c k v q =
     elim (key_cases q k) [
@@ -26,11 +26,12 @@ get-assign_cases c k v q =
       | inr other ↦ inr (other.1, get-assign c k v q ∙ ap (λ b. cond b v (contents.get c q)) other.0)
     ]
 
--- a key that has the same in both has the same after one assignment to both
+-- if a key has the same value in both contents, it has the same value after the same assignment to
+-- both
 pub get-assign_agree : (c d : Contents) (k : List ℕ) (v : Option ℤ) (q : List ℕ) → contents.get c q ≡ contents.get d q → contents.get (assign c k v) q ≡ contents.get (assign d k v) q
 get-assign_agree c d k v q same = get-assign c k v q ∙ ap (cond (eq_by_cmp key_cmp q k) v) same ∙ sym (get-assign d k v q)
 
--- a key that is written, or had it before, has what `after` has there
+-- a key has the value of `after` if it is written, or had that value before
 pub get-put_all : (ks : List (List ℕ)) (after c : Contents) (q : List ℕ) → Contains ks q ⊎ (contents.get c q ≡ contents.get after q) → contents.get (put_all (map (λ k. (k, contents.get after k)) ks) c) q ≡ contents.get after q
 get-put_all [] after c q (inl h) = absurd (Contains-nil q h)
 get-put_all [] after c q (inr had) = had

@@ -1,4 +1,4 @@
--- The number of components of an execution order is that of its leaders.
+-- An execution order has as many components as leaders.
 use Rattle.std.proofs.Common.{◌≡◌, ◌≢◌, Bool, true, List, map, filter, length, Contains, AllPairs, is_eq, sym, ap, ◌∙◌, subst}
 use Rattle.std.specs.Cmp.{Equal-is, tied_itself}
 use Rattle.std.proofs.lemmas.List.{length-map}
@@ -17,11 +17,11 @@ use Rattle.epx_types.proofs.ExecutionOrders.{IsExecutionOrder-once, IsExecutionO
 abbrev leads : Ranked → Bool
 leads r = is_eq (id_cmp r.id r.leader)
 
--- the Ids that lead their components
+-- the leaders in an execution order
 pub leaders_of : List Ranked → List Id
 leaders_of order = map (λ r. r.id) (filter leads order)
 
--- as many as the components
+-- there are as many of them as components
 pub length-leaders_of : (order : List Ranked) → length (leaders_of order) ≡ component_count order
 unfolding leaders_of
 length-leaders_of order = length-map (filter leads order) (λ (r : Ranked). r.id) ∙ length-filter leads order
@@ -31,7 +31,7 @@ module _ (m : List Instance) (order : List Ranked) (h : IsExecutionOrder m order
   apart = AllPairs-from_slice_get (λ a b. a.id ≢ b.id) order (λ i j a b l p q.
       AllPairs-slice_get (λ x y. x ≢ y) (ranked_ids order) (IsExecutionOrder-once m order h) i j a.id b.id l (slice_get-map (λ (r : Ranked). r.id) order i a p) (slice_get-map (λ (r : Ranked). r.id) order j b q))
 
-  -- each once
+  -- each occurs once
   pub AllPairs-leaders_of : AllPairs (λ x y. x ≢ y) (leaders_of order)
   unfolding leaders_of
   AllPairs-leaders_of = AllPairs-from_slice_get (λ x y. x ≢ y) (map (λ r. r.id) (filter leads order)) (λ i j x y l p q.
@@ -40,7 +40,7 @@ module _ (m : List Instance) (order : List Ranked) (h : IsExecutionOrder m order
       let other = AllPairs-slice_get (λ a b. a.id ≢ b.id) (filter leads order) (AllPairs-filter (λ a b. a.id ≢ b.id) leads order apart) i j a.0 b.0 l a.1 b.1 in
       λ e. other (a.2 ∙ e ∙ sym b.2))
 
-  -- each leads some instance of the order
+  -- each is the leader of some instance of the order
   pub leaders_of-lead : (x : Id) → Contains (leaders_of order) x → (r : Ranked) × Contains order r × (r.leader ≡ x)
   unfolding leaders_of
   leaders_of-lead x in_leaders =

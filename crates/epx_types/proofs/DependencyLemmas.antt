@@ -1,4 +1,4 @@
--- What an instance depends on is what it lists.
+-- An instance depends on the Ids in its list of dependencies.
 use Rattle.std.proofs.Common.{◌↔◌, List, Contains, refl, subst}
 use Rattle.epx_types.specs.declared.id.Id.{Id}
 use Rattle.epx_types.specs.Ids.{IsRising}
@@ -12,11 +12,11 @@ use Rattle.epx_types.proofs.AgreementLemmas.{IsRising-same}
 pub IsCommitted-from_Contains : (m : List Instance) (e : Instance) → Contains m e → IsCommitted m e.id
 IsCommitted-from_Contains m e h = Contains-map (λ (d : Instance). d.id) m e h
 
--- committed instances alone depend on others
+-- only committed instances depend on others
 pub DependsOn-committed : (m : List Instance) (x y : Id) → DependsOn m x y → IsCommitted m x
 DependsOn-committed m x y (e, in_e, is, listed) = subst (IsCommitted m) is (IsCommitted-from_Contains m e in_e)
 
--- an instance depends on those that it lists
+-- an instance depends exactly on the Ids in its list of dependencies
 pub DependsOn-listed : (m : List Instance) → IsRising (ids_of m) → (e : Instance) → Contains m e → (y : Id) → DependsOn m e.id y ↔ Contains e.deps y
 DependsOn-listed m rising e in_e y = (there, λ listed. (e, in_e, refl, listed)) where
   there : DependsOn m e.id y → Contains e.deps y

@@ -1,4 +1,4 @@
--- What is left of a committed map.
+-- The remaining map: its Ids, its instances and their dependencies.
 use Rattle.std.proofs.Common.{◌≡◌, ◌⊎◌, ◌↔◌, Bool, true, false, not, List, [], ◌∷◌, filter, Contains, refl, sym, ap, ◌∙◌, subst, inl, inr}
 use Rattle.std.specs.Ordering.{eq_by_cmp}
 use Rattle.std.specs.Cmp.{eq_by_cmp_equiv, Equal-is}
@@ -22,7 +22,7 @@ all_kept : {X : Type 0} (xs : List X) → filter (λ x. not false) xs ≡ xs
 all_kept [] = refl
 all_kept (x ∷ xs) = ap (λ rest. x ∷ rest) (all_kept xs)
 
--- where nothing is done the whole map is left
+-- if nothing is done, the whole map remains
 pub remaining-nil : (m : List Instance) → remaining [] m ≡ m
 remaining-nil [] = refl
 remaining-nil (e ∷ m) =
@@ -30,7 +30,7 @@ remaining-nil (e ∷ m) =
     let rest = remaining-nil m in
     λ i. record e { deps = deps i } ∷ rest i
 
--- the test for what is done, with what it tells
+-- the test whether an Id is done, with its meaning
 pub is_among_cases : (done : List Id) (x : Id) → (is_among done x ≡ true) × Contains done x ⊎ (is_among done x ≡ false) × (¬ Contains done x)
 is_among_cases done x =
     elim (cases_Bool (is_among done x)) [
@@ -64,7 +64,7 @@ module _ (done : List Id) where
         ]
       ]
 
-  -- what is left has the Ids that are not done
+  -- the remaining map has exactly the Ids that are not done
   pub Contains-remaining_iff : (m : List Instance) (x : Id) → Contains (ids_of (remaining done m)) x ↔ Contains (ids_of m) x × (¬ Contains done x)
   Contains-remaining_iff m x = (Contains-from_remaining m x, λ h. Contains-remaining m x h.0 h.1)
 
@@ -76,7 +76,7 @@ module _ (done : List Id) where
         | inr other ↦ rw other.0 (h.0, BelowAll-remaining x m h.1)
       ]
 
-  -- what is left of a map whose Ids rise is such a map
+  -- if the Ids of a map rise, those of the remaining map rise
   pub IsRising-remaining : (m : List Instance) → IsRising (ids_of m) → IsRising (ids_of (remaining done m))
   IsRising-remaining [] h = tt
   IsRising-remaining (e ∷ m) h =
@@ -85,9 +85,9 @@ module _ (done : List Id) where
         | inr other ↦ rw other.0 (BelowAll-remaining e.id m h.0, IsRising-remaining m h.1)
       ]
 
-  -- ---- dependencies of what is left
+  -- ---- dependencies in the remaining map
 
-  -- an instance that is left is one of the map that is not done, without its done dependencies
+  -- a remaining instance is an instance of the map that is not done, without its done dependencies
   pub from_remaining : (m : List Instance) (e : Instance) → Contains (remaining done m) e → (d : Instance) × Contains m d × (is_among done d.id ≡ false) × (without_deps done d ≡ e)
   from_remaining m e h =
       let d = Contains-from_map (without_deps done) (filter (λ i. not (is_among done i.id)) m) e h in
@@ -100,7 +100,7 @@ module _ (done : List Id) where
   pub not_among : (x : Id) → ¬ Contains done x → is_among done x ≡ false
   not_among x none = elim (is_among_cases done x) [ inl found ↦ absurd (none found.1) | inr missed ↦ missed.0 ]
 
-  -- what is left depends on what it depended on and is not done
+  -- a remaining instance depends on its former dependencies that are not done
   pub DependsOn-remaining : (m : List Instance) (x y : Id) → DependsOn (remaining done m) x y ↔ DependsOn m x y × (¬ Contains done x) × (¬ Contains done y)
   DependsOn-remaining m x y = (there, back) where
     there : DependsOn (remaining done m) x y → DependsOn m x y × (¬ Contains done x) × (¬ Contains done y)

@@ -1,4 +1,4 @@
--- An execution order is fixed by its map, and is lawful.
+-- A map has at most one execution order, and the order is lawful.
 use Rattle.std.proofs.Common.{◌≡◌, ◌<◌, ◌≤◌, ℕ, true, List, map, Contains, AllPairs, Some, slice_get, Less, Equal, nat_cmp, is_lt, refl, sym, ap, ◌∙◌, subst, subst₂, ap₂, inl, inr, arith}
 use Rattle.std.specs.Ordering.{ordering_then}
 use Rattle.std.specs.Cmp.{tied_itself, nat_cmp_total, nat_cmp_is}
@@ -18,7 +18,7 @@ use Rattle.epx_types.proofs.TotalOrders.{below_itself, below_trans, below_both, 
 use Rattle.epx_types.proofs.Comparisons.{id_cmp_total, rank_cmp_total}
 use Rattle.epx_types.proofs.Reaching.{IsLeader-along, IsLeader-unique, IsDepth-along, IsDepth-unique, IsDepth-below, IsReady-reached}
 
--- an order's pair of places stand as their ranks
+-- two positions of an order are in the order of their ranks
 pub Before-from_rank : (order : List Ranked) → AllPairs RanksBelow order → (a b : Ranked) → Contains order a → Contains order b → RanksBelow a b → Before (map (λ r. r.id) order) a.id b.id
 Before-from_rank order rising a b in_a in_b lower =
     let i = slice_get-from_Contains order a in_a in
@@ -38,7 +38,8 @@ Before-from_rank order rising a b in_a in_b lower =
               below_itself rank_cmp_total a (subst (RanksBelow a) (sym same) lower)
         ]
 
--- a lower depth, or at one depth and one leader a lower number in sequence, makes a lower rank
+-- a lower depth is a lower rank; at the same depth and leader, a lower sequence number is a lower
+-- rank
 lower_by_depth : (a b : Ranked) → a.depth < b.depth → RanksBelow a b
 lower_by_depth a b l =
     let less : Less ≡ nat_cmp a.depth b.depth = nat_cmp_is a.depth b.depth Less l in
@@ -52,7 +53,7 @@ lower_by_sequence a b d l lower =
     ∙ ap (λ r. is_lt (ordering_then r (ordering_then (nat_cmp a.seq b.seq) (id_cmp a.id b.id)))) leader ∙ lower
 
 module _ (m : List Instance) where
-  -- an Id has one rank
+  -- an Id has at most one rank
   pub IsRanked-unique : (a b : Ranked) → IsRanked m a → IsRanked m b → a.id ≡ b.id → a ≡ b
   IsRanked-unique a b p q e =
       let committed = Contains-from_map (λ (d : Instance). d.id) m a.id p.ready.committed in
@@ -68,7 +69,7 @@ module _ (m : List Instance) where
   pub IsExecutionOrder-ranked : (order : List Ranked) → IsExecutionOrder m order → (x : Id) → IsReady m x → (r : Ranked) × Contains order r × (r.id ≡ x)
   IsExecutionOrder-ranked order h x ready = Contains-from_map (λ (r : Ranked). r.id) order x (h.whole x ready)
 
-  -- what one execution order has stands in each
+  -- an element of one execution order is in each
   pub IsExecutionOrder-contains : (order other : List Ranked) → IsExecutionOrder m order → IsExecutionOrder m other → (r : Ranked) → Contains order r → Contains other r
   IsExecutionOrder-contains order other p q r h =
       let found = IsExecutionOrder-ranked other q r.id (p.ranked r h).ready in
@@ -82,12 +83,12 @@ module _ (m : List Instance) where
       same_rising RanksBelow (below_itself rank_cmp_total) (below_trans rank_cmp_total) order other p.rising q.rising
       (IsExecutionOrder-contains order other p q) (IsExecutionOrder-contains other order q p)
 
-  -- two ranks in an execution order, by their Ids
+  -- an Id with a lower rank comes before an Id with a higher rank
   IsExecutionOrder-before : (order : List Ranked) → IsExecutionOrder m order → (x y : Id) (a b : Ranked) → Contains order a → Contains order b → a.id ≡ x → b.id ≡ y → RanksBelow a b → Before (map (λ r. r.id) order) x y
   IsExecutionOrder-before order h x y a b in_a in_b p q lower =
       subst₂ (Before (map (λ r. r.id) order)) p q (Before-from_rank order h.rising a b in_a in_b lower)
 
-  -- each Id stands once
+  -- each Id occurs once
   pub IsExecutionOrder-once : (order : List Ranked) → IsExecutionOrder m order → AllPairs (λ x y. ¬ (x ≡ y)) (map (λ r. r.id) order)
   IsExecutionOrder-once order h =
       AllPairs-from_slice_get (λ x y. ¬ (x ≡ y)) (map (λ r. r.id) order) (λ i j x y l p q e.
@@ -97,7 +98,7 @@ module _ (m : List Instance) where
       let lower = AllPairs-slice_get RanksBelow order h.rising i j a.0 b.0 l a.1 b.1 in
       below_itself rank_cmp_total a.0 (subst (RanksBelow a.0) (sym same) lower))
 
-  -- what is reached one way stands before
+  -- an Id comes after those that it reaches and that do not reach it
   pub IsExecutionOrder-after_reached : (order : List Ranked) → IsExecutionOrder m order → (x y : Id) → Contains (map (λ r. r.id) order) x → Reaches m x y → ¬ Reaches m y x → Before (map (λ r. r.id) order) y x
   IsExecutionOrder-after_reached order h x y in_x there back =
       let a = Contains-from_map (λ (r : Ranked). r.id) order x in_x in
@@ -110,7 +111,7 @@ module _ (m : List Instance) where
       let lower = lower_by_depth b.0 a.0 (IsDepth-below m a.0.id b.0.id a.0.depth b.0.depth there_b back_b ranked_a.depth ranked_b.depth) in
       IsExecutionOrder-before order h y x b.0 a.0 b.1 a.1 b.2 a.2 lower
 
-  -- members of one component stand by sequence number
+  -- members of one component come in the order of their sequence numbers
   pub IsExecutionOrder-by_sequence : (order : List Ranked) → IsExecutionOrder m order → (x y : Id) → Contains (map (λ r. r.id) order) x → Contains (map (λ r. r.id) order) y → InOneComponent m x y → SequenceBefore m x y → Before (map (λ r. r.id) order) x y
   IsExecutionOrder-by_sequence order h x y in_x in_y one (d, e, in_d, d_is, in_e, e_is, lower) =
       let a = Contains-from_map (λ (r : Ranked). r.id) order x in_x in
@@ -135,7 +136,7 @@ module _ (m : List Instance) where
     by_sequence = IsExecutionOrder-by_sequence order h;
   }
 
-  -- the leader of each instance stands in the order, and leads itself
+  -- the leader of each instance is in the order, and is its own leader
   pub IsExecutionOrder-leaders : (order : List Ranked) → IsExecutionOrder m order → (r : Ranked) → Contains order r → (l : Ranked) × Contains order l × (l.id ≡ r.leader) × (l.leader ≡ l.id)
   IsExecutionOrder-leaders order h r in_r =
       let ranked = h.ranked r in_r in

@@ -1,4 +1,4 @@
--- Commands executed one after another.
+-- Executing commands one after another.
 use Rattle.std.proofs.Common.{◌≡◌, suc, List, [], ◌∷◌, ◌++◌, length, refl, ap}
 use Rattle.epx_types.specs.declared.op.Op.{Op}
 use Rattle.epx_types.specs.Contents.{Contents}
@@ -10,7 +10,7 @@ pub length-replies : (commands : List (List Op)) (c : Contents) → length (exec
 length-replies [] c = refl
 length-replies (ops ∷ rest) c = ap (λ n. suc n) (length-replies rest (command_on ops c).after)
 
--- two lists, one after the other
+-- executing two lists one after the other
 pub execute-append : (first rest : List (List Op)) (c : Contents) → ((execute (first ++ rest) c).replies ≡ (execute first c).replies ++ (execute rest (execute first c).final).replies) × ((execute (first ++ rest) c).final ≡ (execute rest (execute first c).final).final)
 execute-append [] rest c = (refl, refl)
 execute-append (ops ∷ first) rest c =

@@ -1,4 +1,4 @@
--- Searching a finite list, and numbers up to a bound, by facts that can be told.
+-- Searching a finite list, and the numbers up to a bound, for a decidable property.
 use Rattle.std.proofs.Common.{◌≡◌, ◌⊎◌, ◌≤◌, ℕ, zero, suc, List, [], ◌∷◌, Contains, refl, sym, subst, inl, inr, arith}
 use Rattle.std.proofs.lemmas.Bool.{cases_lt}
 use Rattle.epx_types.specs.declared.id.Id.{Id}
@@ -7,7 +7,7 @@ use Rattle.epx_types.proofs.Membership.{Contains-nil, Contains-head, Contains-co
 use Rattle.epx_types.proofs.TotalOrders.{below_cases, below_trans}
 use Rattle.epx_types.proofs.Comparisons.{id_cmp_total, id_cmp-IsAntisymmetric}
 
--- some element of a list has the fact, or none
+-- some element of a list has the property, or none has it
 pub some_or_none : {X : Type 0} (P : X → Type 0) → ((x : X) → P x ⊎ (¬ P x)) → (xs : List X) → ((x : X) × Contains xs x × P x) ⊎ ((x : X) → Contains xs x → ¬ P x)
 some_or_none P tell [] = inr (λ x h p. Contains-nil x h)
 some_or_none P tell (y ∷ xs) =
@@ -19,7 +19,7 @@ some_or_none P tell (y ∷ xs) =
       ]
     ]
 
--- where equality can be told, whether a list has an element can be told
+-- if equality is decidable, membership in a list is decidable
 pub Contains-cases : {X : Type 0} → ((x y : X) → (x ≡ y) ⊎ (¬ (x ≡ y))) → (xs : List X) (x : X) → Contains xs x ⊎ (¬ Contains xs x)
 Contains-cases same xs x =
     elim (some_or_none (λ y. y ≡ x) (λ y. same y x) xs) [
@@ -27,7 +27,7 @@ Contains-cases same xs x =
       | inr none ↦ inr (λ h. none x h refl)
     ]
 
--- the greatest number up to a bound that has the fact
+-- the greatest number up to a bound that has the property
 pub greatest_up_to : (P : ℕ → Type 0) → ((k : ℕ) → P k ⊎ (¬ P k)) → P 0 → (n : ℕ) → (k : ℕ) × P k × ((j : ℕ) → j ≤ n → P j → j ≤ k)
 greatest_up_to P tell least zero = (0, least, λ j l p. l)
 greatest_up_to P tell least (suc n) =
@@ -49,7 +49,7 @@ UpTo-below x y z l (inl same) = inr (subst (Below x) same l)
 UpTo-below x y z l (inr k) = inr (below_trans id_cmp_total x y z l k)
 
 module _ (P : Id → Type 0) (tell : (x : Id) → P x ⊎ (¬ P x)) where
-  -- x has the fact, and no Id of the list below x has it
+  -- x has the property, and no Id of the list below x has it
   abbrev pub IsLeastOf : List Id → Id → Type 0
   IsLeastOf ids x = P x × ((y : Id) → Contains ids y → P y → UpTo x y)
 
@@ -61,7 +61,7 @@ module _ (P : Id → Type 0) (tell : (x : Id) → P x ⊎ (¬ P x)) where
         | inr (inr l) ↦ (x, (least.0, λ y h p. elim (Contains-cons_cases z ids y h) [ inl same ↦ inr (subst (Below x) same l) | inr later ↦ least.1 y later p ]))
       ]
 
-  -- the least Id of a list that has the fact, or none has it
+  -- the least Id of a list that has the property, or no Id has it
   pub least_or_none : (ids : List Id) → ((x : Id) × IsLeastOf ids x) ⊎ ((y : Id) → Contains ids y → ¬ P y)
   least_or_none [] = inr (λ y h p. Contains-nil y h)
   least_or_none (z ∷ ids) =

@@ -1,4 +1,4 @@
--- What contents hold after writes by rising key, and writes that are gathered in a finite map.
+-- Contents after writes by rising key, and writes collected in a finite map.
 use Rattle.std.proofs.Common.{◌≡◌, ℕ, ℤ, ◌∙◌, refl, sym, ap, T, true, false, cond, List, [], ◌∷◌, ◌++◌, map, Option, Some, None, unwrap_or, option_map}
 use Rattle.std.specs.Ordering.{eq_by_cmp, is_eq}
 use Rattle.std.specs.Cmp.{tied_itself}
@@ -12,7 +12,7 @@ use Rattle.epx_types.proofs.KeyLists.{key_cmp_total, key_cmp-IsAntisymmetric}
 use Rattle.epx_types.proofs.ContentsLemmas.{get-assign}
 use Rattle.epx_types.proofs.SortedEntries.{write_all, get-write_all, find_below, first_of, second_of}
 
--- writes put in two goes
+-- applying two lists of writes one after the other
 pub put_all-append : (vs ws : List Write) (c : Contents) → put_all (vs ++ ws) c ≡ put_all ws (put_all vs c)
 put_all-append [] ws c = refl
 put_all-append (v ∷ vs) ws c = put_all-append vs ws (assign c v.0 v.1)
@@ -25,14 +25,14 @@ option_map_same : {X : Type 0} (o : Option X) → option_map (λ x. x) o ≡ o
 option_map_same None = refl
 option_map_same (Some x) = refl
 
--- after writes by rising key each written key has what was written there
+-- after writes by rising key, each written key has the value that was written
 pub get-put_sorted : (ws : List Write) → T (is_sorted key_cmp ws) → (c : Contents) (q : List ℕ) → contents.get (put_all ws c) q ≡ unwrap_or (find key_cmp q ws) (contents.get c q)
 get-put_sorted ws h c q =
     ap (λ m. contents.get m q) (as_write_all ws c)
     ∙ get-write_all assign (λ w. w) get-assign ws h c q
     ∙ ap (λ o. unwrap_or o (contents.get c q)) (option_map_same (find key_cmp q ws))
 
--- writes by rising key are what the contents hold afterwards at the written keys
+-- after writes by rising key, reading the written keys returns the writes
 pub writes_read_back : (ws : List Write) → T (is_sorted key_cmp ws) → (c : Contents) → map (λ k. (k, contents.get (put_all ws c) k)) (keys_of ws) ≡ ws
 writes_read_back [] h c = refl
 writes_read_back (w ∷ ws) h c =
@@ -44,13 +44,13 @@ writes_read_back (w ∷ ws) h c =
     ap (λ v. (w.0, v) ∷ map (λ k. (k, contents.get (put_all ws (assign c w.0 w.1)) k)) (keys_of ws)) here
     ∙ ap (λ vs. w ∷ vs) (writes_read_back ws (second_of _ _ h) (assign c w.0 w.1))
 
--- ---- writes that are gathered in a finite map
+-- ---- writes collected in a finite map
 
 pub get-put_entries : (o : FinMap key_cmp (Option ℤ)) (c : Contents) (q : List ℕ) → contents.get (put_all (contents.entries o) c) q ≡ unwrap_or (contents.get o q) (contents.get c q)
 get-put_entries o c q =
     get-put_sorted (contents.entries o) (entries_sorted o) c q ∙ ap (λ r. unwrap_or r (contents.get c q)) (sym (get-entries o q))
 
--- to gather one more write is to write it
+-- collecting one more write has the effect of that write
 pub put_entries-insert : (o : FinMap key_cmp (Option ℤ)) (k : List ℕ) (w : Option ℤ) (c : Contents) → put_all (contents.entries (contents.insert o k w)) c ≡ assign (put_all (contents.entries o) c) k w
 put_entries-insert o k w c =
     same_map key_cmp_total key_cmp-IsAntisymmetric _ _ (λ q.

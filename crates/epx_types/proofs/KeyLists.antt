@@ -1,4 +1,4 @@
--- Keys are told apart by their order, and a list's keys in rising order are its keys.
+-- The order of keys is total, and the rising keys of a list are exactly its keys.
 use Rattle.std.proofs.Common.{◌≡◌, ◌⊎◌, ℕ, true, false, List, [], ◌∷◌, ◌++◌, flat_map, Contains, Less, Equal, Greater, is_eq, refl, sym, ap, ◌∙◌, subst, inl, inr, All, AllPairs, is_lt, arith}
 use Rattle.std.specs.Ordering.{eq_by_cmp, ordering_reverse}
 use Rattle.std.specs.Cmp.{IsTotalOrder, tied_itself}
@@ -13,18 +13,18 @@ use Rattle.epx_types.proofs.Membership.{Contains-nil, Contains-head, Contains-co
 use Rattle.epx_types.proofs.Places.{AllPairs-first, AllPairs-tail}
 use Rattle.epx_types.proofs.TotalOrders.{below_trans}
 
--- keys are in a total order
+-- the order of keys is total
 pub key_cmp_total : IsTotalOrder key_cmp
 key_cmp_total = nat_list_cmp_total
 
--- keys that tie are equal
+-- keys that compare as equal are equal
 pub key_cmp-IsAntisymmetric : IsAntisymmetric key_cmp
 key_cmp-IsAntisymmetric = slice_cmp-IsAntisymmetric nat_cmp-IsAntisymmetric
 
 key_itself : (q k : List ℕ) → q ≡ k → key_cmp q k ≡ Equal
 key_itself q k e = ap (key_cmp q) (sym e) ∙ tied_itself key_cmp_total q
 
--- a test of two keys, with what it tells
+-- the test whether two keys are equal, with its meaning
 pub key_cases : (q k : List ℕ) → (eq_by_cmp key_cmp q k ≡ true) × (q ≡ k) ⊎ (eq_by_cmp key_cmp q k ≡ false) × (¬ (q ≡ k))
 key_cases q k =
     elim (key_cmp q k) as (λ r. key_cmp q k ≡ r → (eq_by_cmp key_cmp q k ≡ true) × (q ≡ k) ⊎ (eq_by_cmp key_cmp q k ≡ false) × (¬ (q ≡ k))) [
@@ -33,7 +33,7 @@ key_cases q k =
       | Greater ↦ λ e. inr (ap is_eq e, λ same. absurd (cc (e, key_itself q k same)))
     ] refl
 
--- ---- an inserted key
+-- ---- inserting a key
 
 Contains-insert_key_itself : (ks : List (List ℕ)) (k : List ℕ) → Contains (insert_key key_cmp ks k) k
 Contains-insert_key_itself [] k = Contains-head k []
@@ -70,7 +70,7 @@ Contains-insert_key_cases (x ∷ ks) k q h =
 
 -- ---- rising keys
 
--- keys added in two goes
+-- inserting two lists of keys one after the other
 pub add_keys-append : (rising ks js : List (List ℕ)) → add_keys rising (ks ++ js) ≡ add_keys (add_keys rising ks) js
 add_keys-append rising [] js = refl
 add_keys-append rising (k ∷ ks) js = add_keys-append (insert_key key_cmp rising k) ks js
@@ -98,7 +98,7 @@ Contains-from_add_keys rising (k ∷ ks) q h =
       | inr rest ↦ inr (Contains-cons k ks q rest)
     ]
 
--- each key of the list stands among its rising keys
+-- each key of the list is among its rising keys
 pub Contains-rising_keys : (ks : List (List ℕ)) (q : List ℕ) → Contains ks q → Contains (rising_keys ks) q
 Contains-rising_keys ks q h = Contains-add_keys [] ks q (inr h)
 
@@ -129,13 +129,13 @@ AllPairs-add_keys : (rising ks : List (List ℕ)) → AllPairs KeyBelow rising �
 AllPairs-add_keys rising [] h = h
 AllPairs-add_keys rising (k ∷ ks) h = AllPairs-add_keys (insert_key key_cmp rising k) ks (AllPairs-insert_key rising k h)
 
--- they rise, so each stands there once
+-- they rise, so each occurs once
 pub AllPairs-rising_keys : (ks : List (List ℕ)) → AllPairs KeyBelow (rising_keys ks)
 AllPairs-rising_keys ks = AllPairs-add_keys [] ks (λ i j d l k. absurd (omega arith))
 
--- ---- joined lists
+-- ---- concatenated lists
 
--- what f gives at each element is among what g gives
+-- if f x is within g x for each x, the concatenation of all f x is within that of all g x
 pub Contains-flat_map_within : {X Y : Type 0} (f g : X → List Y) → ((x : X) (y : Y) → Contains (f x) y → Contains (g x) y) → (xs : List X) (y : Y) → Contains (flat_map f xs) y → Contains (flat_map g xs) y
 Contains-flat_map_within f g within [] y h = h
 Contains-flat_map_within f g within (x ∷ xs) y h =

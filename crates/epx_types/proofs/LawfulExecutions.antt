@@ -26,7 +26,7 @@ use Rattle.epx_types.proofs.RearrangedPlaces.{Once-from_AllPairs, Precedes-from_
 use Rattle.epx_types.proofs.StandingBefore.{Before-from_Precedes}
 use Rattle.epx_types.proofs.Waiting.{Id-cases}
 
--- a value for one Id, and f's at the others
+-- one value at one Id, and those of f at the others
 first_or : {Y : Type 0} → Id → Y → (Id → Y) → Id → Y
 first_or x v f y = elim (Id-cases x y) [ inl same ↦ v | inr other ↦ f y ]
 
@@ -42,7 +42,7 @@ first_or-other {Y} x y v f not = elim (Id-cases x y) as (λ d. by d ≡ f y) [ i
   by : (x ≡ y) ⊎ (¬ (x ≡ y)) → Y
   by d = elim d [ inl same ↦ v | inr other ↦ f y ]
 
--- replies to a list in which each stands once, as a function of what they reply to
+-- the replies to a list without repeats, as a function of its elements
 reply_to : (ids : List Id) (replies : List Reply) → Once ids → length replies ≡ length ids → (f : Id → Reply) × (replies ≡ map f ids)
 reply_to [] [] once len = (λ x. Abort 0, refl)
 reply_to [] (r ∷ replies) once len = absurd (omega (arith, len))
@@ -60,7 +60,7 @@ module _ (m : List Instance) (rising : IsRising (ids_of m)) (covered : IsCovered
     by None finds conflict = absurd (no_conflict_past a conflict)
     by (Some e) finds conflict = (e, (finds e refl).0, (finds e refl).1, refl)
 
-  -- what conflicts stands in one order
+  -- instances that conflict come in the same order in both
   conflicts_alike : (x y : Id) → Before ids x y → x ≢ y → Conflict (ops_of (instance_of m x)) (ops_of (instance_of m y)) → Before other x y
   conflicts_alike x y before apart conflict =
       let e = found y (ops_of (instance_of m x)) conflict in
@@ -90,11 +90,11 @@ module _ (m : List Instance) (rising : IsRising (ids_of m)) (covered : IsCovered
     alike : ExecutesAlike (λ x. ops_of (instance_of m x)) replies_of.0 ids other c
     alike = execute-rearranged (λ x. ops_of (instance_of m x)) replies_of.0 other ids rearranged c replies_of.1
 
-    -- the same contents
+    -- both leave the same contents
     pub final-lawful : (execute (commands_in m other) c).final ≡ (execute (commands_in m ids) c).final
     final-lawful = alike.final
 
-    -- and to each instance the same reply
+    -- and each instance has the same reply in both
     pub reply-lawful : (i j : ℕ) (x : Id) → slice_get ids i ≡ Some x → slice_get other j ≡ Some x → slice_get (execute (commands_in m other) c).replies j ≡ slice_get (execute (commands_in m ids) c).replies i
     reply-lawful i j x p q =
         ap (λ rs. slice_get rs j) alike.replies

@@ -1,4 +1,4 @@
--- Related instances stand alike in all lawful orders.
+-- All lawful orders have related instances in the same order.
 use Rattle.std.proofs.Common.{◌≡◌, ◌≢◌, ◌⊎◌, ℕ, List, Contains, AllPairs, Some, slice_get, refl, sym, ap, ◌∙◌, inl, inr, arith}
 use Rattle.std.specs.Cmp.{IsTotalOrder, nat_cmp_total, on_total, then_total}
 use Rattle.std.specs.Ordering.{nat_cmp, ordering_then}
@@ -30,7 +30,7 @@ sequence_cmp-IsAntisymmetric a b e =
     λ i. (seq i, id i)
 
 module _ (ids : List Id) (once : AllPairs (λ x y. x ≢ y) ids) where
-  -- where each stands once, two places of one Id are one place
+  -- in a list without repeats, two positions of one Id are equal
   same_place : (i j : ℕ) (x : Id) → slice_get ids i ≡ Some x → slice_get ids j ≡ Some x → i ≡ j
   same_place i j x p q =
       elim (cases_lt i j) [
@@ -41,14 +41,14 @@ module _ (ids : List Id) (once : AllPairs (λ x y. x ≢ y) ids) where
         ]
       ]
 
-  -- of two Ids one alone stands before the other
+  -- no two Ids of a list without repeats are each before the other
   pub Before-not_both : (x y : Id) → Before ids x y → ¬ Before ids y x
   Before-not_both x y (i, j, l, p, q) (k, n, l', p', q') =
       let first = same_place i n x p q' in
       let second = same_place j k y q p' in
       omega arith
 
--- of two different Ids of a list one stands before the other
+-- of two different Ids of a list, one is before the other
 pub Before-cases : (ids : List Id) (x y : Id) → Contains ids x → Contains ids y → x ≢ y → Before ids x y ⊎ Before ids y x
 Before-cases ids x y in_x in_y differ =
     let a = slice_get-from_Contains ids x in_x in
@@ -64,7 +64,7 @@ Before-cases ids x y in_x in_y differ =
     by : (i j : ℕ) → i ≡ j → slice_get ids i ≡ Some x → slice_get ids j ≡ Some y → x ≡ y
     by i j e p q = let same : Some x ≡ Some y = sym p ∙ ap (slice_get ids) e ∙ q in cc
 
--- an Id that stands before another is none of it
+-- an Id that is before another is different from it
 Before-differ : (ids : List Id) → AllPairs (λ x y. x ≢ y) ids → (x y : Id) → Before ids x y → x ≢ y
 Before-differ ids once x y (i, j, l, p, q) = AllPairs-slice_get (λ v w. v ≢ w) ids once i j x y l p q
 
@@ -75,7 +75,7 @@ pub Before-in_first : (ids : List Id) (x y : Id) → Before ids x y → Contains
 Before-in_first ids x y (i, j, l, p, q) = Contains-slice_get ids i x p
 
 module _ (m : List Instance) (ids : List Id) (lawful : IsLawful m ids) where
-  -- of two different members one has the lower sequence number, or the same one and the lower Id
+  -- of two different members, one has the lower sequence number, or the same one and the lower Id
   SequenceBefore-cases : (x y : Id) → Contains ids x → Contains ids y → x ≢ y → SequenceBefore m x y ⊎ SequenceBefore m y x
   SequenceBefore-cases x y in_x in_y differ =
       let d = Contains-from_map (λ (e : Instance). e.id) m x (lawful.only x in_x).committed in
@@ -86,7 +86,7 @@ module _ (m : List Instance) (ids : List Id) (lawful : IsLawful m ids) where
         | inr (inr l) ↦ inr (e.0, d.0, e.1, e.2, d.1, d.2, l)
       ]
 
--- what stands one way in one lawful order and is reached stands so in each
+-- two instances of which one reaches the other are in the same order in each lawful order
 module _ (m : List Instance) (ids other : List Id) (lawful : IsLawful m ids) (lawful' : IsLawful m other) (x y : Id) (before : Before ids x y) where
   in_x : Contains ids x
   in_x = Before-in_first ids x y before
@@ -103,7 +103,7 @@ module _ (m : List Instance) (ids other : List Id) (lawful : IsLawful m ids) (la
   in_other_y : Contains other y
   in_other_y = lawful'.whole y (lawful.only y in_y)
 
-  -- members of one component stand alike
+  -- for members of one component
   not_turned : InOneComponent m x y → ¬ Before other y x
   not_turned one turned =
       elim (SequenceBefore-cases m ids lawful x y in_x in_y differ) [
@@ -111,7 +111,7 @@ module _ (m : List Instance) (ids other : List Id) (lawful : IsLawful m ids) (la
         | inr lower ↦ Before-not_both ids lawful.once x y before (lawful.by_sequence y x in_y in_x (one.1, one.0) lower)
       ]
 
-  -- where the first reaches the second
+  -- if the first reaches the second
   pub Before-alike_reaching : Reaches m x y → Before other x y
   Before-alike_reaching there =
       elim (Before-cases other x y in_other_x in_other_y differ) [
@@ -119,7 +119,7 @@ module _ (m : List Instance) (ids other : List Id) (lawful : IsLawful m ids) (la
         | inr turned ↦ absurd (Before-not_both ids lawful.once x y before (lawful.after_reached x y in_x there (λ back. not_turned (there, back) turned)))
       ]
 
-  -- where the second reaches the first
+  -- if the second reaches the first
   pub Before-alike_reached : Reaches m y x → Before other x y
   Before-alike_reached back =
       elim (Before-cases other x y in_other_x in_other_y differ) [

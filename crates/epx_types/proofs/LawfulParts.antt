@@ -1,4 +1,4 @@
--- A list that is lawful for a part of a map, followed by one that is lawful after it.
+-- A list that is lawful for a part of a map, followed by a list that is lawful after that part.
 use Rattle.std.proofs.Common.{◌≡◌, ◌≢◌, ◌⊎◌, true, false, not, List, ◌++◌, Contains, AllPairs, ap, subst, inl, inr}
 use Rattle.std.proofs.lemmas.List.Elements.{All-contains, filter_passes, Contains-append_left, Contains-append_right, Contains-append_cases}
 use Rattle.std.proofs.lemmas.List.Kept.{AllPairs-filter}
@@ -15,7 +15,7 @@ use Rattle.epx_types.proofs.DoneLemmas.{is_among_cases}
 use Rattle.epx_types.proofs.StandingBefore.{Before-append_left, Before-append_right, Before-across, Before-filter}
 
 module _ (m : List Instance) where
-  -- lawful for one set is lawful for another with the same members
+  -- a list that is lawful for one set is lawful for another with the same members
   pub IsLawfulFor-same : (Member Other : Id → Type 0) (ids : List Id) → ((x : Id) → Member x → Other x) → ((x : Id) → Other x → Member x) → IsLawfulFor m Member ids → IsLawfulFor m Other ids
   IsLawfulFor-same Member Other ids there back lawful = record {
     once = lawful.once;
@@ -25,11 +25,11 @@ module _ (m : List Instance) where
     by_sequence = lawful.by_sequence;
   }
 
-  -- a set that holds all that its members reach
+  -- the set has all that its members reach
   abbrev pub IsClosed : (Id → Type 0) → Type 0
   IsClosed Member = (x y : Id) → Member x → Reaches m x y → Member y
 
-  -- lawful for a second set, where the members of the first stand before
+  -- the list is lawful for a second set, after the members of the first
   pub record IsLawfulAfter (Member Other : Id → Type 0) (ids : List Id) : Type 0 where
     pub once : AllPairs (λ x y. x ≢ y) ids
     pub only : (x : Id) → Contains ids x → Other x
@@ -59,7 +59,7 @@ module _ (m : List Instance) where
           ]
         ]
 
-    -- both together are lawful for the members of both sets
+    -- both lists together are lawful for the union of both sets
     pub IsLawfulFor-together : IsLawfulFor m (λ x. Member x ⊎ Other x) (front ++ back)
     IsLawfulFor-together = record {
       once = AllPairs-append (λ x y. x ≢ y) front back lawful.once after.once (λ x y h k same. after.apart y (after.only y k) (subst Member same (lawful.only x h)));
@@ -79,7 +79,7 @@ module _ (part whole : List Id) where
   passes_rest x none = elim (is_among_cases part x) [ inl found ↦ absurd (none found.1) | inr missed ↦ ap not missed.0 ]
 
 module _ (m : List Instance) (Member : Id → Type 0) (ready : (x : Id) → Member x → IsReady m x) (closed : IsClosed m Member) (part whole : List Id) (lawful : IsLawfulFor m Member part) (lawful' : IsLawful m whole) where
-  -- the ready instances that are not of the part
+  -- the ready instances outside the part
   abbrev IsLeft : Id → Type 0
   IsLeft x = IsReady m x × (¬ Contains part x)
 
@@ -107,7 +107,8 @@ module _ (m : List Instance) (Member : Id → Type 0) (ready : (x : Id) → Memb
     by_sequence = rest_by_sequence;
   }
 
-  -- a list that is lawful for a closed set of ready instances, followed by the rest of a lawful order, is a lawful order
+  -- a list that is lawful for a closed set of ready instances, followed by the others of a lawful
+  -- order, is a lawful order
   pub IsLawful-part_and_rest : IsLawful m (part ++ rest_of part whole)
   IsLawful-part_and_rest =
       IsLawfulFor-same m (λ x. Member x ⊎ IsLeft x) (IsReady m) (part ++ rest_of part whole)

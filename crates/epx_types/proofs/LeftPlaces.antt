@@ -1,4 +1,4 @@
--- Places of what is left of a committed map.
+-- Positions in the remaining map.
 use Rattle.std.proofs.Common.{◌≡◌, ◌++◌, ℕ, zero, suc, ◌+◌, List, [], ◌∷◌, length, take, filter, map, get_or, slice_get, Some, Contains, ap, ◌∙◌, inl, inr, cond, not}
 use Rattle.std.proofs.lemmas.List.{map-append, append-nil}
 use Rattle.std.proofs.lemmas.List.Elements.{filter_more}
@@ -12,7 +12,7 @@ use Rattle.epx_types.proofs.DoneLemmas.{is_among_cases, not_among}
 use Rattle.epx_types.proofs.Membership.{Contains-filter, Contains-map}
 
 module _ (done : List Id) where
-  -- ---- one instance more
+  -- ---- one more instance
 
   more : (m : List Instance) (i : ℕ) (e : Instance) → slice_get m i ≡ Some e → remaining done (take (i + 1) m) ≡ remaining done (take i m) ++ map (without_deps done) (cond (not (is_among done e.id)) (e ∷ []) [])
   more m i e at =
@@ -31,7 +31,7 @@ module _ (done : List Id) where
   pub remaining_more : (m : List Instance) (i : ℕ) (e : Instance) → slice_get m i ≡ Some e → ¬ Contains done e.id → remaining done (take (i + 1) m) ≡ remaining done (take i m) ++ without_deps done e ∷ []
   remaining_more m i e at left = more m i e at ∙ ap (λ b. remaining done (take i m) ++ map (without_deps done) (cond (not b) (e ∷ []) [])) (not_among done e.id left)
 
-  -- an instance that is left stands after those that are left of the ones before it
+  -- the position of a remaining instance is the number of remaining ones before it
   pub left_place : (m : List Instance) (i : ℕ) (e : Instance) → slice_get m i ≡ Some e → ¬ Contains done e.id → slice_get (remaining done m) (length (remaining done (take i m))) ≡ Some (without_deps done e)
   left_place [] i e at left = absurd (cc at)
   left_place (d ∷ m) zero e at left =
@@ -50,7 +50,7 @@ module _ (done : List Id) where
       let p = λ (d : Instance). not (is_among done d.id) in
       Contains-map (without_deps done) (filter p m) e (Contains-filter p m e in_m (ap not (not_among done e.id left)))
 
-  -- ---- what is left rises as the map does
+  -- ---- the remaining map has the order of the map
 
   below_left : (m : List Instance) (x : Id) → BelowAll x (ids_of m) → BelowAll x (ids_of (remaining done m))
   below_left [] x below = tt

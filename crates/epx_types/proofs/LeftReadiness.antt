@@ -1,4 +1,4 @@
--- What is left of a committed map is ready as it is in the whole map.
+-- A remaining instance is ready in the remaining map exactly if it is ready in the whole map.
 use Rattle.std.proofs.Common.{◌↔◌, List, [], ◌∷◌, Contains, subst, inl, inr}
 use Rattle.epx_types.specs.declared.id.Id.{Id}
 use Rattle.epx_types.specs.Instances.{Instance}
@@ -10,7 +10,7 @@ use Rattle.epx_types.proofs.DoneLemmas.{Contains-remaining_iff, DependsOn-remain
 use Rattle.epx_types.proofs.Reaching.{Reaches-trans, Reaches-dependency}
 
 module _ (done : List Id) (m : List Instance) where
-  -- ---- what is left reaches what it reached, and that is not done
+  -- ---- a remaining instance reaches what it reached before and is not done
 
   path_left : (x : Id) (via : List Id) (y : Id) → IsPath (remaining done m) x via y → Reaches m x y × (¬ Contains done y)
   path_left x [] y path =
@@ -25,7 +25,7 @@ module _ (done : List Id) (m : List Instance) where
   Reaches-from_left x y left (inl same) = (inl same, subst (λ (z : Id). ¬ Contains done z) same left)
   Reaches-from_left x y left (inr path) = path_left x path.0 y path.1
 
-  -- ---- ready in what is left, and in the whole map
+  -- ---- readiness in the remaining map and in the whole map
 
   pub ready_left : (x : Id) → ¬ Contains done x → IsReady m x → IsReady (remaining done m) x
   ready_left x left ready = record {
@@ -36,7 +36,8 @@ module _ (done : List Id) (m : List Instance) where
   }
 
   module _ (all_ready : (x : Id) → Contains done x → IsReady m x) where
-    -- a path from what is ready among what is left ends at a committed instance, by way of a done one too
+    -- a path from an instance that is ready in the remaining map ends at a committed instance,
+    -- also if it passes a done one
     path_complete : (x : Id) (via : List Id) (y : Id) → IsReady (remaining done m) x → IsPath m x via y → IsCommitted m y
     path_complete x [] y ready step =
         elim (is_among_cases done y) [
@@ -64,6 +65,7 @@ module _ (done : List Id) (m : List Instance) where
           complete here y (inl same) = subst (IsCommitted m) same here
           complete here y (inr path) = path_complete x path.0 y ready path.1
 
--- where all that is done is ready, what is not done is ready in what is left exactly where it is ready in the whole map
+-- if all done instances are ready, an instance that is not done is ready in the remaining map
+-- exactly if it is ready in the whole map
 pub left_is_ready_alike : (done : List Id) (m : List Instance) → ((x : Id) → Contains done x → IsReady m x) → (x : Id) → ¬ Contains done x → IsReady (remaining done m) x ↔ IsReady m x
 left_is_ready_alike done m all_ready x left = (ready_from_left done m all_ready x, ready_left done m x left)

@@ -1,4 +1,5 @@
--- A place of a list of commands has one level, a later command that conflicts stands higher, and there are no fewer levels.
+-- A position has at most one level. Of two commands that conflict, the later has the higher level.
+-- No other numbering that rises with conflicts has fewer numbers.
 use Rattle.std.proofs.Common.{◌≡◌, ◌≢◌, ◌⊎◌, inl, inr, ◌+◌, ◌-◌, ◌<◌, ◌≤◌, ℕ, zero, suc, true, false, List, [], ◌∷◌, ◌++◌, length, map, get_or, slice_index_or, Contains, nat_eq, refl, sym, ap, subst, ◌∙◌, arith}
 use Rattle.std.specs.List.{IsDistinct}
 use Rattle.std.proofs.lemmas.Bool.{cases_lt}
@@ -15,20 +16,20 @@ use Rattle.epx_types.proofs.Membership.{Contains-nil, Contains-cons_cases}
 use Rattle.epx_types.proofs.Apart.{Conflict-turned}
 
 module _ (commands : List (List Op)) where
-  -- two levels of one place are equal
+  -- two levels of one position are equal
   pub IsLevel-unique : (j k l : ℕ) → IsLevel commands j k → IsLevel commands j l → k ≡ l
   IsLevel-unique j k l p q =
       let low = q.longest p.chain.0 p.chain.1 in
       let high = p.longest q.chain.0 q.chain.1 in
       omega (arith, p.chain.2, q.chain.2)
 
-  -- of two commands that conflict the later stands higher
+  -- of two commands that conflict, the later has the higher level
   pub IsLevel-below : (i j k l : ℕ) → i < j → Conflict (slice_index_or commands i []) (slice_index_or commands j []) → IsLevel commands i k → IsLevel commands j l → k < l
   IsLevel-below i j k l before conflict p q =
       let longer = q.longest (i ∷ p.chain.0) (before, conflict, p.chain.1) in
       omega (arith, p.chain.2)
 
-  -- numbers that rise wherever commands conflict are no lower than a climb is long
+  -- numbers that rise with conflicts are at least the length of each climb
   pub Climbs-length : (f : ℕ → ℕ) → RisesWithConflicts commands f → (j : ℕ) (is : List ℕ) → Climbs commands j is → length is ≤ f j
   Climbs-length f rises j [] climbs = omega arith
   Climbs-length f rises j (i ∷ is) climbs =
@@ -36,7 +37,7 @@ module _ (commands : List (List Op)) where
       let step = rises i j climbs.0 climbs.1 in
       omega arith
 
-  -- a level is no higher than any numbers that rise so
+  -- a level is at most any such number
   pub IsLevel-least : (f : ℕ → ℕ) → RisesWithConflicts commands f → (j l : ℕ) → IsLevel commands j l → l ≤ f j
   IsLevel-least f rises j l level =
       let climb = Climbs-length f rises j level.chain.0 level.chain.1 in
@@ -60,7 +61,7 @@ module _ (commands : List (List Op)) where
       let same = IsLevel-unique j (get_or ks j 0) (get_or ls j 0) (p.each j (omega (arith, p.whole))) (q.each j (omega (arith, p.whole))) in
       get_or_default ks j d 0 low ∙ same ∙ get_or_default ls j 0 d (omega (arith, p.whole, q.whole)))
 
-  -- below the level of a place stands each lower level
+  -- each number below the level of a position is the level of a position
   pub level-below : (levels : List ℕ) → AreLevels commands levels → (n l j : ℕ) → j < length commands → get_or levels j 0 ≡ l + n → (i : ℕ) × (i < length commands) × (get_or levels i 0 ≡ l)
   level-below levels are zero l j low at = (j, low, omega arith)
   level-below levels are (suc n) l j low at = by (are.each j low).chain.0 (are.each j low).chain.1 (omega (arith, (are.each j low).chain.2)) (λ i. level-below levels are n l i) where
@@ -72,10 +73,10 @@ module _ (commands : List (List Op)) where
         let rest = (are.each i low').longest is climbs.2 in
         next i low' (omega arith)
 
--- ---- one command more
+-- ---- one more command
 
 module _ (commands : List (List Op)) (ops : List Op) where
-  -- the commands before it stay where they are
+  -- the earlier commands are unchanged
   at_old : (i : ℕ) → i < length commands → get_or (commands ++ ops ∷ []) i [] ≡ get_or commands i []
   at_old i low = get_or_append_left commands (ops ∷ []) [] i low
 
@@ -105,7 +106,7 @@ module _ (commands : List (List Op)) (ops : List Op) where
     longest = λ places climbs. is.longest places (Climbs-shorter j places low climbs);
   }
 
-  -- a level above each earlier command that conflicts, and no higher than it must
+  -- the least level above those of all earlier commands that conflict
   pub AreLevels-push : (levels : List ℕ) (level : ℕ) → AreLevels commands levels
       → ((i : ℕ) → i < length commands → Conflict (get_or commands i []) ops → get_or levels i 0 < level)
       → (level ≡ 0) ⊎ ((i : ℕ) × (i < length commands) × Conflict (get_or commands i []) ops × (level ≡ suc (get_or levels i 0)))
@@ -147,12 +148,12 @@ module _ (commands : List (List Op)) (ops : List Op) where
       longest = longest;
     }
 
--- ---- no fewer numbers
+-- ---- the number of levels is least
 
 same_number : (m n : ℕ) → nat_eq m n ≡ true → m ≡ n
 same_number m n e = grind (arith, nat_tests)
 
--- the greatest level is the level of a place
+-- the greatest level is the level of a position
 level_count-reached : (levels : List ℕ) → 0 < level_count levels → (j : ℕ) × (j < length levels) × (suc (get_or levels j 0) ≡ level_count levels)
 level_count-reached [] some = absurd (omega arith)
 level_count-reached (level ∷ levels) some =
@@ -174,7 +175,7 @@ module _ (commands : List (List Op)) (f : ℕ → ℕ) (rises : RisesWithConflic
         | inr later ↦ let less = falls i is climbs.2 n later in omega arith
       ]
 
-  -- so they are all different
+  -- so they are distinct
   distinct : (j : ℕ) (is : List ℕ) → Climbs commands j is → IsDistinct nat_eq (map f (j ∷ is))
   unfolding IsDistinct
   distinct j [] climbs = (tt, tt)
@@ -185,7 +186,7 @@ module _ (commands : List (List Op)) (f : ℕ → ℕ) (rises : RisesWithConflic
     distinct i is climbs.2,
   )
 
-  -- numbers that rise wherever commands conflict are at least as many as the levels
+  -- there are at least as many numbers that rise with conflicts as levels
   pub level_count-least : (levels : List ℕ) → AreLevels commands levels → (numbers : List ℕ) → ((j : ℕ) → j < length commands → Contains numbers (f j)) → level_count levels ≤ length numbers
   level_count-least levels are numbers all =
       elim (cases_lt 0 (level_count levels)) [
@@ -211,7 +212,7 @@ module _ (commands : List (List Op)) (f : ℕ → ℕ) (rises : RisesWithConflic
             | inr later ↦ within i is (omega (arith, climbs.0)) climbs.2 n later
           ]
 
--- each level has a member
+-- each level is that of some position
 pub each_level-reached : (commands : List (List Op)) (levels : List ℕ) → AreLevels commands levels → (l : ℕ) → l < level_count levels → Contains levels l
 each_level-reached commands levels are l low =
     let top = level_count-reached levels (omega arith) in

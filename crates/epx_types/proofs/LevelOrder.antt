@@ -1,4 +1,5 @@
--- The places of a list of commands, level by level: a rearrangement, in which no two commands of one level conflict.
+-- The positions of a list of commands, level by level, are a rearrangement. No two commands of one
+-- level conflict.
 use Rattle.std.proofs.Common.{◌≡◌, ◌≢◌, ◌⊎◌, ◌<◌, ◌≤◌, ◌+◌, ◌∙◌, ℕ, zero, suc, List, [], ◌∷◌, ◌++◌, length, get_or, slice_get, slice_index, slice_index_or, Contains, AllPairs, Some, sym, ap, subst, inl, inr, arith}
 use Rattle.std.proofs.lemmas.Bool.{cases_lt}
 use Rattle.std.proofs.lemmas.List.{get_or_past}
@@ -15,9 +16,9 @@ use Rattle.epx_types.proofs.Places.{AllPairs-slice_get, AllPairs-from_parts, All
 use Rattle.epx_types.proofs.LevelLemmas.{IsLevel-below}
 use Rattle.epx_types.proofs.LevelPlaces.{level_below_count}
 
--- ---- the places of one level
+-- ---- the positions of one level
 
--- a place of a level, where the list begins at place j
+-- a position of a level, in a list that begins at position j
 pub Contains-from_places_from : (j : ℕ) (levels : List ℕ) (l i : ℕ) → Contains (places_from j levels l) i → (k : ℕ) × (i ≡ j + k) × (slice_get levels k ≡ Some l)
 Contains-from_places_from j [] l i h = absurd (Contains-nil i h)
 Contains-from_places_from j (level ∷ levels) l i h =
@@ -61,7 +62,7 @@ length-places_from j (level ∷ levels) l =
     let rest = length-places_from (suc j) levels l in
     elim (eqb_tells level l) [ inl same ↦ rw same.0 (omega arith) | inr other ↦ rw other.0 (omega arith) ]
 
--- a level has no more places than the list
+-- a level has at most as many positions as the list
 pub length-places_of : (levels : List ℕ) (l : ℕ) → length (places_of levels l) ≤ length levels
 length-places_of levels l = length-places_from 0 levels l
 
@@ -69,7 +70,7 @@ length-places_of levels l = length-places_from 0 levels l
 pub places_of-rising : (levels : List ℕ) (l : ℕ) → AllPairs (λ i k. i < k) (places_of levels l)
 places_of-rising levels l = places_from-rising 0 levels l
 
--- they are places of the list, and have that level
+-- they are positions of the list with that level
 pub Contains-from_places_of : (levels : List ℕ) (l i : ℕ) → Contains (places_of levels l) i → (i < length levels) × (slice_index levels i ≡ l)
 Contains-from_places_of levels l i h =
     let from = Contains-from_places_from 0 levels l i h in
@@ -77,20 +78,20 @@ Contains-from_places_of levels l i h =
     let at : slice_get levels i ≡ Some l = subst (λ (k : ℕ). slice_get levels k ≡ Some l) place from.2 in
     (slice_get_within levels i l at, get_or_from_slice_get levels i l 0 at)
 
--- and all that have it
+-- and all positions with that level are among them
 pub Contains-places_of : (levels : List ℕ) (l i : ℕ) → i < length levels → slice_index levels i ≡ l → Contains (places_of levels l) i
 Contains-places_of levels l i within e =
     let at : slice_get levels i ≡ Some l = slice_get-get_or levels i 0 within ∙ ap Some e in
     subst (Contains (places_of levels l)) (omega arith) (Contains-places_from 0 levels l i at)
 
--- ---- the places of all levels, one level after another
+-- ---- the positions of all levels, one level after another
 
--- the places of the levels below l
+-- the positions of the levels below l
 abbrev pub by_level : List ℕ → ℕ → List ℕ
 by_level levels zero = []
 by_level levels (suc l) = by_level levels l ++ places_of levels l
 
--- a place stands in a lower level, or in the same level further in front
+-- a position has a lower level, or the same level and is less
 abbrev StandsLower : List ℕ → ℕ → ℕ → Type 0
 StandsLower levels i j = (slice_index levels i < slice_index levels j) ⊎ ((slice_index levels i ≡ slice_index levels j) × (i < j))
 
@@ -139,7 +140,7 @@ no_conflict_past a (k, inl both) = Contains-nil k both.1
 no_conflict_past a (k, inr both) = Contains-nil k both.1
 
 module _ (commands : List (List Op)) (levels : List ℕ) (are : AreLevels commands levels) where
-  -- of two commands that conflict the later stands in the greater level
+  -- of two commands that conflict, the later has the greater level
   pub levels-climb : (i j : ℕ) → i < j → ConflictAt commands i j → (j < length commands) × (slice_index levels i < slice_index levels j)
   levels-climb i j before conflict =
       elim (cases_lt j (length commands)) [
@@ -163,7 +164,7 @@ module _ (commands : List (List Op)) (levels : List ℕ) (are : AreLevels comman
       by places (λ j h. has j (Contains-cons i places j h)) (AllPairs-tail (λ k m. k < m) i places rises),
     )
 
-  -- the places of all levels, one level after another
+  -- the positions of all levels, one level after another
   abbrev all : List ℕ
   all = by_level levels (level_count levels)
 
@@ -172,7 +173,7 @@ module _ (commands : List (List Op)) (levels : List ℕ) (are : AreLevels comman
       let place : i < length levels = omega (arith, are.whole) in
       Contains-by_level levels (level_count levels) i place (level_below_count levels i place)
 
-  -- of two places the one in the lower level stands before the other
+  -- of two positions, the one with the lower level comes first
   lower_before : (i j : ℕ) → i < length commands → j < length commands → slice_index levels i < slice_index levels j → Before all i j
   lower_before i j in_i in_j lower =
       let a = slice_get-from_Contains all i (in_all i in_i) in
@@ -192,7 +193,7 @@ module _ (commands : List (List Op)) (levels : List ℕ) (are : AreLevels comman
         ]
       ]
 
-  -- taken level by level, the commands are rearranged
+  -- the positions level by level are a rearrangement of the commands
   pub by_level-rearranges : IsRearrangement commands (by_level levels (level_count levels))
   by_level-rearranges = record {
     once = by_level-apart levels (level_count levels);

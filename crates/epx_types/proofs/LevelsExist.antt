@@ -1,4 +1,4 @@
--- Commands have levels.
+-- Every list of commands has levels.
 use Rattle.std.proofs.Common.{◌≡◌, ◌⊎◌, ◌<◌, ℕ, zero, suc, List, [], ◌∷◌, length, map, slice_index_or, Contains, refl, sym, subst, inl, inr, arith}
 use Rattle.std.proofs.lemmas.Bool.{cases_lt}
 use Rattle.std.proofs.lemmas.List.FromFn.{length-map-range_with_len, get_or-map-range_with_len}
@@ -12,12 +12,12 @@ use Rattle.epx_types.proofs.LevelLemmas.{Climbs-length}
 use Rattle.epx_types.proofs.ReachingCases.{both_cases}
 use Rattle.epx_types.proofs.RearrangedPlaces.{all_places, Contains-all_places}
 
--- ---- whether two commands conflict can be told
+-- ---- conflict is decidable
 
 Contains-key_cases : (ks : List (List ℕ)) (k : List ℕ) → Contains ks k ⊎ (¬ Contains ks k)
 Contains-key_cases = Contains-cases (λ q k. elim (key_cases q k) [ inl same ↦ inl same.1 | inr other ↦ inr other.1 ])
 
--- some key stands in both lists
+-- some key is in both lists
 shared_cases : (ks qs : List (List ℕ)) → ((k : List ℕ) × Contains ks k × Contains qs k) ⊎ ((k : List ℕ) → Contains ks k → ¬ Contains qs k)
 shared_cases ks qs = some_or_none (Contains qs) (Contains-key_cases qs) ks
 
@@ -32,11 +32,11 @@ Conflict-cases a b =
     ]
 
 module _ (commands : List (List Op)) where
-  -- a climb of k steps to place j
+  -- a climb of k steps to position j
   abbrev HasClimb : ℕ → ℕ → Type 0
   HasClimb j k = (is : List ℕ) × Climbs commands j is × (length is ≡ k)
 
-  -- an earlier place that conflicts, and has a climb of k steps
+  -- an earlier position that conflicts and has a climb of k steps
   abbrev ComesFrom : ℕ → ℕ → ℕ → Type 0
   ComesFrom j k i = ((i < j) × ConflictAt commands i j) × HasClimb i k
 

@@ -1,4 +1,4 @@
--- A map fixes its waiting list.
+-- A map has at most one waiting list.
 use Rattle.std.proofs.Common.{◌≡◌, List, Contains}
 use Rattle.epx_types.specs.Instances.{Instance}
 use Rattle.epx_types.specs.Ids.{Below}
@@ -8,7 +8,7 @@ use Rattle.epx_types.proofs.TotalOrders.{below_itself, below_trans, same_rising}
 use Rattle.epx_types.proofs.Comparisons.{id_cmp_total}
 
 module _ (m : List Instance) where
-  -- what one waiting list has stands in each
+  -- an element of one waiting list is in each
   IsWaitingList-contains : (ws vs : List Waiting) → IsWaitingList m ws → IsWaitingList m vs → (w : Waiting) → Contains ws w → Contains vs w
   IsWaitingList-contains ws vs p q w h = q.whole w.id w.missing (p.waits w h)
 

@@ -1,4 +1,5 @@
--- What is ready in a map stands alike in every map that holds it, and gives the same reply there if that map is covered.
+-- An instance that is ready in a map is ready in every map that contains it. If that map is
+-- covered, the instance has the same reply there.
 use Rattle.std.proofs.Common.{◌≡◌, ◌∙◌, ℕ, ◌<◌, List, ◌++◌, length, Contains, Some, slice_get, get_or, sym, ap, subst, arith}
 use Rattle.std.proofs.lemmas.List.{length-map, map-append}
 use Rattle.std.proofs.lemmas.Option.{slice_get_within, slice_get-get_or}
@@ -40,7 +41,7 @@ module _ (m more : List Instance) (rising : IsRising (ids_of more)) (within : (e
       let same = IsRising-same more rising e d.0 in_e (within d.0 d.1) (is ∙ sym d.2) in
       (d.0, d.1, d.2, subst (λ (i : Instance). Contains i.deps y) same listed)
 
-  -- a ready instance reaches no more than before
+  -- a ready instance reaches in the greater map only what it reaches in the lesser
   Reaches-in_less : (x y : Id) → IsReady m x → Reaches more x y → Reaches m x y
   Reaches-in_less x y ready there =
       Reaches-passes more (Reaches m x) (λ v w d on. Reaches-trans m x v w on (Reaches-dependency m v w (DependsOn-in_less v w (ready.complete v on) d))) x y there (Reaches-itself m x)
@@ -83,12 +84,12 @@ module _ (m more : List Instance) (rising : IsRising (ids_of more)) (within : (e
     same_commands = map-agree (λ x. ops_of (instance_of m x)) (λ x. ops_of (instance_of more x)) ids (λ x h. same_ops x (lawful.only x h).committed)
 
     module _ (covered : IsCovered more) (other : List Id) (lawful' : IsLawful more other) (c : Contents) where
-      -- the instances that were ready before, and then the rest
+      -- first the instances that are ready in the lesser map, and then the others
       in_turn : IsLawful more (ids ++ rest_of ids other)
       in_turn =
           IsLawful-part_and_rest more (IsReady m) IsReady-in_more (λ x y ready there. IsReady-reached m x y (Reaches-in_less x y ready there) ready) ids other lawful_in_more lawful'
 
-      -- so in that order each of the first gives the reply that it gave
+      -- in that order each of the first has the same reply
       reply_in_turn : (i : ℕ) → i < length ids → slice_get (execute (commands_in more (ids ++ rest_of ids other)) c).replies i ≡ slice_get (execute (commands_in m ids) c).replies i
       reply_in_turn i l =
           let rest = commands_in more (rest_of ids other) in
@@ -101,7 +102,7 @@ module _ (m more : List Instance) (rising : IsRising (ids_of more)) (within : (e
           ∙ slice_get-append_left replies (execute rest (execute (commands_in m ids) c).final).replies i (get_or replies i (Abort 0)) at
           ∙ sym at
 
-      -- and in every lawful order
+      -- and so it has in every lawful order
       pub reply-in_more : (i j : ℕ) (x : Id) → slice_get ids i ≡ Some x → slice_get other j ≡ Some x → slice_get (execute (commands_in more other) c).replies j ≡ slice_get (execute (commands_in m ids) c).replies i
       reply-in_more i j x p q =
           reply-lawful more rising covered (ids ++ rest_of ids other) other in_turn lawful' c i j x (slice_get-append_left ids (rest_of ids other) i x p) q

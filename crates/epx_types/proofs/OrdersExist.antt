@@ -17,7 +17,7 @@ use Rattle.epx_types.proofs.RanksExist.{ready_or_waits, rank_exists}
 module _ (m : List Instance) (ids_rise : IsRising (ids_of m)) where
   -- ---- the execution order
 
-  -- the ranks of the ready instances among some
+  -- the ranks of the ready instances in a list
   record IsOrderOf (es : List Instance) (order : List Ranked) : Type 0 where
     rising : AllPairs RanksBelow order
     ranked : (r : Ranked) → Contains order r → IsRanked m r
@@ -80,7 +80,7 @@ module _ (m : List Instance) (ids_rise : IsRising (ids_of m)) where
 
   -- ---- the waiting list
 
-  -- those of some Ids that wait, by rising Id
+  -- the waiting ones of some Ids, by rising Id
   record IsWaitingOf (ids : List Id) (ws : List Waiting) : Type 0 where
     waits : (w : Waiting) → Contains ws w → WaitsFor m w.id w.missing
     whole : (x y : Id) → Contains ids x → WaitsFor m x y → Contains ws (record { id = x; missing = y })

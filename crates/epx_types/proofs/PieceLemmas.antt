@@ -1,4 +1,4 @@
--- The pieces of items follow each other, are not empty, are no longer than the cut, and cover the items.
+-- The pieces follow each other and cover all items. Each has at least one item and at most `cut`.
 use Rattle.std.proofs.Common.{◌≡◌, ◌<◌, ◌≤◌, ◌+◌, ◌-◌, ◌*◌, ◌/◌, ℕ, suc, inl, inr, arith, add-mul, one-mul, suc-mul, le-div_iff_mul-le, div-mul-le_self}
 use Rattle.std.proofs.Math.Nat.{lt-div-mul-add}
 use Rattle.std.proofs.lemmas.Bool.{cases_lt}
@@ -6,17 +6,17 @@ use Rattle.std.proofs.lemmas.Grind.{common_steps}
 use Rattle.epx_types.specs.Pieces.{piece_count, piece_start, piece_end}
 
 module _ (cut items : ℕ) (fits : 1 ≤ cut) where
-  -- a quotient that is rounded up
+  -- division that rounds up
   piece_count-is : piece_count cut items ≡ (items + (cut - 1)) / cut
   piece_count-is = grind (arith, common_steps)
 
-  -- a number is that of a piece exactly where the piece starts within the items
+  -- a number is that of a piece exactly if the start of the piece is within the items
   pub piece_start-within : (piece : ℕ) → piece < piece_count cut items → piece_start cut piece < items
   piece_start-within piece l =
       let next = (le-div_iff_mul-le {k = cut} {x = suc piece} {y = items + (cut - 1)} fits).0 (rw piece_count-is at l) in
       omega (arith, suc-mul piece cut)
 
-  -- and the other way round
+  -- the converse
   pub piece_count-above : (piece : ℕ) → piece_start cut piece < items → piece < piece_count cut items
   piece_count-above piece l =
       let next : suc piece * cut ≤ items + (cut - 1) = omega (arith, suc-mul piece cut) in
@@ -41,7 +41,7 @@ module _ (cut items : ℕ) (fits : 1 ≤ cut) where
   pub piece_end-after_start : (piece : ℕ) → piece < piece_count cut items → piece_start cut piece < piece_end cut items piece
   piece_end-after_start piece l = let start = piece_start-within piece l in omega (arith, next_start piece)
 
-  -- a piece is no longer than the cut
+  -- a piece has at most `cut` items
   pub piece_end-within_cut : (piece : ℕ) → piece_end cut items piece ≤ piece_start cut piece + cut
   piece_end-within_cut piece = omega (arith, next_start piece)
 

@@ -1,4 +1,4 @@
--- The place of an instance in the committed map.
+-- The position of an instance in the committed map.
 use Rattle.std.proofs.Common.{◌≡◌, inl, inr, ◌<◌, ℕ, zero, suc, Bool, true, false, List, [], ◌∷◌, length, get_or, position, Some, slice_get, nat_lt, is_eq, refl, sym, ap, ◌∙◌, subst, arith}
 use Rattle.std.specs.Cmp.{Equal-is, tied_itself}
 use Rattle.std.specs.List.{position_or_len}
@@ -16,7 +16,7 @@ use Rattle.epx_types.proofs.Rising.{AllPairs-from_IsRising}
 use Rattle.epx_types.proofs.TotalOrders.{below_itself}
 use Rattle.epx_types.proofs.Comparisons.{id_cmp_total, id_cmp-IsAntisymmetric}
 
--- the first place at which a test passes
+-- the first position at which a test passes
 first_place : {X : Type 0} (p : X → Bool) (xs : List X) (i : ℕ) (x : X) → slice_get xs i ≡ Some x → p x ≡ true → ((k : ℕ) (y : X) → k < i → slice_get xs k ≡ Some y → p y ≡ false) → position_or_len p xs ≡ i
 first_place p [] i x at passes earlier = absurd (cc at)
 first_place p (y ∷ xs) zero x at passes earlier =
@@ -34,14 +34,14 @@ position_first p xs i x at passes earlier =
     let test : nat_lt i (length xs) ≡ true = grind (arith, nat_tests) in
     rw (first_place p xs i x at passes earlier) (rw test refl)
 
--- a place that is found is where the instance of that Id stands
+-- the instance at the position of an Id has that Id
 pub position_of-stands : (m : List Instance) (x : Id) (i : ℕ) → position_of m x ≡ Some i → (e : Instance) × (slice_get m i ≡ Some e) × (e.id ≡ x)
 position_of-stands m x i found =
     let none : Instance = record { id = x; seq = 0; deps = []; ops = [] } in
     let at = position-Some (λ (e : Instance). is_eq (id_cmp e.id x)) m i none found in
     (get_or m i none, slice_get-get_or m i none at.0, id_cmp-IsAntisymmetric (get_or m i none).id x ((Equal-is (id_cmp (get_or m i none).id x)).0 at.1))
 
--- and where it stands is the place that is found
+-- the position of an Id is that of its instance
 pub position_of-found : (m : List Instance) → IsRising (ids_of m) → (x : Id) (i : ℕ) (e : Instance) → slice_get m i ≡ Some e → e.id ≡ x → position_of m x ≡ Some i
 position_of-found m rising x i e at is =
     position_first (λ (d : Instance). is_eq (id_cmp d.id x)) m i e at (tied e.id is) (λ k d l before. not_yet d (AllPairs-slice_get Below (ids_of m) (AllPairs-from_IsRising (ids_of m) rising) k i d.id e.id l (slice_get-map (λ (c : Instance). c.id) m k d before) (slice_get-map (λ (c : Instance). c.id) m i e at)))
@@ -58,11 +58,11 @@ position_of-found m rising x i e at is =
           | inr other ↦ other
         ]
 
--- within the committed instances
+-- a position is within the committed instances
 pub position_of-within : (m : List Instance) (x : Id) (i : ℕ) → position_of m x ≡ Some i → i < length m
 position_of-within m x i found = let stands = position_of-stands m x i found in slice_get_within m i stands.0 stands.1
 
--- where a look-up finds it
+-- a look-up finds the instance at the position of an Id
 pub instance_of-stands : (m : List Instance) → IsRising (ids_of m) → (x : Id) (i : ℕ) (e : Instance) → position_of m x ≡ Some i → slice_get m i ≡ Some e → instance_of m x ≡ Some e
 instance_of-stands m rising x i e found at =
     let stands = position_of-stands m x i found in

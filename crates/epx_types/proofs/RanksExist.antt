@@ -1,4 +1,4 @@
--- Each instance has a leader and a depth, and a committed one is ready or waits for another.
+-- Each instance has a leader and a depth. A committed instance is ready or waits for another.
 use Rattle.std.proofs.Common.{◌≡◌, ◌⊎◌, ◌≤◌, ◌<◌, ◌+◌, ℕ, zero, suc, List, [], ◌∷◌, length, Contains, refl, sym, ap, subst, inl, inr, arith}
 use Rattle.epx_types.specs.declared.id.Id.{Id}
 use Rattle.epx_types.specs.Ids.{IsRising}
@@ -16,7 +16,7 @@ use Rattle.epx_types.proofs.Waiting.{Contains-Id_cases}
 use Rattle.epx_types.proofs.FiniteSearch.{some_or_none, greatest_up_to, least_or_none}
 use Rattle.epx_types.proofs.ReachingCases.{both_cases, not_cases, Reaches-cases, InOneComponent-cases, within_reach, Contains-within_reach, Reaches-committed}
 
--- 1 where a fact that can be told holds
+-- 1 if a decidable property holds, and otherwise 0
 one_if : {A : Type 0} → A ⊎ (¬ A) → ℕ
 one_if (inl a) = 1
 one_if (inr none) = 0
@@ -70,7 +70,7 @@ module _ (m : List Instance) where
 
   -- ---- depths
 
-  -- as many of the Ids as x reaches
+  -- the number of the Ids that x reaches
   reach_count : List Id → Id → ℕ
   reach_count [] x = 0
   reach_count (z ∷ zs) x = one_if (Reaches-cases m x z) + reach_count zs x
@@ -102,11 +102,11 @@ module _ (m : List Instance) where
   reach_count-FallsOneWay x y there not_back =
       reach_count-falls (ids_of m) x y (Reaches-committed m x y there (λ same. not_back (inl (sym same)))) there not_back
 
-  -- a descent from x of k steps
+  -- there is a descent of k steps from x
   abbrev HasDescent : Id → ℕ → Type 0
   HasDescent x k = (ys : List Id) × Descends m x ys × (length ys ≡ k)
 
-  -- y is reached one way from x, and has a descent of k steps
+  -- x reaches y, y does not reach x, and there is a descent of k steps from y
   abbrev GoesOn : Id → ℕ → Id → Type 0
   GoesOn x k y = (Reaches m x y × (¬ Reaches m y x)) × HasDescent y k
 

@@ -1,4 +1,4 @@
--- Reaching is reflexive and transitive, and what it says of components, of readiness and of waiting.
+-- Reaching is reflexive and transitive. What follows for components, depth, readiness and waiting.
 use Rattle.std.proofs.Common.{◌≡◌, ℕ, ◌≤◌, ◌<◌, List, [], ◌∷◌, ◌++◌, length, refl, sym, subst, inl, inr, arith}
 use Rattle.epx_types.specs.declared.id.Id.{Id}
 use Rattle.epx_types.specs.Instances.{Instance}
@@ -10,7 +10,7 @@ use Rattle.epx_types.specs.Readiness.{IsReady, WaitsFor}
 use Rattle.epx_types.proofs.Comparisons.{id_cmp_total, id_cmp-IsAntisymmetric}
 use Rattle.epx_types.proofs.TotalOrders.{same_from_both}
 
--- two Ids of which each is up to the other are equal
+-- two Ids, each at most the other, are equal
 pub UpTo-both : (x y : Id) → UpTo x y → UpTo y x → x ≡ y
 UpTo-both x y p q = same_from_both id_cmp_total id_cmp-IsAntisymmetric x y p q
 
@@ -19,12 +19,12 @@ module _ (m : List Instance) where
   pub Reaches-itself : (x : Id) → Reaches m x x
   Reaches-itself x = inl refl
 
-  -- two paths, one after the other
+  -- two paths joined
   pub IsPath-append : (x : Id) (via : List Id) (y : Id) (on : List Id) (z : Id) → IsPath m x via y → IsPath m y on z → IsPath m x (via ++ y ∷ on) z
   IsPath-append x [] y on z p q = (p, q)
   IsPath-append x (v ∷ via) y on z p q = (p.0, IsPath-append v via y on z p.1 q)
 
-  -- what is reached from a reached instance is reached
+  -- reaching is transitive
   pub Reaches-trans : (x y z : Id) → Reaches m x y → Reaches m y z → Reaches m x z
   Reaches-trans x y z p q =
       elim p [
@@ -39,13 +39,13 @@ module _ (m : List Instance) where
   pub Reaches-dependency : (x y : Id) → DependsOn m x y → Reaches m x y
   Reaches-dependency x y d = inr ([], d)
 
-  -- what passes on from each instance to its dependencies passes on to all that it reaches
+  -- a property that passes from each instance to its dependencies passes to all that it reaches
   module _ (P : Id → Type 0) (on : (x y : Id) → DependsOn m x y → P x → P y) where
     IsPath-passes : (x : Id) (via : List Id) (y : Id) → IsPath m x via y → P x → P y
     IsPath-passes x [] y d p = on x y d p
     IsPath-passes x (z ∷ via) y d p = IsPath-passes z via y d.1 (on x z d.0 p)
 
-    -- and so to the end of the path
+    -- and so it passes to the end of a path
     pub Reaches-passes : (x y : Id) → Reaches m x y → P x → P y
     Reaches-passes x y (inl e) p = subst P e p
     Reaches-passes x y (inr path) p = IsPath-passes x path.0 y path.1 p
@@ -60,7 +60,7 @@ module _ (m : List Instance) where
   pub InOneComponent-turned : (x y : Id) → InOneComponent m x y → InOneComponent m y x
   InOneComponent-turned x y h = (h.1, h.0)
 
-  -- and transitive
+  -- being in one component is transitive
   pub InOneComponent-trans : (x y z : Id) → InOneComponent m x y → InOneComponent m y z → InOneComponent m x z
   InOneComponent-trans x y z p q = (Reaches-trans x y z p.0 q.0, Reaches-trans z y x q.1 p.1)
 
@@ -77,7 +77,7 @@ module _ (m : List Instance) where
 
   -- ---- depth
 
-  -- members of one component descend alike
+  -- members of one component have the same descents
   pub Descends-along : (x y : Id) (zs : List Id) → InOneComponent m x y → Descends m x zs → Descends m y zs
   Descends-along x y [] h d = tt
   Descends-along x y (z ∷ zs) h d = (Reaches-trans y x z h.1 d.0, (λ back. d.1 (Reaches-trans z y x back h.1)), d.2)
@@ -96,14 +96,14 @@ module _ (m : List Instance) where
       let high = p.longest q.descent.0 q.descent.1 in
       omega (arith, p.descent.2, q.descent.2)
 
-  -- an instance that reaches another one way lies deeper
+  -- an instance that reaches another and is not reached by it has a greater depth
   pub IsDepth-below : (x y : Id) (j k : ℕ) → Reaches m x y → ¬ Reaches m y x → IsDepth m x j → IsDepth m y k → k < j
   IsDepth-below x y j k there back dx dy =
       let ys = dy.descent.0 in
       let long = dx.longest (y ∷ ys) (there, back, dy.descent.1) in
       omega (arith, dy.descent.2)
 
-  -- numbers that fall along each one-way reach are no lower than a descent is long
+  -- numbers that fall along one-way reaching are at least the length of each descent
   pub Descends-length : (f : Id → ℕ) → FallsOneWay m f → (x : Id) (ys : List Id) → Descends m x ys → length ys ≤ f x
   Descends-length f falls x [] d = omega arith
   Descends-length f falls x (y ∷ ys) d =
@@ -111,7 +111,7 @@ module _ (m : List Instance) where
       let step = falls x y d.0 d.1 in
       omega arith
 
-  -- a depth is no greater than any numbers that fall so
+  -- a depth is at most any such number
   pub IsDepth-least : (f : Id → ℕ) → FallsOneWay m f → (x : Id) (k : ℕ) → IsDepth m x k → k ≤ f x
   IsDepth-least f falls x k depth =
       let descent = Descends-length f falls x depth.descent.0 depth.descent.1 in

@@ -1,4 +1,4 @@
--- Whether an instance reaches another can be told, and what it reaches stands in a finite list.
+-- Reaching is decidable, and a finite list has all that an instance reaches.
 use Rattle.std.proofs.Common.{◌≡◌, ◌⊎◌, List, [], ◌∷◌, flat_map, Contains, sym, subst, inl, inr}
 use Rattle.epx_types.specs.declared.id.Id.{Id}
 use Rattle.epx_types.specs.Instances.{Instance}
@@ -11,13 +11,13 @@ use Rattle.epx_types.proofs.Reaching.{Reaches-dependency, Reaches-trans}
 use Rattle.epx_types.proofs.Waiting.{Id-cases, Contains-Id_cases}
 use Rattle.epx_types.proofs.FiniteSearch.{some_or_none}
 
--- both, or not both
+-- both properties hold, or not both
 pub both_cases : {A B : Type 0} → A ⊎ (¬ A) → B ⊎ (¬ B) → (A × B) ⊎ (¬ (A × B))
 both_cases (inl a) (inl b) = inl (a, b)
 both_cases (inl a) (inr none) = inr (λ h. none h.1)
 both_cases (inr none) b = inr (λ h. none h.0)
 
--- the opposite can be told too
+-- the negation of a decidable property is decidable
 pub not_cases : {A : Type 0} → A ⊎ (¬ A) → (¬ A) ⊎ (¬ (¬ A))
 not_cases (inl a) = inr (λ none. none a)
 not_cases (inr none) = inl none
@@ -30,9 +30,9 @@ module _ (m : List Instance) where
         | inr none ↦ inr (λ d. none d.0 d.1 (d.2, d.3))
       ]
 
-  -- ---- paths by way of some Ids
+  -- ---- paths through some Ids
 
-  -- a path from x to y by way of Ids of the list alone
+  -- a path from x to y only through Ids of the list
   abbrev Via : List Id → Id → Id → Type 0
   Via [] x y = DependsOn m x y
   Via (z ∷ zs) x y = Via zs x y ⊎ (Via zs x z × Via zs z y)
@@ -57,7 +57,7 @@ module _ (m : List Instance) where
   Via-dependency [] x y d = d
   Via-dependency (z ∷ zs) x y d = inl (Via-dependency zs x y d)
 
-  -- one dependency more, in front of a path from an Id of the list
+  -- one more dependency in front of a path from an Id of the list
   Via-step : (zs : List Id) (x v y : Id) → Contains zs v → DependsOn m x v → Via zs v y → Via zs x y
   Via-step [] x v y h d on = absurd (Contains-nil v h)
   Via-step (z ∷ zs) x v y h d on =
@@ -74,7 +74,7 @@ module _ (m : List Instance) where
         ]
       ]
 
-  -- the Ids in between on a path are committed
+  -- the Ids inside a path are committed
   Via-from_path : (x : Id) (via : List Id) (y : Id) → IsPath m x via y → Via (ids_of m) x y
   Via-from_path x [] y d = Via-dependency (ids_of m) x y d
   Via-from_path x (v ∷ via) y path = Via-step (ids_of m) x v y (from_committed v via path.1) path.0 (Via-from_path v via y path.1) where
@@ -84,7 +84,7 @@ module _ (m : List Instance) where
 
   -- ---- reaching
 
-  -- whether an instance reaches another can be told
+  -- whether an instance reaches another is decidable
   pub Reaches-cases : (x y : Id) → Reaches m x y ⊎ (¬ Reaches m x y)
   Reaches-cases x y =
       elim (Id-cases x y) [
@@ -98,7 +98,7 @@ module _ (m : List Instance) where
   pub InOneComponent-cases : (x y : Id) → InOneComponent m x y ⊎ (¬ InOneComponent m x y)
   InOneComponent-cases x y = both_cases (Reaches-cases x y) (Reaches-cases y x)
 
-  -- what an instance can reach: itself and all dependencies
+  -- all that an instance may reach: itself and all dependencies of the map
   pub within_reach : Id → List Id
   within_reach x = x ∷ flat_map (λ e. e.deps) m
 
@@ -106,13 +106,13 @@ module _ (m : List Instance) where
   path_end x [] y d = Contains-flat_map (λ (e : Instance). e.deps) m d.0 y d.1 d.3
   path_end x (v ∷ via) y path = path_end v via y path.1
 
-  -- and what it reaches is among these
+  -- what it reaches is among these
   pub Contains-within_reach : (x y : Id) → Reaches m x y → Contains (within_reach x) y
   unfolding within_reach
   Contains-within_reach x y (inl same) = subst (Contains (x ∷ flat_map (λ e. e.deps) m)) same (Contains-head x (flat_map (λ e. e.deps) m))
   Contains-within_reach x y (inr path) = Contains-cons x (flat_map (λ e. e.deps) m) y (path_end x path.0 y path.1)
 
-  -- an instance that reaches another one is committed
+  -- an instance that reaches a different one is committed
   pub Reaches-committed : (x y : Id) → Reaches m x y → ¬ (x ≡ y) → Contains (ids_of m) x
   Reaches-committed x y (inl same) other = absurd (other same)
   Reaches-committed x y (inr ([], d)) other = DependsOn-committed m x y d

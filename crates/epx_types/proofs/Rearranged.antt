@@ -1,4 +1,5 @@
--- Commands in another order that keeps the order of each two that conflict: the same contents, and to each command the same reply.
+-- Commands in another order that keeps the order of any two that conflict leave the same contents,
+-- and each command has the same reply.
 use Rattle.std.proofs.Common.{◌≡◌, ◌⊎◌, ◌∙◌, List, [], ◌∷◌, ◌++◌, length, map, Contains, refl, sym, ap, ap₂, subst, inl, inr, drop, take}
 use Rattle.std.proofs.lemmas.List.{map-append, length-map}
 use Rattle.std.proofs.lemmas.List.Elements.{Contains-append_left, Contains-append_right, Contains-append_cases}
@@ -15,17 +16,17 @@ use Rattle.epx_types.proofs.Apart.{Conflict-turned}
 use Rattle.epx_types.proofs.ApartLists.{final-front, replies-front}
 
 module _ {X : Type 0} where
-  -- no element stands twice
+  -- each element occurs once
   abbrev pub Once : List X → Type 0
   Once [] = Unit {0}
   Once (x ∷ xs) = (¬ Contains xs x) × Once xs
 
-  -- x stands in the list before y
+  -- x is before y in the list
   abbrev pub Precedes : List X → X → X → Type 0
   Precedes [] x y = ⊥
   Precedes (z ∷ zs) x y = ((z ≡ x) × Contains zs y) ⊎ Precedes zs x y
 
-  -- a list, at one of its elements
+  -- a list, split at one of its elements
   split_at : (xs : List X) (x : X) → Contains xs x → (front rest : List X) × (xs ≡ front ++ x ∷ rest)
   split_at [] x h = absurd (Contains-nil x h)
   split_at (y ∷ xs) x h =
@@ -34,9 +35,9 @@ module _ {X : Type 0} where
         | inr later ↦ let s = split_at xs x later in (y ∷ s.0, s.1, ap (λ zs. y ∷ zs) s.2)
       ]
 
-  -- ---- an element taken out of a list
+  -- ---- removing an element from a list
 
-  -- what is left holds no more than the whole
+  -- the other elements are elements of the list
   within_whole : (front rest : List X) (x y : X) → Contains (front ++ rest) y → Contains (front ++ x ∷ rest) y
   within_whole front rest x y h =
       elim (Contains-append_cases front rest y h) [
@@ -44,7 +45,7 @@ module _ {X : Type 0} where
         | inr late ↦ Contains-append_right front (x ∷ rest) y (Contains-cons x rest y late)
       ]
 
-  -- and all but that element
+  -- and all elements except that one are among them
   taken_or_left : (front rest : List X) (x y : X) → Contains (front ++ x ∷ rest) y → (x ≡ y) ⊎ Contains (front ++ rest) y
   taken_or_left front rest x y h =
       elim (Contains-append_cases front (x ∷ rest) y h) [
@@ -93,7 +94,7 @@ module _ {X : Type 0} where
   Precedes-second (z ∷ zs) x y (inl h) = Contains-cons z zs y h.1
   Precedes-second (z ∷ zs) x y (inr h) = Contains-cons z zs y (Precedes-second zs x y h)
 
--- two lists, each cut in two after as many elements, are equal part by part
+-- if two lists are equal and their first parts have the same length, they are equal part by part
 parts_of : {Y : Type 0} (front rest front' rest' : List Y) → length front ≡ length front' → front ++ rest ≡ front' ++ rest' → (front ≡ front') × (rest ≡ rest')
 parts_of front rest front' rest' e same = (
   sym (take-append_seam front rest) ∙ ap (λ n. take n (front ++ rest)) e ∙ ap (take (length front')) same ∙ take-append_seam front' rest',
@@ -101,7 +102,7 @@ parts_of front rest front' rest' e same = (
 )
 
 module _ {X : Type 0} (f : X → List Op) where
-  -- both lists hold the same elements, each once, and what conflicts stands in one order
+  -- both lists have the same elements, each once, with any two that conflict in the same order
   pub record IsRearranged (xs ys : List X) : Type 0 where
     pub once : Once xs
     pub once_too : Once ys
@@ -109,7 +110,7 @@ module _ {X : Type 0} (f : X → List Op) where
     pub whole : (x : X) → Contains ys x → Contains xs x
     pub keeps : (x y : X) → Precedes xs x y → Conflict (f x) (f y) → Precedes ys x y
 
-  -- what stands in front of the element that comes first in the other order does not conflict with it
+  -- the elements before the one that is first in the other order do not conflict with it
   front_apart : (front rest ys : List X) (x : X) → IsRearranged (front ++ x ∷ rest) (x ∷ ys) → ApartFrom (f x) (map f front)
   front_apart front rest ys x both b h conflict =
       let from = Contains-from_map f front b h in
@@ -119,7 +120,7 @@ module _ {X : Type 0} (f : X → List Op) where
         | inr later ↦ both.once_too.0 (Precedes-second ys from.0 x later)
       ]
 
-  -- without that element both are still so
+  -- without that element both lists still satisfy this
   IsRearranged-left : (front rest ys : List X) (x : X) → IsRearranged (front ++ x ∷ rest) (x ∷ ys) → IsRearranged (front ++ rest) ys
   IsRearranged-left front rest ys x both = record {
     once = Once-left front rest x both.once;
@@ -138,13 +139,13 @@ module _ {X : Type 0} (f : X → List Op) where
     ];
   }
 
-  -- the same contents and the same replies
+  -- both leave the same contents, and each command has the same reply
   pub record ExecutesAlike (reply_to : X → Reply) (xs ys : List X) (c : Contents) : Type 0 where
     pub replies : (execute (map f ys) c).replies ≡ map reply_to ys
     pub final : (execute (map f ys) c).final ≡ (execute (map f xs) c).final
 
   module _ (reply_to : X → Reply) where
-    -- the first of the other order, executed first
+    -- the first command of the other order, executed first
     step : (front rest ys : List X) (x : X) (c : Contents) → ApartFrom (f x) (map f front) → (execute (map f (front ++ x ∷ rest)) c).replies ≡ map reply_to (front ++ x ∷ rest)
         → ((command_on (f x) c).reply ≡ reply_to x) × ((execute (map f (front ++ rest)) (command_on (f x) c).after).replies ≡ map reply_to (front ++ rest)) × ((execute (map f (front ++ x ∷ rest)) c).final ≡ (execute (map f (front ++ rest)) (command_on (f x) c).after).final)
     step front rest ys x c apart replied =

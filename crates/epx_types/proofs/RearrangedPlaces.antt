@@ -1,4 +1,4 @@
--- A list of commands, taken by other places that keep the order of each two that conflict.
+-- A list of commands at rearranged positions that keep the order of any two that conflict.
 use Rattle.std.proofs.Common.{◌≡◌, ◌≢◌, ◌<◌, ◌∙◌, ℕ, zero, suc, List, [], ◌∷◌, length, slice_get, slice_index_or, map, Contains, AllPairs, Some, refl, sym, ap, subst, inl, inr, arith}
 use Rattle.std.specs.List.{range_with_len}
 use Rattle.std.proofs.lemmas.List.{ext_get_or}
@@ -15,7 +15,7 @@ use Rattle.epx_types.proofs.Places.{AllPairs-head, AllPairs-tail, Contains-slice
 use Rattle.epx_types.proofs.Executions.{length-replies}
 use Rattle.epx_types.proofs.Rearranged.{Once, Precedes, IsRearranged, ExecutesAlike, execute-rearranged}
 
--- ---- pairs of places, read from the front
+-- ---- pairs of positions, by recursion from the front
 
 module _ {X : Type 0} where
   pub Once-from_AllPairs : (xs : List X) → AllPairs (λ x y. x ≢ y) xs → Once xs
@@ -32,13 +32,13 @@ module _ {X : Type 0} where
     by (z ∷ zs) (suc i) zero l p q = absurd (omega arith)
     by (z ∷ zs) (suc i) (suc j) l p q = inr (by zs i j (omega arith) p q)
 
-  -- a fact on pairs, of two of which one precedes the other
+  -- a property of all pairs holds of two elements of which one precedes the other
   pub AllPairs-Precedes : (R : X → X → Type 0) (xs : List X) → AllPairs R xs → (x y : X) → Precedes xs x y → R x y
   AllPairs-Precedes R [] h x y k = absurd k
   AllPairs-Precedes R (z ∷ zs) h x y (inl k) = subst (λ (v : X). R v y) k.0 (AllPairs-head R z zs y h k.1)
   AllPairs-Precedes R (z ∷ zs) h x y (inr k) = AllPairs-Precedes R zs (AllPairs-tail R z zs h) x y k
 
--- ---- all places of a list, in order
+-- ---- all positions of a list, in order
 
 abbrev pub all_places : ℕ → List ℕ
 all_places n = range_with_len 0 n
@@ -60,7 +60,7 @@ Contains-from_all_places n i h =
     let within : h.0 < n = omega (arith, h.1, length-range_with_len 0 n) in
     omega (arith, h.2, get_or-range_with_len 0 n h.0 i within)
 
--- what stands at all places is the list
+-- the elements at all positions are the list
 pub map-all_places : {X : Type 0} (d : X) (xs : List X) → map (λ i. slice_index_or xs i d) (all_places (length xs)) ≡ xs
 map-all_places d xs =
     let len = length-map-range_with_len (λ i. slice_index_or xs i d) 0 (length xs) in
@@ -90,7 +90,7 @@ module _ (commands : List (List Op)) (places : List ℕ) (arranged : IsRearrange
   pub final-rearranged : (c : Contents) → (execute (commands_at commands places) c).final ≡ (execute commands c).final
   final-rearranged c = (alike c (Abort 0)).final ∙ ap (λ os. (execute os c).final) (map-all_places [] commands)
 
-  -- and the replies are those of the list, taken by the same places
+  -- and the replies are those of the list, at the same positions
   pub replies-rearranged : (c : Contents) (d : Reply) → (execute (commands_at commands places) c).replies ≡ map (λ i. slice_index_or (execute commands c).replies i d) places
   replies-rearranged c d = (alike c d).replies
 

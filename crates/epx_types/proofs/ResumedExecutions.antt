@@ -1,4 +1,4 @@
--- Executing what is left of a covered map, after the done instances, is executing the whole.
+-- Executing the remaining map after the done instances is executing the whole, for a covered map.
 use Rattle.std.proofs.Common.{◌≡◌, ◌⊎◌, ◌↔◌, ◌∙◌, ◌+◌, ℕ, List, [], ◌++◌, length, Contains, Some, slice_get, get_or, refl, sym, ap, subst, inl, inr, arith}
 use Rattle.std.specs.FinMap as contents
 use Rattle.std.proofs.lemmas.List.{length-map, map-append}
@@ -28,18 +28,18 @@ use Rattle.epx_types.proofs.LawfulExecutions.{final-lawful, reply-lawful}
 use Rattle.epx_types.proofs.LawfulParts.{IsLawfulFor-same, IsLawfulFor-together, IsLawful-part_and_rest}
 use Rattle.epx_types.proofs.Resuming.{IsReady-in_whole, IsReady-closed, IsReady-left, IsLawfulAfter-left, commands_in-left}
 
--- the commands of two lists of Ids, one after the other
+-- the commands of two concatenated lists of Ids
 execute-appended : (m : List Instance) (first rest : List Id) (c : Contents) → ((execute (commands_in m (first ++ rest)) c).replies ≡ (execute (commands_in m first) c).replies ++ (execute (commands_in m rest) (execute (commands_in m first) c).final).replies) × ((execute (commands_in m (first ++ rest)) c).final ≡ (execute (commands_in m rest) (execute (commands_in m first) c).final).final)
 execute-appended m first rest c =
     let both : commands_in m (first ++ rest) ≡ commands_in m first ++ commands_in m rest = map-append (λ x. ops_of (instance_of m x)) first rest in
     let parts = execute-append (commands_in m first) (commands_in m rest) c in
     (ap (λ os. (execute os c).replies) both ∙ parts.0, ap (λ os. (execute os c).final) both ∙ parts.1)
 
--- as many replies as Ids
+-- there are as many replies as Ids
 length-replied : (m : List Instance) (ids : List Id) (c : Contents) → length (execute (commands_in m ids) c).replies ≡ length ids
 length-replied m ids c = length-replies (commands_in m ids) c ∙ length-map ids (λ x. ops_of (instance_of m x))
 
--- where nothing is done, the empty contents are sound
+-- if nothing is done, the empty contents are sound
 pub IsSound-nothing_done : (m : List Instance) → IsSound m [] contents.empty
 IsSound-nothing_done m = record {
   ready = λ x h. absurd (Contains-nil x h);
@@ -58,14 +58,14 @@ IsSound-nothing_done m = record {
 }
 
 module _ (m : List Instance) (rising : IsRising (ids_of m)) (done : List Id) (c : Contents) (sound : IsSound m done c) where
-  -- with all ready instances done, the contents are those of a lawful order
+  -- if all ready instances are done, the contents are those that a lawful order leaves
   pub IsSound-final : IsCovered m → ((x : Id) → IsReady m x → Contains done x) → (whole : List Id) → IsLawful m whole → c ≡ (execute (commands_in m whole) contents.empty).final
   IsSound-final covered all whole lawful =
       let lawful_done = IsLawfulFor-same m (Contains done) (IsReady m) sound.executed.0 sound.ready all sound.executed.1 in
       sym sound.executed.2 ∙ final-lawful m rising covered whole sound.executed.0 lawful lawful_done contents.empty
 
   module _ (other : List Instance) (has : HasWhatIsLeft m done other) (ids : List Id) (lawful : IsLawful (remaining done other) ids) where
-    -- done, or ready among those that are left
+    -- an Id is done, or ready in the remaining map
     abbrev IsExecuted : Id → Type 0
     IsExecuted x = Contains done x ⊎ IsReady (remaining done other) x
 
@@ -81,13 +81,13 @@ module _ (m : List Instance) (rising : IsRising (ids_of m)) (done : List Id) (c 
         IsLawfulFor-together m (Contains done) (IsReady (remaining done other)) sound.closed sound.executed.0 ids sound.executed.1
         (IsLawfulAfter-left m other done rising sound.ready sound.closed has ids lawful)
 
-    -- what is left is executed over what the done instances left
+    -- the remaining map is executed over the contents that the done instances left
     from_left : (execute (commands_in m ids) (execute (commands_in m sound.executed.0) contents.empty).final) ≡ execute (commands_in (remaining done other) ids) c
     from_left =
         ap (execute (commands_in m ids)) sound.executed.2
         ∙ ap (λ os. execute os c) (sym (commands_in-left m other done rising sound.ready sound.closed has ids lawful))
 
-    -- with the executed instances done too, what they left is sound
+    -- with the executed instances done too, the final contents are sound
     pub IsSound-resumed : (now : List Id) → ((x : Id) → Contains now x ↔ (Contains done x ⊎ Contains ids x)) → IsSound m now (execute (commands_in (remaining done other) ids) c).final
     IsSound-resumed now is = record {
       ready = λ x h. executed_ready x (to_executed x h);
@@ -105,7 +105,7 @@ module _ (m : List Instance) (rising : IsRising (ids_of m)) (done : List Id) (c 
       from_executed x h = (is x).1 (elim h [ inl was ↦ inl was | inr x_ready ↦ inr (lawful.whole x x_ready) ])
 
     module _ (covered : IsCovered m) (whole : List Id) (lawful' : IsLawful m whole) where
-      -- the done instances, those that are left, and the rest
+      -- the done instances, the remaining ready ones, and then the others
       abbrev in_turn : List Id
       in_turn = (sound.executed.0 ++ ids) ++ rest_of (sound.executed.0 ++ ids) whole
 
@@ -116,7 +116,7 @@ module _ (m : List Instance) (rising : IsRising (ids_of m)) (done : List Id) (c 
       place_in_turn i x at =
           slice_get-append_left (sound.executed.0 ++ ids) (rest_of (sound.executed.0 ++ ids) whole) (length sound.executed.0 + i) x (slice_get-append sound.executed.0 ids i ∙ at)
 
-      -- the reply to what is left stands at that place
+      -- the reply of a remaining instance is at that position
       reply_in_turn : (i : ℕ) (r : Reply) → slice_get (execute (commands_in (remaining done other) ids) c).replies i ≡ Some r → slice_get (execute (commands_in m in_turn) contents.empty).replies (length sound.executed.0 + i) ≡ Some r
       reply_in_turn i r at =
           let early = (execute (commands_in m sound.executed.0) contents.empty).replies in
@@ -131,7 +131,7 @@ module _ (m : List Instance) (rising : IsRising (ids_of m)) (done : List Id) (c 
           ap (λ rs. slice_get rs (length sound.executed.0 + i)) (execute-appended m (sound.executed.0 ++ ids) (rest_of (sound.executed.0 ++ ids) whole) contents.empty).0
           ∙ slice_get-append_left (execute (commands_in m (sound.executed.0 ++ ids)) contents.empty).replies rest (length sound.executed.0 + i) r both
 
-      -- each reply is the one that its instance has where the whole is executed
+      -- each reply is that of its instance in an execution of the whole
       pub reply-resumed : (i : ℕ) (x : Id) → slice_get ids i ≡ Some x → (j : ℕ) × (slice_get whole j ≡ Some x) × (slice_get (execute (commands_in (remaining done other) ids) c).replies i ≡ slice_get (execute (commands_in m whole) contents.empty).replies j)
       reply-resumed i x at =
           let replies = (execute (commands_in (remaining done other) ids) c).replies in
@@ -141,7 +141,8 @@ module _ (m : List Instance) (rising : IsRising (ids_of m)) (done : List Id) (c 
           let same = reply-lawful m rising covered whole in_turn lawful' in_turn_lawful contents.empty j.0 (length sound.executed.0 + i) x j.1 (place_in_turn i x at) in
           (j.0, j.1, replied ∙ sym (reply_in_turn i (get_or replies i (Abort 0)) replied) ∙ same)
 
--- where all of m that is not done is left, executing what is left leaves what executing the whole leaves
+-- if all of m that is not done remains, executing the remaining map leaves the contents that
+-- executing the whole leaves
 pub final-resumed : (m : List Instance) (rising : IsRising (ids_of m)) (done : List Id) (c : Contents) (sound : IsSound m done c) (other : List Instance) (has : HasWhatIsLeft m done other) (ids : List Id) (lawful : IsLawful (remaining done other) ids)
     → HasWhatIsLeft other done m → IsCovered m → (whole : List Id) → IsLawful m whole → (execute (commands_in (remaining done other) ids) c).final ≡ (execute (commands_in m whole) contents.empty).final
 final-resumed m rising done c sound other has ids lawful all covered whole lawful' = IsSound-final m rising (done ++ ids) (execute (commands_in (remaining done other) ids) c).final again covered all_done whole lawful' where
@@ -163,7 +164,7 @@ module _ (m : List Instance) (rising : IsRising (ids_of m)) (part : List Instanc
   lawful_left : IsLawful (remaining [] part) ids
   lawful_left = subst (λ p. IsLawful p ids) (sym (remaining-nil part)) lawful
 
-  -- its instances, with the contents that they leave, are sound for the whole
+  -- its ready instances, with the contents that they leave, are sound for the whole
   pub IsSound-part : IsSound m ids (execute (commands_in part ids) contents.empty).final
   IsSound-part =
       subst (λ p. IsSound m ids (execute (commands_in p ids) contents.empty).final) (remaining-nil part) (IsSound-resumed m rising [] contents.empty (IsSound-nothing_done m) part (λ e h none. within e h) ids lawful_left ids

@@ -1,4 +1,5 @@
--- What is left of a map of which some instances are done stands in it as it stands in the whole.
+-- The remaining map of other logs has the readiness, the components and the order of the whole
+-- map.
 use Rattle.std.proofs.Common.{◌≡◌, ◌⊎◌, List, Contains, sym, ap, ◌∙◌, subst, inl, inr}
 use Rattle.epx_types.specs.declared.id.Id.{Id}
 use Rattle.epx_types.specs.Ids.{IsRising}
@@ -19,14 +20,14 @@ use Rattle.epx_types.proofs.DoneLemmas.{Contains-remaining_iff, DependsOn-remain
 use Rattle.epx_types.proofs.LawfulParts.{IsClosed, IsLawfulAfter}
 
 module _ (m other : List Instance) (done : List Id) (rising : IsRising (ids_of m)) (ready : (x : Id) → Contains done x → IsReady m x) (closed : IsClosed m (Contains done)) (has : HasWhatIsLeft m done other) where
-  -- what is left of the other map
+  -- the remaining map
   abbrev left : List Instance
   left = remaining done other
 
   not_done_left : (x : Id) → IsCommitted left x → ¬ Contains done x
   not_done_left x h = ((Contains-remaining_iff done other x).0 h).1
 
-  -- an instance that is left is one of m, without its done dependencies
+  -- a remaining instance is an instance of m without its done dependencies
   of_left : (e : Instance) → Contains left e → (d : Instance) × Contains m d × (without_deps done d ≡ e)
   of_left e h =
       let d = from_remaining done other e h in
@@ -54,11 +55,12 @@ module _ (m other : List Instance) (done : List Id) (rising : IsRising (ids_of m
       let same = IsRising-same m rising e d.0 in_e in_d (is ∙ sym d.2) in
       (DependsOn-remaining done other x y).1 ((d.0, d.1, d.2, subst (λ (i : Instance). Contains i.deps y) same listed), parts.1, y_left)
 
-  -- what is left reaches no more than the whole
+  -- reaching in the remaining map is reaching in the whole
   Reaches-in_whole : (x y : Id) → Reaches left x y → Reaches m x y
   Reaches-in_whole x y there = Reaches-passes left (Reaches m x) (λ v w d on. Reaches-trans m x v w on (Reaches-dependency m v w (DependsOn-in_whole v w d))) x y there (Reaches-itself m x)
 
-  -- what an instance that is ready among those that are left reaches is done, or reached there
+  -- what a ready remaining instance reaches in the whole is done, or is reached in the remaining
+  -- map
   reached_or_done : (x y : Id) → IsReady left x → Reaches m x y → Contains done y ⊎ Reaches left x y
   reached_or_done x y x_ready there = Reaches-passes m (λ z. Contains done z ⊎ Reaches left x z) step x y there (inr (Reaches-itself left x)) where
     step : (v w : Id) → DependsOn m v w → Contains done v ⊎ Reaches left x v → Contains done w ⊎ Reaches left x w
@@ -77,14 +79,14 @@ module _ (m other : List Instance) (done : List Id) (rising : IsRising (ids_of m
   IsCommitted-in_whole : (x : Id) → IsCommitted left x → IsCommitted m x
   IsCommitted-in_whole x h = let d = instance_left x h in subst (IsCommitted m) d.2 (IsCommitted-from_Contains m d.0 d.1)
 
-  -- what is ready among those that are left is ready in the whole
+  -- a ready remaining instance is ready in the whole
   pub IsReady-in_whole : (x : Id) → IsReady left x → IsReady m x
   IsReady-in_whole x x_ready = record {
     committed = IsCommitted-in_whole x x_ready.committed;
     complete = λ y there. elim (reached_or_done x y x_ready there) [ inl is_done ↦ (ready y is_done).committed | inr on ↦ IsCommitted-in_whole y (x_ready.complete y on) ];
   }
 
-  -- and holds what it reaches, beside the done instances
+  -- the ready remaining instances and the done ones include all that they reach
   pub IsReady-closed : IsClosed m (λ x. Contains done x ⊎ IsReady left x)
   IsReady-closed x y (inl is_done) there = inl (closed x y is_done there)
   IsReady-closed x y (inr x_ready) there = elim (reached_or_done x y x_ready there) [ inl is_done ↦ inl is_done | inr on ↦ inr (IsReady-reached left x y on x_ready) ]
@@ -95,14 +97,15 @@ module _ (m other : List Instance) (done : List Id) (rising : IsRising (ids_of m
       let in_other = all e.0 e.1 (λ h. x_left (subst (Contains done) e.2 h)) in
       (Contains-remaining_iff done other x).1 (subst (IsCommitted other) e.2 (IsCommitted-from_Contains other e.0 in_other), x_left)
 
-  -- where all of m that is not done is left, what is ready in the whole and not done is ready among those that are left
+  -- if all of m that is not done remains, an instance that is ready in the whole and not done is
+  -- ready in the remaining map
   pub IsReady-left : HasWhatIsLeft other done m → (x : Id) → IsReady m x → ¬ Contains done x → IsReady left x
   IsReady-left all x x_ready x_left = record {
     committed = IsCommitted-left all x x_ready.committed x_left;
     complete = λ y there. IsCommitted-left all y (x_ready.complete y (Reaches-in_whole x y there)) (Reaches-passes left (λ z. ¬ Contains done z) (λ v w d v_left. ((DependsOn-remaining done other v w).0 d).2) x y there x_left);
   }
 
-  -- a component is left whole
+  -- a component remains whole
   InOneComponent-left : (x y : Id) → IsReady left x → IsReady left y → InOneComponent m x y → InOneComponent left x y
   InOneComponent-left x y x_ready y_ready one =
       (Reaches-left x y x_ready (not_done_left y y_ready.committed) one.0, Reaches-left y x y_ready (not_done_left x x_ready.committed) one.1)
@@ -131,7 +134,7 @@ module _ (m other : List Instance) (done : List Id) (rising : IsRising (ids_of m
         let y_ready = lawful.only y k in
         lawful.by_sequence x y h k (InOneComponent-left x y x_ready y_ready one) (SequenceBefore-left x y x_ready.committed y_ready.committed lower)
 
-    -- a lawful order of what is left is lawful after the done instances
+    -- a lawful order of the remaining map is lawful after the done instances
     pub IsLawfulAfter-left : IsLawfulAfter m (Contains done) (IsReady left) ids
     IsLawfulAfter-left = record {
       once = lawful.once;
@@ -151,6 +154,6 @@ module _ (m other : List Instance) (done : List Id) (rising : IsRising (ids_of m
         let is : d.0.id ≡ x = ap (λ i. i.id) d.2 ∙ known.1 ∙ e.2 in
         ap (λ y. ops_of (instance_of left y)) (sym e.2) ∙ ap ops_of found.1 ∙ ap (λ i. i.ops) (sym d.2) ∙ ap ops_of (sym ((instance_of_iff m rising x d.0).1 (d.1, is)))
 
-    -- and its commands are those of the whole
+    -- its commands are those of the whole map
     pub commands_in-left : commands_in left ids ≡ commands_in m ids
     commands_in-left = map-agree (λ x. ops_of (instance_of left x)) (λ x. ops_of (instance_of m x)) ids (λ x h. same_ops x (lawful.only x h).committed)

@@ -1,4 +1,4 @@
--- Rising lists, by a total order that ties equal values alone.
+-- Rising lists, by a total order in which only equal values compare as equal.
 use Rattle.std.proofs.Common.{◌≡◌, ◌⊎◌, true, List, [], ◌∷◌, Contains, AllPairs, Ordering, is_lt, sym, subst, inl, inr, arith}
 use Rattle.std.specs.Cmp.{IsTotalOrder}
 use Rattle.std.specs.FinMap.{IsAntisymmetric}
@@ -6,11 +6,11 @@ use Rattle.epx_types.proofs.Membership.{Contains-nil, Contains-head, Contains-co
 use Rattle.epx_types.proofs.Places.{AllPairs-head, AllPairs-tail, AllPairs-from_parts}
 use Rattle.epx_types.proofs.TotalOrders.{below_cases, below_trans}
 
--- each is below all that follow
+-- each element is below all later ones
 abbrev pub Rises : {K : Type 0} → (K → K → Ordering) → List K → Type 0
 Rises R xs = AllPairs (λ x y. is_lt (R x y) ≡ true) xs
 
--- a rising list of x and the elements of xs
+-- a rising list of x and of the elements of xs
 pub record IsWith {K : Type 0} (R : K → K → Ordering) (x : K) (xs now : List K) : Type 0 where
   pub rising : Rises R now
   pub here : Contains now x
@@ -49,7 +49,7 @@ module _ {K : Type 0} {R : K → K → Ordering} (total : IsTotalOrder R) (same 
     ];
   }
 
-  -- one element more in a rising list
+  -- inserting one element into a rising list
   pub put_in_place : (x : K) (xs : List K) → Rises R xs → (now : List K) × IsWith R x xs now
   put_in_place x [] rising = (
     x ∷ [],
@@ -72,7 +72,7 @@ module _ {K : Type 0} {R : K → K → Ordering} (total : IsTotalOrder R) (same 
             (y ∷ rest.0, put_later x y xs rest.0 l rising rest.1)
       ]
 
-  -- the elements of a list that have a fact which can be told, by rising order, each once
+  -- the distinct elements of a list that have a decidable property, in rising order
   pub record AreThose (P : K → Type 0) (xs those : List K) : Type 0 where
     pub those_rise : Rises R those
     pub those_only : (x : K) → Contains those x → Contains xs x × P x

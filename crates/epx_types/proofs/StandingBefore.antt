@@ -1,4 +1,4 @@
--- What stands before what in two lists, one after the other, and in what a filter keeps.
+-- The relation `Before` in two concatenated lists and in a filtered list.
 use Rattle.std.proofs.Common.{◌≡◌, ℕ, zero, suc, ◌+◌, Bool, true, List, [], ◌∷◌, ◌++◌, length, filter, Contains, Some, slice_get, ap, ◌∙◌, inl, inr, arith}
 use Rattle.std.proofs.lemmas.Bool.{cases_Bool}
 use Rattle.std.proofs.lemmas.List.Elements.{Contains-append_left, Contains-append_right}
@@ -18,7 +18,7 @@ module _ {X : Type 0} where
       let on = Before-from_Precedes xs x y h in
       (suc on.0, suc on.1, omega (arith, on.2), on.3, on.4)
 
-  -- ---- two lists, one after the other
+  -- ---- two concatenated lists
 
   Precedes-append_left : (xs ys : List X) (x y : X) → Precedes xs x y → Precedes (xs ++ ys) x y
   Precedes-append_left [] ys x y h = absurd h
@@ -43,22 +43,22 @@ module _ {X : Type 0} where
   pub Before-append_right : (xs ys : List X) (x y : X) → Before ys x y → Before (xs ++ ys) x y
   Before-append_right xs ys x y h = Before-from_Precedes (xs ++ ys) x y (Precedes-append_right xs ys x y (Precedes-from_Before ys x y h))
 
-  -- what stands in the first list stands before what stands in the second
+  -- an element of the first list is before each element of the second
   pub Before-across : (xs ys : List X) (x y : X) → Contains xs x → Contains ys y → Before (xs ++ ys) x y
   Before-across xs ys x y h k = Before-from_Precedes (xs ++ ys) x y (Precedes-across xs ys x y h k)
 
-  -- the places of the second list follow those of the first
+  -- the positions of the second list follow those of the first
   pub slice_get-append : (xs ys : List X) (i : ℕ) → slice_get (xs ++ ys) (length xs + i) ≡ slice_get ys i
   slice_get-append [] ys i = let none : zero + i ≡ i = omega arith in ap (slice_get ys) none
   slice_get-append (x ∷ xs) ys i = let next : suc (length xs) + i ≡ suc (length xs + i) = omega arith in ap (slice_get (x ∷ xs ++ ys)) next ∙ slice_get-append xs ys i
 
-  -- a place of the first list is one of both
+  -- a position of the first list is the same position of both
   pub slice_get-append_left : (xs ys : List X) (i : ℕ) (x : X) → slice_get xs i ≡ Some x → slice_get (xs ++ ys) i ≡ Some x
   slice_get-append_left [] ys i x e = absurd (cc e)
   slice_get-append_left (z ∷ xs) ys zero x e = e
   slice_get-append_left (z ∷ xs) ys (suc i) x e = slice_get-append_left xs ys i x e
 
-  -- ---- what a filter keeps
+  -- ---- filtered lists
 
   Precedes-filter : (p : X → Bool) (xs : List X) (x y : X) → Precedes xs x y → p x ≡ true → p y ≡ true → Precedes (filter p xs) x y
   Precedes-filter p [] x y h px py = absurd h

@@ -1,4 +1,4 @@
--- A committed instance is ready exactly where it waits for nothing.
+-- A committed instance is ready exactly if it waits for nothing.
 use Rattle.std.proofs.Common.{◌≡◌, ◌⊎◌, ◌<◌, ℕ, zero, suc, true, List, [], ◌∷◌, Contains, Ordering, Less, Equal, Greater, nat_cmp, refl, sym, ◌∙◌, subst, inl, inr, arith}
 use Rattle.std.specs.Ordering.{MatchOrdering, ordering_then, is_lt}
 use Rattle.std.specs.Cmp.{ranked}
@@ -13,7 +13,7 @@ use Rattle.epx_types.proofs.Membership.{Contains-nil, Contains-head, Contains-co
 use Rattle.epx_types.proofs.TotalOrders.{below_cases, below_itself}
 use Rattle.epx_types.proofs.Comparisons.{id_cmp_total, id_cmp-IsAntisymmetric}
 
--- ---- induction over the Ids below
+-- ---- induction over smaller Ids
 
 Below-parts : (x y : Id) → Below x y → (x.replica < y.replica) ⊎ ((x.replica ≡ y.replica) × (x.number < y.number))
 Below-parts x y l = by (nat_cmp x.replica y.replica) (nat_cmp x.number y.number) (ranked x.replica y.replica _ refl) (ranked x.number y.number _ refl) l where
@@ -40,13 +40,13 @@ module _ (P : Id → Type 0) (step : (x : Id) → ((y : Id) → Below y x → P 
         | inr more ↦ of_replica r (below_replica r) (suc x.number) x (omega arith) (omega arith)
       ]
 
-  -- what holds of an Id where it holds of each one below holds of each Id
+  -- a property holds of each Id if it holds of an Id whenever it holds of all smaller ones
   pub Id-induction : (x : Id) → P x
   Id-induction x = below_replica (suc x.replica) x (omega arith)
 
--- ---- what is committed can be told
+-- ---- being committed is decidable
 
--- whether two Ids are equal can be told
+-- equality of Ids is decidable
 pub Id-cases : (x y : Id) → (x ≡ y) ⊎ (¬ (x ≡ y))
 Id-cases x y =
     elim (below_cases id_cmp_total id_cmp-IsAntisymmetric x y) [
@@ -55,7 +55,7 @@ Id-cases x y =
       | inr (inr l) ↦ inr (λ e. below_itself id_cmp_total y (subst (Below y) e l))
     ]
 
--- whether an Id is in a list can be told
+-- membership of an Id in a list is decidable
 pub Contains-Id_cases : (ids : List Id) (x : Id) → Contains ids x ⊎ (¬ Contains ids x)
 Contains-Id_cases [] x = inr (Contains-nil x)
 Contains-Id_cases (y ∷ ids) x =
@@ -68,7 +68,7 @@ Contains-Id_cases (y ∷ ids) x =
     ]
 
 module _ (m : List Instance) where
-  -- where nothing is waited for, nothing that is reached is missing
+  -- if x waits for nothing, nothing that it reaches is missing
   none_missing : (x : Id) → IsCommitted m x → ((y : Id) → ¬ WaitsFor m x y) → (y : Id) → Reaches m x y → ¬ IsCommitted m y → ⊥
   none_missing x committed waits = Id-induction (λ y. Reaches m x y → ¬ IsCommitted m y → ⊥) (λ y lower reached missing. waits y (record {
     committed = committed;
@@ -88,14 +88,14 @@ module _ (m : List Instance) where
     complete = λ y reached. elim (Contains-Id_cases (ids_of m) y) [ inl there ↦ there | inr missing ↦ absurd (none_missing x committed waits y reached missing) ];
   }
 
-  -- ---- maps that lack nothing
+  -- ---- maps without missing dependencies
 
-  -- where nothing is lacking a path ends at a committed instance
+  -- if no dependency is missing, each path ends at a committed instance
   pub IsCommitted-path : LacksNothing m → (x : Id) (via : List Id) (y : Id) → IsPath m x via y → IsCommitted m y
   IsCommitted-path whole x [] y d = whole d.0 d.1 y d.3
   IsCommitted-path whole x (z ∷ via) y p = IsCommitted-path whole z via y p.1
 
-  -- and each instance is ready
+  -- if no dependency is missing, each committed instance is ready
   pub IsReady-where_nothing_lacks : LacksNothing m → (x : Id) → IsCommitted m x → IsReady m x
   IsReady-where_nothing_lacks whole x committed = record {
     committed = committed;

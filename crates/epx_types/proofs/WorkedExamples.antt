@@ -1,4 +1,5 @@
--- Worked examples: what the definitions give for small commands, each computed by the definitions themselves.
+-- Worked examples: the replies and writes of small commands, computed by the definitions
+-- themselves.
 use Rattle.std.proofs.Common.{◌≡◌, ℕ, ◌-◌, ◌^◌, ℤ, pos, neg_ℤ, cond, List, [], ◌∷◌, codes, Some, None, refl}
 use Rattle.std.specs.Ordering.{eq_by_cmp}
 use Rattle.std.specs.FinMap as contents
@@ -27,7 +28,7 @@ c = codes "c"
 abbrev nothing : Contents
 nothing = contents.empty
 
--- a holds 5
+-- the key a has the value 5
 abbrev five : Contents
 five = contents.insert nothing a (pos 5)
 
@@ -38,7 +39,7 @@ greatest = pos (2 ^ 63 - 1)
 abbrev least : ℤ
 least = neg_ℤ (pos (2 ^ 63))
 
--- what look-ups answer, so that they compute
+-- the results of look-ups, stated so that they compute
 
 at_empty : (q : List ℕ) → contents.get nothing q ≡ None
 at_empty q = get-empty key_cmp q
@@ -49,7 +50,7 @@ at_insert m k v q = get-insert key_cmp_total m k v q
 at_remove : (m : Contents) (k q : List ℕ) → contents.get (contents.remove m k) q ≡ cond (eq_by_cmp key_cmp q k) None (contents.get m q)
 at_remove m k q = get-remove key_cmp_total m k q
 
--- a command gives this reply and these writes
+-- a command has this reply and these writes
 abbrev Gives : List Op → Contents → Reply → List Write → Type 0
 Gives ops before reply writes = ((command_on ops before).reply ≡ reply) × (writes_of ops before ≡ writes)
 
@@ -73,7 +74,7 @@ a_copy_of_an_absent_key_removes_its_target = (refl, simp (at_insert, at_remove, 
 a_copy_onto_itself_keeps_the_value : Gives (Copy a a ∷ Get a ∷ []) five (Values (Some (pos 5) ∷ [])) ((a, Some (pos 5)) ∷ [])
 a_copy_onto_itself_keeps_the_value = (simp (at_insert, at_empty), simp (at_insert, at_empty))
 
--- ---- tests that go through, and aborts
+-- ---- tests that succeed, and aborts
 
 absence_is_none : Gives (Is a None ∷ []) nothing (Values []) []
 absence_is_none = (simp at_empty, simp at_empty)
@@ -99,7 +100,7 @@ a_floor_is_reached_by_its_own_value = (simp (at_insert, at_empty), simp (at_inse
 absence_counts_as_0_at_a_floor : Gives (Floor a (pos 0) ∷ Floor a (pos 1) ∷ []) nothing (Abort 1) []
 absence_counts_as_0_at_a_floor = (simp at_empty, simp at_empty)
 
--- ---- the ends of the values
+-- ---- the bounds of the values
 
 a_sum_past_the_greatest_value_aborts : Gives (Put a greatest ∷ Get a ∷ Add a (pos 1) ∷ []) nothing (Abort 2) []
 a_sum_past_the_greatest_value_aborts = (simp (at_insert, at_empty), simp (at_insert, at_empty))

@@ -1,18 +1,20 @@
--- Lines that agree, and the first two that do not.
+-- Lines that agree, and their first disagreement.
 use Rattle.std.specs.Prelude.{◌≡◌, ◌≢◌, List, Contains}
 use Rattle.epx_types.specs.declared.id.Id.{Id}
 use Rattle.epx_types.specs.Ids.{UpTo}
 use Rattle.epx_types.specs.PlacedLines.{Placed, Earlier}
 
--- all lines of one instance commit the same: sequence number, set of dependencies and list of operations
+-- all lines of one instance commit the same sequence number, set of dependencies and list of
+-- operations
 abbrev pub Agree : List Placed → Type 0
 Agree lines = (p q : Placed) → Contains lines p → Contains lines q → p.instance.id ≡ q.instance.id → p.instance ≡ q.instance
 
--- both name one instance and do not commit the same
+-- both lines name one instance and commit it differently
 abbrev pub Differ : Placed → Placed → Type 0
 Differ p q = (p.instance.id ≡ q.instance.id) × (p.instance ≢ q.instance)
 
--- the least Id with two lines that differ, its first line, and the first later line that differs from that one
+-- the least Id with two lines that differ, its first line, and the first later line that differs
+-- from the first
 pub record IsFirstDisagreement (lines : List Placed) (id : Id) (first second : Placed) : Type 0 where
   pub has_first : Contains lines first
   pub has_second : Contains lines second

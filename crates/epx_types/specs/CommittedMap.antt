@@ -12,15 +12,15 @@ ids_of m = map (λ e. e.id) m
 abbrev pub instance_of : List Instance → Id → Option Instance
 instance_of m x = find (λ e. is_eq (id_cmp e.id x)) m
 
--- its place among the committed instances, counted from 0
+-- the position of an Id among the committed instances, from 0
 abbrev pub position_of : List Instance → Id → Option ℕ
 position_of m x = position (λ e. is_eq (id_cmp e.id x)) m
 
--- an instance that no line gives is not committed
+-- an Id is committed if the map has its instance
 abbrev pub IsCommitted : List Instance → Id → Type 0
 IsCommitted m x = Contains (ids_of m) x
 
--- what the lines commit, where they agree
+-- the map that the lines commit, which exists only if they agree
 pub record IsCommittedBy (lines : List Placed) (m : List Instance) : Type 0 where
   pub rising : IsRising (ids_of m)
   pub given : (e : Instance) → Contains m e → (p : Placed) × Contains lines p × (p.instance ≡ e)

@@ -9,7 +9,8 @@ pub record Execution : Type 0 where
   pub replies : List Reply
   pub final : Contents
 
--- each command over what the one before it left; the replies in that order, and what the last left
+-- each command over the contents that the previous one left; the replies in that order, and the
+-- final contents
 abbrev pub execute : List (List Op) → Contents → Execution
 execute [] c = record { replies = []; final = c }
 execute (ops ∷ rest) c =

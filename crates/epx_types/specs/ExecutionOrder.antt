@@ -9,7 +9,7 @@ use Rattle.epx_types.specs.Readiness.{IsReady}
 use Rattle.epx_types.specs.Components.{IsLeader}
 use Rattle.epx_types.specs.Depth.{IsDepth}
 
--- an instance with what decides its place
+-- an instance with the numbers that decide its position
 pub record Ranked : Type 0 where
   pub id : Id
   pub seq : ℕ

@@ -21,7 +21,7 @@ fault_number (Read log) = 7
 fault_number Write = 8
 fault_number (BadBase line) = 9
 
--- 3 for want of memory, 4 for a device that failed, and 1 for what the logs and the base say
+-- 3 if memory ran out, 4 if a device failed, and 1 for the faults of the logs and the base
 abbrev pub fault_status : Fault → ℕ
 fault_status Memory = 3
 fault_status TooManyLogs = 1

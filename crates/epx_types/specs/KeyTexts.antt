@@ -1,4 +1,4 @@
--- The bytes of a key's text, wherever they lie.
+-- The bytes of a key's text, stored in the key or allocated.
 use Rattle.std.specs.Prelude.{ℕ, List, string_bytes}
 use Rattle.epx_types.specs.declared.key_text.KeyText.{KeyText}
 use Rattle.epx_types.specs.declared.key_text.KeyText.TheVariants.{Short, Long}

@@ -10,7 +10,7 @@ use Rattle.epx_types.specs.Readiness.{IsReady}
 use Rattle.epx_types.specs.Reaching.{Reaches}
 use Rattle.epx_types.specs.Components.{InOneComponent}
 
--- x stands in the list, and stands there before y
+-- x occurs in the list at a position before one of y
 abbrev pub Before : {X : Type 0} → List X → X → X → Type 0
 Before xs x y = (i j : ℕ) × (i < j) × (slice_get xs i ≡ Some x) × (slice_get xs j ≡ Some y)
 
@@ -18,7 +18,9 @@ Before xs x y = (i j : ℕ) × (i < j) × (slice_get xs i ≡ Some x) × (slice_
 abbrev pub SequenceBefore : List Instance → Id → Id → Type 0
 SequenceBefore m x y = (d e : Instance) × Contains m d × (d.id ≡ x) × Contains m e × (e.id ≡ y) × (is_lt (ordering_then (nat_cmp d.seq e.seq) (id_cmp x y)) ≡ true)
 
--- each instance of the set once and nothing else; what x reaches outside its component stands before it; members of one component stand by rising sequence number
+-- Each instance of the set occurs once, and nothing else does. An instance comes after all that it
+-- reaches outside its component. Members of one component come in the order of their sequence
+-- numbers
 pub record IsLawfulFor (m : List Instance) (Member : Id → Type 0) (ids : List Id) : Type 0 where
   pub once : AllPairs (λ x y. x ≢ y) ids
   pub only : (x : Id) → Contains ids x → Member x
@@ -33,6 +35,6 @@ abbrev pub ops_of : Option Instance → List Op
 ops_of None = []
 ops_of (Some e) = e.ops
 
--- the commands of instances of a map
+-- the commands of some instances of a map
 abbrev pub commands_in : List Instance → List Id → List (List Op)
 commands_in m ids = map (λ x. ops_of (instance_of m x)) ids

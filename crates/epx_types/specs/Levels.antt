@@ -3,39 +3,40 @@ use Rattle.std.specs.Prelude.{◌≡◌, ◌==◌, ℕ, suc, max, ◌<◌, ◌�
 use Rattle.epx_types.specs.declared.op.Op.{Op}
 use Rattle.epx_types.specs.Conflicts.{Conflict}
 
--- the commands at two places conflict; past the end of the list no command stands, and none conflicts
+-- the commands at two positions conflict; past the end of the list there is no command and no
+-- conflict
 abbrev pub ConflictAt : List (List Op) → ℕ → ℕ → Type 0
 ConflictAt commands i j = Conflict (slice_index_or commands i []) (slice_index_or commands j [])
 
--- a chain of falling places that begins at j, in which each conflicts with the one before it
+-- a chain of falling positions from j, in which each command conflicts with the previous one
 abbrev pub Climbs : List (List Op) → ℕ → List ℕ → Type 0
 Climbs commands j [] = Unit {0}
 Climbs commands j (i ∷ is) = (i < j) × ConflictAt commands i j × Climbs commands i is
 
--- the longest chain of conflicting commands that ends at place j has this many steps
+-- the longest chain of conflicting commands that ends at position j has this many steps
 pub record IsLevel (commands : List (List Op)) (j level : ℕ) : Type 0 where
   pub chain : (is : List ℕ) × Climbs commands j is × (length is ≡ level)
   pub longest : (is : List ℕ) → Climbs commands j is → length is ≤ level
 
--- these are the levels of the commands, place by place
+-- these are the levels of the commands, position by position
 pub record AreLevels (commands : List (List Op)) (levels : List ℕ) : Type 0 where
   pub whole : length levels ≡ length commands
   pub each : (j : ℕ) → j < length commands → IsLevel commands j (slice_index levels j)
 
--- how many levels there are: one more than the greatest
+-- the number of levels: one more than the greatest level
 abbrev pub level_count : List ℕ → ℕ
 level_count [] = 0
 level_count (level ∷ levels) = max (suc level) (level_count levels)
 
--- the places of a level, rising, where the list begins at place j
+-- the positions of a level, rising, in a list that begins at position j
 abbrev pub places_from : ℕ → List ℕ → ℕ → List ℕ
 places_from j [] l = []
 places_from j (level ∷ levels) l = if level == l then j ∷ places_from (suc j) levels l else places_from (suc j) levels l
 
--- the places of a level, rising
+-- the positions of a level, rising
 abbrev pub places_of : List ℕ → ℕ → List ℕ
 places_of levels l = places_from 0 levels l
 
--- numbers that rise from each command to each later one that conflicts with it
+-- f is greater at each later command that conflicts
 abbrev pub RisesWithConflicts : List (List Op) → (ℕ → ℕ) → Type 0
 RisesWithConflicts commands f = (i j : ℕ) → i < j → ConflictAt commands i j → f i < f j

@@ -1,11 +1,11 @@
--- What one operation does to the contents of a store.
+-- The effect of one operation on the contents of a store.
 use Rattle.std.specs.Prelude.{◌^◌, ℤ, pos, neg_ℤ, ◌+ℤ◌, ◌&&◌, Bool, true, false, not, int_lt, List, [], ◌∷◌, Option, Some, None, if◌then◌else◌}
 use Rattle.std.specs.FinMap as contents
 use Rattle.epx_types.specs.declared.op.Op.{Op}
 use Rattle.epx_types.specs.declared.op.Op.TheVariants.{Get, Put, Del, Add, Is, Floor, Copy}
 use Rattle.epx_types.specs.Contents.{Contents, assign, amount_at}
 
--- a signed number of 64 bits
+-- the number is a signed 64-bit integer
 abbrev pub fits_i64 : ℤ → Bool
 fits_i64 z = not (int_lt z (neg_ℤ (pos (2 ^ 63)))) && int_lt z (pos (2 ^ 63))
 
@@ -15,7 +15,7 @@ same_value None (Some w) = false
 same_value (Some v) None = false
 same_value (Some v) (Some w) = not (int_lt v w) && not (int_lt w v)
 
--- the contents after an operation and what it adds to the reply, or None where it aborts
+-- the contents after an operation and the values that it adds to the reply, or None if it aborts
 abbrev pub operate : Op → Contents → Option (Contents × List (Option ℤ))
 operate (Get k) c = Some (c, contents.get c k ∷ [])
 operate (Put k v) c = Some (assign c k (Some v), [])

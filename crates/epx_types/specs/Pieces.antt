@@ -1,8 +1,9 @@
--- How work is shared: plans, and the pieces into which a plan cuts items. Each piece has `cut` items, and the last one may have fewer.
+-- Plans, and the pieces into which a plan cuts items. Each piece has `cut` items; the last one may
+-- have fewer.
 use Rattle.std.specs.Prelude.{ℕ, ◌≤◌, ◌+◌, ◌*◌, min}
 use Rattle.std.specs.Int.{div_ceil}
 
--- a number of workers, and the number of items in a piece of work
+-- the number of workers, and the number of items in a piece of work
 pub record Cutting : Type 0 where
   pub workers : ℕ
   pub cut : ℕ
@@ -13,7 +14,7 @@ pub record IsWithinLimits (plan : Cutting) : Type 0 where
   pub some_item : 1 ≤ plan.cut
   pub few_items : plan.cut ≤ 65536
 
--- rounded up
+-- the number of pieces: the items divided by `cut`, rounded up
 abbrev pub piece_count : ℕ → ℕ → ℕ
 piece_count cut items = div_ceil items cut
 

@@ -7,11 +7,11 @@ use Rattle.epx_types.specs.Instances.{Instance}
 abbrev pub DependsOn : List Instance → Id → Id → Type 0
 DependsOn m x y = (e : Instance) × Contains m e × (e.id ≡ x) × Contains e.deps y
 
--- a path of dependencies from x to y by way of the instances in between
+-- a path of dependencies from x to y through the Ids of `via`
 abbrev pub IsPath : List Instance → Id → List Id → Id → Type 0
 IsPath m x [] y = DependsOn m x y
 IsPath m x (z ∷ via) y = DependsOn m x z × IsPath m z via y
 
--- itself, and where some path leads
+-- x is y, or some path leads from x to y
 abbrev pub Reaches : List Instance → Id → Id → Type 0
 Reaches m x y = (x ≡ y) ⊎ ((via : List Id) × IsPath m x via y)

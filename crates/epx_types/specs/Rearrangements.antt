@@ -1,14 +1,15 @@
--- Rearrangements of a list of commands that keep the order of each two that conflict.
+-- Rearrangements of a list of commands that keep the order of any two that conflict.
 use Rattle.std.specs.Prelude.{◌≢◌, ℕ, ◌<◌, List, [], map, length, Contains, AllPairs, slice_index_or}
 use Rattle.epx_types.specs.declared.op.Op.{Op}
 use Rattle.epx_types.specs.Levels.{ConflictAt}
 use Rattle.epx_types.specs.LawfulOrders.{Before}
 
--- the commands at these places, in this order
+-- the commands at these positions, in this order
 abbrev pub commands_at : List (List Op) → List ℕ → List (List Op)
 commands_at commands places = map (λ i. slice_index_or commands i []) places
 
--- each place of the list once, and of two commands that conflict the one that stands first in the list before the other
+-- each position of the list occurs once; of two commands that conflict, the one that is first in
+-- the list is first here
 pub record IsRearrangement (commands : List (List Op)) (places : List ℕ) : Type 0 where
   pub once : AllPairs (λ i j. i ≢ j) places
   pub only : (i : ℕ) → Contains places i → i < length commands

@@ -12,7 +12,7 @@ pub record Waiting : Type 0 where
 abbrev pub waiting_ids : List Waiting → List Id
 waiting_ids ws = map (λ w. w.id) ws
 
--- each instance that waits, once, by rising Id
+-- each waiting instance once, by rising Id
 pub record IsWaitingList (m : List Instance) (ws : List Waiting) : Type 0 where
   pub waits : (w : Waiting) → Contains ws w → WaitsFor m w.id w.missing
   pub whole : (x y : Id) → WaitsFor m x y → Contains ws (record { id = x; missing = y })

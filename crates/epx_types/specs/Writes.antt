@@ -1,4 +1,4 @@
--- What a command writes, and contents into which writes are put.
+-- The writes of a command, and contents after writes.
 use Rattle.std.specs.Prelude.{◌≢◌, ℕ, ℤ, List, [], ◌∷◌, map, AllPairs, Option}
 use Rattle.std.specs.FinMap as contents
 use Rattle.epx_types.specs.declared.op.Op.{Op}
@@ -8,11 +8,11 @@ use Rattle.epx_types.specs.Contents.{Contents, assign}
 use Rattle.epx_types.specs.Commands.{command_on}
 use Rattle.epx_types.specs.CommandKeys.{written_keys}
 
--- a key with its value afterwards, or its absence
+-- a key with its new value, or None if it is removed
 abbrev pub Write : Type 0
 Write = List ℕ × Option ℤ
 
--- none where the command aborts, and else for each written key in order what it has afterwards
+-- none if the command aborts; otherwise the new value of each written key, in order
 abbrev pub writes_by : Reply → List Op → Contents → List Write
 writes_by (Values got) ops after = map (λ k. (k, contents.get after k)) (written_keys ops)
 writes_by (Abort j) ops after = []
@@ -20,7 +20,7 @@ writes_by (Abort j) ops after = []
 abbrev pub writes_of : List Op → Contents → List Write
 writes_of ops c = writes_by (command_on ops c).reply ops (command_on ops c).after
 
--- writes put into contents, one after another
+-- the contents after writes, applied one after another
 abbrev pub put_all : List Write → Contents → Contents
 put_all [] c = c
 put_all (w ∷ ws) c = put_all ws (assign c w.0 w.1)

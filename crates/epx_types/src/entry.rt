@@ -12,7 +12,8 @@ pub const MAX_DEPS: usize = 256;
 /// A command has at most this many operations.
 pub const MAX_OPS: usize = 64;
 
-/// A committed instance: its name, its sequence number, its dependencies and its command.
+/// A committed instance: its Id, its sequence number, its dependencies and the operations of its
+/// command.
 #[derive(Debug, Drop)]
 pub struct Entry {
     id: Id,
@@ -34,8 +35,8 @@ impl Model for Entry {
 impl Entry {
     ghost use Rattle.epx_types.specs.Instances.{Instance, IsWellFormed};
 
-    /// None where the dependencies are not strictly rising, are over 256 or hold the instance itself,
-    /// or the operations are over 64.
+    /// None if the dependencies are not strictly rising, are more than 256 or name the instance
+    /// itself, or if there are more than 64 operations.
     pub fn new(id: Id, seq: u64, deps: Vec<Id>, ops: Vec<Op>) -> Option<Entry>
         ensures fits { IsSome result
             ↔ IsWellFormed (record { id = id; seq = seq; deps = deps.items; ops = ops.items }) }
@@ -77,7 +78,7 @@ impl Entry {
     }
 }
 
-/// Whether each is below the next.
+/// Whether each Id is less than the next.
 pub fn is_rising(ids: &[Id]) -> bool
     ensures { IsTrue result ↔ IsRising ids.now }
 {

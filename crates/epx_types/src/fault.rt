@@ -1,4 +1,4 @@
-//! Refusals.
+//! Faults: why a run has no answer.
 ghost use Rattle.std.specs.Prelude.{◌≡◌, IfOk, string_bytes};
 ghost use Rattle.epx_types.specs.Faults.{fault_number, fault_status, fault_text};
 
@@ -8,26 +8,26 @@ use crate::place::Place;
 use std::alloc::Global;
 use std::fmt;
 
-/// Why a line gives no entry, in the order in which the reasons are looked for.
+/// Why a line is bad. The first reason that applies, in this order, is reported.
 #[derive(Clone, Copy, Debug, PartialEq, Eq)]
 pub enum Why {
-    /// More than 65,536 bytes, and not blank.
+    /// The line has more than 65,536 bytes and is not blank.
     TooLong,
-    /// No JSON value, or one nested too deep.
+    /// The line is not a JSON value, or is nested too deep.
     NotJson,
-    /// A JSON value that is no object.
+    /// The JSON value is not an object.
     NotObject,
-    /// `r` is missing or no whole number of 8 bits.
+    /// `r` is missing or is not an unsigned 8-bit integer.
     Replica,
-    /// `i` is missing or no whole number of 64 bits.
+    /// `i` is missing or is not an unsigned 64-bit integer.
     Number,
-    /// `seq` is missing or no whole number of 64 bits.
+    /// `seq` is missing or is not an unsigned 64-bit integer.
     Seq,
     /// `status` is there and is not `committed`.
     Status,
-    /// `deps` is missing or no list of at most 256 Ids.
+    /// `deps` is missing or is not a list of at most 256 Ids.
     Deps,
-    /// `ops` is missing or no list of at most 64 operations.
+    /// `ops` is missing or is not a list of at most 64 operations.
     Ops,
 }
 
@@ -52,26 +52,27 @@ impl fmt::Display for Why {
     }
 }
 
-/// Why a run gave no report.
+/// Why a run has no answer. The number of each fault is that of its text.
 #[derive(Clone, Copy, Debug, PartialEq, Eq)]
 pub enum Fault {
-    /// A growth was refused.
+    /// An allocation failed.
     Memory,
-    /// More than 64 logs.
+    /// There are more than 64 logs.
     TooManyLogs,
     /// The log has more than 67,108,864 bytes.
     LogTooLong { log: usize },
-    /// The line gives no entry and is not blank.
+    /// The line is bad, for the first reason that applies.
     BadLine { place: Place, why: Why },
-    /// More than 65,536 distinct instances.
+    /// The logs commit more than 1,048,576 distinct instances.
     TooManyInstances,
-    /// The lines at two places name one instance and do not commit the same.
+    /// The lines at two places commit the same instance differently.
     Disagree { id: Id, first: Place, second: Place },
-    /// The source of a log failed.
+    /// A read of the log failed.
     Read { log: usize },
-    /// The sink failed.
+    /// A write or a flush of the answer failed.
     Write,
-    /// The bytes are no base: the line may not stand where it stands, or should follow the last one.
+    /// The bytes are not a base: this line is not allowed at its position, or it is missing at the
+    /// end.
     BadBase { line: usize },
 }
 
@@ -115,7 +116,7 @@ impl fmt::Display for Fault {
 }
 
 impl Fault {
-    /// 1 to 9, as the text of the fault has it.
+    /// The number in the fault's text, 1 to 9.
     pub fn number(&self) -> u8
         ensures { result ≡ fault_number self.now }
     {
@@ -132,7 +133,8 @@ impl Fault {
         }
     }
 
-    /// The exit status of a program that ends with it.
+    /// The exit status of a program that ends with this fault: 3 for `Memory`, 4 for `Read` and
+    /// `Write`, 1 for the others.
     pub fn status(&self) -> u8
         ensures { result ≡ fault_status self.now }
     {
@@ -143,7 +145,7 @@ impl Fault {
         }
     }
 
-    /// The line that the program prints, without its LF.
+    /// The line that the program prints, without its line feed.
     pub fn text(&self, alloc: Global) -> Result<String, Memory>
         ensures { IfOk result (λ text. string_bytes text ≡ fault_text self.now) }
     {

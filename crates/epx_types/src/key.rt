@@ -12,10 +12,11 @@ use std::marker::Model;
 /// A key has at most this many bytes.
 pub const MAX_KEY_BYTES: usize = 64;
 
-/// A key of the store: a text of 1 to 64 bytes; ordered by bytes.
+/// A key of the store: a text of 1 to 64 bytes. Keys are ordered by bytes.
 #[derive(Debug, Drop)]
 pub struct Key {
-    /// The first eight bytes as a number. It tells most keys apart without a look at their text.
+    /// The first eight bytes as a number. Most keys differ in it, so most comparisons need not
+    /// read the text.
     head: u64,
     text: KeyText,
 }
@@ -33,7 +34,7 @@ impl Model for Key {
     ghost invariant = { λ k. FitsKey (bytes_of k.text) × AreBytes (bytes_of k.text) × (k.head ≡ head_of (bytes_of k.text)) };
 }
 
-/// A byte of a text, or 0 past its end.
+/// The byte at an index, or 0 past the end.
 fn byte_at(bytes: &[u8], place: usize) -> u64
     ensures value { result ≡ slice_index_or bytes.now place 0 }
     ensures byte { result < 256 }
@@ -45,7 +46,7 @@ fn byte_at(bytes: &[u8], place: usize) -> u64
     }
 }
 
-/// The first eight bytes of a text as a number.
+/// The first eight bytes of a text as a big-endian number, padded with zeros.
 fn head_of(text: &str) -> u64
     ensures head { result ≡ head_of text.now }
     ensures bytes { AreBytes text.now }
@@ -63,7 +64,7 @@ fn head_of(text: &str) -> u64
 }
 
 impl Key {
-    /// None where the text is empty or longer than 64 bytes.
+    /// None if the text is empty or longer than 64 bytes. A short text is not allocated.
     pub fn new(alloc: Global, text: &str) -> Result<Option<Key>, Memory>
         ensures fits { IfOk result (λ o. IsSome o ↔ FitsKey text.now) }
         ensures key { IfOk result (λ o. IfSome o (λ k. k ≡ text.now)) }
@@ -83,8 +84,8 @@ impl Key {
         self.text.as_str()
     }
 
-    /// The first eight bytes as a number, with 0 past the end. Where two keys differ in it, it orders
-    /// them as their bytes do.
+    /// The first eight bytes as a big-endian number, padded with zeros. If the heads of two keys
+    /// differ, the keys are ordered as their heads.
     pub fn head(&self) -> u64
         ensures head { result ≡ head_of self.now }
         ensures bytes { AreBytes self.now }

@@ -1,4 +1,4 @@
-//! The text of a key, in the key itself where it is short.
+//! The text of a key, stored in the key itself if it is short.
 ghost use Rattle.std.specs.Prelude.{◌≡◌, IfOk};
 ghost use Rattle.epx_types.specs.KeyTexts.{bytes_of};
 
@@ -6,10 +6,10 @@ use crate::memory::Memory;
 use arrayvec::ArrayString;
 use std::alloc::Global;
 
-/// A text of at most so many bytes is kept without an allocation.
+/// A text of at most this many bytes is stored without an allocation.
 const SHORT: usize = 16;
 
-/// A text.
+/// A text, short or allocated.
 #[derive(Debug, Drop)]
 pub(crate) enum KeyText {
     Short(ArrayString<SHORT>),

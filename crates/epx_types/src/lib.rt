@@ -1,6 +1,6 @@
-//! The vocabulary of epx: instances and their Ids, keys and operations, commands and replies, places
-//! in logs, plans and faults. The definitions of the protocol, over which every crate above is
-//! proved, stand in `specs/`.
+//! The types of epx: instances and their Ids, keys and operations, commands and replies, places in
+//! logs, plans and faults. The definitions of the protocol are in `specs/`. The contracts of all
+//! crates are stated in their terms.
 #![tactic(auto)]
 
 pub mod command;

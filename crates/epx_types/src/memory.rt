@@ -1,9 +1,10 @@
-//! Want of memory.
+//! Out of memory.
 ghost use Rattle.std.specs.Prelude.{◌≡◌};
 
 use std::alloc::{AllocError, AllocFailed};
 
-/// Memory ran out. It is answered where a growth was refused; that it comes only then, no clause says.
+/// The error of a call that ran out of memory. It is returned if an allocation fails. No contract
+/// says that it is returned only then.
 #[derive(Clone, Copy, Debug, PartialEq, Eq)]
 pub struct Memory;
 
@@ -15,7 +16,7 @@ impl From<AllocError> for Memory {
     }
 }
 
-/// A refused growth that hands back what was to be stored, which is dropped.
+/// From a failed allocation that returns the value that was to be stored. The value is dropped.
 impl<T: Drop> From<AllocFailed<T>> for Memory {
     ghost from_gives = { λ _ memory. memory ≡ record {} };
 

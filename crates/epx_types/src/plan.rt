@@ -1,16 +1,16 @@
-//! How work is cut into pieces, and how many workers share it.
+//! Plans: how many workers share the work, and into which pieces it is cut.
 ghost use Rattle.std.specs.Prelude.{◌≡◌, ◌≤◌, ◌<◌, ◌↔◌, IsSome, IfSome};
 ghost use Rattle.epx_types.specs.Pieces.{IsWithinLimits, piece_count, piece_start, piece_end};
 
 use std::marker::Model;
 
-/// At most this many workers share the work.
+/// A plan has at most this many workers.
 pub const MAX_WORKERS: usize = 64;
 
 /// A piece of work has at most this many items.
 pub const MAX_CUT: usize = 65_536;
 
-/// A number of workers, 1 to 64, and the number of items in a piece of work, 1 to 65,536.
+/// The number of workers, 1 to 64, and the number of items in a piece of work, 1 to 65,536.
 #[derive(Clone, Copy, Debug, PartialEq, Eq)]
 pub struct Plan {
     workers: usize,
@@ -30,7 +30,7 @@ impl Model for Plan {
 }
 
 impl Plan {
-    /// None where a number is outside its limits.
+    /// None if a number is outside its limits.
     pub fn new(workers: usize, cut: usize) -> Option<Plan>
         ensures fits { IsSome result ↔ IsWithinLimits (record { workers = workers; cut = cut }) }
         ensures plan { IfSome result (λ p. p ≡ record { workers = workers; cut = cut }) }
@@ -48,7 +48,7 @@ impl Plan {
         self.workers
     }
 
-    /// How many items a piece has; the last piece may have fewer.
+    /// The number of items in a piece. The last piece may have fewer.
     pub fn cut(&self) -> usize
         ensures cut { result ≡ self.now.cut }
         ensures fits { IsWithinLimits self.now }
@@ -56,7 +56,7 @@ impl Plan {
         self.cut
     }
 
-    /// How many pieces so many items make.
+    /// The number of pieces into which `items` items are cut.
     pub fn pieces(&self, items: usize) -> usize
         ensures pieces { result ≡ piece_count self.now.cut items }
         ensures fits { IsWithinLimits self.now }
@@ -65,7 +65,7 @@ impl Plan {
         items.div_ceil(cut)
     }
 
-    /// The first item of a piece, and the item after its last.
+    /// The first item of a piece, and the item after its last one.
     pub fn range(&self, piece: usize, items: usize) -> (usize, usize)
         requires { piece < piece_count self.now.cut items }
         ensures start { result.0 ≡ piece_start self.now.cut piece }

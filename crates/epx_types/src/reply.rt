@@ -54,10 +54,10 @@ impl Eq for Values {
     ghost laws = { Prim.search (comparing, rules) };
 }
 
-/// What a command answers.
+/// The reply of a command.
 #[derive(Debug, PartialEq, Eq, Drop)]
 pub enum Reply {
     Values(Values),
-    /// The place of the operation that aborted, counted from 0.
+    /// The index of the operation that aborted, from 0.
     Abort(u64),
 }

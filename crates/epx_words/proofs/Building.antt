@@ -1,4 +1,4 @@
--- What a command is after each step of its building, as clap's own words say it.
+-- The shape of a clap command after each step of building it.
 use Rattle.std.proofs.Common.{◌≡◌, ◌∙◌, ap, ap₂, true, false, not, is_some}
 use Rattle.clap.specs.Words.{AddsArg, AddsSubcommand, App, Rule, app_of, rule_of, with_rule, with_subcommand}
 use Rattle.clap.specs.Walk.{is_empty, is_simple_arg}

@@ -1,4 +1,4 @@
--- The work that is found in words is what the subcommand asks for by the program's own shape.
+-- The work that clap's matches ask for is that of the subcommand, by the shape of the program.
 use Rattle.std.proofs.Common.{◌≡◌, ◌∙◌, true, List, Some, ap, map, subst}
 use Rattle.std.specs.Prelude.{option_map, string_bytes}
 use Rattle.clap.specs.Words.{App, Text, is_simple, subcommand_of}

@@ -1,4 +1,4 @@
--- A walk in which clap finds no fault stops only at a subcommand that is a task, and not at `help`.
+-- A walk in which clap finds no fault stops only at a task, and not at the subcommand `help`.
 use Rattle.std.proofs.Common.{◌≡◌, ◌⊎◌, ℕ, Bool, cond, true, false, codes, List, [], ◌∷◌, Option, Some, None, is_some, inl, inr}
 use Rattle.std.specs.List.{AllByRecursion, find, fold}
 use Rattle.std.specs.Option.{IfSome, option_map}

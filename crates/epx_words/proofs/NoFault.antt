@@ -1,4 +1,5 @@
--- Words in which clap finds no fault name a task, with both numbers in their ranges and the first text that it has to have.
+-- Words in which clap finds no fault name a task, with both numbers in their ranges and with its
+-- required first argument.
 use Rattle.std.proofs.Common.{◌≡◌, Bool, true, false, codes, List, [], Option, Some, None, refl, sym, subst, inl, inr, is_some, true≢false}
 use Rattle.std.specs.List.{AllByRecursion}
 use Rattle.std.specs.Option.{IsSome}
@@ -32,7 +33,7 @@ leaf_of work = built_leaf (inherited (with_leaf_noted (marked_built epx_app.top)
 abbrev leaf : Text → Shape
 leaf name = leaf_of (work_app name)
 
--- a task over a first text and logs
+-- a task over a first argument and logs
 abbrev leaf_with_first : Text → Shape
 leaf_with_first name = leaf_of (first_app name)
 
@@ -71,7 +72,7 @@ logs_work name rest no_first is none =
     let numbers = numbers_of name rest none in
     (is, numbers.workers, numbers.cut, λ has. absurd (no_first has))
 
--- a name that is known gives work where the known one does
+-- a name that equals a known one asks for work if the known one does
 named : (name known : Text) (rest : List Text) → name ≡ known → (entered_fault app (Some (known, rest)) ≡ [] → GivesWork (entered app (Some (known, rest))))
     → entered_fault app (Some (name, rest)) ≡ [] → GivesWork (entered app (Some (name, rest)))
 named name known rest is works none =

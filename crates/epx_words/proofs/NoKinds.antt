@@ -1,4 +1,4 @@
--- Where no kind comes of two steps, none comes of either.
+-- If two steps together have no kind of error, neither step has one.
 use Rattle.std.proofs.Common.{◌≡◌, [], ◌∷◌, refl}
 use Rattle.clap.specs.Kinds.{Kinds, or_else}
 

@@ -1,4 +1,4 @@
--- What a text says of the words, by the kind of the error that it tells of.
+-- The status of a text, by the kind of clap's error.
 use Rattle.std.proofs.Common.{◌≡◌, ◌≢◌, ◌⊎◌, ◌↔◌, Bool, true, false, [], subst, refl, inl, inr}
 use Rattle.clap.specs.Words.{IsAmong, Kinds}
 use Rattle.clap.specs.declared.error.kind.ErrorKind.{ErrorKind}

@@ -1,4 +1,5 @@
--- Rows whose numbers lie in their ranges, and whose first text has a value, and what keeps them so.
+-- Sound rows: the numbers are in their ranges and the first argument has a value. Which steps keep
+-- rows sound.
 use Rattle.std.proofs.Common.{◌≡◌, ℕ, Bool, cond, true, false, ◌||◌, codes, List, [], ◌∷◌, ◌++◌, Some, None, refl, sym, subst, true≢false}
 use Rattle.std.specs.List.{AllByRecursion, find}
 use Rattle.std.specs.Option.{IsSome, option_map_or}
@@ -67,7 +68,7 @@ more_sound s values r h = (
   tt,
 )
 
--- the row of the values, where there is none yet
+-- the row of the values, if there is none so far
 abbrev pub new_row : Text → Reading → ValueSource → List Text → Row
 new_row id how s values = record { id = id; values = values; count = None; source = Some s; reading = how }
 
@@ -75,7 +76,7 @@ pub values_sound : (id : Text) (how : Reading) (s : ValueSource) (values : List 
     → AreSound (with_values id how s values rows)
 values_sound id how s values rows new h = at_row_sound id (more_values s values) (new_row id how s values ∷ []) rows (more_sound s values) (new, tt) h
 
--- an argument whose default fits keeps the rows sound, whether it was used or not
+-- an argument whose default is in range keeps the rows sound, whether or not it was used
 pub default_sound : (a : Rule) (v : Text) (vs : List Text) (rows : List Row) → a.defaults ≡ v ∷ vs → IsSoundRow (new_row a.id (reading_by a) DefaultValue (v ∷ vs)) → AreSound rows
     → AreSound (with_default rows a)
 default_sound a v vs rows is new h = go (has_row a.id rows)
@@ -91,7 +92,7 @@ no_default a rows is = go (has_row a.id rows)
     go true = refl
     go false = rw is refl
 
--- ---- rows that are there
+-- ---- rows that exist
 
 or_right : (a b : Bool) → b ≡ true → (a || b) ≡ true
 or_right true b e = refl
@@ -129,7 +130,7 @@ default_has_row a v vs rows is same = go (has_row a.id rows) refl
     go false t = subst (λ ds. has_row a.id (default_rows a.id (reading_by a) ds rows) ≡ true) (sym is)
         (makes_row a.id DefaultValue (v ∷ vs) (new_row a.id (reading_by a) DefaultValue (v ∷ vs)) rows same)
 
--- and no other default takes it away
+-- and no other default removes it
 pub default_keeps_row : (id : Text) (a : Rule) (rows : List Row) → has_row id rows ≡ true → has_row id (with_default rows a) ≡ true
 default_keeps_row id a rows has = go (has_row a.id rows)
   where
@@ -141,7 +142,7 @@ default_keeps_row id a rows has = go (has_row a.id rows)
     go true = has
     go false = given a.defaults
 
--- ---- what is read of them
+-- ---- values read from rows
 
 row_number : (most : ℕ) (how : Reading) (values : List Text) → how ≡ AsWritten → IsFirstNumber most values → IsNumberUpTo most (option_map (read_as how) (slice_get values 0))
 row_number most how [] is h = absurd h
@@ -161,7 +162,7 @@ value_there : (values : List Text) → HasValue values → IsSome (slice_get val
 value_there [] h = absurd h
 value_there (v ∷ vs) h = refl
 
--- a first text that is given has a value
+-- a first argument that is present has a value
 pub first_read : (rows : List Row) → AreSound rows → is_given (codes "first") rows ≡ true → IsSome (first_in rows)
 first_read [] ok given = absurd (true≢false (sym given))
 first_read (r ∷ rs) ok given = go (bytes_eq r.id (codes "first")) refl (λ e. first_read rs ok.1 e) given

@@ -1,4 +1,5 @@
--- Each argument of a subcommand keeps the rows sound, and with the defaults both numbers are there, and the first text that has to be.
+-- Each argument of a subcommand keeps the rows sound. After the defaults both numbers have rows,
+-- and so has a required first argument.
 use Rattle.std.proofs.Common.{◌≡◌, ◌==◌, ◌∙◌, ◌||◌, ℕ, Bool, cond, true, false, not, codes, List, [], ◌∷◌, length, refl, sym, subst, true≢false, eqb-true, arith}
 use Rattle.std.specs.List.{AllByRecursion, fold}
 use Rattle.std.specs.Option.{IsSome}
@@ -62,7 +63,7 @@ passed most v none = go (is_unsigned_in 1 most v) refl none
     go true is e = accepts-Accepts false (Unsigned 1 most) v is
     go false is e = cc
 
--- the number's row is sound once the number is in its range
+-- the number's row is sound if the number is in its range
 abbrev Fits : Text → ℕ → Type 0
 Fits name most = (s : ValueSource) (v : Text) → IsUnsignedIn 1 most v → IsSoundRow (new_row name AsWritten s (v ∷ []))
 
@@ -129,7 +130,7 @@ level_sound s keeps words none =
     settled_sound s keeps end (none_first (settle_fault s.rules s.args_override_self end) _ (none_after walked _ none))
     (walk_sound s keeps [] (walk_from nothing_held) words (none_first walked _ none) tt)
 
--- the rows are sound, and both numbers are there
+-- the rows are sound, and both numbers have rows
 pub record HasNumbers (rows : List Row) : Type 0 where
   pub workers : IsNumberUpTo 64 (one_of (codes "workers") rows)
   pub cut : IsNumberUpTo 65536 (one_of (codes "cut") rows)
@@ -157,6 +158,6 @@ required_given : (given : Bool) → cond (not given || false) (MissingRequiredAr
 required_given true none = refl
 required_given false none = cc
 
--- where it is not missed, the first text is there
+-- if no required argument is missing, the first argument has a row
 pub first_there : (rows : List Row) → cond (not (is_given (codes "first") rows) || false) (MissingRequiredArgument ∷ []) [] ≡ [] → AreSound rows → IsSome (first_in rows)
 first_there rows none ok = first_read rows ok (required_given (is_given (codes "first") rows) none)

@@ -1,4 +1,4 @@
--- A walk over words in which clap finds no fault keeps the rows sound, where each use of an argument does.
+-- A walk in which clap finds no fault keeps the rows sound, if each use of an argument does.
 use Rattle.std.proofs.Common.{◌≡◌, ◌&&◌, ℕ, Bool, zero, suc, cond, true, false, List, [], ◌∷◌, length, drop, Option, Some, None, is_some}
 use Rattle.std.specs.List.{AllByRecursion, find, fold}
 use Rattle.std.specs.Option.{IfSome, option_map_or}

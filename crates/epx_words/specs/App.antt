@@ -1,4 +1,5 @@
--- The program as clap knows it: seven subcommands, each with two numbers and any number of logs, and two of them with a text before these.
+-- The program as clap knows it. Each subcommand has two options with numbers and any number of
+-- logs. Two subcommands have a required argument before the logs.
 use Rattle.std.specs.Prelude.{ℕ, true, Some, [], ◌∷◌, codes}
 use Rattle.clap.specs.Simple.{on_top}
 use Rattle.clap.specs.Words.{App, Rule, Text, new_app, new_rule, with_rule, with_subcommand}
@@ -19,11 +20,11 @@ number_rule name default most = record (new_rule name) {
 abbrev pub logs_rule : Rule
 logs_rule = record (new_rule (codes "logs")) { action = Some Append; value_names = 1 }
 
--- the text before the logs, which has to be given
+-- the required argument before the logs
 abbrev pub first_rule : Rule
 first_rule = record (new_rule (codes "first")) { action = Some Set; value_names = 1; required = true }
 
--- a subcommand with its two numbers
+-- a subcommand with its two options
 abbrev pub numbers_app : Text → App
 numbers_app name =
     with_rule (with_rule (new_app name) (number_rule (codes "workers") (codes "4") 64)) (number_rule (codes "cut") (codes "256") 65536)
@@ -32,7 +33,7 @@ numbers_app name =
 abbrev pub work_app : Text → App
 work_app name = with_rule (numbers_app name) logs_rule
 
--- a subcommand over a first text and logs
+-- a subcommand over a first argument and logs
 abbrev pub first_app : Text → App
 first_app name = with_rule (with_rule (numbers_app name) first_rule) logs_rule
 
@@ -40,11 +41,11 @@ first_app name = with_rule (with_rule (numbers_app name) first_rule) logs_rule
 abbrev pub epx_start : App
 epx_start = on_top (λ shape. record shape { has_version = true; subcommand_required = true }) (new_app (codes "epx"))
 
--- the program with the subcommands that execute, order or draw
+-- the program with the subcommands `run`, `order`, `levels` and `graph`
 abbrev pub runs_app : App
 runs_app =
     with_subcommand (with_subcommand (with_subcommand (with_subcommand epx_start (work_app (codes "run")).top) (work_app (codes "order")).top) (work_app (codes "levels")).top) (work_app (codes "graph")).top
 
--- the program
+-- the program with all subcommands
 abbrev pub epx_app : App
 epx_app = with_subcommand (with_subcommand (with_subcommand runs_app (first_app (codes "resume")).top) (work_app (codes "audit")).top) (first_app (codes "check")).top

@@ -1,4 +1,4 @@
--- What words come to, by cases.
+-- What a command line asks for.
 use Rattle.std.specs.Prelude.{◌≡◌, ⊤, ℕ, List, ◌∷◌, Option, Some, codes, map, option_map, string_bytes}
 use Rattle.clap.specs.Words.{Row, Text}
 use Rattle.epx_types.specs.Pieces.{Cutting}
@@ -8,7 +8,7 @@ use Rattle.epx_words.specs.declared.asked.Words.{Words}
 use Rattle.epx_words.specs.declared.asked.Words.TheVariants as words
 use Rattle.epx_words.specs.Given.{Given, IsCutOf, IsWorkersOf, first_in, logs_in, name_in, rows_in}
 
--- the subcommand of a task
+-- the name of the subcommand of a task
 abbrev pub task_name : Task → Text
 task_name task.Run = codes "run"
 task_name task.Order = codes "order"
@@ -18,17 +18,17 @@ task_name task.Resume = codes "resume"
 task_name task.Audit = codes "audit"
 task_name task.Check = codes "check"
 
--- the paths of a first text and then of the logs
+-- the path of the first argument, and then the paths of the logs
 abbrev pub AreFirstAndLogs : List Row → Option (List Text) → Type 0
 AreFirstAndLogs rows paths = (first : Text) × (first_in rows ≡ Some first) × (paths ≡ Some (first ∷ logs_in rows))
 
--- the paths of a task: of the base that it goes on from, or of the list that it checks, and then of its logs
+-- the paths of a task: of its base or its list, if it has one, and then of its logs
 abbrev pub ArePathsOf : Task → List Row → Option (List Text) → Type 0
 ArePathsOf task.Resume rows paths = AreFirstAndLogs rows paths
 ArePathsOf task.Check rows paths = AreFirstAndLogs rows paths
 ArePathsOf _ rows paths = paths ≡ Some (logs_in rows)
 
--- the words ask for work, and this holds of the task, the plan and the paths
+-- if the words ask for work, P holds of the task, the plan and the paths
 abbrev pub IfWork : (Task → Cutting → Option (List Text) → Type 0) → Words → Type 0
 IfWork P (words.Work task plan paths) = P task plan (option_map (λ list. map string_bytes list.items) paths)
 IfWork P (words.Text text status) = ⊤
@@ -38,12 +38,12 @@ abbrev pub AsksWork : Words → Type 0
 AsksWork (words.Work task plan paths) = ⊤
 AsksWork (words.Text text status) = ⊥
 
--- the words come to a text, and this holds of the status
+-- if the words ask for a text, P holds of the status
 abbrev pub IfText : (ℕ → Type 0) → Words → Type 0
 IfText P (words.Work task plan paths) = ⊤
 IfText P (words.Text text status) = P status
 
--- the work that a subcommand asks for by its rows
+-- this is the work that a subcommand asks for by its rows
 pub record Fits (given : Given) (asked : Task) (cutting : Cutting) (logs : Option (List Text)) : Type 0 where
   pub task : name_in given ≡ Some (task_name asked)
   pub workers : IsWorkersOf (rows_in given) cutting.workers
@@ -55,7 +55,7 @@ abbrev pub IsWorkOf : Given → Words → Type 0
 IsWorkOf given (words.Work task plan paths) = Fits given task plan (option_map (λ list. map string_bytes list.items) paths)
 IsWorkOf given (words.Text text status) = ⊥
 
--- the words come to a text with this status
+-- the words ask for a text with this status
 abbrev pub IsText : ℕ → Words → Type 0
 IsText n (words.Work task plan paths) = ⊥
 IsText n (words.Text text status) = status ≡ n

@@ -1,4 +1,4 @@
--- What the rows of a subcommand give: two numbers, the logs and a text before them.
+-- The values in the rows of a subcommand: two numbers, the logs, and the argument before them.
 use Rattle.std.specs.Prelude.{◌≡◌, ◌⊎◌, ℕ, List, [], Option, Some, None, codes, option_map, unwrap_or}
 use Rattle.std.specs.Option.{IsSome, option_map_or}
 use Rattle.std.specs.Str.Parse.{IsNumeral, digits_value, without_leading_plus}
@@ -15,24 +15,24 @@ name_in = option_map (λ p. p.0)
 abbrev pub rows_in : Given → List Row
 rows_in given = option_map_or (λ p. p.1) given []
 
--- the text is decimal digits, after a plus or not, and n is what they mean
+-- the text is decimal digits, with or without a leading plus, and n is their value
 abbrev pub IsNumberOf : Option Text → ℕ → Type 0
 IsNumberOf None n = ⊥
 IsNumberOf (Some text) n = IsNumeral 10 (without_leading_plus text) × (n ≡ digits_value 10 (without_leading_plus text))
 
--- so many workers are given
+-- the option `--workers` has the value n
 abbrev pub IsWorkersOf : List Row → ℕ → Type 0
 IsWorkersOf rows n = IsNumberOf (one_of (codes "workers") rows) n
 
--- so many items to a piece of work are given
+-- the option `--cut` has the value n
 abbrev pub IsCutOf : List Row → ℕ → Type 0
 IsCutOf rows n = IsNumberOf (one_of (codes "cut") rows) n
 
--- the values of the logs, in their order
+-- the paths of the logs, in their order
 abbrev pub logs_in : List Row → List Text
 logs_in rows = unwrap_or (all_of (codes "logs") rows) []
 
--- the value of the text before the logs, where one is given
+-- the path of the argument before the logs, if there is one
 abbrev pub first_in : List Row → Option Text
 first_in rows = first_of (codes "first") rows
 
@@ -46,11 +46,12 @@ abbrev pub IsTaskName : Text → Type 0
 IsTaskName name =
     (name ≡ codes "run") ⊎ ((name ≡ codes "order") ⊎ ((name ≡ codes "levels") ⊎ ((name ≡ codes "graph") ⊎ ((name ≡ codes "resume") ⊎ ((name ≡ codes "audit") ⊎ (name ≡ codes "check"))))))
 
--- the name of a subcommand that reads a text before the logs: a base, or a list
+-- the name of a subcommand with an argument before the logs: a base, or a list
 abbrev pub HasFirst : Text → Type 0
 HasFirst name = (name ≡ codes "resume") ⊎ (name ≡ codes "check")
 
--- a subcommand that asks for work, with numbers in their ranges, and with the first text that it has to have
+-- a subcommand that asks for work, with both numbers in their ranges and with its required first
+-- argument
 abbrev pub GivesWork : Given → Type 0
 GivesWork None = ⊥
 GivesWork (Some p) =

@@ -1,38 +1,38 @@
-//! What words ask.
+//! What a command line asks for.
 
 use epx_types::Plan;
 
-/// What is wanted of the logs.
+/// The task of a subcommand.
 #[derive(Clone, Copy, Debug, PartialEq, Eq)]
 pub enum Task {
-    /// The report.
+    /// Write the report.
     Run,
-    /// The execution order.
+    /// Write the execution order.
     Order,
-    /// The conflict levels.
+    /// Write the conflict levels.
     Levels,
-    /// The dependency graph, as a picture.
+    /// Write the dependency graph as a picture.
     Graph,
-    /// The report over a base, which is an earlier report.
+    /// Execute what an earlier report, the base, has not executed, and write the report.
     Resume,
-    /// Whether the logs are covered.
+    /// Say whether the logs are covered.
     Audit,
-    /// Whether a list of instances is a lawful order.
+    /// Say whether a list of instances is a lawful order.
     Check,
 }
 
-/// What words come to.
+/// What a command line means: work to do, or a text to print.
 #[derive(Debug, Drop)]
 pub enum Words {
-    /// Work over the logs at these paths. The first path is that of the base where one is resumed, and that of the
-    /// list where one is checked. Without paths the one log is standard input.
+    /// A task over the logs at these paths. For `Resume` the first path is that of the base, and
+    /// for `Check` that of the list. `None` means one log, standard input.
     Work {
         task: Task,
         plan: Plan,
         paths: Option<Vec<String>>,
     },
-    /// A text to print: what was asked for, or why the words are refused. The status is that with
-    /// which the program then ends.
+    /// A text to print: the help or the version, or why the command line is refused. The program
+    /// then exits with `status`.
     Text {
         text: String,
         status: u8,

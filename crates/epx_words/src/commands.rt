@@ -1,4 +1,4 @@
-//! The program as clap knows it.
+//! The program's command line, as a clap `Command`.
 ghost use Rattle.std.specs.Prelude.{◌≡◌, IfOk, codes};
 ghost use Rattle.clap.specs.Words.{app_of, new_app, rule_of};
 ghost use Rattle.epx_words.specs.App.{epx_app, epx_start, first_app, first_rule, logs_rule, number_rule, numbers_app, runs_app, work_app};
@@ -10,7 +10,7 @@ use std::alloc::{AllocError, Global};
 
 const VERSION: &str = "0.1.0";
 
-/// What help says of a subcommand.
+/// The help texts of a subcommand.
 #[derive(Clone, Copy)]
 struct Help {
     about: &'static str,
@@ -36,7 +36,7 @@ logs from 0, in the order of the words, and the lines of each from 1.
 Example:
   epx run examples/replicas/*.jsonl";
 
-/// What help says of the program itself: no more than a screen holds.
+/// The help texts of the program itself. They fit on one screen.
 const EPX: &str = "Executes the committed instances of EPaxos from their logs";
 
 const EPX_AFTER: &str =
@@ -171,7 +171,7 @@ fn number_option<'a>(
         .value_parser(ValueParser::unsigned(1, most as u64))
 }
 
-/// A subcommand of which no more is said than its name and its help.
+/// A subcommand with its name and its help, without arguments.
 fn with_help<'a>(alloc: Global, name: &'a str, help: Help) -> Command<'a>
     ensures { app_of result ≡ new_app name.entry.now }
 {
@@ -182,7 +182,7 @@ fn with_help<'a>(alloc: Global, name: &'a str, help: Help) -> Command<'a>
         .after_long_help(help.long_after)
 }
 
-/// A subcommand with the two options that all have.
+/// A subcommand with the options `--workers` and `--cut`, which all subcommands have.
 fn subcommand<'a>(alloc: Global, name: &'a str, help: Help) -> Result<Command<'a>, AllocError>
     ensures { IfOk result (λ c. app_of c ≡ numbers_app name.entry.now) }
 {
@@ -195,7 +195,7 @@ fn subcommand<'a>(alloc: Global, name: &'a str, help: Help) -> Result<Command<'a
     with_help(alloc, name, help).arg(workers)?.arg(cut)
 }
 
-/// The logs, of which there may be none.
+/// The argument LOG, which may occur any number of times.
 fn logs<'a>(alloc: Global) -> Arg<'a>
     ensures { rule_of result ≡ logs_rule }
 {
@@ -205,7 +205,7 @@ fn logs<'a>(alloc: Global) -> Arg<'a>
         .help("The logs to read, - for standard input; faults count them from 0")
 }
 
-/// The text before the logs.
+/// The required argument before the logs: BASE or LIST.
 fn first<'a>(alloc: Global, value: &'a str, help: &'a str) -> Arg<'a>
     ensures { rule_of result ≡ first_rule }
 {
@@ -216,14 +216,14 @@ fn first<'a>(alloc: Global, value: &'a str, help: &'a str) -> Arg<'a>
         .help(help)
 }
 
-/// A subcommand that works over logs alone.
+/// A subcommand whose arguments are logs.
 fn over_logs<'a>(alloc: Global, name: &'a str, help: Help) -> Result<Command<'a>, AllocError>
     ensures { IfOk result (λ c. app_of c ≡ work_app name.entry.now) }
 {
     subcommand(alloc, name, help)?.arg(logs(alloc))
 }
 
-/// A subcommand that works over a first text and logs.
+/// A subcommand whose arguments are BASE or LIST, and then logs.
 fn over_first<'a>(
     alloc: Global,
     name: &'a str,
@@ -236,8 +236,8 @@ fn over_first<'a>(
     subcommand(alloc, name, help)?.arg(first)?.arg(logs(alloc))
 }
 
-/// The program without its subcommands. Its usage does not say that it has to have one, since without words it
-/// reads a log from standard input.
+/// The program without its subcommands. Its usage line has the subcommand as optional: `epx` with
+/// no arguments reads one log from standard input.
 fn start<'a>(alloc: Global) -> Command<'a>
     ensures { app_of result ≡ epx_start }
 {
@@ -249,7 +249,7 @@ fn start<'a>(alloc: Global) -> Command<'a>
         .subcommand_required(true)
 }
 
-/// The program with what executes, orders or draws.
+/// The program with the subcommands `run`, `order`, `levels` and `graph`.
 fn with_runs<'a>(alloc: Global) -> Result<Command<'a>, AllocError>
     ensures { IfOk result (λ c. app_of c ≡ runs_app) }
 {
@@ -264,7 +264,7 @@ fn with_runs<'a>(alloc: Global) -> Result<Command<'a>, AllocError>
         .subcommand(graph)
 }
 
-/// The whole program.
+/// The program with all subcommands.
 pub(crate) fn command<'a>(alloc: Global) -> Result<Command<'a>, AllocError>
     ensures { IfOk result (λ c. app_of c ≡ epx_app) }
 {

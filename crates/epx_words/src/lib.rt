@@ -1,5 +1,5 @@
-//! The words of the program: what they ask, with which plan and of which logs, or the text that
-//! answers words that ask for no work.
+//! The command line of the program: the task, the plan and the paths that it asks for, or a text
+//! to print if it asks for help or is refused.
 #![tactic(auto)]
 
 mod asked;

@@ -1,4 +1,4 @@
-//! Words read.
+//! The meaning of a command line.
 ghost use Rattle.std.specs.Prelude.{◌≡◌, ◌≤◌, ◌≢◌, ◌↔◌, [], None, Some, IfOk, MatchResult, codes, length, map, false, string_bytes, true};
 ghost use Rattle.std.specs.Option.{IsSome};
 ghost use Rattle.clap.specs.Words.{fault_of, found_of, kind_of, one_of, rows_of, subcommand_of, subcommand_rows_of, takes};
@@ -14,7 +14,7 @@ use clap::{ArgMatches, Error};
 use epx_types::{Memory, Plan};
 use std::alloc::{AllocError, Global};
 
-/// Texts that outlive the words.
+/// Owned copies of the texts.
 fn copies(alloc: Global, texts: &[&str]) -> Result<Vec<String>, AllocError>
     ensures { IfOk result (λ copies. map string_bytes copies.items ≡ map (λ t. t.now) texts.now) }
 {
@@ -35,7 +35,7 @@ fn logs_of(alloc: Global, matches: &ArgMatches<'_>) -> Result<Vec<String>, Alloc
     }
 }
 
-/// The path of the text before the logs, and then those of the logs.
+/// The path of the base or the list, and then the paths of the logs.
 fn first_and_logs(alloc: Global, matches: &ArgMatches<'_>) -> Result<Vec<String>, AllocError>
     requires { IsSome (first_in (rows_of (found_of matches.now))) }
     ensures { IfOk result (λ paths.
@@ -47,7 +47,7 @@ fn first_and_logs(alloc: Global, matches: &ArgMatches<'_>) -> Result<Vec<String>
     Ok(paths)
 }
 
-/// The paths that the task is to read.
+/// The paths that the task reads.
 fn paths_of(alloc: Global, task: Task, matches: &ArgMatches<'_>) -> Result<Vec<String>, AllocError>
     requires { HasFirst (task_name task) → IsSome (first_in (rows_of (found_of matches.now))) }
     ensures { IfOk result (λ paths.
@@ -61,7 +61,7 @@ fn paths_of(alloc: Global, task: Task, matches: &ArgMatches<'_>) -> Result<Vec<S
     }
 }
 
-/// The plan of the two numbers, which passed their ranges.
+/// The plan of the options `--workers` and `--cut`. Clap has checked their ranges.
 fn plan_of(matches: &ArgMatches<'_>) -> Plan
     requires workers { IsNumberUpTo 64 (one_of (codes "workers") (rows_of (found_of matches.now))) }
     requires cut { IsNumberUpTo 65536 (one_of (codes "cut") (rows_of (found_of matches.now))) }
@@ -73,7 +73,7 @@ fn plan_of(matches: &ArgMatches<'_>) -> Plan
     Plan::new(workers, cut).unwrap()
 }
 
-/// The task of a subcommand.
+/// The task that a subcommand names.
 fn task_of(name: &str) -> Task
     requires { IsTaskName name.now }
     ensures { task_name result ≡ name.now }
@@ -95,7 +95,7 @@ fn task_of(name: &str) -> Task
     }
 }
 
-/// Work over the logs that the words name.
+/// The work that the matched subcommand asks for.
 fn work_of(alloc: Global, matches: &ArgMatches<'_>) -> Result<Words, AllocError>
     requires { GivesWork (subcommand_rows_of matches.now) }
     ensures { IfOk result (IsWorkOf (subcommand_rows_of matches.now)) }
@@ -111,7 +111,7 @@ fn work_of(alloc: Global, matches: &ArgMatches<'_>) -> Result<Words, AllocError>
     })
 }
 
-/// With which status the program ends after a text of this kind.
+/// The exit status after the text of an error of this kind.
 fn status_of(kind: ErrorKind) -> u8
     ensures { result ≡ ending kind }
 {
@@ -121,10 +121,10 @@ fn status_of(kind: ErrorKind) -> u8
     }
 }
 
-/// What is added where a word stands for a subcommand that there is not: it is mostly a log's path.
+/// Added to the text for an unknown subcommand, which is mostly the path of a log.
 const HINT: &str = "To execute logs, put 'run' before them: 'epx run LOG..'.\n";
 
-/// The text for words that give no work.
+/// The text for a command line without work.
 fn text_of(alloc: Global, error: &Error) -> Result<Words, Memory>
     ensures kind { IfOk result (λ _. kind_of error.now ≢ ErrorKind.OutOfMemory) }
     ensures status { IfOk result (IsText (ending (kind_of error.now))) }
@@ -143,8 +143,11 @@ fn text_of(alloc: Global, error: &Error) -> Result<Words, Memory>
     })
 }
 
-/// What the words come to. The first is the program's name. Words that ask for work are those in
-/// which clap finds no fault.
+/// Reads a command line, whose first word is the program's name.
+///
+/// The result is `Work` exactly if clap finds no fault, or there is no second word: then it is
+/// `Run` with 4 workers, 256 items a piece and no paths. Otherwise it is `Text`. The one error is
+/// running out of memory.
 pub fn read_words(alloc: Global, words: &[&str]) -> Result<Words, Memory>
     ensures bare { length words.now ≤ 1
         → IfOk result (λ asked. asked ≡ Words.Work Task.Run (record { workers = 4; cut = 256 }) None) }

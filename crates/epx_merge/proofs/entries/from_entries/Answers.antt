@@ -3,7 +3,7 @@ use Rattle.epx_merge.specs.EntryLines.{entry_lines}
 use Rattle.epx_merge.proofs.EntryOrder.{entries_in_order}
 use Rattle.epx_merge.proofs.entries.from_entries.Goals as goal
 
--- a ledger of no lines, after the lines were noted, is a ledger of the lines
+-- a ledger of no lines becomes a ledger of the lines once they are noted
 pub returns : goal.returns
 returns c =
     let entries = c.args.entries.items in

@@ -3,7 +3,7 @@ use Rattle.epx_merge.specs.EntryLines.{entry_lines, entry_lines_from}
 use Rattle.epx_merge.specs.Ledgers.{Noted, Notes}
 use Rattle.epx_merge.proofs.entries.note_each.Given as goal
 
--- whoever notes the rest on the lines after that of this number has noted all
+-- noting the rest, on the lines after this one, notes all entries
 abbrev pub invariant-loop-entry : goal.invariant-loop-entry
 invariant-loop-entry l =
     ((last : Noted) → Notes (entry_lines_from (suc l.line) l.entry-iterator.rest.items) l.ledger last → Notes (entry_lines l.fn.entries.items) l.fn.ledger last)

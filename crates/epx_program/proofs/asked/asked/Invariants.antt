@@ -3,7 +3,7 @@ use Rattle.std.specs.Vec.Iter.{into_iter_items}
 use Rattle.epx_program.specs.Calls.{AreTakenFor}
 use Rattle.epx_program.proofs.asked.asked.Given as goal
 
--- the words so far, and those that are to come
+-- the words read so far, and those left to read
 abbrev pub invariant-loop-word : goal.invariant-loop-word
 invariant-loop-word l = AreTakenFor l.fn.words (map string_bytes l.owned.items ++ map string_bytes (into_iter_items l.word-iterator))
 

@@ -5,7 +5,8 @@ use Rattle.epx_devices.specs.declared.either_source.EitherSource.TheVariants as 
 use Rattle.epx_program.specs.Inputs.{path_of}
 use Rattle.epx_program.proofs.inputs.sources_at.Given as goal
 
--- the sources of the paths so far, none of which has failed; a hyphen alone has the input
+-- the sources of the paths so far; none has failed, and if the only path is a hyphen its source is
+-- the input
 abbrev pub invariant-loop-path : goal.invariant-loop-path
 invariant-loop-path g l = record {
   paths : map path_of l.sources.items ≡ map string_bytes (take l.path-index l.paths);
