@@ -10,8 +10,8 @@ use Rattle.epx_types.specs.Writes.{writes_of}
 use Rattle.epx_txn.specs.declared.effect.Effect.{Effect}
 
 -- the operation lists of commands
-abbrev pub ops_of : List Command → List (List Op)
-ops_of commands = map (λ c. c.ops.now) commands
+abbrev pub op_lists_of : List Command → List (List Op)
+op_lists_of commands = map (λ c. c.ops.now) commands
 
 -- the reply of a command and its writes
 abbrev pub effect_over : Contents → List Op → Effect

@@ -45,10 +45,10 @@ pub record IsLevelAbove (keys_of : List Op → List (List ℕ)) (done : List (Li
 
 -- t is the table of the done commands with their levels, and of the keys of the current command so
 -- far
-pub record IsTableOf (done : List (List Op × ℕ)) (current : List (List ℕ × Bool)) (t : Table) : Type 0 where
+pub record IsKeyTableOf (done : List (List Op × ℕ)) (current : List (List ℕ × Bool)) (t : Table) : Type 0 where
   pub small : (ops : List Op) (l : ℕ) → Contains done (ops, l) → l < length done
   pub known : (ops : List Op) (l : ℕ) (k : List ℕ) → Contains done (ops, l) → Contains (touched_in ops) k → Contains t.keys k
-  pub lone : (x y : ℕ) → x < length t.keys → y < length t.keys → key_at t.keys x ≡ key_at t.keys y → x ≡ y
+  pub no_repeats : (x y : ℕ) → x < length t.keys → y < length t.keys → key_at t.keys x ≡ key_at t.keys y → x ≡ y
   pub key_levels : length t.key_levels ≡ length t.keys
   pub touchers : (x : ℕ) → x < length t.keys → IsLevelAbove touched_in done (key_at t.keys x) (key_levels_at t.key_levels x).touchers
   pub writers : (x : ℕ) → x < length t.keys → IsLevelAbove written_in done (key_at t.keys x) (key_levels_at t.key_levels x).writers
@@ -57,7 +57,7 @@ pub record IsTableOf (done : List (List Op × ℕ)) (current : List (List ℕ ×
 
 -- the new table has these further accesses of the current command
 abbrev pub AddsAccesses : List (List ℕ × Bool) → Table → Table → Type 0
-AddsAccesses more old new = (done : List (List Op × ℕ)) (current : List (List ℕ × Bool)) → IsTableOf done current old → IsTableOf done (current ++ more) new
+AddsAccesses more old new = (done : List (List Op × ℕ)) (current : List (List ℕ × Bool)) → IsKeyTableOf done current old → IsKeyTableOf done (current ++ more) new
 
 -- the least level that one access allows
 abbrev pub level_for : List KeyLevels → Access → ℕ
@@ -72,10 +72,10 @@ raise n key_levels a = slice_set key_levels a.key (record {
 
 -- the level of the command after those done: the least one above each command that conflicts with
 -- it
-pub record IsNext (done : List (List Op × ℕ)) (ops : List Op) (level : ℕ) : Type 0 where
+pub record IsNextLevel (done : List (List Op × ℕ)) (ops : List Op) (level : ℕ) : Type 0 where
   pub above : (earlier : List Op) (l : ℕ) → Contains done (earlier, l) → Conflict earlier ops → l < level
   pub reached : (level ≡ 0) ⊎ ((earlier : List Op) × (l : ℕ) × Contains done (earlier, l) × Conflict earlier ops × (level ≡ suc l))
 
 -- one more command, with its level
-abbrev pub Notes : List Op → ℕ → Table → Table → Type 0
-Notes ops level old new = (done : List (List Op × ℕ)) → IsTableOf done [] old → IsNext done ops level × IsTableOf (done ++ (ops, level) ∷ []) [] new
+abbrev pub AddsCommand : List Op → ℕ → Table → Table → Type 0
+AddsCommand ops level old new = (done : List (List Op × ℕ)) → IsKeyTableOf done [] old → IsNextLevel done ops level × IsKeyTableOf (done ++ (ops, level) ∷ []) [] new

@@ -20,7 +20,7 @@ fn hash_keys(op: &Op, keys: &mut DefaultHasher) {
 }
 
 /// Returns a seed that is computed from all keys of the commands.
-pub(crate) fn seed_after(commands: &[Command]) -> Seed {
+pub(crate) fn seed_from_keys(commands: &[Command]) -> Seed {
     let mut keys = DefaultHasher::new();
     for command in commands {
         for op in command.ops {

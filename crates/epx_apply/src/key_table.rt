@@ -1,7 +1,7 @@
 //! For each key, the levels of the commands so far that touch it and that write it.
 ghost use Rattle.std.specs.Prelude.{◌≡◌, ◌<◌, ◌^◌, ◌+◌, ℕ, List, [], ◌∷◌, length, max, flat_map, fold, All, IfOk, OnOk};
 ghost use Rattle.epx_types.specs.declared.op.Op.{Op};
-ghost use Rattle.epx_apply.specs.KeyTables.{IsTableOf, AddsAccesses, Notes, accesses_of, level_for, raise};
+ghost use Rattle.epx_apply.specs.KeyTables.{IsKeyTableOf, AddsAccesses, AddsCommand, accesses_of, level_for, raise};
 
 use epx_seed::Seed;
 use epx_types::{Key, Memory, Op};
@@ -68,7 +68,7 @@ fn least_level(key_levels: &[KeyLevels], accesses: &[Access]) -> usize
 }
 
 /// Raises the levels of each key of a command to at least `least`.
-fn raise_all(key_levels: &mut [KeyLevels], accesses: &[Access], least: usize)
+fn raise_levels(key_levels: &mut [KeyLevels], accesses: &[Access], least: usize)
     requires { All (λ a. a.key < length key_levels.old) accesses.now }
     ensures { key_levels.new ≡ fold (raise least) key_levels.old accesses.now }
 {
@@ -88,7 +88,7 @@ fn raise_all(key_levels: &mut [KeyLevels], accesses: &[Access], least: usize)
 impl<'a> KeyTable<'a> {
     /// Returns a table without keys that hashes with the seed.
     pub(crate) fn new(alloc: Global, seed: Seed) -> KeyTable<'a>
-        ensures { IsTableOf [] [] result }
+        ensures { IsKeyTableOf [] [] result }
     {
         KeyTable {
             keys: IndexSet::with_hasher(alloc, seed),
@@ -135,15 +135,15 @@ impl<'a> KeyTable<'a> {
 
     /// Returns the level of the next command and adds the command to the table. All its keys are
     /// looked up before any level is raised, so it does not conflict with itself.
-    pub(crate) fn note(&mut self, ops: &'a [Op]) -> Result<usize, Memory>
-        requires { (done : List (List Op × ℕ)) × IsTableOf done [] self.old × (length done + 1 < 2 ^ 64) }
-        ensures { IfOk result (λ level. Notes ops.now level self.old self.new) }
+    pub(crate) fn push_command(&mut self, ops: &'a [Op]) -> Result<usize, Memory>
+        requires { (done : List (List Op × ℕ)) × IsKeyTableOf done [] self.old × (length done + 1 < 2 ^ 64) }
+        ensures { IfOk result (λ level. AddsCommand ops.now level self.old self.new) }
     {
         for op in ops {
             self.add_accesses(op)?;
         }
         let level = least_level(&self.key_levels, &self.accesses);
-        raise_all(&mut self.key_levels, &self.accesses, level + 1);
+        raise_levels(&mut self.key_levels, &self.accesses, level + 1);
         self.accesses.clear();
         Ok(level)
     }

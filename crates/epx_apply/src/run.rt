@@ -3,12 +3,12 @@
 //! into the store.
 ghost use Rattle.std.specs.Prelude.{◌≡◌, ◌<◌, ◌≤◌, ◌^◌, ◌++◌, ◌∷◌, [], ℕ, length, map, flat_map, slice_set, All, IfOk, IfSome, OnOk, OnErr};
 ghost use Rattle.epx_types.specs.Commands.{command_on};
-ghost use Rattle.epx_types.specs.Conflicts.{AllApart};
+ghost use Rattle.epx_types.specs.Conflicts.{NoneConflict};
 ghost use Rattle.epx_types.specs.Execution.{execute};
 ghost use Rattle.epx_types.specs.Levels.{AreLevels};
 ghost use Rattle.epx_types.specs.Pieces.{piece_count};
 ghost use Rattle.epx_types.specs.Rearrangements.{commands_at};
-ghost use Rattle.epx_apply.specs.Effects.{ops_of, effect_over, effects_over, items_of_piece, replies_in, put_replies};
+ghost use Rattle.epx_apply.specs.Effects.{op_lists_of, effect_over, effects_over, items_of_piece, replies_in, put_replies};
 
 use crate::level_map::{LevelMap, levels_below};
 use epx_claims::{Gate, claimed_map};
@@ -44,7 +44,7 @@ fn evaluate(
 ) -> Result<Vec<Effect>, Memory>
     requires { All (λ i. i < length commands.now) places.now }
     ensures { IfOk result
-        (λ v. v.items ≡ effects_over store.now (commands_at (ops_of commands.now) places.now)) }
+        (λ v. v.items ≡ effects_over store.now (commands_at (op_lists_of commands.now) places.now)) }
 {
     let mut effects = Vec::with_capacity(alloc, places.len())?;
     for place in places {
@@ -65,7 +65,7 @@ fn evaluate_piece(
     requires piece { piece < piece_count plan.cut (length places.now) }
     requires within { All (λ i. i < length commands.now) places.now }
     ensures { IfOk result (λ v. v.items ≡ effects_over store.now
-        (commands_at (ops_of commands.now) (items_of_piece plan.cut places.now piece))) }
+        (commands_at (op_lists_of commands.now) (items_of_piece plan.cut places.now piece))) }
 {
     let (start, end) = plan.range(piece, places.len());
     evaluate(alloc, store, commands, &places[start..end])
@@ -96,7 +96,7 @@ fn evaluate_all<R: Threads + Sync, G: Gate + Sync>(
     requires few { length places.now ≤ 2 ^ 40 }
     requires within { All (λ i. i < length commands.now) places.now }
     ensures { IfOk result
-        (λ v. v.items ≡ effects_over store.now (commands_at (ops_of commands.now) places.now)) }
+        (λ v. v.items ≡ effects_over store.now (commands_at (op_lists_of commands.now) places.now)) }
 {
     let pieces = plan.pieces(places.len());
     let parts = claimed_map(rt, alloc, pieces, plan, gate, |piece| {
@@ -115,7 +115,7 @@ fn put_reply(replies: &mut Vec<Reply>, place: usize, effect: Effect)
 }
 
 /// Puts the reply of each effect at the position of its command.
-fn lay_replies(replies: &mut Vec<Reply>, places: &[usize], effects: Vec<Effect>)
+fn put_all_replies(replies: &mut Vec<Reply>, places: &[usize], effects: Vec<Effect>)
     requires len { length effects.items ≡ length places.now }
     requires within { All (λ i. i < length replies.old.items) places.now }
     ensures { replies.new.items ≡
@@ -129,13 +129,13 @@ fn lay_replies(replies: &mut Vec<Reply>, places: &[usize], effects: Vec<Effect>)
 /// The state after the commands so far: the store, and the reply of each command at its position.
 /// The replies at other positions are placeholders.
 #[derive(Drop)]
-struct Work {
+struct RunState {
     store: Store,
     replies: Vec<Reply>,
 }
 
-impl Work {
-    fn new(alloc: Global, store: Store, commands: usize) -> Result<Work, Memory>
+impl RunState {
+    fn new(alloc: Global, store: Store, commands: usize) -> Result<RunState, Memory>
         ensures store { IfOk result (λ w. w.store ≡ store) }
         ensures replies { IfOk result (λ w. length w.replies.items ≡ commands) }
     {
@@ -143,7 +143,7 @@ impl Work {
         for _ in 0..commands {
             replies.push(Reply::Abort(0))?;
         }
-        Ok(Work { store, replies })
+        Ok(RunState { store, replies })
     }
 
     /// Runs one command.
@@ -159,7 +159,7 @@ impl Work {
     }
 
     /// Runs the commands at these positions one after another.
-    fn run_in_turn(
+    fn run_serially(
         &mut self,
         alloc: Global,
         commands: &[Command],
@@ -168,9 +168,9 @@ impl Work {
         requires within { All (λ i. i < length commands.now) places.now }
         requires replies { length self.old.replies.items ≡ length commands.now }
         ensures store { OnOk result (self.new.store ≡
-            (execute (commands_at (ops_of commands.now) places.now) self.old.store).final) }
+            (execute (commands_at (op_lists_of commands.now) places.now) self.old.store).final) }
         ensures replies { OnOk result (self.new.replies.items ≡ put_replies places.now
-            (execute (commands_at (ops_of commands.now) places.now) self.old.store).replies
+            (execute (commands_at (op_lists_of commands.now) places.now) self.old.store).replies
             self.old.replies.items) }
     {
         for place in places {
@@ -181,7 +181,7 @@ impl Work {
 
     /// Runs the commands at these positions in parallel. They must not conflict. After `Memory`
     /// the store may have changed.
-    fn run_side_by_side<R: Threads + Sync, G: Gate + Sync>(
+    fn run_in_parallel<R: Threads + Sync, G: Gate + Sync>(
         &mut self,
         rt: &R,
         alloc: Global,
@@ -192,18 +192,18 @@ impl Work {
     ) -> Result<(), Memory>
         requires few { length places.now ≤ 2 ^ 40 }
         requires within { All (λ i. i < length commands.now) places.now }
-        requires apart { AllApart (commands_at (ops_of commands.now) places.now) }
+        requires apart { NoneConflict (commands_at (op_lists_of commands.now) places.now) }
         requires replies { length self.old.replies.items ≡ length commands.now }
         ensures store { OnOk result (self.new.store ≡
-            (execute (commands_at (ops_of commands.now) places.now) self.old.store).final) }
+            (execute (commands_at (op_lists_of commands.now) places.now) self.old.store).final) }
         ensures replies { OnOk result (self.new.replies.items ≡ put_replies places.now
-            (execute (commands_at (ops_of commands.now) places.now) self.old.store).replies
+            (execute (commands_at (op_lists_of commands.now) places.now) self.old.store).replies
             self.old.replies.items) }
     {
         let effects = evaluate_all(rt, alloc, &self.store, commands, places, plan, gate)?;
         let before = replace(&mut self.store, Store::new(alloc));
         self.store = merge_effects(rt, alloc, before, &effects)?;
-        lay_replies(&mut self.replies, places, effects);
+        put_all_replies(&mut self.replies, places, effects);
         Ok(())
     }
 
@@ -220,52 +220,52 @@ impl Work {
     ) -> Result<(), Memory>
         requires few { length members.now ≤ 2 ^ 40 }
         requires within { All (λ i. i < length commands.now) members.now }
-        requires apart { AllApart (commands_at (ops_of commands.now) members.now) }
+        requires apart { NoneConflict (commands_at (op_lists_of commands.now) members.now) }
         requires replies { length self.old.replies.items ≡ length commands.now }
         ensures store { OnOk result (self.new.store ≡
-            (execute (commands_at (ops_of commands.now) members.now) self.old.store).final) }
+            (execute (commands_at (op_lists_of commands.now) members.now) self.old.store).final) }
         ensures replies { OnOk result (self.new.replies.items ≡ put_replies members.now
-            (execute (commands_at (ops_of commands.now) members.now) self.old.store).replies
+            (execute (commands_at (op_lists_of commands.now) members.now) self.old.store).replies
             self.old.replies.items) }
     {
         if plan.pieces(members.len()) <= 1 {
-            self.run_in_turn(alloc, commands, members)
+            self.run_serially(alloc, commands, members)
         } else {
-            self.run_side_by_side(rt, alloc, commands, members, plan, gate)
+            self.run_in_parallel(rt, alloc, commands, members, plan, gate)
         }
     }
 }
 
 /// Runs all commands one after another.
-fn run_all(alloc: Global, store: Store, commands: &[Command]) -> Result<Work, Memory>
-    ensures store { IfOk result (λ w. w.store ≡ (execute (ops_of commands.now) store).final) }
+fn run_all(alloc: Global, store: Store, commands: &[Command]) -> Result<RunState, Memory>
+    ensures store { IfOk result (λ w. w.store ≡ (execute (op_lists_of commands.now) store).final) }
     ensures replies { IfOk result
-        (λ w. w.replies.items ≡ (execute (ops_of commands.now) store).replies) }
+        (λ w. w.replies.items ≡ (execute (op_lists_of commands.now) store).replies) }
 {
     let mut store = store;
     let mut replies = Vec::with_capacity(alloc, commands.len())?;
     for command in commands {
         replies.push(apply(alloc, &mut store, command.ops)?)?;
     }
-    Ok(Work { store, replies })
+    Ok(RunState { store, replies })
 }
 
 /// Returns the greatest number of levels for which threads are worth starting. With that many, a
 /// level has two pieces for each worker on average.
-fn most_levels(commands: usize, plan: Plan) -> usize {
+fn max_levels(commands: usize, plan: Plan) -> usize {
     plan.pieces(commands) / 2 / plan.workers()
 }
 
 /// Returns the levels of all commands, if they are below a bound. Computes first the levels of the
 /// last eighth alone. In an execution order the deepest instances come last, so this eighth
 /// usually shows already that there are too many levels.
-fn few_levels(
+fn levels_if_few(
     alloc: Global,
     commands: &[Command],
     bound: usize,
     seed: Seed,
 ) -> Result<Option<LevelMap>, Memory>
-    ensures { IfOk result (λ found. IfSome found (AreLevels (ops_of commands.now))) }
+    ensures { IfOk result (λ found. IfSome found (AreLevels (op_lists_of commands.now))) }
 {
     let last = &commands[commands.len() - commands.len() / 8..];
     if levels_below(alloc, last, bound, seed)?.is_none() {
@@ -283,18 +283,18 @@ fn run_levels<R: Threads + RandomSource + Sync, G: Gate + Sync>(
     commands: &[Command],
     plan: Plan,
     gate: &G,
-) -> Result<Work, Memory>
+) -> Result<RunState, Memory>
     requires { length commands.now ≤ 2 ^ 40 }
-    ensures store { IfOk result (λ w. w.store ≡ (execute (ops_of commands.now) store).final) }
+    ensures store { IfOk result (λ w. w.store ≡ (execute (op_lists_of commands.now) store).final) }
     ensures replies { IfOk result
-        (λ w. w.replies.items ≡ (execute (ops_of commands.now) store).replies) }
+        (λ w. w.replies.items ≡ (execute (op_lists_of commands.now) store).replies) }
 {
-    let bound = most_levels(commands.len(), plan);
-    let found = few_levels(alloc, commands, bound, Seed::draw(rt))?;
+    let bound = max_levels(commands.len(), plan);
+    let found = levels_if_few(alloc, commands, bound, Seed::draw(rt))?;
     let Some(level_map) = found else {
         return run_all(alloc, store, commands);
     };
-    let mut work = Work::new(alloc, store, commands.len())?;
+    let mut work = RunState::new(alloc, store, commands.len())?;
     for level in 0..level_map.count() {
         work.run_level(rt, alloc, commands, level_map.members(level), plan, gate)?;
     }
@@ -326,7 +326,7 @@ pub fn run_order<R: Threads + RandomSource + Sync, G: Gate + Sync>(
     } else {
         run_levels(rt, alloc, opening, commands, plan, gate)?
     };
-    let Work {
+    let RunState {
         store: last,
         replies,
     } = work;

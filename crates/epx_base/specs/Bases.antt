@@ -9,22 +9,22 @@ use Rattle.epx_lines.specs.Lines.{lines_of}
 use Rattle.epx_base.specs.declared.base.BaseFault.{BaseFault}
 use Rattle.epx_base.specs.declared.base.BaseFault.TheVariants.{Memory, Bad}
 use Rattle.epx_base.specs.Forms.{base_line_of}
-use Rattle.epx_base.specs.Seen.{Seen, nothing_seen, after, is_whole}
+use Rattle.epx_base.specs.Seen.{Seen, nothing_seen, after, is_complete}
 
 -- the state after one more line, if the line is allowed at its position
 abbrev pub after_line : Seen → List ℕ → Option Seen
 after_line s bytes = option_and_then (after s) (base_line_of bytes)
 
 -- `next` of the state, if the line was allowed at its position, and the line's number otherwise
-abbrev pub or_bad : {S : Type 0} → ℕ → Option S → (S → Result S ℕ) → Result S ℕ
-or_bad n None next = Err n
-or_bad n (Some s) next = next s
+abbrev pub or_line_number : {S : Type 0} → ℕ → Option S → (S → Result S ℕ) → Result S ℕ
+or_line_number n None next = Err n
+or_line_number n (Some s) next = next s
 
 -- what all lines say, or the number of the first line that is not allowed at its position; if the
 -- text ends too early, this is the number of the missing line; the first line has the number n
 abbrev pub reading : Seen → ℕ → List (List ℕ) → Result Seen ℕ
-reading s n [] = if is_whole s then Ok s else Err n
-reading s n (l ∷ ls) = or_bad n (after_line s l) (λ t. reading t (n + 1) ls)
+reading s n [] = if is_complete s then Ok s else Err n
+reading s n (l ∷ ls) = or_line_number n (after_line s l) (λ t. reading t (n + 1) ls)
 
 -- what all lines of the bytes say; the first line has the number 1
 abbrev pub base_reading : List ℕ → Result Seen ℕ

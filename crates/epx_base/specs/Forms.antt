@@ -50,12 +50,12 @@ unfoldable pub is_value_list : Data → Bool
 is_value_list d = are_few_values (elements d)
 
 -- the index of an operation: a whole number below 64
-unfoldable pub is_place : Data → Bool
-is_place d = is_some (option_and_then (below 64) (whole (2 ^ 64) d))
+unfoldable pub is_op_index : Data → Bool
+is_op_index d = is_some (option_and_then (below 64) (whole (2 ^ 64) d))
 
 -- `"ok",[v,..]` or `"abort",j`
 unfoldable pub is_outcome : Data → Data → Bool
-is_outcome a b = (is_text (codes "ok") a && is_value_list b) || (is_text (codes "abort") a && is_place b)
+is_outcome a b = (is_text (codes "ok") a && is_value_list b) || (is_text (codes "abort") a && is_op_index b)
 
 -- ---- lines of each length
 

@@ -6,8 +6,8 @@ use Rattle.epx_types.specs.declared.id.Id.{Id}
 use Rattle.epx_types.specs.declared.reply.Reply.{Reply}
 use Rattle.epx_types.specs.declared.reply.Reply.TheVariants.{Values, Abort}
 
-abbrev pub name_tokens : Id → List Token
-name_tokens x = number (decimal x.replica) ∷ number (decimal x.number) ∷ []
+abbrev pub id_tokens : Id → List Token
+id_tokens x = number (decimal x.replica) ∷ number (decimal x.number) ∷ []
 
 abbrev pub value_token : Option ℤ → Token
 value_token None = null

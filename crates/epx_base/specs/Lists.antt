@@ -4,7 +4,7 @@ use Rattle.epx_types.specs.declared.id.Id.{Id}
 use Rattle.epx_lines.specs.DependencyList.{id_of}
 use Rattle.epx_lines.specs.Lines.{lines_of}
 use Rattle.epx_lines.specs.Meaning.{max_line_bytes, is_blank, json_of}
-use Rattle.epx_base.specs.Bases.{or_bad}
+use Rattle.epx_base.specs.Bases.{or_line_number}
 use Rattle.epx_base.specs.declared.base.BaseFault.{BaseFault}
 use Rattle.epx_base.specs.declared.base.BaseFault.TheVariants.{Memory, Bad}
 
@@ -18,13 +18,13 @@ with_line ids bytes = if is_blank bytes then Some ids else option_map (λ x. ids
 
 -- the instances so far with those of all lines, or the number of the first line that is neither
 -- blank nor an instance; the first line has the number n
-abbrev pub listing : List Id → ℕ → List (List ℕ) → Result (List Id) ℕ
-listing ids n [] = Ok ids
-listing ids n (l ∷ ls) = or_bad n (with_line ids l) (λ more. listing more (n + 1) ls)
+abbrev pub read_list_lines : List Id → ℕ → List (List ℕ) → Result (List Id) ℕ
+read_list_lines ids n [] = Ok ids
+read_list_lines ids n (l ∷ ls) = or_line_number n (with_line ids l) (λ more. read_list_lines more (n + 1) ls)
 
 -- the instances of all lines of the bytes; the first line has the number 1
 abbrev pub list_reading : List ℕ → Result (List Id) ℕ
-list_reading bytes = listing [] 1 (lines_of bytes)
+list_reading bytes = read_list_lines [] 1 (lines_of bytes)
 
 abbrev pub IsList : List ℕ → List Id → Type 0
 IsList bytes ids = list_reading bytes ≡ Ok ids

@@ -8,12 +8,12 @@ use Rattle.epx_types.specs.Ids.{IsRising}
 use Rattle.epx_types.specs.Contents.{Contents}
 use Rattle.epx_types.specs.WaitingLists.{waiting_ids}
 use Rattle.epx_base.specs.Bases.{IsBase}
-use Rattle.epx_base.specs.ReportReadings.{Reported, reported_text, FitsReported}
+use Rattle.epx_base.specs.ReportReadings.{ReportData, text_of_report, FitsReportData}
 
 abbrev pub replied_ids : List (Id × Reply) → List Id
 replied_ids replies = map (λ p. p.0) replies
 
-pub record IsInOrder (r : Reported) : Type 0 where
+pub record AreLinesInOrder (r : ReportData) : Type 0 where
   pub done_rise : IsRising r.done
   pub replied_once : AllPairs (λ x y. x ≢ y) (replied_ids r.replies)
   pub replied_new : (x : Id) → Contains (replied_ids r.replies) x → ¬ Contains r.done x
@@ -21,13 +21,13 @@ pub record IsInOrder (r : Reported) : Type 0 where
   pub waiting_left : (x : Id) → Contains (waiting_ids r.waiting) x → (¬ Contains r.done x) × (¬ Contains (replied_ids r.replies) x)
 
 -- the instances that were done before or that have a reply, each once, by rising Id
-pub record AreDoneAfter (r : Reported) (done : List Id) : Type 0 where
+pub record AreDoneAfter (r : ReportData) (done : List Id) : Type 0 where
   pub rising : IsRising done
   pub each : (x : Id) → Contains done x ↔ Contains r.done x ⊎ Contains (replied_ids r.replies) x
 
 abbrev pub DoneAfterExists : Type 0
-DoneAfterExists = (r : Reported) → IsRising r.done → (done : List Id) × AreDoneAfter r done
+DoneAfterExists = (r : ReportData) → IsRising r.done → (done : List Id) × AreDoneAfter r done
 
 -- a report in order whose store lines list the contents is a base
 abbrev pub ReportIsBase : Type 0
-ReportIsBase = (r : Reported) (done : List Id) (stored : Contents) → FitsReported r → IsInOrder r → AreDoneAfter r done → r.stored ≡ contents.entries stored → IsBase (reported_text r) done stored
+ReportIsBase = (r : ReportData) (done : List Id) (stored : Contents) → FitsReportData r → AreLinesInOrder r → AreDoneAfter r done → r.stored ≡ contents.entries stored → IsBase (text_of_report r) done stored

@@ -9,27 +9,27 @@ use Rattle.epx_types.specs.WaitingLists.{Waiting}
 use Rattle.epx_types.specs.Keys.{FitsKey}
 use Rattle.epx_base.specs.declared.form.BaseLine.{BaseLine}
 use Rattle.epx_base.specs.declared.form.BaseLine.TheVariants as line
-use Rattle.epx_base.specs.Seen.{Seen, nothing_seen, after, is_whole}
-use Rattle.epx_base.specs.Bases.{or_bad, base_reading}
+use Rattle.epx_base.specs.Seen.{Seen, nothing_seen, after, is_complete}
+use Rattle.epx_base.specs.Bases.{or_line_number, base_reading}
 use Rattle.epx_base.specs.ReportLines.{header_line, done_line, reply_line, waiting_line, store_line}
 
 -- ---- a report
 
 -- the data that a report is written from
-pub record Reported : Type 0 where
+pub record ReportData : Type 0 where
   pub components : ℕ
   pub done : List Id
   pub replies : List (Id × Reply)
   pub waiting : List Waiting
   pub stored : List (List ℕ × ℤ)
 
-abbrev pub reported_text : Reported → List ℕ
-reported_text r =
+abbrev pub text_of_report : ReportData → List ℕ
+text_of_report r =
     header_line (length r.replies) (length r.waiting) r.components
     ++ (flat_map done_line r.done ++ (flat_map reply_line r.replies ++ (flat_map waiting_line r.waiting ++ flat_map store_line r.stored)))
 
 -- what the lines of a report say, in order
-abbrev pub said : Reported → List BaseLine
+abbrev pub said : ReportData → List BaseLine
 said r =
     line.Header (record { executed = length r.replies; waiting = length r.waiting })
     ∷ (map line.Done r.done ++ (map (λ p. line.Reply p.0) r.replies ++ (map (λ w. line.Waiting w.id) r.waiting ++ map (λ p. line.Store p.0 p.1) r.stored)))
@@ -39,14 +39,14 @@ said r =
 abbrev pub FitsNumbers : Id → Type 0
 FitsNumbers x = (x.replica < 256) × (x.number < 2 ^ 64)
 
-abbrev pub IsHeld : Option ℤ → Type 0
-IsHeld o = IfSome o (FitsSigned w64)
+abbrev pub FitsOptional : Option ℤ → Type 0
+FitsOptional o = IfSome o (FitsSigned w64)
 
 abbrev pub FitsReply : Reply → Type 0
-FitsReply (Values vs) = (length vs ≤ 64) × All IsHeld vs
+FitsReply (Values vs) = (length vs ≤ 64) × All FitsOptional vs
 FitsReply (Abort j) = j < 64
 
-pub record FitsReported (r : Reported) : Type 0 where
+pub record FitsReportData (r : ReportData) : Type 0 where
   pub replies_counted : length r.replies < 2 ^ 64
   pub waiting_counted : length r.waiting < 2 ^ 64
   pub few_components : r.components ≤ length r.replies
@@ -57,10 +57,10 @@ pub record FitsReported (r : Reported) : Type 0 where
 
 -- ---- reading lines with known meanings
 
-abbrev pub saying : Seen → ℕ → List BaseLine → Result Seen ℕ
-saying s n [] = if is_whole s then Ok s else Err n
-saying s n (l ∷ ls) = or_bad n (after s l) (λ t. saying t (n + 1) ls)
+abbrev pub read_base_lines : Seen → ℕ → List BaseLine → Result Seen ℕ
+read_base_lines s n [] = if is_complete s then Ok s else Err n
+read_base_lines s n (l ∷ ls) = or_line_number n (after s l) (λ t. read_base_lines t (n + 1) ls)
 
 -- reading the text of a report yields what its lines say
 abbrev pub ReportIsReadAsItSays : Type 0
-ReportIsReadAsItSays = (r : Reported) → FitsReported r → base_reading (reported_text r) ≡ saying nothing_seen 1 (said r)
+ReportIsReadAsItSays = (r : ReportData) → FitsReportData r → base_reading (text_of_report r) ≡ read_base_lines nothing_seen 1 (said r)

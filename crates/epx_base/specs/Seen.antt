@@ -29,8 +29,8 @@ abbrev pub nothing_seen : Seen
 nothing_seen = record { counts = None; done = []; replies = 0; waiting = []; stored = [] }
 
 -- the next state, if the line is allowed at its position
-abbrev pub next_if : {S : Type 0} → Bool → S → Option S
-next_if stands next = if stands then Some next else None
+abbrev pub some_if : {S : Type 0} → Bool → S → Option S
+some_if stands next = if stands then Some next else None
 
 -- ---- rising lists
 
@@ -38,9 +38,9 @@ abbrev pub last : {A : Type 0} → List A → Option A
 last xs = slice_get xs (length xs - 1)
 
 -- x is greater than the last one, if there is one
-abbrev pub is_past : {A : Type 0} → (A → A → Ordering) → Option A → A → Bool
-is_past cmp None x = true
-is_past cmp (Some y) x = is_lt (cmp y x)
+abbrev pub is_after_last : {A : Type 0} → (A → A → Ordering) → Option A → A → Bool
+is_after_last cmp None x = true
+is_after_last cmp (Some y) x = is_lt (cmp y x)
 
 -- ---- the state after a line of each kind, if it is allowed at its position
 
@@ -48,7 +48,7 @@ is_past cmp (Some y) x = is_lt (cmp y x)
 -- line
 abbrev pub after_done : Seen → Id → Option Seen
 after_done s x =
-    if (s.replies == 0) && (length s.waiting == 0) && (length s.stored == 0) && is_past id_cmp (last s.done) x
+    if (s.replies == 0) && (length s.waiting == 0) && (length s.stored == 0) && is_after_last id_cmp (last s.done) x
     then Some (record s { done = insert_key id_cmp s.done x }) else None
 
 -- a reply line: while replies are missing (so there was no waiting and no store line), for an
@@ -62,14 +62,14 @@ after_reply c s x =
 -- for an instance that is not done, with a greater Id than the last waiting line
 abbrev pub after_waiting : Counts → Seen → Id → Option Seen
 after_waiting c s x =
-    if (s.replies == c.executed) && nat_lt (length s.waiting) c.waiting && is_past id_cmp (last s.waiting) x && not (is_among s.done x)
+    if (s.replies == c.executed) && nat_lt (length s.waiting) c.waiting && is_after_last id_cmp (last s.waiting) x && not (is_among s.done x)
     then Some (record s { waiting = s.waiting ++ x ∷ [] }) else None
 
 -- a store line: after all replies and all waiting lines, with a greater key than the last store
 -- line
 abbrev pub after_store : Counts → Seen → List ℕ → ℤ → Option Seen
 after_store c s k v =
-    if (s.replies == c.executed) && (length s.waiting == c.waiting) && is_past key_cmp (option_map (λ p. p.0) (last s.stored)) k
+    if (s.replies == c.executed) && (length s.waiting == c.waiting) && is_after_last key_cmp (option_map (λ p. p.0) (last s.stored)) k
     then Some (record s { stored = s.stored ++ (k, v) ∷ [] }) else None
 
 -- the header is the first line and no other
@@ -87,10 +87,10 @@ after s line = after_with s.counts s line
 
 -- ---- the end
 
-abbrev pub is_whole_with : Option Counts → Seen → Bool
-is_whole_with None s = false
-is_whole_with (Some c) s = (s.replies == c.executed) && (length s.waiting == c.waiting)
+abbrev pub is_complete_with : Option Counts → Seen → Bool
+is_complete_with None s = false
+is_complete_with (Some c) s = (s.replies == c.executed) && (length s.waiting == c.waiting)
 
 -- no line is missing
-abbrev pub is_whole : Seen → Bool
-is_whole s = is_whole_with s.counts s
+abbrev pub is_complete : Seen → Bool
+is_complete s = is_complete_with s.counts s

@@ -113,7 +113,7 @@ pub fn read_base(alloc: Global, bytes: &[u8]) -> Result<Base, BaseFault>
         rest = more;
         line += 1;
     }
-    if !progress.is_whole() {
+    if !progress.is_complete() {
         return Err(BaseFault::Bad { line });
     }
     Ok(progress.into_base(alloc)?)

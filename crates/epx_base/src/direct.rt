@@ -4,8 +4,8 @@
 ghost use Rattle.std.specs.Prelude.{◌≡◌, true, [], ◌∷◌, codes, Some, IfSome, option_and_then};
 ghost use Rattle.serde_json.specs.Data.{Data};
 ghost use Rattle.epx_lines.specs.Meaning.{json_of};
-ghost use Rattle.epx_lines.specs.Tokens.{BeginsWith, BeginsInTurn, Gives, GivesInTurn};
-ghost use Rattle.epx_base.specs.Forms.{is_value_list, is_place, is_outcome, form_named, form_of};
+ghost use Rattle.epx_lines.specs.Tokens.{BeginsWith, BeginsWithAll, ParsesTo, ParsesAllTo};
+ghost use Rattle.epx_base.specs.Forms.{is_value_list, is_op_index, is_outcome, form_named, form_of};
 
 use crate::form::{BaseLine, Counts};
 use epx_lines::{take_id_parts, take_key, take_number, take_signed, take_text, take_value_or_null};
@@ -34,9 +34,9 @@ fn take_values(reader: &mut Reader<'_>) -> Option<()>
 }
 
 /// Takes the index of an operation that aborted.
-fn take_place(reader: &mut Reader<'_>) -> Option<()>
+fn take_op_index(reader: &mut Reader<'_>) -> Option<()>
     ensures { IfSome result
-        (λ _. (d : Data) × BeginsWith 0 reader.old d reader.new × (is_place d ≡ true)) }
+        (λ _. (d : Data) × BeginsWith 0 reader.old d reader.new × (is_op_index d ≡ true)) }
 {
     if take_number(reader)? < MAX_OPS as u64 {
         Some(())
@@ -48,14 +48,14 @@ fn take_place(reader: &mut Reader<'_>) -> Option<()>
 /// `"ok",[v,..]` or `"abort",j`
 fn take_outcome(reader: &mut Reader<'_>) -> Option<()>
     ensures { IfSome result
-        (λ _. (a : Data) × (b : Data) × BeginsInTurn 1 reader.old (a ∷ b ∷ []) reader.new
+        (λ _. (a : Data) × (b : Data) × BeginsWithAll 1 reader.old (a ∷ b ∷ []) reader.new
         × (is_outcome a b ≡ true)) }
 {
     let kind = take_text(reader)?;
     if kind == "ok" {
         take_values(reader)
     } else if kind == "abort" {
-        take_place(reader)
+        take_op_index(reader)
     } else {
         None
     }
@@ -64,7 +64,7 @@ fn take_outcome(reader: &mut Reader<'_>) -> Option<()>
 /// `r,i,..` after `"reply"`
 fn take_reply(reader: &mut Reader<'_>) -> Option<BaseLine>
     ensures { IfSome result
-        (λ l. GivesInTurn 1 (form_named (codes "reply")) reader.old l reader.new) }
+        (λ l. ParsesAllTo 1 (form_named (codes "reply")) reader.old l reader.new) }
 {
     let id = take_id_parts(reader)?;
     take_outcome(reader)?;
@@ -74,7 +74,7 @@ fn take_reply(reader: &mut Reader<'_>) -> Option<BaseLine>
 /// `r,i` after `"done"`
 fn take_done(reader: &mut Reader<'_>) -> Option<BaseLine>
     ensures { IfSome result
-        (λ l. GivesInTurn 1 (form_named (codes "done")) reader.old l reader.new) }
+        (λ l. ParsesAllTo 1 (form_named (codes "done")) reader.old l reader.new) }
 {
     Some(BaseLine::Done(take_id_parts(reader)?))
 }
@@ -82,7 +82,7 @@ fn take_done(reader: &mut Reader<'_>) -> Option<BaseLine>
 /// `k,v` after `"store"`
 fn take_store(alloc: Global, reader: &mut Reader<'_>) -> Option<BaseLine>
     ensures { IfSome result
-        (λ l. GivesInTurn 1 (form_named (codes "store")) reader.old l reader.new) }
+        (λ l. ParsesAllTo 1 (form_named (codes "store")) reader.old l reader.new) }
 {
     let key = take_key(alloc, reader)?;
     let value = take_signed(reader)?;
@@ -92,7 +92,7 @@ fn take_store(alloc: Global, reader: &mut Reader<'_>) -> Option<BaseLine>
 /// `r,i,mr,mi` after `"waiting"`
 fn take_waiting(reader: &mut Reader<'_>) -> Option<BaseLine>
     ensures { IfSome result
-        (λ l. GivesInTurn 1 (form_named (codes "waiting")) reader.old l reader.new) }
+        (λ l. ParsesAllTo 1 (form_named (codes "waiting")) reader.old l reader.new) }
 {
     let id = take_id_parts(reader)?;
     let _missing = take_id_parts(reader)?;
@@ -102,7 +102,7 @@ fn take_waiting(reader: &mut Reader<'_>) -> Option<BaseLine>
 /// `E,"waiting",W,"components",C` after `"executed"`
 fn take_header(reader: &mut Reader<'_>) -> Option<BaseLine>
     ensures { IfSome result
-        (λ l. GivesInTurn 1 (form_named (codes "executed")) reader.old l reader.new) }
+        (λ l. ParsesAllTo 1 (form_named (codes "executed")) reader.old l reader.new) }
 {
     let executed = take_number(reader)?;
     if take_text(reader)? != "waiting" {
@@ -121,7 +121,7 @@ fn take_header(reader: &mut Reader<'_>) -> Option<BaseLine>
 /// Takes what follows the name of a line.
 fn take_named(alloc: Global, name: &str, reader: &mut Reader<'_>) -> Option<BaseLine>
     ensures { IfSome result
-        (λ l. GivesInTurn 1 (form_named name.now) reader.old l reader.new) }
+        (λ l. ParsesAllTo 1 (form_named name.now) reader.old l reader.new) }
 {
     if name == "reply" {
         take_reply(reader)
@@ -139,7 +139,7 @@ fn take_named(alloc: Global, name: &str, reader: &mut Reader<'_>) -> Option<Base
 }
 
 fn take_line(alloc: Global, reader: &mut Reader<'_>) -> Option<BaseLine>
-    ensures { IfSome result (λ l. Gives 2 form_of reader.old l reader.new) }
+    ensures { IfSome result (λ l. ParsesTo 2 form_of reader.old l reader.new) }
 {
     let Token::BeginArray = reader.next()? else {
         return None;
@@ -153,7 +153,11 @@ fn take_line(alloc: Global, reader: &mut Reader<'_>) -> Option<BaseLine>
 }
 
 /// Reads a line that is one array and nothing else.
-pub(crate) fn direct_line(alloc: Global, scratch: &mut Scratch, bytes: &[u8]) -> Option<BaseLine>
+pub(crate) fn line_from_tokens(
+    alloc: Global,
+    scratch: &mut Scratch,
+    bytes: &[u8],
+) -> Option<BaseLine>
     ensures { IfSome result (λ l. option_and_then form_of (json_of bytes.now) ≡ Some l) }
 {
     let text = str::from_utf8(bytes).ok()?;

@@ -1,7 +1,7 @@
 //! Reads a line of a base from its JSON value.
 ghost use Rattle.std.specs.Prelude.{◌≡◌, IfOk};
 ghost use Rattle.serde_json.specs.View.{view};
-ghost use Rattle.epx_base.specs.Forms.{is_text, counts_of, header_of, is_value_list, is_place, is_outcome, id_line_of, short_line_of, form_of};
+ghost use Rattle.epx_base.specs.Forms.{is_text, counts_of, header_of, is_value_list, is_op_index, is_outcome, id_line_of, short_line_of, form_of};
 
 use epx_lines::{read_id_parts, read_key, read_number, read_value_or_null};
 use epx_types::entry::MAX_OPS;
@@ -71,9 +71,9 @@ fn is_list_of_values(value: &Value) -> bool
     true
 }
 
-#[tactic(auto, unfolding(crate::specs::Forms::is_place))]
-fn is_place_of_operation(value: &Value) -> bool
-    ensures { result ≡ is_place (view value.now) }
+#[tactic(auto, unfolding(crate::specs::Forms::is_op_index))]
+fn is_op_index_value(value: &Value) -> bool
+    ensures { result ≡ is_op_index (view value.now) }
 {
     match read_number(value) {
         Some(place) => place < MAX_OPS as u64,
@@ -88,7 +88,7 @@ fn is_outcome_of_command(kind: &Value, value: &Value) -> bool
     if has_text(kind, "ok") && is_list_of_values(value) {
         return true;
     }
-    has_text(kind, "abort") && is_place_of_operation(value)
+    has_text(kind, "abort") && is_op_index_value(value)
 }
 
 /// `["executed",E,"waiting",W,"components",C]`
@@ -159,7 +159,7 @@ fn read_short_line(
 }
 
 #[tactic(auto, unfolding(crate::specs::Forms::form_of))]
-pub(crate) fn read_form(alloc: Global, value: &Value) -> Result<Option<BaseLine>, Memory>
+pub(crate) fn read_base_line(alloc: Global, value: &Value) -> Result<Option<BaseLine>, Memory>
     ensures { IfOk result (λ o. o ≡ form_of (view value.now)) }
 {
     let Some(parts) = value.as_array() else {

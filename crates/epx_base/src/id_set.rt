@@ -3,7 +3,7 @@ ghost use Rattle.std.specs.Prelude.{◌≡◌, [], not, IfOk, OnOk, option_copie
 ghost use Rattle.std.specs.BTreeSet.{insert_key};
 ghost use Rattle.epx_types.specs.Ids.{id_cmp, IsRising};
 ghost use Rattle.epx_types.specs.Done.{is_among};
-ghost use Rattle.epx_base.specs.Seen.{last, is_past};
+ghost use Rattle.epx_base.specs.Seen.{last, is_after_last};
 
 use epx_types::{Id, Memory};
 use std::alloc::Global;
@@ -11,8 +11,8 @@ use std::collections::BTreeSet;
 use std::marker::Model;
 
 /// Whether the item is greater than the last one. True if there is no last one.
-pub(crate) fn is_past<T: Ord>(last: Option<&T>, item: &T) -> bool
-    ensures { result ≡ is_past T.cmp (option_copied last.entry) item.now }
+pub(crate) fn is_after_last<T: Ord>(last: Option<&T>, item: &T) -> bool
+    ensures { result ≡ is_after_last T.cmp (option_copied last.entry) item.now }
 {
     match last {
         Some(last) => last.cmp(item).is_lt(),
@@ -21,7 +21,7 @@ pub(crate) fn is_past<T: Ord>(last: Option<&T>, item: &T) -> bool
 }
 
 /// Whether the Id is among rising ones, by binary search.
-fn is_found(rising: &[Id], id: &Id) -> bool
+fn contains_id(rising: &[Id], id: &Id) -> bool
     requires { IsRising rising.now }
     ensures { result ≡ is_among rising.now id.now }
 {
@@ -76,7 +76,7 @@ impl IdSet {
     pub(crate) fn contains(&self, id: &Id) -> bool
         ensures { result ≡ is_among self.now id.now }
     {
-        is_found(&self.rising, id) || self.late.contains(id)
+        contains_id(&self.rising, id) || self.late.contains(id)
     }
 
     /// Inserts an Id. Returns true if it is new.
@@ -84,11 +84,11 @@ impl IdSet {
         ensures added { IfOk result (λ added. added ≡ not (is_among self.old id)) }
         ensures ids { OnOk result (self.new ≡ insert_key id_cmp self.old id) }
     {
-        if is_past(self.rising.last(), &id) {
+        if is_after_last(self.rising.last(), &id) {
             self.rising.push(id)?;
             return Ok(true);
         }
-        if is_found(&self.rising, &id) {
+        if contains_id(&self.rising, &id) {
             return Ok(false);
         }
         Ok(self.late.insert(id)?)

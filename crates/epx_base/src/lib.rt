@@ -21,5 +21,5 @@ pub use laws::{
 pub use list::read_list;
 pub use report_lines::{
     append_done, append_header, append_replies, append_store, append_waiter, begin_line, end_line,
-    write_name,
+    write_id_parts,
 };

@@ -1,7 +1,7 @@
 //! Reads a list of instances.
 ghost use Rattle.std.specs.Prelude.{◌≡◌, IfOk, IfErr};
 ghost use Rattle.epx_base.specs.Lists.{IsList, IsListFault, listed_id_of, with_line};
-ghost use Rattle.epx_base.specs.Seen.{next_if};
+ghost use Rattle.epx_base.specs.Seen.{some_if};
 
 use crate::base::BaseFault;
 use epx_lines::{MAX_LINE_BYTES, cut_line, is_blank_line, read_id, read_json};
@@ -10,7 +10,7 @@ use std::alloc::Global;
 
 /// Reads the instance that a line names, without its line feed. None if it names no instance.
 #[tactic(auto, unfolding(crate::specs::Lists::listed_id_of))]
-fn read_listed(alloc: Global, bytes: &[u8]) -> Result<Option<Id>, Memory>
+fn read_listed_id(alloc: Global, bytes: &[u8]) -> Result<Option<Id>, Memory>
     ensures { IfOk result (λ id. id ≡ listed_id_of bytes.now) }
 {
     if bytes.len() > MAX_LINE_BYTES {
@@ -25,12 +25,12 @@ fn read_listed(alloc: Global, bytes: &[u8]) -> Result<Option<Id>, Memory>
 /// Adds the instance of one more line to the list. False if the line is not blank and names no
 /// instance.
 fn take_line(alloc: Global, ids: &mut Vec<Id>, bytes: &[u8]) -> Result<bool, Memory>
-    ensures { IfOk result (λ named. with_line ids.old.items bytes.now ≡ next_if named ids.new.items) }
+    ensures { IfOk result (λ named. with_line ids.old.items bytes.now ≡ some_if named ids.new.items) }
 {
     if is_blank_line(bytes) {
         return Ok(true);
     }
-    let Some(id) = read_listed(alloc, bytes)? else {
+    let Some(id) = read_listed_id(alloc, bytes)? else {
         return Ok(false);
     };
     ids.push(id)?;

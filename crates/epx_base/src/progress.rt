@@ -1,12 +1,12 @@
 //! The state of reading the lines of a base one after another.
 ghost use Rattle.std.specs.Prelude.{◌≡◌, None, IfOk};
 ghost use Rattle.std.specs.FinMap as contents;
-ghost use Rattle.epx_base.specs.Seen.{nothing_seen, after_done, after_reply, after_waiting, after_store, after_with, after, next_if, is_whole};
+ghost use Rattle.epx_base.specs.Seen.{nothing_seen, after_done, after_reply, after_waiting, after_store, after_with, after, some_if, is_complete};
 ghost use Rattle.epx_base.specs.Bases.{after_line, put_pairs};
 
 use crate::base::Base;
 use crate::form::{BaseLine, Counts};
-use crate::id_set::{IdSet, is_past};
+use crate::id_set::{IdSet, is_after_last};
 use crate::read::BaseLineReader;
 use epx_txn::Store;
 use epx_types::{Id, Key, Memory};
@@ -64,12 +64,12 @@ impl Progress {
     /// Takes one more done line. False if it is not allowed at its position. The methods below do
     /// the same for the other kinds of lines.
     fn take_done(&mut self, id: Id) -> Result<bool, Memory>
-        ensures { IfOk result (λ stands. after_done self.old id ≡ next_if stands self.new) }
+        ensures { IfOk result (λ stands. after_done self.old id ≡ some_if stands self.new) }
     {
         if self.replies != 0 || !self.waiting.is_empty() || !self.stored.is_empty() {
             return Ok(false);
         }
-        if !is_past(self.done.last(), &id) {
+        if !is_after_last(self.done.last(), &id) {
             return Ok(false);
         }
         self.done.insert(id)?;
@@ -77,7 +77,7 @@ impl Progress {
     }
 
     fn take_reply(&mut self, counts: Counts, id: Id) -> Result<bool, Memory>
-        ensures { IfOk result (λ stands. after_reply counts self.old id ≡ next_if stands self.new) }
+        ensures { IfOk result (λ stands. after_reply counts self.old id ≡ some_if stands self.new) }
     {
         if self.replies >= counts.executed || !self.done.insert(id)? {
             return Ok(false);
@@ -87,12 +87,12 @@ impl Progress {
     }
 
     fn take_waiting(&mut self, counts: Counts, id: Id) -> Result<bool, Memory>
-        ensures { IfOk result (λ stands. after_waiting counts self.old id ≡ next_if stands self.new) }
+        ensures { IfOk result (λ stands. after_waiting counts self.old id ≡ some_if stands self.new) }
     {
         if self.replies != counts.executed || self.waiting.len() as u64 >= counts.waiting {
             return Ok(false);
         }
-        if !is_past(self.waiting.last(), &id) || self.done.contains(&id) {
+        if !is_after_last(self.waiting.last(), &id) || self.done.contains(&id) {
             return Ok(false);
         }
         self.waiting.push(id)?;
@@ -100,12 +100,12 @@ impl Progress {
     }
 
     fn take_store(&mut self, counts: Counts, key: Key, value: i64) -> Result<bool, Memory>
-        ensures { IfOk result (λ stands. after_store counts self.old key value ≡ next_if stands self.new) }
+        ensures { IfOk result (λ stands. after_store counts self.old key value ≡ some_if stands self.new) }
     {
         if self.replies != counts.executed || self.waiting.len() as u64 != counts.waiting {
             return Ok(false);
         }
-        if !is_past(self.stored.last().map(|pair| &pair.0), &key) {
+        if !is_after_last(self.stored.last().map(|pair| &pair.0), &key) {
             return Ok(false);
         }
         self.stored.push((key, value))?;
@@ -113,7 +113,7 @@ impl Progress {
     }
 
     fn take_first(&mut self, line: BaseLine) -> bool
-        ensures { after_with None self.old line ≡ next_if result self.new }
+        ensures { after_with None self.old line ≡ some_if result self.new }
     {
         match line {
             BaseLine::Header(counts) => {
@@ -127,7 +127,7 @@ impl Progress {
     /// Takes one more line that was read. False if it is not allowed at its position.
     #[tactic(auto, unfolding(crate::specs::Seen::after))]
     pub(crate) fn take(&mut self, line: BaseLine) -> Result<bool, Memory>
-        ensures { IfOk result (λ stands. after self.old line ≡ next_if stands self.new) }
+        ensures { IfOk result (λ stands. after self.old line ≡ some_if stands self.new) }
     {
         let Some(counts) = self.counts else {
             return Ok(self.take_first(line));
@@ -148,7 +148,7 @@ impl Progress {
         reader: &mut BaseLineReader,
         bytes: &[u8],
     ) -> Result<bool, Memory>
-        ensures { IfOk result (λ stands. after_line self.old bytes.now ≡ next_if stands self.new) }
+        ensures { IfOk result (λ stands. after_line self.old bytes.now ≡ some_if stands self.new) }
     {
         match reader.read(alloc, bytes)? {
             Some(line) => self.take(line),
@@ -157,8 +157,8 @@ impl Progress {
     }
 
     /// Whether no line is missing.
-    pub(crate) fn is_whole(&self) -> bool
-        ensures { result ≡ is_whole self.now }
+    pub(crate) fn is_complete(&self) -> bool
+        ensures { result ≡ is_complete self.now }
     {
         match self.counts {
             Some(counts) => {

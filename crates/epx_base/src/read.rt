@@ -3,21 +3,21 @@ ghost use Rattle.std.specs.Prelude.{◌≡◌, IfOk, option_and_then};
 ghost use Rattle.epx_lines.specs.Meaning.{json_of};
 ghost use Rattle.epx_base.specs.Forms.{form_of, base_line_of};
 
-use crate::direct::direct_line;
-use crate::form::{BaseLine, read_form};
+use crate::direct::line_from_tokens;
+use crate::form::{BaseLine, read_base_line};
 use epx_lines::{MAX_LINE_BYTES, read_json};
 use epx_types::Memory;
 use json::Scratch;
 use std::alloc::Global;
 
 /// Reads a line that is not too long, from its JSON value.
-fn read_whole(alloc: Global, bytes: &[u8]) -> Result<Option<BaseLine>, Memory>
+fn read_json_line(alloc: Global, bytes: &[u8]) -> Result<Option<BaseLine>, Memory>
     ensures { IfOk result (λ o. o ≡ option_and_then form_of (json_of bytes.now)) }
 {
     let Some(value) = read_json(alloc, bytes)? else {
         return Ok(None);
     };
-    read_form(alloc, &value)
+    read_base_line(alloc, &value)
 }
 
 /// Reads lines one after another and reuses its buffers.
@@ -41,9 +41,9 @@ impl BaseLineReader {
         if bytes.len() > MAX_LINE_BYTES {
             return Ok(None);
         }
-        if let Some(line) = direct_line(alloc, &mut self.scratch, bytes) {
+        if let Some(line) = line_from_tokens(alloc, &mut self.scratch, bytes) {
             return Ok(Some(line));
         }
-        read_whole(alloc, bytes)
+        read_json_line(alloc, bytes)
     }
 }

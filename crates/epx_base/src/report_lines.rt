@@ -4,7 +4,7 @@ ghost use Rattle.std.specs.Prelude.{◌≡◌, ◌++◌, ◌∷◌, [], map, fla
 ghost use Rattle.std.specs.FinMap as contents;
 ghost use Rattle.json.specs.Token.{begin_array, end_array, string};
 ghost use Rattle.json.specs.Print.{print};
-ghost use Rattle.epx_base.specs.LineTokens.{name_tokens, value_token, reply_tokens};
+ghost use Rattle.epx_base.specs.LineTokens.{id_tokens, value_token, reply_tokens};
 ghost use Rattle.epx_base.specs.ReportLines.{line_feed, done_line, header_line, reply_line, store_line, waiting_line};
 
 use epx_txn::Store;
@@ -42,8 +42,8 @@ pub fn end_line(text: &mut Vec<u8>, line: &mut Vec<u8>, mut out: Writer) -> Resu
 }
 
 /// Writes the replica and the number of an Id.
-pub fn write_name(out: &mut Writer, id: Id) -> Result<(), AllocError>
-    ensures tokens { OnOk result (out.new.tokens ≡ out.old.tokens ++ name_tokens id) }
+pub fn write_id_parts(out: &mut Writer, id: Id) -> Result<(), AllocError>
+    ensures tokens { OnOk result (out.new.tokens ≡ out.old.tokens ++ id_tokens id) }
     ensures before { out.new.before ≡ out.old.before }
 {
     out.u64(id.replica as u64)?;
@@ -119,7 +119,7 @@ fn append_done_instance(
     ensures { OnOk result (text.new.items ≡ text.old.items ++ done_line id) }
 {
     let mut out = begin_line(alloc, line, "done")?;
-    write_name(&mut out, id)?;
+    write_id_parts(&mut out, id)?;
     end_line(text, line, out)
 }
 
@@ -133,7 +133,7 @@ fn append_reply(
     ensures { OnOk result (text.new.items ≡ text.old.items ++ reply_line (id, reply.now)) }
 {
     let mut out = begin_line(alloc, line, "reply")?;
-    write_name(&mut out, id)?;
+    write_id_parts(&mut out, id)?;
     write_reply(&mut out, reply)?;
     end_line(text, line, out)
 }
@@ -165,8 +165,8 @@ pub fn append_waiter(
         ++ waiting_line (record { id = id; missing = missing })) }
 {
     let mut out = begin_line(alloc, line, "waiting")?;
-    write_name(&mut out, id)?;
-    write_name(&mut out, missing)?;
+    write_id_parts(&mut out, id)?;
+    write_id_parts(&mut out, missing)?;
     end_line(text, line, out)
 }
 

@@ -1,1 +1,1 @@
-mod TwoWrites
+mod WriteLemmas

@@ -1,6 +1,6 @@
 //! A report that is read as a base. The worked cases in scripts test which texts are bases.
-use crate::effects::is_stored;
-use crate::given::id;
+use crate::effects::expect_pairs;
+use crate::fixtures::id;
 use epx_base::{Base, BaseFault, read_base};
 use std::alloc::Global;
 use std::test::Fail;
@@ -28,7 +28,7 @@ fn a_report_is_read(rt: HostRuntime) -> Result<(), Fail> {
     assert!(rt; base.done() == wanted.as_slice());
     let (done, store) = base.into_parts();
     assert!(rt; done.as_slice() == wanted.as_slice());
-    is_stored(&rt, &store, &[("a", 5)])?;
+    expect_pairs(&rt, &store, &[("a", 5)])?;
     Ok(())
 }
 

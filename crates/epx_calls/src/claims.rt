@@ -11,14 +11,14 @@ use std::thread::Threads;
 
 /// The caller's own error type.
 #[derive(Debug, PartialEq, Drop)]
-enum Trouble {
+enum CallerError {
     NoMemory,
     At(usize),
 }
 
-impl From<Memory> for Trouble {
-    fn from(_memory: Memory) -> Trouble {
-        Trouble::NoMemory
+impl From<Memory> for CallerError {
+    fn from(_memory: Memory) -> CallerError {
+        CallerError::NoMemory
     }
 }
 
@@ -30,7 +30,7 @@ fn ten_times(i: usize) -> Result<usize, Memory>
 }
 
 /// A caller whose contract states each answer.
-fn tens<R: Threads + Sync, G: Gate + Sync>(
+fn map_to_tens<R: Threads + Sync, G: Gate + Sync>(
     rt: &R,
     alloc: Global,
     n: usize,
@@ -56,9 +56,9 @@ fn maps_while_one_waits<R: Threads + Sync + Abort>(
 {
     let plan = Plan::new(workers, 1).ok_or("a plan")?;
     let gate = WaitingGate::new(waiter, all);
-    let answers = tens(rt, alloc, wanted.len(), plan, &gate)?;
+    let answers = map_to_tens(rt, alloc, wanted.len(), plan, &gate)?;
     assert!(rt; answers.as_slice() == wanted);
-    gate.saw_all()
+    gate.expect_all_entered()
 }
 
 /// Maps the numbers below n to their successors, or to an error at one of them.
@@ -68,7 +68,7 @@ fn maps_to_the_next<R: Threads + Sync + Abort>(
     workers: usize,
     n: usize,
     bad: usize,
-    wanted: Result<&[usize], Trouble>,
+    wanted: Result<&[usize], CallerError>,
 ) -> Result<(), Fail>
     requires { n ≤ 100 }
 {
@@ -79,11 +79,11 @@ fn maps_to_the_next<R: Threads + Sync + Abort>(
         n,
         plan,
         &FreeGate,
-        |i| -> Result<usize, Trouble>
+        |i| -> Result<usize, CallerError>
             requires { i < 100 }
         {
             if i == bad {
-                Err(Trouble::At(i))
+                Err(CallerError::At(i))
             } else {
                 Ok(i + 1)
             }
@@ -91,7 +91,7 @@ fn maps_to_the_next<R: Threads + Sync + Abort>(
     );
     match (&answer, &wanted) {
         (Ok(values), Ok(wanted)) => assert!(rt; values.as_slice() == *wanted),
-        (Err(Trouble::NoMemory), _) => return Err(Fail::from("out of memory")),
+        (Err(CallerError::NoMemory), _) => return Err(Fail::from("out of memory")),
         (Err(trouble), Err(wanted)) => assert!(rt; trouble == wanted),
         _ => panic!(rt; "another kind of answer"),
     }
@@ -117,7 +117,7 @@ fn two_seats_draw_three_pieces(rt: HostRuntime) -> Result<(), Fail> {
 }
 
 #[test]
-fn no_piece_ends_the_first_draw(rt: HostRuntime) -> Result<(), Fail> {
+fn no_piece_stops_the_first_draw(rt: HostRuntime) -> Result<(), Fail> {
     let (claims, mut seat) = Claims::new(rt.alloc(), 0, 1)?;
     assert!(rt; claims.claim(&mut seat).is_none());
     let drawn = claims.close(seat);
@@ -126,7 +126,7 @@ fn no_piece_ends_the_first_draw(rt: HostRuntime) -> Result<(), Fail> {
 }
 
 #[test]
-fn a_deal_may_close_early(rt: HostRuntime) -> Result<(), Fail> {
+fn claims_may_close_early(rt: HostRuntime) -> Result<(), Fail> {
     let (claims, mut seat) = Claims::new(rt.alloc(), 5, 1)?;
     assert!(rt; claims.claim(&mut seat) == Some(0));
     assert!(rt; claims.claim(&mut seat) == Some(1));
@@ -152,7 +152,7 @@ fn any_number_of_workers_over_five_numbers(rt: HostRuntime) -> Result<(), Fail> 
 #[test]
 fn the_callers_error_from_any_number_of_workers(rt: HostRuntime) -> Result<(), Fail> {
     for workers in [1, 2, 64] {
-        maps_to_the_next(&rt, rt.alloc(), workers, 5, 3, Err(Trouble::At(3)))?;
+        maps_to_the_next(&rt, rt.alloc(), workers, 5, 3, Err(CallerError::At(3)))?;
     }
     Ok(())
 }
@@ -168,7 +168,7 @@ fn threads_really_run(rt: HostRuntime) -> Result<(), Fail> {
 }
 
 #[test]
-fn others_are_drawn_while_one_waits(rt: HostRuntime) -> Result<(), Fail> {
+fn others_continue_while_one_waits(rt: HostRuntime) -> Result<(), Fail> {
     for waiter in 0..4 {
         maps_while_one_waits(&rt, rt.alloc(), 2, &[0, 10, 20, 30], waiter, 1111)?;
     }

@@ -38,7 +38,7 @@ fn expect_unreadable<S: Source>(rt: &impl Abort, alloc: Global, source: &mut S) 
 }
 
 /// Writes the whole text to a sink that can fail only if memory runs out.
-fn is_written<W: Sink>(sink: &mut W) -> Result<(), Fail>
+fn write_whole<W: Sink>(sink: &mut W) -> Result<(), Fail>
     requires { W.has_failed sink.old ≡ false }
 {
     match write_out(TEXT.as_bytes(), sink) {
@@ -50,7 +50,7 @@ fn is_written<W: Sink>(sink: &mut W) -> Result<(), Fail>
 #[test]
 fn what_is_written_is_read_again(rt: HostRuntime) -> Result<(), Fail> {
     let mut sink = MemorySink::new(rt.alloc());
-    is_written(&mut sink)?;
+    write_whole(&mut sink)?;
     assert!(rt; !sink.failed());
     expect_text(&rt, rt.alloc(), &mut MemorySource::new(sink.bytes()))
 }
@@ -58,7 +58,7 @@ fn what_is_written_is_read_again(rt: HostRuntime) -> Result<(), Fail> {
 #[test]
 fn one_byte_a_call_is_enough(rt: HostRuntime) -> Result<(), Fail> {
     let mut sink = FuseSink::new(rt.alloc(), 1, None);
-    is_written(&mut sink)?;
+    write_whole(&mut sink)?;
     expect_text(&rt, rt.alloc(), &mut FuseSource::new(sink.bytes(), 1, None))
 }
 
@@ -123,7 +123,7 @@ fn a_sink_that_fails_after_any_byte_holds_a_prefix(rt: HostRuntime) -> Result<()
 }
 
 #[test]
-fn each_read_on_a_blown_fuse_fails(rt: HostRuntime) {
+fn each_read_on_a_spent_fuse_fails(rt: HostRuntime) {
     let mut source = FuseSource::new(TEXT.as_bytes(), 1, Some(0));
     for _ in 0..3 {
         assert!(rt; source.read_some(&mut [0; 8]) == Err(DeviceFault));
@@ -131,7 +131,7 @@ fn each_read_on_a_blown_fuse_fails(rt: HostRuntime) {
 }
 
 #[test]
-fn each_write_on_a_blown_fuse_fails(rt: HostRuntime) {
+fn each_write_on_a_spent_fuse_fails(rt: HostRuntime) {
     let mut sink = FuseSink::new(rt.alloc(), 1, Some(0));
     for _ in 0..3 {
         assert!(rt; sink.write_some(TEXT.as_bytes()) == Err(DeviceFault));
@@ -151,7 +151,7 @@ fn one_source_fails_and_another_does_not(rt: HostRuntime) -> Result<(), Fail> {
 fn std_readers_and_writers_carry_the_same_bytes(rt: HostRuntime) -> Result<(), Fail> {
     let mut written = Vec::new(rt.alloc());
     let mut sink = StdSink::new(&mut written);
-    is_written(&mut sink)?;
+    write_whole(&mut sink)?;
     assert!(rt; written.as_slice() == TEXT.as_bytes());
     expect_text(&rt, rt.alloc(), &mut StdSource::new(TEXT.as_bytes()))
 }
@@ -184,7 +184,7 @@ fn expect_unwritable(rt: &impl Abort, bytes: &[u8]) {
 }
 
 #[test]
-fn std_devices_tell_of_failures(rt: HostRuntime) -> Result<(), Fail> {
+fn std_devices_report_failures(rt: HostRuntime) -> Result<(), Fail> {
     expect_unreadable(&rt, rt.alloc(), &mut StdSource::new(Broken))?;
     expect_unwritable(&rt, TEXT.as_bytes());
     expect_unwritable(&rt, &[]);

@@ -1,7 +1,7 @@
 //! Tests of the store and of the effects of commands.
 ghost use Rattle.std.specs.Prelude.{◌≡◌, [], ◌∷◌, IfOk};
 
-use crate::given::key;
+use crate::fixtures::key;
 use epx_txn::{Effect, Store, Writes, apply, eval, merge_effects, touched, written};
 use epx_types::{Key, Memory, Op, Reply, Values};
 use std::alloc::Global;
@@ -11,7 +11,7 @@ use std::test::Fail;
 use std::thread::Threads;
 
 /// Expects that the store has exactly these pairs, in this order.
-pub(crate) fn is_stored(
+pub(crate) fn expect_pairs(
     rt: &impl Abort,
     store: &Store,
     wanted: &[(&str, i64)],
@@ -34,14 +34,14 @@ fn put(rt: &impl Abort, store: &mut Store, key: Key, value: i64) -> Result<(), M
     match store.put(key, value) {
         Ok(()) => assert!(rt; store.get(&text) == Some(value)),
         Err(Memory) => {
-            is_same(rt, store, &opening)?;
+            expect_same_pairs(rt, store, &opening)?;
             return Err(Memory);
         }
     }
     Ok(())
 }
 
-fn is_same(rt: &impl Abort, store: &Store, other: &Store) -> Result<(), Memory> {
+fn expect_same_pairs(rt: &impl Abort, store: &Store, other: &Store) -> Result<(), Memory> {
     assert!(rt; store.len() == other.len());
     for (key, value) in other.pairs()? {
         assert!(rt; store.get(key) == Some(value));
@@ -50,7 +50,7 @@ fn is_same(rt: &impl Abort, store: &Store, other: &Store) -> Result<(), Memory> 
 }
 
 /// A store into which these pairs are put one after another.
-pub(crate) fn stored(
+pub(crate) fn store_with(
     rt: &impl Abort,
     alloc: Global,
     pairs: &[(&str, i64)],
@@ -63,18 +63,18 @@ pub(crate) fn stored(
 }
 
 /// A store with 5 under a.
-fn five(rt: &impl Abort, alloc: Global) -> Result<Store, Memory> {
-    stored(rt, alloc, &[("a", 5)])
+fn store_with_five(rt: &impl Abort, alloc: Global) -> Result<Store, Memory> {
+    store_with(rt, alloc, &[("a", 5)])
 }
 
 #[test]
 fn store_holds_what_was_put(rt: HostRuntime) -> Result<(), Fail> {
     let alloc = rt.alloc();
-    is_stored(&rt, &Store::new(alloc), &[])?;
-    let store = five(&rt, alloc)?;
+    expect_pairs(&rt, &Store::new(alloc), &[])?;
+    let store = store_with_five(&rt, alloc)?;
     assert!(rt; store.get(&key(&rt, alloc, "b")?) == None);
-    is_stored(&rt, &store, &[("a", 5)])?;
-    is_stored(&rt, &store.copy()?, &[("a", 5)])?;
+    expect_pairs(&rt, &store, &[("a", 5)])?;
+    expect_pairs(&rt, &store.copy()?, &[("a", 5)])?;
     Ok(())
 }
 
@@ -85,7 +85,7 @@ pub(crate) enum Wanted<'a> {
     Abort(u64),
 }
 
-pub(crate) fn is_reply(rt: &impl Abort, reply: &Reply, wanted: Wanted) {
+pub(crate) fn expect_reply(rt: &impl Abort, reply: &Reply, wanted: Wanted) {
     match (reply, wanted) {
         (Reply::Values(values), Wanted::Values(list)) => assert!(rt; values.as_slice() == list),
         (Reply::Abort(place), Wanted::Abort(at)) => assert!(rt; *place == at),
@@ -93,7 +93,7 @@ pub(crate) fn is_reply(rt: &impl Abort, reply: &Reply, wanted: Wanted) {
     }
 }
 
-fn are_writes(rt: &impl Abort, made: &[(Key, Option<i64>)], wanted: &[(&str, Option<i64>)]) {
+fn expect_writes(rt: &impl Abort, made: &[(Key, Option<i64>)], wanted: &[(&str, Option<i64>)]) {
     assert!(rt; made.len() == wanted.len());
     for (write, (text, value)) in made.iter().zip(wanted) {
         assert!(rt; write.0.text() == *text);
@@ -102,22 +102,22 @@ fn are_writes(rt: &impl Abort, made: &[(Key, Option<i64>)], wanted: &[(&str, Opt
 }
 
 /// Over a store with 5 under a, expects this effect of the operations, and an unchanged store.
-fn have_effect(
+fn expect_effect(
     rt: &impl Abort,
     alloc: Global,
     ops: &[Op],
     reply: Wanted,
     writes: &[(&str, Option<i64>)],
 ) -> Result<(), Memory> {
-    let store = five(rt, alloc)?;
+    let store = store_with_five(rt, alloc)?;
     let effect = eval(alloc, &store, ops)?;
-    is_reply(rt, &effect.reply, reply);
-    are_writes(rt, effect.writes.as_slice(), writes);
-    is_stored(rt, &store, &[("a", 5)])
+    expect_reply(rt, &effect.reply, reply);
+    expect_writes(rt, effect.writes.as_slice(), writes);
+    expect_pairs(rt, &store, &[("a", 5)])
 }
 
 /// Expects this effect of the operation followed by a read of a.
-fn have_effect_on_a(
+fn expect_effect_on_a(
     rt: &impl Abort,
     alloc: Global,
     op: Op,
@@ -127,21 +127,21 @@ fn have_effect_on_a(
         key: key(rt, alloc, "a")?,
     };
     let reply = Wanted::Values(&[value]);
-    have_effect(rt, alloc, &[op, get], reply, &[("a", value)])
+    expect_effect(rt, alloc, &[op, get], reply, &[("a", value)])
 }
 
 #[test]
 fn command_reads_its_own_writes(rt: HostRuntime) -> Result<(), Fail> {
     let key = key(&rt, rt.alloc(), "a")?;
     let add = Op::Add { key, amount: 1 };
-    have_effect_on_a(&rt, rt.alloc(), add, Some(6))?;
+    expect_effect_on_a(&rt, rt.alloc(), add, Some(6))?;
     Ok(())
 }
 
 #[test]
 fn command_reads_its_own_removals(rt: HostRuntime) -> Result<(), Fail> {
     let key = key(&rt, rt.alloc(), "a")?;
-    have_effect_on_a(&rt, rt.alloc(), Op::Del { key }, None)?;
+    expect_effect_on_a(&rt, rt.alloc(), Op::Del { key }, None)?;
     Ok(())
 }
 
@@ -161,7 +161,7 @@ fn put_and_fail(rt: &impl Abort, alloc: Global) -> Result<[Op; 2], Memory> {
 #[test]
 fn abort_writes_nothing(rt: HostRuntime) -> Result<(), Fail> {
     let ops = put_and_fail(&rt, rt.alloc())?;
-    have_effect(&rt, rt.alloc(), &ops, Wanted::Abort(1), &[])?;
+    expect_effect(&rt, rt.alloc(), &ops, Wanted::Abort(1), &[])?;
     Ok(())
 }
 
@@ -176,7 +176,7 @@ fn one_write(alloc: Global, key: Key, value: Option<i64>) -> Result<Effect, Memo
 }
 
 /// A store with 5 under a, after one key is removed and 7 is put under another.
-fn moved<R: Threads + Sync + Abort>(
+fn replace_key<R: Threads + Sync + Abort>(
     rt: &R,
     alloc: Global,
     removed: Key,
@@ -187,16 +187,16 @@ fn moved<R: Threads + Sync + Abort>(
         one_write(alloc, removed, None)?,
         one_write(alloc, put, Some(7))?,
     ];
-    merge_effects(rt, alloc, five(rt, alloc)?, &effects)
+    merge_effects(rt, alloc, store_with_five(rt, alloc)?, &effects)
 }
 
 #[test]
 fn all_writes_are_merged(rt: HostRuntime) -> Result<(), Fail> {
     let alloc = rt.alloc();
-    let store = moved(&rt, alloc, key(&rt, alloc, "a")?, key(&rt, alloc, "b")?)?;
-    is_stored(&rt, &store, &[("b", 7)])?;
+    let store = replace_key(&rt, alloc, key(&rt, alloc, "a")?, key(&rt, alloc, "b")?)?;
+    expect_pairs(&rt, &store, &[("b", 7)])?;
     let store = merge_effects(&rt, alloc, store, &[])?;
-    is_stored(&rt, &store, &[("b", 7)])?;
+    expect_pairs(&rt, &store, &[("b", 7)])?;
     Ok(())
 }
 
@@ -247,19 +247,19 @@ fn letters_and_more(rt: &impl Abort, alloc: Global) -> Result<Vec<Op>, Memory> {
 fn command_may_write_many_keys(rt: HostRuntime) -> Result<(), Fail> {
     let alloc = rt.alloc();
     let ops = letters_and_more(&rt, alloc)?;
-    let store = five(&rt, alloc)?;
+    let store = store_with_five(&rt, alloc)?;
     let effect = eval(alloc, &store, &ops)?;
-    is_reply(&rt, &effect.reply, Wanted::Values(&[Some(7), None]));
+    expect_reply(&rt, &effect.reply, Wanted::Values(&[Some(7), None]));
     assert!(rt; effect.writes.as_slice().len() == 26);
     let store = after(&rt, alloc, store, &ops)?;
     assert!(rt; store.len() == 25);
     for (text, value) in [("a", Some(7)), ("b", None), ("c", Some(3)), ("z", Some(26))] {
         assert!(rt; store.get(&key(&rt, alloc, text)?) == value);
     }
-    let mut applied = five(&rt, alloc)?;
+    let mut applied = store_with_five(&rt, alloc)?;
     let reply = apply(alloc, &mut applied, &ops)?;
-    is_reply(&rt, &reply, Wanted::Values(&[Some(7), None]));
-    is_same(&rt, &applied, &store)?;
+    expect_reply(&rt, &reply, Wanted::Values(&[Some(7), None]));
+    expect_same_pairs(&rt, &applied, &store)?;
     Ok(())
 }
 
@@ -291,7 +291,7 @@ fn many_writes_are_merged(rt: HostRuntime) -> Result<(), Fail> {
 }
 
 /// Expects these keys.
-fn are_keys(rt: &impl Abort, keys: &[&Key], wanted: &[&str]) {
+fn check_keys(rt: &impl Abort, keys: &[&Key], wanted: &[&str]) {
     assert!(rt; keys.len() == wanted.len());
     for (key, text) in keys.iter().zip(wanted) {
         assert!(rt; key.text() == *text);
@@ -306,13 +306,13 @@ fn expect_keys(
     touch: &[&str],
     write: &[&str],
 ) -> Result<(), Memory> {
-    are_keys(rt, touched(alloc, ops)?.as_slice(), touch);
-    are_keys(rt, written(alloc, ops)?.as_slice(), write);
+    check_keys(rt, touched(alloc, ops)?.as_slice(), touch);
+    check_keys(rt, written(alloc, ops)?.as_slice(), write);
     Ok(())
 }
 
 #[test]
-fn keys_rise_and_stand_once(rt: HostRuntime) -> Result<(), Fail> {
+fn keys_rise_each_once(rt: HostRuntime) -> Result<(), Fail> {
     let alloc = rt.alloc();
     let copy = Op::Copy {
         source: key(&rt, alloc, "a")?,

@@ -1,5 +1,5 @@
 //! Tests of entries in memory: which map they commit, and how they are refused.
-use crate::given::{accepted, id, logs_of, merged_of};
+use crate::fixtures::{expect_accepted, id, logs_of, merged_of};
 use epx_merge::{Merged, from_entries};
 use epx_types::{Entry, Fault, Id, Place};
 use std::alloc::Global;
@@ -70,7 +70,7 @@ fn expect_disagreement(
 
 #[test]
 fn entries_commit_what_their_text_commits(rt: HostRuntime) -> Result<(), Fail> {
-    let found = accepted(from_entries(rt.alloc(), three(rt.alloc())?))?;
+    let found = expect_accepted(from_entries(rt.alloc(), three(rt.alloc())?))?;
     assert!(rt; found.len() == 3);
     assert!(rt; found.get(id(0, 9)).map(|entry| entry.seq()) == Some(2));
     assert!(rt; found.position(id(2, 7)) == Some(2));
@@ -84,8 +84,8 @@ fn equal_entries_are_one(rt: HostRuntime) -> Result<(), Fail> {
     let mut entries = three(rt.alloc())?;
     entries.push(entry(rt.alloc(), id(0, 9), 2, id(1, 1))?)?;
     entries.push(entry(rt.alloc(), id(2, 7), 3, id(0, 9))?)?;
-    let found = accepted(from_entries(rt.alloc(), entries))?;
-    let wanted = accepted(from_entries(rt.alloc(), three(rt.alloc())?))?;
+    let found = expect_accepted(from_entries(rt.alloc(), entries))?;
+    let wanted = expect_accepted(from_entries(rt.alloc(), three(rt.alloc())?))?;
     expect_same(&rt, &found, &wanted);
     Ok(())
 }
@@ -103,7 +103,7 @@ fn the_least_instance_is_named_by_lines_from_1(rt: HostRuntime) -> Result<(), Fa
 
 #[test]
 fn no_entries_commit_nothing(rt: HostRuntime) -> Result<(), Fail> {
-    let found = accepted(from_entries(rt.alloc(), Vec::new(rt.alloc())))?;
+    let found = expect_accepted(from_entries(rt.alloc(), Vec::new(rt.alloc())))?;
     assert!(rt; found.is_empty());
     assert!(rt; found.get(id(0, 0)).is_none());
     Ok(())

@@ -3,9 +3,9 @@ use epx_claims::Gate;
 use std::sync::atomic::{AtomicBool, AtomicU64, Ordering};
 use std::test::Fail;
 
-const MOST_LOADS: u32 = 100_000_000;
+const MAX_LOADS: u32 = 100_000_000;
 
-/// A gate in which one item waits until all items were entered. It gives up after `MOST_LOADS`
+/// A gate in which one item waits until all items were entered. It gives up after `MAX_LOADS`
 /// loads.
 #[derive(Drop)]
 pub(crate) struct WaitingGate {
@@ -27,7 +27,7 @@ impl WaitingGate {
 
     /// Expects that all items were entered and that the waiting one saw it. If it did not, a
     /// worker may be missing because its thread could not be started.
-    pub(crate) fn saw_all(&self) -> Result<(), Fail> {
+    pub(crate) fn expect_all_entered(&self) -> Result<(), Fail> {
         if self.entered.load(Ordering::SeqCst) != self.all {
             return Err(Fail::from("not each number was entered once"));
         }
@@ -45,7 +45,7 @@ impl Gate for WaitingGate {
         if piece != self.waiter {
             return;
         }
-        for _ in 0..MOST_LOADS {
+        for _ in 0..MAX_LOADS {
             if self.entered.load(Ordering::SeqCst) == self.all {
                 return;
             }

@@ -1,7 +1,7 @@
 //! Tests of the graphs of small logs, and of the instances that wait.
 ghost use Rattle.epx_types.specs.Ids.{IsRising};
 
-use crate::given::{id, logs_of, merged_of, plan, push_line};
+use crate::fixtures::{id, logs_of, merged_of, plan, push_line};
 use epx_graph::{Graph, Waiter, build, build_after, waiting};
 use epx_types::Id;
 use epx_types::entry::is_rising;

@@ -8,8 +8,6 @@
 #![tactic(auto)]
 
 #[cfg(test)]
-mod applying;
-#[cfg(test)]
 mod bases;
 #[cfg(test)]
 mod claims;
@@ -20,9 +18,9 @@ mod effects;
 #[cfg(test)]
 mod entries;
 #[cfg(test)]
-mod gates;
+mod fixtures;
 #[cfg(test)]
-mod given;
+mod gates;
 #[cfg(test)]
 mod graphs;
 #[cfg(test)]
@@ -30,9 +28,11 @@ mod lines;
 #[cfg(test)]
 mod lists;
 #[cfg(test)]
-mod merging;
-#[cfg(test)]
 mod orders;
+#[cfg(test)]
+mod read_logs_tests;
+#[cfg(test)]
+mod run_order_tests;
 #[cfg(test)]
 mod seeds;
 #[cfg(test)]

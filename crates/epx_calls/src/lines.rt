@@ -1,6 +1,6 @@
 //! Tests of lines: cut out of a log, read and written. The worked cases in scripts test their
 //! meaning.
-use crate::given::{PUT_AND_GET, id};
+use crate::fixtures::{PUT_AND_GET, id};
 use epx_lines::{Line, LineFault, cut_lines, read_line, write_line};
 use epx_types::{Entry, Key, Memory, Op};
 use std::alloc::{AllocError, Global};

@@ -2,7 +2,7 @@
 ghost use Rattle.epx_graph.specs.GraphOf.{IsGraphOf};
 ghost use Rattle.std.specs.Prelude.{IfOk};
 
-use crate::given::{id, merged_of, plan, push_line};
+use crate::fixtures::{id, merged_of, plan, push_line};
 use epx_graph::{Graph, build};
 use epx_merge::Merged;
 use epx_order::{OrderFault, check_order};
@@ -14,7 +14,7 @@ use std::test::Fail;
 use std::thread::Threads;
 
 /// The map of a log and its graph.
-fn read<R: Abort + Threads + RandomSource + Sync>(
+fn map_and_graph<R: Abort + Threads + RandomSource + Sync>(
     rt: &R,
     alloc: Global,
     log: Vec<u8>,
@@ -52,7 +52,7 @@ fn lists_of_a_component_and_what_it_reaches(rt: HostRuntime) -> Result<(), Fail>
     push_line(alloc, &mut log, id(0, 1), 1, "[1,1]")?;
     push_line(alloc, &mut log, id(1, 1), 2, "[0,1],[2,1]")?;
     push_line(alloc, &mut log, id(2, 1), 3, "")?;
-    let (merged, graph) = read(&rt, alloc, log)?;
+    let (merged, graph) = map_and_graph(&rt, alloc, log)?;
     let (first, second, third) = (id(0, 1), id(1, 1), id(2, 1));
     let cases: [(&[Id], Option<OrderFault>); 8] = [
         (&[third, first, second], None),

@@ -1,8 +1,8 @@
 //! Tests of small graphs whose components and orders were worked out by hand.
-ghost use Rattle.epx_graph.specs.GraphOf.{IsGraphAfter};
+ghost use Rattle.epx_graph.specs.GraphOf.{IsGraphOfRest};
 ghost use Rattle.std.specs.Prelude.{IfOk};
 
-use crate::given::{id, merged_of, plan, push_line};
+use crate::fixtures::{id, merged_of, plan, push_line};
 use epx_graph::{Graph, build};
 use epx_merge::Merged;
 use epx_order::{OrderList, components, order};
@@ -14,12 +14,12 @@ use std::test::Fail;
 use std::thread::Threads;
 
 /// The map of a log and its graph.
-fn read<R: Abort + Threads + RandomSource + Sync>(
+fn map_and_graph<R: Abort + Threads + RandomSource + Sync>(
     rt: &R,
     alloc: Global,
     log: Vec<u8>,
 ) -> Result<(Merged, Graph), Fail>
-    ensures { IfOk result (λ found. IsGraphAfter found.0 found.1) }
+    ensures { IfOk result (λ found. IsGraphOfRest found.0 found.1) }
 {
     let mut logs = Vec::new(alloc);
     logs.push(log)?;
@@ -80,7 +80,7 @@ fn expect_order<R: Abort + Threads + RandomSource + Sync>(
     count: usize,
     wanted: &[Row],
 ) -> Result<(), Fail> {
-    let (merged, graph) = read(rt, alloc, log)?;
+    let (merged, graph) = map_and_graph(rt, alloc, log)?;
     assert!(rt; leaders(alloc, &graph)?.as_slice() == lead);
     let order = order(rt, alloc, &merged, &graph)?;
     assert!(rt; order.len() == wanted.len());

@@ -1,6 +1,6 @@
 //! Tests of hashes of Ids by seed. The values are those of Rust's `DefaultHasher` over the same
 //! bytes.
-use crate::given::id;
+use crate::fixtures::id;
 use epx_seed::Seed;
 use std::hash::{BuildHasher, DefaultHasher, Hash};
 use std::io;

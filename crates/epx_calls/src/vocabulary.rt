@@ -1,5 +1,5 @@
 //! Tests of Ids, keys, entries, plans, replies and a fault: their orders, limits and texts.
-use crate::given::id;
+use crate::fixtures::id;
 use epx_types::{Entry, Fault, Id, Key, Memory, Op, Place, Plan, Reply, Values};
 use std::alloc::Global;
 use std::process::Abort;
@@ -19,7 +19,7 @@ fn a_fault_has_a_number_a_status_and_a_text(rt: HostRuntime) -> Result<(), Fail>
 }
 
 /// Expects that the text is a key or is not. A key and its copy must have the text.
-fn is_key(rt: &impl Abort, alloc: Global, text: &str, wanted: bool) -> Result<(), Fail> {
+fn expect_key(rt: &impl Abort, alloc: Global, text: &str, wanted: bool) -> Result<(), Fail> {
     let made = Key::new(alloc, text)?;
     assert!(rt; made.is_some() == wanted);
     if let Some(key) = made {
@@ -33,10 +33,10 @@ fn is_key(rt: &impl Abort, alloc: Global, text: &str, wanted: bool) -> Result<()
 fn a_key_has_1_to_64_bytes(rt: HostRuntime) -> Result<(), Fail> {
     let sixty_four = "abcdefghabcdefghabcdefghabcdefghabcdefghabcdefghabcdefghabcdefgh";
     let sixty_five = "abcdefghabcdefghabcdefghabcdefghabcdefghabcdefghabcdefghabcdefghi";
-    is_key(&rt, rt.alloc(), "a", true)?;
-    is_key(&rt, rt.alloc(), "", false)?;
-    is_key(&rt, rt.alloc(), sixty_four, true)?;
-    is_key(&rt, rt.alloc(), sixty_five, false)
+    expect_key(&rt, rt.alloc(), "a", true)?;
+    expect_key(&rt, rt.alloc(), "", false)?;
+    expect_key(&rt, rt.alloc(), sixty_four, true)?;
+    expect_key(&rt, rt.alloc(), sixty_five, false)
 }
 
 /// Expects that the first text is the lesser key.
@@ -101,7 +101,12 @@ fn a_plan_cuts_items_into_pieces(rt: HostRuntime) -> Result<(), Fail> {
 }
 
 /// Expects that instance 1.2 may depend on these two, or may not.
-fn may_depend(rt: &impl Abort, alloc: Global, deps: [Id; 2], wanted: bool) -> Result<(), Fail> {
+fn expect_dependencies(
+    rt: &impl Abort,
+    alloc: Global,
+    deps: [Id; 2],
+    wanted: bool,
+) -> Result<(), Fail> {
     let deps = Vec::from_slice(alloc, &deps)?;
     let entry = Entry::new(id(1, 2), 5, deps, Vec::new(alloc));
     assert!(rt; entry.is_some() == wanted);
@@ -110,14 +115,19 @@ fn may_depend(rt: &impl Abort, alloc: Global, deps: [Id; 2], wanted: bool) -> Re
 
 #[test]
 fn an_entry_needs_rising_dependencies_without_itself(rt: HostRuntime) -> Result<(), Fail> {
-    may_depend(&rt, rt.alloc(), [id(0, 9), id(1, 3)], true)?;
-    may_depend(&rt, rt.alloc(), [id(1, 3), id(0, 9)], false)?;
-    may_depend(&rt, rt.alloc(), [id(0, 9), id(0, 9)], false)?;
-    may_depend(&rt, rt.alloc(), [id(0, 9), id(1, 2)], false)
+    expect_dependencies(&rt, rt.alloc(), [id(0, 9), id(1, 3)], true)?;
+    expect_dependencies(&rt, rt.alloc(), [id(1, 3), id(0, 9)], false)?;
+    expect_dependencies(&rt, rt.alloc(), [id(0, 9), id(0, 9)], false)?;
+    expect_dependencies(&rt, rt.alloc(), [id(0, 9), id(1, 2)], false)
 }
 
 /// Expects that an entry may have `count` dependencies, or may not.
-fn may_have_deps(rt: &impl Abort, alloc: Global, count: u64, wanted: bool) -> Result<(), Fail> {
+fn expect_deps_allowed(
+    rt: &impl Abort,
+    alloc: Global,
+    count: u64,
+    wanted: bool,
+) -> Result<(), Fail> {
     let mut deps = Vec::new(alloc);
     for number in 0..count {
         deps.push(id(0, number))?;
@@ -128,7 +138,12 @@ fn may_have_deps(rt: &impl Abort, alloc: Global, count: u64, wanted: bool) -> Re
 }
 
 /// Expects that an entry may have `count` operations, or may not.
-fn may_have_ops(rt: &impl Abort, alloc: Global, count: usize, wanted: bool) -> Result<(), Fail> {
+fn expect_ops_allowed(
+    rt: &impl Abort,
+    alloc: Global,
+    count: usize,
+    wanted: bool,
+) -> Result<(), Fail> {
     let mut ops = Vec::new(alloc);
     for _ in 0..count {
         let key = Key::new(alloc, "a")?.ok_or("a key")?;
@@ -141,14 +156,14 @@ fn may_have_ops(rt: &impl Abort, alloc: Global, count: usize, wanted: bool) -> R
 
 #[test]
 fn an_entry_has_at_most_256_dependencies_and_64_operations(rt: HostRuntime) -> Result<(), Fail> {
-    may_have_deps(&rt, rt.alloc(), 256, true)?;
-    may_have_deps(&rt, rt.alloc(), 257, false)?;
-    may_have_ops(&rt, rt.alloc(), 64, true)?;
-    may_have_ops(&rt, rt.alloc(), 65, false)
+    expect_deps_allowed(&rt, rt.alloc(), 256, true)?;
+    expect_deps_allowed(&rt, rt.alloc(), 257, false)?;
+    expect_ops_allowed(&rt, rt.alloc(), 64, true)?;
+    expect_ops_allowed(&rt, rt.alloc(), 65, false)
 }
 
 /// Expects that an entry has the parts that it was made of.
-fn keeps_its_parts(rt: &impl Abort, alloc: Global, ops: Vec<Op>) -> Result<(), Fail> {
+fn expect_parts(rt: &impl Abort, alloc: Global, ops: Vec<Op>) -> Result<(), Fail> {
     let count = ops.len();
     let deps = vec![in alloc; id(0, 1)]?;
     let entry = Entry::new(id(2, 7), 3, deps, ops).ok_or("an entry")?;
@@ -161,20 +176,20 @@ fn keeps_its_parts(rt: &impl Abort, alloc: Global, ops: Vec<Op>) -> Result<(), F
 #[test]
 fn an_entry_holds_what_it_was_made_of(rt: HostRuntime) -> Result<(), Fail> {
     let key = Key::new(rt.alloc(), "k")?.ok_or("a key")?;
-    keeps_its_parts(&rt, rt.alloc(), vec![in rt.alloc(); Op::Del { key }]?)
+    expect_parts(&rt, rt.alloc(), vec![in rt.alloc(); Op::Del { key }]?)
 }
 
 /// The reply of these values.
-fn replied(alloc: Global, values: &[Option<i64>]) -> Result<Reply, Memory> {
+fn reply_of(alloc: Global, values: &[Option<i64>]) -> Result<Reply, Memory> {
     let values = Values::new(Vec::from_slice(alloc, values)?);
     Ok(Reply::Values(values))
 }
 
 #[test]
 fn replies_are_compared_by_their_values(rt: HostRuntime) -> Result<(), Fail> {
-    let read = replied(rt.alloc(), &[Some(5), None])?;
-    assert!(rt; read == replied(rt.alloc(), &[Some(5), None])?);
-    assert!(rt; read != replied(rt.alloc(), &[None, Some(5)])?);
+    let read = reply_of(rt.alloc(), &[Some(5), None])?;
+    assert!(rt; read == reply_of(rt.alloc(), &[Some(5), None])?);
+    assert!(rt; read != reply_of(rt.alloc(), &[None, Some(5)])?);
     assert!(rt; read != Reply::Abort(0));
     assert!(rt; Reply::Abort(1) != Reply::Abort(2));
     Ok(())

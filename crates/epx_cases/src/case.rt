@@ -1,10 +1,10 @@
 //! A case of a script, and its runs.
+use crate::case_input::{CaseInput, FailingDevice};
 use crate::directive::Directive;
 use crate::flow::Flow;
-use crate::given::{Failing, Given};
 use crate::line::add_line;
 use crate::meaning::meanings;
-use crate::outcome::{answer_given, deliver_given, task_named};
+use crate::outcome::{answer_input, deliver_input, task_named};
 use crate::words::words_text;
 use epx_tool::Task;
 use epx_types::{Memory, Plan};
@@ -56,14 +56,14 @@ pub(crate) struct Case<'a> {
     /// Its first line.
     head: &'a str,
     subject: Option<Subject<'a>>,
-    given: Given,
+    case_input: CaseInput,
     /// The plans of its runs.
     plans: Vec<Plan>,
     wanted: Vec<u8>,
     /// Whether the line `----` was read.
     has_wanted: bool,
     /// The first line that has no meaning.
-    bad_line: Option<&'a str>,
+    unread_line: Option<&'a str>,
 }
 
 impl<'a> Case<'a> {
@@ -71,11 +71,11 @@ impl<'a> Case<'a> {
         Case {
             head,
             subject: subject_of(head),
-            given: Given::new(alloc),
+            case_input: CaseInput::new(alloc),
             plans: Vec::new(alloc),
             wanted: Vec::new(alloc),
             has_wanted: false,
-            bad_line: None,
+            unread_line: None,
         }
     }
 
@@ -89,29 +89,31 @@ impl<'a> Case<'a> {
     }
 
     /// Reads a line above `----`. Returns false if the line has no meaning.
-    fn read_given(&mut self, alloc: Global, line: &str) -> io::Result<bool> {
+    fn read_input_line(&mut self, alloc: Global, line: &str) -> io::Result<bool> {
         let Some(directive) = Directive::parse(line) else {
-            return self.given.add_line(alloc, line);
+            return self.case_input.add_line(alloc, line);
         };
         match (directive, self.subject) {
             (Directive::Logs(count), Some(Subject::Task(_))) => {
-                self.given.begin_logs(alloc, count)?;
+                self.case_input.begin_logs(alloc, count)?;
             }
             (Directive::Logs(count), Some(Subject::Lines)) => {
-                self.given.begin_logs(alloc, count)?;
+                self.case_input.begin_logs(alloc, count)?;
             }
             (Directive::Plan { workers, cut }, Some(Subject::Task(_))) => {
                 return self.add_plan(workers, cut);
             }
-            (Directive::Base, Some(Subject::Task(Task::Resume))) => self.given.begin_first(),
-            (Directive::List, Some(Subject::Task(Task::Check))) => self.given.begin_first(),
-            (Directive::Gives(flow), Some(Subject::Task(_))) => return Ok(self.given.give(flow)),
-            (Directive::Takes(flow), Some(Subject::Task(_))) => self.given.take(flow),
+            (Directive::Base, Some(Subject::Task(Task::Resume))) => self.case_input.begin_first(),
+            (Directive::List, Some(Subject::Task(Task::Check))) => self.case_input.begin_first(),
+            (Directive::Gives(flow), Some(Subject::Task(_))) => return Ok(
+                self.case_input.set_source_flow(flow),
+            ),
+            (Directive::Takes(flow), Some(Subject::Task(_))) => self.case_input.set_sink_flow(flow),
             (Directive::GivesEach(flow), Some(Subject::Task(_))) => {
-                return Ok(self.given.fail(Failing::Source, flow));
+                return Ok(self.case_input.set_failing(FailingDevice::Source, flow));
             }
             (Directive::TakesEach(flow), Some(Subject::Task(_))) => {
-                return Ok(self.given.fail(Failing::Sink, flow));
+                return Ok(self.case_input.set_failing(FailingDevice::Sink, flow));
             }
             _ => return Ok(false),
         }
@@ -126,10 +128,10 @@ impl<'a> Case<'a> {
             self.has_wanted = true;
             true
         } else {
-            line.starts_with('#') || self.read_given(alloc, line)?
+            line.starts_with('#') || self.read_input_line(alloc, line)?
         };
-        if !is_read && self.bad_line.is_none() {
-            self.bad_line = Some(line);
+        if !is_read && self.unread_line.is_none() {
+            self.unread_line = Some(line);
         }
         Ok(())
     }
@@ -146,17 +148,17 @@ impl<'a> Case<'a> {
                 self.wanted.extend_from_slice(&text)?;
                 true
             }
-            Ok(text) => self.given.add_text(&text)?,
+            Ok(text) => self.case_input.add_text(&text)?,
             Err(_) => false,
         };
-        if !is_read && self.bad_line.is_none() {
-            self.bad_line = Some(line);
+        if !is_read && self.unread_line.is_none() {
+            self.unread_line = Some(line);
         }
         Ok(())
     }
 
     /// Whether a text is the expected one. Prints it if it is not.
-    fn is_found<R: Print>(
+    fn is_expected<R: Print>(
         &self,
         rt: &R,
         alloc: Global,
@@ -173,7 +175,7 @@ impl<'a> Case<'a> {
     }
 
     /// Adds the seven plans, if the case names no plan.
-    fn fill_plans(&mut self) -> io::Result<()> {
+    fn add_default_plans(&mut self) -> io::Result<()> {
         if self.plans.is_empty() {
             for (workers, cut) in PLANS {
                 self.add_plan(workers, cut)?;
@@ -183,17 +185,17 @@ impl<'a> Case<'a> {
     }
 
     /// Whether the answer in memory is the expected text, under each plan.
-    fn holds_in_memory<R: Print + Threads + RandomSource + Sync>(
+    fn is_right_in_memory<R: Print + Threads + RandomSource + Sync>(
         &self,
         rt: &R,
         alloc: Global,
         task: Task,
     ) -> io::Result<bool> {
         for plan in &self.plans {
-            let found = answer_given(rt, alloc, task, &self.given, *plan)?;
+            let found = answer_input(rt, alloc, task, &self.case_input, *plan)?;
             let (workers, cut) = (plan.workers(), plan.cut());
             let way = format!(in alloc; "in memory with {workers} workers and cut {cut}")?;
-            if !self.is_found(rt, alloc, way.as_str(), &found)? {
+            if !self.is_expected(rt, alloc, way.as_str(), &found)? {
                 return Ok(false);
             }
         }
@@ -201,7 +203,7 @@ impl<'a> Case<'a> {
     }
 
     /// Whether the answer through devices is the expected text, under the last plan.
-    fn holds_through_devices<R: Print + Threads + RandomSource + Sync>(
+    fn is_right_on_devices<R: Print + Threads + RandomSource + Sync>(
         &self,
         rt: &R,
         alloc: Global,
@@ -210,17 +212,22 @@ impl<'a> Case<'a> {
         let Some(plan) = self.plans.last() else {
             return Ok(false);
         };
-        let found = deliver_given(rt, alloc, task, &self.given, *plan)?;
-        self.is_found(rt, alloc, "through devices", &found)
+        let found = deliver_input(rt, alloc, task, &self.case_input, *plan)?;
+        self.is_expected(rt, alloc, "through devices", &found)
     }
 
     /// The expected text of a run through devices of which one fails after `bytes`. If it is the
     /// sink, the text is what the sink has taken and the line of the failed write.
-    fn wanted_after(&self, alloc: Global, failing: Failing, bytes: usize) -> io::Result<Vec<u8>> {
+    fn expected_after(
+        &self,
+        alloc: Global,
+        failing_device: FailingDevice,
+        bytes: usize,
+    ) -> io::Result<Vec<u8>> {
         let mut text = Vec::new(alloc);
-        match failing {
-            Failing::Source => text.extend_from_slice(&self.wanted)?,
-            Failing::Sink => {
+        match failing_device {
+            FailingDevice::Source => text.extend_from_slice(&self.wanted)?,
+            FailingDevice::Sink => {
                 let taken = bytes.min(self.wanted.len());
                 text.extend_from_slice(&self.wanted[..taken])?;
                 text.extend_from_slice(FAILED_WRITE)?;
@@ -231,26 +238,27 @@ impl<'a> Case<'a> {
 
     /// Whether all runs in which a device fails have the expected text. The device fails after 0
     /// bytes, 1 byte and so on.
-    fn holds_where_one_fails<R: Print + Threads + RandomSource + Sync>(
+    fn is_right_on_failures<R: Print + Threads + RandomSource + Sync>(
         &mut self,
         rt: &R,
         alloc: Global,
         task: Task,
-        failing: Failing,
+        failing_device: FailingDevice,
         flow: Flow,
     ) -> io::Result<bool> {
-        let most = match failing {
-            Failing::Source => self.given.last_len(),
-            Failing::Sink => self.wanted.len(),
+        let most = match failing_device {
+            FailingDevice::Source => self.case_input.last_len(),
+            FailingDevice::Sink => self.wanted.len(),
         };
         let Some(plan) = self.plans.last().copied() else {
             return Ok(false);
         };
         let head = self.head;
         for bytes in 0..=most {
-            self.given.fail_after(failing, flow.failing_after(bytes));
-            let found = deliver_given(rt, alloc, task, &self.given, plan)?;
-            if found != self.wanted_after(alloc, failing, bytes)? {
+            self.case_input
+                .set_failure(failing_device, flow.with_failure_after(bytes));
+            let found = deliver_input(rt, alloc, task, &self.case_input, plan)?;
+            if found != self.expected_after(alloc, failing_device, bytes)? {
                 println!(rt; "{head} DIFFERS where a device fails after {bytes} bytes:")?;
                 print!(rt; "{}", String::from_utf8_lossy(alloc, &found)?)?;
                 return Ok(false);
@@ -260,19 +268,19 @@ impl<'a> Case<'a> {
     }
 
     /// Whether all runs of the task have the expected text.
-    fn holds<R: Print + Threads + RandomSource + Sync>(
+    fn is_right_for<R: Print + Threads + RandomSource + Sync>(
         &mut self,
         rt: &R,
         alloc: Global,
         task: Task,
     ) -> io::Result<bool> {
-        if let Some((failing, flow)) = self.given.failing {
-            return self.holds_where_one_fails(rt, alloc, task, failing, flow);
+        if let Some((failing_device, flow)) = self.case_input.failing_device {
+            return self.is_right_on_failures(rt, alloc, task, failing_device, flow);
         }
-        if !self.given.has_flows && !self.holds_in_memory(rt, alloc, task)? {
+        if !self.case_input.names_flow && !self.is_right_in_memory(rt, alloc, task)? {
             return Ok(false);
         }
-        self.holds_through_devices(rt, alloc, task)
+        self.is_right_on_devices(rt, alloc, task)
     }
 
     /// Whether all runs of the case have the expected text.
@@ -285,20 +293,20 @@ impl<'a> Case<'a> {
             None => Ok(false),
             Some(Subject::Words(words)) => {
                 let found = words_text(alloc, words)?;
-                self.is_found(rt, alloc, "as words", &found)
+                self.is_expected(rt, alloc, "as words", &found)
             }
-            Some(Subject::Lines) => match meanings(alloc, &self.given.logs) {
-                Ok(found) => self.is_found(rt, alloc, "line by line", &found),
+            Some(Subject::Lines) => match meanings(alloc, &self.case_input.logs) {
+                Ok(found) => self.is_expected(rt, alloc, "line by line", &found),
                 Err(Memory) => Err(io::Error::from(ErrorKind::OutOfMemory)),
             },
-            Some(Subject::Task(task)) => self.holds(rt, alloc, task),
+            Some(Subject::Task(task)) => self.is_right_for(rt, alloc, task),
         }
     }
 
     /// The reason why the case cannot be read, if it cannot.
-    fn complaint(&self) -> Option<&'a str> {
-        if self.bad_line.is_some() {
-            return self.bad_line;
+    fn read_error(&self) -> Option<&'a str> {
+        if self.unread_line.is_some() {
+            return self.unread_line;
         }
         match (self.has_wanted, self.subject) {
             (false, _) => Some("the line ---- is missing"),
@@ -314,10 +322,10 @@ impl<'a> Case<'a> {
         alloc: Global,
     ) -> io::Result<()> {
         let head = self.head;
-        if let Some(line) = self.complaint() {
+        if let Some(line) = self.read_error() {
             return println!(rt; "{head} CAN NOT BE READ: {line}");
         }
-        self.fill_plans()?;
+        self.add_default_plans()?;
         if self.is_right(rt, alloc)? {
             println!(rt; "{head}")?;
         }

@@ -13,7 +13,7 @@ pub(crate) struct Flow {
 }
 
 /// The flow of a device that does not fail.
-pub(crate) const WHOLE: Flow = Flow {
+pub(crate) const NO_FAILURE: Flow = Flow {
     at_once: 65_536,
     fuse: None,
 };
@@ -28,7 +28,7 @@ impl Flow {
     }
 
     /// The same flow of a device that fails after this number of bytes.
-    pub(crate) fn failing_after(self, bytes: usize) -> Flow {
+    pub(crate) fn with_failure_after(self, bytes: usize) -> Flow {
         Flow {
             at_once: self.at_once,
             fuse: Some(bytes),

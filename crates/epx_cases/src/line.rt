@@ -52,7 +52,7 @@ fn add_round(
 }
 
 /// Whether the rounds of a text differ.
-fn has_numbers(written: &str) -> bool {
+fn rounds_differ(written: &str) -> bool {
     written.contains("\\i") || written.contains("\\j") || written.contains("\\d")
 }
 
@@ -63,7 +63,7 @@ fn add_rounds(
     written: &str,
     count: u64,
 ) -> Result<(), AllocError> {
-    if has_numbers(written) {
+    if rounds_differ(written) {
         for round in 0..count {
             add_round(alloc, text, written, round, count - round - 1)?;
         }

@@ -3,9 +3,9 @@
 #![tactic(auto)]
 
 mod case;
+mod case_input;
 mod directive;
 mod flow;
-mod given;
 mod line;
 mod meaning;
 mod outcome;

@@ -1,8 +1,8 @@
 //! The outcome of the texts of a case: the answer, or the line of the fault.
 ghost use Rattle.std.specs.Prelude.{◌≡◌, All, IfOk, false};
 
+use crate::case_input::CaseInput;
 use crate::flow::Flow;
-use crate::given::Given;
 use epx_tool::{
     Ask, FuseSource, Task, answer, check, resume, run, run_check, run_resume, show, view,
 };
@@ -45,18 +45,18 @@ fn add_fault(alloc: Global, text: &mut Vec<u8>, fault: Fault) -> io::Result<()> 
 }
 
 /// The outcome of the texts in memory.
-pub(crate) fn answer_given<R: Threads + RandomSource + Sync>(
+pub(crate) fn answer_input<R: Threads + RandomSource + Sync>(
     rt: &R,
     alloc: Global,
     task: Task,
-    given: &Given,
+    case_input: &CaseInput,
     plan: Plan,
 ) -> io::Result<Vec<u8>> {
-    let logs = given.logs.as_slice();
+    let logs = case_input.logs.as_slice();
     let outcome = match (task, ask_of(task)) {
         (_, Some(ask)) => view(rt, alloc, ask, logs, plan),
-        (Task::Resume, None) => resume(rt, alloc, &given.first, logs, plan),
-        (Task::Check, None) => check(rt, alloc, &given.first, logs, plan),
+        (Task::Resume, None) => resume(rt, alloc, &case_input.first, logs, plan),
+        (Task::Check, None) => check(rt, alloc, &case_input.first, logs, plan),
         (_, None) => answer(rt, alloc, logs, plan),
     };
     match outcome {
@@ -85,16 +85,16 @@ fn sources_of<'a>(
 }
 
 /// The outcome of the texts through devices: the bytes of the sink, and the line of the fault.
-pub(crate) fn deliver_given<R: Threads + RandomSource + Sync>(
+pub(crate) fn deliver_input<R: Threads + RandomSource + Sync>(
     rt: &R,
     alloc: Global,
     task: Task,
-    given: &Given,
+    case_input: &CaseInput,
     plan: Plan,
 ) -> io::Result<Vec<u8>> {
-    let mut first = given.first_flow.source(&given.first);
-    let mut sources = sources_of(alloc, &given.logs, &given.log_flows)?;
-    let mut sink = given.sink_flow.sink(alloc);
+    let mut first = case_input.first_flow.source(&case_input.first);
+    let mut sources = sources_of(alloc, &case_input.logs, &case_input.log_flows)?;
+    let mut sink = case_input.sink_flow.sink(alloc);
     let outcome = match (task, ask_of(task)) {
         (_, Some(ask)) => show(rt, alloc, ask, &mut sources, plan, &mut sink),
         (Task::Resume, None) => run_resume(rt, alloc, &mut first, &mut sources, plan, &mut sink),

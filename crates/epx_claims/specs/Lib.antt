@@ -1,9 +1,9 @@
 pub mod Answered
 pub mod ClaimsFields
 pub mod Count
-pub mod Deal
-pub mod Event
+pub mod ClaimState
+pub mod ClaimStep
 pub mod Rule
 pub mod Seated
 pub mod SeatFields
-pub mod Worked
+pub mod WorkResult

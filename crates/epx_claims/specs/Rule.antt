@@ -5,92 +5,92 @@ use Rattle.std.specs.Prelude.{◌≡◌, ℕ, ◌+◌, ◌-◌, ◌/◌, ◌<◌
 use mathlib.Core.Option.{some}
 use lib.ListN.{get_elem?}
 use Rattle.atomic_table.specs.Table.{State, Me, Step}
-use Rattle.epx_claims.specs.declared.hand.Hand.{Hand}
-use Rattle.epx_claims.specs.declared.hand.Terms.{Terms}
-use Rattle.epx_claims.specs.declared.hand.View.{View}
+use Rattle.epx_claims.specs.declared.seat_state.SeatState.{SeatState}
+use Rattle.epx_claims.specs.declared.seat_state.Terms.{Terms}
+use Rattle.epx_claims.specs.declared.seat_state.View.{View}
 use Rattle.epx_claims.specs.Count.{total}
-use Rattle.epx_claims.specs.Deal.{Deal, Change}
+use Rattle.epx_claims.specs.ClaimState.{ClaimState, StateStep}
 
-abbrev pub hand : List ℕ → ℕ → Bool → Hand
-hand drawn share ended = record { drawn = drawn; share = share; ended = ended }
+abbrev pub seat_state : List ℕ → ℕ → Bool → SeatState
+seat_state drawn share ended = record { drawn = drawn; share = share; ended = ended }
 
-abbrev pub view : Terms → List Hand → View
-view terms hands = record { terms = terms; hands = hands }
+abbrev pub view : Terms → List SeatState → View
+view terms seat_states = record { terms = terms; seat_states = seat_states }
 
 -- the seat states of all views
-abbrev pub all_hands : List View → List Hand
-all_hands [] = []
-all_hands (v ∷ vs) = v.hands ++ all_hands vs
+abbrev pub all_seat_states : List View → List SeatState
+all_seat_states [] = []
+all_seat_states (v ∷ vs) = v.seat_states ++ all_seat_states vs
 
 -- a view that has a seat state has these terms
-abbrev pub Knows : Terms → View → Type 0
-Knows terms v = (v.hands ≡ []) ⊎ (v.terms ≡ terms)
+abbrev pub HasTerms : Terms → View → Type 0
+HasTerms terms v = (v.seat_states ≡ []) ⊎ (v.terms ≡ terms)
 
 -- The word and the seat states are consistent. The lists together are as long as the number of
 -- pieces drawn, and each view has the terms
-pub record IsDealt (terms : Terms) (state : State (Unit {0}) View) : Type 0 where
+pub record HasClaimState (terms : Terms) (state : State (Unit {0}) View) : Type 0 where
   pub one_word : length state.words ≡ 1
-  pub deal : Deal terms.pieces terms.workers (slice_index state.words 0) (all_hands state.views)
-  pub lengths : total (λ h. length h.drawn) (all_hands state.views) ≡ min (slice_index state.words 0) terms.pieces
-  pub told : (seat : ℕ) (v : View) → get_elem? state.views seat ≡ some v → Knows terms v
+  pub deal : ClaimState terms.pieces terms.workers (slice_index state.words 0) (all_seat_states state.views)
+  pub lengths : total (λ h. length h.drawn) (all_seat_states state.views) ≡ min (slice_index state.words 0) terms.pieces
+  pub terms_known : (seat : ℕ) (v : View) → get_elem? state.views seat ≡ some v → HasTerms terms v
 
 -- the first seat has every share and has drawn nothing
 abbrev pub opening_view : Terms → View
-opening_view terms = view terms (hand [] terms.workers false ∷ [])
+opening_view terms = view terms (seat_state [] terms.workers false ∷ [])
 
-abbrev pub Sat : Type 0
-Sat = Me (Unit {0}) View
+abbrev pub TableSeat : Type 0
+TableSeat = Me (Unit {0}) View
 
 -- a seat state after it drew a piece, and after it ended
-abbrev pub with_piece : ℕ → Hand → Hand
-with_piece piece h = hand (h.drawn ++ piece ∷ []) h.share h.ended
+abbrev pub with_piece : ℕ → SeatState → SeatState
+with_piece piece h = seat_state (h.drawn ++ piece ∷ []) h.share h.ended
 
-abbrev pub at_end : Hand → Hand
-at_end h = hand h.drawn h.share true
+abbrev pub at_end : SeatState → SeatState
+at_end h = seat_state h.drawn h.share true
 
 -- the first seat state is split: one part keeps the list and the larger half of the share, the
 -- other has the rest
-abbrev pub halved : List Hand → List Hand
-halved [] = []
-halved (h ∷ hs) = hand h.drawn (h.share - h.share / 2) h.ended ∷ hand [] (h.share / 2) false ∷ hs
+abbrev pub split_in_two : List SeatState → List SeatState
+split_in_two [] = []
+split_in_two (h ∷ hs) = seat_state h.drawn (h.share - h.share / 2) h.ended ∷ seat_state [] (h.share / 2) false ∷ hs
 
 -- the first two seat states are joined
-abbrev pub merged : List Hand → List Hand
-merged [] = []
-merged (h ∷ []) = h ∷ []
-merged (h ∷ k ∷ hs) = hand (h.drawn ++ k.drawn) (h.share + k.share) (h.ended || k.ended) ∷ hs
+abbrev pub join_two : List SeatState → List SeatState
+join_two [] = []
+join_two (h ∷ []) = h ∷ []
+join_two (h ∷ k ∷ hs) = seat_state (h.drawn ++ k.drawn) (h.share + k.share) (h.ended || k.ended) ∷ hs
 
 -- a draw or a stop: the word grew by one; the number found was appended to the lists, or the seat
 -- states have ended
-abbrev pub IsDraw : Terms → List Hand → ℕ → View → Type 0
-IsDraw terms hands found after =
-    Change terms.pieces terms.workers found (found + 1) hands after.hands
-    × (found < terms.pieces → after ≡ view terms (map (with_piece found) hands))
-    × (terms.pieces ≤ found → after ≡ view terms (map at_end hands))
+abbrev pub IsDrawOrStop : Terms → List SeatState → ℕ → View → Type 0
+IsDrawOrStop terms seat_states found after =
+    StateStep terms.pieces terms.workers found (found + 1) seat_states after.seat_states
+    × (found < terms.pieces → after ≡ view terms (map (with_piece found) seat_states))
+    × (terms.pieces ≤ found → after ≡ view terms (map at_end seat_states))
 
-abbrev pub Draws : Step (Unit {0}) → Sat → ℕ → Sat → Type 0
-Draws step before found after = (after.1 ≡ before.1) × IsDraw before.0.terms before.0.hands found after.0
+abbrev pub IsDrawStep : Step (Unit {0}) → TableSeat → ℕ → TableSeat → Type 0
+IsDrawStep step before found after = (after.1 ≡ before.1) × IsDrawOrStop before.0.terms before.0.seat_states found after.0
 
 -- a step that changes the seat states and not the word
-abbrev pub IsMove : (List Hand → List Hand) → Terms → List Hand → ℕ → View → Type 0
-IsMove move terms hands found after = Change terms.pieces terms.workers found found hands after.hands × (after ≡ view terms (move hands))
+abbrev pub IsStateMove : (List SeatState → List SeatState) → Terms → List SeatState → ℕ → View → Type 0
+IsStateMove move terms seat_states found after = StateStep terms.pieces terms.workers found found seat_states after.seat_states × (after ≡ view terms (move seat_states))
 
-abbrev pub Halves : Step (Unit {0}) → Sat → ℕ → Sat → Type 0
-Halves step before found after = (after.1 ≡ before.1) × IsMove halved before.0.terms before.0.hands found after.0
+abbrev pub IsSplitStep : Step (Unit {0}) → TableSeat → ℕ → TableSeat → Type 0
+IsSplitStep step before found after = (after.1 ≡ before.1) × IsStateMove split_in_two before.0.terms before.0.seat_states found after.0
 
-abbrev pub Merges : Step (Unit {0}) → Sat → ℕ → Sat → Type 0
-Merges step before found after = (after.1 ≡ before.1) × IsMove merged before.0.terms before.0.hands found after.0
+abbrev pub IsJoinStep : Step (Unit {0}) → TableSeat → ℕ → TableSeat → Type 0
+IsJoinStep step before found after = (after.1 ≡ before.1) × IsStateMove join_two before.0.terms before.0.seat_states found after.0
 
 -- the view with the first seat state, and the view with the others
-abbrev pub first_part : View → View
-first_part v = view v.terms (take 1 v.hands)
+abbrev pub first_view : View → View
+first_view v = view v.terms (take 1 v.seat_states)
 
-abbrev pub other_part : View → View
-other_part v = view v.terms (drop 1 v.hands)
+abbrev pub other_view : View → View
+other_view v = view v.terms (drop 1 v.seat_states)
 
 -- the view with the seat states of two, and the view of a spent seat
-abbrev pub both_parts : View → View → View
-both_parts v w = view v.terms (v.hands ++ w.hands)
+abbrev pub joined_view : View → View → View
+joined_view v w = view v.terms (v.seat_states ++ w.seat_states)
 
 abbrev pub spent_view : View
 spent_view = view (record { pieces = 0; workers = 0 }) []

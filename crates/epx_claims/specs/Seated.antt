@@ -1,7 +1,7 @@
 -- What contracts see of a table of claims and of a seat.
 use Rattle.std.specs.Prelude.{◌≡◌, ℕ, Bool, false, List, []}
 use Rattle.atomic_table.specs.Seated.{TableId}
-use Rattle.epx_claims.specs.declared.hand.Hand.{Hand}
+use Rattle.epx_claims.specs.declared.seat_state.SeatState.{SeatState}
 
 pub record ClaimsView : Type 0 where
   pub table : TableId
@@ -23,5 +23,5 @@ abbrev pub fresh_seat : ClaimsView → ℕ → SeatView
 fresh_seat claims share = record { claims = claims; drawn = []; share = share; ended = false }
 
 -- the state of the seat
-abbrev pub hand_of : SeatView → Hand
-hand_of seat = record { drawn = seat.drawn; share = seat.share; ended = seat.ended }
+abbrev pub seat_state_of : SeatView → SeatState
+seat_state_of seat = record { drawn = seat.drawn; share = seat.share; ended = seat.ended }

@@ -1,13 +1,13 @@
 //! Numbered pieces of work, which threads draw from one shared counter, each piece once.
 ghost use Rattle.std.specs.Prelude.{◌≡◌, ◌<◌, ◌≤◌, ◌^◌, ◌+◌, ◌-◌, ◌/◌, ◌++◌, ◌||◌, [], ◌∷◌, ℕ, min, true, false, None, length, IfOk, IfSome, IfNone};
 ghost use Rattle.std.specs.List.{All};
-ghost use Rattle.epx_claims.specs.Count.{times, once_below};
-ghost use Rattle.epx_claims.specs.Event.{Event, IsDeal};
+ghost use Rattle.epx_claims.specs.Count.{occurrences, once_below};
+ghost use Rattle.epx_claims.specs.ClaimStep.{ClaimStep, IsClaimState};
 ghost use Rattle.epx_claims.specs.Seated.{IsSeatOf, fresh_seat};
 
-use crate::hand::{Terms, View};
-use crate::rule::{Dealing, Drawing, Halving, Handing, Merging, Taking};
+use crate::rule::{ClaimsRule, DrawStep, JoinSeat, JoinStep, SplitSeat, SplitStep};
 use crate::seat::ClaimSeat;
+use crate::seat_state::{Terms, View};
 use atomic_table::Table;
 use epx_types::Memory;
 use std::alloc::Global;
@@ -17,11 +17,11 @@ use std::marker::Model;
 ///
 /// Threads share the claims by reference; each draws through its own seat. Between any two atomic
 /// steps of any threads, the shared counter and the seats that are not spent are in a consistent
-/// state (`IsDeal`). Each call's contract says how its own step changes that state, and that all
+/// state (`IsClaimState`). Each call's contract says how its own step changes that state, and that all
 /// other seats stay the same during it. It does not say which other seats exist.
 #[derive(Drop)]
 pub struct Claims {
-    table: Table<(), View, Terms, Dealing, Global>,
+    table: Table<(), View, Terms, ClaimsRule, Global>,
     pieces: u64,
 }
 
@@ -30,11 +30,11 @@ impl Model for Claims {
 
     ghost Value = { ClaimsView };
 
-    ghost use Rattle.epx_claims.specs.ClaimsFields.{claims_view, IsReady};
+    ghost use Rattle.epx_claims.specs.ClaimsFields.{claims_view, IsOpen};
 
     ghost view = { claims_view };
 
-    ghost invariant = { IsReady };
+    ghost invariant = { IsOpen };
 }
 
 impl Claims {
@@ -45,7 +45,7 @@ impl Claims {
         requires workers { (1 ≤ workers) × (workers ≤ 64) }
         ensures terms { IfOk result (λ c. (c.0.pieces ≡ pieces) × (c.0.workers ≡ workers)) }
         ensures seat { IfOk result (λ c. c.1 ≡ fresh_seat c.0 workers) }
-        ensures deal { IfOk result (λ c. IsDeal c.0 0 (c.1 ∷ [])) }
+        ensures deal { IfOk result (λ c. IsClaimState c.0 0 (c.1 ∷ [])) }
     {
         let terms = Terms { pieces, workers };
         let (table, seat) = Table::of_words(alloc, &[0], &terms)?;
@@ -65,14 +65,17 @@ impl Claims {
         requires { IsSeatOf self.now seat.old }
         ensures some { IfSome result (λ p. (seat.old.ended ≡ false) × (p < self.now.pieces) × All (λ q. q < p) seat.old.drawn × (seat.new ≡ record seat.old { drawn = seat.old.drawn ++ p ∷ [] })) }
         ensures none { IfNone result (seat.new ≡ record seat.old { ended = true }) }
-        ensures piece { IfSome result (λ p. Event self.now p (p + 1) (seat.old ∷ []) (seat.new ∷ [])) }
-        ensures stop { IfNone result (seat.old.ended ≡ false → (word : ℕ) × (self.now.pieces ≤ word) × Event self.now word (word + 1) (seat.old ∷ []) (seat.new ∷ [])) }
+        ensures piece { IfSome result (λ p. ClaimStep self.now p (p + 1) (seat.old ∷ []) (seat.new ∷ [])) }
+        ensures stop { IfNone result (seat.old.ended ≡ false → (word : ℕ) × (self.now.pieces ≤ word) × ClaimStep self.now word (word + 1) (seat.old ∷ []) (seat.new ∷ [])) }
         ensures ended { seat.old.ended ≡ true → (result ≡ None) × (seat.new ≡ seat.old) }
     {
         if seat.ended {
             return None;
         }
-        let found = self.table.shared.fetch_add::<Drawing>(&mut seat.seat, 0, 1);
+        let found = self
+            .table
+            .shared
+            .fetch_add::<DrawStep>(&mut seat.seat, 0, 1);
         if found < self.pieces {
             Some(found)
         } else {
@@ -88,12 +91,12 @@ impl Claims {
         requires share { 2 ≤ seat.old.share }
         ensures kept { seat.new ≡ record seat.old { share = seat.old.share - seat.old.share / 2 } }
         ensures given { result ≡ fresh_seat self.now (seat.old.share / 2) }
-        ensures deal { (word : ℕ) × Event self.now word word (seat.old ∷ []) (seat.new ∷ result ∷ []) }
+        ensures deal { (word : ℕ) × ClaimStep self.now word word (seat.old ∷ []) (seat.new ∷ result ∷ []) }
     {
         let half = seat.share / 2;
         let shared = &self.table.shared;
-        shared.load::<Halving>(&mut seat.seat, 0);
-        let given = shared.split_seat::<Handing>(&mut seat.seat);
+        shared.load::<SplitStep>(&mut seat.seat, 0);
+        let given = shared.split_seat::<SplitSeat>(&mut seat.seat);
         seat.share -= half;
         ClaimSeat {
             seat: given,
@@ -108,8 +111,8 @@ impl Claims {
         requires own { IsSeatOf self.now seat.old }
         requires other { IsSeatOf self.now other }
         ensures both { seat.new ≡ record seat.old { drawn = seat.old.drawn ++ other.drawn; share = seat.old.share + other.share; ended = seat.old.ended || other.ended } }
-        ensures apart { (x : ℕ) → times x seat.old.drawn + times x other.drawn ≤ once_below x self.now.pieces }
-        ensures deal { (word : ℕ) × Event self.now word word (seat.old ∷ other ∷ []) (seat.new ∷ []) }
+        ensures apart { (x : ℕ) → occurrences x seat.old.drawn + occurrences x other.drawn ≤ once_below x self.now.pieces }
+        ensures deal { (word : ℕ) × ClaimStep self.now word word (seat.old ∷ other ∷ []) (seat.new ∷ []) }
     {
         let ClaimSeat {
             seat: theirs,
@@ -117,8 +120,8 @@ impl Claims {
             ended,
         } = other;
         let shared = &self.table.shared;
-        shared.join_seat::<Taking>(&mut seat.seat, theirs);
-        shared.load::<Merging>(&mut seat.seat, 0);
+        shared.join_seat::<JoinSeat>(&mut seat.seat, theirs);
+        shared.load::<JoinStep>(&mut seat.seat, 0);
         // The state of the claims shows that the shares together are at most 64.
         seat.share += share;
         seat.ended = seat.ended || ended;
@@ -129,9 +132,9 @@ impl Claims {
         requires own { IsSeatOf self seat }
         requires share { seat.share ≡ self.workers }
         ensures length { result ≡ length seat.drawn }
-        ensures each_once { (x : ℕ) → times x seat.drawn ≡ once_below x result }
+        ensures each_once { (x : ℕ) → occurrences x seat.drawn ≡ once_below x result }
         ensures all { seat.ended ≡ true → result ≡ self.pieces }
-        ensures deal { (word : ℕ) × (result ≡ min word self.pieces) × IsDeal self word (seat ∷ []) }
+        ensures deal { (word : ℕ) × (result ≡ min word self.pieces) × IsClaimState self word (seat ∷ []) }
     {
         let Claims { table, pieces } = self;
         let ClaimSeat {

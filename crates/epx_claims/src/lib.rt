@@ -4,11 +4,11 @@
 
 mod claims;
 mod gate;
-mod hand;
-mod lay;
 mod map;
 mod rule;
 mod seat;
+mod seat_state;
+mod values_by_number;
 mod work;
 
 pub use claims::Claims;

@@ -1,63 +1,63 @@
 //! The rule of a table of claims, and the kinds of its steps.
-use crate::hand::{Terms, View};
+use crate::seat_state::{Terms, View};
 use atomic_table::{Join, Play, Split, TableRule};
 
 /// The rule: the counter and the seats are in a consistent state.
-pub struct Dealing;
+pub struct ClaimsRule;
 
-impl TableRule<(), View, Terms> for Dealing {
-    ghost use Rattle.epx_claims.specs.Rule.{IsDealt, opening_view};
+impl TableRule<(), View, Terms> for ClaimsRule {
+    ghost use Rattle.epx_claims.specs.Rule.{HasClaimState, opening_view};
 
-    ghost holds = { IsDealt };
+    ghost holds = { HasClaimState };
 
     ghost first = { opening_view };
 }
 
 /// A seat draws the next piece, or stops.
-pub struct Drawing;
+pub struct DrawStep;
 
-impl Play<(), View> for Drawing {
-    ghost use Rattle.epx_claims.specs.Rule.{Draws};
+impl Play<(), View> for DrawStep {
+    ghost use Rattle.epx_claims.specs.Rule.{IsDrawStep};
 
-    ghost then = { Draws };
+    ghost then = { IsDrawStep };
 }
 
 /// First half of a split: the seat's one state becomes two.
-pub struct Halving;
+pub struct SplitStep;
 
-impl Play<(), View> for Halving {
-    ghost use Rattle.epx_claims.specs.Rule.{Halves};
+impl Play<(), View> for SplitStep {
+    ghost use Rattle.epx_claims.specs.Rule.{IsSplitStep};
 
-    ghost then = { Halves };
+    ghost then = { IsSplitStep };
 }
 
 /// Second half of a join: the seat's two states become one.
-pub struct Merging;
+pub struct JoinStep;
 
-impl Play<(), View> for Merging {
-    ghost use Rattle.epx_claims.specs.Rule.{Merges};
+impl Play<(), View> for JoinStep {
+    ghost use Rattle.epx_claims.specs.Rule.{IsJoinStep};
 
-    ghost then = { Merges };
+    ghost then = { IsJoinStep };
 }
 
 /// Second half of a split: a new seat gets the second of the two states.
-pub struct Handing;
+pub struct SplitSeat;
 
-impl Split<View> for Handing {
-    ghost use Rattle.epx_claims.specs.Rule.{first_part, other_part};
+impl Split<View> for SplitSeat {
+    ghost use Rattle.epx_claims.specs.Rule.{first_view, other_view};
 
-    ghost left = { first_part };
+    ghost left = { first_view };
 
-    ghost right = { other_part };
+    ghost right = { other_view };
 }
 
 /// First half of a join: a seat gets the state of another seat, which is spent then.
-pub struct Taking;
+pub struct JoinSeat;
 
-impl Join<View> for Taking {
-    ghost use Rattle.epx_claims.specs.Rule.{both_parts, spent_view};
+impl Join<View> for JoinSeat {
+    ghost use Rattle.epx_claims.specs.Rule.{joined_view, spent_view};
 
-    ghost both = { both_parts };
+    ghost both = { joined_view };
 
     ghost spent = { spent_view };
 }

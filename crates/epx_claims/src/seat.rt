@@ -1,7 +1,7 @@
 //! A seat: the right to draw pieces.
 ghost use Rattle.std.specs.Prelude.{◌≡◌};
 
-use crate::hand::View;
+use crate::seat_state::View;
 use atomic_table::Seat;
 use std::marker::Model;
 
@@ -19,11 +19,11 @@ impl Model for ClaimSeat {
 
     ghost Value = { SeatView };
 
-    ghost use Rattle.epx_claims.specs.SeatFields.{seat_view, IsSeated};
+    ghost use Rattle.epx_claims.specs.SeatFields.{seat_view, IsClaimSeat};
 
     ghost view = { seat_view };
 
-    ghost invariant = { IsSeated };
+    ghost invariant = { IsClaimSeat };
 }
 
 impl ClaimSeat {

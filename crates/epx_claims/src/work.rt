@@ -2,8 +2,8 @@
 ghost use Rattle.std.specs.Prelude.{◌≡◌, ◌<◌, ◌+◌, ◌++◌, ◌||◌, ◌∷◌, [], ℕ, true, IfOk, IfErr};
 ghost use Rattle.std.specs.Thread.{IsSync, IsSend};
 ghost use Rattle.epx_claims.specs.Seated.{IsSeatOf};
-ghost use Rattle.epx_claims.specs.Answered.{IsFault};
-ghost use Rattle.epx_claims.specs.Worked.{HasAnswers, IsFresh};
+ghost use Rattle.epx_claims.specs.Answered.{IsMapFault};
+ghost use Rattle.epx_claims.specs.WorkResult.{HasAnswers, IsFresh};
 ghost use Rattle.epx_types.specs.declared.memory.Memory.{Memory};
 
 use crate::claims::Claims;
@@ -22,7 +22,7 @@ pub(crate) struct Answer<T> {
 
 /// The result of one part of the work: its seat, and the answers for the pieces that it drew.
 #[derive(Drop)]
-pub(crate) struct Worked<T> {
+pub(crate) struct WorkResult<T> {
     pub(crate) seat: ClaimSeat,
     pub(crate) answers: Vec<Answer<T>>,
 }
@@ -34,11 +34,11 @@ fn draw_all<T: Drop, E: From<Memory> + Drop, G: Gate, F: Fn(usize) -> Result<T, 
     seat: ClaimSeat,
     gate: &G,
     f: &F,
-) -> Result<Worked<T>, E>
+) -> Result<WorkResult<T>, E>
     requires seat { IsFresh claims.now seat.share seat }
     requires calls { (i : ℕ) → i < claims.now.pieces → F.pre f.now i }
     ensures ok { IfOk result (λ w. HasAnswers (λ i x. F.post f.now i (Ok x)) claims.now seat.share true w.seat w.answers.items) }
-    ensures err { IfErr result (IsFault (λ i e. F.post f.now i (Err e)) (λ e. (m : Memory) × E.from_gives m e) claims.now.pieces) }
+    ensures err { IfErr result (IsMapFault (λ i e. F.post f.now i (Err e)) (λ e. (m : Memory) × E.from_gives m e) claims.now.pieces) }
 {
     let mut seat = seat;
     let mut answers = Vec::new(alloc);
@@ -46,13 +46,13 @@ fn draw_all<T: Drop, E: From<Memory> + Drop, G: Gate, F: Fn(usize) -> Result<T, 
         let piece = drawn as usize;
         gate.enter(piece);
         let value = f(piece)?;
-        keep(&mut answers, Answer { piece, value })?;
+        push_answer(&mut answers, Answer { piece, value })?;
     }
-    Ok(Worked { seat, answers })
+    Ok(WorkResult { seat, answers })
 }
 
 // Appends an answer.
-fn keep<T: Drop>(answers: &mut Vec<Answer<T>>, answer: Answer<T>) -> Result<(), Memory>
+fn push_answer<T: Drop>(answers: &mut Vec<Answer<T>>, answer: Answer<T>) -> Result<(), Memory>
     ensures { IfOk result (λ _. answers.new.items ≡ answers.old.items ++ answer ∷ []) }
 {
     answers.push(answer)?;
@@ -60,23 +60,27 @@ fn keep<T: Drop>(answers: &mut Vec<Answer<T>>, answer: Answer<T>) -> Result<(), 
 }
 
 // Joins the seats and the answers of two parts.
-fn gather<T: Drop>(claims: &Claims, left: Worked<T>, right: Worked<T>) -> Result<Worked<T>, Memory>
+fn join_results<T: Drop>(
+    claims: &Claims,
+    left: WorkResult<T>,
+    right: WorkResult<T>,
+) -> Result<WorkResult<T>, Memory>
     requires left { IsSeatOf claims.now left.seat }
     requires right { IsSeatOf claims.now right.seat }
     ensures seat { IfOk result (λ w. w.seat ≡ record left.seat { drawn = left.seat.drawn ++ right.seat.drawn; share = left.seat.share + right.seat.share; ended = left.seat.ended || right.seat.ended }) }
     ensures answers { IfOk result (λ w. w.answers.items ≡ left.answers.items ++ right.answers.items) }
 {
-    let Worked {
+    let WorkResult {
         mut seat,
         mut answers,
     } = left;
-    let Worked {
+    let WorkResult {
         seat: other,
         answers: mut others,
     } = right;
     claims.join(&mut seat, other);
     answers.append(&mut others)?;
-    Ok(Worked { seat, answers })
+    Ok(WorkResult { seat, answers })
 }
 
 /// Splits the seat down to shares of one. Each is drawn by one worker, in its own thread if one
@@ -88,27 +92,34 @@ pub(crate) fn work<
     E: From<Memory> + Send + Drop,
     G: Gate + Sync,
     F: Fn(usize) -> Result<T, E> + Sync,
->(rt: &R, alloc: Global, claims: &Claims, seat: ClaimSeat, gate: &G, f: &F) -> Result<Worked<T>, E>
+>(
+    rt: &R,
+    alloc: Global,
+    claims: &Claims,
+    seat: ClaimSeat,
+    gate: &G,
+    f: &F,
+) -> Result<WorkResult<T>, E>
     requires seat { IsFresh claims.now seat.share seat }
     requires calls { (i : ℕ) → i < claims.now.pieces → F.pre f.now i }
     ensures ok { IfOk result (λ w. HasAnswers (λ i x. F.post f.now i (Ok x)) claims.now seat.share true w.seat w.answers.items) }
-    ensures err { IfErr result (IsFault (λ i e. F.post f.now i (Err e)) (λ e. (m : Memory) × E.from_gives m e) claims.now.pieces) }
+    ensures err { IfErr result (IsMapFault (λ i e. F.post f.now i (Err e)) (λ e. (m : Memory) × E.from_gives m e) claims.now.pieces) }
 {
     let mut seat = seat;
     if seat.share() < 2 {
         return draw_all(alloc, claims, seat, gate, f);
     }
     let other = claims.split(&mut seat);
-    let mine = move || -> Result<Worked<T>, E>
+    let mine = move || -> Result<WorkResult<T>, E>
         requires { IsSync R.row × IsSync G.row × IsSync F.row × IsSend T.row × IsSend E.row × IsFresh claims.now seat.share seat × ((i : ℕ) → i < claims.now.pieces → F.pre f.now i) }
         ensures ok { IfOk result (λ w. HasAnswers (λ i x. F.post f.entry.now i (Ok x)) claims.entry.now seat.share true w.seat w.answers.items) }
-        ensures err { IfErr result (IsFault (λ i e. F.post f.entry.now i (Err e)) (λ e. (m : Memory) × E.from_gives m e) claims.entry.now.pieces) }
+        ensures err { IfErr result (IsMapFault (λ i e. F.post f.entry.now i (Err e)) (λ e. (m : Memory) × E.from_gives m e) claims.entry.now.pieces) }
     { work(rt, alloc, claims, seat, gate, f) };
-    let theirs = move || -> Result<Worked<T>, E>
+    let theirs = move || -> Result<WorkResult<T>, E>
         requires { IsSync R.row × IsSync G.row × IsSync F.row × IsSend T.row × IsSend E.row × IsFresh claims.now other.share other × ((i : ℕ) → i < claims.now.pieces → F.pre f.now i) }
         ensures ok { IfOk result (λ w. HasAnswers (λ i x. F.post f.entry.now i (Ok x)) claims.entry.now other.share true w.seat w.answers.items) }
-        ensures err { IfErr result (IsFault (λ i e. F.post f.entry.now i (Err e)) (λ e. (m : Memory) × E.from_gives m e) claims.entry.now.pieces) }
+        ensures err { IfErr result (IsMapFault (λ i e. F.post f.entry.now i (Err e)) (λ e. (m : Memory) × E.from_gives m e) claims.entry.now.pieces) }
     { work(rt, alloc, claims, other, gate, f) };
     let (left, right) = join(rt, mine, theirs);
-    Ok(gather(claims, left?, right?)?)
+    Ok(join_results(claims, left?, right?)?)
 }

@@ -4,31 +4,31 @@ use Rattle.std.proofs.lemmas.Bool.{cases_eq, cases_lt}
 use Rattle.std.proofs.lemmas.List.{get_or_default, get_or-set_same, get_or-set_other}
 use Rattle.std.proofs.lemmas.List.Elements.{Contains-get_or}
 use Rattle.epx_graph.specs.NodePaths.{IsNodePath}
-use Rattle.epx_components.specs.NodeDepths.{DescendsByNodes, IsNodeDepth}
+use Rattle.epx_components.specs.NodeDepths.{NodeDescends, IsNodeDepth}
 use Rattle.epx_components.specs.Partitions.{Parts, IsPartition, component_of, node_at, number_for}
-use Rattle.epx_components.specs.Targets.{IsDepthOver}
+use Rattle.epx_components.specs.Targets.{IsDepthAbove}
 use Rattle.epx_components.proofs.NodePathLemmas.{reach_falls, reach_below, reaches_edge, reaches_on}
-use Rattle.epx_components.proofs.PartitionLemmas.{node_below, set_for}
+use Rattle.epx_components.proofs.PartitionLemmas.{node_below, value_after_set}
 
 -- the depths after the first n nodes of the order
 pub record AreDepths (edges : ℕ → List ℕ) (p : Parts) (depths : List ℕ) (n : ℕ) : Type 0 where
   pub low : (c : ℕ) → get_or depths c 0 ≤ c
-  pub descent : (k : ℕ) → k < length p.component → (cs : List ℕ) × DescendsByNodes edges k cs × (length cs ≡ number_for p depths k)
+  pub descent : (k : ℕ) → k < length p.component → (cs : List ℕ) × NodeDescends edges k cs × (length cs ≡ number_for p depths k)
   pub above : (q j : ℕ) → q < n → Contains (edges (node_at p q)) j → component_of p j ≢ component_of p (node_at p q) → number_for p depths j + 1 ≤ number_for p depths (node_at p q)
 
 -- one step down an edge of a node in the same component, and then on
-descent_on : (edges : ℕ → List ℕ) (p : Parts) → IsPartition edges p → (k b j : ℕ) (cs : List ℕ) → k < length p.component → b < length p.component → component_of p k ≡ component_of p b → Contains (edges b) j → component_of p j ≢ component_of p b → DescendsByNodes edges j cs → DescendsByNodes edges k (j ∷ cs)
+descent_on : (edges : ℕ → List ℕ) (p : Parts) → IsPartition edges p → (k b j : ℕ) (cs : List ℕ) → k < length p.component → b < length p.component → component_of p k ≡ component_of p b → Contains (edges b) j → component_of p j ≢ component_of p b → NodeDescends edges j cs → NodeDescends edges k (j ∷ cs)
 descent_on edges p is k b j cs lk lb e h ne d =
     let to = reaches_on edges k b j (is.joined k b lk lb e) (reaches_edge edges b j h) in
     (to, λ back. ne (omega (arith, reach_falls edges p.component is.falls k j to, reach_falls edges p.component is.falls j k back)), d)
 
-over_target : (component depths : List ℕ) (own : ℕ) (targets : List ℕ) (found : ℕ) → IsDepthOver component depths own targets (length targets) found → (j : ℕ) → Contains targets j → get_or component j 0 ≢ own → get_or depths (get_or component j 0) 0 + 1 ≤ found
+over_target : (component depths : List ℕ) (own : ℕ) (targets : List ℕ) (found : ℕ) → IsDepthAbove component depths own targets (length targets) found → (j : ℕ) → Contains targets j → get_or component j 0 ≢ own → get_or depths (get_or component j 0) 0 + 1 ≤ found
 over_target component depths own targets found over j h ne =
     let at : get_or targets h.0 0 ≡ j = get_or_default targets h.0 0 j h.1 ∙ h.2 in
     (rw at at (over.all h.0 h.1)) ne
 
 -- the greater of the depth so far and the depth over the targets belongs to some descent
-depth_reason : (edges : ℕ → List ℕ) (p : Parts) (depths : List ℕ) (k found depth : ℕ) → IsDepthOver p.component depths (component_of p k) (edges k) (length (edges k)) found → depth ≡ max (number_for p depths k) found → (depth ≡ number_for p depths k) ⊎ ((j : ℕ) × Contains (edges k) j × (component_of p j ≢ component_of p k) × (depth ≡ number_for p depths j + 1))
+depth_reason : (edges : ℕ → List ℕ) (p : Parts) (depths : List ℕ) (k found depth : ℕ) → IsDepthAbove p.component depths (component_of p k) (edges k) (length (edges k)) found → depth ≡ max (number_for p depths k) found → (depth ≡ number_for p depths k) ⊎ ((j : ℕ) × Contains (edges k) j × (component_of p j ≢ component_of p k) × (depth ≡ number_for p depths j + 1))
 depth_reason edges p depths k found depth over e = elim over.one [
   | inl none ↦ inl (omega arith)
   | inr one ↦ elim (cases_lt (number_for p depths k) found) [
@@ -37,13 +37,13 @@ depth_reason edges p depths k found depth over e = elim over.one [
   ]
 ]
 
-pub depths_step : (edges : ℕ → List ℕ) (p : Parts) (depths : List ℕ) (n found depth : ℕ) → IsPartition edges p → n < length p.order → component_of p (node_at p n) < length depths → IsDepthOver p.component depths (component_of p (node_at p n)) (edges (node_at p n)) (length (edges (node_at p n))) found → depth ≡ max (number_for p depths (node_at p n)) found → AreDepths edges p depths n → AreDepths edges p (set depths (component_of p (node_at p n)) depth) (n + 1)
+pub depths_step : (edges : ℕ → List ℕ) (p : Parts) (depths : List ℕ) (n found depth : ℕ) → IsPartition edges p → n < length p.order → component_of p (node_at p n) < length depths → IsDepthAbove p.component depths (component_of p (node_at p n)) (edges (node_at p n)) (length (edges (node_at p n))) found → depth ≡ max (number_for p depths (node_at p n)) found → AreDepths edges p depths n → AreDepths edges p (set depths (component_of p (node_at p n)) depth) (n + 1)
 depths_step edges p depths n found depth is l in' over e old =
     let k = node_at p n in
     let own = component_of p k in
     let new = set depths own depth in
     let reason = depth_reason edges p depths k found depth over e in
-    let at : (j : ℕ) → ((component_of p j ≡ own) × (number_for p new j ≡ depth)) ⊎ ((component_of p j ≢ own) × (number_for p new j ≡ number_for p depths j)) = set_for 0 p depths k depth in' in
+    let at : (j : ℕ) → ((component_of p j ≡ own) × (number_for p new j ≡ depth)) ⊎ ((component_of p j ≢ own) × (number_for p new j ≡ number_for p depths j)) = value_after_set 0 p depths k depth in' in
     let more : (j : ℕ) → number_for p depths j ≤ number_for p new j = λ j. elim (at j) [
       | inl here ↦ omega (arith, ap (λ c. get_or depths c 0) here.0)
       | inr there ↦ omega arith
@@ -108,7 +108,7 @@ path_down edges p depths is all k j (c ∷ cs) l h =
           ])
     ]
 
-descent_short : (edges : ℕ → List ℕ) (p : Parts) (depths : List ℕ) → IsPartition edges p → AreDepths edges p depths (length p.order) → (k : ℕ) (cs : List ℕ) → k < length p.component → DescendsByNodes edges k cs → length cs ≤ number_for p depths k
+descent_short : (edges : ℕ → List ℕ) (p : Parts) (depths : List ℕ) → IsPartition edges p → AreDepths edges p depths (length p.order) → (k : ℕ) (cs : List ℕ) → k < length p.component → NodeDescends edges k cs → length cs ≤ number_for p depths k
 descent_short edges p depths is all k [] l h = omega arith
 descent_short edges p depths is all k (c ∷ cs) l h =
     let in' = reach_below edges (length p.component) is.within k c l h.0 in

@@ -3,7 +3,7 @@ use Rattle.std.proofs.Common.{◌≡◌, ◌≢◌, ℕ, ◌+◌, ◌<◌, ◌�
 use Rattle.epx_components.specs.NodeComponents.{IsNodeLeader}
 use Rattle.epx_components.specs.Partitions.{Parts, IsPartition, component_of, number_for}
 use Rattle.epx_components.proofs.NodePathLemmas.{reach_falls, reach_below}
-use Rattle.epx_components.proofs.PartitionLemmas.{set_for}
+use Rattle.epx_components.proofs.PartitionLemmas.{value_after_set}
 
 -- the least of the nodes from start on in each component
 pub record AreLeadersFrom (p : Parts) (leaders : List ℕ) (start : ℕ) : Type 0 where
@@ -12,13 +12,13 @@ pub record AreLeadersFrom (p : Parts) (leaders : List ℕ) (start : ℕ) : Type 
 
 pub leaders_step : (p : Parts) (leaders : List ℕ) (b : ℕ) → component_of p b < length leaders → AreLeadersFrom p leaders (b + 1) → AreLeadersFrom p (set leaders (component_of p b) b) b
 leaders_step p leaders b in' old = record {
-  least = λ k le l. elim (set_for 0 p leaders b b in' k) [
+  least = λ k le l. elim (value_after_set 0 p leaders b b in' k) [
     | inl own ↦ omega arith
     | inr other ↦
         let past : k ≢ b = λ e. other.0 (ap (component_of p) e) in
         omega (arith, old.least k (omega arith) l)
   ];
-  member = λ k le l. elim (set_for 0 p leaders b b in' k) [
+  member = λ k le l. elim (value_after_set 0 p leaders b b in' k) [
     | inl own ↦ ap (component_of p) own.1 ∙ sym own.0
     | inr other ↦
         let past : k ≢ b = λ e. other.0 (ap (component_of p) e) in

@@ -5,31 +5,31 @@ use Rattle.std.proofs.lemmas.Bool.{cases_lt, false≢true}
 use Rattle.std.proofs.lemmas.List.{get_or_default, get_or_past, get_or-replicate, length-replicate}
 use Rattle.std.proofs.lemmas.List.Elements.{Contains-get_or}
 use Rattle.epx_graph.specs.NodePaths.{IsNodePath}
-use Rattle.epx_components.specs.MissingNodes.{ReachesMissing, ReachesSome}
+use Rattle.epx_components.specs.MissingNodes.{ReachesMissing, ReachesAny}
 use Rattle.epx_components.specs.Partitions.{Parts, IsPartition, component_of, node_at, mark_for}
 use Rattle.epx_components.specs.Targets.{LeadsToMarked}
 use Rattle.epx_components.proofs.NodePathLemmas.{reaches_edge, reaches_on, reach_below}
-use Rattle.epx_components.proofs.PartitionLemmas.{node_below, set_for}
+use Rattle.epx_components.proofs.PartitionLemmas.{node_below, value_after_set}
 
 -- the marks after the first n nodes of the order
 pub record AreMarks (edges : ℕ → List ℕ) (P : ℕ → Type 0) (p : Parts) (marks : List Bool) (n : ℕ) : Type 0 where
-  pub reason : (k : ℕ) → k < length p.component → IsTrue (mark_for p marks k) → ReachesSome edges P k
+  pub reason : (k : ℕ) → k < length p.component → IsTrue (mark_for p marks k) → ReachesAny edges P k
   pub itself : (q : ℕ) → q < n → P (node_at p q) → IsTrue (mark_for p marks (node_at p q))
   pub edge : (q j : ℕ) → q < n → Contains (edges (node_at p q)) j → IsTrue (mark_for p marks j) → IsTrue (mark_for p marks (node_at p q))
 
 -- what follows from an edge to a marked component
-pub marks_found : (edges : ℕ → List ℕ) (P : ℕ → Type 0) (p : Parts) (marks : List Bool) (n k : ℕ) → IsPartition edges p → AreMarks edges P p marks n → LeadsToMarked p.component marks (edges k) → ReachesSome edges P k
+pub marks_found : (edges : ℕ → List ℕ) (P : ℕ → Type 0) (p : Parts) (marks : List Bool) (n k : ℕ) → IsPartition edges p → AreMarks edges P p marks n → LeadsToMarked p.component marks (edges k) → ReachesAny edges P k
 marks_found edges P p marks n k is m f =
     let h = Contains-get_or (edges k) f.0 0 f.1 in
     let on = m.reason (get_or (edges k) f.0 0) (is.within k _ h) f.2 in
     (on.0, on.1, reaches_on edges k (get_or (edges k) f.0 0) on.0 (reaches_edge edges k _ h) on.2)
 
-pub marks_set : (edges : ℕ → List ℕ) (P : ℕ → Type 0) (p : Parts) (marks : List Bool) (n : ℕ) → IsPartition edges p → n < length p.order → component_of p (node_at p n) < length marks → ReachesSome edges P (node_at p n) → AreMarks edges P p marks n → AreMarks edges P p (set marks (component_of p (node_at p n)) true) (n + 1)
+pub marks_set : (edges : ℕ → List ℕ) (P : ℕ → Type 0) (p : Parts) (marks : List Bool) (n : ℕ) → IsPartition edges p → n < length p.order → component_of p (node_at p n) < length marks → ReachesAny edges P (node_at p n) → AreMarks edges P p marks n → AreMarks edges P p (set marks (component_of p (node_at p n)) true) (n + 1)
 marks_set edges P p marks n is l in' why old =
     let b = node_at p n in
     let own = component_of p b in
     let new = set marks own true in
-    let at : (j : ℕ) → ((component_of p j ≡ own) × (mark_for p new j ≡ true)) ⊎ ((component_of p j ≢ own) × (mark_for p new j ≡ mark_for p marks j)) = set_for false p marks b true in' in
+    let at : (j : ℕ) → ((component_of p j ≡ own) × (mark_for p new j ≡ true)) ⊎ ((component_of p j ≢ own) × (mark_for p new j ≡ mark_for p marks j)) = value_after_set false p marks b true in' in
     let more : (j : ℕ) → IsTrue (mark_for p marks j) → IsTrue (mark_for p new j) = λ j h. elim (at j) [ inl here ↦ here.1 | inr there ↦ there.1 ∙ h ] in
     let now : (q : ℕ) → n ≤ q → q < n + 1 → IsTrue (mark_for p new (node_at p q)) = λ q le lt.
     let same : q ≡ n = omega arith in
@@ -82,7 +82,7 @@ path_marked edges P p marks is m k j (c ∷ cs) l le h =
     let at : node_at p q.0 ≡ k = get_or_default p.order q.0 0 k q.1 ∙ q.2 in
     (rw at at (m.edge q.0 c q.1)) h.0 (path_marked edges P p marks is m c j cs (is.within k c h.0) le h.1)
 
-pub marks_all : (edges : ℕ → List ℕ) (P : ℕ → Type 0) (p : Parts) (marks : List Bool) → IsPartition edges p → AreMarks edges P p marks (length p.order) → (k : ℕ) → k < length p.component → IsTrue (mark_for p marks k) ↔ ReachesSome edges P k
+pub marks_all : (edges : ℕ → List ℕ) (P : ℕ → Type 0) (p : Parts) (marks : List Bool) → IsPartition edges p → AreMarks edges P p marks (length p.order) → (k : ℕ) → k < length p.component → IsTrue (mark_for p marks k) ↔ ReachesAny edges P k
 marks_all edges P p marks is m k l = (m.reason k l, λ r. path_marked edges P p marks is m k r.0 r.2.0 l r.1 r.2.1)
 
 -- if all nodes are committed, none reaches a missing node

@@ -15,8 +15,8 @@ pub targets_below : (edges : ℕ → List ℕ) (p : Parts) → IsPartition edges
 targets_below edges p is k = All-from_get_or (λ j. j < length p.component) (edges k) 0 (λ x l. is.within k _ (Contains-get_or (edges k) x 0 l))
 
 -- the value of a node after a write for the component of b
-pub set_for : {A : Type 0} (none : A) (p : Parts) (xs : List A) (b : ℕ) (x : A) → component_of p b < length xs → (k : ℕ) → ((component_of p k ≡ component_of p b) × (get_or (set xs (component_of p b) x) (component_of p k) none ≡ x)) ⊎ ((component_of p k ≢ component_of p b) × (get_or (set xs (component_of p b) x) (component_of p k) none ≡ get_or xs (component_of p k) none))
-set_for none p xs b x l k =
+pub value_after_set : {A : Type 0} (none : A) (p : Parts) (xs : List A) (b : ℕ) (x : A) → component_of p b < length xs → (k : ℕ) → ((component_of p k ≡ component_of p b) × (get_or (set xs (component_of p b) x) (component_of p k) none ≡ x)) ⊎ ((component_of p k ≢ component_of p b) × (get_or (set xs (component_of p b) x) (component_of p k) none ≡ get_or xs (component_of p k) none))
+value_after_set none p xs b x l k =
     let own = component_of p b in
     ⊎_elim
     (λ (e : component_of p k ≡ own). inl (e, ap (λ c. get_or (set xs own x) c none) e ∙ get_or-set_same xs own x none l))

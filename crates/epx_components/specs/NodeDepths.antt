@@ -3,11 +3,11 @@ use Rattle.std.specs.Prelude.{◌≡◌, ℕ, ◌≤◌, List, [], ◌∷◌, le
 use Rattle.epx_graph.specs.NodePaths.{NodeReaches}
 
 -- a chain that begins at k, in which each reaches the next and is not reached by it
-abbrev pub DescendsByNodes : (ℕ → List ℕ) → ℕ → List ℕ → Type 0
-DescendsByNodes edges k [] = Unit {0}
-DescendsByNodes edges k (c ∷ cs) = NodeReaches edges k c × ¬ NodeReaches edges c k × DescendsByNodes edges c cs
+abbrev pub NodeDescends : (ℕ → List ℕ) → ℕ → List ℕ → Type 0
+NodeDescends edges k [] = Unit {0}
+NodeDescends edges k (c ∷ cs) = NodeReaches edges k c × ¬ NodeReaches edges c k × NodeDescends edges c cs
 
 -- the greatest number of steps of such a chain
 pub record IsNodeDepth (edges : ℕ → List ℕ) (k depth : ℕ) : Type 0 where
-  pub descent : (cs : List ℕ) × DescendsByNodes edges k cs × (length cs ≡ depth)
-  pub longest : (cs : List ℕ) → DescendsByNodes edges k cs → length cs ≤ depth
+  pub descent : (cs : List ℕ) × NodeDescends edges k cs × (length cs ≡ depth)
+  pub longest : (cs : List ℕ) → NodeDescends edges k cs → length cs ≤ depth

@@ -21,7 +21,7 @@ abbrev pub node_ranks_in : List ℕ → List ℕ → List ℕ → List Bool → 
 node_ranks_in component leaders depths missing = map (node_rank_in leaders depths missing) component
 
 -- each list has a value for each component
-pub record HasEach (component leaders depths : List ℕ) (missing : List Bool) : Type 0 where
+pub record HasValueForEach (component leaders depths : List ℕ) (missing : List Bool) : Type 0 where
   pub with_leader : All (λ c. c < length leaders) component
   pub with_depth : length depths ≡ length leaders
-  pub with_mark : length missing ≡ length leaders
+  pub with_missing : length missing ≡ length leaders

@@ -3,18 +3,18 @@ use Rattle.std.specs.Prelude.{◌≡◌, ◌≢◌, ℕ, ◌<◌, ◌≤◌, ◌
 use Rattle.epx_graph.specs.NodePaths.{NodeReaches}
 use Rattle.epx_components.specs.declared.visit.Visit.{Visit}
 use Rattle.epx_components.specs.declared.visit.Visit.TheVariants.{Unseen, Open, Closed}
-use Rattle.epx_components.specs.Starts.{IsRising, IsFrom}
+use Rattle.epx_components.specs.Starts.{AreRisingBelow, IsInGroupFrom}
 use Rattle.epx_components.specs.SearchStates.{SearchState, visit_of}
 
 -- an edge that was looked at leads from a node in the first state to a node in the second
-abbrev pub Leads : List ℕ → Visit → Visit → Type 0
-Leads starts Unseen to = ⊥
-Leads starts (Open p) Unseen = ⊥
-Leads starts (Open p) (Open q) = IsFrom starts p q
-Leads starts (Open p) (Closed d) = Unit {0}
-Leads starts (Closed c) Unseen = ⊥
-Leads starts (Closed c) (Open q) = ⊥
-Leads starts (Closed c) (Closed d) = d ≤ c
+abbrev pub MayLead : List ℕ → Visit → Visit → Type 0
+MayLead starts Unseen to = ⊥
+MayLead starts (Open p) Unseen = ⊥
+MayLead starts (Open p) (Open q) = IsInGroupFrom starts p q
+MayLead starts (Open p) (Closed d) = Unit {0}
+MayLead starts (Closed c) Unseen = ⊥
+MayLead starts (Closed c) (Open q) = ⊥
+MayLead starts (Closed c) (Closed d) = d ≤ c
 
 -- the open nodes are those of the row, each at its position
 pub record IsRow (place : List Visit) (opened : List ℕ) : Type 0 where
@@ -38,16 +38,16 @@ pub record IsSearch (edges : ℕ → List ℕ) (n seen : ℕ) (s : SearchState) 
   pub seen_below : (k : ℕ) → k < seen → visit_of s.place k ≢ Unseen
   pub row : IsRow s.place s.opened
   -- the groups cover the row: the first one starts at 0
-  pub starts : IsRising s.starts (length s.opened)
+  pub starts : AreRisingBelow s.starts (length s.opened)
   pub begins : slice_index s.starts 0 ≡ 0
   pub grouped : 0 < length s.opened → 0 < length s.starts
   -- an open node that is not on the path has no edge left
-  pub path : IsRising s.path (length s.opened)
+  pub path : AreRisingBelow s.path (length s.opened)
   pub waits : (k p : ℕ) → visit_of s.place k ≡ Open p → (length (edges k) ≤ slice_index s.looked_at k) ⊎ Contains s.path p
-  pub leads : (k i : ℕ) → i < slice_index s.looked_at k → Leads s.starts (visit_of s.place k) (visit_of s.place (slice_index (edges k) i))
+  pub leads : (k i : ℕ) → i < slice_index s.looked_at k → MayLead s.starts (visit_of s.place k) (visit_of s.place (slice_index (edges k) i))
   -- an open node reaches the nodes of its own group and of later groups
-  pub reaches : (k j p q : ℕ) → visit_of s.place k ≡ Open p → visit_of s.place j ≡ Open q → IsFrom s.starts p q → NodeReaches edges k j
+  pub reaches : (k j p q : ℕ) → visit_of s.place k ≡ Open p → visit_of s.place j ≡ Open q → IsInGroupFrom s.starts p q → NodeReaches edges k j
   pub finished : AreFinished edges s.place s.looked_at s.order s.count
 
-abbrev pub Keeps : (ℕ → List ℕ) → ℕ → SearchState → SearchState → Type 0
-Keeps edges n old new = (seen : ℕ) → IsSearch edges n seen old → IsSearch edges n seen new
+abbrev pub KeepsSearch : (ℕ → List ℕ) → ℕ → SearchState → SearchState → Type 0
+KeepsSearch edges n old new = (seen : ℕ) → IsSearch edges n seen old → IsSearch edges n seen new

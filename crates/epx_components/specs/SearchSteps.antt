@@ -2,31 +2,31 @@
 use Rattle.std.specs.Prelude.{◌≡◌, ℕ, ◌+◌, ◌-◌, ◌<◌, ◌≤◌, ◌⊎◌, List, [], ◌∷◌, ◌++◌, length, take, drop, slice_index, slice_set}
 use Rattle.epx_components.specs.declared.visit.Visit.{Visit}
 use Rattle.epx_components.specs.declared.visit.Visit.TheVariants.{Unseen, Open, Closed}
-use Rattle.epx_components.specs.Starts.{IsInLast, IsCut}
+use Rattle.epx_components.specs.Starts.{IsInLastGroup, IsCutAbove}
 use Rattle.epx_components.specs.SearchStates.{SearchState, visit_of}
 
 -- a node of the last group with an edge left
-pub record IsNext (edges : ℕ → List ℕ) (s : SearchState) (k : ℕ) : Type 0 where
+pub record IsNextNode (edges : ℕ → List ℕ) (s : SearchState) (k : ℕ) : Type 0 where
   pub place : ℕ
   pub is_open : visit_of s.place k ≡ Open place
-  pub is_last : IsInLast s.starts place
+  pub is_last : IsInLastGroup s.starts place
   pub left : slice_index s.looked_at k < length (edges k)
 
 -- the node at the end of the path, where that is in the last group
-pub record IsTop (s : SearchState) (k : ℕ) : Type 0 where
+pub record IsTopNode (s : SearchState) (k : ℕ) : Type 0 where
   pub place : ℕ
   pub some : 0 < length s.path
   pub ends : slice_index s.path (length s.path - 1) ≡ place
   pub node : slice_index s.opened place ≡ k
-  pub is_last : IsInLast s.starts place
+  pub is_last : IsInLastGroup s.starts place
 
 -- no node of the path is in the last group
-abbrev pub IsOff : SearchState → Type 0
-IsOff s = (i : ℕ) → i < length s.path → slice_index s.path i < slice_index s.starts (length s.starts - 1)
+abbrev pub IsPathBelow : SearchState → Type 0
+IsPathBelow s = (i : ℕ) → i < length s.path → slice_index s.path i < slice_index s.starts (length s.starts - 1)
 
 -- after a node is opened as a group of its own
-abbrev pub entered : SearchState → ℕ → SearchState
-entered s k = record s {
+abbrev pub after_enter : SearchState → ℕ → SearchState
+after_enter s k = record s {
   place = slice_set s.place k (Open (length s.opened));
   opened = s.opened ++ k ∷ [];
   path = s.path ++ length s.opened ∷ [];
@@ -39,8 +39,8 @@ looked s k = record s { looked_at = slice_set s.looked_at k (slice_index s.looke
 
 -- what an edge does that leads to a node in this state
 abbrev pub Arrives : Visit → ℕ → SearchState → SearchState → Type 0
-Arrives Unseen k old new = new ≡ entered old k
-Arrives (Open t) k old new = IsCut t old.starts new.starts × (new ≡ record old { starts = new.starts })
+Arrives Unseen k old new = new ≡ after_enter old k
+Arrives (Open t) k old new = IsCutAbove t old.starts new.starts × (new ≡ record old { starts = new.starts })
 Arrives (Closed c) k old new = new ≡ old
 
 -- the open nodes from a position on are closed

@@ -3,7 +3,7 @@ ghost use Rattle.std.specs.Prelude.{◌≡◌, ℕ, ◌<◌, ◌≤◌, length, 
 ghost use Rattle.epx_graph.specs.Graphs.{edges_of};
 ghost use Rattle.epx_components.specs.NodeDepths.{IsNodeDepth};
 ghost use Rattle.epx_components.specs.Partitions.{parts, number_for, IsPartitionOf};
-ghost use Rattle.epx_components.specs.Targets.{IsDepthOver};
+ghost use Rattle.epx_components.specs.Targets.{IsDepthAbove};
 
 use crate::partition::Partition;
 use epx_graph::Graph;
@@ -23,7 +23,7 @@ pub(crate) fn find_depths(
     let mut depths = vec![in alloc; 0; partition.count]?;
     for node in &partition.order {
         let own = partition.component[*node];
-        let below = depth_over(graph.edges(*node), &partition.component, &depths, own);
+        let below = depth_above(graph.edges(*node), &partition.component, &depths, own);
         depths[own] = depths[own].max(below);
     }
     Ok(depths)
@@ -31,12 +31,12 @@ pub(crate) fn find_depths(
 
 /// One more than the greatest depth of the other components that the edges lead to, or 0 if there
 /// is none.
-fn depth_over(targets: &[usize], component: &[usize], depths: &[usize], own: usize) -> usize
+fn depth_above(targets: &[usize], component: &[usize], depths: &[usize], own: usize) -> usize
     requires targets { All (λ j. j < length component.now) targets.now }
     requires falls { (i : ℕ) → i < length targets.now → slice_index component.now (slice_index targets.now i) ≤ own }
     requires own { own < length depths.now }
     requires low { (c : ℕ) → slice_index depths.now c ≤ c }
-    ensures { IsDepthOver component.now depths.now own targets.now (length targets.now) result }
+    ensures { IsDepthAbove component.now depths.now own targets.now (length targets.now) result }
 {
     let mut deepest = 0;
     for target in targets {

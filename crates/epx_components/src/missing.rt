@@ -26,7 +26,7 @@ pub fn find_missing(
         return Ok(marks);
     }
     for node in &partition.order {
-        if leads_to_missing(graph, *node, &partition.component, &marks) {
+        if reaches_missing_by_edge(graph, *node, &partition.component, &marks) {
             marks[partition.component[*node]] = true;
         }
     }
@@ -34,7 +34,7 @@ pub fn find_missing(
 }
 
 /// Whether a node is missing, or has an edge to a marked component.
-fn leads_to_missing(graph: &Graph, node: usize, component: &[usize], marks: &[bool]) -> bool
+fn reaches_missing_by_edge(graph: &Graph, node: usize, component: &[usize], marks: &[bool]) -> bool
     requires node { node < length graph.now.ids }
     requires targets { All (λ j. j < length component.now) (edges_of graph.now node) }
     requires counted { All (λ c. c < length marks.now) component.now }

@@ -31,13 +31,13 @@ pub struct NodeRanks {
 impl Model for NodeRanks {
     ghost use Rattle.std.specs.Prelude.{List};
     ghost use Rattle.epx_components.specs.declared.node_ranks.NodeRank.{NodeRank};
-    ghost use Rattle.epx_components.specs.NodeRanks.{node_ranks_in, HasEach};
+    ghost use Rattle.epx_components.specs.NodeRanks.{node_ranks_in, HasValueForEach};
 
     ghost Value = { List NodeRank };
 
     ghost view = { λ s. node_ranks_in s.component.items s.leaders.items s.depths.items s.missing.items };
 
-    ghost invariant = { λ s. HasEach s.component.items s.leaders.items s.depths.items s.missing.items };
+    ghost invariant = { λ s. HasValueForEach s.component.items s.leaders.items s.depths.items s.missing.items };
 }
 
 impl NodeRanks {

@@ -2,11 +2,11 @@
 ghost use Rattle.std.specs.Prelude.{◌≡◌, ℕ, List, ◌+◌, ◌<◌, ◌≤◌, length, OnOk, IfOk, IfSome, IfNone};
 ghost use Rattle.epx_graph.specs.Graphs.{IsGraph, edges_of};
 ghost use Rattle.epx_components.specs.Partitions.{parts, IsPartitionOf};
-ghost use Rattle.epx_components.specs.Starts.{IsRising};
+ghost use Rattle.epx_components.specs.Starts.{AreRisingBelow};
 ghost use Rattle.epx_components.specs.SearchStates.{state, visit_of};
-ghost use Rattle.epx_components.specs.SearchInvariants.{IsRow, IsSearch, Keeps};
-ghost use Rattle.epx_components.specs.SearchSteps.{entered, Arrives, IsNext, IsTop, IsOff, IsFinished};
-ghost use Rattle.epx_components.specs.SearchWork.{work};
+ghost use Rattle.epx_components.specs.SearchInvariants.{IsRow, IsSearch, KeepsSearch};
+ghost use Rattle.epx_components.specs.SearchSteps.{after_enter, Arrives, IsNextNode, IsTopNode, IsPathBelow, IsFinished};
+ghost use Rattle.epx_components.specs.SearchWork.{work_left};
 
 use crate::partition::Partition;
 use crate::starts::merge_groups;
@@ -91,8 +91,8 @@ impl Search {
         requires graph { IsGraph graph.now }
         requires search { (seen : ℕ) × IsSearch (edges_of graph.now) (length graph.now.ids) seen (state self.old) }
         requires some { 0 < length (state self.old).starts }
-        ensures keeps { OnOk result (Keeps (edges_of graph.now) (length graph.now.ids) (state self.old) (state self.new)) }
-        ensures less { OnOk result (work graph.now.edges (state self.new) < work graph.now.edges (state self.old)) }
+        ensures keeps { OnOk result (KeepsSearch (edges_of graph.now) (length graph.now.ids) (state self.old) (state self.new)) }
+        ensures less { OnOk result (work_left graph.now.edges (state self.new) < work_left graph.now.edges (state self.old)) }
     {
         match self.top() {
             Some(node) if self.looked_at[node] < graph.edges(node).len() => {
@@ -109,10 +109,10 @@ impl Search {
     /// The last node of the path, if it is in the last group.
     fn top(&self) -> Option<usize>
         requires some { 0 < length (state self.now).starts }
-        requires starts { IsRising (state self.now).starts (length (state self.now).opened) }
-        requires path { IsRising (state self.now).path (length (state self.now).opened) }
-        ensures found { IfSome result (IsTop (state self.now)) }
-        ensures none { IfNone result (IsOff (state self.now)) }
+        requires starts { AreRisingBelow (state self.now).starts (length (state self.now).opened) }
+        requires path { AreRisingBelow (state self.now).path (length (state self.now).opened) }
+        ensures found { IfSome result (IsTopNode (state self.now)) }
+        ensures none { IfNone result (IsPathBelow (state self.now)) }
     {
         let start = self.starts[self.starts.len() - 1];
         match self.path.last() {
@@ -125,9 +125,9 @@ impl Search {
     fn follow(&mut self, graph: &Graph, node: usize) -> Result<(), Memory>
         requires graph { IsGraph graph.now }
         requires search { (seen : ℕ) × IsSearch (edges_of graph.now) (length graph.now.ids) seen (state self.old) }
-        requires next { IsNext (edges_of graph.now) (state self.old) node }
-        ensures keeps { OnOk result (Keeps (edges_of graph.now) (length graph.now.ids) (state self.old) (state self.new)) }
-        ensures less { OnOk result (work graph.now.edges (state self.new) < work graph.now.edges (state self.old)) }
+        requires next { IsNextNode (edges_of graph.now) (state self.old) node }
+        ensures keeps { OnOk result (KeepsSearch (edges_of graph.now) (length graph.now.ids) (state self.old) (state self.new)) }
+        ensures less { OnOk result (work_left graph.now.edges (state self.new) < work_left graph.now.edges (state self.old)) }
     {
         let next = self.looked_at[node];
         let target = graph.edges(node)[next];
@@ -139,7 +139,7 @@ impl Search {
     /// on.
     fn arrive(&mut self, node: usize) -> Result<(), Memory>
         requires node { node < length (state self.old).place }
-        requires starts { IsRising (state self.old).starts (length (state self.old).opened) }
+        requires starts { AreRisingBelow (state self.old).starts (length (state self.old).opened) }
         ensures { OnOk result (Arrives (visit_of (state self.old).place node) node (state self.old) (state self.new)) }
     {
         match self.place[node] {
@@ -153,7 +153,7 @@ impl Search {
     /// Opens a node as a group of its own.
     fn enter(&mut self, node: usize) -> Result<(), Memory>
         requires { node < length (state self.old).place }
-        ensures { OnOk result (state self.new ≡ entered (state self.old) node) }
+        ensures { OnOk result (state self.new ≡ after_enter (state self.old) node) }
     {
         let position = self.opened.len();
         self.place[node] = Visit::Open(position);
@@ -166,7 +166,7 @@ impl Search {
     /// Makes the last group a component.
     fn finish(&mut self) -> Result<(), Memory>
         requires row { IsRow (state self.old).place (state self.old).opened }
-        requires starts { IsRising (state self.old).starts (length (state self.old).opened) }
+        requires starts { AreRisingBelow (state self.old).starts (length (state self.old).opened) }
         requires some { 0 < length (state self.old).starts }
         requires count { (state self.old).count ≤ length (state self.old).order }
         ensures { OnOk result (IsFinished (state self.old) (state self.new)) }

@@ -1,11 +1,11 @@
 //! Where the groups of open nodes start.
 ghost use Rattle.std.specs.Prelude.{ℕ};
-ghost use Rattle.epx_components.specs.Starts.{IsRising, IsCut};
+ghost use Rattle.epx_components.specs.Starts.{AreRisingBelow, IsCutAbove};
 
 /// Merges the groups that start after a position of the row into the group of that position.
 pub(crate) fn merge_groups(starts: &mut Vec<usize>, place: usize)
-    requires { (n : ℕ) × IsRising starts.old.items n }
-    ensures { IsCut place starts.old.items starts.new.items }
+    requires { (n : ℕ) × AreRisingBelow starts.old.items n }
+    ensures { IsCutAbove place starts.old.items starts.new.items }
 {
     while let Some(&start) = starts.last()
         && start > place

@@ -1,3 +1,3 @@
-pub mod KnownBytes
-pub mod Transferring
-pub mod EitherReads
+pub mod KnownBytesLemmas
+pub mod TransferLemmas
+pub mod EitherSourceLemmas

@@ -54,9 +54,9 @@ pub record DeliversThenFails {S : Type 0} (reads : ReadRelation S) (fails : Fail
   pub failed : fails last now
 
 -- reading the log of this number stopped with this fault: the log is too long, or a read failed
-abbrev pub StopsLog : {S : Type 0} → ReadRelation S → FailRelation S → ℕ → S → S → Fault → Type 0
-StopsLog reads fails log first now Memory = Unit {0}
-StopsLog reads fails log first now (LogTooLong k) =
+abbrev pub IsLogStop : {S : Type 0} → ReadRelation S → FailRelation S → ℕ → S → S → Fault → Type 0
+IsLogStop reads fails log first now Memory = Unit {0}
+IsLogStop reads fails log first now (LogTooLong k) =
     (k ≡ log) × DeliversExactly reads first now (MAX_LOG_BYTES + 1)
-StopsLog reads fails log first now (Read k) = (k ≡ log) × DeliversThenFails reads fails first now
-StopsLog reads fails log first now _ = ⊥
+IsLogStop reads fails log first now (Read k) = (k ≡ log) × DeliversThenFails reads fails first now
+IsLogStop reads fails log first now _ = ⊥

@@ -5,9 +5,9 @@ use Rattle.epx_devices.specs.declared.either_source.EitherSource.{EitherSource}
 use Rattle.epx_devices.specs.declared.either_source.EitherSource.TheVariants.{First, Second}
 
 -- the value of one function on a source of the first type, and of another on one of the second
-abbrev pub told_by : {A B X : Type 0} → (A → X) → (B → X) → EitherSource A B → X
-told_by first second (First a) = first a
-told_by first second (Second b) = second b
+abbrev pub value_by : {A B X : Type 0} → (A → X) → (B → X) → EitherSource A B → X
+value_by first second (First a) = first a
+value_by first second (Second b) = second b
 
 -- a read of a source of either type, after which the source has the same type
 abbrev pub reads_by : {A B : Type 0} → ReadRelation A → ReadRelation B

@@ -1,7 +1,7 @@
 -- Devices in memory that fail after a set number of bytes.
 use Rattle.std.specs.Prelude.{◌≡◌, ℕ, ◌-◌, min, Bool, true, List, Option, Some, unwrap_or, option_map}
 
-pub record Fused : Type 0 where
+pub record FuseState : Type 0 where
   -- the remaining bytes of a source, or the bytes that a sink has accepted
   pub bytes : List ℕ
   -- how many bytes one call may transfer
@@ -11,19 +11,19 @@ pub record Fused : Type 0 where
   pub failed : Bool
 
 -- how many of n bytes one call transfers
-abbrev pub passing_of : ℕ → ℕ → Option ℕ → ℕ
-passing_of n at_once fuse = min (min n at_once) (unwrap_or fuse n)
+abbrev pub allowed_of : ℕ → ℕ → Option ℕ → ℕ
+allowed_of n at_once fuse = min (min n at_once) (unwrap_or fuse n)
 
-abbrev pub passing : Fused → ℕ → ℕ
-passing d n = passing_of n d.at_once d.fuse
+abbrev pub allowed : FuseState → ℕ → ℕ
+allowed d n = allowed_of n d.at_once d.fuse
 
-abbrev pub IsBlown : Fused → Type 0
-IsBlown d = d.fuse ≡ Some 0
+abbrev pub IsSpent : FuseState → Type 0
+IsSpent d = d.fuse ≡ Some 0
 
 -- a call has returned an error
-abbrev pub after_failure : Fused → Fused
+abbrev pub after_failure : FuseState → FuseState
 after_failure d = record d { failed = true }
 
 -- n bytes were transferred, and these are the bytes now
-abbrev pub after_passing : Fused → ℕ → List ℕ → Fused
-after_passing d n bytes = record d { bytes = bytes; fuse = option_map (λ k. k - n) d.fuse }
+abbrev pub after_transfer : FuseState → ℕ → List ℕ → FuseState
+after_transfer d n bytes = record d { bytes = bytes; fuse = option_map (λ k. k - n) d.fuse }

@@ -1,6 +1,6 @@
 pub mod Devices
 pub mod MemorySink
-pub mod WatchedDevices
+pub mod DeviceStates
 pub mod Fuses
 pub mod Deliveries
 pub mod Transfers

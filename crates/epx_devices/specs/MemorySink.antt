@@ -2,6 +2,6 @@
 use Rattle.std.specs.Prelude.{ℕ, Bool, List}
 
 -- the bytes that it has accepted, and whether a call has returned an error
-pub record Taken : Type 0 where
+pub record SinkState : Type 0 where
   pub bytes : List ℕ
   pub failed : Bool

@@ -5,11 +5,11 @@ use Rattle.epx_types.specs.declared.fault.Fault.{Fault}
 use Rattle.epx_types.specs.declared.fault.Fault.TheVariants.{Memory, LogTooLong, Read}
 
 -- the faults with which reading this log can end
-abbrev pub IsReadingFault : ℕ → Fault → Type 0
-IsReadingFault log Memory = Unit {0}
-IsReadingFault log (LogTooLong other) = other ≡ log
-IsReadingFault log (Read other) = other ≡ log
-IsReadingFault log _ = ⊥
+abbrev pub IsReadLogFault : ℕ → Fault → Type 0
+IsReadLogFault log Memory = Unit {0}
+IsReadLogFault log (LogTooLong other) = other ≡ log
+IsReadLogFault log (Read other) = other ≡ log
+IsReadLogFault log _ = ⊥
 
 -- if the bytes are known, at most n of them are removed from the front
 abbrev pub ConsumesUpTo : Option (List ℕ) → Option (List ℕ) → ℕ → Type 0

@@ -2,7 +2,7 @@
 ghost use Rattle.std.specs.Prelude.{◌≡◌, ⊤, ℕ, Bool, true, List, Option, None, IfOk, OnOk, OnErr, IsErr, length, take};
 ghost use Rattle.std.specs.Io.{ReadsAtMost, WritesAtMost};
 ghost use Rattle.std.specs.Io.KnownBytes.{Keeps, ReadConsumes, WriteAppends};
-ghost use Rattle.epx_devices.specs.Devices.{TakesSome, failed_after};
+ghost use Rattle.epx_devices.specs.Devices.{AcceptsSome, failed_after};
 
 /// A call on a device failed.
 #[derive(Clone, Copy, Debug, PartialEq, Eq)]
@@ -54,7 +54,7 @@ pub trait Sink {
     /// Fails if the device fails.
     fn write_some(&mut self, part: &[u8]) -> Result<usize, DeviceFault>
         ensures bound { WritesAtMost result part.now }
-        ensures some { TakesSome result part.now }
+        ensures some { AcceptsSome result part.now }
         ensures bytes { WriteAppends (contents self.old) (contents self.new) result part.now }
         ensures failures { has_failed self.new ≡ failed_after (has_failed self.old) result };
 

@@ -1,5 +1,5 @@
 //! A source of one of two types.
-ghost use Rattle.epx_devices.specs.EitherSources.{fails_by, reads_by, told_by};
+ghost use Rattle.epx_devices.specs.EitherSources.{fails_by, reads_by, value_by};
 
 use crate::device::{DeviceFault, Source};
 
@@ -11,13 +11,13 @@ pub enum EitherSource<A, B> {
 }
 
 impl<A: Source, B: Source> Source for EitherSource<A, B> {
-    ghost remaining = { λ s. told_by A.remaining B.remaining s };
+    ghost remaining = { λ s. value_by A.remaining B.remaining s };
 
     ghost reads = { λ s room bytes t. reads_by A.reads B.reads s room bytes t };
 
     ghost fails = { λ s t. fails_by A.fails B.fails s t };
 
-    ghost has_failed = { λ s. told_by A.has_failed B.has_failed s };
+    ghost has_failed = { λ s. value_by A.has_failed B.has_failed s };
 
     fn read_some(&mut self, part: &mut [u8]) -> Result<usize, DeviceFault> {
         match self {

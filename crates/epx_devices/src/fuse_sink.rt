@@ -2,11 +2,11 @@
 ghost use Rattle.std.specs.Prelude.{◌≡◌, ◌≤◌, ◌↔◌, false, true, [], ◌++◌, Some, IfOk, OnOk, OnErr, IsErr, length, take};
 ghost use Rattle.std.specs.Io.{WritesAtMost};
 ghost use Rattle.std.specs.Io.KnownBytes.{Keeps, WriteAppends};
-ghost use Rattle.epx_devices.specs.Devices.{TakesSome, failed_after};
-ghost use Rattle.epx_devices.specs.Fuses.{IsBlown, passing, after_failure, after_passing};
+ghost use Rattle.epx_devices.specs.Devices.{AcceptsSome, failed_after};
+ghost use Rattle.epx_devices.specs.Fuses.{IsSpent, allowed, after_failure, after_transfer};
 
 use crate::device::{DeviceFault, Sink};
-use crate::fuse::{burnt, passing};
+use crate::fuse::{allowed, remaining_after};
 use std::alloc::Global;
 use std::marker::Model;
 
@@ -22,9 +22,9 @@ pub struct FuseSink {
 
 impl Model for FuseSink {
     ghost use Rattle.std.specs.Prelude.{◌≤◌};
-    ghost use Rattle.epx_devices.specs.Fuses.{Fused};
+    ghost use Rattle.epx_devices.specs.Fuses.{FuseState};
 
-    ghost Value = { Fused };
+    ghost Value = { FuseState };
 
     ghost view = { λ s. record { bytes = s.bytes.items; at_once = s.at_once; fuse = s.fuse; failed = s.failed } };
 
@@ -63,21 +63,21 @@ impl Sink for FuseSink {
 
     fn write_some(&mut self, part: &[u8]) -> Result<usize, DeviceFault>
         ensures bound { WritesAtMost result part.now }
-        ensures some { TakesSome result part.now }
+        ensures some { AcceptsSome result part.now }
         ensures bytes { WriteAppends (Some self.old.bytes) (Some self.new.bytes) result part.now }
         ensures failures { self.new.failed ≡ failed_after self.old.failed result }
 
-        ensures blown { IsBlown self.old → IsErr result }
+        ensures fuse_spent { IsSpent self.old → IsErr result }
         ensures err { OnErr result (self.new ≡ after_failure self.old) }
-        ensures count { IfOk result (λ n. n ≡ passing self.old (length part.now)) }
-        ensures ok { IfOk result (λ n. self.new ≡ after_passing self.old n (self.old.bytes ++ take n part.now)) }
+        ensures count { IfOk result (λ n. n ≡ allowed self.old (length part.now)) }
+        ensures ok { IfOk result (λ n. self.new ≡ after_transfer self.old n (self.old.bytes ++ take n part.now)) }
     {
-        let count = passing(part.len(), self.at_once, self.fuse);
+        let count = allowed(part.len(), self.at_once, self.fuse);
         if self.fuse == Some(0) || self.bytes.extend_from_slice(&part[..count]).is_err() {
             self.failed = true;
             return Err(DeviceFault);
         }
-        self.fuse = burnt(self.fuse, count);
+        self.fuse = remaining_after(self.fuse, count);
         Ok(count)
     }
 
@@ -85,7 +85,7 @@ impl Sink for FuseSink {
         ensures bytes { Keeps (Some self.old.bytes) (Some self.new.bytes) }
         ensures failures { self.new.failed ≡ failed_after self.old.failed result }
 
-        ensures blown { IsErr result ↔ IsBlown self.old }
+        ensures fuse_spent { IsErr result ↔ IsSpent self.old }
         ensures err { OnErr result (self.new ≡ after_failure self.old) }
         ensures ok { OnOk result (self.new ≡ self.old) }
     {

@@ -3,10 +3,10 @@ ghost use Rattle.std.specs.Prelude.{◌≡◌, ◌≤◌, ◌↔◌, ◌++◌, f
 ghost use Rattle.std.specs.Io.{ReadsAtMost};
 ghost use Rattle.std.specs.Io.KnownBytes.{ReadConsumes};
 ghost use Rattle.epx_devices.specs.Devices.{failed_after};
-ghost use Rattle.epx_devices.specs.Fuses.{IsBlown, passing, after_failure, after_passing};
+ghost use Rattle.epx_devices.specs.Fuses.{IsSpent, allowed, after_failure, after_transfer};
 
 use crate::device::{DeviceFault, Source};
-use crate::fuse::{burnt, passing};
+use crate::fuse::{allowed, remaining_after};
 use std::marker::Model;
 
 /// Returns the bytes of a slice. Once its fuse is spent, each call fails, also at the end of the
@@ -21,9 +21,9 @@ pub struct FuseSource<'a> {
 
 impl<'a> Model for FuseSource<'a> {
     ghost use Rattle.std.specs.Prelude.{◌≤◌};
-    ghost use Rattle.epx_devices.specs.Fuses.{Fused};
+    ghost use Rattle.epx_devices.specs.Fuses.{FuseState};
 
-    ghost Value = { Fused };
+    ghost Value = { FuseState };
 
     ghost view = { λ s. record { bytes = s.bytes.now; at_once = s.at_once; fuse = s.fuse; failed = s.failed } };
 
@@ -51,7 +51,7 @@ impl Source for FuseSource<'_> {
 
     ghost reads = { λ s _ bytes t. s.bytes ≡ bytes ++ t.bytes };
 
-    ghost fails = { λ s t. IsBlown s × (t ≡ after_failure s) };
+    ghost fails = { λ s t. IsSpent s × (t ≡ after_failure s) };
 
     ghost has_failed = { λ s. s.failed };
 
@@ -59,22 +59,22 @@ impl Source for FuseSource<'_> {
         ensures bound { ReadsAtMost result part.new }
         ensures bytes { ReadConsumes (Some self.old.bytes) (Some self.new.bytes) result part.new }
         ensures delivered { IfOk result (λ n. self.old.bytes ≡ take n part.new ++ self.new.bytes) }
-        ensures failing { OnErr result (IsBlown self.old × (self.new ≡ after_failure self.old)) }
+        ensures failing { OnErr result (IsSpent self.old × (self.new ≡ after_failure self.old)) }
         ensures failures { self.new.failed ≡ failed_after self.old.failed result }
 
-        ensures blown { IsErr result ↔ IsBlown self.old }
+        ensures fuse_spent { IsErr result ↔ IsSpent self.old }
         ensures err { OnErr result (self.new ≡ after_failure self.old) }
-        ensures count { IfOk result (λ n. n ≡ min (passing self.old (length part.new)) (length self.old.bytes)) }
-        ensures ok { IfOk result (λ n. self.new ≡ after_passing self.old n (drop n self.old.bytes)) }
+        ensures count { IfOk result (λ n. n ≡ min (allowed self.old (length part.new)) (length self.old.bytes)) }
+        ensures ok { IfOk result (λ n. self.new ≡ after_transfer self.old n (drop n self.old.bytes)) }
     {
         if self.fuse == Some(0) {
             self.failed = true;
             return Err(DeviceFault);
         }
-        let count = passing(part.len().min(self.bytes.len()), self.at_once, self.fuse);
+        let count = allowed(part.len().min(self.bytes.len()), self.at_once, self.fuse);
         part[..count].copy_from_slice(&self.bytes[..count]);
         self.bytes = &self.bytes[count..];
-        self.fuse = burnt(self.fuse, count);
+        self.fuse = remaining_after(self.fuse, count);
         Ok(count)
     }
 

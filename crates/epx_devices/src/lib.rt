@@ -2,7 +2,6 @@
 //! a whole log and writing a whole text.
 #![tactic(auto)]
 
-mod again;
 mod device;
 mod either_source;
 mod fuse;
@@ -11,6 +10,7 @@ mod fuse_source;
 mod memory_sink;
 mod memory_source;
 mod path_source;
+mod retry;
 mod std_sink;
 mod std_source;
 mod transfer;

@@ -2,7 +2,7 @@
 ghost use Rattle.std.specs.Prelude.{◌≡◌, false, true, [], Some, IfOk, IsOk, OnOk, length};
 ghost use Rattle.std.specs.Io.{WritesAtMost};
 ghost use Rattle.std.specs.Io.KnownBytes.{Keeps, WriteAppends};
-ghost use Rattle.epx_devices.specs.Devices.{TakesSome, failed_after};
+ghost use Rattle.epx_devices.specs.Devices.{AcceptsSome, failed_after};
 
 use crate::device::{DeviceFault, Sink};
 use std::alloc::Global;
@@ -16,9 +16,9 @@ pub struct MemorySink {
 }
 
 impl Model for MemorySink {
-    ghost use Rattle.epx_devices.specs.MemorySink.{Taken};
+    ghost use Rattle.epx_devices.specs.MemorySink.{SinkState};
 
-    ghost Value = { Taken };
+    ghost Value = { SinkState };
 
     ghost view = { λ s. record { bytes = s.bytes.items; failed = s.failed } };
 }
@@ -50,7 +50,7 @@ impl Sink for MemorySink {
 
     fn write_some(&mut self, part: &[u8]) -> Result<usize, DeviceFault>
         ensures bound { WritesAtMost result part.now }
-        ensures some { TakesSome result part.now }
+        ensures some { AcceptsSome result part.now }
         ensures bytes { WriteAppends (Some self.old.bytes) (Some self.new.bytes) result part.now }
         ensures whole { IfOk result (λ n. n ≡ length part.now) }
         ensures failures { self.new.failed ≡ failed_after self.old.failed result }

@@ -3,17 +3,17 @@ ghost use Rattle.std.specs.Prelude.{◌≡◌, true, false, take, None, IfOk, On
 ghost use Rattle.std.specs.Io.{ReadsAtMost};
 ghost use Rattle.std.specs.Io.KnownBytes.{ReadConsumes};
 ghost use Rattle.epx_devices.specs.Devices.{failed_after};
-ghost use Rattle.epx_devices.specs.WatchedDevices.{GivesNext, ReadsPath};
+ghost use Rattle.epx_devices.specs.DeviceStates.{ReadsNext, ReadsPath};
 
-use crate::again::read_again;
 use crate::device::{DeviceFault, Source};
+use crate::retry::retry_read;
 use std::marker::Model;
 use std::rt::Files;
 use std::{fs, io};
 
 /// Reads the file at a path. The first read opens the file. So if the file cannot be opened, that
 /// read fails, and a source that is never read opens nothing. An interrupted read is repeated, up
-/// to `MOST_AGAIN` times.
+/// to `MAX_RETRIES` times.
 #[derive(Drop)]
 pub struct PathSource<'a, R: Files> {
     rt: &'a R,
@@ -23,9 +23,9 @@ pub struct PathSource<'a, R: Files> {
 }
 
 impl<'a, R: Files> Model for PathSource<'a, R> {
-    ghost use Rattle.epx_devices.specs.WatchedDevices.{WatchedPath};
+    ghost use Rattle.epx_devices.specs.DeviceStates.{PathState};
 
-    ghost Value = { WatchedPath R.File };
+    ghost Value = { PathState R.File };
 
     ghost view = { λ s. record { path = s.path.now; file = s.file; failed = s.failed } };
 }
@@ -48,7 +48,7 @@ impl<'a, R: Files> PathSource<'a, R> {
         ensures bound { ReadsAtMost result part.new }
         ensures bytes { let left = option_and_then R.File.remaining self.new.file in
             ReadConsumes (option_and_then R.File.remaining self.old.file) left result part.new }
-        ensures given { IfOk result (λ count. GivesNext R.File.remaining self.old.file self.new.file (take count part.new)) }
+        ensures given { IfOk result (λ count. ReadsNext R.File.remaining self.old.file self.new.file (take count part.new)) }
         ensures path { self.new.path ≡ self.old.path }
         ensures failed { self.new.failed ≡ self.old.failed }
     {
@@ -56,7 +56,7 @@ impl<'a, R: Files> PathSource<'a, R> {
             Some(file) => file,
             None => fs::open(self.rt, self.path)?,
         };
-        let count = read_again(&mut file, part);
+        let count = retry_read(&mut file, part);
         self.file = Some(file);
         count
     }

@@ -1,13 +1,13 @@
 //! A sink over std's writers.
 ghost use Rattle.std.specs.Prelude.{◌≡◌, false};
 
-use crate::again::{flush_again, write_again};
 use crate::device::{DeviceFault, Sink};
+use crate::retry::{retry_flush, retry_write};
 use std::io::Write;
 use std::marker::Model;
 
 /// Writes to any writer. A write that accepts no byte of a part that is not empty counts as an
-/// error. An interrupted call is repeated, up to `MOST_AGAIN` times.
+/// error. An interrupted call is repeated, up to `MAX_RETRIES` times.
 #[derive(Drop)]
 pub struct StdSink<W> {
     writer: W,
@@ -16,9 +16,9 @@ pub struct StdSink<W> {
 }
 
 impl<W> Model for StdSink<W> {
-    ghost use Rattle.epx_devices.specs.WatchedDevices.{WatchedWriter};
+    ghost use Rattle.epx_devices.specs.DeviceStates.{WriterState};
 
-    ghost Value = { WatchedWriter W };
+    ghost Value = { WriterState W };
 
     ghost view = { λ s. record { writer = s.writer; flushed = s.flushed; failed = s.failed } };
 }
@@ -44,7 +44,7 @@ impl<W: Write> Sink for StdSink<W> {
 
     fn write_some(&mut self, part: &[u8]) -> Result<usize, DeviceFault> {
         self.flushed = false;
-        match write_again(&mut self.writer, part) {
+        match retry_write(&mut self.writer, part) {
             Ok(count) if count > 0 || part.is_empty() => Ok(count),
             _ => {
                 self.failed = true;
@@ -54,7 +54,7 @@ impl<W: Write> Sink for StdSink<W> {
     }
 
     fn flush(&mut self) -> Result<(), DeviceFault> {
-        match flush_again(&mut self.writer) {
+        match retry_flush(&mut self.writer) {
             Ok(()) => {
                 self.flushed = true;
                 Ok(())

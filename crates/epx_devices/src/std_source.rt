@@ -2,12 +2,12 @@
 ghost use Rattle.std.specs.Prelude.{◌≡◌, true, false};
 ghost use Rattle.std.specs.Io.KnownBytes.{Consumes};
 
-use crate::again::read_again;
 use crate::device::{DeviceFault, Source};
+use crate::retry::retry_read;
 use std::io::Read;
 use std::marker::Model;
 
-/// Reads from any reader. An interrupted read is repeated, up to `MOST_AGAIN` times.
+/// Reads from any reader. An interrupted read is repeated, up to `MAX_RETRIES` times.
 #[derive(Drop)]
 pub struct StdSource<R> {
     reader: R,
@@ -15,9 +15,9 @@ pub struct StdSource<R> {
 }
 
 impl<R> Model for StdSource<R> {
-    ghost use Rattle.epx_devices.specs.WatchedDevices.{WatchedReader};
+    ghost use Rattle.epx_devices.specs.DeviceStates.{ReaderState};
 
-    ghost Value = { WatchedReader R };
+    ghost Value = { ReaderState R };
 
     ghost view = { λ s. record { reader = s.reader; failed = s.failed } };
 }
@@ -43,7 +43,7 @@ impl<R: Read> Source for StdSource<R> {
     ghost has_failed = { λ s. s.failed };
 
     fn read_some(&mut self, part: &mut [u8]) -> Result<usize, DeviceFault> {
-        match read_again(&mut self.reader, part) {
+        match retry_read(&mut self.reader, part) {
             Ok(count) => Ok(count),
             Err(_) => {
                 self.failed = true;

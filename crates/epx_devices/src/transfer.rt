@@ -1,8 +1,8 @@
 //! Reading a whole log, and writing a whole text.
 ghost use Rattle.std.specs.Prelude.{◌≡◌, ◌≤◌, ◌↔◌, ◌+◌, true, false, length, IfOk, OnOk, IfErr, IfSome, IsErr, IsErrOf};
 ghost use Rattle.std.specs.Io.KnownBytes.{Appends, IsAtEnd};
-ghost use Rattle.epx_devices.specs.Deliveries.{DeliversAll, StopsLog};
-ghost use Rattle.epx_devices.specs.Transfers.{IsReadingFault, ConsumesUpTo, ConsumesExactly, AppendsPrefix};
+ghost use Rattle.epx_devices.specs.Deliveries.{DeliversAll, IsLogStop};
+ghost use Rattle.epx_devices.specs.Transfers.{IsReadLogFault, ConsumesUpTo, ConsumesExactly, AppendsPrefix};
 
 use crate::device::{Sink, Source};
 use epx_types::{Fault, Memory};
@@ -27,8 +27,8 @@ pub fn read_log<R: Source>(alloc: Global, log: usize, source: &mut R) -> Result<
     ensures end { OnOk result (IsAtEnd (R.remaining source.new)) }
     ensures fits { IfOk result (λ bytes. length bytes.items ≤ MAX_LOG_BYTES) }
 
-    ensures faults { IfErr result (IsReadingFault log) }
-    ensures stops { IfErr result (StopsLog R.reads R.fails log source.old source.new) }
+    ensures faults { IfErr result (IsReadLogFault log) }
+    ensures stops { IfErr result (IsLogStop R.reads R.fails log source.old source.new) }
     ensures failed { IsErrOf result (Fault.Read log) ↔ (R.has_failed source.new ≡ true) }
     ensures too_long { IsErrOf result (Fault.LogTooLong log) → ConsumesExactly (R.remaining source.old) (R.remaining source.new) (MAX_LOG_BYTES + 1) }
     ensures no_further { ConsumesUpTo (R.remaining source.old) (R.remaining source.new) (MAX_LOG_BYTES + 1) }

@@ -2,10 +2,10 @@
 //! order.
 #![tactic(auto)]
 
-mod ordered;
+mod order_entries;
 mod three;
 
-use crate::ordered::ordered;
+use crate::order_entries::order_entries;
 use crate::three::three_entries;
 use epx_order::OrderList;
 use epx_types::{Fault, Plan};
@@ -17,7 +17,7 @@ use std::thread::Threads;
 /// The execution order of the three instances.
 fn order_of_three<R: Threads + Sync>(rt: &R, alloc: Global) -> Result<OrderList, Fault> {
     let plan = Plan::new(4, 256).unwrap();
-    ordered(rt, alloc, three_entries(alloc)?, plan)
+    order_entries(rt, alloc, three_entries(alloc)?, plan)
 }
 
 /// Prints one line for each instance, in execution order.

@@ -1,19 +1,19 @@
-mod RisingPlaces
-pub mod GraphNodes
-pub mod MapPaths
-pub mod OneGraph
-mod RowLists
-mod RowsJoined
-mod Filled
-mod Finding
-mod MissingIds
-mod LeftInstances
-mod Neighbours
-mod Numbering
-mod RisingRows
-mod GatheredParts
-mod GatheredRows
-mod Built
-pub mod GraphsExist
-mod Searching
-mod WaiterLists
+mod RisingPositionLemmas
+pub mod GraphNodeLemmas
+pub mod MapPathLemmas
+pub mod GraphUniquenessLemmas
+mod RowLemmas
+mod RowAppendLemmas
+mod TransposeLemmas
+mod FindLemmas
+mod MissingIdLemmas
+mod RemainderLemmas
+mod NeighbourLemmas
+mod MapNodeLemmas
+mod RisingRowLemmas
+mod GatherPartLemmas
+mod GatherRowLemmas
+mod BuildLemmas
+pub mod GraphExistenceLemmas
+mod SearchLemmas
+mod WaiterLemmas

@@ -20,5 +20,5 @@ pub record IsGraphOf (m : List Instance) (g : DependencyGraph) : Type 0 where
   pub edges : (k j : ℕ) (x y : Id) → slice_get g.ids k ≡ Some x → slice_get g.ids j ≡ Some y → Contains (edges_of g k) j ↔ DependsOn m x y
 
 -- the graph of what is left of the map, for some list of done Ids
-abbrev pub IsGraphAfter : List Instance → DependencyGraph → Type 0
-IsGraphAfter m g = (done : List Id) × IsGraphOf (remaining done m) g
+abbrev pub IsGraphOfRest : List Instance → DependencyGraph → Type 0
+IsGraphOfRest m g = (done : List Id) × IsGraphOf (remaining done m) g

@@ -5,7 +5,7 @@ pub mod GraphLaws
 pub mod LeastMissing
 pub mod Rows
 pub mod Nodes
-pub mod Left
+pub mod Remainder
 pub mod Filling
 pub mod Searches
 pub mod Waiters

@@ -12,21 +12,21 @@ abbrev pub positions_of : List Instance → List Id → List ℕ
 positions_of m xs = filter_map (position_of m) xs
 
 -- the Ids of the list that are not committed
-abbrev pub lacking : List Instance → List Id → List Id
-lacking m xs = filter (λ x. not (is_some (position_of m x))) xs
+abbrev pub missing_of : List Instance → List Id → List Id
+missing_of m xs = filter (λ x. not (is_some (position_of m x))) xs
 
 -- for each instance, the positions of its committed dependencies
 abbrev pub all_positions : List Instance → List Instance → List (List ℕ)
 all_positions m es = map (λ e. positions_of m e.deps) es
 
 -- the dependencies of all instances that are not committed, instance by instance
-abbrev pub all_lacking : List Instance → List Instance → List Id
-all_lacking m es = flat_map (λ e. lacking m e.deps) es
+abbrev pub all_missing_of : List Instance → List Instance → List Id
+all_missing_of m es = flat_map (λ e. missing_of m e.deps) es
 
 -- the dependencies of some instances: committed ones by position, missing ones by Id
 pub record IsGatheredOf (m es : List Instance) (rows : List (List ℕ)) (ids : List Id) : Type 0 where
   pub committed : rows ≡ all_positions m es
-  pub missing : ids ≡ all_lacking m es
+  pub missing : ids ≡ all_missing_of m es
   pub deps_rise : All (λ e. IsRising e.deps) es
 
 -- the dependencies of all instances; the Ids rise
@@ -46,10 +46,10 @@ pub record AreNodesOf (m : List Instance) (ids : List Id) : Type 0 where
   pub missing : AreMissingIds m (drop (length m) ids)
 
 -- the positions of Ids of xs in the list, by rising position
-pub record ArePlacesOf (ids xs : List Id) (row : List ℕ) : Type 0 where
+pub record ArePositionsOf (ids xs : List Id) (row : List ℕ) : Type 0 where
   pub rising : AllPairs (λ i j. i < j) row
   pub exact : (j : ℕ) → Contains row j ↔ ((x : Id) × Contains xs x × (slice_get ids j ≡ Some x))
 
 -- a row of edges for each of the first n instances
 abbrev pub AreRowsOf : List Instance → List Id → List (List ℕ) → ℕ → Type 0
-AreRowsOf m ids rows n = (length rows ≡ n) × ((k : ℕ) (e : Instance) → k < n → slice_get m k ≡ Some e → ArePlacesOf ids e.deps (row_of rows k))
+AreRowsOf m ids rows n = (length rows ≡ n) × ((k : ℕ) (e : Instance) → k < n → slice_get m k ≡ Some e → ArePositionsOf ids e.deps (row_of rows k))

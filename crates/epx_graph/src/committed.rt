@@ -1,11 +1,11 @@
 //! Looks up each dependency once.
 ghost use Rattle.std.specs.Prelude.{◌≡◌, ◌≤◌, ◌++◌, ◌∷◌, [], length, slice_range, IfOk, OnOk};
 ghost use Rattle.std.specs.Thread.{IsSync};
-ghost use Rattle.epx_types.specs.Done.{rest_of};
-ghost use Rattle.epx_graph.specs.Left.{left_of};
-ghost use Rattle.epx_graph.specs.Nodes.{lacking, positions_of, IsGathered, IsGatheredOf};
+ghost use Rattle.epx_types.specs.Done.{remaining_ids};
+ghost use Rattle.epx_graph.specs.Remainder.{left_of};
+ghost use Rattle.epx_graph.specs.Nodes.{missing_of, positions_of, IsGathered, IsGatheredOf};
 
-use crate::left::{Found, Left};
+use crate::left::{IdState, Remainder};
 use crate::part::Part;
 use crate::rows::Rows;
 use epx_types::{Id, Memory, Plan};
@@ -14,7 +14,7 @@ use std::thread::{Threads, join};
 
 /// Fewer instances than this are left to one thread: more threads would cost more time than they
 /// save.
-const MANY: usize = 4_096;
+const FEWEST_FOR_THREADS: usize = 4_096;
 
 /// How many instances are sampled to estimate the number of dependencies.
 const SAMPLES: usize = 1_024;
@@ -32,19 +32,19 @@ pub(crate) struct Gathered {
 
 /// Appends the position of each Id that is left, and each missing Id.
 fn gather(
-    left: &Left,
+    left: &Remainder,
     deps: &[Id],
     numbers: &mut Vec<usize>,
     missing: &mut Vec<Id>,
 ) -> Result<(), Memory>
-    ensures numbers { OnOk result (numbers.new.items ≡ numbers.old.items ++ positions_of (left_of left.now) (rest_of left.now.done deps.now)) }
-    ensures missing { OnOk result (missing.new.items ≡ missing.old.items ++ lacking (left_of left.now) (rest_of left.now.done deps.now)) }
+    ensures numbers { OnOk result (numbers.new.items ≡ numbers.old.items ++ positions_of (left_of left.now) (remaining_ids left.now.done deps.now)) }
+    ensures missing { OnOk result (missing.new.items ≡ missing.old.items ++ missing_of (left_of left.now) (remaining_ids left.now.done deps.now)) }
 {
     for id in deps {
         match left.look_up(*id) {
-            Found::Left(place) => numbers.push(place)?,
-            Found::Done => {}
-            Found::Missing => missing.push(*id)?,
+            IdState::Remainder(place) => numbers.push(place)?,
+            IdState::Done => {}
+            IdState::Missing => missing.push(*id)?,
         }
     }
     Ok(())
@@ -53,9 +53,14 @@ fn gather(
 impl Rows {
     /// Appends a row: the positions of the dependencies that are left. Missing dependencies are
     /// appended to `missing`.
-    fn push_committed(self, left: &Left, deps: &[Id], missing: &mut Vec<Id>) -> Result<Rows, Memory>
-        ensures rows { IfOk result (λ rows. rows ≡ self ++ positions_of (left_of left.now) (rest_of left.now.done deps.now) ∷ []) }
-        ensures missing { OnOk result (missing.new.items ≡ missing.old.items ++ lacking (left_of left.now) (rest_of left.now.done deps.now)) }
+    fn push_committed(
+        self,
+        left: &Remainder,
+        deps: &[Id],
+        missing: &mut Vec<Id>,
+    ) -> Result<Rows, Memory>
+        ensures rows { IfOk result (λ rows. rows ≡ self ++ positions_of (left_of left.now) (remaining_ids left.now.done deps.now) ∷ []) }
+        ensures missing { OnOk result (missing.new.items ≡ missing.old.items ++ missing_of (left_of left.now) (remaining_ids left.now.done deps.now)) }
     {
         let Rows {
             mut ends,
@@ -83,7 +88,7 @@ impl Gathered {
 }
 
 /// The dependencies of a part of the remaining instances.
-fn gather_part(alloc: Global, left: &Left, part: Part) -> Result<Gathered, Memory>
+fn gather_part(alloc: Global, left: &Remainder, part: Part) -> Result<Gathered, Memory>
     requires start { part.start ≤ part.end }
     requires end { part.end ≤ length (left_of left.now) }
     ensures { IfOk result (λ gathered. IsGatheredOf (left_of left.now) (slice_range (left_of left.now) part.start part.end) gathered.rows gathered.missing.items) }
@@ -102,7 +107,7 @@ fn gather_part(alloc: Global, left: &Left, part: Part) -> Result<Gathered, Memor
 fn gather_parts<R: Threads + Sync>(
     rt: &R,
     alloc: Global,
-    left: &Left,
+    left: &Remainder,
     workers: usize,
     part: Part,
 ) -> Result<Gathered, Memory>
@@ -110,7 +115,7 @@ fn gather_parts<R: Threads + Sync>(
     requires end { part.end ≤ length (left_of left.now) }
     ensures { IfOk result (λ gathered. IsGatheredOf (left_of left.now) (slice_range (left_of left.now) part.start part.end) gathered.rows gathered.missing.items) }
 {
-    if workers < 2 || part.end - part.start < MANY {
+    if workers < 2 || part.end - part.start < FEWEST_FOR_THREADS {
         return gather_part(alloc, left, part);
     }
     let (low, high) = part.halves();
@@ -131,7 +136,7 @@ fn gather_parts<R: Threads + Sync>(
 
 /// An estimate of the dependencies an instance has, from a sample: counting all would fetch each
 /// instance once more. Only the reserved room depends on it.
-fn deps_each(left: &Left) -> usize {
+fn mean_deps(left: &Remainder) -> usize {
     let step = left.len() / SAMPLES + 1;
     let mut seen: usize = 0;
     let mut count: usize = 0;
@@ -151,11 +156,11 @@ fn deps_each(left: &Left) -> usize {
 pub(crate) fn committed_rows<R: Threads + Sync>(
     rt: &R,
     alloc: Global,
-    left: &Left,
+    left: &Remainder,
     plan: Plan,
 ) -> Result<Gathered, Memory>
     ensures { IfOk result (λ gathered. IsGathered (left_of left.now) gathered.rows gathered.missing.items) }
 {
-    let part = Part::whole(left.len(), deps_each(left));
+    let part = Part::all_instances(left.len(), mean_deps(left));
     gather_parts(rt, alloc, left, plan.workers(), part)
 }

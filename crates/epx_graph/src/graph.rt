@@ -1,9 +1,9 @@
 //! The dependency graph.
 ghost use Rattle.std.specs.Prelude.{◌≡◌, ◌==◌, ◌↔◌, ◌<◌, length, Contains, IfOk, IsTrue, MatchOption, Some, slice_get};
 ghost use Rattle.epx_graph.specs.Graphs.{edges_of, graph_over, missing_ids, IsGraph};
-ghost use Rattle.epx_graph.specs.Rows.{AreTurned};
+ghost use Rattle.epx_graph.specs.Rows.{AreTransposed};
 
-use crate::find::find;
+use crate::find_id::find_id;
 use crate::rows::Rows;
 use epx_types::{Id, Memory};
 use std::alloc::Global;
@@ -65,10 +65,10 @@ impl Graph {
         ensures { MatchOption result (¬ Contains self.now.ids id) (λ node. slice_get self.now.ids node ≡ Some id) }
     {
         let (committed, missing) = self.ids.split_at(self.committed_len());
-        if let Some(place) = find(committed, id) {
+        if let Some(place) = find_id(committed, id) {
             return Some(place);
         }
-        match find(missing, id) {
+        match find_id(missing, id) {
             Some(place) => Some(committed.len() + place),
             None => None,
         }
@@ -112,8 +112,8 @@ impl Graph {
     /// For each node, the nodes with an edge to it.
     pub(crate) fn sources(&self, alloc: Global) -> Result<Rows, Memory>
         ensures nodes { IfOk result (λ sources. length sources ≡ length self.now.ids) }
-        ensures turned { IfOk result (AreTurned self.now.edges) }
+        ensures transpose { IfOk result (AreTransposed self.now.edges) }
     {
-        self.rows.turned(alloc, self.len())
+        self.rows.transpose(alloc, self.len())
     }
 }

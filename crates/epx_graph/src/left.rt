@@ -1,11 +1,11 @@
 //! What is left of a committed map once some of its instances are done.
 ghost use Rattle.std.specs.Prelude.{◌≡◌, ◌↔◌, ◌<◌, length, slice_get, Contains, IsTrue, Some, IfOk};
 ghost use Rattle.epx_types.specs.CommittedMap.{ids_of};
-ghost use Rattle.epx_types.specs.Done.{rest_of, without_deps};
+ghost use Rattle.epx_types.specs.Done.{remaining_ids, without_deps};
 ghost use Rattle.epx_types.specs.Ids.{IsRising};
-ghost use Rattle.epx_graph.specs.Left.{IsFound, StandsAt, left_of};
+ghost use Rattle.epx_graph.specs.Remainder.{IsIdStateOf, IsAtPosition, left_of};
 
-use crate::find::{find, is_absent};
+use crate::find_id::{find_id, is_absent};
 use epx_merge::{Guesses, Merged};
 use epx_types::{Entry, Id, Memory};
 use std::alloc::Global;
@@ -13,9 +13,9 @@ use std::marker::Model;
 
 /// What an Id is once some instances are done.
 #[derive(Clone, Copy, Debug)]
-pub(crate) enum Found {
+pub(crate) enum IdState {
     /// At this position among the instances that are left.
-    Left(usize),
+    Remainder(usize),
     Done,
     /// Neither committed nor done.
     Missing,
@@ -23,7 +23,7 @@ pub(crate) enum Found {
 
 /// A committed map and the instances of it that are done.
 #[derive(Debug, Drop)]
-pub(crate) struct Left<'a> {
+pub(crate) struct Remainder<'a> {
     merged: &'a Merged,
     done: &'a [Id],
     /// Guesses of the positions of the done instances.
@@ -33,21 +33,21 @@ pub(crate) struct Left<'a> {
     positions: Vec<usize>,
     /// For each instance of the map, its position among those that are left, if it is left. Empty
     /// if nothing is done.
-    places: Vec<Option<usize>>,
+    positions_left: Vec<Option<usize>>,
 }
 
-impl<'a> Model for Left<'a> {
+impl<'a> Model for Remainder<'a> {
     ghost use Rattle.std.specs.Prelude.{◌<◌, length};
     ghost use Rattle.epx_types.specs.CommittedMap.{ids_of};
     ghost use Rattle.epx_types.specs.Ids.{IsRising};
-    ghost use Rattle.epx_graph.specs.Left.{AreTables, Remains};
+    ghost use Rattle.epx_graph.specs.Remainder.{ArePositionTables, RemainderView};
 
-    ghost Value = { Remains };
+    ghost Value = { RemainderView };
 
     ghost view = { λ l. record { whole = l.merged.now; done = l.done.now } };
 
-    ghost invariant = { λ l. let r : Remains = record { whole = l.merged.now; done = l.done.now } in
-        IsRising (ids_of r.whole) × IsRising r.done × (0 < length r.done → AreTables r l.positions.items l.places.items (length r.whole)) };
+    ghost invariant = { λ l. let r : RemainderView = record { whole = l.merged.now; done = l.done.now } in
+        IsRising (ids_of r.whole) × IsRising r.done × (0 < length r.done → ArePositionTables r l.positions.items l.positions_left.items (length r.whole)) };
 }
 
 /// Guesses of the positions of the done instances.
@@ -81,11 +81,11 @@ fn is_done(done: &[Id], guesses: &Guesses, id: Id) -> bool
     requires { IsRising done.now }
     ensures { IsTrue result ↔ Contains done.now id }
 {
-    is_guessed(done, guesses, id) || find(done, id).is_some()
+    is_guessed(done, guesses, id) || find_id(done, id).is_some()
 }
 
 /// The first position, from `start` on, whose Id is not below the given one.
-fn first_from(done: &[Id], start: usize, id: Id) -> usize {
+fn first_not_below(done: &[Id], start: usize, id: Id) -> usize {
     let mut place = start;
     while place < done.len() && done[place] < id {
         place += 1;
@@ -102,39 +102,43 @@ fn is_done_near(done: &[Id], place: usize, id: Id) -> bool
     if is_at(done, place, id) {
         return true;
     }
-    !is_absent(done, place, id) && find(done, id).is_some()
+    !is_absent(done, place, id) && find_id(done, id).is_some()
 }
 
-impl<'a> Left<'a> {
+impl<'a> Remainder<'a> {
     /// What is left of a map. Takes time n log n if something is done, and constant time if
     /// nothing is.
-    pub(crate) fn new(alloc: Global, merged: &'a Merged, done: &'a [Id]) -> Result<Left<'a>, Memory>
+    pub(crate) fn new(
+        alloc: Global,
+        merged: &'a Merged,
+        done: &'a [Id],
+    ) -> Result<Remainder<'a>, Memory>
         requires { IsRising done.now }
         ensures { IfOk result (λ left. left ≡ record { whole = merged.now; done = done.now }) }
     {
         let guesses = guesses_of(alloc, done)?;
         let mut positions = Vec::new(alloc);
-        let mut places = Vec::new(alloc);
+        let mut positions_left = Vec::new(alloc);
         let all = merged.len();
         let tabled = if done.is_empty() { 0 } else { all };
         let mut below = 0;
         for position in 0..tabled {
             let id = merged.id_at(position);
             // Both lists rise, so one pass over the done Ids is enough.
-            below = first_from(done, below, id);
+            below = first_not_below(done, below, id);
             if is_done_near(done, below, id) {
-                places.push(None)?;
+                positions_left.push(None)?;
                 continue;
             }
-            places.push(Some(positions.len()))?;
+            positions_left.push(Some(positions.len()))?;
             positions.push(position)?;
         }
-        Ok(Left {
+        Ok(Remainder {
             merged,
             done,
             guesses,
             positions,
-            places,
+            positions_left,
         })
     }
 
@@ -152,7 +156,7 @@ impl<'a> Left<'a> {
     /// The position in the map of the instance at a position of those that are left.
     fn position_at(&self, place: usize) -> usize
         requires { place < length (left_of self.now) }
-        ensures { StandsAt self.now result place }
+        ensures { IsAtPosition self.now result place }
     {
         if self.done.is_empty() {
             return place;
@@ -177,32 +181,32 @@ impl<'a> Left<'a> {
     }
 
     /// Whether an Id is left, done or missing.
-    pub(crate) fn look_up(&self, id: Id) -> Found
-        ensures { IsFound self.now id result }
+    pub(crate) fn look_up(&self, id: Id) -> IdState
+        ensures { IsIdStateOf self.now id result }
     {
         // Most done Ids are not in the map: this test avoids a search of the map in vain.
         if is_guessed(self.done, &self.guesses, id) {
-            return Found::Done;
+            return IdState::Done;
         }
         if let Some(position) = self.merged.position(id) {
             if self.done.is_empty() {
-                return Found::Left(position);
+                return IdState::Remainder(position);
             }
-            return match self.places[position] {
-                Some(place) => Found::Left(place),
-                None => Found::Done,
+            return match self.positions_left[position] {
+                Some(place) => IdState::Remainder(place),
+                None => IdState::Done,
             };
         }
         if is_done(self.done, &self.guesses, id) {
-            Found::Done
+            IdState::Done
         } else {
-            Found::Missing
+            IdState::Missing
         }
     }
 
     /// How many of the Ids are not done.
     pub(crate) fn count_undone(&self, ids: &[Id]) -> usize
-        ensures { result ≡ length (rest_of self.now.done ids.now) }
+        ensures { result ≡ length (remaining_ids self.now.done ids.now) }
     {
         if self.done.is_empty() {
             return ids.len();

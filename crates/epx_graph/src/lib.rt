@@ -2,18 +2,18 @@
 //! wait.
 #![tactic(auto)]
 
-mod building;
+mod build_graph;
 mod committed;
-mod find;
+mod find_id;
 mod graph;
 pub mod laws;
 mod left;
 mod part;
 mod rows;
 mod search;
-mod turned;
+mod transpose;
 mod waiters;
 
-pub use building::{build, build_after};
+pub use build_graph::{build, build_after};
 pub use graph::Graph;
 pub use waiters::{Waiter, waiting};

@@ -18,7 +18,7 @@ pub(crate) struct Part {
 
 impl Part {
     /// All instances, with room for `each` numbers in each row.
-    pub(crate) fn whole(instances: usize, each: usize) -> Part
+    pub(crate) fn all_instances(instances: usize, each: usize) -> Part
         ensures start { result.start ≡ 0 }
         ensures end { result.end ≡ instances }
     {

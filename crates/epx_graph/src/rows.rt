@@ -16,13 +16,13 @@ pub(crate) struct Rows {
 
 impl Model for Rows {
     ghost use Rattle.std.specs.Prelude.{ℕ, List, length};
-    ghost use Rattle.epx_graph.specs.Rows.{rows_from, AreEnds};
+    ghost use Rattle.epx_graph.specs.Rows.{rows_from, AreRowEnds};
 
     ghost Value = { List (List ℕ) };
 
     ghost view = { λ r. rows_from 0 r.ends.items r.numbers.items };
 
-    ghost invariant = { λ r. AreEnds 0 r.ends.items (length r.numbers.items) };
+    ghost invariant = { λ r. AreRowEnds 0 r.ends.items (length r.numbers.items) };
 }
 
 /// The start and the end of a row.

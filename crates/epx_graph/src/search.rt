@@ -2,8 +2,8 @@
 ghost use Rattle.std.specs.Prelude.{◌≡◌, ◌+◌, ◌<◌, ◌≤◌, [], None, length, replicate, All, IfOk, OnOk};
 ghost use Rattle.epx_graph.specs.Graphs.{DependencyGraph, IsGraph};
 ghost use Rattle.epx_graph.specs.LeastMissing.{AreMarksOf};
-ghost use Rattle.epx_graph.specs.Rows.{AreTurned};
-ghost use Rattle.epx_graph.specs.Searches.{Visits, Begins};
+ghost use Rattle.epx_graph.specs.Rows.{AreTransposed};
+ghost use Rattle.epx_graph.specs.Searches.{IsVisit, BeginsFrom};
 
 use crate::graph::Graph;
 use crate::rows::Rows;
@@ -13,26 +13,26 @@ use std::marker::Model;
 
 /// A search backwards along the edges, from the missing nodes in rising order.
 #[derive(Drop)]
-struct Search {
+struct MissingSearch {
     /// The least missing node that each committed node is known to reach.
     marks: Vec<Option<usize>>,
     /// Marked nodes whose sources have not been visited yet.
     stack: Vec<usize>,
 }
 
-impl Model for Search {
-    ghost use Rattle.epx_graph.specs.Searches.{Searched};
+impl Model for MissingSearch {
+    ghost use Rattle.epx_graph.specs.Searches.{SearchView};
 
-    ghost Value = { Searched };
+    ghost Value = { SearchView };
 
     ghost view = { λ s. record { marks = s.marks.items; stack = s.stack.items } };
 }
 
-impl Search {
-    fn new(alloc: Global, committed: usize) -> Result<Search, Memory>
+impl MissingSearch {
+    fn new(alloc: Global, committed: usize) -> Result<MissingSearch, Memory>
         ensures { IfOk result (λ search. search ≡ record { marks = replicate committed None; stack = [] }) }
     {
-        Ok(Search {
+        Ok(MissingSearch {
             marks: vec![in alloc; None; committed]?,
             stack: Vec::new(alloc),
         })
@@ -41,7 +41,7 @@ impl Search {
     /// Marks the nodes that have no mark with the root, and pushes them onto the stack.
     fn visit(&mut self, nodes: &[usize], root: usize) -> Result<(), Memory>
         requires { All (λ k. k < length self.old.marks) nodes.now }
-        ensures { OnOk result (Visits nodes.now root self.old self.new) }
+        ensures { OnOk result (IsVisit nodes.now root self.old self.new) }
     {
         for node in nodes {
             if self.marks[*node].is_some() {
@@ -61,8 +61,8 @@ impl Search {
         requires empty { self.old.stack ≡ [] }
         ensures len { OnOk result (length self.new.marks ≡ length self.old.marks) }
         ensures empty { OnOk result (self.new.stack ≡ []) }
-        ensures search { OnOk result ((g : DependencyGraph) → IsGraph g → AreTurned g.edges sources.now → g.committed ≤ root
-            → Begins g root self.old.marks → Begins g (root + 1) self.new.marks) }
+        ensures search { OnOk result ((g : DependencyGraph) → IsGraph g → AreTransposed g.edges sources.now → g.committed ≤ root
+            → BeginsFrom g root self.old.marks → BeginsFrom g (root + 1) self.new.marks) }
     {
         self.stack.push(root)?;
         while let Some(node) = self.stack.pop() {
@@ -78,16 +78,16 @@ pub(crate) fn least_missing(alloc: Global, graph: &Graph) -> Result<Vec<Option<u
     ensures marks { IfOk result (λ marks. AreMarksOf graph.now marks.items) }
     ensures fits { OnOk result (IsGraph graph.now) }
 {
-    let mut search = Search::new(alloc, graph.committed_len())?;
+    let mut search = MissingSearch::new(alloc, graph.committed_len())?;
     // If no node is missing, no edge needs to be transposed.
     if graph.committed_len() == graph.len() {
-        let Search { marks, stack: _ } = search;
+        let MissingSearch { marks, stack: _ } = search;
         return Ok(marks);
     }
     let sources = graph.sources(alloc)?;
     for root in graph.committed_len()..graph.len() {
         search.spread(&sources, root)?;
     }
-    let Search { marks, stack: _ } = search;
+    let MissingSearch { marks, stack: _ } = search;
     Ok(marks)
 }

@@ -1,5 +1,7 @@
 //! Runs over logs of arbitrary bytes.
-use crate::given::{LEAST, LEAST_REPORT, NOTHING, Wanted, bad, is_report, repeated};
+use crate::expected_runs::{
+    EMPTY_REPORT, ONE_LINE, ONE_LINE_REPORT, Wanted, bad_first_line, repeated, run_is_right,
+};
 use epx_types::Why;
 use std::alloc::AllocGlobal;
 use std::process::Abort;
@@ -9,15 +11,15 @@ use std::thread::Threads;
 
 #[test]
 fn each_prefix_of_a_line(rt: HostRuntime) -> Result<(), Fail> {
-    let line = LEAST.as_bytes();
-    assert!(rt; is_report(&rt, &[], &[], Ok(NOTHING))?);
+    let line = ONE_LINE.as_bytes();
+    assert!(rt; run_is_right(&rt, &[], &[], Ok(EMPTY_REPORT))?);
     for end in 1..line.len() {
         assert!(rt;
-            is_report(&rt, &line[..end], &[], bad(Why::NotJson))?,
+            run_is_right(&rt, &line[..end], &[], bad_first_line(Why::NotJson))?,
             "{end} bytes"
         );
     }
-    assert!(rt; is_report(&rt, line, &[], Ok(LEAST_REPORT))?);
+    assert!(rt; run_is_right(&rt, line, &[], Ok(ONE_LINE_REPORT))?);
     Ok(())
 }
 
@@ -40,7 +42,7 @@ const NO_JSON: [&[u8]; 9] = [
 fn bytes_that_are_no_json(rt: HostRuntime) -> Result<(), Fail> {
     for (place, line) in NO_JSON.iter().enumerate() {
         assert!(rt;
-            is_report(&rt, line, &[], bad(Why::NotJson))?,
+            run_is_right(&rt, line, &[], bad_first_line(Why::NotJson))?,
             "line {place}"
         );
     }
@@ -48,7 +50,7 @@ fn bytes_that_are_no_json(rt: HostRuntime) -> Result<(), Fail> {
 }
 
 #[test]
-fn a_good_line_among_bytes_that_spoil_it(rt: HostRuntime) -> Result<(), Fail> {
+fn a_good_line_among_bad_bytes(rt: HostRuntime) -> Result<(), Fail> {
     for (before, after) in [
         ("\u{feff}", ""),
         ("", " x"),
@@ -57,14 +59,14 @@ fn a_good_line_among_bytes_that_spoil_it(rt: HostRuntime) -> Result<(), Fail> {
         ("\u{a0}", ""),
     ] {
         let line = format!(in rt.alloc(); "{before}{LEAST}{after}")?;
-        assert!(rt; is_report(&rt, line.as_bytes(), &[], bad(Why::NotJson))?);
+        assert!(rt; run_is_right(&rt, line.as_bytes(), &[], bad_first_line(Why::NotJson))?);
     }
     Ok(())
 }
 
 /// Whether a run over `depth` arrays, one inside the other, between two texts has the expected
 /// result.
-fn nested<R: AllocGlobal + Threads + RandomSource + Sync>(
+fn run_nested<R: AllocGlobal + Threads + RandomSource + Sync>(
     rt: &R,
     before: &str,
     depth: usize,
@@ -74,22 +76,22 @@ fn nested<R: AllocGlobal + Threads + RandomSource + Sync>(
     let open = repeated(rt.alloc(), "[", depth)?;
     let close = repeated(rt.alloc(), "]", depth)?;
     let line = format!(in rt.alloc(); "{before}{open}{close}{after}")?;
-    is_report(rt, line.as_bytes(), &[], wanted)
+    run_is_right(rt, line.as_bytes(), &[], wanted)
 }
 
 #[test]
 fn nesting(rt: HostRuntime) -> Result<(), Fail> {
     let before = r#"{"r":0,"i":0,"seq":1,"deps":[],"ops":[["put","a",5],["get","a"]],"x":"#;
     let cases: [(&str, usize, &str, Wanted); 5] = [
-        ("", 127, "", bad(Why::NotObject)),
-        ("", 128, "", bad(Why::NotJson)),
-        ("", 32_768, "", bad(Why::NotJson)),
-        (before, 126, "}", Ok(LEAST_REPORT)),
-        (before, 127, "}", bad(Why::NotJson)),
+        ("", 127, "", bad_first_line(Why::NotObject)),
+        ("", 128, "", bad_first_line(Why::NotJson)),
+        ("", 32_768, "", bad_first_line(Why::NotJson)),
+        (before, 126, "}", Ok(ONE_LINE_REPORT)),
+        (before, 127, "}", bad_first_line(Why::NotJson)),
     ];
     for (before, depth, after, wanted) in cases {
         assert!(rt;
-            nested(&rt, before, depth, after, wanted)?,
+            run_nested(&rt, before, depth, after, wanted)?,
             "{depth} arrays"
         );
     }
@@ -101,7 +103,7 @@ fn a_line_that_only_opens(rt: HostRuntime) -> Result<(), Fail> {
     for piece in ["[", "{\"x\":", "[[{\"x\":", "\"", "-", "1"] {
         let line = repeated(rt.alloc(), piece, 65_536 / piece.len())?;
         assert!(rt;
-            is_report(&rt, line.as_bytes(), &[], bad(Why::NotJson))?,
+            run_is_right(&rt, line.as_bytes(), &[], bad_first_line(Why::NotJson))?,
             "{piece}"
         );
     }

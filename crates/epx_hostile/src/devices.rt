@@ -1,5 +1,5 @@
 //! Runs over logs of the greatest size, and over readers and writers that are interrupted.
-use crate::given::{LEAST, LEAST_REPORT, NOTHING, Wanted, is_right, plan};
+use crate::expected_runs::{EMPTY_REPORT, ONE_LINE, ONE_LINE_REPORT, Wanted, is_right, plan};
 use epx_tool::{MemorySink, MemorySource, StdSink, StdSource, run};
 use epx_types::Fault;
 use std::alloc::{AllocGlobal, Global};
@@ -24,7 +24,7 @@ fn run_over_spaces<R: AllocGlobal + Threads + RandomSource + Sync>(
 #[test]
 fn a_log_has_at_most_67108864_bytes(rt: HostRuntime) -> Result<(), Fail> {
     let too_long: Wanted = Err(Fault::LogTooLong { log: 0 });
-    assert!(rt; run_over_spaces(&rt, 67_108_864, Ok(NOTHING))?);
+    assert!(rt; run_over_spaces(&rt, 67_108_864, Ok(EMPTY_REPORT))?);
     assert!(rt; run_over_spaces(&rt, 67_108_865, too_long)?);
     assert!(rt; run_over_spaces(&rt, u64::MAX, too_long)?);
     Ok(())
@@ -37,7 +37,7 @@ struct Interrupted<'a> {
     left: &'a [u8],
     taken: Vec<u8>,
     times: usize,
-    due: usize,
+    interruptions_left: usize,
 }
 
 impl<'a> Interrupted<'a> {
@@ -46,17 +46,17 @@ impl<'a> Interrupted<'a> {
             left,
             taken: Vec::new(alloc),
             times,
-            due: times,
+            interruptions_left: times,
         }
     }
 
     /// Returns an error while interruptions are left before the next call.
     fn interrupt(&mut self) -> io::Result<()> {
-        if self.due > 0 {
-            self.due -= 1;
+        if self.interruptions_left > 0 {
+            self.interruptions_left -= 1;
             return Err(Error::from(ErrorKind::Interrupted));
         }
-        self.due = self.times;
+        self.interruptions_left = self.times;
         Ok(())
     }
 }
@@ -94,7 +94,7 @@ fn run_over_interrupted<R: AllocGlobal + Threads + RandomSource + Sync>(
     times: usize,
     wanted: Wanted,
 ) -> Result<bool, Fail> {
-    let reader = Interrupted::new(rt.alloc(), LEAST.as_bytes(), times);
+    let reader = Interrupted::new(rt.alloc(), ONE_LINE.as_bytes(), times);
     let mut sources = [StdSource::new(reader)];
     let mut sink = MemorySink::new(rt.alloc());
     let outcome = run(rt, rt.alloc(), &mut sources, plan()?, &mut sink);
@@ -103,7 +103,7 @@ fn run_over_interrupted<R: AllocGlobal + Threads + RandomSource + Sync>(
 
 #[test]
 fn interrupted_reads_are_made_again(rt: HostRuntime) -> Result<(), Fail> {
-    assert!(rt; run_over_interrupted(&rt, 3, Ok(LEAST_REPORT))?);
+    assert!(rt; run_over_interrupted(&rt, 3, Ok(ONE_LINE_REPORT))?);
     Ok(())
 }
 
@@ -120,7 +120,7 @@ fn run_to_interrupted<R: AllocGlobal + Threads + RandomSource + Sync>(
     wanted: Wanted,
 ) -> Result<bool, Fail> {
     let mut writer = Interrupted::new(rt.alloc(), &[], times);
-    let mut sources = [MemorySource::new(LEAST.as_bytes())];
+    let mut sources = [MemorySource::new(ONE_LINE.as_bytes())];
     let mut sink = StdSink::new(&mut writer);
     let outcome = run(rt, rt.alloc(), &mut sources, plan()?, &mut sink);
     is_right(outcome, &writer.taken, wanted)
@@ -128,7 +128,7 @@ fn run_to_interrupted<R: AllocGlobal + Threads + RandomSource + Sync>(
 
 #[test]
 fn interrupted_writes_are_made_again(rt: HostRuntime) -> Result<(), Fail> {
-    assert!(rt; run_to_interrupted(&rt, 3, Ok(LEAST_REPORT))?);
+    assert!(rt; run_to_interrupted(&rt, 3, Ok(ONE_LINE_REPORT))?);
     Ok(())
 }
 

@@ -9,4 +9,4 @@ mod bytes;
 #[cfg(test)]
 mod devices;
 #[cfg(test)]
-mod given;
+mod expected_runs;

@@ -2,27 +2,27 @@
 use Rattle.std.specs.Prelude.{◌≡◌, ◌↔◌, ℕ, List, Contains, Some, slice_get}
 use Rattle.epx_types.specs.declared.id.Id.{Id}
 use Rattle.epx_types.specs.Instances.{Instance}
-use Rattle.epx_types.specs.PlacedLines.{Placed, HavePlacesOfTheirOwn}
+use Rattle.epx_types.specs.PlacedLines.{Placed, HaveDistinctPlaces}
 use Rattle.epx_types.specs.Agreement.{Agree, IsFirstDisagreement}
 use Rattle.epx_types.specs.CommittedMap.{ids_of, instance_of, position_of, IsCommittedBy}
 use Rattle.epx_types.specs.Ids.{IsRising}
 use Rattle.epx_laws.specs.AtMostOne.{AtMostOne}
 
 -- two committed maps of the same lines are equal
-abbrev pub CommittedMapIsOne : Type 0
-CommittedMapIsOne = (lines : List Placed) → AtMostOne (IsCommittedBy lines)
+abbrev pub CommittedMapIsUnique : Type 0
+CommittedMapIsUnique = (lines : List Placed) → AtMostOne (IsCommittedBy lines)
 
 -- lines that have a committed map agree
 abbrev pub CommittedLinesAgree : Type 0
 CommittedLinesAgree = (lines : List Placed) (m : List Instance) → IsCommittedBy lines m → Agree lines
 
 -- lines with a first disagreement do not agree
-abbrev pub DisagreementIsNoAgreement : Type 0
-DisagreementIsNoAgreement = (lines : List Placed) (id : Id) (first second : Placed) → IsFirstDisagreement lines id first second → ¬ Agree lines
+abbrev pub DisagreementExcludesAgreement : Type 0
+DisagreementExcludesAgreement = (lines : List Placed) (id : Id) (first second : Placed) → IsFirstDisagreement lines id first second → ¬ Agree lines
 
 -- two first disagreements of lines with distinct places are equal
-abbrev pub FirstDisagreementIsOne : Type 0
-FirstDisagreementIsOne = (lines : List Placed) → HavePlacesOfTheirOwn lines → (id id' : Id) (first second first' second' : Placed) →
+abbrev pub FirstDisagreementIsUnique : Type 0
+FirstDisagreementIsUnique = (lines : List Placed) → HaveDistinctPlaces lines → (id id' : Id) (first second first' second' : Placed) →
     IsFirstDisagreement lines id first second → IsFirstDisagreement lines id' first' second' → (id ≡ id') × (first ≡ first') × (second ≡ second')
 
 -- a look-up of an Id finds exactly the instance of that Id
@@ -30,5 +30,5 @@ abbrev pub LookUpFindsInstance : Type 0
 LookUpFindsInstance = (m : List Instance) → IsRising (ids_of m) → (x : Id) (e : Instance) → (instance_of m x ≡ Some e) ↔ Contains m e × (e.id ≡ x)
 
 -- the position of an Id is the position of its instance in the map
-abbrev pub PositionIsWhereItStands : Type 0
-PositionIsWhereItStands = (m : List Instance) → IsRising (ids_of m) → (x : Id) (i : ℕ) → (position_of m x ≡ Some i) ↔ (e : Instance) × (slice_get m i ≡ Some e) × (e.id ≡ x)
+abbrev pub PositionHasInstance : Type 0
+PositionHasInstance = (m : List Instance) → IsRising (ids_of m) → (x : Id) (i : ℕ) → (position_of m x ≡ Some i) ↔ (e : Instance) × (slice_get m i ≡ Some e) × (e.id ≡ x)

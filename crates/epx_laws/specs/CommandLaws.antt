@@ -6,27 +6,27 @@ use Rattle.epx_types.specs.Keys.{KeyBelow, rising_keys}
 use Rattle.epx_types.specs.Contents.{Contents, AgreeOn}
 use Rattle.epx_types.specs.Commands.{command_on}
 use Rattle.epx_types.specs.CommandKeys.{touched_keys, written_keys}
-use Rattle.epx_types.specs.Writes.{Write, writes_of, put_all, NoKeyTwice}
+use Rattle.epx_types.specs.Writes.{Write, writes_of, apply_writes, HasDistinctKeys}
 
 -- the contents after a command are those before it with its writes applied
-abbrev pub WritesGiveAfter : Type 0
-WritesGiveAfter = (ops : List Op) (c : Contents) → put_all (writes_of ops c) c ≡ (command_on ops c).after
+abbrev pub WritesAreTheEffect : Type 0
+WritesAreTheEffect = (ops : List Op) (c : Contents) → apply_writes (writes_of ops c) c ≡ (command_on ops c).after
 
 -- an aborted command leaves the contents unchanged and writes nothing
 abbrev pub AbortLeavesContents : Type 0
 AbortLeavesContents = (ops : List Op) (c : Contents) (j : ℕ) → (command_on ops c).reply ≡ Abort j → ((command_on ops c).after ≡ c) × (writes_of ops c ≡ [])
 
 -- an abort names the index of an operation, and the operations before it succeed
-abbrev pub AbortNamesPlace : Type 0
-AbortNamesPlace = (ops : List Op) (c : Contents) (j : ℕ) → (command_on ops c).reply ≡ Abort j →
+abbrev pub AbortNamesIndex : Type 0
+AbortNamesIndex = (ops : List Op) (c : Contents) (j : ℕ) → (command_on ops c).reply ≡ Abort j →
     (j < length ops) × ((reads : List (Option ℤ)) × ((command_on (take j ops) c).reply ≡ Values reads))
 
 abbrev pub WritesNameWrittenKeys : Type 0
 WritesNameWrittenKeys = (ops : List Op) (c : Contents) (w : Write) → Contains (writes_of ops c) w → Contains (written_keys ops) w.0
 
 -- a command writes no key twice
-abbrev pub WritesAreApart : Type 0
-WritesAreApart = (ops : List Op) (c : Contents) → NoKeyTwice (writes_of ops c)
+abbrev pub NoKeyWrittenTwice : Type 0
+NoKeyWrittenTwice = (ops : List Op) (c : Contents) → HasDistinctKeys (writes_of ops c)
 
 -- over contents that agree on the touched keys, a command has the same reply and the same writes
 abbrev pub TouchedKeysDecide : Type 0

@@ -5,11 +5,11 @@ use Rattle.epx_types.specs.Conflicts.{Conflict}
 use Rattle.epx_types.specs.Contents.{Contents}
 use Rattle.epx_types.specs.Commands.{command_on}
 
-abbrev pub ConflictIsMutual : Type 0
-ConflictIsMutual = (a b : List Op) → Conflict a b → Conflict b a
+abbrev pub ConflictIsSymmetric : Type 0
+ConflictIsSymmetric = (a b : List Op) → Conflict a b → Conflict b a
 
 -- of two commands that do not conflict, the second has the reply that it has alone, and either
 -- order leaves the same contents
-abbrev pub ApartCommandsExchange : Type 0
-ApartCommandsExchange = (a b : List Op) → ¬ Conflict a b → (c : Contents) →
+abbrev pub CommandsExchange : Type 0
+CommandsExchange = (a b : List Op) → ¬ Conflict a b → (c : Contents) →
     ((command_on b (command_on a c).after).reply ≡ (command_on b c).reply) × ((command_on b (command_on a c).after).after ≡ (command_on a (command_on b c).after).after)

@@ -16,8 +16,8 @@ abbrev pub EachCommandReplies : Type 0
 EachCommandReplies = (commands : List (List Op)) (c : Contents) → length (execute commands c).replies ≡ length commands
 
 -- executing two lists one after the other is executing their concatenation
-abbrev pub ExecutionGoesOn : Type 0
-ExecutionGoesOn = (first rest : List (List Op)) (c : Contents) →
+abbrev pub ExecutionAppends : Type 0
+ExecutionAppends = (first rest : List (List Op)) (c : Contents) →
     ((execute (first ++ rest) c).replies ≡ (execute first c).replies ++ (execute rest (execute first c).final).replies)
     × ((execute (first ++ rest) c).final ≡ (execute rest (execute first c).final).final)
 

@@ -9,16 +9,16 @@ abbrev pub LevelsExist : Type 0
 LevelsExist = (commands : List (List Op)) → (levels : List ℕ) × AreLevels commands levels
 
 -- two levels of one position are equal
-abbrev pub LevelIsOne : Type 0
-LevelIsOne = (commands : List (List Op)) (j : ℕ) → AtMostOne (IsLevel commands j)
+abbrev pub LevelIsUnique : Type 0
+LevelIsUnique = (commands : List (List Op)) (j : ℕ) → AtMostOne (IsLevel commands j)
 
 -- two lists of the levels of the same commands are equal
-abbrev pub LevelsAreOne : Type 0
-LevelsAreOne = (commands : List (List Op)) → AtMostOne (AreLevels commands)
+abbrev pub LevelsAreUnique : Type 0
+LevelsAreUnique = (commands : List (List Op)) → AtMostOne (AreLevels commands)
 
 -- two commands of one level do not conflict
-abbrev pub LevelIsApart : Type 0
-LevelIsApart = (commands : List (List Op)) (i j l : ℕ) → i ≢ j → IsLevel commands i l → IsLevel commands j l → ¬ ConflictAt commands i j
+abbrev pub LevelHasNoConflict : Type 0
+LevelHasNoConflict = (commands : List (List Op)) (i j l : ℕ) → i ≢ j → IsLevel commands i l → IsLevel commands j l → ¬ ConflictAt commands i j
 
 -- of two commands that conflict, the later has the greater level
 abbrev pub ConflictsClimb : Type 0

@@ -8,6 +8,6 @@ pub mod ConflictLaws
 pub mod LevelLaws
 pub mod PieceLaws
 pub mod DoneLaws
-pub mod LongerLaws
-pub mod ResumingLaws
-pub mod OrderingLaws
+pub mod GrowthLaws
+pub mod ResumedRunLaws
+pub mod ComparisonLaws

@@ -17,16 +17,16 @@ use Rattle.epx_laws.specs.AtMostOne.{AtMostOne}
 abbrev pub ExecutionOrderExists : Type 0
 ExecutionOrderExists = (m : List Instance) → IsRising (ids_of m) → (order : List Ranked) × IsExecutionOrder m order
 
-abbrev pub ExecutionOrderIsOne : Type 0
-ExecutionOrderIsOne = (m : List Instance) → AtMostOne (IsExecutionOrder m)
+abbrev pub ExecutionOrderIsUnique : Type 0
+ExecutionOrderIsUnique = (m : List Instance) → AtMostOne (IsExecutionOrder m)
 
 abbrev pub ExecutionOrderIsLawful : Type 0
 ExecutionOrderIsLawful = (m : List Instance) (order : List Ranked) → IsExecutionOrder m order → IsLawful m (map (λ r. r.id) order)
 
 -- the leader of each instance of an execution order is in the order, and is its own leader; so
 -- each component has one leader in it
-abbrev pub LeadersStandInOrder : Type 0
-LeadersStandInOrder = (m : List Instance) (order : List Ranked) → IsExecutionOrder m order → (r : Ranked) → Contains order r →
+abbrev pub LeadersAreInOrder : Type 0
+LeadersAreInOrder = (m : List Instance) (order : List Ranked) → IsExecutionOrder m order → (r : Ranked) → Contains order r →
     (l : Ranked) × Contains order l × (l.id ≡ r.leader) × (l.leader ≡ l.id)
 
 -- These are the leaders of an order: each occurs once and leads some instance, each leader is
@@ -41,17 +41,17 @@ abbrev pub ComponentsAreCounted : Type 0
 ComponentsAreCounted = (m : List Instance) (order : List Ranked) → IsExecutionOrder m order → (leaders : List Id) × AreLeaders order leaders
 
 -- x is before y in this order if one of them reaches the other
-pub record StandsAlike (m : List Instance) (ids : List Id) (x y : Id) : Type 0 where
+pub record KeepsOrder (m : List Instance) (ids : List Id) (x y : Id) : Type 0 where
   pub there : Reaches m x y → Before ids x y
   pub back : Reaches m y x → Before ids x y
 
 -- if one of two instances reaches the other, they come in the same order in all lawful orders
-abbrev pub RelatedStandAlike : Type 0
-RelatedStandAlike = (m : List Instance) (ids other : List Id) → IsLawful m ids → IsLawful m other → (x y : Id) → Before ids x y → StandsAlike m other x y
+abbrev pub RelatedKeepOrder : Type 0
+RelatedKeepOrder = (m : List Instance) (ids other : List Id) → IsLawful m ids → IsLawful m other → (x y : Id) → Before ids x y → KeepsOrder m other x y
 
 -- lawful orders of one map have the same instances
-abbrev pub LawfulOrdersHoldTheSame : Type 0
-LawfulOrdersHoldTheSame = (m : List Instance) (ids other : List Id) → IsLawful m ids → IsLawful m other → (x : Id) → Contains ids x → Contains other x
+abbrev pub LawfulOrdersHaveSameIds : Type 0
+LawfulOrdersHaveSameIds = (m : List Instance) (ids other : List Id) → IsLawful m ids → IsLawful m other → (x : Id) → Contains ids x → Contains other x
 
 -- d and e are different ready instances that conflict
 pub record AreReadyAndConflict (m : List Instance) (d e : Instance) : Type 0 where
@@ -63,8 +63,8 @@ pub record AreReadyAndConflict (m : List Instance) (d e : Instance) : Type 0 whe
   pub conflict : Conflict d.ops e.ops
 
 -- two ready instances of a covered map that conflict come in the same order in all lawful orders
-abbrev pub ConflictsStandAlike : Type 0
-ConflictsStandAlike = (m : List Instance) → IsCovered m → (ids other : List Id) → IsLawful m ids → IsLawful m other →
+abbrev pub ConflictsKeepOrder : Type 0
+ConflictsKeepOrder = (m : List Instance) → IsCovered m → (ids other : List Id) → IsLawful m ids → IsLawful m other →
     (d e : Instance) → AreReadyAndConflict m d e → Before ids d.id e.id → Before other d.id e.id
 
 -- two lawful orders of a covered map leave the same contents, and each instance has the same reply

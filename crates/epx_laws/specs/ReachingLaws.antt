@@ -5,7 +5,7 @@ use Rattle.epx_types.specs.Instances.{Instance}
 use Rattle.epx_types.specs.Ids.{IsRising}
 use Rattle.epx_types.specs.CommittedMap.{ids_of, IsCommitted}
 use Rattle.epx_types.specs.Reaching.{DependsOn, Reaches}
-use Rattle.epx_types.specs.Readiness.{IsReady, WaitsFor, LacksNothing}
+use Rattle.epx_types.specs.Readiness.{IsReady, WaitsFor, NoneMissing}
 use Rattle.epx_types.specs.WaitingLists.{Waiting, IsWaitingList}
 use Rattle.epx_types.specs.Components.{InOneComponent, IsLeader}
 use Rattle.epx_types.specs.Depth.{IsDepth, FallsOneWay}
@@ -49,15 +49,15 @@ pub record MembersAreAlike : Type 0 where
 abbrev pub LeaderExists : Type 0
 LeaderExists = (m : List Instance) (x : Id) → (leader : Id) × IsLeader m x leader
 
-abbrev pub LeaderIsOne : Type 0
-LeaderIsOne = (m : List Instance) (x : Id) → AtMostOne (IsLeader m x)
+abbrev pub LeaderIsUnique : Type 0
+LeaderIsUnique = (m : List Instance) (x : Id) → AtMostOne (IsLeader m x)
 
 -- each instance has a depth
 abbrev pub DepthExists : Type 0
 DepthExists = (m : List Instance) (x : Id) → (depth : ℕ) × IsDepth m x depth
 
-abbrev pub DepthIsOne : Type 0
-DepthIsOne = (m : List Instance) (x : Id) → AtMostOne (IsDepth m x)
+abbrev pub DepthIsUnique : Type 0
+DepthIsUnique = (m : List Instance) (x : Id) → AtMostOne (IsDepth m x)
 
 -- if x reaches y and y does not reach x, the depth of y is less
 abbrev pub DepthFalls : Type 0
@@ -68,16 +68,16 @@ abbrev pub DepthIsLeast : Type 0
 DepthIsLeast = (m : List Instance) (f : Id → ℕ) → FallsOneWay m f → (x : Id) (k : ℕ) → IsDepth m x k → k ≤ f x
 
 -- an instance waits for at most one other
-abbrev pub MissingIsOne : Type 0
-MissingIsOne = (m : List Instance) (x : Id) → AtMostOne (WaitsFor m x)
+abbrev pub WaitsForOne : Type 0
+WaitsForOne = (m : List Instance) (x : Id) → AtMostOne (WaitsFor m x)
 
 -- a committed map has a waiting list
 abbrev pub WaitingListExists : Type 0
 WaitingListExists = (m : List Instance) → IsRising (ids_of m) → (ws : List Waiting) × IsWaitingList m ws
 
 -- a map has at most one waiting list
-abbrev pub WaitingListIsOne : Type 0
-WaitingListIsOne = (m : List Instance) → AtMostOne (IsWaitingList m)
+abbrev pub WaitingListIsUnique : Type 0
+WaitingListIsUnique = (m : List Instance) → AtMostOne (IsWaitingList m)
 
 -- a committed instance is ready, or waits for another
 abbrev pub ReadyOrWaits : Type 0
@@ -88,5 +88,5 @@ abbrev pub ReadyWaitsForNothing : Type 0
 ReadyWaitsForNothing = (m : List Instance) (x : Id) → IsCommitted m x → (IsReady m x ↔ ((y : Id) → ¬ WaitsFor m x y))
 
 -- if each dependency is committed, each committed instance is ready
-abbrev pub AllReadyWhereNothingLacks : Type 0
-AllReadyWhereNothingLacks = (m : List Instance) → LacksNothing m → (x : Id) → IsCommitted m x → IsReady m x
+abbrev pub NoneMissingAllReady : Type 0
+NoneMissingAllReady = (m : List Instance) → NoneMissing m → (x : Id) → IsCommitted m x → IsReady m x

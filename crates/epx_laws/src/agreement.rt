@@ -1,9 +1,9 @@
 //! Laws of what the lines of logs commit.
-ghost use Rattle.epx_laws.specs.AgreementLaws.{PositionIsWhereItStands, CommittedMapIsOne, CommittedLinesAgree, DisagreementIsNoAgreement, FirstDisagreementIsOne, LookUpFindsInstance};
+ghost use Rattle.epx_laws.specs.AgreementLaws.{PositionHasInstance, CommittedMapIsUnique, CommittedLinesAgree, DisagreementExcludesAgreement, FirstDisagreementIsUnique, LookUpFindsInstance};
 
 /// Lines have at most one committed map.
-pub fn committed_map_is_one()
-    ensures { CommittedMapIsOne }
+pub fn committed_map_is_unique()
+    ensures { CommittedMapIsUnique }
 {}
 
 /// Lines that have a committed map agree.
@@ -12,13 +12,13 @@ pub fn committed_lines_agree()
 {}
 
 /// Lines with a first disagreement do not agree.
-pub fn disagreement_is_no_agreement()
-    ensures { DisagreementIsNoAgreement }
+pub fn disagreement_excludes_agreement()
+    ensures { DisagreementExcludesAgreement }
 {}
 
 /// Lines with distinct places have at most one first disagreement.
-pub fn first_disagreement_is_one()
-    ensures { FirstDisagreementIsOne }
+pub fn first_disagreement_is_unique()
+    ensures { FirstDisagreementIsUnique }
 {}
 
 /// A look-up of an Id finds exactly the instance of that Id.
@@ -27,6 +27,6 @@ pub fn look_up_finds_instance()
 {}
 
 /// The position of an Id is the position of its instance in the map.
-pub fn position_is_where_it_stands()
-    ensures { PositionIsWhereItStands }
+pub fn position_has_instance()
+    ensures { PositionHasInstance }
 {}

@@ -1,9 +1,9 @@
 //! Laws of what commands read and write.
-ghost use Rattle.epx_laws.specs.CommandLaws.{WritesGiveAfter, AbortLeavesContents, AbortNamesPlace, WritesNameWrittenKeys, WritesAreApart, TouchedKeysDecide, KeysRise};
+ghost use Rattle.epx_laws.specs.CommandLaws.{WritesAreTheEffect, AbortLeavesContents, AbortNamesIndex, WritesNameWrittenKeys, NoKeyWrittenTwice, TouchedKeysDecide, KeysRise};
 
 /// The contents after a command are those before it with its writes applied, one after another.
-pub fn writes_give_after()
-    ensures { WritesGiveAfter }
+pub fn writes_are_the_effect()
+    ensures { WritesAreTheEffect }
 {}
 
 /// An aborted command leaves the contents unchanged and writes nothing.
@@ -12,8 +12,8 @@ pub fn abort_leaves_contents()
 {}
 
 /// An abort names the index of an operation, and the operations before it succeed.
-pub fn abort_names_place()
-    ensures { AbortNamesPlace }
+pub fn abort_names_index()
+    ensures { AbortNamesIndex }
 {}
 
 /// The keys of a command's writes are written keys of the command.
@@ -22,8 +22,8 @@ pub fn writes_name_written_keys()
 {}
 
 /// A command writes no key twice.
-pub fn writes_are_apart()
-    ensures { WritesAreApart }
+pub fn no_key_written_twice()
+    ensures { NoKeyWrittenTwice }
 {}
 
 /// Over contents that agree on its touched keys, a command has the same reply and the same writes.

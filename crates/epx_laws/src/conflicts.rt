@@ -1,12 +1,12 @@
 //! Laws of commands that conflict, and of those that do not.
-ghost use Rattle.epx_laws.specs.ConflictLaws.{ConflictIsMutual, ApartCommandsExchange};
+ghost use Rattle.epx_laws.specs.ConflictLaws.{ConflictIsSymmetric, CommandsExchange};
 
 /// Conflict is symmetric.
-pub fn conflict_is_mutual()
-    ensures { ConflictIsMutual }
+pub fn conflict_is_symmetric()
+    ensures { ConflictIsSymmetric }
 {}
 
 /// Two commands that do not conflict can be exchanged.
-pub fn apart_commands_exchange()
-    ensures { ApartCommandsExchange }
+pub fn commands_exchange()
+    ensures { CommandsExchange }
 {}

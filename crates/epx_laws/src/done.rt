@@ -1,5 +1,5 @@
 //! Laws of the remaining map, a committed map without its done instances.
-ghost use Rattle.epx_laws.specs.DoneLaws.{LeftDependsOnLeft, LeftIsReadyAlike, NothingDoneLeavesAll, LeftIsNotDone, LeftRises};
+ghost use Rattle.epx_laws.specs.DoneLaws.{RemainingDependencies, RemainingIsReadyAlike, NothingDoneLeavesAll, RemainingIsNotDone, RemainingIdsRise};
 
 /// If nothing is done, the whole map remains.
 pub fn nothing_done_leaves_all()
@@ -7,22 +7,22 @@ pub fn nothing_done_leaves_all()
 {}
 
 /// The remaining map has exactly the Ids that are not done.
-pub fn left_is_not_done()
-    ensures { LeftIsNotDone }
+pub fn remaining_is_not_done()
+    ensures { RemainingIsNotDone }
 {}
 
 /// If the Ids of a map rise, those of the remaining map rise.
-pub fn left_rises()
-    ensures { LeftRises }
+pub fn remaining_ids_rise()
+    ensures { RemainingIdsRise }
 {}
 
 /// A remaining instance depends exactly on its former dependencies that are not done.
-pub fn left_depends_on_left()
-    ensures { LeftDependsOnLeft }
+pub fn remaining_dependencies()
+    ensures { RemainingDependencies }
 {}
 
 /// If all done instances are ready, an instance that is not done is ready in the remaining map
 /// exactly if it is ready in the whole map.
-pub fn left_is_ready_alike()
-    ensures { LeftIsReadyAlike }
+pub fn remaining_is_ready_alike()
+    ensures { RemainingIsReadyAlike }
 {}

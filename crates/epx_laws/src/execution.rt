@@ -1,5 +1,5 @@
 //! Laws of commands executed one after another.
-ghost use Rattle.epx_laws.specs.ExecutionLaws.{OneCommandExecutes, EachCommandReplies, ExecutionGoesOn, RearrangementsExecuteAlike};
+ghost use Rattle.epx_laws.specs.ExecutionLaws.{OneCommandExecutes, EachCommandReplies, ExecutionAppends, RearrangementsExecuteAlike};
 
 /// Executing a list of one command is executing that command.
 pub fn one_command_executes()
@@ -12,8 +12,8 @@ pub fn each_command_replies()
 {}
 
 /// Executing two lists one after the other is executing their concatenation.
-pub fn execution_goes_on()
-    ensures { ExecutionGoesOn }
+pub fn execution_appends()
+    ensures { ExecutionAppends }
 {}
 
 /// A rearrangement that keeps the order of any two commands that conflict leaves the same

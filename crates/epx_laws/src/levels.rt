@@ -1,5 +1,5 @@
 //! Laws of conflict levels.
-ghost use Rattle.epx_laws.specs.LevelLaws.{LevelsExist, LevelIsOne, LevelsAreOne, LevelIsApart, ConflictsClimb, LevelsAreLeast, LevelsAreFewest, EachLevelIsReached};
+ghost use Rattle.epx_laws.specs.LevelLaws.{LevelsExist, LevelIsUnique, LevelsAreUnique, LevelHasNoConflict, ConflictsClimb, LevelsAreLeast, LevelsAreFewest, EachLevelIsReached};
 
 /// Every list of commands has levels.
 pub fn levels_exist()
@@ -7,18 +7,18 @@ pub fn levels_exist()
 {}
 
 /// A position has at most one level.
-pub fn level_is_one()
-    ensures { LevelIsOne }
+pub fn level_is_unique()
+    ensures { LevelIsUnique }
 {}
 
 /// A list of commands has at most one list of levels.
-pub fn levels_are_one()
-    ensures { LevelsAreOne }
+pub fn levels_are_unique()
+    ensures { LevelsAreUnique }
 {}
 
 /// No two commands of one level conflict.
-pub fn level_is_apart()
-    ensures { LevelIsApart }
+pub fn level_has_no_conflict()
+    ensures { LevelHasNoConflict }
 {}
 
 /// Of two commands that conflict, the later has the greater level.

@@ -4,13 +4,13 @@
 
 pub mod agreement;
 pub mod commands;
+pub mod comparisons;
 pub mod conflicts;
 pub mod done;
 pub mod execution;
+pub mod growth;
 pub mod levels;
-pub mod longer;
 pub mod order;
-pub mod orders;
 pub mod pieces;
 pub mod reaching;
-pub mod resuming;
+pub mod resumed_runs;

@@ -1,5 +1,5 @@
 //! Laws of execution orders.
-ghost use Rattle.epx_laws.specs.OrderLaws.{ExecutionOrderExists, ComponentsAreCounted, RelatedStandAlike, LawfulOrdersHoldTheSame, LawfulOrdersExecuteAlike, ConflictsStandAlike, ExecutionOrderIsOne, ExecutionOrderIsLawful, LeadersStandInOrder};
+ghost use Rattle.epx_laws.specs.OrderLaws.{ExecutionOrderExists, ComponentsAreCounted, RelatedKeepOrder, LawfulOrdersHaveSameIds, LawfulOrdersExecuteAlike, ConflictsKeepOrder, ExecutionOrderIsUnique, ExecutionOrderIsLawful, LeadersAreInOrder};
 
 /// A committed map has an execution order.
 pub fn execution_order_exists()
@@ -7,8 +7,8 @@ pub fn execution_order_exists()
 {}
 
 /// A map has at most one execution order.
-pub fn execution_order_is_one()
-    ensures { ExecutionOrderIsOne }
+pub fn execution_order_is_unique()
+    ensures { ExecutionOrderIsUnique }
 {}
 
 /// An execution order is lawful.
@@ -17,23 +17,23 @@ pub fn execution_order_is_lawful()
 {}
 
 /// The leader of each instance of an execution order is in the order, and is its own leader.
-pub fn leaders_stand_in_order()
-    ensures { LeadersStandInOrder }
+pub fn leaders_are_in_order()
+    ensures { LeadersAreInOrder }
 {}
 
 /// If one of two instances reaches the other, they come in the same order in all lawful orders.
-pub fn related_stand_alike()
-    ensures { RelatedStandAlike }
+pub fn related_keep_order()
+    ensures { RelatedKeepOrder }
 {}
 
 /// Lawful orders of one map have the same instances.
-pub fn lawful_orders_hold_the_same()
-    ensures { LawfulOrdersHoldTheSame }
+pub fn lawful_orders_have_same_ids()
+    ensures { LawfulOrdersHaveSameIds }
 {}
 
 /// Two ready instances of a covered map that conflict come in the same order in all lawful orders.
-pub fn conflicts_stand_alike()
-    ensures { ConflictsStandAlike }
+pub fn conflicts_keep_order()
+    ensures { ConflictsKeepOrder }
 {}
 
 /// Two lawful orders of a covered map leave the same contents, and each instance has the same

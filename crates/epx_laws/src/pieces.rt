@@ -1,5 +1,5 @@
 //! Laws of the pieces of a plan.
-ghost use Rattle.epx_laws.specs.PieceLaws.{PiecesFollowEachOther, PiecesHaveFewItems, PiecesCoverItems};
+ghost use Rattle.epx_laws.specs.PieceLaws.{PiecesFollowEachOther, PieceSizeIsBounded, PiecesCoverItems};
 
 /// The pieces follow each other from the first item to the last.
 pub fn pieces_follow_each_other()
@@ -7,8 +7,8 @@ pub fn pieces_follow_each_other()
 {}
 
 /// A piece has at least one item and at most `cut`.
-pub fn pieces_have_few_items()
-    ensures { PiecesHaveFewItems }
+pub fn piece_size_is_bounded()
+    ensures { PieceSizeIsBounded }
 {}
 
 /// Each item is in a piece.

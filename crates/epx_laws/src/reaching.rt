@@ -1,5 +1,5 @@
 //! Laws of reaching, of components and of readiness.
-ghost use Rattle.epx_laws.specs.ReachingLaws.{DependenciesAreListed, ReachingIsReflexive, ReachingIsTransitive, DependenciesAreReached, ReachingIsLeast, OneComponentIsEquivalence, MembersAreAlike, LeaderExists, LeaderIsOne, DepthExists, DepthIsOne, DepthFalls, DepthIsLeast, MissingIsOne, WaitingListExists, WaitingListIsOne, ReadyOrWaits, ReadyWaitsForNothing, AllReadyWhereNothingLacks};
+ghost use Rattle.epx_laws.specs.ReachingLaws.{DependenciesAreListed, ReachingIsReflexive, ReachingIsTransitive, DependenciesAreReached, ReachingIsLeast, OneComponentIsEquivalence, MembersAreAlike, LeaderExists, LeaderIsUnique, DepthExists, DepthIsUnique, DepthFalls, DepthIsLeast, WaitsForOne, WaitingListExists, WaitingListIsUnique, ReadyOrWaits, ReadyWaitsForNothing, NoneMissingAllReady};
 
 /// Only committed instances depend on others, each exactly on the Ids in its list of dependencies.
 pub fn dependencies_are_listed()
@@ -42,8 +42,8 @@ pub fn leader_exists()
 {}
 
 /// An instance has at most one leader.
-pub fn leader_is_one()
-    ensures { LeaderIsOne }
+pub fn leader_is_unique()
+    ensures { LeaderIsUnique }
 {}
 
 /// Each instance has a depth.
@@ -52,8 +52,8 @@ pub fn depth_exists()
 {}
 
 /// An instance has at most one depth.
-pub fn depth_is_one()
-    ensures { DepthIsOne }
+pub fn depth_is_unique()
+    ensures { DepthIsUnique }
 {}
 
 /// If x reaches y and y does not reach x, the depth of y is less.
@@ -67,8 +67,8 @@ pub fn depth_is_least()
 {}
 
 /// An instance waits for at most one other.
-pub fn missing_is_one()
-    ensures { MissingIsOne }
+pub fn waits_for_one()
+    ensures { WaitsForOne }
 {}
 
 /// A committed map has a waiting list.
@@ -77,8 +77,8 @@ pub fn waiting_list_exists()
 {}
 
 /// A map has at most one waiting list.
-pub fn waiting_list_is_one()
-    ensures { WaitingListIsOne }
+pub fn waiting_list_is_unique()
+    ensures { WaitingListIsUnique }
 {}
 
 /// A committed instance is ready, or waits for another.
@@ -92,6 +92,6 @@ pub fn ready_waits_for_nothing()
 {}
 
 /// If each dependency is committed, each committed instance is ready.
-pub fn all_ready_where_nothing_lacks()
-    ensures { AllReadyWhereNothingLacks }
+pub fn none_missing_all_ready()
+    ensures { NoneMissingAllReady }
 {}

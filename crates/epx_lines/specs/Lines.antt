@@ -2,30 +2,30 @@
 use Rattle.std.specs.Prelude.{◌≡◌, ℕ, ◌-◌, ◌==◌, ◌&&◌, Bool, not, nat_lt, List, [], ◌∷◌, ◌++◌, length, slice_index, flat_map, All, Contains, if◌then◌else◌}
 
 -- puts a byte in front of the first line
-abbrev pub lengthen_first : ℕ → List (List ℕ) → List (List ℕ)
-lengthen_first b [] = (b ∷ []) ∷ []
-lengthen_first b (l ∷ ls) = (b ∷ l) ∷ ls
+abbrev pub prepend_to_first : ℕ → List (List ℕ) → List (List ℕ)
+prepend_to_first b [] = (b ∷ []) ∷ []
+prepend_to_first b (l ∷ ls) = (b ∷ l) ∷ ls
 
 -- the pieces between line feeds; an empty piece after the last line feed is not a line
 abbrev pub lines_of : List ℕ → List (List ℕ)
 lines_of [] = []
-lines_of (b ∷ bs) = if b == 10 then [] ∷ lines_of bs else lengthen_first b (lines_of bs)
+lines_of (b ∷ bs) = if b == 10 then [] ∷ lines_of bs else prepend_to_first b (lines_of bs)
 
 -- ---- the same without recursion
 
 -- some bytes follow the last line feed
-abbrev pub ends_open : List ℕ → Bool
-ends_open bytes = nat_lt 0 (length bytes) && not (slice_index bytes (length bytes - 1) == 10)
+abbrev pub lacks_line_feed : List ℕ → Bool
+lacks_line_feed bytes = nat_lt 0 (length bytes) && not (slice_index bytes (length bytes - 1) == 10)
 
 -- the lines, each followed by a line feed
-abbrev pub closed : List (List ℕ) → List ℕ
-closed lines = flat_map (λ l. l ++ 10 ∷ []) lines
+abbrev pub with_line_feeds : List (List ℕ) → List ℕ
+with_line_feeds lines = flat_map (λ l. l ++ 10 ∷ []) lines
 
 -- no line contains a line feed; the lines, each followed by one, are the bytes, to which one is
 -- added if some bytes follow their last line feed
 pub record AreLinesOf (bytes : List ℕ) (lines : List (List ℕ)) : Type 0 where
   pub unbroken : All (λ l. ¬ Contains l 10) lines
-  pub whole : closed lines ≡ (if ends_open bytes then bytes ++ 10 ∷ [] else bytes)
+  pub whole : with_line_feeds lines ≡ (if lacks_line_feed bytes then bytes ++ 10 ∷ [] else bytes)
 
 -- `lines_of` returns such lines
 abbrev pub LinesMakeUpTheBytes : Type 0

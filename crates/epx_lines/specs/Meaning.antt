@@ -55,8 +55,8 @@ need why None next = Err why
 need why (Some x) next = next x
 
 -- what an object means: an instance, nothing if it is not committed yet, or the first fault
-unfoldable pub object_line : Data → Result Line Why
-object_line d =
+unfoldable pub meaning_of_object : Data → Result Line Why
+meaning_of_object d =
     need Replica (at_member (codes "r") (whole 256) d) (λ r.
     need Number (at_member (codes "i") (whole (2 ^ 64)) d) (λ i.
     need Seq (at_member (codes "seq") (whole (2 ^ 64)) d) (λ seq.
@@ -71,7 +71,7 @@ object_line d =
 -- ---- the line
 
 abbrev pub meaning_of_value : Data → Result Line Why
-meaning_of_value d = if is_some (as_object d) then object_line d else Err NotObject
+meaning_of_value d = if is_some (as_object d) then meaning_of_object d else Err NotObject
 
 abbrev pub meaning_of : List ℕ → Result Line Why
 meaning_of bytes =

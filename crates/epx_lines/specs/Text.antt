@@ -18,20 +18,20 @@ data_of_value None = null
 data_of_value (Some v) = number (of_integer v)
 
 -- a name and a key; then the same with a third part
-abbrev pub keyed : List ℕ → List ℕ → Data
-keyed name k = array (item (string name) (item (string k) no_items))
+abbrev pub op_pair : List ℕ → List ℕ → Data
+op_pair name k = array (item (string name) (item (string k) no_items))
 
-abbrev pub keyed_with : List ℕ → List ℕ → Data → Data
-keyed_with name k d = array (item (string name) (item (string k) (item d no_items)))
+abbrev pub op_triple : List ℕ → List ℕ → Data → Data
+op_triple name k d = array (item (string name) (item (string k) (item d no_items)))
 
 unfoldable pub data_of_op : Op → Data
-data_of_op (Get k) = keyed (codes "get") k
-data_of_op (Put k v) = keyed_with (codes "put") k (number (of_integer v))
-data_of_op (Del k) = keyed (codes "del") k
-data_of_op (Add k n) = keyed_with (codes "add") k (number (of_integer n))
-data_of_op (Is k o) = keyed_with (codes "is") k (data_of_value o)
-data_of_op (Floor k v) = keyed_with (codes "floor") k (number (of_integer v))
-data_of_op (Copy k j) = keyed_with (codes "copy") k (string j)
+data_of_op (Get k) = op_pair (codes "get") k
+data_of_op (Put k v) = op_triple (codes "put") k (number (of_integer v))
+data_of_op (Del k) = op_pair (codes "del") k
+data_of_op (Add k n) = op_triple (codes "add") k (number (of_integer n))
+data_of_op (Is k o) = op_triple (codes "is") k (data_of_value o)
+data_of_op (Floor k v) = op_triple (codes "floor") k (number (of_integer v))
+data_of_op (Copy k j) = op_triple (codes "copy") k (string j)
 
 -- the object with these members, in the order of their names
 abbrev pub object_with : ℕ → ℕ → ℕ → Data → Data → Data

@@ -21,17 +21,17 @@ abbrev pub BeginsWith : ℕ → List Token → Data → List Token → Type 0
 BeginsWith n ts d rest = (depth : ℕ) → n ≤ depth → converted of_json (value depth ts) ≡ Some (d, rest)
 
 -- the tokens begin with a value for which f returns x
-abbrev pub Gives : {A : Type 0} → ℕ → (Data → Option A) → List Token → A → List Token → Type 0
-Gives n f ts x rest = (d : Data) × BeginsWith n ts d rest × (f d ≡ Some x)
+abbrev pub ParsesTo : {A : Type 0} → ℕ → (Data → Option A) → List Token → A → List Token → Type 0
+ParsesTo n f ts x rest = (d : Data) × BeginsWith n ts d rest × (f d ≡ Some x)
 
 -- the tokens begin with the values ds, one after another
-abbrev pub BeginsInTurn : ℕ → List Token → List Data → List Token → Type 0
-BeginsInTurn n ts [] rest = ts ≡ rest
-BeginsInTurn n ts (d ∷ ds) rest = (mid : List Token) × BeginsWith n ts d mid × BeginsInTurn n mid ds rest
+abbrev pub BeginsWithAll : ℕ → List Token → List Data → List Token → Type 0
+BeginsWithAll n ts [] rest = ts ≡ rest
+BeginsWithAll n ts (d ∷ ds) rest = (mid : List Token) × BeginsWith n ts d mid × BeginsWithAll n mid ds rest
 
 -- the tokens begin with values for which f returns x
-abbrev pub GivesInTurn : {A : Type 0} → ℕ → (List Data → Option A) → List Token → A → List Token → Type 0
-GivesInTurn n f ts x rest = (ds : List Data) × BeginsInTurn n ts ds rest × (f ds ≡ Some x)
+abbrev pub ParsesAllTo : {A : Type 0} → ℕ → (List Data → Option A) → List Token → A → List Token → Type 0
+ParsesAllTo n f ts x rest = (ds : List Data) × BeginsWithAll n ts ds rest × (f ds ≡ Some x)
 
 -- if the part is known, it is f of the object's member
 abbrev pub IsMember : {A : Type 0} → List ℕ → (Data → Option A) → Members → Option A → Type 0

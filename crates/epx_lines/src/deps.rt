@@ -51,7 +51,7 @@ pub fn read_id(value: &Value) -> Option<Id>
 
 /// Sorts the Ids, and removes repeats and the Id of the instance itself. A list that is already so
 /// is returned unchanged.
-pub fn other_ids(alloc: Global, id: Id, named: Vec<Id>) -> Result<Vec<Id>, Memory>
+pub fn sort_other_ids(alloc: Global, id: Id, named: Vec<Id>) -> Result<Vec<Id>, Memory>
     ensures { IfOk result (λ v. v.items ≡ rising_others id named.items) }
 {
     if is_rising(&named) && !named.contains(&id) {
@@ -85,5 +85,5 @@ pub fn read_deps(alloc: Global, id: Id, value: &Value) -> Result<Option<Vec<Id>>
         };
         named.push(dep)?;
     }
-    Ok(Some(other_ids(alloc, id, named)?))
+    Ok(Some(sort_other_ids(alloc, id, named)?))
 }

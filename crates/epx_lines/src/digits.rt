@@ -7,10 +7,10 @@ ghost use Rattle.serde_json.specs.Read.{number_of};
 ghost use Rattle.epx_lines.specs.Tokens.{AreDigitsOf};
 
 /// A number below this can take one more digit without overflow.
-const ROOM: u64 = 1 << 60;
+const DIGIT_LIMIT: u64 = 1 << 60;
 
 /// Reads one or more digits and nothing else.
-fn digits_number(bytes: &[u8]) -> Option<u64>
+fn read_digits(bytes: &[u8]) -> Option<u64>
     ensures { IfSome result (λ n. AreDigitsOf bytes.now n) }
 {
     if bytes.is_empty() {
@@ -18,7 +18,7 @@ fn digits_number(bytes: &[u8]) -> Option<u64>
     }
     let mut number = 0_u64;
     for byte in bytes {
-        if number >= ROOM || !byte.is_ascii_digit() {
+        if number >= DIGIT_LIMIT || !byte.is_ascii_digit() {
             return None;
         }
         number = number * 10 + u64::from(*byte - b'0');
@@ -27,14 +27,14 @@ fn digits_number(bytes: &[u8]) -> Option<u64>
 }
 
 /// Reads a number without sign, fraction and exponent.
-pub(crate) fn unsigned_number(text: &str) -> Option<u64>
+pub(crate) fn read_unsigned(text: &str) -> Option<u64>
     ensures { IfSome result (λ n. number_of text.now ≡ Some (unsigned n)) }
 {
-    Some(digits_number(text.as_bytes())?)
+    Some(read_digits(text.as_bytes())?)
 }
 
 /// Negates a number below 2^63. None for 0, because `-0` is not a whole number.
-fn negated(size: u64) -> Option<i64>
+fn negate(size: u64) -> Option<i64>
     ensures { IfSome result (λ z. (0 < size) × (size ≤ 2 ^ 63) × (z ≡ neg_ℤ (pos size))) }
 {
     let size = i64::try_from(size).ok()?;
@@ -42,11 +42,11 @@ fn negated(size: u64) -> Option<i64>
 }
 
 /// Reads a signed number without fraction and exponent.
-pub(crate) fn signed_number(text: &str) -> Option<i64>
+pub(crate) fn read_signed(text: &str) -> Option<i64>
     ensures { IfSome result (λ z. number_of text.now ≡ Some (of_integer z)) }
 {
     match text.as_bytes() {
-        [b'-', digits @ ..] => negated(digits_number(digits)?),
-        _ => i64::try_from(unsigned_number(text)?).ok(),
+        [b'-', digits @ ..] => negate(read_digits(digits)?),
+        _ => i64::try_from(read_unsigned(text)?).ok(),
     }
 }

@@ -7,12 +7,12 @@ ghost use Rattle.epx_types.specs.declared.fault.Why.TheVariants.{NotJson};
 ghost use Rattle.epx_lines.specs.declared.Line.TheVariants as line;
 ghost use Rattle.epx_lines.specs.DependencyList.{id_of};
 ghost use Rattle.epx_lines.specs.Elements.{whole, each_of_at_most};
-ghost use Rattle.epx_lines.specs.Meaning.{json_of, need, is_committed, meaning_of_value, object_line};
+ghost use Rattle.epx_lines.specs.Meaning.{json_of, need, is_committed, meaning_of_value, meaning_of_object};
 ghost use Rattle.epx_lines.specs.OperationList.{op_with_value, op_of, ops_of};
-ghost use Rattle.epx_lines.specs.Tokens.{BeginsWith, Gives, HoldsParts, AddsMember};
+ghost use Rattle.epx_lines.specs.Tokens.{BeginsWith, ParsesTo, HoldsParts, AddsMember};
 
-use crate::deps::other_ids;
-use crate::digits::signed_number;
+use crate::deps::sort_other_ids;
+use crate::digits::read_signed;
 use crate::ops::{op_named, op_with_absence, op_with_number, op_with_target};
 use crate::status::committed_by;
 use crate::tokens::{take_id_parts, take_key, take_number, take_replica, take_text};
@@ -34,14 +34,14 @@ pub(crate) struct Parts {
 
 /// Buffers for the lists of the current line. The next line reuses them.
 #[derive(Drop)]
-pub(crate) struct Lists {
+pub(crate) struct ListBuffers {
     ids: Vec<Id>,
     ops: Vec<Op>,
 }
 
-impl Lists {
-    pub(crate) fn new(alloc: Global) -> Lists {
-        Lists {
+impl ListBuffers {
+    pub(crate) fn new(alloc: Global) -> ListBuffers {
+        ListBuffers {
             ids: Vec::new(alloc),
             ops: Vec::new(alloc),
         }
@@ -49,7 +49,7 @@ impl Lists {
 }
 
 fn take_id(reader: &mut Reader<'_>) -> Option<Id>
-    ensures { IfSome result (λ x. Gives 1 id_of reader.old x reader.new) }
+    ensures { IfSome result (λ x. ParsesTo 1 id_of reader.old x reader.new) }
 {
     let Token::BeginArray = reader.next()? else {
         return None;
@@ -62,7 +62,7 @@ fn take_id(reader: &mut Reader<'_>) -> Option<Id>
 }
 
 /// Moves the items into a new vector with room for just these.
-fn moved<T: Drop>(alloc: Global, gathered: &mut Vec<T>) -> Option<Vec<T>>
+fn move_items<T: Drop>(alloc: Global, gathered: &mut Vec<T>) -> Option<Vec<T>>
     ensures { IfSome result (λ v. v.items ≡ gathered.old.items) }
 {
     let mut kept = Vec::with_capacity(alloc, gathered.len()).ok()?;
@@ -72,7 +72,7 @@ fn moved<T: Drop>(alloc: Global, gathered: &mut Vec<T>) -> Option<Vec<T>>
 
 fn take_ids(alloc: Global, reader: &mut Reader<'_>, ids: &mut Vec<Id>) -> Option<Vec<Id>>
     ensures { IfSome result
-        (λ ids. Gives 2 (each_of_at_most 256 id_of) reader.old ids.items reader.new) }
+        (λ ids. ParsesTo 2 (each_of_at_most 256 id_of) reader.old ids.items reader.new) }
 {
     let Token::BeginArray = reader.next()? else {
         return None;
@@ -84,15 +84,15 @@ fn take_ids(alloc: Global, reader: &mut Reader<'_>, ids: &mut Vec<Id>) -> Option
         }
         ids.push(take_id(reader)?).ok()?;
     }
-    moved(alloc, ids)
+    move_items(alloc, ids)
 }
 
 /// Takes the value after the name and the key of an operation. Returns the operation.
 fn take_op_with(alloc: Global, reader: &mut Reader<'_>, name: &str, key: Key) -> Option<Op>
-    ensures { IfSome result (λ op. Gives 0 (op_with_value name.now key) reader.old op reader.new) }
+    ensures { IfSome result (λ op. ParsesTo 0 (op_with_value name.now key) reader.old op reader.new) }
 {
     match reader.next()? {
-        Token::Number(text) => op_with_number(name, key, signed_number(text)?),
+        Token::Number(text) => op_with_number(name, key, read_signed(text)?),
         Token::String(text) => op_with_target(name, key, Key::new(alloc, text).ok()??),
         Token::Null => op_with_absence(name, key),
         _ => None,
@@ -100,7 +100,7 @@ fn take_op_with(alloc: Global, reader: &mut Reader<'_>, name: &str, key: Key) ->
 }
 
 fn take_op(alloc: Global, reader: &mut Reader<'_>) -> Option<Op>
-    ensures { IfSome result (λ op. Gives 1 op_of reader.old op reader.new) }
+    ensures { IfSome result (λ op. ParsesTo 1 op_of reader.old op reader.new) }
 {
     let Token::BeginArray = reader.next()? else {
         return None;
@@ -118,7 +118,7 @@ fn take_op(alloc: Global, reader: &mut Reader<'_>) -> Option<Op>
 }
 
 fn take_ops(alloc: Global, reader: &mut Reader<'_>, ops: &mut Vec<Op>) -> Option<Vec<Op>>
-    ensures { IfSome result (λ ops. Gives 2 ops_of reader.old ops.items reader.new) }
+    ensures { IfSome result (λ ops. ParsesTo 2 ops_of reader.old ops.items reader.new) }
 {
     let Token::BeginArray = reader.next()? else {
         return None;
@@ -130,13 +130,13 @@ fn take_ops(alloc: Global, reader: &mut Reader<'_>, ops: &mut Vec<Op>) -> Option
         }
         ops.push(take_op(alloc, reader)?).ok()?;
     }
-    moved(alloc, ops)
+    move_items(alloc, ops)
 }
 
 /// Takes a status. None unless an instance with this status is committed.
 fn take_committed(reader: &mut Reader<'_>) -> Option<()>
     ensures { IfSome result
-        (λ _. Gives 0 (λ d. is_committed (Some d)) reader.old true reader.new) }
+        (λ _. ParsesTo 0 (λ d. is_committed (Some d)) reader.old true reader.new) }
 {
     if committed_by(take_text(reader)?)? {
         Some(())
@@ -150,7 +150,7 @@ fn take_member(
     alloc: Global,
     name: &str,
     reader: &mut Reader<'_>,
-    lists: &mut Lists,
+    lists: &mut ListBuffers,
     parts: &mut Parts,
 ) -> Option<()>
     ensures { IfSome result (λ _. AddsMember name.now reader.old reader.new parts.old parts.new) }
@@ -173,7 +173,7 @@ fn take_member(
     Some(())
 }
 
-fn take_parts(alloc: Global, reader: &mut Reader<'_>, lists: &mut Lists) -> Option<Parts>
+fn take_parts(alloc: Global, reader: &mut Reader<'_>, lists: &mut ListBuffers) -> Option<Parts>
     ensures { IfSome result (λ parts. (ms : Members)
         × BeginsWith 3 reader.old (object ms) reader.new × HoldsParts ms parts) }
 {
@@ -193,9 +193,9 @@ fn take_parts(alloc: Global, reader: &mut Reader<'_>, lists: &mut Lists) -> Opti
     Some(parts)
 }
 
-fn entry_of(alloc: Global, parts: Parts) -> Option<Entry>
+fn entry_from_parts(alloc: Global, parts: Parts) -> Option<Entry>
     ensures { IfSome result
-        (λ e. (ms : Members) → HoldsParts ms parts → object_line (object ms) ≡ Ok (line.Entry e)) }
+        (λ e. (ms : Members) → HoldsParts ms parts → meaning_of_object (object ms) ≡ Ok (line.Entry e)) }
 {
     let Parts {
         replica,
@@ -208,15 +208,15 @@ fn entry_of(alloc: Global, parts: Parts) -> Option<Entry>
         replica: replica?,
         number: number?,
     };
-    let deps = other_ids(alloc, id, named?).ok()?;
+    let deps = sort_other_ids(alloc, id, named?).ok()?;
     Entry::new(id, seq?, deps, ops?)
 }
 
 /// Reads the entry of a line that is one object and nothing else.
-pub(crate) fn direct_entry(
+pub(crate) fn entry_from_tokens(
     alloc: Global,
     scratch: &mut Scratch,
-    lists: &mut Lists,
+    lists: &mut ListBuffers,
     bytes: &[u8],
 ) -> Option<Entry>
     ensures { IfSome result
@@ -228,5 +228,5 @@ pub(crate) fn direct_entry(
     if reader.next().is_some() {
         return None;
     }
-    entry_of(alloc, parts)
+    entry_from_parts(alloc, parts)
 }

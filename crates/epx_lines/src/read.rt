@@ -3,13 +3,13 @@ ghost use Rattle.std.specs.Prelude.{◌≡◌, Ok, IfOk, IfErr, codes, option_ma
 ghost use Rattle.serde_json.specs.Find.{get};
 ghost use Rattle.serde_json.specs.View.{view};
 ghost use Rattle.epx_types.specs.declared.fault.Why.TheVariants.{NotJson};
-ghost use Rattle.epx_lines.specs.Meaning.{is_blank, json_of, need, at_member, is_committed, object_line, meaning_of_value, meaning_of};
+ghost use Rattle.epx_lines.specs.Meaning.{is_blank, json_of, need, at_member, is_committed, meaning_of_object, meaning_of_value, meaning_of};
 ghost use Rattle.epx_lines.specs.DependencyList.{deps_of};
 ghost use Rattle.epx_lines.specs.OperationList.{ops_of};
 ghost use Rattle.epx_lines.specs.Faults.{IsFaultOf};
 
 use crate::deps::{read_deps, read_number, read_replica};
-use crate::direct::{Lists, direct_entry};
+use crate::direct::{ListBuffers, entry_from_tokens};
 use crate::ops::read_ops;
 use crate::status::committed_by;
 use crate::{Line, LineFault};
@@ -61,10 +61,10 @@ fn member_ops(alloc: Global, object: &Value) -> Result<Option<Vec<Op>>, Memory>
     }
 }
 
-#[tactic(auto, unfolding(crate::specs::Meaning::object_line))]
+#[tactic(auto, unfolding(crate::specs::Meaning::meaning_of_object))]
 fn read_object(alloc: Global, value: &Value) -> Result<Line, LineFault>
-    ensures ok { IfOk result (λ l. object_line (view value.now) ≡ Ok l) }
-    ensures bad { IfErr result (λ f. IsFaultOf f (object_line (view value.now))) }
+    ensures ok { IfOk result (λ l. meaning_of_object (view value.now) ≡ Ok l) }
+    ensures bad { IfErr result (λ f. IsFaultOf f (meaning_of_object (view value.now))) }
 {
     let replica = value
         .get("r")
@@ -107,7 +107,7 @@ pub fn read_json(alloc: Global, bytes: &[u8]) -> Result<Option<Value>, Memory>
 }
 
 /// Reads a line that is neither blank nor too long, from its JSON value.
-fn read_whole(alloc: Global, bytes: &[u8]) -> Result<Line, LineFault>
+fn read_json_line(alloc: Global, bytes: &[u8]) -> Result<Line, LineFault>
     ensures ok { IfOk result (λ l. need NotJson (json_of bytes.now) meaning_of_value ≡ Ok l) }
     ensures bad { IfErr result
         (λ f. IsFaultOf f (need NotJson (json_of bytes.now) meaning_of_value)) }
@@ -125,7 +125,7 @@ fn read_whole(alloc: Global, bytes: &[u8]) -> Result<Line, LineFault>
 #[derive(Drop)]
 pub struct LineReader {
     scratch: Scratch,
-    lists: Lists,
+    lists: ListBuffers,
 }
 
 impl LineReader {
@@ -133,7 +133,7 @@ impl LineReader {
     pub fn new(alloc: Global) -> LineReader {
         LineReader {
             scratch: Scratch::new(alloc),
-            lists: Lists::new(alloc),
+            lists: ListBuffers::new(alloc),
         }
     }
 
@@ -149,10 +149,10 @@ impl LineReader {
         if bytes.len() > MAX_LINE_BYTES {
             return Err(LineFault::Bad(Why::TooLong));
         }
-        if let Some(entry) = direct_entry(alloc, &mut self.scratch, &mut self.lists, bytes) {
+        if let Some(entry) = entry_from_tokens(alloc, &mut self.scratch, &mut self.lists, bytes) {
             return Ok(Line::Entry(entry));
         }
-        read_whole(alloc, bytes)
+        read_json_line(alloc, bytes)
     }
 }
 

@@ -4,7 +4,7 @@ ghost use Rattle.serde_json.specs.Data.{number};
 ghost use Rattle.serde_json.specs.Find.{of_integer};
 ghost use Rattle.serde_json.specs.View.{view};
 ghost use Rattle.epx_lines.specs.Text.{data_of_id, data_of_value, data_of_op, object_with, object_of, line_text};
-ghost use Rattle.epx_lines.specs.WrittenParts.{FitsId, FitsValue, FitsOp, FitNumbers, FitsEntry};
+ghost use Rattle.epx_lines.specs.WrittenParts.{IsWritableId, IsWritableValue, IsWritableOp, FitNumbers, IsWritableEntry};
 ghost use Rattle.epx_lines.specs.Meaning.{max_line_bytes, meaning_of};
 ghost use Rattle.epx_lines.specs.declared.Line.TheVariants as line;
 
@@ -15,14 +15,14 @@ use std::alloc::{AllocError, Global};
 fn id_value(alloc: Global, replica: u8, number: u64) -> Result<Value, AllocError>
     ensures data { IfOk result
         (λ v. view v ≡ data_of_id (record { replica = replica; number = number })) }
-    ensures fits { OnOk result (FitsId (record { replica = replica; number = number })) }
+    ensures fits { OnOk result (IsWritableId (record { replica = replica; number = number })) }
 {
     json!(in alloc; [replica, number])
 }
 
 fn number_value(value: &i64) -> Value
     ensures data { view result ≡ number (of_integer value.now) }
-    ensures fits { FitsValue value.now }
+    ensures fits { IsWritableValue value.now }
 {
     let number = *value;
     Value::from(number)
@@ -30,7 +30,7 @@ fn number_value(value: &i64) -> Value
 
 fn value_or_null(value: Option<i64>) -> Value
     ensures data { view result ≡ data_of_value value }
-    ensures fits { IfSome value FitsValue }
+    ensures fits { IfSome value IsWritableValue }
 {
     match value {
         Some(value) => number_value(&value),
@@ -41,7 +41,7 @@ fn value_or_null(value: Option<i64>) -> Value
 #[tactic(auto, unfolding(crate::specs::Text::data_of_op))]
 fn op_value(alloc: Global, op: &Op) -> Result<Value, AllocError>
     ensures data { IfOk result (λ v. view v ≡ data_of_op op.now) }
-    ensures fits { OnOk result (FitsOp op.now) }
+    ensures fits { OnOk result (IsWritableOp op.now) }
 {
     match op {
         Op::Get { key } => json!(in alloc; ["get", key.text()]),
@@ -56,7 +56,7 @@ fn op_value(alloc: Global, op: &Op) -> Result<Value, AllocError>
 
 fn id_values(alloc: Global, ids: &[Id]) -> Result<Vec<Value>, AllocError>
     ensures data { IfOk result (λ v. map view v.items ≡ map data_of_id ids.now) }
-    ensures fit { OnOk result (All FitsId ids.now) }
+    ensures fit { OnOk result (All IsWritableId ids.now) }
 {
     let mut values = Vec::with_capacity(alloc, ids.len())?;
     for id in ids {
@@ -67,7 +67,7 @@ fn id_values(alloc: Global, ids: &[Id]) -> Result<Vec<Value>, AllocError>
 
 fn op_values(alloc: Global, ops: &[Op]) -> Result<Vec<Value>, AllocError>
     ensures data { IfOk result (λ v. map view v.items ≡ map data_of_op ops.now) }
-    ensures fit { OnOk result (All FitsOp ops.now) }
+    ensures fit { OnOk result (All IsWritableOp ops.now) }
 {
     let mut values = Vec::with_capacity(alloc, ops.len())?;
     for op in ops {
@@ -93,7 +93,7 @@ fn object_value(
 
 fn entry_value(alloc: Global, entry: &Entry) -> Result<Value, AllocError>
     ensures data { IfOk result (λ v. view v ≡ object_of entry.now) }
-    ensures fits { OnOk result (FitsEntry entry.now) }
+    ensures fits { OnOk result (IsWritableEntry entry.now) }
 {
     let Id { replica, number } = entry.id();
     let deps = Value::Array(id_values(alloc, entry.deps())?);

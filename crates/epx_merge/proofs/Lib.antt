@@ -1,20 +1,20 @@
-mod Equality
-mod FirstWhere
-mod NextLines
-mod PiecesOfLines
-mod Noting
-mod KeptLines
-mod BatchLines
-mod HeldLines
-mod NotedKeys
-mod RowLines
-mod SortedKeys
-mod Closing
-mod MovedRows
-mod KeyedRows
-pub mod PlaceOrder
-pub mod EntryOrder
-pub mod ReadLines
-mod Answered
-pub mod OneRefusal
-pub mod Existence
+mod EqualityLemmas
+mod FirstWhereLemmas
+mod ReadPieceLemmas
+mod PieceLemmas
+mod LedgerLemmas
+mod RedundantLineLemmas
+mod BatchLemmas
+mod LineCacheLemmas
+mod LedgerMapLemmas
+mod RowLemmas
+mod SortedKeyLemmas
+mod LedgerCloseLemmas
+mod LineRowLemmas
+mod MergedMapLemmas
+pub mod PlaceOrderLemmas
+pub mod EntryOrderLemmas
+pub mod ReadFaultLemmas
+mod AnswerLemmas
+pub mod UniquenessLemmas
+pub mod ExistenceLemmas

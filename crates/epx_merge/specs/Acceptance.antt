@@ -4,10 +4,10 @@ use Rattle.epx_types.specs.Instances.{Instance}
 use Rattle.epx_types.specs.Agreement.{Agree}
 use Rattle.epx_types.specs.CommittedMap.{IsCommittedBy}
 use Rattle.epx_merge.specs.LogLines.{placed_of}
-use Rattle.epx_merge.specs.Refusals.{IsWhole, IsSmall}
+use Rattle.epx_merge.specs.Refusals.{AreWellFormed, FewInstances}
 
 pub record IsAccepted (logs : List (List ℕ)) (m : List Instance) : Type 0 where
-  pub whole : IsWhole logs
-  pub small : IsSmall (placed_of logs)
+  pub whole : AreWellFormed logs
+  pub small : FewInstances (placed_of logs)
   pub agree : Agree (placed_of logs)
   pub committed : IsCommittedBy (placed_of logs) m

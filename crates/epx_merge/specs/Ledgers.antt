@@ -6,7 +6,7 @@ use Rattle.epx_types.specs.PlacedLines.{Placed}
 use Rattle.epx_types.specs.Agreement.{Differ}
 use Rattle.epx_merge.specs.declared.ledger.Disagreement.{Disagreement}
 
-pub record Noted : Type 0 where
+pub record LedgerView : Type 0 where
   pub firsts : List (Id × Placed)
   pub disagreements : List (Id × Disagreement)
 
@@ -15,24 +15,24 @@ abbrev pub IsFirstWhere : (Placed → Type 0) → List Placed → Placed → Typ
 IsFirstWhere P [] p = ⊥
 IsFirstWhere P (q ∷ lines) p = ((q ≡ p) × P q) ⊎ ((¬ P q) × IsFirstWhere P lines p)
 
-abbrev pub Names : Id → Placed → Type 0
-Names x p = p.instance.id ≡ x
+abbrev pub IsLineOf : Id → Placed → Type 0
+IsLineOf x p = p.instance.id ≡ x
 
 -- the first line of x, and the first line that differs from it
 pub record IsDisagreementOf (lines : List Placed) (x : Id) (disagreement : Disagreement) : Type 0 where
   pub first : Placed
   pub second : Placed
-  pub opens : IsFirstWhere (Names x) lines first
+  pub opens : IsFirstWhere (IsLineOf x) lines first
   pub differs : IsFirstWhere (Differ first) lines second
   pub first_place : first.place ≡ disagreement.first
   pub second_place : second.place ≡ disagreement.second
 
-pub record IsLedgerOf (lines : List Placed) (noted : Noted) : Type 0 where
-  pub firsts : (x : Id) (p : Placed) → Contains noted.firsts (x, p) → IsFirstWhere (Names x) lines p
+pub record IsLedgerOf (lines : List Placed) (noted : LedgerView) : Type 0 where
+  pub firsts : (x : Id) (p : Placed) → Contains noted.firsts (x, p) → IsFirstWhere (IsLineOf x) lines p
   pub whole : (p : Placed) → Contains lines p → Contains (map (λ e. e.0) noted.firsts) p.instance.id
   pub disagreements : (x : Id) (disagreement : Disagreement) → Contains noted.disagreements (x, disagreement) → IsDisagreementOf lines x disagreement
   pub alike : (x : Id) (p : Placed) → Contains noted.firsts (x, p) → ¬ Contains (map (λ e. e.0) noted.disagreements) x → (q : Placed) → Contains lines q → q.instance.id ≡ x → p.instance ≡ q.instance
 
 -- noting the lines takes the old ledger to the new one
-abbrev pub Notes : List Placed → Noted → Noted → Type 0
-Notes lines old new = (done : List Placed) → IsLedgerOf done old → IsLedgerOf (done ++ lines) new
+abbrev pub NotesLines : List Placed → LedgerView → LedgerView → Type 0
+NotesLines lines old new = (done : List Placed) → IsLedgerOf done old → IsLedgerOf (done ++ lines) new

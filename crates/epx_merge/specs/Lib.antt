@@ -4,10 +4,10 @@ pub mod Refusals
 pub mod Acceptance
 pub mod LogLaws
 pub mod Ledgers
-pub mod Keyed
+pub mod LineRows
 pub mod Steps
 pub mod LineOrder
 pub mod ReadPieces
-pub mod Repeats
+pub mod RedundantLines
 pub mod ReadSteps
 pub mod EntryLines

@@ -4,9 +4,9 @@ use Rattle.epx_types.specs.declared.place.Place.{Place}
 use Rattle.epx_types.specs.PlacedLines.{Placed, Earlier}
 
 -- each item is before those after it
-abbrev pub InOrderOf : {X : Type 0} → (X → Place) → List X → Type 0
-InOrderOf at [] = Unit {0}
-InOrderOf {X} at (x ∷ xs) = ((y : X) → Contains xs y → Earlier (at x) (at y)) × InOrderOf at xs
+abbrev pub AreSortedBy : {X : Type 0} → (X → Place) → List X → Type 0
+AreSortedBy at [] = Unit {0}
+AreSortedBy {X} at (x ∷ xs) = ((y : X) → Contains xs y → Earlier (at x) (at y)) × AreSortedBy at xs
 
-abbrev pub InPlaceOrder : List Placed → Type 0
-InPlaceOrder lines = InOrderOf (λ p. p.place) lines
+abbrev pub IsSortedByPlace : List Placed → Type 0
+IsSortedByPlace lines = AreSortedBy (λ p. p.place) lines

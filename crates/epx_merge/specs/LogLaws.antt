@@ -5,7 +5,7 @@ use Rattle.epx_types.specs.declared.fault.Fault.TheVariants.{Memory}
 use Rattle.epx_types.specs.declared.fault.Why.{Why}
 use Rattle.epx_types.specs.declared.place.Place.{Place}
 use Rattle.epx_types.specs.Instances.{Instance}
-use Rattle.epx_types.specs.PlacedLines.{Earlier, HavePlacesOfTheirOwn}
+use Rattle.epx_types.specs.PlacedLines.{Earlier, HaveDistinctPlaces}
 use Rattle.epx_merge.specs.LogLines.{placed_of, BadLineAt, bad_lines_of}
 use Rattle.epx_merge.specs.Refusals.{IsFirstBadLine, IsRefusal}
 use Rattle.epx_merge.specs.Acceptance.{IsAccepted}
@@ -27,8 +27,8 @@ abbrev pub LogsHaveAnAnswer : Type 0
 LogsHaveAnAnswer = (logs : List (List ℕ)) → ((m : List Instance) × IsAccepted logs m) ⊎ ((f : Fault) × (f ≢ Memory) × IsRefusal logs f)
 
 -- no two lines of logs have the same place
-abbrev pub LinesHavePlacesOfTheirOwn : Type 0
-LinesHavePlacesOfTheirOwn = (logs : List (List ℕ)) → HavePlacesOfTheirOwn (placed_of logs)
+abbrev pub LinesHaveDistinctPlaces : Type 0
+LinesHaveDistinctPlaces = (logs : List (List ℕ)) → HaveDistinctPlaces (placed_of logs)
 
 -- the bad line in a refusal comes before all other bad lines
 abbrev pub NamedBadLineIsLeast : Type 0

@@ -6,7 +6,7 @@ use Rattle.epx_merge.specs.LogLines.{MeaningAt, placed_among, bad_lines_among}
 use Rattle.epx_merge.specs.Refusals.{IsFirstBadLine}
 
 -- no line is bad, and `held` holds the instances of the lines
-pub record Gives {E : Type 0} (holds : List Placed → E → Type 0) (lines : List MeaningAt) (held : E) : Type 0 where
+pub record IsCleanRead {E : Type 0} (holds : List Placed → E → Type 0) (lines : List MeaningAt) (held : E) : Type 0 where
   pub clean : bad_lines_among lines ≡ []
   pub placed : holds (placed_among lines) held
 
@@ -15,7 +15,7 @@ IsFirstBad lines bad = IsFirstBadLine (bad_lines_among lines) bad.place bad.why
 
 -- the result of reading consecutive lines: their instances, or their first bad line
 abbrev pub IsRead : {E : Type 0} → (List Placed → E → Type 0) → List MeaningAt → Result E BadLine → Type 0
-IsRead holds lines (Ok held) = Gives holds lines held
+IsRead holds lines (Ok held) = IsCleanRead holds lines held
 IsRead holds lines (Err bad) = IsFirstBad lines bad
 
 -- the results of reading consecutive pieces, which together are the lines

@@ -3,14 +3,14 @@ use Rattle.std.specs.Prelude.{◌≡◌, ◌≤◌, ◌^◌, List, [], length, R
 use Rattle.epx_types.specs.declared.fault.Why.{Why}
 use Rattle.epx_lines.specs.declared.Line.{Line}
 use Rattle.epx_merge.specs.LogLines.{MeaningAt, placed_among, bad_lines_among}
-use Rattle.epx_merge.specs.Ledgers.{Noted, Notes}
-use Rattle.epx_merge.specs.Repeats.{IsNextBatch}
+use Rattle.epx_merge.specs.Ledgers.{LedgerView, NotesLines}
+use Rattle.epx_merge.specs.RedundantLines.{IsNextBatch}
 
 -- the lines that were read are noted and none of them is bad; the next batch is empty only if no
 -- line is left
-pub record IsReadStep (read : List MeaningAt) (ledger ledger' : Noted) (walk walk' : List MeaningAt) (table table' : List (Result Line Why)) (lines : List MeaningAt) : Type 0 where
+pub record IsReadStep (read : List MeaningAt) (ledger ledger' : LedgerView) (walk walk' : List MeaningAt) (table table' : List (Result Line Why)) (lines : List MeaningAt) : Type 0 where
   pub clean : bad_lines_among read ≡ []
-  pub noted : Notes (placed_among read) ledger ledger'
+  pub noted : NotesLines (placed_among read) ledger ledger'
   pub batch : IsNextBatch walk walk' table table' lines
   pub last : lines ≡ [] → walk' ≡ []
   pub few : length lines ≤ 2 ^ 40

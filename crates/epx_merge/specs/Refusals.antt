@@ -21,8 +21,8 @@ abbrev pub NoneTooLong : List (List ℕ) → Type 0
 NoneTooLong logs = (k : ℕ) (bytes : List ℕ) → slice_get logs k ≡ Some bytes → length bytes ≤ max_log_bytes
 
 -- not too many logs, and none is too long
-abbrev pub Fits : List (List ℕ) → Type 0
-Fits logs = (length logs ≤ max_logs) × NoneTooLong logs
+abbrev pub FitLimits : List (List ℕ) → Type 0
+FitLimits logs = (length logs ≤ max_logs) × NoneTooLong logs
 
 -- ---- the least bad line
 
@@ -31,8 +31,8 @@ abbrev pub IsFirstBadLine : List BadLineAt → Place → Why → Type 0
 IsFirstBadLine lines place why = (rest : List BadLineAt) × (lines ≡ record { place = place; why = why } ∷ rest)
 
 -- the logs fit, and no line is bad
-abbrev pub IsWhole : List (List ℕ) → Type 0
-IsWhole logs = Fits logs × (bad_lines_of logs ≡ [])
+abbrev pub AreWellFormed : List (List ℕ) → Type 0
+AreWellFormed logs = FitLimits logs × (bad_lines_of logs ≡ [])
 
 -- ---- too many instances
 
@@ -42,11 +42,11 @@ pub record AreNamedBy (lines : List Placed) (ids : List Id) : Type 0 where
   pub whole : (p : Placed) → Contains lines p → Contains ids p.instance.id
   pub named : (x : Id) → Contains ids x → (p : Placed) × Contains lines p × (p.instance.id ≡ x)
 
-abbrev pub IsSmall : List Placed → Type 0
-IsSmall lines = (ids : List Id) × AreNamedBy lines ids × (length ids ≤ max_instances)
+abbrev pub FewInstances : List Placed → Type 0
+FewInstances lines = (ids : List Id) × AreNamedBy lines ids × (length ids ≤ max_instances)
 
-abbrev pub IsLarge : List Placed → Type 0
-IsLarge lines = (ids : List Id) × AreNamedBy lines ids × (max_instances < length ids)
+abbrev pub ManyInstances : List Placed → Type 0
+ManyInstances lines = (ids : List Id) × AreNamedBy lines ids × (max_instances < length ids)
 
 -- ---- the first disagreement
 
@@ -63,9 +63,9 @@ abbrev pub IsRefusal : List (List ℕ) → Fault → Type 0
 IsRefusal logs Memory = Unit {0}
 IsRefusal logs TooManyLogs = max_logs < length logs
 IsRefusal logs (LogTooLong log) = (length logs ≤ max_logs) × IsFirstTooLong logs log
-IsRefusal logs (BadLine place why) = Fits logs × IsFirstBadLine (bad_lines_of logs) place why
-IsRefusal logs TooManyInstances = IsWhole logs × IsLarge (placed_of logs)
-IsRefusal logs (Disagree id first second) = IsWhole logs × IsSmall (placed_of logs) × IsDisagreementAt (placed_of logs) id first second
+IsRefusal logs (BadLine place why) = FitLimits logs × IsFirstBadLine (bad_lines_of logs) place why
+IsRefusal logs TooManyInstances = AreWellFormed logs × ManyInstances (placed_of logs)
+IsRefusal logs (Disagree id first second) = AreWellFormed logs × FewInstances (placed_of logs) × IsDisagreementAt (placed_of logs) id first second
 IsRefusal logs (Read log) = ⊥
 IsRefusal logs Write = ⊥
 IsRefusal logs (BadBase line) = ⊥

@@ -7,7 +7,7 @@ use Rattle.epx_types.specs.PlacedLines.{Placed}
 use Rattle.epx_types.specs.Agreement.{Agree}
 use Rattle.epx_types.specs.CommittedMap.{IsCommittedBy}
 use Rattle.epx_merge.specs.LogLines.{BadLineAt}
-use Rattle.epx_merge.specs.Refusals.{IsFirstBadLine, IsSmall, IsLarge, IsDisagreementAt}
+use Rattle.epx_merge.specs.Refusals.{IsFirstBadLine, FewInstances, ManyInstances, IsDisagreementAt}
 
 -- the first bad line. Out of memory says nothing about the lines
 abbrev pub IsReadFault : List BadLineAt → Fault → Type 0
@@ -22,15 +22,15 @@ IsReadFault lines Write = ⊥
 IsReadFault lines (BadBase line) = ⊥
 
 pub record IsMerged (lines : List Placed) (m : List Instance) : Type 0 where
-  pub small : IsSmall lines
+  pub small : FewInstances lines
   pub agree : Agree lines
   pub committed : IsCommittedBy lines m
 
 -- too many instances, or the first disagreement
 abbrev pub IsMergeFault : List Placed → Fault → Type 0
 IsMergeFault lines Memory = Unit {0}
-IsMergeFault lines TooManyInstances = IsLarge lines
-IsMergeFault lines (Disagree id first second) = IsSmall lines × IsDisagreementAt lines id first second
+IsMergeFault lines TooManyInstances = ManyInstances lines
+IsMergeFault lines (Disagree id first second) = FewInstances lines × IsDisagreementAt lines id first second
 IsMergeFault lines TooManyLogs = ⊥
 IsMergeFault lines (LogTooLong log) = ⊥
 IsMergeFault lines (BadLine place why) = ⊥

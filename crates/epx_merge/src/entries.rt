@@ -1,7 +1,7 @@
 //! The committed map of entries in memory, or why they commit none.
 ghost use Rattle.std.specs.Prelude.{MatchResult, OnOk};
 ghost use Rattle.epx_merge.specs.EntryLines.{entry_lines};
-ghost use Rattle.epx_merge.specs.Ledgers.{Notes};
+ghost use Rattle.epx_merge.specs.Ledgers.{NotesLines};
 ghost use Rattle.epx_merge.specs.Steps.{IsMerged, IsMergeFault};
 
 use crate::ledger::Ledger;
@@ -23,7 +23,7 @@ fn seed_after(entries: &[Entry]) -> Seed {
 
 /// Records each entry as a line of its own. The first is line 1.
 fn note_each(entries: Vec<Entry>, ledger: &mut Ledger) -> Result<(), Memory>
-    ensures { OnOk result (Notes (entry_lines entries.items) ledger.old ledger.new) }
+    ensures { OnOk result (NotesLines (entry_lines entries.items) ledger.old ledger.new) }
 {
     let mut line = 0;
     for entry in entries {

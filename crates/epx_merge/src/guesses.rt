@@ -4,10 +4,10 @@ use epx_types::{Id, Memory};
 use std::alloc::Global;
 
 /// How many consecutive numbers share a block.
-const BLOCK: u64 = 64;
+const BLOCK_NUMBERS: u64 = 64;
 
 /// At most this many more blocks than instances are made, for gaps among the first numbers.
-const SPARE: u64 = 1_024;
+const SPARE_BLOCKS: u64 = 1_024;
 
 /// Consecutive numbers of one replica.
 #[derive(Clone, Copy, Debug)]
@@ -21,7 +21,7 @@ struct Block {
 impl Block {
     /// The position of the instance with a number of this block, if it is noted.
     fn guess(&self, number: u64) -> Option<usize> {
-        let mark = 1_u64 << (number % BLOCK);
+        let mark = 1_u64 << (number % BLOCK_NUMBERS);
         if self.marks & mark == 0 {
             return None;
         }
@@ -33,7 +33,7 @@ impl Block {
 /// Guesses the position of an instance in a list by rising Id from its number, without a search.
 ///
 /// A guess is only a hint, which the caller checks. An instance may have none if the numbers of
-/// its replica have wide gaps: there are at most `SPARE` more blocks than instances.
+/// its replica have wide gaps: there are at most `SPARE_BLOCKS` more blocks than instances.
 #[derive(Debug, Drop)]
 pub struct Guesses {
     blocks: Vec<Block>,
@@ -54,7 +54,7 @@ impl Guesses {
     pub fn note(&mut self, id: Id, position: usize) -> Result<(), Memory> {
         self.open_block(id, position)?;
         if let Some(block) = self.blocks.last_mut() {
-            block.marks |= 1 << (id.number % BLOCK);
+            block.marks |= 1 << (id.number % BLOCK_NUMBERS);
         }
         Ok(())
     }
@@ -63,7 +63,7 @@ impl Guesses {
     /// replica's blocks start anew.
     fn open_block(&mut self, id: Id, position: usize) -> Result<(), Memory> {
         let len = self.blocks.len() as u64;
-        let number = id.number / BLOCK;
+        let number = id.number / BLOCK_NUMBERS;
         let mut more = match self.offsets[id.replica as usize] {
             Some(offset) => offset
                 .wrapping_add(number)
@@ -71,7 +71,11 @@ impl Guesses {
                 .wrapping_sub(len),
             None => u64::MAX,
         };
-        if more > (position as u64).saturating_add(SPARE).saturating_sub(len) {
+        if more
+            > (position as u64)
+                .saturating_add(SPARE_BLOCKS)
+                .saturating_sub(len)
+        {
             self.offsets[id.replica as usize] = Some(len.wrapping_sub(number));
             more = 1;
         }
@@ -84,7 +88,7 @@ impl Guesses {
     /// A guess of the position of an instance, if it has one.
     pub fn guess(&self, id: Id) -> Option<usize> {
         let offset = self.offsets[id.replica as usize]?;
-        let place = offset.wrapping_add(id.number / BLOCK);
+        let place = offset.wrapping_add(id.number / BLOCK_NUMBERS);
         self.blocks.get(place as usize)?.guess(id.number)
     }
 }

@@ -1,5 +1,5 @@
 //! Laws of refusals and accepted logs: each function's contract is a law.
-ghost use Rattle.epx_merge.specs.LogLaws.{AcceptedIsNotRefused, RefusalIsOne, AcceptedMapIsOne, LogsHaveAnAnswer, LinesHavePlacesOfTheirOwn, NamedBadLineIsLeast};
+ghost use Rattle.epx_merge.specs.LogLaws.{AcceptedIsNotRefused, RefusalIsOne, AcceptedMapIsOne, LogsHaveAnAnswer, LinesHaveDistinctPlaces, NamedBadLineIsLeast};
 
 /// Accepted logs are not refused, except by running out of memory.
 pub fn accepted_is_not_refused()
@@ -22,8 +22,8 @@ pub fn logs_have_an_answer()
 {}
 
 /// No two lines of logs have the same place.
-pub fn lines_have_places_of_their_own()
-    ensures { LinesHavePlacesOfTheirOwn }
+pub fn lines_have_distinct_places()
+    ensures { LinesHaveDistinctPlaces }
 {}
 
 /// The bad line in a refusal comes before all other bad lines.

@@ -1,15 +1,15 @@
 //! The first line of each instance, and the instances whose lines differ.
 ghost use Rattle.std.specs.Prelude.{◌≡◌, List, [], ◌∷◌, OnOk, MatchResult, Some, slice_get};
 ghost use Rattle.epx_types.specs.PlacedLines.{Placed};
-ghost use Rattle.epx_merge.specs.Ledgers.{IsLedgerOf, Notes};
-ghost use Rattle.epx_merge.specs.LineOrder.{InPlaceOrder};
+ghost use Rattle.epx_merge.specs.Ledgers.{IsLedgerOf, NotesLines};
+ghost use Rattle.epx_merge.specs.LineOrder.{IsSortedByPlace};
 ghost use Rattle.epx_merge.specs.Steps.{IsMerged, IsMergeFault};
 
 use crate::limits::MAX_INSTANCES;
 use crate::merged::Merged;
 use crate::placed::PlacedEntry;
 use crate::rows::{guesses_of, rows_of};
-use crate::same::same_entry;
+use crate::same_entry::same_entry;
 use epx_seed::Seed;
 use epx_types::{Fault, Id, Memory, Place};
 use indexmap::{IndexMap, IndexSet};
@@ -36,12 +36,12 @@ pub(crate) struct Ledger {
 
 impl Model for Ledger {
     ghost use Rattle.std.specs.Prelude.{◌≡◌, map};
-    ghost use Rattle.epx_merge.specs.Ledgers.{Noted};
-    ghost use Rattle.epx_merge.specs.Keyed.{under_names};
+    ghost use Rattle.epx_merge.specs.Ledgers.{LedgerView};
+    ghost use Rattle.epx_merge.specs.LineRows.{with_ids};
 
-    ghost Value = { Noted };
+    ghost Value = { LedgerView };
 
-    ghost view = { λ l. record { firsts = under_names l.firsts.items; disagreements = l.disagreements.entries } };
+    ghost view = { λ l. record { firsts = with_ids l.firsts.items; disagreements = l.disagreements.entries } };
 
     ghost invariant = { λ l. l.names.keys ≡ map (λ p. p.instance.id) l.firsts.items };
 }
@@ -61,7 +61,7 @@ impl Ledger {
 
     /// Records one more line. Lines must come by rising place.
     pub(crate) fn note(&mut self, line: PlacedEntry) -> Result<(), Memory>
-        ensures { OnOk result (Notes (line ∷ []) self.old self.new) }
+        ensures { OnOk result (NotesLines (line ∷ []) self.old self.new) }
     {
         // Reserve first, so that an Id never goes in without its line.
         self.firsts.reserve(1)?;
@@ -76,7 +76,7 @@ impl Ledger {
     /// Records a line of an instance whose first line is at this index.
     fn compare(&mut self, place: usize, line: &PlacedEntry) -> Result<(), Memory>
         requires { (first : Placed) × (slice_get self.now.firsts place ≡ Some (line.now.instance.id, first)) }
-        ensures { OnOk result (Notes (line.now ∷ []) self.old self.new) }
+        ensures { OnOk result (NotesLines (line.now ∷ []) self.old self.new) }
     {
         let id = line.id();
         let first = &self.firsts[place];
@@ -93,7 +93,7 @@ impl Ledger {
 
     /// The map that the noted lines commit, or the fault for which they commit none.
     pub(crate) fn close(self) -> Result<Merged, Fault>
-        ensures { (lines : List Placed) → InPlaceOrder lines → IsLedgerOf lines self
+        ensures { (lines : List Placed) → IsSortedByPlace lines → IsLedgerOf lines self
             → MatchResult result (IsMerged lines) (IsMergeFault lines) }
     {
         let Ledger {

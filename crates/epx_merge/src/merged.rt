@@ -2,11 +2,11 @@
 ghost use Rattle.std.specs.Prelude.{◌≡◌, ◌==◌, ◌<◌, IfSome, length, option_copied, slice_get, Some};
 ghost use Rattle.epx_types.specs.CommittedMap.{ids_of, instance_of, position_of};
 ghost use Rattle.epx_types.specs.Ids.{IsRising};
-ghost use Rattle.epx_merge.specs.Keyed.{IsKeyed, instances_at};
+ghost use Rattle.epx_merge.specs.LineRows.{AreLineRows, instances_at};
 
 use crate::guesses::Guesses;
 use crate::placed::PlacedEntry;
-use crate::rows::{Row, find};
+use crate::rows::{Row, find_row};
 use epx_types::{Entry, Id};
 use std::marker::Model;
 
@@ -22,18 +22,18 @@ pub struct Merged {
 impl Model for Merged {
     ghost use Rattle.std.specs.Prelude.{List};
     ghost use Rattle.epx_types.specs.Instances.{Instance};
-    ghost use Rattle.epx_merge.specs.Keyed.{instances_at, IsKeyed};
+    ghost use Rattle.epx_merge.specs.LineRows.{instances_at, AreLineRows};
 
     ghost Value = { List Instance };
 
     ghost view = { λ m. instances_at m.lines.items m.rows.items };
 
-    ghost invariant = { λ m. IsKeyed m.lines.items m.rows.items };
+    ghost invariant = { λ m. AreLineRows m.lines.items m.rows.items };
 }
 
 impl Merged {
     pub(crate) fn new(lines: Vec<PlacedEntry>, rows: Vec<Row>, guesses: Guesses) -> Merged
-        requires { IsKeyed lines.items rows.items }
+        requires { AreLineRows lines.items rows.items }
         ensures { result ≡ instances_at lines.items rows.items }
     {
         Merged {
@@ -45,7 +45,7 @@ impl Merged {
 
     /// The position of an instance. Its guess is usually right; otherwise a binary search finds
     /// it.
-    fn found(&self, id: Id) -> Option<usize>
+    fn find_position(&self, id: Id) -> Option<usize>
         ensures position { result ≡ position_of self.now id }
         ensures rising { IsRising (ids_of self.now) }
     {
@@ -54,7 +54,7 @@ impl Merged {
                 return Some(position);
             }
         }
-        find(&self.rows, id)
+        find_row(&self.rows, id)
     }
 
     /// How many instances are committed.
@@ -76,7 +76,7 @@ impl Merged {
     pub fn get(&self, id: Id) -> Option<&Entry>
         ensures { option_copied result ≡ instance_of self.now id }
     {
-        match self.found(id) {
+        match self.find_position(id) {
             Some(position) => Some(self.entry_at(position)),
             None => None,
         }
@@ -87,7 +87,7 @@ impl Merged {
     pub fn position(&self, id: Id) -> Option<usize>
         ensures { result ≡ position_of self.now id }
     {
-        self.found(id)
+        self.find_position(id)
     }
 
     /// The Id of the instance at a position.

@@ -1,44 +1,44 @@
 //! The next batch of lines that the workers read.
 ghost use Rattle.std.specs.Prelude.{◌≡◌, ◌<◌, ◌≤◌, ◌^◌, [], IfOk, IsTrue, length};
-ghost use Rattle.epx_merge.specs.Repeats.{IsRedundantIn, HoldsAfter, IsNextBatch};
+ghost use Rattle.epx_merge.specs.RedundantLines.{IsRedundantIn, CachesAfter, IsNextBatch};
 
 use crate::line::PlacedLine;
-use crate::repeats::LineTable;
+use crate::line_cache::LineCache;
 use crate::walk::LineWalk;
 use epx_types::{Memory, Plan};
 use std::alloc::Global;
 
 /// The least number of lines in a batch for each of several workers. Fewer are not worth a thread.
-const LEAST_EACH: usize = 4_096;
+const MIN_LINES_EACH: usize = 4_096;
 
 /// The same for one worker, which starts no thread. So few lines stay in its cache until it reads
 /// them.
-const LEAST_ALONE: usize = 1_024;
+const MIN_LINES_ALONE: usize = 1_024;
 
 /// The greatest number of lines in a batch, so that longer logs take no more memory. Up to two
 /// batches are in memory: one is read while the next is cut.
-const MOST_AT_ONCE: usize = 262_144;
+const MAX_BATCH_LINES: usize = 262_144;
 
 /// The number of lines in a batch: four pieces for each worker, within the bounds.
-fn lines_at_once(plan: Plan) -> usize
+fn batch_len(plan: Plan) -> usize
     ensures some { 0 < result }
     ensures few { result ≤ 262144 }
 {
     let least = if plan.workers() == 1 {
-        LEAST_ALONE
+        MIN_LINES_ALONE
     } else {
-        LEAST_EACH
+        MIN_LINES_EACH
     };
     let each = (4 * plan.cut()).max(least);
-    (plan.workers() * each).min(MOST_AT_ONCE)
+    (plan.workers() * each).min(MAX_BATCH_LINES)
 }
 
 /// Whether a line is redundant: it is blank, or the cache has it already.
-fn is_redundant<'a>(line: &PlacedLine<'a>, table: &mut LineTable<'a>) -> bool
+fn is_redundant<'a>(line: &PlacedLine<'a>, table: &mut LineCache<'a>) -> bool
     ensures redundant { IsTrue result → IsRedundantIn table.old line.now.meaning }
-    ensures held { HoldsAfter table.old line.now.meaning table.new }
+    ensures held { CachesAfter table.old line.now.meaning table.new }
 {
-    line.is_blank() || table.finds(line.bytes())
+    line.is_blank() || table.find_or_keep(line.bytes())
 }
 
 /// The next lines that are not redundant. The batch is empty only if no line is left.
@@ -46,13 +46,13 @@ pub(crate) fn next_batch<'a>(
     alloc: Global,
     plan: Plan,
     walk: &mut LineWalk<'a>,
-    table: &mut LineTable<'a>,
+    table: &mut LineCache<'a>,
 ) -> Result<Vec<PlacedLine<'a>>, Memory>
     ensures batch { IfOk result (λ v. IsNextBatch walk.old walk.new table.old table.new v.items) }
     ensures last { IfOk result (λ v. v.items ≡ [] → walk.new ≡ []) }
     ensures few { IfOk result (λ v. length v.items ≤ 2 ^ 40) }
 {
-    let most = lines_at_once(plan);
+    let most = batch_len(plan);
     let mut lines = Vec::new(alloc);
     while lines.len() < most {
         let Some(line) = walk.next_line() else {

@@ -3,7 +3,7 @@ ghost use Rattle.std.specs.Prelude.{◌≡◌, ◌<◌, ◌++◌, ◌∷◌, Lis
 ghost use Rattle.epx_types.specs.Pieces.{piece_count};
 ghost use Rattle.epx_merge.specs.LogLines.{MeaningAt, placed_at, placed_among, bad_lines_at, bad_lines_among};
 ghost use Rattle.epx_merge.specs.ReadPieces.{IsRead, AreRead, lines_of_piece};
-ghost use Rattle.epx_merge.specs.Ledgers.{Notes};
+ghost use Rattle.epx_merge.specs.Ledgers.{NotesLines};
 ghost use Rattle.epx_merge.specs.Steps.{IsReadFault};
 
 use crate::ledger::Ledger;
@@ -80,7 +80,7 @@ pub(crate) fn read_piece(
 /// Records the entries of pieces in order, up to the first bad line.
 pub(crate) fn note_pieces(pieces: Pieces, ledger: &mut Ledger) -> Result<(), Fault>
     ensures { (lines : List MeaningAt) → AreRead (λ given entries. entries.items ≡ given) lines pieces.items → MatchResult result
-        (λ _. (bad_lines_among lines ≡ []) × Notes (placed_among lines) ledger.old ledger.new)
+        (λ _. (bad_lines_among lines ≡ []) × NotesLines (placed_among lines) ledger.old ledger.new)
         (IsReadFault (bad_lines_among lines)) }
 {
     for piece in pieces {
@@ -94,7 +94,7 @@ pub(crate) fn note_pieces(pieces: Pieces, ledger: &mut Ledger) -> Result<(), Fau
 
 /// Records entries in order.
 fn note_entries(entries: Vec<PlacedEntry>, ledger: &mut Ledger) -> Result<(), Memory>
-    ensures { OnOk result (Notes entries.items ledger.old ledger.new) }
+    ensures { OnOk result (NotesLines entries.items ledger.old ledger.new) }
 {
     for entry in entries {
         ledger.note(entry)?;

@@ -8,9 +8,9 @@ ghost use Rattle.epx_merge.specs.Steps.{IsReadFault};
 
 use crate::ledger::Ledger;
 use crate::line::PlacedLine;
+use crate::line_cache::LineCache;
 use crate::next_batch::next_batch;
 use crate::pieces::{Pieces, note_pieces};
-use crate::repeats::LineTable;
 use crate::walk::LineWalk;
 use epx_seed::Seed;
 use epx_types::{Fault, Memory, Plan};
@@ -21,18 +21,18 @@ use std::alloc::Global;
 pub(crate) struct ReadState<'a> {
     pub(crate) ledger: Ledger,
     walk: LineWalk<'a>,
-    table: LineTable<'a>,
+    table: LineCache<'a>,
 }
 
 /// The cache for this many logs. A single log needs none: its lines are not compared with each
 /// other.
-fn table_for<'a>(alloc: Global, logs: usize) -> Result<LineTable<'a>, Memory>
+fn cache_for<'a>(alloc: Global, logs: usize) -> Result<LineCache<'a>, Memory>
     ensures { IfOk result (λ table. table ≡ []) }
 {
     if logs < 2 {
-        Ok(LineTable::closed(alloc))
+        Ok(LineCache::without_slots(alloc))
     } else {
-        LineTable::new(alloc)
+        LineCache::new(alloc)
     }
 }
 
@@ -50,7 +50,7 @@ impl<'a> ReadState<'a> {
         Ok(ReadState {
             ledger: Ledger::new(alloc, seed),
             walk: LineWalk::new(logs),
-            table: table_for(alloc, logs.len())?,
+            table: cache_for(alloc, logs.len())?,
         })
     }
 }

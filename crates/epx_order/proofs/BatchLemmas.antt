@@ -31,8 +31,8 @@ module _ (g : DependencyGraph) (p : Parts) (touches : List DoubtfulTouch) (sourc
           apart = ((λ there. own.first ((is.reached b k within lk).1 there)), (λ back. own.second ((is.reaching b k within lk).1 back)));
         }
 
-    pub rest_by_bits : ¬ IsOwn → IsRelatedOrFree (edges_of g) ready touches (get_or sources b 0) k
-    rest_by_bits none is_ready share =
+    pub related_or_free_by_bits : ¬ IsOwn → IsRelatedOrFree (edges_of g) ready touches (get_or sources b 0) k
+    related_or_free_by_bits none is_ready share =
         let lk : k < length g.ids = omega (arith, below, is.nodes) in
         elim (cases_Bool (has_bit b (number_for p words.reached.items k))) [
           | inl has ↦ inl ((is.reached b k within lk).0 has)

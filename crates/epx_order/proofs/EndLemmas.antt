@@ -4,10 +4,10 @@ use Rattle.std.proofs.lemmas.Bool.{cases_eq, cases_lt}
 use Rattle.std.proofs.lemmas.List.{get_or_default, length-set, length-replicate, get_or-replicate, get_or_past}
 use Rattle.std.proofs.lemmas.List.Elements.{Contains-get_or}
 use Rattle.epx_graph.specs.NodePaths.{IsNodePath, NodeReaches}
-use Rattle.epx_order.specs.Ends.{AreEnds, IsEndBelow, IsEndOver}
+use Rattle.epx_order.specs.Ends.{AreEnds, IsEndBelow, IsGreatestEnd}
 use Rattle.epx_components.specs.Partitions.{Parts, IsPartition, component_of, node_at, number_for}
 use Rattle.epx_components.proofs.NodePathLemmas.{reach_falls, reaches_edge, reaches_on}
-use Rattle.epx_components.proofs.PartitionLemmas.{node_below, set_for}
+use Rattle.epx_components.proofs.PartitionLemmas.{node_below, value_after_set}
 
 -- a list of zeros has 0 everywhere
 pub zero_everywhere : (n c : ℕ) → ◌≡◌ {A = ℕ} (get_or (replicate n 0) c 0) 0
@@ -29,7 +29,7 @@ ends_step p nodes n ends in' old =
     let b = get_or nodes n 0 in
     let own = component_of p b in
     let new = set ends own (n + 1) in
-    let at : (k : ℕ) → ((component_of p k ≡ own) × (number_for p new k ≡ n + 1)) ⊎ ((component_of p k ≢ own) × (number_for p new k ≡ number_for p ends k)) = set_for 0 p ends b (n + 1) in' in
+    let at : (k : ℕ) → ((component_of p k ≡ own) × (number_for p new k ≡ n + 1)) ⊎ ((component_of p k ≢ own) × (number_for p new k ≡ number_for p ends k)) = value_after_set 0 p ends b (n + 1) in' in
     record {
       whole = length-set ends own (n + 1) ∙ old.whole;
       all = λ i l. elim (at (get_or nodes i 0)) [
@@ -50,9 +50,9 @@ ends_step p nodes n ends in' old =
 
 -- ---- the targets of a node
 
-module _ (component ends below : List ℕ) (own : ℕ) (targets : List ℕ) (n found : ℕ) (old : IsEndOver component ends below own targets n found) where
-  pub over_skip : get_or component (get_or targets n 0) 0 ≡ own → IsEndOver component ends below own targets (n + 1) found
-  over_skip same = record {
+module _ (component ends below : List ℕ) (own : ℕ) (targets : List ℕ) (n found : ℕ) (old : IsGreatestEnd component ends below own targets n found) where
+  pub greatest_end_skip : get_or component (get_or targets n 0) 0 ≡ own → IsGreatestEnd component ends below own targets (n + 1) found
+  greatest_end_skip same = record {
     all = λ i l ne. elim (cases_lt i n) [
       | inl past ↦ old.all i past ne
       | inr now ↦ let e : i ≡ n = omega arith in absurd (ne (ap (λ x. get_or component (get_or targets x 0) 0) e ∙ same))
@@ -63,8 +63,8 @@ module _ (component ends below : List ℕ) (own : ℕ) (targets : List ℕ) (n f
     ];
   }
 
-  pub over_take : (other end on found' : ℕ) → get_or component (get_or targets n 0) 0 ≡ other → other ≢ own → end ≡ get_or ends other 0 → on ≡ get_or below other 0 → found' ≡ max (max found end) on → IsEndOver component ends below own targets (n + 1) found'
-  over_take other end on found' is ne at_end at_on e = record {
+  pub greatest_end_take : (other end on found' : ℕ) → get_or component (get_or targets n 0) 0 ≡ other → other ≢ own → end ≡ get_or ends other 0 → on ≡ get_or below other 0 → found' ≡ max (max found end) on → IsGreatestEnd component ends below own targets (n + 1) found'
+  greatest_end_take other end on found' is ne at_end at_on e = record {
     all = λ i l apart. elim (cases_lt i n) [
       | inl past ↦ let was = old.all i past apart in (omega (arith, e, was.0), omega (arith, e, was.1))
       | inr now ↦
@@ -107,8 +107,8 @@ module _ (edges : ℕ → List ℕ) (p : Parts) (is : IsPartition edges p) (ends
   down_edge k b j lk lb e h = reaches_on edges k b j (is.joined k b lk lb e) (reaches_edge edges b j h)
 
   -- the greatest end over the targets of a node is that of something the node reaches
-  over_reason : (below : List ℕ) (n k b found : ℕ) → AreEndsBelow edges p ends below n → k < length p.component → b < length p.component → component_of p k ≡ component_of p b → IsEndOver p.component ends below (component_of p b) (edges b) (length (edges b)) found → (found ≡ 0) ⊎ ((j : ℕ) × NodeReaches edges k j × (component_of p j ≢ component_of p k) × (found ≡ number_for p ends j))
-  over_reason below n k b found old lk lb e over = elim over.one [
+  greatest_end_reason : (below : List ℕ) (n k b found : ℕ) → AreEndsBelow edges p ends below n → k < length p.component → b < length p.component → component_of p k ≡ component_of p b → IsGreatestEnd p.component ends below (component_of p b) (edges b) (length (edges b)) found → (found ≡ 0) ⊎ ((j : ℕ) × NodeReaches edges k j × (component_of p j ≢ component_of p k) × (found ≡ number_for p ends j))
+  greatest_end_reason below n k b found old lk lb e over = elim over.one [
     | inl none ↦ inl none
     | inr some ↦
         let j = get_or (edges b) some.0 0 in
@@ -126,18 +126,18 @@ module _ (edges : ℕ → List ℕ) (p : Parts) (is : IsPartition edges p) (ends
         ]
   ]
 
-  over_target : (below : List ℕ) (own : ℕ) (targets : List ℕ) (found : ℕ) → IsEndOver p.component ends below own targets (length targets) found → (j : ℕ) → Contains targets j → component_of p j ≢ own → (number_for p ends j ≤ found) × (number_for p below j ≤ found)
-  over_target below own targets found over j h ne =
+  greatest_end_target : (below : List ℕ) (own : ℕ) (targets : List ℕ) (found : ℕ) → IsGreatestEnd p.component ends below own targets (length targets) found → (j : ℕ) → Contains targets j → component_of p j ≢ own → (number_for p ends j ≤ found) × (number_for p below j ≤ found)
+  greatest_end_target below own targets found over j h ne =
       let at : get_or targets h.0 0 ≡ j = get_or_default targets h.0 0 j h.1 ∙ h.2 in
       (rw at at (over.all h.0 h.1)) ne
 
-  pub ends_below_step : (below : List ℕ) (n found greatest : ℕ) → n < length p.order → component_of p (node_at p n) < length below → IsEndOver p.component ends below (component_of p (node_at p n)) (edges (node_at p n)) (length (edges (node_at p n))) found → greatest ≡ max (number_for p below (node_at p n)) found → AreEndsBelow edges p ends below n → AreEndsBelow edges p ends (set below (component_of p (node_at p n)) greatest) (n + 1)
+  pub ends_below_step : (below : List ℕ) (n found greatest : ℕ) → n < length p.order → component_of p (node_at p n) < length below → IsGreatestEnd p.component ends below (component_of p (node_at p n)) (edges (node_at p n)) (length (edges (node_at p n))) found → greatest ≡ max (number_for p below (node_at p n)) found → AreEndsBelow edges p ends below n → AreEndsBelow edges p ends (set below (component_of p (node_at p n)) greatest) (n + 1)
   ends_below_step below n found greatest l in' over e old =
       let b = node_at p n in
       let lb = node_below edges p is n l in
       let own = component_of p b in
       let new = set below own greatest in
-      let at : (j : ℕ) → ((component_of p j ≡ own) × (number_for p new j ≡ greatest)) ⊎ ((component_of p j ≢ own) × (number_for p new j ≡ number_for p below j)) = set_for 0 p below b greatest in' in
+      let at : (j : ℕ) → ((component_of p j ≡ own) × (number_for p new j ≡ greatest)) ⊎ ((component_of p j ≢ own) × (number_for p new j ≡ number_for p below j)) = value_after_set 0 p below b greatest in' in
       let more : (j : ℕ) → number_for p below j ≤ number_for p new j = λ j. elim (at j) [
         | inl here ↦ omega (arith, e, here.1, ap (λ c. get_or below c 0) here.0)
         | inr there ↦ omega (arith, there.1)
@@ -147,7 +147,7 @@ module _ (edges : ℕ → List ℕ) (p : Parts) (is : IsPartition edges p) (ends
           | inl here ↦ elim (cases_lt (number_for p below b) found) [
             | inl raised ↦
                 let is_found : number_for p new k ≡ found = omega (arith, here.1, e) in
-                elim (over_reason below n k b found old lk lb here.0 over) [
+                elim (greatest_end_reason below n k b found old lk lb here.0 over) [
                   | inl none ↦ inl (is_found ∙ none)
                   | inr some ↦ inr (some.0, some.1, some.2, is_found ∙ some.3)
                 ]
@@ -176,7 +176,7 @@ module _ (edges : ℕ → List ℕ) (p : Parts) (is : IsPartition edges p) (ends
                 | inr now ↦
                     let same : q ≡ n = omega arith in
                     let target : Contains (edges b) j = subst (λ x. Contains (edges (node_at p x)) j) same h in
-                    let high = over_target below own (edges b) found over j target there.0 in
+                    let high = greatest_end_target below own (edges b) found over j target there.0 in
                     let here : number_for p new k ≡ greatest = elim (at k) [ inl own_k ↦ own_k.1 | inr other ↦ absurd (other.0 (ap (λ x. component_of p (node_at p x)) same)) ] in
                     (omega (arith, high.0, here, e), omega (arith, there.1, high.1, here, e))
               ]

@@ -5,12 +5,12 @@ use Rattle.std.specs.FinMap.{IsAntisymmetric, nat_cmp-IsAntisymmetric}
 use Rattle.std.proofs.lemmas.Bool.{cases_lt}
 use Rattle.std.proofs.lemmas.List.{length-set, length-replicate, get_or-replicate, get_or_past}
 use Rattle.epx_types.specs.Instances.{Instance}
-use Rattle.epx_types.proofs.TotalOrders.{below_itself, below_trans, below_cases}
-use Rattle.epx_types.proofs.Comparisons.{id_cmp_total, id_cmp-IsAntisymmetric, then_first, then_second}
+use Rattle.epx_types.proofs.lists.TotalOrderLemmas.{below_irrefl, below_trans, below_cases}
+use Rattle.epx_types.proofs.lists.ComparisonLemmas.{id_cmp_total, id_cmp-IsAntisymmetric, first_is_equal, second_is_equal}
 use Rattle.epx_order.specs.declared.sequence_key.SequenceKey.{SequenceKey}
 use Rattle.epx_components.specs.Partitions.{Parts, component_of}
-use Rattle.epx_order.specs.SequenceKeys.{sequence_key_of, sequence_key_cmp, ComesBefore, IsAheadAt, IsPassedAt, NoneAside}
-use Rattle.epx_components.proofs.PartitionLemmas.{set_for}
+use Rattle.epx_order.specs.SequenceKeys.{sequence_key_of, sequence_key_cmp, ComesBefore, IsNodeEarlyAt, IsNodeOvertakenAt, AreNodesInOrder}
+use Rattle.epx_components.proofs.PartitionLemmas.{value_after_set}
 
 abbrev pub latest_in : Parts → List (Option SequenceKey) → ℕ → Option SequenceKey
 latest_in p latest k = get_or latest (component_of p k) None
@@ -26,8 +26,8 @@ sequence_key_cmp_total = then_total (on_total (λ (t : SequenceKey). t.seq) nat_
 
 sequence_key_cmp-IsAntisymmetric : IsAntisymmetric sequence_key_cmp
 sequence_key_cmp-IsAntisymmetric a b e =
-    let seq = nat_cmp-IsAntisymmetric a.seq b.seq (then_first _ _ e) in
-    let id = id_cmp-IsAntisymmetric a.id b.id (then_second _ _ e) in
+    let seq = nat_cmp-IsAntisymmetric a.seq b.seq (first_is_equal _ _ e) in
+    let id = id_cmp-IsAntisymmetric a.id b.id (second_is_equal _ _ e) in
     λ i. record { seq = seq i; id = id i }
 
 -- a key less than another is less than each that is not less than the other
@@ -54,16 +54,16 @@ module _ (m : List Instance) (p : Parts) (nodes : List ℕ) (n : ℕ) (latest : 
   same_instance : (f : Instance) → slice_get m (get_or nodes n 0) ≡ Some f → f ≡ e
   same_instance f to = let same : Some f ≡ Some e = sym to ∙ at in cc same
 
-  pub passed_from_latest : ComesBefore (sequence_key_of e) (latest_in p latest (get_or nodes n 0)) → IsPassedAt m p nodes n
-  passed_from_latest h = by (latest_in p latest (get_or nodes n 0)) refl h where
-    by : (o : Option SequenceKey) → latest_in p latest (get_or nodes n 0) ≡ o → ComesBefore (sequence_key_of e) o → IsPassedAt m p nodes n
+  pub overtaken_from_latest : ComesBefore (sequence_key_of e) (latest_in p latest (get_or nodes n 0)) → IsNodeOvertakenAt m p nodes n
+  overtaken_from_latest h = by (latest_in p latest (get_or nodes n 0)) refl h where
+    by : (o : Option SequenceKey) → latest_in p latest (get_or nodes n 0) ≡ o → ComesBefore (sequence_key_of e) o → IsNodeOvertakenAt m p nodes n
     by None is h = absurd h
     by (Some t) is h =
         let found = old.from (get_or nodes n 0) t is in
         (found.0, found.2, found.3, (e, found.1, at, found.4, subst (λ t. is_lt (sequence_key_cmp (sequence_key_of e) t) ≡ true) (sym found.5) h))
 
-  pub passed_to_latest : IsPassedAt m p nodes n → ComesBefore (sequence_key_of e) (latest_in p latest (get_or nodes n 0))
-  passed_to_latest (j, l, same, (d, f, at_d, at_f, lower)) =
+  pub overtaken_to_latest : IsNodeOvertakenAt m p nodes n → ComesBefore (sequence_key_of e) (latest_in p latest (get_or nodes n 0))
+  overtaken_to_latest (j, l, same, (d, f, at_d, at_f, lower)) =
       let found = old.over j f l at_f in
       let here : latest_in p latest (get_or nodes n 0) ≡ Some found.0 = ap (λ c. get_or latest c None) (sym same) ∙ found.1 in
       let own = subst (λ d. is_lt (sequence_key_cmp (sequence_key_of d) (sequence_key_of f)) ≡ true) (same_instance d at_d) lower in
@@ -98,7 +98,7 @@ module _ (m : List Instance) (p : Parts) (nodes : List ℕ) (n : ℕ) (latest : 
           let place : get_or nodes j 0 ≡ get_or nodes n 0 = ap (λ x. get_or nodes x 0) same in
           let one = same_instance f (ap (slice_get m) (sym place) ∙ at_f) in
           elim (cases (get_or nodes j 0)) [
-            | inl here ↦ (sequence_key_of e, here.1, λ lower. below_itself sequence_key_cmp_total (sequence_key_of e) (subst (λ f. is_lt (sequence_key_cmp (sequence_key_of e) (sequence_key_of f)) ≡ true) one lower))
+            | inl here ↦ (sequence_key_of e, here.1, λ lower. below_irrefl sequence_key_cmp_total (sequence_key_of e) (subst (λ f. is_lt (sequence_key_cmp (sequence_key_of e) (sequence_key_of f)) ≡ true) one lower))
             | inr there ↦ absurd (there.0 (ap (component_of p) place))
           ]
     ];
@@ -107,13 +107,13 @@ module _ (m : List Instance) (p : Parts) (nodes : List ℕ) (n : ℕ) (latest : 
     own = component_of p (get_or nodes n 0)
 
     cases : (k : ℕ) → ((component_of p k ≡ own) × (latest_in p (set latest own (Some (sequence_key_of e))) k ≡ Some (sequence_key_of e))) ⊎ ((component_of p k ≢ own) × (latest_in p (set latest own (Some (sequence_key_of e))) k ≡ latest_in p latest k))
-    cases = set_for None p latest (get_or nodes n 0) (Some (sequence_key_of e)) in'
+    cases = value_after_set None p latest (get_or nodes n 0) (Some (sequence_key_of e)) in'
 
 -- one more position
-pub none_aside_step : (m : List Instance) (p : Parts) (below nodes : List ℕ) (n : ℕ) → ¬ IsAheadAt p below nodes n → ¬ IsPassedAt m p nodes n → NoneAside m p below nodes n → NoneAside m p below nodes (n + 1)
-none_aside_step m p below nodes n ahead passed old i l = elim (cases_lt i n) [
+pub nodes_in_order_step : (m : List Instance) (p : Parts) (below nodes : List ℕ) (n : ℕ) → ¬ IsNodeEarlyAt p below nodes n → ¬ IsNodeOvertakenAt m p nodes n → AreNodesInOrder m p below nodes n → AreNodesInOrder m p below nodes (n + 1)
+nodes_in_order_step m p below nodes n ahead passed old i l = elim (cases_lt i n) [
   | inl past ↦ old i past
   | inr now ↦
       let same : n ≡ i = omega arith in
-      subst (λ i. (¬ IsAheadAt p below nodes i) × (¬ IsPassedAt m p nodes i)) same (ahead, passed)
+      subst (λ i. (¬ IsNodeEarlyAt p below nodes i) × (¬ IsNodeOvertakenAt m p nodes i)) same (ahead, passed)
 ]

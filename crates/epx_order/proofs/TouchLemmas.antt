@@ -4,8 +4,8 @@ use Rattle.std.specs.declared.hash.DefaultHasher.{DefaultHasher}
 use Rattle.epx_types.specs.declared.op.Op.{Op}
 use Rattle.epx_types.specs.declared.op.Op.TheVariants.{Get, Put, Del, Add, Is, Floor, Copy}
 use Rattle.epx_types.specs.CommandKeys.{touched_by, written_by, touched_keys, written_keys}
-use Rattle.epx_types.proofs.KeyLists.{Contains-from_rising_keys}
-use Rattle.epx_types.proofs.Membership.{Contains-nil, Contains-head, Contains-cons, Contains-cons_cases, Contains-flat_map, Contains-from_flat_map}
+use Rattle.epx_types.proofs.keys.KeyListLemmas.{Contains-from_rising_keys}
+use Rattle.epx_types.proofs.lists.MembershipLemmas.{Contains-nil, Contains-head, Contains-cons, Contains-cons_cases, Contains-flat_map, Contains-from_flat_map}
 use Rattle.epx_order.specs.declared.touches.Touch.{Touch}
 use Rattle.epx_order.specs.Touches.{touch, touches_by, touches_of}
 

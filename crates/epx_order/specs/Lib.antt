@@ -1,6 +1,6 @@
 pub mod Ranks
 pub mod ReadyMarks
-pub mod Listings
+pub mod NodeLists
 pub mod Ends
 pub mod SequenceKeys
 pub mod OrderFaults
@@ -10,7 +10,7 @@ pub mod NodeConflicts
 pub mod UncoveredLaws
 pub mod Touches
 pub mod ReachIndexes
-pub mod Links
+pub mod RelatedTouches
 pub mod SourceBits
 pub mod DoubtfulKeys
 pub mod Batches

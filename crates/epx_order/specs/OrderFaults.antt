@@ -32,8 +32,8 @@ abbrev pub ReadyOnce : List Instance → List Id → ℕ → Type 0
 ReadyOnce m ids n = (i : ℕ) (x : Id) → i < n → slice_get ids i ≡ Some x → IsReady m x × ((j : ℕ) → j < i → slice_get ids j ≢ Some x)
 
 -- each ready instance is in the list
-abbrev pub HoldsReady : List Instance → List Id → Type 0
-HoldsReady m ids = (x : Id) → IsReady m x → Contains ids x
+abbrev pub HasAllReady : List Instance → List Id → Type 0
+HasAllReady m ids = (x : Id) → IsReady m x → Contains ids x
 
 -- below place n, no instance is early and none is overtaken
 abbrev pub InOrder : List Instance → List Id → ℕ → Type 0
@@ -41,7 +41,7 @@ InOrder m ids n = (i : ℕ) → i < n → ¬ IsEarlyAt m ids i × ¬ IsOvertaken
 
 -- the list has each ready instance once, and no other instance
 abbrev pub IsListOfReady : List Instance → List Id → Type 0
-IsListOfReady m ids = ReadyOnce m ids (length ids) × HoldsReady m ids
+IsListOfReady m ids = ReadyOnce m ids (length ids) × HasAllReady m ids
 
 -- the fault of a list is the first of: the least place of a stranger or a repeat; the least ready
 -- instance that is not in the list; the least place where the order is wrong

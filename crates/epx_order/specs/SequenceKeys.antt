@@ -18,8 +18,8 @@ sequence_key_cmp a b = ordering_then (nat_cmp a.seq b.seq) (id_cmp a.id b.id)
 
 -- there is another key, and this one is less
 abbrev pub ComesBefore : SequenceKey → Option SequenceKey → Type 0
-ComesBefore turn None = ⊥
-ComesBefore turn (Some last) = is_lt (sequence_key_cmp turn last) ≡ true
+ComesBefore key_of_node None = ⊥
+ComesBefore key_of_node (Some last) = is_lt (sequence_key_cmp key_of_node last) ≡ true
 
 -- the sequence key of the instance at position k of the map is less than that of the instance at
 -- position j
@@ -27,21 +27,21 @@ abbrev pub SequenceKeyBefore : List Instance → ℕ → ℕ → Type 0
 SequenceKeyBefore m k j = (d e : Instance) × (slice_get m k ≡ Some d) × (slice_get m j ≡ Some e) × (is_lt (sequence_key_cmp (sequence_key_of d) (sequence_key_of e)) ≡ true)
 
 -- a component below that of the node at position i has a later end
-abbrev pub IsAheadAt : Parts → List ℕ → List ℕ → ℕ → Type 0
-IsAheadAt p below nodes i = i < number_for p below (slice_index nodes i)
+abbrev pub IsNodeEarlyAt : Parts → List ℕ → List ℕ → ℕ → Type 0
+IsNodeEarlyAt p below nodes i = i < number_for p below (slice_index nodes i)
 
 -- an earlier position has a node of the same component with a greater sequence key
-abbrev pub IsPassedAt : List Instance → Parts → List ℕ → ℕ → Type 0
-IsPassedAt m p nodes i = (j : ℕ) × (j < i) × (component_of p (slice_index nodes j) ≡ component_of p (slice_index nodes i)) × SequenceKeyBefore m (slice_index nodes i) (slice_index nodes j)
+abbrev pub IsNodeOvertakenAt : List Instance → Parts → List ℕ → ℕ → Type 0
+IsNodeOvertakenAt m p nodes i = (j : ℕ) × (j < i) × (component_of p (slice_index nodes j) ≡ component_of p (slice_index nodes i)) × SequenceKeyBefore m (slice_index nodes i) (slice_index nodes j)
 
-abbrev pub NoneAside : List Instance → Parts → List ℕ → List ℕ → ℕ → Type 0
-NoneAside m p below nodes n = (i : ℕ) → i < n → ¬ IsAheadAt p below nodes i × ¬ IsPassedAt m p nodes i
+abbrev pub AreNodesInOrder : List Instance → Parts → List ℕ → List ℕ → ℕ → Type 0
+AreNodesInOrder m p below nodes n = (i : ℕ) → i < n → ¬ IsNodeEarlyAt p below nodes i × ¬ IsNodeOvertakenAt m p nodes i
 
 -- the least position where the order is wrong
-abbrev pub IsPlaceFault : List Instance → Parts → List ℕ → List ℕ → OrderFault → Type 0
-IsPlaceFault m p below nodes Memory = Unit {0}
-IsPlaceFault m p below nodes (Stranger i) = ⊥
-IsPlaceFault m p below nodes (Repeat i) = ⊥
-IsPlaceFault m p below nodes (Missing x) = ⊥
-IsPlaceFault m p below nodes (Early i) = (i < length nodes) × IsAheadAt p below nodes i × NoneAside m p below nodes i
-IsPlaceFault m p below nodes (Sequence i) = (i < length nodes) × IsPassedAt m p nodes i × ¬ IsAheadAt p below nodes i × NoneAside m p below nodes i
+abbrev pub IsNodeFault : List Instance → Parts → List ℕ → List ℕ → OrderFault → Type 0
+IsNodeFault m p below nodes Memory = Unit {0}
+IsNodeFault m p below nodes (Stranger i) = ⊥
+IsNodeFault m p below nodes (Repeat i) = ⊥
+IsNodeFault m p below nodes (Missing x) = ⊥
+IsNodeFault m p below nodes (Early i) = (i < length nodes) × IsNodeEarlyAt p below nodes i × AreNodesInOrder m p below nodes i
+IsNodeFault m p below nodes (Sequence i) = (i < length nodes) × IsNodeOvertakenAt m p nodes i × ¬ IsNodeEarlyAt p below nodes i × AreNodesInOrder m p below nodes i

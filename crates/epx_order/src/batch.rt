@@ -75,11 +75,11 @@ impl Batch {
             return 0;
         }
         let own = partition.component[node];
-        without(self.sharing[node], self.reached[own], self.reaching[own])
+        bits_without(self.sharing[node], self.reached[own], self.reaching[own])
     }
 
     /// Whether no node has a candidate.
-    pub(crate) fn has_none(&self, partition: &Partition, ready: &[bool]) -> bool
+    pub(crate) fn has_no_candidate(&self, partition: &Partition, ready: &[bool]) -> bool
         requires whole { IsWhole (parts partition.now) ready.now self.now }
         ensures { IsTrue result →
             (g : DependencyGraph) (touches : List DoubtfulTouch) (sources : List ℕ) (b j : ℕ) →
@@ -97,7 +97,7 @@ impl Batch {
 }
 
 /// The bits that are set in a word and in neither of two others.
-fn without(word: u64, first: u64, second: u64) -> u64
+fn bits_without(word: u64, first: u64, second: u64) -> u64
     ensures { (b : ℕ) → b < 64 → IsTrue (has_bit b result) ↔ HasAlone b word first second }
 {
     word & !(first | second)

@@ -4,10 +4,10 @@ ghost use Rattle.epx_types.specs.LawfulOrders.{IsLawful};
 ghost use Rattle.epx_graph.specs.GraphOf.{IsGraphOf};
 ghost use Rattle.epx_order.specs.OrderFaults.{IsOrderFault};
 ghost use Rattle.epx_components.specs.Partitions.{parts};
-ghost use Rattle.epx_order.specs.SequenceKeys.{ComesBefore, NoneAside, IsPlaceFault};
+ghost use Rattle.epx_order.specs.SequenceKeys.{ComesBefore, AreNodesInOrder, IsNodeFault};
 
 use crate::ends::{find_ends, find_ends_below};
-use crate::listing::{first_left_out, list_nodes, ready_nodes};
+use crate::node_list::{first_unlisted, list_nodes, ready_nodes};
 use crate::order_fault::OrderFault;
 use crate::sequence_key::SequenceKey;
 use epx_components::{Partition, find_components};
@@ -36,18 +36,18 @@ pub fn check_order(
 {
     let partition = find_components(alloc, graph)?;
     let ready = ready_nodes(alloc, graph, &partition)?;
-    let listing = list_nodes(alloc, graph, &ready, ids)?;
-    if let Some(node) = first_left_out(&ready, &listing.marks) {
+    let node_list = list_nodes(alloc, graph, &ready, ids)?;
+    if let Some(node) = first_unlisted(&ready, &node_list.marks) {
         return Err(OrderFault::Missing { id: graph.id(node) });
     }
-    let ends = find_ends(alloc, &partition, &listing.nodes)?;
+    let ends = find_ends(alloc, &partition, &node_list.nodes)?;
     let below = find_ends_below(alloc, graph, &partition, &ends)?;
-    check_places(alloc, merged, &partition, &below, &listing.nodes)
+    check_positions(alloc, merged, &partition, &below, &node_list.nodes)
 }
 
 /// Returns the least position of a list of ready nodes, each listed once, where the order is
 /// wrong.
-fn check_places(
+fn check_positions(
     alloc: Global,
     merged: &Merged,
     partition: &Partition,
@@ -59,8 +59,8 @@ fn check_places(
     requires committed { All (λ k. k < length merged.now) nodes.now }
     requires below { length below.now ≡ (parts partition.now).count }
     ensures { MatchResult result
-        (λ _. NoneAside merged.now (parts partition.now) below.now nodes.now (length nodes.now))
-        (IsPlaceFault merged.now (parts partition.now) below.now nodes.now) }
+        (λ _. AreNodesInOrder merged.now (parts partition.now) below.now nodes.now (length nodes.now))
+        (IsNodeFault merged.now (parts partition.now) below.now nodes.now) }
 {
     let mut latest = no_sequence_keys(alloc, partition.count)?;
     for (place, node) in nodes.iter().enumerate() {
@@ -68,28 +68,28 @@ fn check_places(
         if below[own] > place {
             return Err(OrderFault::Early { place });
         }
-        let turn = SequenceKey::of(merged.entry_at(*node));
-        if comes_before(turn, latest[own]) {
+        let key_of_node = SequenceKey::of(merged.entry_at(*node));
+        if comes_before(key_of_node, latest[own]) {
             return Err(OrderFault::Sequence { place });
         }
-        latest[own] = Some(turn);
+        latest[own] = Some(key_of_node);
     }
     Ok(())
 }
 
 /// A list of `components` entries, all None.
 fn no_sequence_keys(alloc: Global, components: usize) -> Result<Vec<Option<SequenceKey>>, Memory>
-    ensures { IfOk result (λ turns. turns.items ≡ replicate components None) }
+    ensures { IfOk result (λ no_keys. no_keys.items ≡ replicate components None) }
 {
     Ok(vec![in alloc; None; components]?)
 }
 
 /// Whether a sequence key is less than another one, if there is another one.
-fn comes_before(turn: SequenceKey, last: Option<SequenceKey>) -> bool
-    ensures { IsTrue result ↔ ComesBefore turn last }
+fn comes_before(key_of_node: SequenceKey, last: Option<SequenceKey>) -> bool
+    ensures { IsTrue result ↔ ComesBefore key_of_node last }
 {
     match last {
-        Some(last) => turn < last,
+        Some(last) => key_of_node < last,
         None => false,
     }
 }

@@ -41,7 +41,8 @@ impl<'a> CommandKeys<'a> {
     pub(crate) fn conflict(&self, other: &CommandKeys<'a>) -> bool
         ensures { IsTrue result ↔ KeysConflict self.now other.now }
     {
-        share(&self.written, &other.touched) || share(&self.touched, &other.written)
+        have_common_key(&self.written, &other.touched)
+            || have_common_key(&self.touched, &other.written)
     }
 }
 
@@ -60,18 +61,18 @@ pub(crate) fn all_keys<'a>(
 }
 
 /// Whether two lists have a key in common.
-fn share(keys: &[&Key], others: &[&Key]) -> bool
+fn have_common_key(keys: &[&Key], others: &[&Key]) -> bool
     ensures { IsTrue result ↔ ((k : List ℕ) × Contains (map (λ k. k.now) keys.now) k × Contains (map (λ k. k.now) others.now) k) }
 {
     for key in keys {
-        if holds(others, key) {
+        if has_key(others, key) {
             return true;
         }
     }
     false
 }
 
-fn holds(keys: &[&Key], key: &Key) -> bool
+fn has_key(keys: &[&Key], key: &Key) -> bool
     ensures { IsTrue result ↔ Contains (map (λ k. k.now) keys.now) key.now }
 {
     for other in keys {

@@ -10,7 +10,7 @@ ghost use Rattle.epx_order.specs.Touches.{ArePlaced};
 ghost use Rattle.epx_order.specs.ReachIndexes.{IsReachIndex};
 
 use crate::order_list::OrderList;
-use crate::quick_audit::{are_linked, is_related_back, next_writer, order_nodes};
+use crate::quick_audit::{are_all_related, is_related_back, next_writer, order_nodes};
 use crate::reach_index::ReachIndex;
 use crate::search::Search;
 use crate::touches::{Touch, find_touches};
@@ -54,11 +54,11 @@ pub(crate) fn find_doubtful(
     let touches = find_touches(alloc, merged, &nodes, start)?;
     let reach = ReachIndex::of(alloc, graph, order, nodes)?;
     let hashes = doubtful_hashes(alloc, graph, &reach, &touches)?;
-    let sure = sure_touches(alloc, &touches, &hashes)?;
+    let sure = other_touches(alloc, &touches, &hashes)?;
     // No contract says which hashes are doubtful. So the touches of all other hashes are tested
     // again.
-    if !are_linked(alloc, graph, &reach, &sure)? {
-        let one = one_key(alloc, merged.len())?;
+    if !are_all_related(alloc, graph, &reach, &sure)? {
+        let one = all_doubtful(alloc, merged.len())?;
         return Ok(one);
     }
     let touches = doubtful_touches(alloc, &reach.nodes, &touches, &hashes)?;
@@ -84,7 +84,7 @@ fn doubtful_hashes(
     let mut last_writer = 0;
     for index in 0..touches.len() {
         let hash = touches[index].hash;
-        if is_new(&hashes, hash)
+        if is_above_last(&hashes, hash)
             && !is_related_back(&mut path_search, graph, reach, touches, last_writer, index)?
         {
             hashes.push(hash)?;
@@ -95,7 +95,7 @@ fn doubtful_hashes(
 }
 
 /// Whether a hash is greater than the last of some increasing hashes.
-fn is_new(hashes: &[u64], hash: u64) -> bool
+fn is_above_last(hashes: &[u64], hash: u64) -> bool
     ensures { IsTrue result → 0 < length hashes.now →
         slice_index hashes.now (length hashes.now - 1) < hash }
 {
@@ -106,7 +106,7 @@ fn is_new(hashes: &[u64], hash: u64) -> bool
 }
 
 /// The index of a hash in the list of doubtful hashes.
-fn key_of(hashes: &[u64], hash: u64) -> Option<usize>
+fn doubtful_number(hashes: &[u64], hash: u64) -> Option<usize>
     requires { IsStrictlyIncreasing hashes.now }
     ensures { MatchOption result
         (¬ Contains hashes.now hash)
@@ -119,7 +119,7 @@ fn key_of(hashes: &[u64], hash: u64) -> Option<usize>
 }
 
 /// The touches of the hashes that are not doubtful.
-fn sure_touches(alloc: Global, touches: &[Touch], hashes: &[u64]) -> Result<Vec<Touch>, Memory>
+fn other_touches(alloc: Global, touches: &[Touch], hashes: &[u64]) -> Result<Vec<Touch>, Memory>
     requires { IsStrictlyIncreasing hashes.now }
     ensures some { IfOk result
         (λ sure. (t : Touch) → Contains sure.items t → Contains touches.now t) }
@@ -128,7 +128,7 @@ fn sure_touches(alloc: Global, touches: &[Touch], hashes: &[u64]) -> Result<Vec<
 {
     let mut sure = Vec::new(alloc);
     for touch in touches {
-        if key_of(hashes, touch.hash).is_none() {
+        if doubtful_number(hashes, touch.hash).is_none() {
             sure.push(*touch)?;
         }
     }
@@ -152,7 +152,7 @@ fn doubtful_touches(
 {
     let mut found = Vec::new(alloc);
     for touch in touches {
-        if let Some(key) = key_of(hashes, touch.hash) {
+        if let Some(key) = doubtful_number(hashes, touch.hash) {
             found.push(DoubtfulTouch {
                 key,
                 node: nodes[touch.position],
@@ -164,7 +164,7 @@ fn doubtful_touches(
 }
 
 /// One doubtful key that every node writes, so that any two nodes share it.
-fn one_key(alloc: Global, nodes: usize) -> Result<DoubtfulTouches, Memory>
+fn all_doubtful(alloc: Global, nodes: usize) -> Result<DoubtfulTouches, Memory>
     ensures in_range { IfOk result (λ one. AreInRange nodes one.keys one.touches.items) }
     ensures whole { IfOk result (λ one. (k : ℕ) → k < nodes →
         Contains one.touches.items (record { key = 0; node = k; writes = true })) }

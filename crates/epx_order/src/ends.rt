@@ -2,7 +2,7 @@
 //! the same for the components that it reaches.
 ghost use Rattle.std.specs.Prelude.{◌≡◌, ℕ, ◌<◌, ◌≤◌, length, slice_index, All, IfOk};
 ghost use Rattle.epx_graph.specs.Graphs.{edges_of};
-ghost use Rattle.epx_order.specs.Ends.{AreEnds, IsEndBelow, IsEndOver};
+ghost use Rattle.epx_order.specs.Ends.{AreEnds, IsEndBelow, IsGreatestEnd};
 ghost use Rattle.epx_components.specs.Partitions.{parts, number_for, IsPartitionOf};
 
 use epx_components::Partition;
@@ -42,14 +42,14 @@ pub(crate) fn find_ends_below(
     let mut below = vec![in alloc; 0; partition.count]?;
     for node in &partition.order {
         let own = partition.component[*node];
-        let over = end_over(graph.edges(*node), &partition.component, ends, &below, own);
+        let over = greatest_end(graph.edges(*node), &partition.component, ends, &below, own);
         below[own] = below[own].max(over);
     }
     Ok(below)
 }
 
 /// The greatest end of the other components that the edges lead to and of those below them, or 0.
-fn end_over(
+fn greatest_end(
     targets: &[usize],
     component: &[usize],
     ends: &[usize],
@@ -59,7 +59,7 @@ fn end_over(
     requires targets { All (λ j. j < length component.now) targets.now }
     requires ends { All (λ c. c < length ends.now) component.now }
     requires below { length below.now ≡ length ends.now }
-    ensures { IsEndOver component.now ends.now below.now own targets.now (length targets.now) result }
+    ensures { IsGreatestEnd component.now ends.now below.now own targets.now (length targets.now) result }
 {
     let mut greatest: usize = 0;
     for target in targets {

@@ -6,7 +6,7 @@ ghost use Rattle.epx_types.specs.Ids.{IsRising};
 ghost use Rattle.epx_types.specs.ExecutionOrder.{IsExecutionOrder};
 ghost use Rattle.epx_graph.specs.Graphs.{edges_of};
 ghost use Rattle.epx_graph.specs.GraphOf.{IsGraphOf};
-ghost use Rattle.epx_order.specs.Links.{touch_at, AreLinked, IsRelatedBack, IsNextWriter};
+ghost use Rattle.epx_order.specs.RelatedTouches.{touch_at, AreAllRelated, IsRelatedBack, IsNextWriter};
 ghost use Rattle.epx_order.specs.Touches.{ArePlaced};
 ghost use Rattle.epx_order.specs.ReachIndexes.{AreNodesOf, IsReachIndex};
 
@@ -27,7 +27,7 @@ use std::hash::DefaultHasher;
 /// If the result is true, the map is covered. If it is false, the map may still be covered: two
 /// keys can share a hash, and the number of nodes that the searches open is limited. `start` is
 /// the state of the hasher.
-pub(crate) fn is_seen_covered(
+pub(crate) fn is_found_covered(
     alloc: Global,
     merged: &Merged,
     graph: &Graph,
@@ -41,7 +41,7 @@ pub(crate) fn is_seen_covered(
     let nodes = order_nodes(alloc, merged, order)?;
     let touches = find_touches(alloc, merged, &nodes, start)?;
     let reach = ReachIndex::of(alloc, graph, order, nodes)?;
-    are_linked(alloc, graph, &reach, &touches)
+    are_all_related(alloc, graph, &reach, &touches)
 }
 
 /// The node at each position of an order.
@@ -75,7 +75,7 @@ fn node_of(merged: &Merged, id: Id) -> usize
 
 /// Whether all touches of each hash are found to be related: of any two of which one writes, the
 /// later one reaches the earlier one.
-pub(crate) fn are_linked(
+pub(crate) fn are_all_related(
     alloc: Global,
     graph: &Graph,
     reach: &ReachIndex,
@@ -84,7 +84,7 @@ pub(crate) fn are_linked(
     requires reach { IsReachIndex graph.now reach.now }
     requires placed { ArePlaced (length reach.now.nodes.items) touches.now }
     ensures { IfOk result (λ yes. IsTrue yes →
-        AreLinked (edges_of graph.now) reach.now.nodes.items touches.now (length touches.now)) }
+        AreAllRelated (edges_of graph.now) reach.now.nodes.items touches.now (length touches.now)) }
 {
     let mut path_search = Search::new(alloc, graph.len())?;
     let mut last_writer = 0;

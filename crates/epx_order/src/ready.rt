@@ -5,7 +5,7 @@ ghost use Rattle.epx_types.specs.CommittedMap.{IsCommitted};
 ghost use Rattle.epx_types.specs.Done.{remaining};
 ghost use Rattle.epx_types.specs.ExecutionOrder.{IsRanked};
 ghost use Rattle.epx_types.specs.Readiness.{IsReady};
-ghost use Rattle.epx_graph.specs.GraphOf.{IsGraphAfter, IsGraphOf};
+ghost use Rattle.epx_graph.specs.GraphOf.{IsGraphOfRest, IsGraphOf};
 ghost use Rattle.epx_order.specs.Ranks.{ranked, AreReadyRanks};
 ghost use Rattle.epx_components.specs.NodeRanks.{IsNodeRank};
 
@@ -23,7 +23,7 @@ pub(crate) fn ready_ranks(
     merged: &Merged,
     graph: &Graph,
 ) -> Result<Vec<Rank>, Memory>
-    requires { IsGraphAfter merged.now graph.now }
+    requires { IsGraphOfRest merged.now graph.now }
     ensures { IfOk result (λ ranks. (done : List Id) → IsGraphOf (remaining done merged.now) graph.now → AreReadyRanks (remaining done merged.now) ranks.items) }
 {
     let node_ranks = NodeRanks::of(alloc, graph)?;
@@ -38,7 +38,7 @@ pub(crate) fn ready_ranks(
 
 /// The rank of the instance of a committed node, if the instance is ready.
 fn rank_of(merged: &Merged, graph: &Graph, node: usize, node_rank: NodeRank) -> Option<Rank>
-    requires graph { IsGraphAfter merged.now graph.now }
+    requires graph { IsGraphOfRest merged.now graph.now }
     requires committed { node < graph.now.committed }
     requires node_rank { IsNodeRank graph.now node node_rank }
     ensures id { IfSome result (λ rank. slice_get graph.now.ids node ≡ Some rank.id) }

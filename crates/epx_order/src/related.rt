@@ -25,8 +25,8 @@ pub(crate) fn find_reached(
     ensures reached { IfOk result
         (λ words. AreReachedBy graph.now (parts partition.now) sources.now words.items) }
 {
-    let homes = components_of(alloc, &partition.component, sources)?;
-    let mut words = source_marks(alloc, partition.count, &homes)?;
+    let source_components = components_of(alloc, &partition.component, sources)?;
+    let mut words = source_marks(alloc, partition.count, &source_components)?;
     for position in (0..partition.order.len()).rev() {
         let node = partition.order[position];
         let word = words[partition.component[node]];
@@ -41,13 +41,13 @@ pub(crate) fn find_reached(
 fn components_of(alloc: Global, component: &[usize], nodes: &[usize]) -> Result<Vec<usize>, Memory>
     requires { All (λ k. k < length component.now) nodes.now }
     ensures { IfOk result
-        (λ homes. homes.items ≡ map (λ k. slice_index component.now k) nodes.now) }
+        (λ source_components. source_components.items ≡ map (λ k. slice_index component.now k) nodes.now) }
 {
-    let mut homes = Vec::with_capacity(alloc, nodes.len())?;
+    let mut source_components = Vec::with_capacity(alloc, nodes.len())?;
     for node in nodes {
-        homes.push(component[*node])?;
+        source_components.push(component[*node])?;
     }
-    Ok(homes)
+    Ok(source_components)
 }
 
 /// Adds sources to the components that the edges lead to.
@@ -82,14 +82,14 @@ pub(crate) fn find_reaching(
 {
     let mut words = vec![in alloc; 0; partition.count]?;
     for node in &partition.order {
-        let over = marks_over(graph.edges(*node), &partition.component, &words);
+        let over = target_marks(graph.edges(*node), &partition.component, &words);
         words[partition.component[*node]] |= own[*node] | over;
     }
     Ok(words)
 }
 
 /// The sources of the components that the edges lead to.
-fn marks_over(targets: &[usize], component: &[usize], words: &[u64]) -> u64
+fn target_marks(targets: &[usize], component: &[usize], words: &[u64]) -> u64
     requires targets { All (λ j. j < length component.now) targets.now }
     requires counted { All (λ c. c < length words.now) component.now }
     ensures { (b : ℕ) →

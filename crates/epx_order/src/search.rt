@@ -10,7 +10,7 @@ use epx_types::Memory;
 use std::alloc::Global;
 
 /// All searches together may open this many times as many nodes as the graph has.
-const OPENED_EACH: usize = 64;
+const OPENED_PER_NODE: usize = 64;
 
 /// The state that searches share, so that a search does not have to clear the table of seen nodes.
 #[derive(Debug, Drop)]
@@ -33,7 +33,7 @@ impl Search {
             seen: vec![in alloc; 0; nodes]?,
             search: 0,
             opened: Vec::new(alloc),
-            left: nodes.saturating_mul(OPENED_EACH),
+            left: nodes.saturating_mul(OPENED_PER_NODE),
         })
     }
 
@@ -58,13 +58,13 @@ impl Search {
         if reach.reaches_by_chain(node, earlier) || has_edge(graph, node, reach.nodes[earlier]) {
             return Ok(true);
         }
-        self.find(graph, reach, node, reach.starts[earlier])
+        self.find_path(graph, reach, node, reach.starts[earlier])
     }
 
     /// Whether a search finds a path from a node to the first position of a component. What
     /// reaches a component from outside has a later position, so the search skips all earlier
     /// positions.
-    fn find(
+    fn find_path(
         &mut self,
         graph: &Graph,
         reach: &ReachIndex,
@@ -90,7 +90,7 @@ impl Search {
                 return Ok(false);
             }
             self.left -= 1;
-            if self.look(graph, reach, node, position)? {
+            if self.open_targets(graph, reach, node, position)? {
                 return Ok(true);
             }
         }
@@ -99,7 +99,7 @@ impl Search {
 
     /// Whether an edge of a node leads to a node that reaches the position by its chain. If not,
     /// the unseen targets after the position are opened.
-    fn look(
+    fn open_targets(
         &mut self,
         graph: &Graph,
         reach: &ReachIndex,

@@ -84,7 +84,7 @@ fn add_command(
 }
 
 /// A hasher whose state depends on all keys of a map, so that nobody can choose keys that collide.
-pub(crate) fn start_of(alloc: Global, merged: &Merged) -> Result<DefaultHasher, Memory> {
+pub(crate) fn map_hasher(alloc: Global, merged: &Merged) -> Result<DefaultHasher, Memory> {
     let mut keys = DefaultHasher::new();
     let mut touches = Vec::new(alloc);
     for position in 0..merged.len() {

@@ -16,11 +16,11 @@ ghost use Rattle.epx_order.specs.Uncovered.{IsLeastUncovered};
 use crate::batch::Batch;
 use crate::conflicts::{CommandKeys, all_keys};
 use crate::doubtful_touches::{DoubtfulTouch, DoubtfulTouches, find_doubtful};
-use crate::listing::ready_nodes;
+use crate::node_list::ready_nodes;
 use crate::order_list::OrderList;
-use crate::quick_audit::is_seen_covered;
+use crate::quick_audit::is_found_covered;
 use crate::source_marks::{SOURCES, has_bit};
-use crate::touches::start_of;
+use crate::touches::map_hasher;
 use epx_components::{Partition, find_components};
 use epx_graph::Graph;
 use epx_merge::Merged;
@@ -41,12 +41,12 @@ pub fn audit(
     requires order { IsExecutionOrder merged.now order.now }
     ensures { IfOk result (λ found. MatchOption found (IsCovered merged.now) (λ pair. IsLeastUncovered merged.now pair.0 pair.1)) }
 {
-    // `start_of` takes as long as the whole quick audit. It is needed only for keys that were
+    // `map_hasher` takes as long as the whole quick audit. It is needed only for keys that were
     // chosen to collide, so the first quick audit does without it.
-    if is_seen_covered(alloc, merged, graph, order, DefaultHasher::new())? {
+    if is_found_covered(alloc, merged, graph, order, DefaultHasher::new())? {
         return Ok(None);
     }
-    let start = start_of(alloc, merged)?;
+    let start = map_hasher(alloc, merged)?;
     let doubtful = find_doubtful(alloc, merged, graph, order, start)?;
     let partition = find_components(alloc, graph)?;
     let ready = ready_nodes(alloc, graph, &partition)?;
@@ -135,7 +135,7 @@ fn first_pair<'a>(
         (λ pair. IsFirstPair m (edges_of graph.now) ready.now sources.now pair.0 pair.1)) }
 {
     let batch = Batch::of(alloc, graph, partition, doubtful, sources)?;
-    if batch.has_none(partition, ready) {
+    if batch.has_no_candidate(partition, ready) {
         return Ok(None);
     }
     for bit in 0..sources.len() {

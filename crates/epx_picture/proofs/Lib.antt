@@ -1,7 +1,7 @@
-pub mod Marks
-pub mod NodeClusters
-pub mod DrawnNodes
-pub mod DrawnLists
-pub mod OnePicture
-pub mod PicturesExist
-pub mod NextArrows
+pub mod LeaderMarkLemmas
+pub mod ClusterLemmas
+pub mod NodeBoxLemmas
+pub mod BoxListLemmas
+pub mod UniquePictureLemmas
+pub mod PictureLemmas
+pub mod FlatMapLemmas

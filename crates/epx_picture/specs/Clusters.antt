@@ -14,6 +14,6 @@ abbrev pub LeadsAmong : List NodeRank → ℕ → ℕ → Type 0
 LeadsAmong node_ranks n leader = (k : ℕ) × (s : NodeRank) × (k < n) × (slice_get node_ranks k ≡ Some s) × (s.leader ≡ leader) × (k ≢ leader)
 
 -- for each node, whether it is the leader of another of the first n nodes
-pub record AreMarked (node_ranks : List NodeRank) (n : ℕ) (marks : List Bool) : Type 0 where
+pub record AreLeaderMarks (node_ranks : List NodeRank) (n : ℕ) (marks : List Bool) : Type 0 where
   pub nodes : length marks ≡ length node_ranks
   pub exact : (l : ℕ) → IsTrue (slice_index_or marks l false) ↔ LeadsAmong node_ranks n l

@@ -1,4 +1,4 @@
-pub mod Drawings
+pub mod NodeBoxes
 pub mod PictureText
 pub mod Pictures
 pub mod PictureLaws

@@ -3,7 +3,7 @@ use Rattle.std.specs.Prelude.{ℕ, Bool, true, false, List, [], ◌++◌, flat_m
 use Rattle.epx_types.specs.declared.id.Id.{Id}
 use Rattle.epx_types.specs.Faults.{id_text}
 use Rattle.epx_types.specs.Instances.{Instance}
-use Rattle.epx_picture.specs.declared.drawn.Drawn.{Drawn}
+use Rattle.epx_picture.specs.declared.node_boxes.NodeBox.{NodeBox}
 
 abbrev pub head_text : List ℕ
 head_text = codes "digraph dependencies {\n  node [shape=box];\n"
@@ -17,7 +17,7 @@ style_text true = codes ", style=dashed"
 style_text false = []
 
 -- the box of an instance, with its depth and sequence number
-abbrev pub box_text : Drawn → List ℕ
+abbrev pub box_text : NodeBox → List ℕ
 box_text d =
     codes "\"" ++ (id_text d.id ++ (codes "\" [label=\"" ++ (id_text d.id ++ (codes "\\ndepth " ++ (decimal d.depth ++ (codes ", seq " ++ (decimal d.seq ++ (codes "\"" ++ (style_text d.waits ++ codes "];")))))))))
 
@@ -26,8 +26,8 @@ abbrev pub in_cluster : Option Id → List ℕ → List ℕ
 in_cluster None box = codes "  " ++ (box ++ codes "\n")
 in_cluster (Some leader) box = codes "  subgraph \"cluster " ++ (id_text leader ++ (codes "\" { " ++ (box ++ codes " }\n")))
 
-abbrev pub drawn_line : Drawn → List ℕ
-drawn_line d = in_cluster d.cluster (box_text d)
+abbrev pub box_line : NodeBox → List ℕ
+box_line d = in_cluster d.cluster (box_text d)
 
 -- boxes of missing instances are dotted
 abbrev pub missing_line : Id → List ℕ
@@ -41,5 +41,5 @@ abbrev pub arrow_lines : Instance → List ℕ
 arrow_lines e = flat_map (arrow_line e.id) e.deps
 
 -- the boxes of the committed instances, those of the missing instances, and the arrows
-abbrev pub picture_text : List Instance → List Drawn → List Id → List ℕ
-picture_text m drawn missing = head_text ++ (flat_map drawn_line drawn ++ (flat_map missing_line missing ++ (flat_map arrow_lines m ++ foot_text)))
+abbrev pub picture_text : List Instance → List NodeBox → List Id → List ℕ
+picture_text m node_boxes missing = head_text ++ (flat_map box_line node_boxes ++ (flat_map missing_line missing ++ (flat_map arrow_lines m ++ foot_text)))

@@ -5,17 +5,17 @@ use Rattle.epx_types.specs.Ids.{IsRising}
 use Rattle.epx_types.specs.CommittedMap.{ids_of}
 use Rattle.epx_types.specs.Instances.{Instance}
 use Rattle.epx_graph.specs.GraphOf.{IsMissing}
-use Rattle.epx_picture.specs.declared.drawn.Drawn.{Drawn}
-use Rattle.epx_picture.specs.Drawings.{IsDrawn}
+use Rattle.epx_picture.specs.declared.node_boxes.NodeBox.{NodeBox}
+use Rattle.epx_picture.specs.NodeBoxes.{IsBoxOf}
 use Rattle.epx_picture.specs.PictureText.{picture_text}
 
 -- a box for each committed instance and one for each missing instance, both by increasing Id, and
 -- an arrow for each dependency
 pub record IsPicture (m : List Instance) (text : List ℕ) : Type 0 where
-  pub drawn : List Drawn
+  pub node_boxes : List NodeBox
   pub missing : List Id
-  pub named : map (λ d. d.id) drawn ≡ ids_of m
-  pub shown : (d : Drawn) → Contains drawn d → IsDrawn m d
+  pub named : map (λ d. d.id) node_boxes ≡ ids_of m
+  pub shown : (d : NodeBox) → Contains node_boxes d → IsBoxOf m d
   pub missing_rise : IsRising missing
   pub lacking : (x : Id) → Contains missing x ↔ IsMissing m x
-  pub printed : text ≡ picture_text m drawn missing
+  pub printed : text ≡ picture_text m node_boxes missing

@@ -3,9 +3,9 @@
 
 mod cluster;
 mod drawing;
-mod drawn;
 pub mod laws;
-mod writing;
+mod node_boxes;
+mod picture_writer;
 
 pub use drawing::picture;
-pub use drawn::Drawn;
+pub use node_boxes::NodeBox;

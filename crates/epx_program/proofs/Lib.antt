@@ -1,7 +1,7 @@
-mod KeptBytes
-mod Asking
-mod Sources
-mod Statuses
-mod FirstTexts
-mod FailedInputs
-mod Outcomes
+mod OutputLemmas
+mod WordLemmas
+mod SourceListLemmas
+mod StatusLemmas
+mod FirstTextLemmas
+mod FailedInputLemmas
+mod OutcomeLemmas

@@ -11,14 +11,14 @@ use Rattle.epx_types.specs.Faults.{fault_status}
 use Rattle.epx_types.specs.declared.fault.Fault.TheVariants.{Memory, Write}
 use Rattle.epx_devices.specs.Transfers.{AppendsPrefix}
 use Rattle.epx_words.specs.App.{epx_app}
-use Rattle.epx_words.specs.Asked.{AsksWork, Fits, IfText, IfWork}
-use Rattle.epx_words.specs.Endings.{EndsAs}
+use Rattle.epx_words.specs.Requests.{IsWork, AsksFor, IfText, IfWork}
+use Rattle.epx_words.specs.ExitStatus.{IsExitStatus}
 use Rattle.epx_words.specs.declared.asked.Task.{Task}
 use Rattle.epx_words.specs.declared.asked.Task.TheVariants.{Run}
 use Rattle.epx_words.specs.declared.asked.Words.{Words}
 use Rattle.epx_words.specs.declared.asked.Words.TheVariants as asked
 use Rattle.epx_program.specs.Endings.{AddsAnswer, AddsPart, EndsWith, IsStatus}
-use Rattle.epx_program.specs.Inputs.{IsInputAlone, how_many}
+use Rattle.epx_program.specs.Inputs.{IsInputAlone, text_count}
 
 -- the operating system's words are these texts; words that could not be read are no texts
 abbrev pub AreTakenFor : Result (IntoIter (String Global) Global) Error → List Text → Type 0
@@ -29,11 +29,11 @@ AreTakenFor words texts = MatchResult words
 -- what clap finds in the words
 pub record Asks (words : List Text) (wanted : Words) : Type 0 where
   pub bare : length words ≤ 1 → wanted ≡ asked.Work Run (record { workers = 4; cut = 256 }) None
-  pub work : 2 ≤ length words → IfWork (Fits (subcommand_of epx_app words)) wanted
-  pub taken : 2 ≤ length words → AsksWork wanted ↔ (fault_of epx_app words ≡ [])
+  pub work : 2 ≤ length words → IfWork (AsksFor (subcommand_of epx_app words)) wanted
+  pub taken : 2 ≤ length words → IsWork wanted ↔ (fault_of epx_app words ≡ [])
   pub text : 2 ≤ length words
       → IfText (λ status. (takes epx_app words ≡ false)
-      × EndsAs (fault_of epx_app words) status) wanted
+      × IsExitStatus (fault_of epx_app words) status) wanted
 
 -- how the program ends after a text with this status: a text of status 0 is appended to the
 -- output, or the output failed; any other text leaves the output unchanged
@@ -54,9 +54,9 @@ pub record EndsTask (input : Option (List ℕ)) (Unread : Type 0) (task : Task)
   pub over_input : (bytes : List ℕ) → IsInputAlone paths → input ≡ Some bytes
       → EndsWith task (bytes ∷ []) status old new
   -- over any sources, status 0 means that the answer to that number of texts is appended
-  pub answered : status ≡ 0 → AddsAnswer task (how_many paths) old new
+  pub answered : status ≡ 0 → AddsAnswer task (text_count paths) old new
   -- an output that failed has a prefix of an answer to that number of texts appended
-  pub part : failed ≡ true → AddsPart task (how_many paths) old new
+  pub part : failed ≡ true → AddsPart task (text_count paths) old new
   -- if only the input is read, status 4 means that the output or a read of the input failed
   pub broken : IsInputAlone paths → status ≡ fault_status Write → (failed ≡ true) ⊎ Unread
 

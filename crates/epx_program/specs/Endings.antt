@@ -11,14 +11,14 @@ use Rattle.epx_base.specs.Bases.{IsBadBase}
 use Rattle.epx_base.specs.Lists.{IsBadList}
 use Rattle.epx_tool.specs.Answer.{Answers}
 use Rattle.epx_tool.specs.RunsWithInput.{IsRunFaultWithInput}
-use Rattle.epx_tool.specs.Checking.{Checks, IsChecked}
+use Rattle.epx_tool.specs.CheckAnswers.{Checks, IsCheckText}
 use Rattle.epx_tool.specs.Report.{IsReport}
-use Rattle.epx_tool.specs.Resumption.{IsResumed, Resumes}
+use Rattle.epx_tool.specs.Resumption.{IsResumedText, Resumes}
 use Rattle.epx_tool.specs.Runs.{IsRunFault}
-use Rattle.epx_tool.specs.Views.{IsViewed}
+use Rattle.epx_tool.specs.Views.{IsViewText}
 use Rattle.epx_tool.specs.declared.ask.Ask.TheVariants as ask
-use Rattle.epx_program.specs.declared.work.FirstText.{FirstText}
-use Rattle.epx_program.specs.declared.work.FirstText.TheVariants as first
+use Rattle.epx_program.specs.declared.do_task.FirstText.{FirstText}
+use Rattle.epx_program.specs.declared.do_task.FirstText.TheVariants as first
 
 -- the task that reads this kind of text before its logs
 abbrev pub task_over : FirstText → Task
@@ -34,24 +34,24 @@ on_first_and_logs Is (text ∷ logs) = Is text logs
 -- after it
 abbrev pub IsTaskAnswer : Task → List (List ℕ) → Result (List ℕ) Fault → Type 0
 IsTaskAnswer Run texts answer = Answers IsReport texts answer
-IsTaskAnswer Order texts answer = Answers (IsViewed ask.Order) texts answer
-IsTaskAnswer Levels texts answer = Answers (IsViewed ask.Levels) texts answer
-IsTaskAnswer Graph texts answer = Answers (IsViewed ask.Graph) texts answer
-IsTaskAnswer Audit texts answer = Answers (IsViewed ask.Audit) texts answer
+IsTaskAnswer Order texts answer = Answers (IsViewText ask.Order) texts answer
+IsTaskAnswer Levels texts answer = Answers (IsViewText ask.Levels) texts answer
+IsTaskAnswer Graph texts answer = Answers (IsViewText ask.Graph) texts answer
+IsTaskAnswer Audit texts answer = Answers (IsViewText ask.Audit) texts answer
 IsTaskAnswer Resume texts answer = on_first_and_logs (λ base logs. Resumes base logs answer) texts
 IsTaskAnswer Check texts answer = on_first_and_logs (λ list logs. Checks list logs answer) texts
 
 -- the faults of a task, with those of devices
 abbrev pub IsTaskFault : Task → List (List ℕ) → Fault → Type 0
 IsTaskFault Run texts fault = IsRunFault IsReport texts fault
-IsTaskFault Order texts fault = IsRunFault (IsViewed ask.Order) texts fault
-IsTaskFault Levels texts fault = IsRunFault (IsViewed ask.Levels) texts fault
-IsTaskFault Graph texts fault = IsRunFault (IsViewed ask.Graph) texts fault
-IsTaskFault Audit texts fault = IsRunFault (IsViewed ask.Audit) texts fault
+IsTaskFault Order texts fault = IsRunFault (IsViewText ask.Order) texts fault
+IsTaskFault Levels texts fault = IsRunFault (IsViewText ask.Levels) texts fault
+IsTaskFault Graph texts fault = IsRunFault (IsViewText ask.Graph) texts fault
+IsTaskFault Audit texts fault = IsRunFault (IsViewText ask.Audit) texts fault
 IsTaskFault Resume texts fault = on_first_and_logs
-    (λ base logs. IsRunFaultWithInput IsBadBase IsResumed base logs fault) texts
+    (λ base logs. IsRunFaultWithInput IsBadBase IsResumedText base logs fault) texts
 IsTaskFault Check texts fault = on_first_and_logs
-    (λ list logs. IsRunFaultWithInput IsBadList IsChecked list logs fault) texts
+    (λ list logs. IsRunFaultWithInput IsBadList IsCheckText list logs fault) texts
 
 -- the answer of the task to these texts is appended
 abbrev pub AppendsAnswer : Task → List (List ℕ) → Option (List ℕ) → Option (List ℕ) → Type 0
@@ -82,9 +82,9 @@ pub record HasFault (task : Task) (texts : List (List ℕ)) (fault : Fault)
   pub nothing : fault ≢ Write → Keeps old new
 
 -- what a task over these texts comes to: the answer is appended, or there is a fault
-abbrev pub ComesTo : {A : Type 0} → Task → List (List ℕ) → Result A Fault
+abbrev pub IsTaskResult : {A : Type 0} → Task → List (List ℕ) → Result A Fault
     → Option (List ℕ) → Option (List ℕ) → Type 0
-ComesTo task texts done old new =
+IsTaskResult task texts done old new =
     MatchResult done (λ _. AppendsAnswer task texts old new)
     (λ fault. HasFault task texts fault old new)
 

@@ -1,8 +1,8 @@
 -- The program's input among the paths of its words.
 use Rattle.std.specs.Prelude.{◌≡◌, ⊤, ℕ, List, [], ◌∷◌, Option, Some, None, codes, length, slice_get}
 use Rattle.epx_devices.specs.Deliveries.{FailRelation, ReadRelation, DeliversThenFails}
-use Rattle.epx_devices.specs.EitherSources.{told_by}
-use Rattle.epx_devices.specs.WatchedDevices.{WatchedPath}
+use Rattle.epx_devices.specs.EitherSources.{value_by}
+use Rattle.epx_devices.specs.DeviceStates.{PathState}
 use Rattle.epx_devices.specs.declared.either_source.EitherSource.{EitherSource}
 
 -- only the input is read: there are no paths, or the only path is a hyphen, which means the input
@@ -11,13 +11,13 @@ IsInputAlone None = ⊤
 IsInputAlone (Some paths) = paths ≡ codes "-" ∷ []
 
 -- the path of a source: that of its file, or a hyphen
-abbrev pub path_of : {F J : Type 0} → EitherSource (WatchedPath F) J → List ℕ
-path_of source = told_by (λ file. file.path) (λ input. codes "-") source
+abbrev pub path_of : {F J : Type 0} → EitherSource (PathState F) J → List ℕ
+path_of source = value_by (λ file. file.path) (λ input. codes "-") source
 
 -- the number of texts that are read: one if there are no paths, otherwise one a path
-abbrev pub how_many : Option (List (List ℕ)) → ℕ
-how_many None = 1
-how_many (Some paths) = length paths
+abbrev pub text_count : Option (List (List ℕ)) → ℕ
+text_count None = 1
+text_count (Some paths) = length paths
 
 -- reads of the source delivered some bytes or none, and the next read failed
 abbrev pub HasFailedRead : {S : Type 0} → ReadRelation S → FailRelation S → S → Type 0

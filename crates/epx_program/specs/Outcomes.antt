@@ -9,7 +9,7 @@ use Rattle.epx_devices.specs.Deliveries.{FailRelation, ReadRelation}
 use Rattle.epx_tool.specs.Runs.{AreBytesOf}
 use Rattle.epx_tool.specs.declared.ask.Ask.{Ask}
 use Rattle.epx_tool.specs.declared.ask.Ask.TheVariants as ask
-use Rattle.epx_program.specs.Endings.{AddsAnswer, AddsPart, ComesTo}
+use Rattle.epx_program.specs.Endings.{AddsAnswer, AddsPart, IsTaskResult}
 use Rattle.epx_program.specs.Inputs.{OneHasFailedRead}
 
 -- the task that writes this view
@@ -25,7 +25,7 @@ pub record Outcome {S A : Type 0} (remaining : S → Option (List ℕ)) (reads :
     (is_flushed has_failed : Bool) (old new : Option (List ℕ)) : Type 0 where
   -- if the bytes of the sources are known, the outcome is that of the task over them
   pub known : (texts : List (List ℕ)) → AreBytesOf remaining sources texts
-      → ComesTo task texts done old new
+      → IsTaskResult task texts done old new
   -- over any sources, success means that the answer to that number of texts is appended and
   -- flushed
   pub answered : OnOk done (AddsAnswer task (length sources) old new)

@@ -1,6 +1,6 @@
 //! The sources that the paths name: files, and the program's input.
 ghost use Rattle.std.specs.Prelude.{◌≡◌, ◌∷◌, [], All, IfOk, IfSome, None, Some, codes, false, map, string_bytes};
-ghost use Rattle.epx_devices.specs.EitherSources.{told_by};
+ghost use Rattle.epx_devices.specs.EitherSources.{value_by};
 ghost use Rattle.epx_devices.specs.declared.either_source.EitherSource.TheVariants as either;
 ghost use Rattle.epx_program.specs.Inputs.{path_of};
 ghost use Rattle.epx_tool.specs.Runs.{AreBytesOf};
@@ -26,7 +26,7 @@ fn source_at<'a, R: Files, I: Source>(
 ) -> Input<'a, R, I>
     requires { IfSome input.old (λ i. I.has_failed i ≡ false) }
     ensures path { path_of result ≡ path.now }
-    ensures failed { told_by (λ s. s.failed) (told_by I.has_failed (λ _. false)) result ≡ false }
+    ensures failed { value_by (λ s. s.failed) (value_by I.has_failed (λ _. false)) result ≡ false }
     ensures input { (given : _) → path.now ≡ codes "-" → input.old ≡ Some given
         → result ≡ either.Second (either.First given) }
     ensures left { IfSome input.new (λ i. I.has_failed i ≡ false) }
@@ -51,7 +51,7 @@ pub(crate) fn sources_at<'a, R: Files, I: Source + Drop>(
     ensures paths { IfOk result
         (λ sources. map path_of sources.items ≡ map string_bytes paths.now) }
     ensures failed { IfOk result
-        (λ sources. All (λ s. told_by (λ f. f.failed) (told_by I.has_failed (λ _. false)) s
+        (λ sources. All (λ s. value_by (λ f. f.failed) (value_by I.has_failed (λ _. false)) s
         ≡ false) sources.items) }
     ensures input { IfOk result (λ sources. map string_bytes paths.now ≡ codes "-" ∷ []
         → sources.items ≡ either.Second (either.First input) ∷ []) }

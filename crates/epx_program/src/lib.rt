@@ -1,10 +1,10 @@
 //! What the program `epx` does, as a library, so that other programs can call it too.
 #![tactic(auto)]
 
-mod asked;
-mod ending;
+mod do_task;
+mod exit_report;
 mod inputs;
 mod program;
-mod work;
+mod read_args;
 
-pub use program::{act, start};
+pub use program::{execute_words, start};

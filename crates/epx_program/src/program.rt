@@ -5,14 +5,14 @@ ghost use Rattle.std.specs.IoError.{error_kind};
 ghost use Rattle.std.specs.Process.{exit_status};
 ghost use Rattle.epx_types.specs.Faults.{fault_status};
 ghost use Rattle.epx_devices.specs.Transfers.{AppendsPrefix};
-ghost use Rattle.epx_words.specs.Asked.{IfText, IfWork};
+ghost use Rattle.epx_words.specs.Requests.{IfText, IfWork};
 ghost use Rattle.epx_program.specs.Calls.{AreTakenFor, DoesAsAsked, EndsTask};
 ghost use Rattle.epx_program.specs.Endings.{IsStatus};
 ghost use Rattle.epx_program.specs.Inputs.{HasFailedRead};
 
-use crate::asked::asked;
-use crate::ending::{end, end_with_text};
-use crate::work::work;
+use crate::do_task::do_task;
+use crate::exit_report::{print_text, report_fault};
+use crate::read_args::read_args;
 use epx_tool::{Sink, Source, Words};
 use epx_types::{Fault, Memory};
 use std::alloc::AllocGlobal;
@@ -24,7 +24,7 @@ use std::rt::Files;
 use std::thread::Threads;
 
 /// Does what the words say, and returns the exit status.
-pub fn act<R, I, W>(rt: &R, words: Words, input: I, output: &mut W) -> u8
+pub fn execute_words<R, I, W>(rt: &R, words: Words, input: I, output: &mut W) -> u8
 where
     R: AllocGlobal + Eprint + Files + Threads + RandomSource + Sync,
     I: Source + Drop,
@@ -32,7 +32,7 @@ where
     requires input { I.has_failed input ≡ false }
     requires output { W.has_failed output.old ≡ false }
 
-    ensures work { IfWork (λ task _ paths. EndsTask (I.remaining input)
+    ensures do_task { IfWork (λ task _ paths. EndsTask (I.remaining input)
         (HasFailedRead I.reads I.fails input) task paths result (W.has_failed output.new)
         (W.contents output.old) (W.contents output.new)) words }
 
@@ -52,10 +52,10 @@ where
 {
     match words {
         Words::Work { task, plan, paths } => {
-            let done = work(rt, rt.alloc(), task, plan, paths, input, output);
-            end(rt, done)
+            let done = do_task(rt, rt.alloc(), task, plan, paths, input, output);
+            report_fault(rt, done)
         }
-        Words::Text { text, status } => end_with_text(rt, text.as_str(), status, output),
+        Words::Text { text, status } => print_text(rt, text.as_str(), status, output),
     }
 }
 
@@ -69,7 +69,7 @@ where
     requires input { I.has_failed input ≡ false }
     requires output { W.has_failed output.old ≡ false }
 
-    ensures asked { (texts : _) → AreTakenFor words texts → DoesAsAsked (I.remaining input)
+    ensures read_args { (texts : _) → AreTakenFor words texts → DoesAsAsked (I.remaining input)
         (HasFailedRead I.reads I.fails input) texts (exit_status result) (W.has_failed output.new)
         (W.contents output.old) (W.contents output.new) }
     ensures status { IsStatus (exit_status result) ⊎ (exit_status result ≡ 2) }
@@ -85,9 +85,9 @@ where
     ensures nothing { W.has_failed output.new ≡ false → exit_status result ≢ 0
         → Keeps (W.contents output.old) (W.contents output.new) }
 {
-    let status = match asked(rt.alloc(), words) {
-        Ok(words) => act(rt, words, input, output),
-        Err(Memory) => end(rt, Err(Fault::Memory)),
+    let status = match read_args(rt.alloc(), words) {
+        Ok(words) => execute_words(rt, words, input, output),
+        Err(Memory) => report_fault(rt, Err(Fault::Memory)),
     };
     ExitCode::from(status)
 }

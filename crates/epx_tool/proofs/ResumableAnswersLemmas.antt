@@ -11,32 +11,32 @@ use Rattle.epx_types.specs.Execution.{execute}
 use Rattle.epx_types.specs.ExecutionOrder.{ranked_ids}
 use Rattle.epx_types.specs.LawfulOrders.{IsLawful}
 use Rattle.epx_types.specs.Readiness.{IsReady}
-use Rattle.epx_types.specs.Sound.{IsSound, HasWhatIsLeft}
-use Rattle.epx_types.proofs.DoneLemmas.{remaining-nil}
-use Rattle.epx_types.proofs.ExecutionOrders.{IsExecutionOrder-IsLawful}
-use Rattle.epx_types.proofs.Membership.{Contains-nil, Contains-head, Contains-cons, Contains-cons_cases}
-use Rattle.epx_types.proofs.ResumedExecutions.{IsSound-nothing_done, IsSound-resumed, IsSound-final, reply-resumed}
+use Rattle.epx_types.specs.Sound.{IsSound, HasRemaining}
+use Rattle.epx_types.proofs.remaining.RemainingLemmas.{remaining-nil}
+use Rattle.epx_types.proofs.orders.ExecutionOrderLemmas.{IsExecutionOrder-IsLawful}
+use Rattle.epx_types.proofs.lists.MembershipLemmas.{Contains-nil, Contains-head, Contains-cons, Contains-cons_cases}
+use Rattle.epx_types.proofs.remaining.ResumedExecutionLemmas.{IsSound-nothing_done, IsSound-resumed, IsSound-final, reply-resumed}
 use Rattle.epx_merge.specs.Acceptance.{IsAccepted}
-use Rattle.epx_merge.proofs.OneRefusal.{accepted_unique}
+use Rattle.epx_merge.proofs.UniquenessLemmas.{accepted_unique}
 use Rattle.epx_base.specs.Bases.{IsBase}
-use Rattle.epx_base.proofs.BaseRanges.{FitsBase, base_fits, empty_fits}
-use Rattle.epx_base.proofs.DoneLists.{same_ids}
-use Rattle.epx_base.proofs.DoneRise.{base_done_rise}
-use Rattle.epx_base.proofs.ReportBases.{done_after_exists}
+use Rattle.epx_base.proofs.BaseRangeLemmas.{FitsBase, base_fits, empty_fits}
+use Rattle.epx_base.proofs.RisingListLemmas.{same_ids}
+use Rattle.epx_base.proofs.DoneInstanceLemmas.{base_done_rise}
+use Rattle.epx_base.proofs.ReportBaseLemmas.{done_after_exists}
 use Rattle.epx_tool.specs.Report.{commands_of}
 use Rattle.epx_tool.specs.ResumedReport.{IsReportAfter}
-use Rattle.epx_tool.specs.Resumption.{IsResumed}
-use Rattle.epx_tool.specs.ResumableAnswers.{LeavesBase, AnswerIsBase, ResumptionIsBase, IsSoundBase, ReportOfAPartIsSound, ResumedReportIsSound, ResumedReportRepeatsTheWhole, LastReportIsTheWhole}
-use Rattle.epx_tool.proofs.AcceptedLogs.{accepted_are_few}
-use Rattle.epx_tool.proofs.ListsExecuted.{commands_of-in}
-use Rattle.epx_tool.proofs.ReportsAreBases.{after_nothing, report_is_base, written, replied}
-use Rattle.epx_tool.proofs.ReportRanges.{accepted_fit, reported_fit}
+use Rattle.epx_tool.specs.Resumption.{IsResumedText}
+use Rattle.epx_tool.specs.ResumableAnswers.{HasBaseAfter, AnswerIsBase, ResumptionIsBase, IsSoundBase, ReportOfAPartIsSound, ResumedReportIsSound, ResumedReportRepeatsTheWhole, LastReportIsTheWhole}
+use Rattle.epx_tool.proofs.AcceptedLogLemmas.{accepted_are_few}
+use Rattle.epx_tool.proofs.LawfulListLemmas.{commands_of-in}
+use Rattle.epx_tool.proofs.ReportBaseLemmas.{after_nothing, report_is_base, written, replied}
+use Rattle.epx_tool.proofs.ReportRangeLemmas.{accepted_fit, reported_fit}
 
 -- ---- each answer is a base
 
 report_leaves : (logs : List (List ℕ)) (m : List Instance) → IsAccepted logs m
     → (done : List Id) (stored : Contents) → FitsBase done stored → IsRising done
-    → (text : List ℕ) → IsReportAfter done stored m text → LeavesBase done stored m text
+    → (text : List ℕ) → IsReportAfter done stored m text → HasBaseAfter done stored m text
 report_leaves logs m accepted done stored fits rising text p =
     let few = accepted_are_few logs m accepted in
     let fit = reported_fit done stored m text p (accepted_fit logs m accepted) fits few in
@@ -58,7 +58,7 @@ answer_is_base logs text answer m accepted =
     let none : FitsBase [] contents.empty =
     record { done = λ x c. absurd (Contains-nil x c); stored = empty_fits } in
     let report = after_nothing answer.0 text answer.2 in
-    subst (λ (m : List Instance). LeavesBase [] contents.empty m text) same
+    subst (λ (m : List Instance). HasBaseAfter [] contents.empty m text) same
     (report_leaves logs answer.0 answer.1 [] contents.empty none tt text report)
 
 -- a base has only one list of done instances and one store
@@ -70,7 +70,7 @@ base_is_one bytes done other stored held p q =
     let seen : p.seen ≡ q.seen = cc (a, b) in
     (cc (seen, p.done_is, q.done_is), cc (seen, p.stored_is, q.stored_is))
 
-resumed_report : (base : List ℕ) (m : List Instance) (text : List ℕ) → IsResumed base m text
+resumed_report : (base : List ℕ) (m : List Instance) (text : List ℕ) → IsResumedText base m text
     → (done : List Id) (stored : Contents) → IsBase base done stored
     → IsReportAfter done stored m text
 resumed_report base m text p done stored is =
@@ -81,7 +81,7 @@ resumed_report base m text p done stored is =
 pub resumption_is_base : ResumptionIsBase
 resumption_is_base base logs text resumed done stored is m accepted =
     let same : resumed.1.0 ≡ m = accepted_unique logs resumed.1.0 m resumed.1.1 accepted in
-    let after = subst (λ (m : List Instance). IsResumed base m text) same resumed.1.2 in
+    let after = subst (λ (m : List Instance). IsResumedText base m text) same resumed.1.2 in
     let report = resumed_report base m text after done stored is in
     report_leaves logs m accepted done stored (base_fits base done stored is)
     (base_done_rise base done stored is) text report
@@ -89,8 +89,8 @@ resumption_is_base base logs text resumed done stored is m accepted =
 -- ---- the base that an answer leaves is sound
 
 left_is_sound : (m : List Instance) → IsRising (ids_of m) → (done : List Id) (stored : Contents)
-    → IsSound m done stored → (rest : List Instance) → HasWhatIsLeft m done rest
-    → (text : List ℕ) → LeavesBase done stored rest text → IsSoundBase m text
+    → IsSound m done stored → (rest : List Instance) → HasRemaining m done rest
+    → (text : List ℕ) → HasBaseAfter done stored rest text → IsSoundBase m text
 left_is_sound m rising done stored sound rest has text left =
     let lawful = IsExecutionOrder-IsLawful (remaining done rest) left.order left.ordered in
     let again = IsSound-resumed m rising done stored sound rest has (ranked_ids left.order) lawful
@@ -142,7 +142,7 @@ resumed_report_repeats_the_whole m base logs g covered text resumed whole q =
     let b = g.before in
     let same : resumed.1.0 ≡ g.rest =
     accepted_unique logs resumed.1.0 g.rest resumed.1.1 g.accepted in
-    let after = subst (λ (m : List Instance). IsResumed base m text) same resumed.1.2 in
+    let after = subst (λ (m : List Instance). IsResumedText base m text) same resumed.1.2 in
     let p = resumed_report base g.rest text after b.done b.stored b.base in
     let lawful = IsExecutionOrder-IsLawful (remaining b.done g.rest) p.order p.ordered in
     let order = ranked_ids q.order in

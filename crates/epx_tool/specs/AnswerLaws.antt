@@ -10,7 +10,7 @@ use Rattle.epx_tool.specs.Report.{IsReport}
 use Rattle.epx_tool.specs.OrderText.{IsOrderText}
 use Rattle.epx_tool.specs.LevelText.{IsLevelText}
 use Rattle.epx_tool.specs.AuditText.{IsAuditText}
-use Rattle.epx_tool.specs.Views.{IsViewed}
+use Rattle.epx_tool.specs.Views.{IsViewText}
 use Rattle.epx_tool.specs.Answer.{Answers, IsAnswer}
 
 -- a committed map has a report
@@ -21,7 +21,7 @@ ReportExists = (m : List Instance) → IsRising (ids_of m) → (text : List ℕ)
 -- audit, and a picture
 abbrev pub ViewTextExists : Type 0
 ViewTextExists = (ask : Ask) (m : List Instance) → IsRising (ids_of m) → (text : List ℕ)
-    × IsViewed ask m text
+    × IsViewText ask m text
 
 -- a committed map has at most one report
 abbrev pub ReportIsOne : Type 0
@@ -51,7 +51,7 @@ AnswerExists = (logs : List (List ℕ)) → (a : Result (List ℕ) Fault) × (a 
 -- every list of logs has an answer to each view other than out of memory
 abbrev pub ViewExists : Type 0
 ViewExists = (ask : Ask) (logs : List (List ℕ)) → (a : Result (List ℕ) Fault) × (a ≢ Err Memory)
-    × Answers (IsViewed ask) logs a
+    × Answers (IsViewText ask) logs a
 
 -- logs have at most one answer, except for out of memory
 abbrev pub AnswerIsOne : Type 0
@@ -61,4 +61,4 @@ AnswerIsOne = (logs : List (List ℕ)) (a b : Result (List ℕ) Fault) → a ≢
 -- logs have at most one answer to each view, except for out of memory
 abbrev pub ViewIsOne : Type 0
 ViewIsOne = (ask : Ask) (logs : List (List ℕ)) (a b : Result (List ℕ) Fault) → a ≢ Err Memory
-    → b ≢ Err Memory → Answers (IsViewed ask) logs a → Answers (IsViewed ask) logs b → a ≡ b
+    → b ≢ Err Memory → Answers (IsViewText ask) logs a → Answers (IsViewText ask) logs b → a ≡ b

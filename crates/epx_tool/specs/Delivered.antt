@@ -6,7 +6,7 @@ use Rattle.epx_types.specs.declared.fault.Fault.TheVariants.{Memory, TooManyLogs
 use Rattle.epx_types.specs.Instances.{Instance}
 use Rattle.epx_merge.specs.Limits.{max_logs}
 use Rattle.epx_merge.specs.Refusals.{NoneTooLong, IsRefusal}
-use Rattle.epx_devices.specs.Deliveries.{FailRelation, ReadRelation, DeliversAll, StopsLog}
+use Rattle.epx_devices.specs.Deliveries.{FailRelation, ReadRelation, DeliversAll, IsLogStop}
 use Rattle.epx_tool.specs.Answer.{Answers}
 
 -- ---- the logs that were delivered
@@ -45,7 +45,7 @@ pub record StopsAtSource {S : Type 0} (reads : ReadRelation S) (fails : FailRela
   pub last : S
   pub was : slice_get old log ≡ Some first
   pub is : slice_get new log ≡ Some last
-  pub stopped : StopsLog reads fails log first last fault
+  pub stopped : IsLogStop reads fails log first last fault
 
 -- the faults without a source: out of memory, and too many sources
 abbrev pub IsOfNoSource : ℕ → Fault → Type 0

@@ -3,7 +3,7 @@ use Rattle.std.specs.Prelude.{◌⊎◌, ℕ, List, length, Ok}
 use Rattle.epx_types.specs.declared.fault.Fault.{Fault}
 use Rattle.epx_types.specs.Instances.{Instance}
 use Rattle.epx_merge.specs.Refusals.{NoneTooLong}
-use Rattle.epx_devices.specs.Deliveries.{FailRelation, ReadRelation, DeliversAll, StopsLog}
+use Rattle.epx_devices.specs.Deliveries.{FailRelation, ReadRelation, DeliversAll, IsLogStop}
 use Rattle.epx_tool.specs.WithInput.{AnswersWithInput, IsRefusalWithInput}
 use Rattle.epx_tool.specs.Delivered.{EachDelivers, StopsReading}
 
@@ -14,7 +14,7 @@ pub record StopsAtInput {I S : Type 0} (input_reads : ReadRelation I) (input_fai
   pub logs : List (List ℕ)
   pub delivered : EachDelivers reads old new logs
   pub short : NoneTooLong logs
-  pub stopped : StopsLog input_reads input_fails (length old) first last fault
+  pub stopped : IsLogStop input_reads input_fails (length old) first last fault
 
 -- both were delivered: the extra input and the logs
 pub record DeliversBoth {I S : Type 0} (input_reads : ReadRelation I) (reads : ReadRelation S)

@@ -12,7 +12,7 @@ use Rattle.epx_types.specs.Done.{remaining}
 use Rattle.epx_types.specs.Execution.{execute}
 use Rattle.epx_types.specs.ExecutionOrder.{Ranked, IsExecutionOrder, ranked_ids}
 use Rattle.epx_types.specs.Readiness.{IsReady}
-use Rattle.epx_types.specs.Sound.{IsSound, HasWhatIsLeft}
+use Rattle.epx_types.specs.Sound.{IsSound, HasRemaining}
 use Rattle.epx_merge.specs.Acceptance.{IsAccepted}
 use Rattle.epx_base.specs.Bases.{IsBase}
 use Rattle.epx_tool.specs.Answer.{IsAnswer}
@@ -24,30 +24,30 @@ use Rattle.epx_tool.specs.ResumptionLaws.{run_in}
 -- ---- each answer is a base
 
 -- the instances that were done before or are executed now, each once, by increasing Id
-pub record AreDoneInAll (done executed now : List Id) : Type 0 where
+pub record AreDoneAfterBoth (done executed now : List Id) : Type 0 where
   pub rising : IsRising now
   pub each : (x : Id) → Contains now x ↔ Contains done x ⊎ Contains executed x
 
 -- The text is a base. Its done instances were done before or are executed now, in the execution
 -- order of the remaining map. Its store is what the execution leaves.
-pub record LeavesBase (done : List Id) (stored : Contents) (m : List Instance)
+pub record HasBaseAfter (done : List Id) (stored : Contents) (m : List Instance)
     (text : List ℕ) : Type 0 where
   pub order : List Ranked
   pub now : List Id
   pub ordered : IsExecutionOrder (remaining done m) order
-  pub done_now : AreDoneInAll done (ranked_ids order) now
+  pub done_now : AreDoneAfterBoth done (ranked_ids order) now
   pub base : IsBase text now (execute (commands_of (remaining done m) order) stored).final
 
 -- the answer to logs is a base
 abbrev pub AnswerIsBase : Type 0
 AnswerIsBase = (logs : List (List ℕ)) (text : List ℕ) → IsAnswer logs (Ok text)
-    → (m : List Instance) → IsAccepted logs m → LeavesBase [] contents.empty m text
+    → (m : List Instance) → IsAccepted logs m → HasBaseAfter [] contents.empty m text
 
 -- the answer to a base and logs is a base
 abbrev pub ResumptionIsBase : Type 0
 ResumptionIsBase = (base : List ℕ) (logs : List (List ℕ)) (text : List ℕ)
     → Resumes base logs (Ok text) → (done : List Id) (stored : Contents) → IsBase base done stored
-    → (m : List Instance) → IsAccepted logs m → LeavesBase done stored m text
+    → (m : List Instance) → IsAccepted logs m → HasBaseAfter done stored m text
 
 -- ---- bases that are sound for a map
 
@@ -66,18 +66,18 @@ ReportOfAPartIsSound = (m : List Instance) → IsRising (ids_of m) → (logs : L
     → (text : List ℕ) → IsAnswer logs (Ok text) → IsSoundBase m text
 
 -- the base is sound for m, and the logs commit only instances of m and instances done in the base
-pub record GoesOn (m : List Instance) (base : List ℕ) (logs : List (List ℕ)) : Type 0 where
+pub record MayResume (m : List Instance) (base : List ℕ) (logs : List (List ℕ)) : Type 0 where
   pub rising : IsRising (ids_of m)
   pub before : IsSoundBase m base
   pub rest : List Instance
   pub accepted : IsAccepted logs rest
-  pub has : HasWhatIsLeft m before.done rest
+  pub has : HasRemaining m before.done rest
 
 -- resuming from a base that is sound for a map has a base as its report that is sound for the same
 -- map
 abbrev pub ResumedReportIsSound : Type 0
 ResumedReportIsSound = (m : List Instance) (base : List ℕ) (logs : List (List ℕ)) (text : List ℕ)
-    → GoesOn m base logs → Resumes base logs (Ok text) → IsSoundBase m text
+    → MayResume m base logs → Resumes base logs (Ok text) → IsSoundBase m text
 
 -- ---- the replies and the final store of resumed runs
 
@@ -93,8 +93,8 @@ replies_after done stored m text p =
     zip (ranked_ids p.order) (run_in done stored m text p).replies
 
 -- the text is the report after the base, and each of its replies is in the report of m too
-pub record RepliesAsTheWhole (m : List Instance) (base : List ℕ) (logs : List (List ℕ))
-    (g : GoesOn m base logs) (text whole : List ℕ) (q : IsReport m whole) : Type 0 where
+pub record RepliesMatchWhole (m : List Instance) (base : List ℕ) (logs : List (List ℕ))
+    (g : MayResume m base logs) (text whole : List ℕ) (q : IsReport m whole) : Type 0 where
   pub report : IsReportAfter g.before.done g.before.stored g.rest text
   pub each : (r : Id × Reply)
       → Contains (replies_after g.before.done g.before.stored g.rest text report) r
@@ -103,9 +103,9 @@ pub record RepliesAsTheWhole (m : List Instance) (base : List ℕ) (logs : List 
 -- over covered logs, each reply of a resumed run is the reply in the report of the whole
 abbrev pub ResumedReportRepeatsTheWhole : Type 0
 ResumedReportRepeatsTheWhole =
-    (m : List Instance) (base : List ℕ) (logs : List (List ℕ)) (g : GoesOn m base logs)
+    (m : List Instance) (base : List ℕ) (logs : List (List ℕ)) (g : MayResume m base logs)
     → IsCovered m → (text : List ℕ) → Resumes base logs (Ok text)
-    → (whole : List ℕ) (q : IsReport m whole) → RepliesAsTheWhole m base logs g text whole q
+    → (whole : List ℕ) (q : IsReport m whole) → RepliesMatchWhole m base logs g text whole q
 
 -- if all ready instances of covered logs are done in a sound base, the report of the logs is a
 -- base too, with the same done instances and store

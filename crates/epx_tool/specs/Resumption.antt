@@ -9,10 +9,10 @@ use Rattle.epx_tool.specs.ResumedReport.{IsReportAfter}
 use Rattle.epx_tool.specs.WithInput.{AnswersWithInput}
 
 -- the report after the instances of the base are done, from the store of the base
-abbrev pub IsResumed : List ℕ → List Instance → List ℕ → Type 0
-IsResumed base m text = (done : List Id) × (stored : Contents) × IsBase base done stored
+abbrev pub IsResumedText : List ℕ → List Instance → List ℕ → Type 0
+IsResumedText base m text = (done : List Id) × (stored : Contents) × IsBase base done stored
     × IsReportAfter done stored m text
 
 -- that report, or the first refusal
 abbrev pub Resumes : List ℕ → List (List ℕ) → Result (List ℕ) Fault → Type 0
-Resumes = AnswersWithInput IsBadBase IsResumed
+Resumes = AnswersWithInput IsBadBase IsResumedText

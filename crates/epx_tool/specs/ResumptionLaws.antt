@@ -12,7 +12,7 @@ use Rattle.epx_types.specs.Execution.{execute, Execution}
 use Rattle.epx_types.specs.ExecutionOrder.{Ranked, ranked_ids, component_count}
 use Rattle.epx_types.specs.WaitingLists.{Waiting}
 use Rattle.epx_base.specs.Bases.{IsBase}
-use Rattle.epx_base.specs.ReportReadings.{Reported, FitsReported}
+use Rattle.epx_base.specs.ReportReadings.{ReportData, FitsReportData}
 use Rattle.epx_tool.specs.Report.{IsReport, commands_of}
 use Rattle.epx_tool.specs.ResumedReport.{IsReportAfter}
 use Rattle.epx_tool.specs.Resumption.{Resumes}
@@ -33,7 +33,7 @@ ReportIsAfterNothing = (m : List Instance) (text : List ℕ) → IsReport m text
     ↔ IsReportAfter [] contents.empty m text
 
 -- the parts that a report is written from
-abbrev pub reported_of : List Id → List Ranked → List Waiting → Execution → Reported
+abbrev pub reported_of : List Id → List Ranked → List Waiting → Execution → ReportData
 reported_of done order waiting run = record {
   components = component_count order;
   done = done;
@@ -52,7 +52,7 @@ run_in done stored m text p = execute (commands_of (remaining done m) p.order) s
 abbrev pub ReportIsBase : Type 0
 ReportIsBase = (done : List Id) (stored : Contents) (m : List Instance) (text : List ℕ)
     (p : IsReportAfter done stored m text) → IsRising done →
-    FitsReported (reported_of done p.order p.waiting (run_in done stored m text p)) →
+    FitsReportData (reported_of done p.order p.waiting (run_in done stored m text p)) →
     (now : List Id) → IsRising now
     → ((x : Id) → Contains now x ↔ Contains done x ⊎ Contains (ranked_ids p.order) x)
     → IsBase text now (run_in done stored m text p).final

@@ -9,8 +9,8 @@ use Rattle.epx_tool.specs.AuditText.{IsAuditText}
 use Rattle.epx_picture.specs.Pictures.{IsPicture}
 
 -- the text of this view for a committed map
-abbrev pub IsViewed : Ask → List Instance → List ℕ → Type 0
-IsViewed Order = IsOrderText
-IsViewed Levels = IsLevelText
-IsViewed Audit = IsAuditText
-IsViewed Graph = IsPicture
+abbrev pub IsViewText : Ask → List Instance → List ℕ → Type 0
+IsViewText Order = IsOrderText
+IsViewText Levels = IsLevelText
+IsViewText Audit = IsAuditText
+IsViewText Graph = IsPicture

@@ -9,7 +9,7 @@ ghost use Rattle.epx_tool.specs.LevelText.{IsLevelText};
 ghost use Rattle.epx_tool.specs.AuditText.{IsAuditText};
 ghost use Rattle.epx_tool.specs.Report.{ops_of, IsReport};
 ghost use Rattle.epx_tool.specs.ResumedReport.{resumed_text, IsReportAfter};
-ghost use Rattle.epx_tool.specs.Views.{IsViewed};
+ghost use Rattle.epx_tool.specs.Views.{IsViewText};
 ghost use Rattle.epx_picture.specs.Pictures.{IsPicture};
 
 use crate::ask::Ask;
@@ -102,7 +102,7 @@ pub(crate) fn report_of<R: Threads + RandomSource + Sync>(
 }
 
 /// The report of a committed map of which nothing is done.
-fn report_whole<R: Threads + RandomSource + Sync>(
+fn whole_report<R: Threads + RandomSource + Sync>(
     rt: &R,
     alloc: Global,
     merged: Merged,
@@ -191,7 +191,7 @@ pub fn answer<R: Threads + RandomSource + Sync>(
         Ok(merged) => merged,
         Err(fault) => return Err(fault),
     };
-    Ok(report_whole(rt, alloc, merged, plan)?)
+    Ok(whole_report(rt, alloc, merged, plan)?)
 }
 
 /// Like `answer`, but it frees the logs when they are read.
@@ -210,7 +210,7 @@ pub(crate) fn answer_owned<R: Threads + RandomSource + Sync>(
         Err(fault) => return Err(fault),
     };
     drop(logs);
-    let text = report_whole(rt, alloc, merged, plan)?;
+    let text = whole_report(rt, alloc, merged, plan)?;
     Ok(text)
 }
 
@@ -223,8 +223,8 @@ pub fn view<R: Threads + RandomSource + Sync>(
     plan: Plan,
 ) -> Result<Vec<u8>, Fault>
     ensures { let bytes = map (λ log. log.items) logs.now in
-        MatchResult result (λ text. Answers (IsViewed ask) bytes (Ok text.items))
-        (λ fault. Answers (IsViewed ask) bytes (Err fault)) }
+        MatchResult result (λ text. Answers (IsViewText ask) bytes (Ok text.items))
+        (λ fault. Answers (IsViewText ask) bytes (Err fault)) }
 {
     let merged = match read_logs(rt, alloc, logs, plan, &FreeGate) {
         Ok(merged) => merged,

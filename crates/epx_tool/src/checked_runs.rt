@@ -4,7 +4,7 @@ ghost use Rattle.std.specs.Prelude.{◌≡◌, ◌≢◌, ◌↔◌, ◌+◌, �
 ghost use Rattle.std.specs.Io.KnownBytes.{Appends, Keeps, IsAtEnd};
 ghost use Rattle.epx_base.specs.Lists.{IsBadList};
 ghost use Rattle.epx_merge.specs.Limits.{max_log_bytes};
-ghost use Rattle.epx_tool.specs.Checking.{IsChecked, Checks};
+ghost use Rattle.epx_tool.specs.CheckAnswers.{IsCheckText, Checks};
 ghost use Rattle.epx_tool.specs.Runs.{AreBytesOf};
 ghost use Rattle.epx_tool.specs.RunsWithInput.{IsRunFaultWithInput};
 ghost use Rattle.epx_tool.specs.Sources.{EachConsumesUpTo, StopsAt};
@@ -43,14 +43,14 @@ pub fn run_check<T: Threads + RandomSource + Sync, L: Source, S: Source, W: Sink
         (text : _) × Checks listed logs (Ok text)
         × Appends (W.contents sink.old) (W.contents sink.new) text) }
     ensures answered { OnOk result
-        (AnswersBoth L.reads S.reads IsBadList IsChecked list.old list.new sources.old sources.new
+        (AnswersBoth L.reads S.reads IsBadList IsCheckText list.old list.new sources.old sources.new
         (Appends (W.contents sink.old) (W.contents sink.new))) }
     ensures flushed { OnOk result (W.is_flushed sink.new ≡ true) }
 
     ensures refusal { IfErr result (λ fault. (listed : _) (logs : _)
         → L.remaining list.old ≡ Some listed
         → AreBytesOf S.remaining sources.old logs
-        → IsRunFaultWithInput IsBadList IsChecked listed logs fault) }
+        → IsRunFaultWithInput IsBadList IsCheckText listed logs fault) }
     ensures refused { IfErr result (λ fault. fault ≢ Fault.Write → EndsWithoutBoth L.reads L.fails
         S.reads S.fails IsBadList list.old list.new sources.old sources.new fault) }
     ensures nothing { IfErr result (λ fault. fault ≢ Fault.Write
@@ -60,7 +60,7 @@ pub fn run_check<T: Threads + RandomSource + Sync, L: Source, S: Source, W: Sink
         (text : _) × Checks listed logs (Ok text)
         × AppendsPrefix (W.contents sink.old) (W.contents sink.new) text }
     ensures part { IsErrOf result Fault.Write →
-        AnswersBoth L.reads S.reads IsBadList IsChecked list.old list.new sources.old sources.new
+        AnswersBoth L.reads S.reads IsBadList IsCheckText list.old list.new sources.old sources.new
         (AppendsPrefix (W.contents sink.old) (W.contents sink.new)) }
 
     ensures read { (log : _) (source : _) → slice_get sources.new log ≡ Some source

@@ -3,11 +3,11 @@ ghost use Rattle.std.specs.Prelude.{map, IfOk, MatchResult, Ok, Err};
 ghost use Rattle.epx_base.specs.Lists.{IsList, IsBadList};
 ghost use Rattle.epx_merge.specs.Acceptance.{IsAccepted};
 ghost use Rattle.epx_tool.specs.WithInput.{IsRefusalWithInput, IsShort};
-ghost use Rattle.epx_tool.specs.Checking.{Checks};
+ghost use Rattle.epx_tool.specs.CheckAnswers.{Checks};
 ghost use Rattle.epx_tool.specs.Verdicts.{IsVerdict};
 
 use crate::verdict::verdict_line;
-use crate::with_input::merge_before;
+use crate::with_input::merge_with_input;
 use epx_base::read_list;
 use epx_graph::build;
 use epx_merge::Merged;
@@ -19,7 +19,7 @@ use std::thread::Threads;
 
 /// The committed map of the logs and the instances that the list names. The list is read after the
 /// logs are accepted.
-fn read_in_turn<R: Threads + RandomSource + Sync>(
+fn read_sequentially<R: Threads + RandomSource + Sync>(
     rt: &R,
     alloc: Global,
     list: &[u8],
@@ -30,7 +30,7 @@ fn read_in_turn<R: Threads + RandomSource + Sync>(
         (λ read. IsShort list.now × IsAccepted bytes read.0 × IsList list.now read.1.items)
         (IsRefusalWithInput IsBadList list.now bytes) }
 {
-    let merged = match merge_before(rt, alloc, list, logs, plan) {
+    let merged = match merge_with_input(rt, alloc, list, logs, plan) {
         Ok(merged) => merged,
         Err(fault) => return Err(fault),
     };
@@ -73,7 +73,7 @@ pub fn check<R: Threads + RandomSource + Sync>(
         MatchResult result (λ text. Checks list.now bytes (Ok text.items))
         (λ fault. Checks list.now bytes (Err fault)) }
 {
-    let (merged, ids) = match read_in_turn(rt, alloc, list, logs, plan) {
+    let (merged, ids) = match read_sequentially(rt, alloc, list, logs, plan) {
         Ok(read) => read,
         Err(fault) => return Err(fault),
     };
@@ -92,7 +92,7 @@ pub(crate) fn check_owned<R: Threads + RandomSource + Sync>(
         MatchResult result (λ text. Checks list.items bytes (Ok text.items))
         (λ fault. Checks list.items bytes (Err fault)) }
 {
-    let read = read_in_turn(rt, alloc, &list, &logs, plan);
+    let read = read_sequentially(rt, alloc, &list, &logs, plan);
     drop(logs);
     drop(list);
     let (merged, ids) = match read {

@@ -1,7 +1,7 @@
 //! Laws of answers: these definitions mean what they should. Each function has an empty body, and
 //! its contract is the law.
 ghost use Rattle.epx_tool.specs.AnswerLaws.{ReportExists, ViewTextExists, ReportIsOne, OrderTextIsOne, LevelTextIsOne, AuditTextIsOne, AnswerExists, ViewExists, AnswerIsOne, ViewIsOne};
-ghost use Rattle.epx_tool.specs.CheckingLaws.{CheckExists, CheckIsOne, LawfulTextMeansLawful, LawfulListExecutesAlike};
+ghost use Rattle.epx_tool.specs.CheckLaws.{CheckExists, CheckIsOne, LawfulTextMeansLawful, LawfulListExecutesAlike};
 ghost use Rattle.epx_tool.specs.ResumableAnswers.{AnswerIsBase, ResumptionIsBase, ReportOfAPartIsSound, ResumedReportIsSound, ResumedReportRepeatsTheWhole, LastReportIsTheWhole};
 ghost use Rattle.epx_tool.specs.ResumptionLaws.{ReportIsAfterNothing, ReportIsBase, ResumptionExists, ResumptionIsOne};
 

@@ -8,7 +8,7 @@ ghost use Rattle.epx_tool.specs.LevelText.{level_line, level_text};
 use epx_apply::LevelMap;
 use epx_base::{
     append_done, append_header, append_replies, append_store, append_waiter, begin_line, end_line,
-    write_name,
+    write_id_parts,
 };
 use epx_graph::Waiter;
 use epx_order::OrderList;
@@ -28,9 +28,9 @@ fn append_ranked(
         ++ line_of (order_data id depth leader)) }
 {
     let mut out = begin_line(alloc, line, "order")?;
-    write_name(&mut out, id)?;
+    write_id_parts(&mut out, id)?;
     out.u64(depth as u64)?;
-    write_name(&mut out, leader)?;
+    write_id_parts(&mut out, leader)?;
     end_line(text, line, out)
 }
 
@@ -44,7 +44,7 @@ fn append_level(
     ensures { OnOk result (text.new.items ≡ text.old.items ++ level_line (id, level)) }
 {
     let mut out = begin_line(alloc, line, "level")?;
-    write_name(&mut out, id)?;
+    write_id_parts(&mut out, id)?;
     out.u64(level as u64)?;
     end_line(text, line, out)
 }

@@ -4,7 +4,7 @@ ghost use Rattle.std.specs.Prelude.{◌≡◌, ◌≢◌, ◌↔◌, ◌+◌, �
 ghost use Rattle.std.specs.Io.KnownBytes.{Appends, Keeps, IsAtEnd};
 ghost use Rattle.epx_base.specs.Bases.{IsBadBase};
 ghost use Rattle.epx_merge.specs.Limits.{max_log_bytes};
-ghost use Rattle.epx_tool.specs.Resumption.{IsResumed, Resumes};
+ghost use Rattle.epx_tool.specs.Resumption.{IsResumedText, Resumes};
 ghost use Rattle.epx_tool.specs.Runs.{AreBytesOf};
 ghost use Rattle.epx_tool.specs.RunsWithInput.{IsRunFaultWithInput};
 ghost use Rattle.epx_tool.specs.Sources.{EachConsumesUpTo, StopsAt};
@@ -43,14 +43,14 @@ pub fn run_resume<T: Threads + RandomSource + Sync, B: Source, S: Source, W: Sin
         (text : _) × Resumes before logs (Ok text)
         × Appends (W.contents sink.old) (W.contents sink.new) text) }
     ensures answered { OnOk result
-        (AnswersBoth B.reads S.reads IsBadBase IsResumed base.old base.new sources.old sources.new
+        (AnswersBoth B.reads S.reads IsBadBase IsResumedText base.old base.new sources.old sources.new
         (Appends (W.contents sink.old) (W.contents sink.new))) }
     ensures flushed { OnOk result (W.is_flushed sink.new ≡ true) }
 
     ensures refusal { IfErr result (λ fault. (before : _) (logs : _)
         → B.remaining base.old ≡ Some before
         → AreBytesOf S.remaining sources.old logs
-        → IsRunFaultWithInput IsBadBase IsResumed before logs fault) }
+        → IsRunFaultWithInput IsBadBase IsResumedText before logs fault) }
     ensures refused { IfErr result (λ fault. fault ≢ Fault.Write → EndsWithoutBoth B.reads B.fails
         S.reads S.fails IsBadBase base.old base.new sources.old sources.new fault) }
     ensures nothing { IfErr result (λ fault. fault ≢ Fault.Write
@@ -60,7 +60,7 @@ pub fn run_resume<T: Threads + RandomSource + Sync, B: Source, S: Source, W: Sin
         (text : _) × Resumes before logs (Ok text)
         × AppendsPrefix (W.contents sink.old) (W.contents sink.new) text }
     ensures part { IsErrOf result Fault.Write →
-        AnswersBoth B.reads S.reads IsBadBase IsResumed base.old base.new sources.old sources.new
+        AnswersBoth B.reads S.reads IsBadBase IsResumedText base.old base.new sources.old sources.new
         (AppendsPrefix (W.contents sink.old) (W.contents sink.new)) }
 
     ensures read { (log : _) (source : _) → slice_get sources.new log ≡ Some source

@@ -10,7 +10,7 @@ ghost use Rattle.epx_tool.specs.ResumedReport.{IsReportAfter};
 ghost use Rattle.epx_tool.specs.Resumption.{Resumes};
 
 use crate::answers::report_of;
-use crate::with_input::merge_before;
+use crate::with_input::merge_with_input;
 use epx_base::{Base, BaseFault, read_base};
 use epx_merge::{MAX_LOG_BYTES, Merged};
 use epx_types::{Fault, Memory, Plan};
@@ -20,7 +20,7 @@ use std::thread::{Threads, join};
 
 /// The committed map of the logs and the contents of the base. The base is read after the logs are
 /// accepted.
-fn read_in_turn<R: Threads + RandomSource + Sync>(
+fn read_sequentially<R: Threads + RandomSource + Sync>(
     rt: &R,
     alloc: Global,
     base: &[u8],
@@ -32,7 +32,7 @@ fn read_in_turn<R: Threads + RandomSource + Sync>(
         × IsBase base.now read.1.done read.1.stored)
         (IsRefusalWithInput IsBadBase base.now bytes) }
 {
-    let merged = match merge_before(rt, alloc, base, logs, plan) {
+    let merged = match merge_with_input(rt, alloc, base, logs, plan) {
         Ok(merged) => merged,
         Err(fault) => return Err(fault),
     };
@@ -43,7 +43,7 @@ fn read_in_turn<R: Threads + RandomSource + Sync>(
 }
 
 /// The same. With several workers one more thread reads the base at the same time as the logs.
-fn read_both<R: Threads + RandomSource + Sync>(
+fn read_base_and_logs<R: Threads + RandomSource + Sync>(
     rt: &R,
     alloc: Global,
     base: &[u8],
@@ -56,7 +56,7 @@ fn read_both<R: Threads + RandomSource + Sync>(
         (IsRefusalWithInput IsBadBase base.now bytes) }
 {
     if plan.workers() == 1 || base.len() > MAX_LOG_BYTES {
-        return read_in_turn(rt, alloc, base, logs, plan);
+        return read_sequentially(rt, alloc, base, logs, plan);
     }
     let (merged, read) = join(
         rt,
@@ -65,7 +65,7 @@ fn read_both<R: Threads + RandomSource + Sync>(
             ensures { let bytes = map (λ log. log.items) logs.entry.now in
                 MatchResult result (λ m. IsShort base.entry.now × IsAccepted bytes m)
                 (IsRefusalWithInput (λ _ _. ⊥) base.entry.now bytes) }
-        { merge_before(rt, alloc, base, logs, plan) },
+        { merge_with_input(rt, alloc, base, logs, plan) },
         || -> Result<Base, BaseFault>
             ensures { MatchResult result
                 (λ b. IsBase base.entry.now b.done b.stored) (IsBaseFault base.entry.now) }
@@ -115,7 +115,7 @@ pub fn resume<R: Threads + RandomSource + Sync>(
         MatchResult result (λ text. Resumes base.now bytes (Ok text.items))
         (λ fault. Resumes base.now bytes (Err fault)) }
 {
-    let (merged, base) = match read_both(rt, alloc, base, logs, plan) {
+    let (merged, base) = match read_base_and_logs(rt, alloc, base, logs, plan) {
         Ok(read) => read,
         Err(fault) => return Err(fault),
     };
@@ -134,7 +134,7 @@ pub(crate) fn resume_owned<R: Threads + RandomSource + Sync>(
         MatchResult result (λ text. Resumes base.items bytes (Ok text.items))
         (λ fault. Resumes base.items bytes (Err fault)) }
 {
-    let read = read_both(rt, alloc, &base, &logs, plan);
+    let read = read_base_and_logs(rt, alloc, &base, &logs, plan);
     drop(logs);
     drop(base);
     let (merged, base) = match read {

@@ -2,10 +2,10 @@
 ghost use Rattle.std.specs.Prelude.{◌≡◌, ◌≢◌, ◌↔◌, ◌+◌, ◌<◌, ℕ, true, false, map, drop, length, All, Some, slice_get, Ok, IfOk, OnOk, IfErr, IsErrOf};
 ghost use Rattle.std.specs.Io.KnownBytes.{Appends, Keeps, IsAtEnd};
 ghost use Rattle.epx_merge.specs.Limits.{max_log_bytes};
-ghost use Rattle.epx_merge.specs.Refusals.{Fits};
+ghost use Rattle.epx_merge.specs.Refusals.{FitLimits};
 ghost use Rattle.epx_tool.specs.Answer.{Answers};
 ghost use Rattle.epx_tool.specs.Report.{IsReport};
-ghost use Rattle.epx_tool.specs.Views.{IsViewed};
+ghost use Rattle.epx_tool.specs.Views.{IsViewText};
 ghost use Rattle.epx_tool.specs.Runs.{AreBytesOf, IsReadingRefusal, IsRunFault};
 ghost use Rattle.epx_tool.specs.Sources.{EachConsumesUpTo, StopsAt};
 ghost use Rattle.epx_tool.specs.Delivered.{AnswersDelivered, EndsWithout};
@@ -91,24 +91,24 @@ pub fn show<T: Threads + RandomSource + Sync, S: Source, W: Sink>(
     requires sink { W.has_failed sink.old ≡ false }
 
     ensures text { OnOk result ((logs : _) → AreBytesOf S.remaining sources.old logs →
-        (text : _) × Answers (IsViewed ask) logs (Ok text)
+        (text : _) × Answers (IsViewText ask) logs (Ok text)
         × Appends (W.contents sink.old) (W.contents sink.new) text) }
-    ensures answered { OnOk result (AnswersDelivered S.reads (IsViewed ask) sources.old sources.new
+    ensures answered { OnOk result (AnswersDelivered S.reads (IsViewText ask) sources.old sources.new
         (Appends (W.contents sink.old) (W.contents sink.new))) }
     ensures flushed { OnOk result (W.is_flushed sink.new ≡ true) }
 
     ensures refusal { IfErr result (λ fault. (logs : _) → AreBytesOf S.remaining sources.old logs
-        → IsRunFault (IsViewed ask) logs fault) }
+        → IsRunFault (IsViewText ask) logs fault) }
     ensures refused { IfErr result (λ fault. fault ≢ Fault.Write →
         EndsWithout S.reads S.fails sources.old sources.new fault) }
     ensures nothing { IfErr result (λ fault. fault ≢ Fault.Write
         → Keeps (W.contents sink.old) (W.contents sink.new)) }
     ensures prefix { IsErrOf result Fault.Write → (logs : _)
         → AreBytesOf S.remaining sources.old logs →
-        (text : _) × Answers (IsViewed ask) logs (Ok text)
+        (text : _) × Answers (IsViewText ask) logs (Ok text)
         × AppendsPrefix (W.contents sink.old) (W.contents sink.new) text }
     ensures part { IsErrOf result Fault.Write →
-        AnswersDelivered S.reads (IsViewed ask) sources.old sources.new
+        AnswersDelivered S.reads (IsViewText ask) sources.old sources.new
         (AppendsPrefix (W.contents sink.old) (W.contents sink.new)) }
 
     ensures read { (log : _) (source : _) → slice_get sources.new log ≡ Some source

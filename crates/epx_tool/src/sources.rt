@@ -3,7 +3,7 @@ ghost use Rattle.std.specs.Prelude.{◌≡◌, ◌↔◌, ◌+◌, ◌<◌, ℕ,
 ghost use Rattle.std.specs.Io.KnownBytes.{IsAtEnd};
 ghost use Rattle.epx_devices.specs.Transfers.{ConsumesUpTo};
 ghost use Rattle.epx_merge.specs.Limits.{max_log_bytes};
-ghost use Rattle.epx_merge.specs.Refusals.{Fits};
+ghost use Rattle.epx_merge.specs.Refusals.{FitLimits};
 ghost use Rattle.epx_tool.specs.Runs.{AreBytesOf, IsReadingRefusal};
 ghost use Rattle.epx_tool.specs.WithInput.{IsShort};
 ghost use Rattle.epx_tool.specs.RunsWithInput.{IsReadingRefusalWithInput};
@@ -34,7 +34,7 @@ pub(crate) fn read_sources<S: Source>(
     ensures failed { (log : _) (source : _) → slice_get sources.new log ≡ Some source
         → IsErrOf result (Fault.Read log) ↔ (S.has_failed source ≡ true) }
     ensures place { (log : ℕ) → StopsAt result log → log < length sources.old }
-    ensures fit { IfOk result (λ v. Fits (map (λ log. log.items) v.items)) }
+    ensures fit { IfOk result (λ v. FitLimits (map (λ log. log.items) v.items)) }
 
     ensures taken { EachConsumesUpTo S.remaining sources.old sources.new (max_log_bytes + 1) }
     ensures ended { OnOk result (All (λ s. IsAtEnd (S.remaining s)) sources.new) }
@@ -74,7 +74,7 @@ pub(crate) fn read_with_input<B: Source, S: Source>(
         → map (λ log. log.items) v.1.items ≡ logs) }
     ensures each { IfOk result (λ v. length v.1.items ≡ length sources.old) }
     ensures short { IfOk result (λ v. IsShort v.0.items) }
-    ensures fit { IfOk result (λ v. Fits (map (λ log. log.items) v.1.items)) }
+    ensures fit { IfOk result (λ v. FitLimits (map (λ log. log.items) v.1.items)) }
     ensures delivered { IfOk result (λ v. DeliversBoth B.reads S.reads input.old input.new
         sources.old sources.new v.0.items (map (λ log. log.items) v.1.items)) }
     ensures refusal { IfErr result (λ fault. (before : _) (logs : _)

@@ -5,12 +5,12 @@ ghost use Rattle.epx_base.specs.ReportLines.{data_of_number, line_of};
 ghost use Rattle.epx_tool.specs.AuditText.{covered_line, uncovered_line};
 ghost use Rattle.epx_tool.specs.Verdicts.{fault_data, fault_text, lawful_text};
 
-use epx_base::{begin_line, end_line, write_name};
+use epx_base::{begin_line, end_line, write_id_parts};
 use epx_order::OrderFault;
 use epx_types::{Id, Memory};
 use std::alloc::{AllocError, Global};
 
-fn bare_line(alloc: Global, name: &str) -> Result<Vec<u8>, AllocError>
+fn name_line(alloc: Global, name: &str) -> Result<Vec<u8>, AllocError>
     ensures { IfOk result (λ text. text.items ≡ line_of (string name.now ∷ [])) }
 {
     let mut text = Vec::new(alloc);
@@ -38,7 +38,7 @@ fn missing_line(alloc: Global, id: Id) -> Result<Vec<u8>, AllocError>
     let mut text = Vec::new(alloc);
     let line = &mut Vec::new(alloc);
     let mut out = begin_line(alloc, line, "missing")?;
-    write_name(&mut out, id)?;
+    write_id_parts(&mut out, id)?;
     end_line(&mut text, line, out)?;
     Ok(text)
 }
@@ -63,8 +63,8 @@ fn pair_line(alloc: Global, pair: (Id, Id)) -> Result<Vec<u8>, AllocError>
     let mut text = Vec::new(alloc);
     let line = &mut Vec::new(alloc);
     let mut out = begin_line(alloc, line, "uncovered")?;
-    write_name(&mut out, pair.0)?;
-    write_name(&mut out, pair.1)?;
+    write_id_parts(&mut out, pair.0)?;
+    write_id_parts(&mut out, pair.1)?;
     end_line(&mut text, line, out)?;
     Ok(text)
 }
@@ -75,7 +75,7 @@ pub(crate) fn audit_line(alloc: Global, found: Option<(Id, Id)>) -> Result<Vec<u
         (λ pair. text.items ≡ uncovered_line pair.0 pair.1)) }
 {
     match found {
-        None => Ok(bare_line(alloc, "covered")?),
+        None => Ok(name_line(alloc, "covered")?),
         Some(pair) => Ok(pair_line(alloc, pair)?),
     }
 }
@@ -86,7 +86,7 @@ pub(crate) fn verdict_line(alloc: Global, found: Result<(), OrderFault>) -> Resu
         (λ fault. (fault ≢ OrderFault.Memory) × (text.items ≡ fault_text fault))) }
 {
     match found {
-        Ok(()) => Ok(bare_line(alloc, "lawful")?),
+        Ok(()) => Ok(name_line(alloc, "lawful")?),
         Err(fault) => fault_line(alloc, fault),
     }
 }

@@ -12,7 +12,7 @@ use std::thread::Threads;
 
 /// The committed map of the logs, or the first refusal of the logs and of the length of the extra
 /// input.
-pub(crate) fn merge_before<R: Threads + RandomSource + Sync>(
+pub(crate) fn merge_with_input<R: Threads + RandomSource + Sync>(
     rt: &R,
     alloc: Global,
     input: &[u8],

@@ -6,7 +6,7 @@ use Rattle.epx_types.specs.Keys.{key_cmp, add_keys}
 use Rattle.epx_types.specs.Contents.{Contents}
 use Rattle.epx_types.specs.Operations.{operate}
 use Rattle.epx_types.specs.CommandKeys.{written_by}
-use Rattle.epx_types.specs.Writes.{put_all}
+use Rattle.epx_types.specs.Writes.{apply_writes}
 use Rattle.epx_types.specs.declared.op.Op.{Op}
 use Rattle.epx_txn.specs.declared.draft.Step.{Step}
 use Rattle.epx_txn.specs.declared.draft.Step.TheVariants.{Read, Done, Abort}
@@ -16,15 +16,15 @@ abbrev pub Draft : Type 0
 Draft = FinMap key_cmp (Option ℤ)
 
 -- the contents as the command sees them
-abbrev pub seen_through : Draft → Contents → Contents
-seen_through d c = put_all (contents.entries d) c
+abbrev pub contents_through : Draft → Contents → Contents
+contents_through d c = apply_writes (contents.entries d) c
 
 -- the keys that the operation writes are added to the written ones
 abbrev pub AddsKeys : Op → Draft → Draft → Type 0
 AddsKeys op d e = contents.keys e ≡ add_keys (contents.keys d) (written_by op)
 
 -- what an operation does to a draft d over the contents c; e is the draft afterwards
-abbrev pub StepIs : Step → Op → Contents → Draft → Draft → Type 0
-StepIs (Read v) op c d e = (operate op (seen_through d c) ≡ Some (seen_through e c, v ∷ [])) × AddsKeys op d e
-StepIs Done op c d e = (operate op (seen_through d c) ≡ Some (seen_through e c, [])) × AddsKeys op d e
-StepIs Abort op c d e = operate op (seen_through d c) ≡ None
+abbrev pub IsStepOf : Step → Op → Contents → Draft → Draft → Type 0
+IsStepOf (Read v) op c d e = (operate op (contents_through d c) ≡ Some (contents_through e c, v ∷ [])) × AddsKeys op d e
+IsStepOf Done op c d e = (operate op (contents_through d c) ≡ Some (contents_through e c, [])) × AddsKeys op d e
+IsStepOf Abort op c d e = operate op (contents_through d c) ≡ None

@@ -1,5 +1,5 @@
 pub mod Drafts
-pub mod Places
+pub mod KeySlots
 pub mod Shards
 pub mod Routes
 pub mod Rises

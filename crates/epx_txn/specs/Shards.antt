@@ -14,8 +14,8 @@ pub record AreShards (shards : List Contents) : Type 0 where
   pub own : (n : ℕ) (k : List ℕ) → shard_of k ≢ n → contents.get (get_or shards n contents.empty) k ≡ None
 
 -- the contents of all shards together
-abbrev pub whole : List Contents → Contents
-whole shards = contents.from_entries (flat_map contents.entries shards)
+abbrev pub all_contents : List Contents → Contents
+all_contents shards = contents.from_entries (flat_map contents.entries shards)
 
 -- the writes to keys of one shard, in order
 abbrev pub writes_to : ℕ → List Write → List Write

@@ -1,8 +1,8 @@
 //! Runs the operations of a command over a borrowed store, and keeps its writes in a draft.
 ghost use Rattle.std.specs.Prelude.{◌≡◌, IfOk, OnOk, if◌then◌else◌};
 ghost use Rattle.std.specs.FinMap as contents;
-ghost use Rattle.epx_types.specs.Writes.{put_all};
-ghost use Rattle.epx_txn.specs.Drafts.{seen_through, StepIs};
+ghost use Rattle.epx_types.specs.Writes.{apply_writes};
+ghost use Rattle.epx_txn.specs.Drafts.{contents_through, IsStepOf};
 
 use crate::few_writes::FewWrites;
 use crate::key_map::KeyMap;
@@ -71,7 +71,7 @@ impl<'a> Draft<'a> {
 
     /// Puts all writes into a store.
     pub(crate) fn put_into(&self, store: &mut Store) -> Result<(), Memory>
-        ensures { OnOk result (store.new ≡ put_all (contents.entries self.now) store.old) }
+        ensures { OnOk result (store.new ≡ apply_writes (contents.entries self.now) store.old) }
     {
         match &self.many {
             Some(tree) => tree.put_into(store),
@@ -101,7 +101,7 @@ pub(crate) enum Step {
 
 /// Returns the value under a key as the command sees it: from the draft, or else from the store.
 fn read(draft: &Draft, store: &Store, key: &Key) -> Option<i64>
-    ensures { result ≡ contents.get (seen_through draft.now store.now) key.now }
+    ensures { result ≡ contents.get (contents_through draft.now store.now) key.now }
 {
     match draft.get(key) {
         Some(value) => value,
@@ -118,7 +118,7 @@ fn write<'a>(draft: &mut Draft<'a>, key: &'a Key, value: Option<i64>) -> Result<
     Ok(Step::Done)
 }
 
-fn done_if(holds: bool) -> Step
+fn done_or_abort(holds: bool) -> Step
     ensures { result ≡ (if holds then Step.Done else Step.Abort) }
 {
     if holds { Step::Done } else { Step::Abort }
@@ -126,7 +126,7 @@ fn done_if(holds: bool) -> Step
 
 /// Runs one operation: reads through the draft and writes into it.
 pub(crate) fn operate<'a>(draft: &mut Draft<'a>, store: &Store, op: &'a Op) -> Result<Step, Memory>
-    ensures { IfOk result (λ s. StepIs s op.now store.now draft.old draft.new) }
+    ensures { IfOk result (λ s. IsStepOf s op.now store.now draft.old draft.new) }
 {
     match op {
         Op::Get { key } => Ok(Step::Read(read(draft, store, key))),
@@ -136,8 +136,10 @@ pub(crate) fn operate<'a>(draft: &mut Draft<'a>, store: &Store, op: &'a Op) -> R
             Some(sum) => write(draft, key, Some(sum)),
             None => Ok(Step::Abort),
         },
-        Op::Is { key, value } => Ok(done_if(read(draft, store, key) == *value)),
-        Op::Floor { key, least } => Ok(done_if(read(draft, store, key).unwrap_or(0) >= *least)),
+        Op::Is { key, value } => Ok(done_or_abort(read(draft, store, key) == *value)),
+        Op::Floor { key, least } => Ok(done_or_abort(
+            read(draft, store, key).unwrap_or(0) >= *least,
+        )),
         Op::Copy { source, target } => {
             let value = read(draft, store, source);
             write(draft, target, value)

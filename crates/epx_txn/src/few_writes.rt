@@ -3,8 +3,8 @@ ghost use Rattle.std.specs.Prelude.{◌≡◌, ◌≤◌, T, false, IfOk, OnOk, 
 ghost use Rattle.std.specs.FinMap as contents;
 ghost use Rattle.std.specs.FinMap.{is_sorted};
 ghost use Rattle.epx_types.specs.Keys.{key_cmp};
-ghost use Rattle.epx_types.specs.Writes.{put_all};
-ghost use Rattle.epx_txn.specs.Places.{StandsAt, BelongsAt};
+ghost use Rattle.epx_types.specs.Writes.{apply_writes};
+ghost use Rattle.epx_txn.specs.KeySlots.{IsAtSlot, IsInsertedAt};
 
 use crate::key_map::KeyMap;
 use crate::store::Store;
@@ -14,7 +14,7 @@ use std::cmp::Ordering;
 use std::marker::Model;
 
 /// The most keys for which a linear search is fast enough.
-const FEW: usize = 16;
+const LINEAR_LIMIT: usize = 16;
 
 /// Under each of a few borrowed keys a value, or None for absence, by rising key. Contracts see it
 /// as one finite map.
@@ -40,11 +40,11 @@ impl<'a> Model for FewWrites<'a> {
 }
 
 /// Returns the slot of the key, or as the error the slot at which to insert it.
-fn place_of(writes: &[(&Key, Option<i64>)], key: &Key) -> Result<usize, usize>
+fn slot_of(writes: &[(&Key, Option<i64>)], key: &Key) -> Result<usize, usize>
     requires { T (is_sorted key_cmp (map (λ p. (p.0.now, p.1)) writes.now)) }
     ensures { MatchResult result
-        (StandsAt (map (λ p. (p.0.now, p.1)) writes.now) key.now)
-        (BelongsAt (map (λ p. (p.0.now, p.1)) writes.now) key.now) }
+        (IsAtSlot (map (λ p. (p.0.now, p.1)) writes.now) key.now)
+        (IsInsertedAt (map (λ p. (p.0.now, p.1)) writes.now) key.now) }
 {
     for (place, write) in writes.iter().enumerate() {
         match key.cmp(write.0) {
@@ -68,7 +68,7 @@ impl<'a> FewWrites<'a> {
     pub(crate) fn get(&self, key: &Key) -> Option<Option<i64>>
         ensures { result ≡ contents.get self.now key.now }
     {
-        match place_of(self.items.as_slice(), key) {
+        match slot_of(self.items.as_slice(), key) {
             Ok(place) => Some(self.items[place].1),
             Err(_) => None,
         }
@@ -81,10 +81,10 @@ impl<'a> FewWrites<'a> {
             (if had_room then contents.insert self.old key.now value else self.old)) }
         ensures room { IfOk result (λ had_room. had_room ≡ false → 16 ≤ contents.len self.old) }
     {
-        match place_of(self.items.as_slice(), key) {
+        match slot_of(self.items.as_slice(), key) {
             Ok(place) => self.items[place] = (key, value),
             Err(place) => {
-                if self.items.len() >= FEW {
+                if self.items.len() >= LINEAR_LIMIT {
                     return Ok(false);
                 }
                 self.items.insert(place, (key, value))?;
@@ -106,7 +106,7 @@ impl<'a> FewWrites<'a> {
 
     /// Puts all writes into a store.
     pub(crate) fn put_into(&self, store: &mut Store) -> Result<(), Memory>
-        ensures { OnOk result (store.new ≡ put_all (contents.entries self.now) store.old) }
+        ensures { OnOk result (store.new ≡ apply_writes (contents.entries self.now) store.old) }
     {
         for (key, value) in &self.items {
             store.write(key, *value)?;

@@ -3,7 +3,7 @@ ghost use Rattle.std.specs.Prelude.{◌≡◌, ◌++◌, IfOk, OnOk, OnErr, map}
 ghost use Rattle.std.specs.FinMap as contents;
 ghost use Rattle.epx_types.specs.Keys.{key_cmp};
 ghost use Rattle.epx_types.specs.Contents.{assign};
-ghost use Rattle.epx_types.specs.Writes.{put_all};
+ghost use Rattle.epx_types.specs.Writes.{apply_writes};
 
 use crate::store::Store;
 use epx_types::{Key, Memory};
@@ -130,7 +130,7 @@ impl KeyMap<i64> {
 impl KeyMap<Option<i64>> {
     /// Puts written values into a store, where None removes the key.
     pub(crate) fn put_into(&self, store: &mut Store) -> Result<(), Memory>
-        ensures { OnOk result (store.new ≡ put_all (contents.entries self.now) store.old) }
+        ensures { OnOk result (store.new ≡ apply_writes (contents.entries self.now) store.old) }
     {
         for (key, value) in &self.map {
             store.write(key, *value)?;

@@ -1,6 +1,6 @@
 //! Puts the writes of several commands into a store.
 ghost use Rattle.std.specs.Prelude.{◌≡◌, IfOk, OnOk, flat_map};
-ghost use Rattle.epx_types.specs.Writes.{put_all, NoKeyTwice};
+ghost use Rattle.epx_types.specs.Writes.{apply_writes, HasDistinctKeys};
 
 use crate::effect::{Effect, Writes};
 use crate::store::Store;
@@ -10,13 +10,13 @@ use std::thread::Threads;
 
 /// With fewer writes than this, one thread puts them in: starting and joining threads would take
 /// as long.
-const MANY: usize = 4_096;
+const PARALLEL_MIN: usize = 4_096;
 
-fn are_few(effects: &[Effect]) -> bool {
+fn has_few_writes(effects: &[Effect]) -> bool {
     let mut count = 0usize;
     for effect in effects {
         count = count.saturating_add(effect.writes.as_slice().len());
-        if count >= MANY {
+        if count >= PARALLEL_MIN {
             return false;
         }
     }
@@ -25,7 +25,7 @@ fn are_few(effects: &[Effect]) -> bool {
 
 /// Puts the writes of one command into the store, one after another.
 fn put_writes(store: &mut Store, writes: &Writes) -> Result<(), Memory>
-    ensures { OnOk result (store.new ≡ put_all writes.now store.old) }
+    ensures { OnOk result (store.new ≡ apply_writes writes.now store.old) }
 {
     for (key, value) in writes.as_slice() {
         store.write(key, *value)?;
@@ -36,7 +36,7 @@ fn put_writes(store: &mut Store, writes: &Writes) -> Result<(), Memory>
 /// Puts the writes of all commands into the store, one after another.
 fn put_effects(store: &mut Store, effects: &[Effect]) -> Result<(), Memory>
     ensures { OnOk result
-        (store.new ≡ put_all (flat_map (λ e. e.writes) effects.now) store.old) }
+        (store.new ≡ apply_writes (flat_map (λ e. e.writes) effects.now) store.old) }
 {
     for effect in effects {
         put_writes(store, &effect.writes)?;
@@ -52,11 +52,11 @@ pub fn merge_effects<R: Threads + Sync>(
     store: Store,
     effects: &[Effect],
 ) -> Result<Store, Memory>
-    requires { NoKeyTwice (flat_map (λ e. e.writes) effects.now) }
-    ensures { IfOk result (λ s. s ≡ put_all (flat_map (λ e. e.writes) effects.now) store) }
+    requires { HasDistinctKeys (flat_map (λ e. e.writes) effects.now) }
+    ensures { IfOk result (λ s. s ≡ apply_writes (flat_map (λ e. e.writes) effects.now) store) }
 {
-    if !are_few(effects) {
-        return store.take_effects(rt, effects);
+    if !has_few_writes(effects) {
+        return store.put_by_shard(rt, effects);
     }
     let mut store = store;
     put_effects(&mut store, effects)?;

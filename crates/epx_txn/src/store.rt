@@ -2,7 +2,7 @@
 ghost use Rattle.std.specs.Prelude.{◌≡◌, IfOk, OnOk, OnErr, map, flat_map};
 ghost use Rattle.std.specs.FinMap as contents;
 ghost use Rattle.epx_types.specs.Contents.{assign};
-ghost use Rattle.epx_types.specs.Writes.{put_all};
+ghost use Rattle.epx_types.specs.Writes.{apply_writes};
 
 use crate::effect::Effect;
 use crate::key_map::KeyMap;
@@ -25,13 +25,13 @@ impl Model for Store {
     ghost use Rattle.std.specs.FinMap as contents;
     ghost use Rattle.std.specs.Coded.{coded_list, coded_ℕ, coded_ℤ};
     ghost use Rattle.epx_types.specs.Contents.{Contents};
-    ghost use Rattle.epx_txn.specs.Shards.{AreShards, whole};
+    ghost use Rattle.epx_txn.specs.Shards.{AreShards, all_contents};
 
     ghost Value = { Contents };
 
     ghost coded = { contents.code (coded_list coded_ℕ) coded_ℤ };
 
-    ghost view = { λ s. whole s.shards };
+    ghost view = { λ s. all_contents s.shards };
 
     ghost invariant = { λ s. AreShards s.shards };
 }
@@ -87,12 +87,12 @@ impl Store {
     // Not inlined, because the caller would clear the stack space of the routes even for few
     // writes.
     #[inline(never)]
-    pub(crate) fn take_effects<R: Threads + Sync>(
+    pub(crate) fn put_by_shard<R: Threads + Sync>(
         self,
         rt: &R,
         effects: &[Effect],
     ) -> Result<Store, Memory>
-        ensures { IfOk result (λ s. s ≡ put_all (flat_map (λ e. e.writes) effects.now) self) }
+        ensures { IfOk result (λ s. s ≡ apply_writes (flat_map (λ e. e.writes) effects.now) self) }
     {
         let Store { alloc, mut shards } = self;
         let routes = sort_by_shard(alloc, effects)?;

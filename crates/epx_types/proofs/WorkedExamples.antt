@@ -14,7 +14,7 @@ use Rattle.epx_types.specs.Commands.{command_on}
 use Rattle.epx_types.specs.CommandKeys.{touched_keys, written_keys}
 use Rattle.epx_types.specs.Writes.{Write, writes_of}
 use Rattle.epx_types.specs.Execution.{execute}
-use Rattle.epx_types.proofs.KeyLists.{key_cmp_total}
+use Rattle.epx_types.proofs.keys.KeyListLemmas.{key_cmp_total}
 
 abbrev a : List ℕ
 a = codes "a"
@@ -51,82 +51,82 @@ at_remove : (m : Contents) (k q : List ℕ) → contents.get (contents.remove m 
 at_remove m k q = get-remove key_cmp_total m k q
 
 -- a command has this reply and these writes
-abbrev Gives : List Op → Contents → Reply → List Write → Type 0
-Gives ops before reply writes = ((command_on ops before).reply ≡ reply) × (writes_of ops before ≡ writes)
+abbrev HasOutcome : List Op → Contents → Reply → List Write → Type 0
+HasOutcome ops before reply writes = ((command_on ops before).reply ≡ reply) × (writes_of ops before ≡ writes)
 
 -- ---- single operations
 
-a_value_is_put_and_read : Gives (Put a (pos 5) ∷ Get a ∷ []) nothing (Values (Some (pos 5) ∷ [])) ((a, Some (pos 5)) ∷ [])
+a_value_is_put_and_read : HasOutcome (Put a (pos 5) ∷ Get a ∷ []) nothing (Values (Some (pos 5) ∷ [])) ((a, Some (pos 5)) ∷ [])
 a_value_is_put_and_read = (simp (at_insert, at_empty), simp (at_insert, at_empty))
 
-an_absent_key_reads_as_none : Gives (Get a ∷ []) nothing (Values (None ∷ [])) []
+an_absent_key_reads_as_none : HasOutcome (Get a ∷ []) nothing (Values (None ∷ [])) []
 an_absent_key_reads_as_none = (simp at_empty, refl)
 
-a_removed_key_is_absent : Gives (Del a ∷ Get a ∷ []) five (Values (None ∷ [])) ((a, None) ∷ [])
+a_removed_key_is_absent : HasOutcome (Del a ∷ Get a ∷ []) five (Values (None ∷ [])) ((a, None) ∷ [])
 a_removed_key_is_absent = (simp (at_remove, at_insert, at_empty), simp (at_remove, at_insert, at_empty))
 
-absence_counts_as_0_in_a_sum : Gives (Add a (pos 7) ∷ []) nothing (Values []) ((a, Some (pos 7)) ∷ [])
+absence_counts_as_0_in_a_sum : HasOutcome (Add a (pos 7) ∷ []) nothing (Values []) ((a, Some (pos 7)) ∷ [])
 absence_counts_as_0_in_a_sum = (simp (at_insert, at_empty), simp (at_insert, at_empty))
 
-a_copy_of_an_absent_key_removes_its_target : Gives (Copy b a ∷ []) five (Values []) ((a, None) ∷ [])
+a_copy_of_an_absent_key_removes_its_target : HasOutcome (Copy b a ∷ []) five (Values []) ((a, None) ∷ [])
 a_copy_of_an_absent_key_removes_its_target = (refl, simp (at_insert, at_remove, at_empty))
 
-a_copy_onto_itself_keeps_the_value : Gives (Copy a a ∷ Get a ∷ []) five (Values (Some (pos 5) ∷ [])) ((a, Some (pos 5)) ∷ [])
+a_copy_onto_itself_keeps_the_value : HasOutcome (Copy a a ∷ Get a ∷ []) five (Values (Some (pos 5) ∷ [])) ((a, Some (pos 5)) ∷ [])
 a_copy_onto_itself_keeps_the_value = (simp (at_insert, at_empty), simp (at_insert, at_empty))
 
 -- ---- tests that succeed, and aborts
 
-absence_is_none : Gives (Is a None ∷ []) nothing (Values []) []
+absence_is_none : HasOutcome (Is a None ∷ []) nothing (Values []) []
 absence_is_none = (simp at_empty, simp at_empty)
 
-absence_is_not_0 : Gives (Is a (Some (pos 0)) ∷ []) nothing (Abort 0) []
+absence_is_not_0 : HasOutcome (Is a (Some (pos 0)) ∷ []) nothing (Abort 0) []
 absence_is_not_0 = (simp at_empty, simp at_empty)
 
-a_value_is_not_absence : Gives (Is a None ∷ []) five (Abort 0) []
+a_value_is_not_absence : HasOutcome (Is a None ∷ []) five (Abort 0) []
 a_value_is_not_absence = (simp (at_insert, at_empty), simp (at_insert, at_empty))
 
-a_value_is_itself : Gives (Is a (Some (pos 5)) ∷ []) five (Values []) []
+a_value_is_itself : HasOutcome (Is a (Some (pos 5)) ∷ []) five (Values []) []
 a_value_is_itself = (simp (at_insert, at_empty), simp (at_insert, at_empty))
 
-a_value_is_no_lower_one : Gives (Is a (Some (pos 4)) ∷ []) five (Abort 0) []
+a_value_is_no_lower_one : HasOutcome (Is a (Some (pos 4)) ∷ []) five (Abort 0) []
 a_value_is_no_lower_one = (simp (at_insert, at_empty), simp (at_insert, at_empty))
 
-a_value_is_no_greater_one : Gives (Is a (Some (pos 6)) ∷ []) five (Abort 0) []
+a_value_is_no_greater_one : HasOutcome (Is a (Some (pos 6)) ∷ []) five (Abort 0) []
 a_value_is_no_greater_one = (simp (at_insert, at_empty), simp (at_insert, at_empty))
 
-a_floor_is_reached_by_its_own_value : Gives (Floor a (pos 5) ∷ []) five (Values []) []
+a_floor_is_reached_by_its_own_value : HasOutcome (Floor a (pos 5) ∷ []) five (Values []) []
 a_floor_is_reached_by_its_own_value = (simp (at_insert, at_empty), simp (at_insert, at_empty))
 
-absence_counts_as_0_at_a_floor : Gives (Floor a (pos 0) ∷ Floor a (pos 1) ∷ []) nothing (Abort 1) []
+absence_counts_as_0_at_a_floor : HasOutcome (Floor a (pos 0) ∷ Floor a (pos 1) ∷ []) nothing (Abort 1) []
 absence_counts_as_0_at_a_floor = (simp at_empty, simp at_empty)
 
 -- ---- the bounds of the values
 
-a_sum_past_the_greatest_value_aborts : Gives (Put a greatest ∷ Get a ∷ Add a (pos 1) ∷ []) nothing (Abort 2) []
+a_sum_past_the_greatest_value_aborts : HasOutcome (Put a greatest ∷ Get a ∷ Add a (pos 1) ∷ []) nothing (Abort 2) []
 a_sum_past_the_greatest_value_aborts = (simp (at_insert, at_empty), simp (at_insert, at_empty))
 
-a_sum_below_the_least_value_aborts : Gives (Put a least ∷ Add a (neg_ℤ (pos 1)) ∷ []) nothing (Abort 1) []
+a_sum_below_the_least_value_aborts : HasOutcome (Put a least ∷ Add a (neg_ℤ (pos 1)) ∷ []) nothing (Abort 1) []
 a_sum_below_the_least_value_aborts = (simp (at_insert, at_empty), simp (at_insert, at_empty))
 
-the_least_value_is_a_sum : Gives (Add a least ∷ []) nothing (Values []) ((a, Some least) ∷ [])
+the_least_value_is_a_sum : HasOutcome (Add a least ∷ []) nothing (Values []) ((a, Some least) ∷ [])
 the_least_value_is_a_sum = (simp (at_insert, at_empty), simp (at_insert, at_empty))
 
 -- ---- whole commands
 
-a_no_op_changes_nothing : (before : Contents) → Gives [] before (Values []) [] × ((command_on [] before).after ≡ before)
+a_no_op_changes_nothing : (before : Contents) → HasOutcome [] before (Values []) [] × ((command_on [] before).after ≡ before)
 a_no_op_changes_nothing before = ((refl, refl), refl)
 
 an_abort_undoes_the_command : ((command_on (Put a (pos 5) ∷ Put b (pos 1) ∷ Floor a (pos 6) ∷ []) nothing).reply ≡ Abort 2) × ((command_on (Put a (pos 5) ∷ Put b (pos 1) ∷ Floor a (pos 6) ∷ []) nothing).after ≡ nothing)
 an_abort_undoes_the_command = (simp (at_insert, at_empty), simp (at_insert, at_empty))
 
-a_floor_after_a_sum : Gives (Put a (pos 5) ∷ Floor a (pos 5) ∷ Add a (neg_ℤ (pos 5)) ∷ Floor a (pos 1) ∷ []) nothing (Abort 3) []
+a_floor_after_a_sum : HasOutcome (Put a (pos 5) ∷ Floor a (pos 5) ∷ Add a (neg_ℤ (pos 5)) ∷ Floor a (pos 1) ∷ []) nothing (Abort 3) []
 a_floor_after_a_sum = (simp (at_insert, at_empty), simp (at_insert, at_empty))
 
-reads_see_the_command's_own_writes : Gives (Put b (pos 3) ∷ Is a None ∷ Copy a b ∷ Get b ∷ Del a ∷ Put c (pos 1) ∷ Copy c c ∷ Get c ∷ [])
+reads_see_the_command's_own_writes : HasOutcome (Put b (pos 3) ∷ Is a None ∷ Copy a b ∷ Get b ∷ Del a ∷ Put c (pos 1) ∷ Copy c c ∷ Get c ∷ [])
     nothing (Values (None ∷ Some (pos 1) ∷ [])) ((a, None) ∷ (b, None) ∷ (c, Some (pos 1)) ∷ [])
 reads_see_the_command's_own_writes = (simp (at_insert, at_remove, at_empty), simp (at_insert, at_remove, at_empty))
 
-all_seven_operations : Gives (Put b (pos 3) ∷ Is a None ∷ Copy a b ∷ Get b ∷ Del a ∷ Put c (pos 1) ∷ Copy c c ∷ Get c ∷ Add c (pos 0) ∷ Floor c (pos 1) ∷ [])
+all_seven_operations : HasOutcome (Put b (pos 3) ∷ Is a None ∷ Copy a b ∷ Get b ∷ Del a ∷ Put c (pos 1) ∷ Copy c c ∷ Get c ∷ Add c (pos 0) ∷ Floor c (pos 1) ∷ [])
     nothing (Values (None ∷ Some (pos 1) ∷ [])) ((a, None) ∷ (b, None) ∷ (c, Some (pos 1)) ∷ [])
 all_seven_operations = (simp (at_insert, at_remove, at_empty), simp (at_insert, at_remove, at_empty))
 

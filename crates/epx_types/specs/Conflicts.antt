@@ -12,13 +12,13 @@ abbrev pub Conflict : List Op → List Op → Type 0
 Conflict a b = (k : List ℕ) × ((Contains (written_keys a) k × Contains (touched_keys b) k) ⊎ (Contains (touched_keys a) k × Contains (written_keys b) k))
 
 -- the command a conflicts with none of the others
-abbrev pub ApartFrom : List Op → List (List Op) → Type 0
-ApartFrom a others = (b : List Op) → Contains others b → ¬ Conflict a b
+abbrev pub NoConflictWith : List Op → List (List Op) → Type 0
+NoConflictWith a others = (b : List Op) → Contains others b → ¬ Conflict a b
 
 -- no two of the commands conflict
-abbrev pub AllApart : List (List Op) → Type 0
-AllApart [] = Unit {0}
-AllApart (a ∷ others) = ApartFrom a others × AllApart others
+abbrev pub NoneConflict : List (List Op) → Type 0
+NoneConflict [] = Unit {0}
+NoneConflict (a ∷ others) = NoConflictWith a others × NoneConflict others
 
 -- of any two ready instances that conflict, one reaches the other
 abbrev pub IsCovered : List Instance → Type 0

@@ -31,10 +31,10 @@ pub record IsLawfulFor (m : List Instance) (Member : Id → Type 0) (ids : List 
 abbrev pub IsLawful : List Instance → List Id → Type 0
 IsLawful m ids = IsLawfulFor m (IsReady m) ids
 
-abbrev pub ops_of : Option Instance → List Op
-ops_of None = []
-ops_of (Some e) = e.ops
+abbrev pub ops_or_empty : Option Instance → List Op
+ops_or_empty None = []
+ops_or_empty (Some e) = e.ops
 
 -- the commands of some instances of a map
 abbrev pub commands_in : List Instance → List Id → List (List Op)
-commands_in m ids = map (λ x. ops_of (instance_of m x)) ids
+commands_in m ids = map (λ x. ops_or_empty (instance_of m x)) ids

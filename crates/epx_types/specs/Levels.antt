@@ -29,13 +29,13 @@ level_count [] = 0
 level_count (level ∷ levels) = max (suc level) (level_count levels)
 
 -- the positions of a level, rising, in a list that begins at position j
-abbrev pub places_from : ℕ → List ℕ → ℕ → List ℕ
-places_from j [] l = []
-places_from j (level ∷ levels) l = if level == l then j ∷ places_from (suc j) levels l else places_from (suc j) levels l
+abbrev pub level_positions_from : ℕ → List ℕ → ℕ → List ℕ
+level_positions_from j [] l = []
+level_positions_from j (level ∷ levels) l = if level == l then j ∷ level_positions_from (suc j) levels l else level_positions_from (suc j) levels l
 
 -- the positions of a level, rising
-abbrev pub places_of : List ℕ → ℕ → List ℕ
-places_of levels l = places_from 0 levels l
+abbrev pub level_positions : List ℕ → ℕ → List ℕ
+level_positions levels l = level_positions_from 0 levels l
 
 -- f is greater at each later command that conflicts
 abbrev pub RisesWithConflicts : List (List Op) → (ℕ → ℕ) → Type 0

@@ -4,11 +4,11 @@ use Rattle.std.specs.Prelude.{ℕ, ◌≤◌, ◌+◌, ◌*◌, min}
 use Rattle.std.specs.Int.{div_ceil}
 
 -- the number of workers, and the number of items in a piece of work
-pub record Cutting : Type 0 where
+pub record PlanNumbers : Type 0 where
   pub workers : ℕ
   pub cut : ℕ
 
-pub record IsWithinLimits (plan : Cutting) : Type 0 where
+pub record IsWithinLimits (plan : PlanNumbers) : Type 0 where
   pub some_worker : 1 ≤ plan.workers
   pub few_workers : plan.workers ≤ 64
   pub some_item : 1 ≤ plan.cut

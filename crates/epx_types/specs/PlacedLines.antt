@@ -18,5 +18,5 @@ pub record Placed : Type 0 where
   pub instance : Instance
 
 -- no two lines have the same place
-abbrev pub HavePlacesOfTheirOwn : List Placed → Type 0
-HavePlacesOfTheirOwn lines = (p q : Placed) → Contains lines p → Contains lines q → p.place ≡ q.place → p ≡ q
+abbrev pub HaveDistinctPlaces : List Placed → Type 0
+HaveDistinctPlaces lines = (p q : Placed) → Contains lines p → Contains lines q → p.place ≡ q.place → p ≡ q

@@ -17,5 +17,5 @@ pub record IsSound (m : List Instance) (done : List Id) (c : Contents) : Type 0 
   pub executed : (ids : List Id) × IsLawfulFor m (Contains done) ids × ((execute (commands_in m ids) contents.empty).final ≡ c)
 
 -- each instance of the other map that is not done is an instance of m
-abbrev pub HasWhatIsLeft : List Instance → List Id → List Instance → Type 0
-HasWhatIsLeft m done other = (e : Instance) → Contains other e → ¬ Contains done e.id → Contains m e
+abbrev pub HasRemaining : List Instance → List Id → List Instance → Type 0
+HasRemaining m done other = (e : Instance) → Contains other e → ¬ Contains done e.id → Contains m e

@@ -21,9 +21,9 @@ abbrev pub writes_of : List Op → Contents → List Write
 writes_of ops c = writes_by (command_on ops c).reply ops (command_on ops c).after
 
 -- the contents after writes, applied one after another
-abbrev pub put_all : List Write → Contents → Contents
-put_all [] c = c
-put_all (w ∷ ws) c = put_all ws (assign c w.0 w.1)
+abbrev pub apply_writes : List Write → Contents → Contents
+apply_writes [] c = c
+apply_writes (w ∷ ws) c = apply_writes ws (assign c w.0 w.1)
 
-abbrev pub NoKeyTwice : List Write → Type 0
-NoKeyTwice ws = AllPairs (λ v w. v.0 ≢ w.0) ws
+abbrev pub HasDistinctKeys : List Write → Type 0
+HasDistinctKeys ws = AllPairs (λ v w. v.0 ≢ w.0) ws

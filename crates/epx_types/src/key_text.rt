@@ -7,12 +7,12 @@ use arrayvec::ArrayString;
 use std::alloc::Global;
 
 /// A text of at most this many bytes is stored without an allocation.
-const SHORT: usize = 16;
+const MAX_SHORT: usize = 16;
 
 /// A text, short or allocated.
 #[derive(Debug, Drop)]
 pub(crate) enum KeyText {
-    Short(ArrayString<SHORT>),
+    Short(ArrayString<MAX_SHORT>),
     Long(String),
 }
 

@@ -18,9 +18,9 @@ pub struct Plan {
 }
 
 impl Model for Plan {
-    ghost use Rattle.epx_types.specs.Pieces.{Cutting, IsWithinLimits};
+    ghost use Rattle.epx_types.specs.Pieces.{PlanNumbers, IsWithinLimits};
 
-    ghost Value = { Cutting };
+    ghost Value = { PlanNumbers };
 
     ghost view = { λ p. record { workers = p.workers; cut = p.cut } };
 

@@ -38,13 +38,13 @@ abbrev pub first_app : Text → App
 first_app name = with_rule (with_rule (numbers_app name) first_rule) logs_rule
 
 -- the program without its subcommands
-abbrev pub epx_start : App
-epx_start = on_top (λ shape. record shape { has_version = true; subcommand_required = true }) (new_app (codes "epx"))
+abbrev pub epx_top : App
+epx_top = on_top (λ shape. record shape { has_version = true; subcommand_required = true }) (new_app (codes "epx"))
 
 -- the program with the subcommands `run`, `order`, `levels` and `graph`
 abbrev pub runs_app : App
 runs_app =
-    with_subcommand (with_subcommand (with_subcommand (with_subcommand epx_start (work_app (codes "run")).top) (work_app (codes "order")).top) (work_app (codes "levels")).top) (work_app (codes "graph")).top
+    with_subcommand (with_subcommand (with_subcommand (with_subcommand epx_top (work_app (codes "run")).top) (work_app (codes "order")).top) (work_app (codes "levels")).top) (work_app (codes "graph")).top
 
 -- the program with all subcommands
 abbrev pub epx_app : App

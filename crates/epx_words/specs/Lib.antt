@@ -1,4 +1,4 @@
 pub mod App
-pub mod Given
-pub mod Asked
-pub mod Endings
+pub mod SubcommandRows
+pub mod Requests
+pub mod ExitStatus

@@ -1,7 +1,7 @@
 //! The program's command line, as a clap `Command`.
 ghost use Rattle.std.specs.Prelude.{◌≡◌, IfOk, codes};
 ghost use Rattle.clap.specs.Words.{app_of, new_app, rule_of};
-ghost use Rattle.epx_words.specs.App.{epx_app, epx_start, first_app, first_rule, logs_rule, number_rule, numbers_app, runs_app, work_app};
+ghost use Rattle.epx_words.specs.App.{epx_app, epx_top, first_app, first_rule, logs_rule, number_rule, numbers_app, runs_app, work_app};
 
 use clap::builder::ValueParser;
 use clap::{Arg, ArgAction, Command};
@@ -217,14 +217,14 @@ fn first<'a>(alloc: Global, value: &'a str, help: &'a str) -> Arg<'a>
 }
 
 /// A subcommand whose arguments are logs.
-fn over_logs<'a>(alloc: Global, name: &'a str, help: Help) -> Result<Command<'a>, AllocError>
+fn logs_subcommand<'a>(alloc: Global, name: &'a str, help: Help) -> Result<Command<'a>, AllocError>
     ensures { IfOk result (λ c. app_of c ≡ work_app name.entry.now) }
 {
     subcommand(alloc, name, help)?.arg(logs(alloc))
 }
 
 /// A subcommand whose arguments are BASE or LIST, and then logs.
-fn over_first<'a>(
+fn first_subcommand<'a>(
     alloc: Global,
     name: &'a str,
     help: Help,
@@ -239,7 +239,7 @@ fn over_first<'a>(
 /// The program without its subcommands. Its usage line has the subcommand as optional: `epx` with
 /// no arguments reads one log from standard input.
 fn start<'a>(alloc: Global) -> Command<'a>
-    ensures { app_of result ≡ epx_start }
+    ensures { app_of result ≡ epx_top }
 {
     Command::new(alloc, "epx")
         .about(EPX)
@@ -253,10 +253,10 @@ fn start<'a>(alloc: Global) -> Command<'a>
 fn with_runs<'a>(alloc: Global) -> Result<Command<'a>, AllocError>
     ensures { IfOk result (λ c. app_of c ≡ runs_app) }
 {
-    let run = over_logs(alloc, "run", RUN)?;
-    let order = over_logs(alloc, "order", ORDER)?;
-    let levels = over_logs(alloc, "levels", LEVELS)?;
-    let graph = over_logs(alloc, "graph", GRAPH)?;
+    let run = logs_subcommand(alloc, "run", RUN)?;
+    let order = logs_subcommand(alloc, "order", ORDER)?;
+    let levels = logs_subcommand(alloc, "levels", LEVELS)?;
+    let graph = logs_subcommand(alloc, "graph", GRAPH)?;
     start(alloc)
         .subcommand(run)?
         .subcommand(order)?
@@ -269,10 +269,10 @@ pub(crate) fn command<'a>(alloc: Global) -> Result<Command<'a>, AllocError>
     ensures { IfOk result (λ c. app_of c ≡ epx_app) }
 {
     let base = first(alloc, "BASE", "The earlier report to go on from");
-    let resume = over_first(alloc, "resume", RESUME, base)?;
-    let audit = over_logs(alloc, "audit", AUDIT)?;
+    let resume = first_subcommand(alloc, "resume", RESUME, base)?;
+    let audit = logs_subcommand(alloc, "audit", AUDIT)?;
     let list = first(alloc, "LIST", "The list to check");
-    let check = over_first(alloc, "check", CHECK, list)?;
+    let check = first_subcommand(alloc, "check", CHECK, list)?;
     with_runs(alloc)?
         .subcommand(resume)?
         .subcommand(audit)?

@@ -2,9 +2,9 @@
 //! to print if it asks for help or is refused.
 #![tactic(auto)]
 
-mod asked;
 mod commands;
-mod reading;
+mod read;
+mod words;
 
-pub use asked::{Task, Words};
-pub use reading::read_words;
+pub use read::read_words;
+pub use words::{Task, Words};

@@ -1,8 +1,8 @@
 use Rattle.std.proofs.Common.{◌≡◌, ◌++◌, drop}
 use Rattle.epx_types.specs.Rearrangements.{commands_at}
-use Rattle.epx_apply.specs.Effects.{ops_of, effects_over}
+use Rattle.epx_apply.specs.Effects.{op_lists_of, effects_over}
 use Rattle.epx_apply.proofs.run.evaluate.Given as goal
 
 abbrev pub invariant-loop-place : goal.invariant-loop-place
 invariant-loop-place l =
-    l.effects.items ++ effects_over l.store (commands_at (ops_of l.commands) (drop l.place-index l.places)) ≡ effects_over l.store (commands_at (ops_of l.commands) l.places)
+    l.effects.items ++ effects_over l.store (commands_at (op_lists_of l.commands) (drop l.place-index l.places)) ≡ effects_over l.store (commands_at (op_lists_of l.commands) l.places)

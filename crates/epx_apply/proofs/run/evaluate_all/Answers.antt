@@ -1,14 +1,14 @@
 use Rattle.std.proofs.Common.{◌≡◌, ◌∙◌, sym, rules}
 use Rattle.std.proofs.lemmas.Result.{IfOk-weaker}
 use Rattle.epx_types.specs.Rearrangements.{commands_at}
-use Rattle.epx_apply.specs.Effects.{ops_of, effects_over, items_of_piece}
-use Rattle.epx_apply.proofs.JoinedPieces.{parts_joined}
-use Rattle.epx_apply.proofs.LevelEffects.{effect_at, effects_over-each}
+use Rattle.epx_apply.specs.Effects.{op_lists_of, effects_over, items_of_piece}
+use Rattle.epx_apply.proofs.JoinedPieceLemmas.{parts_joined}
+use Rattle.epx_apply.proofs.LevelEffectLemmas.{effect_at, effects_over-each}
 use Rattle.epx_apply.proofs.run.evaluate_all.Goals as goal
 
 pub returns : goal.returns
 returns g c =
-    let ops = ops_of c.args.commands.now in
+    let ops = op_lists_of c.args.commands.now in
     let store = c.args.store.now in
     let places = c.args.places.now in
     let cut = c.args.plan.cut in

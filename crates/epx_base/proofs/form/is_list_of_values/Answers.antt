@@ -1,5 +1,5 @@
 use Rattle.std.proofs.Common.{arith}
-use Rattle.epx_base.proofs.ValueLists.{is_value_list-many, is_value_list-begin}
+use Rattle.epx_base.proofs.ValueListLemmas.{is_value_list-many, is_value_list-begin}
 use Rattle.epx_base.proofs.form.is_list_of_values.Goals as goal
 
 pub returns-then-len-gt-MAX_OPS : goal.returns-then-len-gt-MAX_OPS

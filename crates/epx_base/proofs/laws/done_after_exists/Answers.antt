@@ -1,4 +1,4 @@
-use Rattle.epx_base.proofs.ReportBases.{done_after_exists}
+use Rattle.epx_base.proofs.ReportBaseLemmas.{done_after_exists}
 use Rattle.epx_base.proofs.laws.done_after_exists.Goals as goal
 
 pub returns : goal.returns

@@ -1,4 +1,4 @@
-use Rattle.epx_base.proofs.ListLaws.{list_or_bad_list}
+use Rattle.epx_base.proofs.ListLemmas.{list_or_bad_list}
 use Rattle.epx_base.proofs.laws.list_or_bad_list.Goals as goal
 
 pub returns : goal.returns

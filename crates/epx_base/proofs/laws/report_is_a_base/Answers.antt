@@ -1,4 +1,4 @@
-use Rattle.epx_base.proofs.ReportBases.{report_is_a_base}
+use Rattle.epx_base.proofs.ReportBaseLemmas.{report_is_a_base}
 use Rattle.epx_base.proofs.laws.report_is_a_base.Goals as goal
 
 pub returns : goal.returns

@@ -3,7 +3,7 @@ use Rattle.std.proofs.lemmas.Grind.{common_steps}
 use Rattle.std.proofs.lemmas.Result.{on_ok_weaker}
 use Rattle.json.specs.Token.{begin_array, string, number}
 use Rattle.epx_base.specs.ReportLines.{header_data}
-use Rattle.epx_base.proofs.LineTexts.{line_written}
+use Rattle.epx_base.proofs.LineTextLemmas.{line_written}
 use Rattle.epx_base.proofs.report_lines.append_header.Goals as goal
 
 pub returns : goal.returns

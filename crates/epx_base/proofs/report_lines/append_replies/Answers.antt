@@ -1,6 +1,6 @@
 use Rattle.std.proofs.Common.{inl, inr}
 use Rattle.epx_base.specs.ReportLines.{reply_line}
-use Rattle.epx_base.proofs.Pairs.{printed_to_end}
+use Rattle.epx_base.proofs.PairLemmas.{printed_to_end}
 use Rattle.epx_base.proofs.report_lines.append_replies.Goals as goal
 
 -- the loop ends at the end of one of the two lists

@@ -4,7 +4,7 @@ use Rattle.std.proofs.lemmas.Result.{on_ok_weaker}
 use Rattle.json.specs.Token.{begin_array, string}
 use Rattle.epx_base.specs.LineTokens.{value_token}
 use Rattle.epx_base.specs.ReportLines.{store_data}
-use Rattle.epx_base.proofs.LineTexts.{line_written, store_line-tokens}
+use Rattle.epx_base.proofs.LineTextLemmas.{line_written, store_line-tokens}
 use Rattle.epx_base.proofs.report_lines.append_store_pair.Goals as goal
 
 pub returns : goal.returns

@@ -1,7 +1,7 @@
 use Rattle.std.proofs.lemmas.Option.{slice_get_within}
-use Rattle.epx_graph.proofs.GraphNodes.{node_id}
+use Rattle.epx_graph.proofs.GraphNodeLemmas.{node_id}
 use Rattle.epx_components.specs.Partitions.{parts}
-use Rattle.epx_components.proofs.InstanceLeaders.{leader_within, leader_from_node}
+use Rattle.epx_components.proofs.InstanceLeaderLemmas.{leader_within, leader_from_node}
 use Rattle.epx_components.proofs.NodeRankLemmas.{leader_by_node}
 use Rattle.epx_components.proofs.component_map.components.Goals as goal
 

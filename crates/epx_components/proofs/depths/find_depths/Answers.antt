@@ -21,8 +21,8 @@ loop-node-preserved c =
     let was : c.index.result.now ≡ number_for p depths (node_at p i) = get_or_read depths _ _ (omega (arith, own)) c.index.ensures 0 ∙ ap (λ x. get_or depths x 0) own in
     record {
       len = length-set depths c.index-own.result.now c.max.result ∙ c.loop-node.invariant.len;
-      depths = rw own (depths_step edges p depths i c.depth_over-below.result c.max.result is in' own_in
-          (rw (c.edges.ensures.edges, order, c.deref.ensures.value, c.deref-in-loop-node.ensures.value, own) at c.depth_over-below.ensures)
+      depths = rw own (depths_step edges p depths i c.depth_above-below.result c.max.result is in' own_in
+          (rw (c.edges.ensures.edges, order, c.deref.ensures.value, c.deref-in-loop-node.ensures.value, own) at c.depth_above-below.ensures)
           (rw was at c.max.ensures) c.loop-node.invariant.depths);
     }
 

@@ -8,10 +8,10 @@ use Rattle.epx_components.proofs.NodePathLemmas.{reaches_itself}
 use Rattle.epx_components.proofs.PartitionLemmas.{node_below, component_below, targets_below}
 use Rattle.epx_components.proofs.MissingLemmas.{AreMarks, marks_found, marks_set, marks_skip, marks_all, none_missing}
 use Rattle.epx_components.proofs.missing.find_missing.Goals as goal
-use Rattle.epx_components.proofs.missing.find_missing.Goals.{then-leads_to_missing, else-leads_to_missing}
+use Rattle.epx_components.proofs.missing.find_missing.Goals.{then-reaches_missing_by_edge, else-reaches_missing_by_edge}
 
-pub leads_to_missing-requires-clause-targets : goal.leads_to_missing-requires-clause-targets
-leads_to_missing-requires-clause-targets c = rw c.deref.ensures.value (targets_below (edges_of c.args.graph.now) (parts c.args.partition.now) c.requires.is _)
+pub reaches_missing_by_edge-requires-clause-targets : goal.reaches_missing_by_edge-requires-clause-targets
+reaches_missing_by_edge-requires-clause-targets c = rw c.deref.ensures.value (targets_below (edges_of c.args.graph.now) (parts c.args.partition.now) c.requires.is _)
 
 pub loop-node-preserved : goal.loop-node-preserved
 loop-node-preserved c =
@@ -27,12 +27,12 @@ loop-node-preserved c =
     let in' : i < length p.order = omega (arith, c.loop-node-test.true, ap length order) in
     let node_in = node_below edges p is i in' in
     let own_in : component_of p (node_at p i) < length marks = omega (arith, component_below edges p is (node_at p i) node_in, c.loop-node.invariant.len) in
-    let leads = rw (order, c.deref.ensures.value, c.deref-in-loop-node.ensures.value) at c.leads_to_missing.ensures in
+    let leads = rw (order, c.deref.ensures.value, c.deref-in-loop-node.ensures.value) at c.reaches_missing_by_edge.ensures in
     let Marked : List Bool → Type 0 = λ new. AreMarks edges P p new (i + 1) in
-    elim c.if-leads_to_missing.branch [
-      | then-leads_to_missing w ↦
+    elim c.if-reaches_missing_by_edge.branch [
+      | then-reaches_missing_by_edge w ↦
           let own : w.index.result.now ≡ component_of p (node_at p i) = get_or_read p.component _ _ (omega (arith, node_in, ap (λ xs. get_or xs i 0) order)) w.index.ensures 0 ∙ ap (λ xs. get_or p.component (get_or xs i 0) 0) order in
-          let why : ReachesMissing edges committed (node_at p i) = elim (leads.0 w.if-leads_to_missing.true) [
+          let why : ReachesMissing edges committed (node_at p i) = elim (leads.0 w.if-reaches_missing_by_edge.true) [
             | inl itself ↦ (node_at p i, itself, reaches_itself edges _ _ refl)
             | inr on ↦ marks_found edges P p marks i (node_at p i) is old on
           ] in
@@ -40,12 +40,12 @@ loop-node-preserved c =
             len = ap (λ v. length v.items) w.marks-is ∙ (length-set marks _ _ ∙ c.loop-node.invariant.len);
             marks = subst Marked (sym (ap (λ v. v.items) w.marks-is)) (rw own (marks_set edges P p marks i is in' own_in why old));
           }
-      | else-leads_to_missing w ↦
+      | else-reaches_missing_by_edge w ↦
           record {
             len = ap (λ v. length v.items) w.marks-is ∙ c.loop-node.invariant.len;
             marks = subst Marked (sym (ap (λ v. v.items) w.marks-is)) (marks_skip edges P p marks i
-                (λ le. false≢true (sym w.if-leads_to_missing.false ∙ leads.1 (inl le)))
-                (λ on. false≢true (sym w.if-leads_to_missing.false ∙ leads.1 (inr on))) old);
+                (λ le. false≢true (sym w.if-reaches_missing_by_edge.false ∙ leads.1 (inl le)))
+                (λ on. false≢true (sym w.if-reaches_missing_by_edge.false ∙ leads.1 (inr on))) old);
           }
     ]
 

@@ -1,6 +1,6 @@
 use Rattle.std.proofs.Common.{◌≡◌, ◌≤◌, ◌+◌, ◌++◌, length, take, arith, false}
 use Rattle.std.proofs.lemmas.Grind.{common_steps}
-use Rattle.epx_devices.proofs.Transferring.{read-further}
+use Rattle.epx_devices.proofs.TransferLemmas.{IsRead-step}
 use Rattle.epx_devices.proofs.transfer.read_log.Goals as goal
 
 pub returns-in_err-map_err-in-Ok-clause-no_further :
@@ -12,10 +12,10 @@ returns-in_err-map_err-in-Ok-clause-no_further g c =
     let whole : S.has_failed c.read_some.new.self ≡ false = grind (arith, common_steps) in
     let few : length sofar + length part ≤ 67108865 = grind (arith, common_steps) in
     let read =
-    read-further S.reads S.remaining S.has_failed c.args.source.now c.loop-part.source
+    IsRead-step S.reads S.remaining S.has_failed c.args.source.now c.loop-part.source
     c.read_some.new.self sofar part _ c.loop-part.invariant c.in-Ok.ensures.bytes.0
     c.in-Ok.ensures.delivered few whole in
-    (sofar ++ part, read.come, read.few)
+    (sofar ++ part, read.consumed, read.few)
 
 pub loop-part-preserved : goal.loop-part-preserved
 loop-part-preserved g c =
@@ -25,7 +25,7 @@ loop-part-preserved g c =
     let whole : S.has_failed c.read_some.new.self ≡ false = grind (arith, common_steps) in
     let few : length sofar + length part ≤ 67108865 = grind (arith, common_steps) in
     let read =
-    read-further S.reads S.remaining S.has_failed c.args.source.now c.loop-part.source
+    IsRead-step S.reads S.remaining S.has_failed c.args.source.now c.loop-part.source
     c.read_some.new.self sofar part _ c.loop-part.invariant c.in-Ok.ensures.bytes.0
     c.in-Ok.ensures.delivered few whole in
     let grown : c.extend_from_slice.new.self.items ≡ sofar ++ part =

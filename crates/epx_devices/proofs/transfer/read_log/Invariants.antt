@@ -1,5 +1,5 @@
 use Rattle.std.proofs.Common.{◌-◌, length}
-use Rattle.epx_devices.proofs.Transferring.{IsRead}
+use Rattle.epx_devices.proofs.TransferLemmas.{IsRead}
 use Rattle.epx_devices.proofs.transfer.read_log.Given as goal
 
 abbrev pub invariant-loop-part : goal.invariant-loop-part

@@ -1,5 +1,5 @@
 use Rattle.std.proofs.Common.{◌-◌, length}
-use Rattle.epx_devices.proofs.Transferring.{IsWritten}
+use Rattle.epx_devices.proofs.TransferLemmas.{IsWritten}
 use Rattle.epx_devices.proofs.transfer.write_out.Given as goal
 
 abbrev pub invariant-loop-taken : goal.invariant-loop-taken

@@ -1,9 +1,9 @@
 use Rattle.std.proofs.Common.{sym, ap, ◌∙◌, append-nil}
 use Rattle.epx_types.specs.declared.id.Id.{Id}
-use Rattle.epx_graph.specs.declared.left.Found.TheVariants as found
-use Rattle.epx_graph.proofs.LeftInstances.{gathered_next}
+use Rattle.epx_graph.specs.declared.left.IdState.TheVariants as found
+use Rattle.epx_graph.proofs.RemainderLemmas.{gathered_next}
 use Rattle.epx_graph.proofs.committed.gather.Goals as goal
-use Rattle.epx_graph.proofs.committed.gather.Goals.{in-Left+in_ok-push-in-Left, in-Done, in-Missing+in_ok-push-in-Missing}
+use Rattle.epx_graph.proofs.committed.gather.Goals.{in-Remainder+in_ok-push-in-Remainder, in-Done, in-Missing+in_ok-push-in-Missing}
 
 pub loop-id-preserved : goal.loop-id-preserved
 loop-id-preserved c =
@@ -13,9 +13,9 @@ loop-id-preserved c =
     let old = c.loop-id.invariant in
     let next = gathered_next c.args.left.now c.args.deps.now c.loop-id.id-index d c.loop-id-test.true in
     elim c.match-look_up.branch [
-      | in-Left+in_ok-push-in-Left w ↦
-          let more = next (found.Left w.in-Left.place) w.in-Left.ensures _ numbers c.match-look_up.numbers.items _ missing c.match-look_up.missing.items old.numbers old.missing
-          (ap (λ v. v.items) w.numbers-is ∙ w.in_ok-push-in-Left.ensures.items) (ap (λ v. v.items) w.missing-is ∙ sym (append-nil missing)) in
+      | in-Remainder+in_ok-push-in-Remainder w ↦
+          let more = next (found.Remainder w.in-Remainder.place) w.in-Remainder.ensures _ numbers c.match-look_up.numbers.items _ missing c.match-look_up.missing.items old.numbers old.missing
+          (ap (λ v. v.items) w.numbers-is ∙ w.in_ok-push-in-Remainder.ensures.items) (ap (λ v. v.items) w.missing-is ∙ sym (append-nil missing)) in
           record { numbers = more.0; missing = more.1 }
       | in-Done w ↦
           let more = next found.Done w.in-Done.ensures _ numbers c.match-look_up.numbers.items _ missing c.match-look_up.missing.items old.numbers old.missing

@@ -1,9 +1,9 @@
 use Rattle.std.proofs.Common.{◌≡◌, ◌+◌, ◌++◌, ◌∷◌, [], List, ℕ, sym, ap, subst, ◌∙◌, slice_range, arith}
-use Rattle.epx_types.specs.Done.{without_deps, rest_of}
-use Rattle.epx_graph.specs.Left.{left_of}
-use Rattle.epx_graph.specs.Nodes.{positions_of, lacking, IsGatheredOf}
-use Rattle.epx_graph.proofs.GatheredParts.{gathered_none, gathered_more}
-use Rattle.epx_graph.proofs.LeftInstances.{rest_rises}
+use Rattle.epx_types.specs.Done.{without_deps, remaining_ids}
+use Rattle.epx_graph.specs.Remainder.{left_of}
+use Rattle.epx_graph.specs.Nodes.{positions_of, missing_of, IsGatheredOf}
+use Rattle.epx_graph.proofs.GatherPartLemmas.{gathered_none, gathered_more}
+use Rattle.epx_graph.proofs.RemainderLemmas.{rest_rises}
 use Rattle.epx_graph.proofs.committed.gather_part.Goals as goal
 
 pub loop-place-init : goal.loop-place-init
@@ -14,14 +14,14 @@ loop-place-preserved c =
     let m = left_of c.args.left.now in
     let done = c.args.left.now.done in
     let e = c.entry_at.result.now in
-    let deps = rest_of done e.deps in
+    let deps = remaining_ids done e.deps in
     let rows = c.loop-place.rows in
     let missing = c.loop-place.missing.items in
     let part = slice_range m c.args.part.start (c.loop-place.place + 1) in
-    let rows_are : rows ++ positions_of m deps ∷ [] ≡ c.in_ok-rows-2.rows = ap (λ xs. rows ++ positions_of m (rest_of done xs) ∷ []) (sym c.deps.ensures.deps) ∙ sym c.in_ok-rows-2.ensures.rows in
-    let missing_are : missing ++ lacking m deps ≡ c.push_committed.new.missing.items = ap (λ xs. missing ++ lacking m (rest_of done xs)) (sym c.deps.ensures.deps) ∙ sym c.in_ok-rows-2.ensures.missing in
+    let rows_are : rows ++ positions_of m deps ∷ [] ≡ c.in_ok-rows-2.rows = ap (λ xs. rows ++ positions_of m (remaining_ids done xs) ∷ []) (sym c.deps.ensures.deps) ∙ sym c.in_ok-rows-2.ensures.rows in
+    let missing_are : missing ++ missing_of m deps ≡ c.push_committed.new.missing.items = ap (λ xs. missing ++ missing_of m (remaining_ids done xs)) (sym c.deps.ensures.deps) ∙ sym c.in_ok-rows-2.ensures.missing in
     subst (IsGatheredOf m part c.in_ok-rows-2.rows) missing_are
-    (subst (λ (r : List (List ℕ)). IsGatheredOf m part r (missing ++ lacking m deps)) rows_are
+    (subst (λ (r : List (List ℕ)). IsGatheredOf m part r (missing ++ missing_of m deps)) rows_are
     (gathered_more m c.args.part.start c.loop-place.place (without_deps done e) rows missing c.loop-place.auto.place c.entry_at.ensures (rest_rises done e.deps c.deps.ensures.fits.rising) c.loop-place.invariant))
 
 pub returns : goal.returns

@@ -1,5 +1,5 @@
 use Rattle.std.proofs.Common.{slice_range}
-use Rattle.epx_graph.specs.Left.{left_of}
+use Rattle.epx_graph.specs.Remainder.{left_of}
 use Rattle.epx_graph.specs.Nodes.{IsGatheredOf}
 use Rattle.epx_graph.proofs.committed.gather_part.Given as goal
 

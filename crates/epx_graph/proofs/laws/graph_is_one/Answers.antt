@@ -1,4 +1,4 @@
-use Rattle.epx_graph.proofs.OneGraph.{graph_is_one}
+use Rattle.epx_graph.proofs.GraphUniquenessLemmas.{graph_is_one}
 use Rattle.epx_graph.proofs.laws.graph_is_one.Goals as goal
 
 pub returns : goal.returns

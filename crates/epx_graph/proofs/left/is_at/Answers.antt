@@ -1,6 +1,6 @@
 use Rattle.std.proofs.Common.{◌≡◌, get_or, sym, ◌∙◌}
 use Rattle.epx_types.specs.declared.id.Id.{Id}
-use Rattle.epx_graph.proofs.Neighbours.{other_default, same_from_eq}
+use Rattle.epx_graph.proofs.NeighbourLemmas.{other_default, same_from_eq}
 use Rattle.epx_graph.proofs.left.is_at.Goals as goal
 
 pub returns-then-place-done : goal.returns-then-place-done

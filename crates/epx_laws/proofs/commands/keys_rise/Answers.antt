@@ -1,4 +1,4 @@
-use Rattle.epx_types.proofs.KeyLists.{AllPairs-rising_keys, Contains-rising_keys, Contains-from_rising_keys}
+use Rattle.epx_types.proofs.keys.KeyListLemmas.{AllPairs-rising_keys, Contains-rising_keys, Contains-from_rising_keys}
 use Rattle.epx_laws.proofs.commands.keys_rise.Goals as goal
 
 pub returns : goal.returns

@@ -1,5 +1,5 @@
-use Rattle.epx_types.proofs.LevelLemmas.{IsLevel-below}
+use Rattle.epx_types.proofs.levels.LevelLemmas.{IsLevel-rises}
 use Rattle.epx_laws.proofs.levels.conflicts_climb.Goals as goal
 
 pub returns : goal.returns
-returns c = IsLevel-below
+returns c = IsLevel-rises

@@ -1,5 +1,5 @@
-use Rattle.epx_types.proofs.Reaching.{IsReady-not_waiting}
-use Rattle.epx_types.proofs.Waiting.{IsReady-from_no_wait}
+use Rattle.epx_types.proofs.graph.ReachingLemmas.{IsReady-not_waiting}
+use Rattle.epx_types.proofs.graph.WaitingLemmas.{IsReady-from_no_wait}
 use Rattle.epx_laws.proofs.reaching.ready_waits_for_nothing.Goals as goal
 
 pub returns : goal.returns

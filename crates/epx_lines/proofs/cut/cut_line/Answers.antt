@@ -1,5 +1,5 @@
 use Rattle.std.proofs.Common.{arith}
-use Rattle.epx_lines.proofs.FirstLine.{lines_of-first, lines_of-last, line_before, line_at_end}
+use Rattle.epx_lines.proofs.FirstLineLemmas.{lines_of-first, lines_of-last, line_before, line_at_end}
 use Rattle.epx_lines.proofs.cut.cut_line.Goals as goal
 
 pub returns-in-Some-clause-lines : goal.returns-in-Some-clause-lines

@@ -1,5 +1,5 @@
 use Rattle.std.proofs.Common.{rules}
-use Rattle.epx_lines.proofs.FirstLine.{line_more, line_none}
+use Rattle.epx_lines.proofs.FirstLineLemmas.{line_more, line_none}
 use Rattle.epx_lines.proofs.cut.cut_lines.Goals as goal
 
 pub loop-rest-preserved : goal.loop-rest-preserved

@@ -1,11 +1,11 @@
 use Rattle.std.proofs.Common.{◌≤◌, length}
 use Rattle.epx_lines.specs.DependencyList.{id_of}
-use Rattle.epx_lines.proofs.TokenValues.{HasTaken}
+use Rattle.epx_lines.proofs.TokenValueLemmas.{HasReadItems}
 use Rattle.epx_lines.proofs.direct.take_ids.Given as goal
 
 abbrev pub invariant-loop-ids : goal.invariant-loop-ids
 invariant-loop-ids l = record {
-  taken : HasTaken 1 id_of l.initial.reader l.ids.items l.reader;
+  taken : HasReadItems 1 id_of l.initial.reader l.ids.items l.reader;
   few : length l.ids.items ≤ 256;
 }
 

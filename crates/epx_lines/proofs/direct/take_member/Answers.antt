@@ -1,6 +1,6 @@
 use Rattle.std.proofs.Common.{◌≡◌, codes, arith, rules}
-use Rattle.epx_lines.proofs.TokenValues.{BeginsWith-deeper}
-use Rattle.epx_lines.proofs.Parts.{HoldsParts-replica, HoldsParts-number, HoldsParts-seq, HoldsParts-named, HoldsParts-ops, HoldsParts-status}
+use Rattle.epx_lines.proofs.TokenValueLemmas.{BeginsWith-deeper}
+use Rattle.epx_lines.proofs.EntryPartLemmas.{HoldsParts-replica, HoldsParts-number, HoldsParts-seq, HoldsParts-named, HoldsParts-ops, HoldsParts-status}
 use Rattle.epx_lines.proofs.direct.take_member.Goals as goal
 
 pub returns-in_ok-take_replica : goal.returns-in_ok-take_replica

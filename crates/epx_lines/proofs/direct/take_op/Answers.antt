@@ -4,7 +4,7 @@ use Rattle.json.specs.Json.{after_end_array}
 use Rattle.json.specs.Reads.{token_of}
 use Rattle.serde_json.specs.Data.{string}
 use Rattle.epx_lines.specs.OperationList.{op_with_key, op_of_list, op_of}
-use Rattle.epx_lines.proofs.TokenValues.{GivesInTurn-array, op_of_list-keyed, op_of_list-keyed_with}
+use Rattle.epx_lines.proofs.TokenValueLemmas.{ParsesAllTo-array, op_of_list-op_pair, op_of_list-op_triple}
 use Rattle.epx_lines.proofs.direct.take_op.Goals as goal
 
 pub returns-then-take_end_array : goal.returns-then-take_end_array
@@ -16,10 +16,10 @@ returns-then-take_end_array c =
     let name = c.in_ok-name.name.now in
     let key = c.in_ok-key.ensures in
     let op : op_with_key name c.in_ok-key.key ≡ Some c.in_ok-op_named.field-0 = search rules in
-    rw opens (GivesInTurn-array 0 op_of_list _ _ c.take_key.new.reader _ (
+    rw opens (ParsesAllTo-array 0 op_of_list _ _ c.take_key.new.reader _ (
       string name ∷ key.0 ∷ [],
       (_, c.in_ok-name.ensures, (_, key.1, refl)),
-      op_of_list-keyed name key.0 _ _ key.2 op,
+      op_of_list-op_pair name key.0 _ _ key.2 op,
     ) end)
 
 pub returns : goal.returns
@@ -32,8 +32,8 @@ returns c =
     let name = c.in_ok-name.name.now in
     let key = c.in_ok-key.ensures in
     let g = c.in_ok-op.ensures in
-    rw opens (GivesInTurn-array 0 op_of_list _ _ c.take_op_with.new.reader _ (
+    rw opens (ParsesAllTo-array 0 op_of_list _ _ c.take_op_with.new.reader _ (
       string name ∷ key.0 ∷ g.0 ∷ [],
       (_, c.in_ok-name.ensures, (_, key.1, (_, rw (← same) g.1, refl))),
-      op_of_list-keyed_with name key.0 _ g.0 _ key.2 g.2,
+      op_of_list-op_triple name key.0 _ g.0 _ key.2 g.2,
     ) end)

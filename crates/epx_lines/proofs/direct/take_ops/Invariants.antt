@@ -1,11 +1,11 @@
 use Rattle.std.proofs.Common.{◌≤◌, length}
 use Rattle.epx_lines.specs.OperationList.{op_of}
-use Rattle.epx_lines.proofs.TokenValues.{HasTaken}
+use Rattle.epx_lines.proofs.TokenValueLemmas.{HasReadItems}
 use Rattle.epx_lines.proofs.direct.take_ops.Given as goal
 
 abbrev pub invariant-loop-ops : goal.invariant-loop-ops
 invariant-loop-ops l = record {
-  taken : HasTaken 1 op_of l.initial.reader l.ops.items l.reader;
+  taken : HasReadItems 1 op_of l.initial.reader l.ops.items l.reader;
   few : length l.ops.items ≤ 64;
 }
 

@@ -5,7 +5,7 @@ use Rattle.json.specs.Reads.{token_of}
 use Rattle.json.proofs.Grammar.{read_key-shorter}
 use Rattle.serde_json.specs.Data.{no_members}
 use Rattle.epx_lines.specs.Tokens.{HoldsParts}
-use Rattle.epx_lines.proofs.TokenValues.{BeginsWith-shorter, HasMembers-more, HasMembers-all, put_each, put_each-last}
+use Rattle.epx_lines.proofs.TokenValueLemmas.{BeginsWith-shorter, HasReadMembers-more, HasReadMembers-all, put_members, put_members-last}
 use Rattle.epx_lines.proofs.direct.take_parts.Goals as goal
 
 pub loop-parts-smaller : goal.loop-parts-smaller
@@ -22,8 +22,8 @@ loop-parts-preserved c =
     let k = c.in-Some.name.now in
     let named : read_key l.reader ≡ Some (Some k, c.next_key.new.self) = grind arith in
     let added = c.in_ok-take_member.ensures in
-    HasMembers-more 2 c.next.new.self (λ ms. HoldsParts (put_each ms no_members) l.parts) (λ ms. HoldsParts (put_each ms no_members) c.take_member.new.parts) k added.0 l.reader c.next_key.new.self c.take_member.new.reader l.invariant named added.1
-    (λ ms h. rw (put_each-last ms (k, added.0) no_members) (added.2 (put_each ms no_members) h))
+    HasReadMembers-more 2 c.next.new.self (λ ms. HoldsParts (put_members ms no_members) l.parts) (λ ms. HoldsParts (put_members ms no_members) c.take_member.new.parts) k added.0 l.reader c.next_key.new.self c.take_member.new.reader l.invariant named added.1
+    (λ ms h. rw (put_members-last ms (k, added.0) no_members) (added.2 (put_members ms no_members) h))
 
 pub returns : goal.returns
 returns c =
@@ -31,5 +31,5 @@ returns c =
     let first : c.args.reader.now ≡ token_of c.in_ok-next.field-0 ∷ c.next.new.self = grind arith in
     let is : c.args.reader.now ≡ Token.begin_object ∷ c.next.new.self = grind (arith, first) in
     let end : read_key l.reader ≡ Some (None, c.next_key.new.self) = grind arith in
-    let all = HasMembers-all 2 c.next.new.self (λ ms. HoldsParts (put_each ms no_members) l.parts) l.reader c.next_key.new.self l.invariant end in
-    (put_each all.0 no_members, rw is all.2, all.1)
+    let all = HasReadMembers-all 2 c.next.new.self (λ ms. HoldsParts (put_members ms no_members) l.parts) l.reader c.next_key.new.self l.invariant end in
+    (put_members all.0 no_members, rw is all.2, all.1)

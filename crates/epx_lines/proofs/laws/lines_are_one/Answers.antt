@@ -1,4 +1,4 @@
-use Rattle.epx_lines.proofs.LineLaw.{lines_are_one}
+use Rattle.epx_lines.proofs.LineLemmas.{lines_are_one}
 use Rattle.epx_lines.proofs.laws.lines_are_one.Goals as goal
 
 pub returns : goal.returns

@@ -1,4 +1,4 @@
-use Rattle.epx_lines.proofs.LineLaw.{lines_are}
+use Rattle.epx_lines.proofs.LineLemmas.{lines_are}
 use Rattle.epx_lines.proofs.laws.lines_make_up_the_bytes.Goals as goal
 
 pub returns : goal.returns

@@ -3,7 +3,7 @@ use Rattle.std.proofs.lemmas.Grind.{common_steps}
 use Rattle.serde_json.specs.View.{view}
 use Rattle.epx_lines.specs.Elements.{signed}
 use Rattle.epx_lines.specs.OperationList.{key_of, op_with_value}
-use Rattle.epx_lines.proofs.OperationValues.{value_or_null-neither}
+use Rattle.epx_lines.proofs.OperationValueLemmas.{value_or_null-neither}
 use Rattle.epx_lines.proofs.ops.op_named_with.Goals as goal
 
 pub returns-in_default-2 : goal.returns-in_default-2

@@ -2,7 +2,7 @@ use Rattle.std.proofs.Common.{◌+◌, ◌++◌, drop, option_map, sym, ap, ◌�
 use Rattle.serde_json.specs.View.{view}
 use Rattle.epx_lines.specs.Elements.{every}
 use Rattle.epx_lines.specs.OperationList.{op_of}
-use Rattle.epx_lines.proofs.Elements.{ops_of_many, ops_begin, read_one_more}
+use Rattle.epx_lines.proofs.ElementLemmas.{ops_of_many, ops_begin, read_one_more}
 use Rattle.epx_lines.proofs.ops.read_ops.Goals as goal
 
 pub returns-then-len-gt-MAX_OPS : goal.returns-then-len-gt-MAX_OPS

@@ -1,5 +1,5 @@
 use Rattle.std.proofs.Common.{[], ◌∷◌, refl}
-use Rattle.epx_lines.proofs.TokenValues.{id_of_pair-scalars}
+use Rattle.epx_lines.proofs.TokenValueLemmas.{id_of_pair-scalars}
 use Rattle.epx_lines.proofs.tokens.take_id_parts.Goals as goal
 
 pub returns : goal.returns

@@ -1,7 +1,7 @@
 use Rattle.std.proofs.Common.{◌≡◌, ◌∷◌, arith}
 use Rattle.json.specs.Token.{Token}
 use Rattle.json.specs.Reads.{token_of}
-use Rattle.epx_lines.proofs.TokenValues.{BeginsWith-string}
+use Rattle.epx_lines.proofs.TokenValueLemmas.{BeginsWith-string}
 use Rattle.epx_lines.proofs.tokens.take_text.Goals as goal
 
 pub returns-in-String : goal.returns-in-String

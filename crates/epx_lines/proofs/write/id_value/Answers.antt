@@ -1,5 +1,5 @@
 use Rattle.std.proofs.Common.{arith}
-use Rattle.epx_lines.proofs.WrittenParts.{FitsId_here}
+use Rattle.epx_lines.proofs.WrittenPartLemmas.{FitsId_here}
 use Rattle.epx_lines.proofs.write.id_value.Goals as goal
 
 pub returns-in-Ok-json-4-clause-fits : goal.returns-in-Ok-json-4-clause-fits

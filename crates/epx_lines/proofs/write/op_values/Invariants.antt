@@ -2,11 +2,11 @@ use Rattle.std.proofs.Common.{◌≡◌, map, take}
 use Rattle.std.specs.List.{All}
 use Rattle.serde_json.specs.View.{view}
 use Rattle.epx_lines.specs.Text.{data_of_op}
-use Rattle.epx_lines.specs.WrittenParts.{FitsOp}
+use Rattle.epx_lines.specs.WrittenParts.{IsWritableOp}
 use Rattle.epx_lines.proofs.write.op_values.Given as goal
 
 abbrev pub invariant-loop-op : goal.invariant-loop-op
 invariant-loop-op l = record {
   written : map view l.values.items ≡ map data_of_op (take l.op-index l.ops);
-  fit : All FitsOp (take l.op-index l.ops);
+  fit : All IsWritableOp (take l.op-index l.ops);
 }

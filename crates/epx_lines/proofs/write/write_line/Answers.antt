@@ -2,8 +2,8 @@ use Rattle.std.proofs.Common.{◌≡◌, ap, ◌∙◌, string_bytes}
 use Rattle.std.proofs.lemmas.Str.{IsUtf8-string_bytes}
 use Rattle.serde_json.specs.Written.{has_float, compact_text}
 use Rattle.epx_lines.specs.Text.{line_text}
-use Rattle.epx_lines.proofs.NoFloat.{no_float-line}
-use Rattle.epx_lines.proofs.WrittenLines.{reads_back, meaning_of-written}
+use Rattle.epx_lines.proofs.FloatLemmas.{no_float-line}
+use Rattle.epx_lines.proofs.WrittenLineLemmas.{reads_back, meaning_of-written}
 use Rattle.epx_lines.proofs.write.write_line.Goals as goal
 
 -- the text of the entry's object

@@ -1,6 +1,6 @@
 use Rattle.std.proofs.Common.{[]}
 use Rattle.epx_merge.specs.EntryLines.{entry_lines}
-use Rattle.epx_merge.proofs.EntryOrder.{entries_in_order}
+use Rattle.epx_merge.proofs.EntryOrderLemmas.{entries_in_order}
 use Rattle.epx_merge.proofs.entries.from_entries.Goals as goal
 
 -- a ledger of no lines becomes a ledger of the lines once they are noted

@@ -1,4 +1,4 @@
-use Rattle.epx_merge.proofs.OneRefusal.{accepted_not_refused}
+use Rattle.epx_merge.proofs.UniquenessLemmas.{accepted_not_refused}
 use Rattle.epx_merge.proofs.laws.accepted_is_not_refused.Goals as goal
 
 pub returns : goal.returns

@@ -1,4 +1,4 @@
-use Rattle.epx_merge.proofs.PlaceOrder.{first_bad_line_least}
+use Rattle.epx_merge.proofs.PlaceOrderLemmas.{first_bad_line_least}
 use Rattle.epx_merge.proofs.laws.named_bad_line_is_least.Goals as goal
 
 pub returns : goal.returns

@@ -1,4 +1,4 @@
-use Rattle.epx_merge.proofs.OneRefusal.{refusal_unique}
+use Rattle.epx_merge.proofs.UniquenessLemmas.{refusal_unique}
 use Rattle.epx_merge.proofs.laws.refusal_is_one.Goals as goal
 
 pub returns : goal.returns

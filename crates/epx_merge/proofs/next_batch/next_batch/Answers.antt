@@ -1,6 +1,6 @@
 use Rattle.std.proofs.Common.{rules}
-use Rattle.epx_merge.specs.Repeats.{IsRedundantIn}
-use Rattle.epx_merge.proofs.BatchLines.{batch_none, batch_more, batch_redundant}
+use Rattle.epx_merge.specs.RedundantLines.{IsRedundantIn}
+use Rattle.epx_merge.proofs.BatchLemmas.{batch_none, batch_more, batch_redundant}
 use Rattle.epx_merge.proofs.next_batch.next_batch.Goals as goal
 
 pub loop-walk-init : goal.loop-walk-init
@@ -9,7 +9,7 @@ loop-walk-init c = (batch_none c.args.walk.now _ c.args.table.now c.new-lines.en
 pub loop-walk-preserved-in-Continue-1 : goal.loop-walk-preserved-in-Continue-1
 loop-walk-preserved-in-Continue-1 c = (
   batch_more c.args.walk.now c.loop-walk.walk c.next_line.new.self c.loop-walk.lines.items c.in-Some.line c.args.table.now c.loop-walk.table c.is_redundant.new.table c.in-Some.ensures c.is_redundant.ensures.held c.loop-walk.invariant.0 _ c.in_ok-push.ensures.items,
-  search (rules, c.lines_at_once-most.ensures.few),
+  search (rules, c.batch_len-most.ensures.few),
 )
 
 pub loop-walk-preserved : goal.loop-walk-preserved

@@ -1,20 +1,20 @@
 use Rattle.std.proofs.Common.{◌≡◌, ◌∷◌, ◌∙◌, ap, sym, subst}
 use Rattle.std.proofs.lemmas.List.{nil_from_length}
-use Rattle.epx_merge.specs.Ledgers.{Notes}
+use Rattle.epx_merge.specs.Ledgers.{NotesLines}
 use Rattle.epx_merge.specs.ReadPieces.{AreRead}
-use Rattle.epx_merge.proofs.Noting.{Notes-nil, Notes-append}
-use Rattle.epx_merge.proofs.NextLines.{gathering_none, gathering_more, gathering_bad, gathering_all}
+use Rattle.epx_merge.proofs.LedgerLemmas.{NotesLines-nil, NotesLines-append}
+use Rattle.epx_merge.proofs.ReadPieceLemmas.{gathering_none, gathering_more, gathering_bad, gathering_all}
 use Rattle.epx_merge.proofs.pieces.note_pieces.Goals as goal
 
 pub loop-piece-init : goal.loop-piece-init
 loop-piece-init c = λ lines all.
-    gathering_none _ lines _ _ (Notes-nil c.args.ledger.now) (subst (AreRead (λ given entries. entries.items ≡ given) lines) (sym c.into_iter-piece-iterator.ensures.into_iter_gives.0) all)
+    gathering_none _ lines _ _ (NotesLines-nil c.args.ledger.now) (subst (AreRead (λ given entries. entries.items ≡ given) lines) (sym c.into_iter-piece-iterator.ensures.into_iter_gives.0) all)
 
 pub loop-piece-preserved : goal.loop-piece-preserved
 loop-piece-preserved c = λ lines all.
     gathering_more _ lines _ _ _ _ c.in-Ok.entries (c.in-Some.ensures.steps.0 ∙ ap (λ p. p ∷ c.next.new.self.rest.items) c.in-Ok.is)
-    (λ xs ys before is. Notes-append xs ys c.args.ledger.now c.loop-piece.ledger c.note_entries.new.ledger before
-    (subst (λ es. Notes es c.loop-piece.ledger c.note_entries.new.ledger) is c.in_ok-note_entries-in-Ok.ensures))
+    (λ xs ys before is. NotesLines-append xs ys c.args.ledger.now c.loop-piece.ledger c.note_entries.new.ledger before
+    (subst (λ es. NotesLines es c.loop-piece.ledger c.note_entries.new.ledger) is c.in_ok-note_entries-in-Ok.ensures))
     (c.loop-piece.invariant lines all)
 
 pub returns-in-Err : goal.returns-in-Err

@@ -1,11 +1,11 @@
 use Rattle.std.proofs.Common.{◌≡◌, List}
-use Rattle.epx_merge.specs.Ledgers.{Notes}
+use Rattle.epx_merge.specs.Ledgers.{NotesLines}
 use Rattle.epx_merge.specs.LogLines.{MeaningAt}
 use Rattle.epx_merge.specs.ReadPieces.{AreRead}
-use Rattle.epx_merge.proofs.NextLines.{IsGathering}
+use Rattle.epx_merge.proofs.ReadPieceLemmas.{IsGathering}
 use Rattle.epx_merge.proofs.pieces.note_pieces.Given as goal
 
 abbrev pub invariant-loop-piece : goal.invariant-loop-piece
 invariant-loop-piece l =
     (lines : List MeaningAt) → AreRead (λ given entries. entries.items ≡ given) lines l.fn.pieces.items
-    → IsGathering (λ given entries. entries.items ≡ given) lines (λ given. Notes given l.fn.ledger l.ledger) l.piece-iterator.rest.items
+    → IsGathering (λ given entries. entries.items ≡ given) lines (λ given. NotesLines given l.fn.ledger l.ledger) l.piece-iterator.rest.items

@@ -1,4 +1,4 @@
-use Rattle.epx_merge.proofs.NextLines.{reading_none}
+use Rattle.epx_merge.proofs.ReadPieceLemmas.{reading_none}
 use Rattle.epx_merge.proofs.pieces.read_lines.Goals as goal
 
 pub loop-line-init : goal.loop-line-init

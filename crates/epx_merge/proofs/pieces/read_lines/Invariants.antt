@@ -1,5 +1,5 @@
 use Rattle.std.proofs.Common.{drop}
-use Rattle.epx_merge.proofs.NextLines.{IsReading}
+use Rattle.epx_merge.proofs.ReadPieceLemmas.{IsReading}
 use Rattle.epx_merge.proofs.pieces.read_lines.Given as goal
 
 abbrev pub invariant-loop-line : goal.invariant-loop-line

@@ -1,4 +1,4 @@
-use Rattle.epx_order.proofs.DoubtfulTouches.{AreFound, HoldFound}
+use Rattle.epx_order.proofs.DoubtfulTouchLemmas.{AreFound, HoldFound}
 use Rattle.epx_order.proofs.doubtful_touches.doubtful_touches.Given as goal
 
 abbrev pub invariant-loop-touch : goal.invariant-loop-touch

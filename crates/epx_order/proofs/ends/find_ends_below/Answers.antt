@@ -22,8 +22,8 @@ loop-node-preserved c =
     let was : c.index.result.now ≡ number_for p below (node_at p i) = get_or_read below _ _ (omega (arith, own)) c.index.ensures 0 ∙ ap (λ x. get_or below x 0) own in
     record {
       len = length-set below c.index-own.result.now c.max.result ∙ c.loop-node.invariant.len;
-      below = rw own (ends_below_step edges p is ends below i c.end_over-over.result c.max.result in' own_in
-          (rw (c.edges.ensures.edges, order, c.deref.ensures.value, c.deref-in-loop-node.ensures.value, own) at c.end_over-over.ensures)
+      below = rw own (ends_below_step edges p is ends below i c.greatest_end-over.result c.max.result in' own_in
+          (rw (c.edges.ensures.edges, order, c.deref.ensures.value, c.deref-in-loop-node.ensures.value, own) at c.greatest_end-over.ensures)
           (rw was at c.max.ensures) c.loop-node.invariant.below);
     }
 

@@ -1,4 +1,4 @@
-use Rattle.epx_order.proofs.OneFault.{lawful_has_no_fault}
+use Rattle.epx_order.proofs.UniqueFaultLemmas.{lawful_has_no_fault}
 use Rattle.epx_order.proofs.laws.lawful_order_has_no_fault.Goals as goal
 
 pub returns : goal.returns

@@ -1,4 +1,4 @@
-use Rattle.epx_order.proofs.OnePair.{least_uncovered_is_one}
+use Rattle.epx_order.proofs.UniquePairLemmas.{least_uncovered_is_one}
 use Rattle.epx_order.proofs.laws.least_uncovered_pair_is_one.Goals as goal
 
 pub returns : goal.returns

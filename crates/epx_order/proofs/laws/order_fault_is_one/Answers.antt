@@ -1,4 +1,4 @@
-use Rattle.epx_order.proofs.OneFault.{fault_is_one}
+use Rattle.epx_order.proofs.UniqueFaultLemmas.{fault_is_one}
 use Rattle.epx_order.proofs.laws.order_fault_is_one.Goals as goal
 
 pub returns : goal.returns

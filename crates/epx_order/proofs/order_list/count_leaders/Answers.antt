@@ -1,5 +1,5 @@
 use Rattle.std.proofs.Common.{arith, sym, ◌∙◌}
-use Rattle.epx_order.proofs.RankLists.{leader_more, leader_no_more}
+use Rattle.epx_order.proofs.RankLemmas.{leader_more, leader_no_more}
 use Rattle.epx_order.proofs.order_list.count_leaders.Goals as goal
 use Rattle.epx_order.proofs.order_list.count_leaders.Goals.{then-eq, else-eq}
 

@@ -1,5 +1,5 @@
 use Rattle.std.proofs.Common.{◌∙◌}
-use Rattle.epx_order.proofs.RankLists.{ids_push}
+use Rattle.epx_order.proofs.RankLemmas.{ids_push}
 use Rattle.epx_order.proofs.order_list.ids_of.Goals as goal
 
 pub loop-rank-preserved : goal.loop-rank-preserved

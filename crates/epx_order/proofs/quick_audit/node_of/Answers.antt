@@ -1,8 +1,8 @@
 use Rattle.std.proofs.Common.{◌≡◌, None, Some, sym, ap, ◌∙◌}
 use Rattle.epx_types.specs.Instances.{Instance}
-use Rattle.epx_types.proofs.Membership.{Contains-from_map}
-use Rattle.epx_types.proofs.Places.{slice_get-from_Contains, slice_get-map}
-use Rattle.epx_types.proofs.PositionLemmas.{position_of-stands, position_of-found}
+use Rattle.epx_types.proofs.lists.MembershipLemmas.{Contains-from_map}
+use Rattle.epx_types.proofs.lists.ListPositionLemmas.{slice_get-from_Contains, slice_get-map}
+use Rattle.epx_types.proofs.committed.PositionLemmas.{position_of-instance, position_of-found}
 use Rattle.epx_order.proofs.quick_audit.node_of.Goals as goal
 
 pub unreachable-requires : goal.unreachable-requires
@@ -17,5 +17,5 @@ unreachable-requires c =
 pub returns : goal.returns
 returns c =
     let m = c.args.merged.now in
-    let e = position_of-stands m c.args.id c.in-Some.position (sym c.position.ensures ∙ c.in-Some.is) in
+    let e = position_of-instance m c.args.id c.in-Some.position (sym c.position.ensures ∙ c.in-Some.is) in
     slice_get-map (λ (d : Instance). d.id) m c.in-Some.position e.0 e.1 ∙ ap Some e.2

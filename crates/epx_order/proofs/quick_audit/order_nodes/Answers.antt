@@ -5,7 +5,7 @@ use Rattle.std.proofs.lemmas.Option.{slice_get-get_or, get_or_from_slice_get, sl
 use Rattle.epx_types.specs.declared.id.Id.{Id}
 use Rattle.epx_types.specs.CommittedMap.{ids_of}
 use Rattle.epx_types.specs.ExecutionOrder.{Ranked, ranked_ids}
-use Rattle.epx_types.proofs.Places.{slice_get-from_map, slice_get-map, Contains-slice_get}
+use Rattle.epx_types.proofs.lists.ListPositionLemmas.{slice_get-from_map, slice_get-map, Contains-slice_get}
 use Rattle.epx_types.specs.CommittedMap.{IsCommitted}
 use Rattle.epx_order.proofs.quick_audit.order_nodes.Goals as goal
 

@@ -1,8 +1,8 @@
 use Rattle.std.proofs.Common.{◌≡◌, None, option_copied, sym, ap, ◌∙◌}
 use Rattle.epx_types.specs.Instances.{Instance}
 use Rattle.epx_types.specs.CommittedMap.{instance_of}
-use Rattle.epx_types.proofs.AgreementLemmas.{instance_of_iff}
-use Rattle.epx_types.proofs.Membership.{Contains-from_map}
+use Rattle.epx_types.proofs.committed.AgreementLemmas.{instance_of_iff}
+use Rattle.epx_types.proofs.lists.MembershipLemmas.{Contains-from_map}
 use Rattle.epx_order.proofs.ready.entry_of.Goals as goal
 
 pub unreachable-requires : goal.unreachable-requires

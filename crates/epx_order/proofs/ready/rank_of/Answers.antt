@@ -1,10 +1,10 @@
 use Rattle.std.proofs.Common.{sym, ◌∙◌}
 use Rattle.std.proofs.lemmas.Bool.{false≢true}
 use Rattle.epx_types.specs.Done.{remaining}
-use Rattle.epx_types.proofs.DoneLemmas.{Contains-remaining_iff}
-use Rattle.epx_graph.proofs.MapPaths.{node_committed}
-use Rattle.epx_components.proofs.ReadyRanks.{rank_left}
-use Rattle.epx_components.proofs.ReadyNodes.{node_from_ready}
+use Rattle.epx_types.proofs.remaining.RemainingLemmas.{Contains-remaining_iff}
+use Rattle.epx_graph.proofs.MapPathLemmas.{node_committed}
+use Rattle.epx_components.proofs.ReadyRankLemmas.{rank_left}
+use Rattle.epx_components.proofs.ReadyNodeLemmas.{node_from_ready}
 use Rattle.epx_order.proofs.ready.rank_of.Goals as goal
 
 pub returns-then-node_rank-clause-none : goal.returns-then-node_rank-clause-none

@@ -2,7 +2,7 @@ use Rattle.std.proofs.Common.{List}
 use Rattle.epx_types.specs.declared.id.Id.{Id}
 use Rattle.epx_types.specs.Done.{remaining}
 use Rattle.epx_graph.specs.GraphOf.{IsGraphOf}
-use Rattle.epx_order.proofs.GatheredRanks.{AreGathered}
+use Rattle.epx_order.proofs.ReadyRankLemmas.{AreGathered}
 use Rattle.epx_order.proofs.ready.ready_ranks.Given as goal
 
 abbrev pub invariant-loop-node : goal.invariant-loop-node

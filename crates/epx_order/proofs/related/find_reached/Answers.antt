@@ -6,31 +6,31 @@ use Rattle.epx_components.specs.Partitions.{parts, component_of, node_at, number
 use Rattle.epx_components.proofs.PartitionLemmas.{node_below, component_below}
 use Rattle.epx_order.specs.SourceBits.{has_bit}
 use Rattle.epx_order.proofs.BitLemmas.{no_bit}
-use Rattle.epx_order.proofs.ReachedBits.{AreReachedBits, homes_below, reached_bits_first, reached_bits_step, reached_bits_skip, reached_bits_all}
+use Rattle.epx_order.proofs.ReachedBitLemmas.{AreReachedBits, source_components_below, reached_bits_first, reached_bits_step, reached_bits_skip, reached_bits_all}
 use Rattle.epx_order.proofs.related.find_reached.Goals as goal
 
 pub source_marks-requires-clause-in_range : goal.source_marks-requires-clause-in_range
 source_marks-requires-clause-in_range c =
     let p = parts c.args.partition.now in
     let sources = c.args.sources.now in
-    let homes = c.in_ok-homes.homes.items in
-    let same : homes ≡ map (λ k. get_or p.component k 0) sources = c.in_ok-homes.ensures ∙ ap (λ component. map (λ k. get_or component k 0) sources) c.deref.ensures.value in
+    let source_components = c.in_ok-source_components.source_components.items in
+    let same : source_components ≡ map (λ k. get_or p.component k 0) sources = c.in_ok-source_components.ensures ∙ ap (λ component. map (λ k. get_or component k 0) sources) c.deref.ensures.value in
     let below : (b : ℕ) → b < length sources → get_or sources b 0 < length p.component = λ b l. omega (arith, All-get_or (λ k. k < length c.args.graph.now.ids) sources b 0 l c.requires.sources, c.requires.partition.each_node) in
-    subst (All (λ s. s < p.count)) (sym c.deref-2.ensures.value) (homes_below (edges_of c.args.graph.now) p c.requires.partition.is sources homes below same)
+    subst (All (λ s. s < p.count)) (sym c.deref-2.ensures.value) (source_components_below (edges_of c.args.graph.now) p c.requires.partition.is sources source_components below same)
 
 pub loop-position-init : goal.loop-position-init
 loop-position-init c =
     let edges = edges_of c.args.graph.now in
     let p = parts c.args.partition.now in
     let sources = c.args.sources.now in
-    let homes = c.in_ok-homes.homes.items in
+    let source_components = c.in_ok-source_components.source_components.items in
     let words = c.in_ok-words.words.items in
-    let same : homes ≡ map (λ k. get_or p.component k 0) sources = c.in_ok-homes.ensures ∙ ap (λ component. map (λ k. get_or component k 0) sources) c.deref.ensures.value in
+    let same : source_components ≡ map (λ k. get_or p.component k 0) sources = c.in_ok-source_components.ensures ∙ ap (λ component. map (λ k. get_or component k 0) sources) c.deref.ensures.value in
     let below : (b : ℕ) → b < length sources → get_or sources b 0 < length p.component = λ b l. omega (arith, All-get_or (λ k. k < length c.args.graph.now.ids) sources b 0 l c.requires.sources, c.requires.partition.each_node) in
     let marks = rw c.deref-2.ensures.value at c.in_ok-words.ensures.marks in
     record {
       len = c.in_ok-words.ensures.len;
-      marks = subst (AreReachedBits edges p sources words) (omega (arith, c.len-position.ensures)) (reached_bits_first edges p c.requires.partition.is sources words homes below same marks);
+      marks = subst (AreReachedBits edges p sources words) (omega (arith, c.len-position.ensures)) (reached_bits_first edges p c.requires.partition.is sources words source_components below same marks);
     }
 
 pub loop-position-preserved-then-word-ne0 : goal.loop-position-preserved-then-word-ne0

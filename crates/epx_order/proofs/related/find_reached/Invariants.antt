@@ -1,7 +1,7 @@
 use Rattle.std.proofs.Common.{◌≡◌, length}
 use Rattle.epx_graph.specs.Graphs.{edges_of}
 use Rattle.epx_components.specs.Partitions.{parts}
-use Rattle.epx_order.proofs.ReachedBits.{AreReachedBits}
+use Rattle.epx_order.proofs.ReachedBitLemmas.{AreReachedBits}
 use Rattle.epx_order.proofs.related.find_reached.Given as goal
 
 abbrev pub invariant-loop-position : goal.invariant-loop-position

@@ -4,7 +4,7 @@ use Rattle.epx_graph.specs.Graphs.{edges_of}
 use Rattle.epx_components.specs.Partitions.{parts, component_of, node_at}
 use Rattle.epx_components.proofs.PartitionLemmas.{node_below, component_below}
 use Rattle.epx_order.specs.SourceBits.{has_bit, LeadsToBit}
-use Rattle.epx_order.proofs.ReachedBits.{AreReachingBits, reaching_bits_first, reaching_bits_more, reaching_bits_all}
+use Rattle.epx_order.proofs.ReachedBitLemmas.{AreReachingBits, reaching_bits_first, reaching_bits_more, reaching_bits_all}
 use Rattle.epx_order.proofs.related.find_reaching.Goals as goal
 
 pub loop-node-init : goal.loop-node-init
@@ -35,10 +35,10 @@ loop-node-preserved c =
     let home : c.index.result.now ≡ component_of p (node_at p i) = get_or_read p.component _ _ (omega (arith, node_in, same_node)) c.index.ensures 0 ∙ ap (λ x. get_or p.component x 0) same_node in
     let home_in : component_of p (node_at p i) < length words = omega (arith, component_below edges p is (node_at p i) node_in, old.len) in
     let read : c.index_mut.result.now ≡ get_or words (component_of p (node_at p i)) 0 = get_or_read words _ _ (omega (arith, home, home_in)) c.index_mut.ensures.value 0 ∙ ap (λ x. get_or words x 0) home in
-    let leads : (b : ℕ) → IsTrue (has_bit b c.marks_over-over.result) ↔ LeadsToBit p.component words (edges (node_at p i)) b = rw (c.edges.ensures.edges, c.deref.ensures.value, c.deref-in-loop-node.ensures.value, same_node) at c.marks_over-over.ensures in
+    let leads : (b : ℕ) → IsTrue (has_bit b c.target_marks-over.result) ↔ LeadsToBit p.component words (edges (node_at p i)) b = rw (c.edges.ensures.edges, c.deref.ensures.value, c.deref-in-loop-node.ensures.value, same_node) at c.target_marks-over.ensures in
     record {
       len = length-set words _ _ ∙ old.len;
-      marks = rw (home, read, same_node) (reaching_bits_more edges p is sources own_words words c.requires.own i c.marks_over-over.result leads in' home_in old.marks);
+      marks = rw (home, read, same_node) (reaching_bits_more edges p is sources own_words words c.requires.own i c.target_marks-over.result leads in' home_in old.marks);
     }
 
 pub returns-clause-reaching : goal.returns-clause-reaching

@@ -1,7 +1,7 @@
 use Rattle.std.proofs.Common.{◌≡◌, length}
 use Rattle.epx_graph.specs.Graphs.{edges_of}
 use Rattle.epx_components.specs.Partitions.{parts}
-use Rattle.epx_order.proofs.ReachedBits.{AreReachingBits}
+use Rattle.epx_order.proofs.ReachedBitLemmas.{AreReachingBits}
 use Rattle.epx_order.proofs.related.find_reaching.Given as goal
 
 abbrev pub invariant-loop-node : goal.invariant-loop-node

@@ -1,6 +1,6 @@
 use Rattle.std.proofs.Common.{◌<◌, length, length-set, get_or, ◌∙◌, arith}
 use Rattle.std.proofs.lemmas.List.Elements.{All-get_or}
-use Rattle.epx_order.proofs.TargetBits.{added_more}
+use Rattle.epx_order.proofs.TargetBitLemmas.{added_more}
 use Rattle.epx_order.proofs.related.mark_targets.Goals as goal
 
 pub loop-target-preserved : goal.loop-target-preserved

@@ -3,7 +3,7 @@ use Rattle.std.proofs.lemmas.List.{get_or_read}
 use Rattle.std.proofs.lemmas.List.Elements.{Contains-get_or}
 use Rattle.epx_order.specs.declared.doubtful_touches.DoubtfulTouch.{DoubtfulTouch}
 use Rattle.epx_order.specs.SourceBits.{HasBitsOf}
-use Rattle.epx_order.proofs.SharingBits.{doubtful_at, doubtful_numbered, AreKeyed, keyed_more, keyed_same}
+use Rattle.epx_order.proofs.SharingMarkLemmas.{doubtful_at, doubtful_at_index, AreKeyed, keyed_more, keyed_same}
 use Rattle.epx_order.proofs.sharing_marks.key_marks.Goals as goal
 use Rattle.epx_order.proofs.sharing_marks.key_marks.Goals.{then-touch, else-touch+else-not-only_writes}
 
@@ -64,6 +64,6 @@ returns-clause-marks c t h one =
     let touches = c.args.doubtful.now.touches.items in
     let own = c.args.own.now in
     let words = c.loop-touch.words.items in
-    let at = doubtful_numbered touches t h in
+    let at = doubtful_at_index touches t h in
     let which : IsFalse c.args.only_writes ⊎ IsTrue (doubtful_at touches h.0).writes = subst (λ (t : DoubtfulTouch). IsFalse c.args.only_writes ⊎ IsTrue t.writes) (sym at) one in
     subst (λ (t : DoubtfulTouch). HasBitsOf (get_or own t.node 0) (get_or words t.key 0)) at (c.loop-touch.invariant.marks h.0 (omega (arith, h.1, c.loop-touch-test.false, ap length c.deref-touch-items.ensures.value)) which)

@@ -1,6 +1,6 @@
 use Rattle.std.proofs.Common.{◌≡◌, ◌⊎◌, ℕ, ◌<◌, length, get_or, IsTrue, IsFalse}
 use Rattle.epx_order.specs.SourceBits.{HasBitsOf}
-use Rattle.epx_order.proofs.SharingBits.{doubtful_at}
+use Rattle.epx_order.proofs.SharingMarkLemmas.{doubtful_at}
 use Rattle.epx_order.proofs.sharing_marks.key_marks.Given as goal
 
 abbrev pub invariant-loop-touch : goal.invariant-loop-touch

@@ -3,7 +3,7 @@ use Rattle.std.proofs.lemmas.List.{get_or_read}
 use Rattle.std.proofs.lemmas.List.Elements.{Contains-get_or}
 use Rattle.epx_order.specs.declared.doubtful_touches.DoubtfulTouch.{DoubtfulTouch}
 use Rattle.epx_order.specs.SourceBits.{HasBitsOf}
-use Rattle.epx_order.proofs.SharingBits.{doubtful_at, doubtful_numbered, word_of, shared_more, all_sharing}
+use Rattle.epx_order.proofs.SharingMarkLemmas.{doubtful_at, doubtful_at_index, word_of, shared_more, all_sharing}
 use Rattle.epx_order.proofs.sharing_marks.sharing_marks.Goals as goal
 use Rattle.epx_order.proofs.sharing_marks.sharing_marks.Goals.{then-touch, else-touch}
 
@@ -65,6 +65,6 @@ returns-clause-sharing c =
     let writing = c.in_ok-writing.writing.items in
     let words = c.loop-touch.words.items in
     let whole = λ (t : DoubtfulTouch) (h : Contains touches t).
-    let at = doubtful_numbered touches t h in
+    let at = doubtful_at_index touches t h in
     subst (λ (t : DoubtfulTouch). HasBitsOf (word_of touching writing t) (get_or words t.node 0)) at (c.loop-touch.invariant.marks h.0 (omega (arith, h.1, c.loop-touch-test.false, ap length c.deref-touch-items.ensures.value))) in
     all_sharing touches c.args.sources.now c.args.own.now touching writing words c.requires.own (λ t h. c.in_ok-touching.ensures.marks t h (inl refl)) (λ t h one. c.in_ok-writing.ensures.marks t h (inr one)) whole

@@ -2,7 +2,7 @@ use Rattle.std.proofs.Common.{◌≡◌, ◌<◌, length, length-set, get_or, �
 use Rattle.std.proofs.lemmas.List.{get_or_read}
 use Rattle.std.proofs.lemmas.List.Elements.{All-get_or}
 use Rattle.std.proofs.lemmas.Nat.{one_shl}
-use Rattle.epx_order.proofs.SourceWords.{marked_more}
+use Rattle.epx_order.proofs.SourceMarkLemmas.{marked_more}
 use Rattle.epx_order.proofs.source_marks.source_marks.Goals as goal
 
 pub loop-bit-preserved : goal.loop-bit-preserved

@@ -4,7 +4,7 @@ use Rattle.epx_graph.specs.Graphs.{edges_of}
 use Rattle.epx_order.specs.NodeConflicts.{keys_of}
 use Rattle.epx_order.specs.ReadyMarks.{AreReadyMarks}
 use Rattle.epx_order.specs.Sources.{IsLeastPair}
-use Rattle.epx_order.proofs.UncoveredPairs.{covered_from_settled, least_from_partner, pair_within}
+use Rattle.epx_order.proofs.UncoveredPairLemmas.{covered_from_settled, least_from_partner, pair_within}
 use Rattle.epx_order.proofs.uncovered_pair.audit.Goals as goal
 
 pub find_pair-requires-clause-doubtful : goal.find_pair-requires-clause-doubtful

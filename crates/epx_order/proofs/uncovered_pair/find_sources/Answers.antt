@@ -4,8 +4,8 @@ use Rattle.std.proofs.lemmas.List.{get_or_read}
 use Rattle.std.proofs.lemmas.List.Elements.{Contains-get_or}
 use Rattle.epx_order.specs.declared.doubtful_touches.DoubtfulTouch.{DoubtfulTouch}
 use Rattle.epx_order.specs.ReadyMarks.{is_marked}
-use Rattle.epx_order.proofs.SharingBits.{doubtful_at, doubtful_numbered}
-use Rattle.epx_order.proofs.SourceLists.{AreSourcesBelow, sources_same, sources_more, all_sources, reason_more, marks_more}
+use Rattle.epx_order.proofs.SharingMarkLemmas.{doubtful_at, doubtful_at_index}
+use Rattle.epx_order.proofs.SourceListLemmas.{AreSourcesBelow, sources_same, sources_more, all_sources, reason_more, marks_more}
 use Rattle.epx_order.proofs.uncovered_pair.find_sources.Goals as goal
 use Rattle.epx_order.proofs.uncovered_pair.find_sources.Goals.{then-ready-node+then-index+in_ok-push, else-ready-node, else-ready-node-via-then-ready-node+else-index, else-ready-node-via-else-ready-node}
 
@@ -55,7 +55,7 @@ returns c =
     let touches = c.args.touches.now in
     let touching = c.loop-touch.touching.items in
     let marks = λ (t : DoubtfulTouch) (h : Contains touches t).
-    let at = doubtful_numbered touches t h in
+    let at = doubtful_at_index touches t h in
     subst (λ (t : DoubtfulTouch). IsTrue (is_marked touching t.node)) at (c.loop-touch.invariant.marks h.0 (omega (arith, h.1, c.loop-touch-test.false))) in
     let end : c.loop-node.node ≡ length ready = omega (arith, c.loop-node-test.false, c.loop-node.auto.node-end) in
     all_sources ready touching touches c.loop-node.sources.items c.loop-touch.invariant.reason marks c.requires (subst (AreSourcesBelow ready touching c.loop-node.sources.items) end c.loop-node.invariant)

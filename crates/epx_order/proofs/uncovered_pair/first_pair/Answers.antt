@@ -6,21 +6,21 @@ use Rattle.epx_graph.specs.Graphs.{edges_of}
 use Rattle.epx_components.specs.Partitions.{parts}
 use Rattle.epx_order.specs.NodeConflicts.{keys_of, IsSettled}
 use Rattle.epx_order.proofs.BatchLemmas.{batch_whole}
-use Rattle.epx_order.proofs.Partners.{settled_by_rest}
+use Rattle.epx_order.proofs.PartnerLemmas.{settled_by_rest}
 use Rattle.epx_order.proofs.uncovered_pair.first_pair.Goals as goal
 
-pub has_none-requires : goal.has_none-requires
-has_none-requires c = record { whole = batch_whole c.args.graph.now (parts c.args.partition.now) c.args.doubtful.now.touches.items c.args.sources.now c.in_ok-batch.batch c.args.ready.now c.in_ok-batch.ensures c.requires.partition c.requires.ready }
+pub has_no_candidate-requires : goal.has_no_candidate-requires
+has_no_candidate-requires c = record { whole = batch_whole c.args.graph.now (parts c.args.partition.now) c.args.doubtful.now.touches.items c.args.sources.now c.in_ok-batch.batch c.args.ready.now c.in_ok-batch.ensures c.requires.partition c.requires.ready }
 
-pub returns-then-has_none : goal.returns-then-has_none
-returns-then-has_none c m same hold i j within above =
+pub returns-then-has_no_candidate : goal.returns-then-has_no_candidate
+returns-then-has_no_candidate c m same hold i j within above =
     let edges = edges_of c.args.graph.now in
     let ready = c.args.ready.now in
     let touches = c.args.doubtful.now.touches.items in
     let sources = c.args.sources.now in
     λ d e at to k_ready j_ready conflict.
     let below = slice_get_within m j e to in
-    let rest = c.if-has_none.ensures refl c.args.graph.now touches sources i j c.in_ok-batch.ensures within (omega (arith, below, ap length same, length-map m keys_of, c.requires.nodes, c.requires.ready)) in
+    let rest = c.if-has_no_candidate.ensures refl c.args.graph.now touches sources i j c.in_ok-batch.ensures within (omega (arith, below, ap length same, length-map m keys_of, c.requires.nodes, c.requires.ready)) in
     settled_by_rest m edges ready (get_or sources i 0) touches hold j above rest d e at to k_ready j_ready conflict
 
 pub first_partner-requires-clause-whole : goal.first_partner-requires-clause-whole

@@ -6,7 +6,7 @@ use Rattle.epx_order.specs.Batches.{IsReadyApart}
 use Rattle.epx_order.specs.DoubtfulKeys.{IsRelatedOrFree}
 use Rattle.epx_order.specs.NodeConflicts.{IsSettled}
 use Rattle.epx_order.specs.SourceBits.{has_bit}
-use Rattle.epx_order.proofs.Partners.{settled_more, settled_by_rest, settled_by_keys, partner_found, settled_past}
+use Rattle.epx_order.proofs.PartnerLemmas.{settled_more, settled_by_rest, settled_by_keys, partner_found, settled_past}
 use Rattle.epx_order.proofs.uncovered_pair.first_partner.Goals as goal
 use Rattle.epx_order.proofs.uncovered_pair.first_partner.Goals.{else-has_bit-via-then-has_bit+else-conflict, else-has_bit-via-else-has_bit}
 

@@ -1,4 +1,4 @@
-use Rattle.epx_picture.proofs.PicturesExist.{picture_exists}
+use Rattle.epx_picture.proofs.PictureLemmas.{picture_exists}
 use Rattle.epx_picture.proofs.laws.picture_exists.Goals as goal
 
 pub returns : goal.returns

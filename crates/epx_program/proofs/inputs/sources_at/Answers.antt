@@ -1,9 +1,9 @@
 use Rattle.std.proofs.Common.{◌≡◌, false, ◌∙◌, arith}
 use Rattle.std.specs.Prelude.{string_bytes}
 use Rattle.std.proofs.lemmas.List.Elements.{All-push}
-use Rattle.epx_devices.specs.EitherSources.{told_by}
+use Rattle.epx_devices.specs.EitherSources.{value_by}
 use Rattle.epx_program.specs.Inputs.{path_of}
-use Rattle.epx_program.proofs.Sources.{map-push, alone-push}
+use Rattle.epx_program.proofs.SourceListLemmas.{map-push, alone-push}
 use Rattle.epx_program.proofs.inputs.sources_at.Goals as goal
 
 pub loop-path-preserved : goal.loop-path-preserved
@@ -12,7 +12,7 @@ loop-path-preserved g c =
     let said = c.source_at.ensures in
     rw c.in_ok-push.ensures.items record {
       paths = map-push _ _ _ _ _ _ _ c.loop-path-test.true c.path-item.is (rw said.path c.as_str.ensures.value) before.paths;
-      failed = All-push (λ s. told_by (λ f. f.failed) (told_by g.I.Source.has_failed (λ _. false)) s ≡ false) _ _ before.failed said.failed;
+      failed = All-push (λ s. value_by (λ f. f.failed) (value_by g.I.Source.has_failed (λ _. false)) s ≡ false) _ _ before.failed said.failed;
       left = said.left;
       fresh = λ none. absurd (omega (arith, none));
       given = alone-push path_of string_bytes _ _ _ _ _ _ _ c.loop-path-test.true c.path-item.is before.paths

@@ -1,28 +1,28 @@
 use Rattle.std.proofs.Common.{inl, inr, refl}
 use Rattle.epx_types.specs.declared.fault.Fault.TheVariants.{Memory}
-use Rattle.epx_program.proofs.Asking.{ends_as_asked}
-use Rattle.epx_program.proofs.Statuses.{of-words, work_status}
+use Rattle.epx_program.proofs.WordLemmas.{ends_as_asked}
+use Rattle.epx_program.proofs.StatusLemmas.{of-words, work_status}
 use Rattle.epx_program.proofs.program.start.Goals as goal
 use Rattle.epx_program.proofs.program.start.Goals.{in-Ok, in-Err}
 
 pub returns-clause-status : goal.returns-clause-status
-returns-clause-status g c = rw c.from.ensures (elim c.match-asked.branch [
+returns-clause-status g c = rw c.from.ensures (elim c.match-read_args.branch [
   | in-Ok w ↦
-      let said = w.act-status.ensures in
+      let said = w.execute_words-status.ensures in
       let words = w.in-Ok.words in
       rw w.status-is (of-words _ _ words _ w.in-Ok.ensures.status
-      (work_status _ _ _ _ _ _ words said.work) said.text said.told)
-  | in-Err w ↦ rw (w.status-is, w.end-status.ensures) (inl (inr (Memory, refl)))
+      (work_status _ _ _ _ _ _ words said.do_task) said.text said.told)
+  | in-Err w ↦ rw (w.status-is, w.report_fault-status.ensures) (inl (inr (Memory, refl)))
 ])
 
-pub returns-clause-asked : goal.returns-clause-asked
-returns-clause-asked g c texts taken = rw c.from.ensures (elim c.match-asked.branch [
-  | in-Ok w ↦ let said = w.act-status.ensures in
+pub returns-clause-read_args : goal.returns-clause-read_args
+returns-clause-read_args g c texts taken = rw c.from.ensures (elim c.match-read_args.branch [
+  | in-Ok w ↦ let said = w.execute_words-status.ensures in
       rw (w.status-is, w.output-is) (inr (
         w.in-Ok.words,
-        w.in-Ok.ensures.asked texts taken,
+        w.in-Ok.ensures.read_args texts taken,
         ends_as_asked g.W.Sink.contents _ _ (g.I.Source.remaining c.args.input) _ _ _ w.in-Ok.words
-            said.work said.shown said.prefix said.text said.told,
+            said.do_task said.shown said.prefix said.text said.told,
       ))
-  | in-Err w ↦ rw (w.status-is, w.end-status.ensures) (inl refl)
+  | in-Err w ↦ rw (w.status-is, w.report_fault-status.ensures) (inl refl)
 ])

@@ -1,5 +1,5 @@
 use Rattle.std.proofs.lemmas.Result.{IfOk-weaker}
-use Rattle.epx_tool.proofs.Reports.{IsAuditText-printed}
+use Rattle.epx_tool.proofs.ReportLemmas.{IsAuditText-printed}
 use Rattle.epx_tool.proofs.answers.audit_of.Goals as goal
 
 pub audit-requires-clause-order : goal.audit-requires-clause-order

@@ -1,7 +1,7 @@
 use Rattle.std.proofs.Common.{map, ap, ◌∙◌, sym, subst}
 use Rattle.std.proofs.lemmas.Result.{IfOk-weaker}
 use Rattle.epx_types.specs.WaitingLists.{IsWaitingList}
-use Rattle.epx_tool.proofs.Reports.{IsLevelText-printed}
+use Rattle.epx_tool.proofs.ReportLemmas.{IsLevelText-printed}
 use Rattle.epx_tool.proofs.answers.levels_of.Goals as goal
 
 pub returns : goal.returns

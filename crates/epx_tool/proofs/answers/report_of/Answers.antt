@@ -2,7 +2,7 @@ use Rattle.std.proofs.Common.{map, ap, ◌∙◌, sym, subst}
 use Rattle.std.proofs.lemmas.Result.{IfOk-weaker}
 use Rattle.epx_types.specs.Done.{remaining}
 use Rattle.epx_types.specs.WaitingLists.{IsWaitingList}
-use Rattle.epx_tool.proofs.Reports.{few_commands, IsReportAfter-printed}
+use Rattle.epx_tool.proofs.ReportLemmas.{few_commands, IsReportAfter-printed}
 use Rattle.epx_tool.proofs.answers.report_of.Goals as goal
 
 pub run_order-requires-after_bounds : goal.run_order-requires-after_bounds

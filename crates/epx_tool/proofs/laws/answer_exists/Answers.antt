@@ -1,5 +1,5 @@
 use Rattle.epx_tool.specs.Report.{IsReport}
-use Rattle.epx_tool.proofs.AnswersExist.{report_exists, answer_exists}
+use Rattle.epx_tool.proofs.AnswerLemmas.{report_exists, answer_exists}
 use Rattle.epx_tool.proofs.laws.answer_exists.Goals as goal
 
 pub returns : goal.returns

@@ -1,4 +1,4 @@
-use Rattle.epx_tool.proofs.OneAnswer.{IsAuditText-unique}
+use Rattle.epx_tool.proofs.UniqueAnswerLemmas.{IsAuditText-unique}
 use Rattle.epx_tool.proofs.laws.audit_text_is_one.Goals as goal
 
 pub returns : goal.returns

@@ -1,4 +1,4 @@
-use Rattle.epx_tool.proofs.ListsChecked.{check_exists}
+use Rattle.epx_tool.proofs.CheckLemmas.{check_exists}
 use Rattle.epx_tool.proofs.laws.check_exists.Goals as goal
 
 pub returns : goal.returns

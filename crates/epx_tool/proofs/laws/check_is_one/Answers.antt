@@ -1,4 +1,4 @@
-use Rattle.epx_tool.proofs.ListsChecked.{check_is_one}
+use Rattle.epx_tool.proofs.CheckLemmas.{check_is_one}
 use Rattle.epx_tool.proofs.laws.check_is_one.Goals as goal
 
 pub returns : goal.returns

@@ -1,4 +1,4 @@
-use Rattle.epx_tool.proofs.ListsExecuted.{lawful_list_executes_alike}
+use Rattle.epx_tool.proofs.LawfulListLemmas.{lawful_list_executes_alike}
 use Rattle.epx_tool.proofs.laws.lawful_list_executes_alike.Goals as goal
 
 pub returns : goal.returns

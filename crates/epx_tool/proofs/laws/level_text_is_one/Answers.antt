@@ -1,4 +1,4 @@
-use Rattle.epx_tool.proofs.OneAnswer.{IsLevelText-unique}
+use Rattle.epx_tool.proofs.UniqueAnswerLemmas.{IsLevelText-unique}
 use Rattle.epx_tool.proofs.laws.level_text_is_one.Goals as goal
 
 pub returns : goal.returns

@@ -1,4 +1,4 @@
-use Rattle.epx_tool.proofs.OneAnswer.{IsOrderText-unique}
+use Rattle.epx_tool.proofs.UniqueAnswerLemmas.{IsOrderText-unique}
 use Rattle.epx_tool.proofs.laws.order_text_is_one.Goals as goal
 
 pub returns : goal.returns

@@ -1,4 +1,4 @@
-use Rattle.epx_tool.proofs.ReportsAreBases.{report_is_base}
+use Rattle.epx_tool.proofs.ReportBaseLemmas.{report_is_base}
 use Rattle.epx_tool.proofs.laws.report_is_base.Goals as goal
 
 pub returns : goal.returns

@@ -1,4 +1,4 @@
-use Rattle.epx_tool.proofs.OneAnswer.{IsReport-unique}
+use Rattle.epx_tool.proofs.UniqueAnswerLemmas.{IsReport-unique}
 use Rattle.epx_tool.proofs.laws.report_is_one.Goals as goal
 
 pub returns : goal.returns

@@ -1,4 +1,4 @@
-use Rattle.epx_tool.proofs.AnswersExist.{view_text_exists}
+use Rattle.epx_tool.proofs.AnswerLemmas.{view_text_exists}
 use Rattle.epx_tool.proofs.laws.view_text_exists.Goals as goal
 
 pub returns : goal.returns

@@ -2,15 +2,15 @@ use Rattle.std.proofs.Common.{◌≡◌, [], ◌∷◌, ◌++◌, codes, decimal
 use Rattle.std.proofs.lemmas.Grind.{common_steps}
 use Rattle.std.proofs.lemmas.Result.{on_ok_weaker}
 use Rattle.json.specs.Token.{begin_array, string, number}
-use Rattle.epx_base.specs.LineTokens.{name_tokens}
+use Rattle.epx_base.specs.LineTokens.{id_tokens}
 use Rattle.epx_tool.specs.LevelText.{level_data}
-use Rattle.epx_base.proofs.LineTexts.{line_written}
+use Rattle.epx_base.proofs.LineTextLemmas.{line_written}
 use Rattle.epx_tool.proofs.report.append_level.Goals as goal
 
 pub returns : goal.returns
 returns c =
     let last = c.u64.new.self in
-    let ts = begin_array ∷ string (codes "level") ∷ (name_tokens c.args.id ++ number (decimal c.args.level) ∷ []) in
+    let ts = begin_array ∷ string (codes "level") ∷ (id_tokens c.args.id ++ number (decimal c.args.level) ∷ []) in
     let same : last.tokens ≡ ts = grind (arith, common_steps) in
     let kept : last.before ≡ [] = grind arith in
     on_ok_weaker c.end_line.result (λ e. line_written (level_data c.args.id c.args.level) ts last.tokens c.args.text.now.items last.before c.end_line.new.text.items same kept (refl) e) c.end_line.ensures

@@ -1,4 +1,4 @@
-use Rattle.epx_tool.proofs.OrderLines.{line_at, printed_one_more}
+use Rattle.epx_tool.proofs.OrderTextLemmas.{line_at, printed_one_more}
 use Rattle.epx_tool.proofs.report.append_order.Goals as goal
 
 pub loop-place-preserved : goal.loop-place-preserved

@@ -5,9 +5,9 @@ use Rattle.epx_types.specs.declared.fault.Fault.TheVariants.{LogTooLong, Read}
 use Rattle.epx_base.specs.Bases.{IsBadBase}
 use Rattle.epx_devices.specs.Transfers.{AppendsPrefix}
 use Rattle.epx_tool.specs.RunsWithInput.{IsRunFaultWithInput}
-use Rattle.epx_tool.specs.Resumption.{IsResumed, Resumes}
-use Rattle.epx_tool.proofs.KnownTexts.{known_answer}
-use Rattle.epx_tool.proofs.LogsWithInput.{no_stop, run_fault_of_reading}
+use Rattle.epx_tool.specs.Resumption.{IsResumedText, Resumes}
+use Rattle.epx_tool.proofs.KnownTextLemmas.{known_answer}
+use Rattle.epx_tool.proofs.LogsWithInputLemmas.{no_stop, run_fault_of_reading}
 use Rattle.epx_tool.proofs.resumed_runs.run_resume.Goals as goal
 
 pub returns-in-Err-clause-base_untouched : goal.returns-in-Err-clause-base_untouched
@@ -41,7 +41,7 @@ returns-clause-answered g c = on_ok_weaker c.write_out.result (λ written. recor
 
 pub returns-clause-refusal : goal.returns-clause-refusal
 returns-clause-refusal g c = IfErr-weaker c.write_out.result _ _ (λ fault is before logs known are.
-    subst (IsRunFaultWithInput IsBadBase IsResumed before logs) (sym is) (
+    subst (IsRunFaultWithInput IsBadBase IsResumedText before logs) (sym is) (
       c.in-Ok-resume_owned.text.items,
       known_answer Resumes c.in-Ok.read.0.items before (map (λ log. log.items) c.in-Ok.read.1.items) logs (Ok c.in-Ok-resume_owned.text.items) (c.in-Ok.ensures.text before known) (c.in-Ok.ensures.bytes logs are) c.in-Ok-resume_owned.ensures,
     )) c.write_out.ensures.faults
@@ -81,5 +81,5 @@ returns-clause-refused g c =
 
 pub returns-in-Err-clause-refusal : goal.returns-in-Err-clause-refusal
 returns-in-Err-clause-refusal g c before logs known are =
-    run_fault_of_reading logs before IsBadBase IsResumed c.in-Err.fault
+    run_fault_of_reading logs before IsBadBase IsResumedText c.in-Err.fault
     (c.in-Err.ensures.refusal before logs known are)

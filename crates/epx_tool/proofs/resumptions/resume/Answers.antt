@@ -1,6 +1,6 @@
 use Rattle.std.proofs.Common.{map}
-use Rattle.epx_base.proofs.DoneRise.{base_done_rise}
-use Rattle.epx_tool.proofs.AcceptedLogs.{accepted_are_few}
+use Rattle.epx_base.proofs.DoneInstanceLemmas.{base_done_rise}
+use Rattle.epx_tool.proofs.AcceptedLogLemmas.{accepted_are_few}
 use Rattle.epx_tool.proofs.resumptions.resume.Goals as goal
 
 pub report_after-requires-clause-few : goal.report_after-requires-clause-few

@@ -1,9 +1,9 @@
 use Rattle.std.proofs.Common.{map, subst}
 use Rattle.epx_merge.specs.Acceptance.{IsAccepted}
 use Rattle.epx_base.specs.Bases.{IsBase}
-use Rattle.epx_base.proofs.DoneRise.{base_done_rise}
+use Rattle.epx_base.proofs.DoneInstanceLemmas.{base_done_rise}
 use Rattle.epx_tool.specs.WithInput.{IsShort}
-use Rattle.epx_tool.proofs.AcceptedLogs.{accepted_are_few}
+use Rattle.epx_tool.proofs.AcceptedLogLemmas.{accepted_are_few}
 use Rattle.epx_tool.proofs.resumptions.resume_owned.Goals as goal
 
 pub report_after-requires-clause-few : goal.report_after-requires-clause-few

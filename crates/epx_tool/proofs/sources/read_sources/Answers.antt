@@ -1,9 +1,9 @@
 use Rattle.std.proofs.Common.{refl, map, ap, ◌∙◌, sym, subst}
 use Rattle.std.proofs.lemmas.List.{length-map, map-append}
-use Rattle.epx_tool.proofs.SourcesTaken.{none_consumed}
+use Rattle.epx_tool.proofs.ConsumedLemmas.{none_consumed}
 use Rattle.epx_devices.specs.Deliveries.{DeliversAll}
-use Rattle.epx_tool.proofs.SourcesDelivered.{AreRead, one_more_delivered, stops_reading}
-use Rattle.epx_tool.proofs.SourcesRead.{same_next, none_read, read_well, read_one_more, reading_refusal, taken_further, all_fit, each_read, all_ended, none_failed, none_failed_after, one_failed}
+use Rattle.epx_tool.proofs.DeliveredLemmas.{AreDeliveredUpTo, delivered_step, stops_reading}
+use Rattle.epx_tool.proofs.SourceLemmas.{same_next, none_read, read_well, read_step, reading_refusal, taken_further, all_fit, each_read, all_ended, none_failed, none_failed_after, one_failed}
 use Rattle.epx_tool.proofs.sources.read_sources.Goals as goal
 
 pub returns-in-Err-clause-refusal : goal.returns-in-Err-clause-refusal
@@ -40,7 +40,7 @@ pub loop-log-init : goal.loop-log-init
 loop-log-init g c =
     let S = g.S.Source in
     let none = ap (map (λ log. log.items)) (sym c.new-logs.ensures.items) in
-    subst (AreRead S.remaining S.reads S.has_failed _ _ _) none (record {
+    subst (AreDeliveredUpTo S.remaining S.reads S.has_failed _ _ _) none (record {
       read = none_read S.remaining S.has_failed c.args.sources.now c.requires;
       delivered = tt;
     })
@@ -88,7 +88,7 @@ loop-log-preserved g c =
     let has_failed = g.S.Source.has_failed in
     let well = read_well remaining has_failed (has_failed c.read_log.new.source) c.in-Ok.bytes
     c.loop-log.log c.in-Ok.ensures.failed in
-    let more = read_one_more remaining has_failed _ _ _ _ c.loop-log.invariant.read
+    let more = read_step remaining has_failed _ _ _ _ c.loop-log.invariant.read
     c.loop-log-test.true c.index-sources-log.result c.read_log.new.source well
     c.in-Ok.bytes.items c.in-Ok.ensures.bytes c.in-Ok.ensures.fits c.in-Ok.ensures.no_further
     c.in-Ok.ensures.end in
@@ -102,10 +102,10 @@ loop-log-preserved g c =
     c.in-Ok.bytes.items)
     same c.in-Ok.ensures.delivered in
     let delivered =
-    one_more_delivered reads c.args.sources.now c.loop-log.sources _ c.loop-log.log next
+    delivered_step reads c.args.sources.now c.loop-log.sources _ c.loop-log.log next
     c.read_log.new.source c.in-Ok.bytes.items read.count c.loop-log-test.true read.as_many
     c.loop-log.invariant.delivered whole in
-    subst (AreRead remaining reads has_failed _ _ _) (sym grown)
+    subst (AreDeliveredUpTo remaining reads has_failed _ _ _) (sym grown)
     (record { read = more; delivered = delivered })
 
 pub returns-clause-failed : goal.returns-clause-failed

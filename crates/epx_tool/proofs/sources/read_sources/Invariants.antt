@@ -1,9 +1,9 @@
 use Rattle.std.proofs.Common.{map}
-use Rattle.epx_tool.proofs.SourcesDelivered.{AreRead}
+use Rattle.epx_tool.proofs.DeliveredLemmas.{AreDeliveredUpTo}
 use Rattle.epx_tool.proofs.sources.read_sources.Given as goal
 
 abbrev pub invariant-loop-log : goal.invariant-loop-log
 invariant-loop-log g l =
     let S = g.S.Source in
     let logs = map (λ log. log.items) l.logs.items in
-    AreRead S.remaining S.reads S.has_failed l.fn.sources l.sources l.log logs
+    AreDeliveredUpTo S.remaining S.reads S.has_failed l.fn.sources l.sources l.log logs

@@ -2,14 +2,14 @@ use Rattle.std.proofs.Common.{◌≡◌, [], ◌∷◌, ◌++◌, codes, refl, a
 use Rattle.std.proofs.lemmas.Grind.{common_steps}
 use Rattle.json.specs.Token.{begin_array, string}
 use Rattle.epx_tool.specs.AuditText.{uncovered_data}
-use Rattle.epx_base.specs.LineTokens.{name_tokens}
-use Rattle.epx_base.proofs.LineTexts.{line_alone}
+use Rattle.epx_base.specs.LineTokens.{id_tokens}
+use Rattle.epx_base.proofs.LineTextLemmas.{line_alone}
 use Rattle.epx_tool.proofs.verdict.pair_line.Goals as goal
 
 pub returns : goal.returns
 returns c =
-    let last = c.write_name-2.new.out in
-    let ts = begin_array ∷ string (codes "uncovered") ∷ (name_tokens c.args.pair.0 ++ name_tokens c.args.pair.1) in
+    let last = c.write_id_parts-2.new.out in
+    let ts = begin_array ∷ string (codes "uncovered") ∷ (id_tokens c.args.pair.0 ++ id_tokens c.args.pair.1) in
     let same : last.tokens ≡ ts = grind (arith, common_steps) in
     let kept : last.before ≡ [] = grind arith in
     line_alone (uncovered_data c.args.pair.0 c.args.pair.1) ts last.tokens c.new-text.result.items last.before c.end_line.new.text.items c.new-text.ensures.items same kept refl c.in_ok-end_line.ensures

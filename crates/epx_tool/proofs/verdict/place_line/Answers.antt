@@ -3,7 +3,7 @@ use Rattle.std.proofs.lemmas.Grind.{common_steps}
 use Rattle.json.specs.Token.{begin_array, string, number}
 use Rattle.epx_base.specs.ReportLines.{data_of_number}
 use Rattle.serde_json.specs.Data as value
-use Rattle.epx_base.proofs.LineTexts.{line_alone}
+use Rattle.epx_base.proofs.LineTextLemmas.{line_alone}
 use Rattle.epx_tool.proofs.verdict.place_line.Goals as goal
 
 pub returns : goal.returns

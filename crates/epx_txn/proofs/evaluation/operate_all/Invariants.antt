@@ -1,4 +1,4 @@
-use Rattle.epx_txn.proofs.EvaluationSteps.{IsDoneUpTo}
+use Rattle.epx_txn.proofs.EvaluationLemmas.{IsDoneUpTo}
 use Rattle.epx_txn.proofs.evaluation.operate_all.Given as goal
 
 abbrev pub invariant-loop-place : goal.invariant-loop-place

@@ -2,7 +2,7 @@ use Rattle.std.proofs.Common.{codes, refl}
 use Rattle.std.proofs.lemmas.Result.{IfOk-weaker}
 use Rattle.clap.specs.Words.{App, with_subcommand}
 use Rattle.epx_words.specs.App.{first_app, runs_app, work_app}
-use Rattle.epx_words.proofs.Building.{with_command}
+use Rattle.epx_words.proofs.CommandLemmas.{with_command}
 use Rattle.epx_words.proofs.commands.command.Goals as goal
 
 abbrev resume : App

@@ -2,7 +2,7 @@ use Rattle.std.proofs.Common.{◌≡◌, codes, refl, rules}
 use Rattle.std.proofs.lemmas.Result.{IfOk-weaker}
 use Rattle.clap.specs.Words.{new_app, rule_of, with_rule}
 use Rattle.epx_words.specs.App.{number_rule}
-use Rattle.epx_words.proofs.Building.{with_argument}
+use Rattle.epx_words.proofs.CommandLemmas.{with_argument}
 use Rattle.epx_words.proofs.commands.subcommand.Goals as goal
 
 pub returns : goal.returns

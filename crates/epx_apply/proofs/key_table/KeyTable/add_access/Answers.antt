@@ -1,7 +1,7 @@
 use Rattle.std.proofs.Common.{◌≡◌, ◌++◌, ◌∷◌, [], true, false, sym, subst, ◌∙◌}
 use Rattle.std.specs.List.{list_any}
-use Rattle.epx_apply.specs.KeyTables.{Table, IsTableOf}
-use Rattle.epx_apply.proofs.NumberedKeys.{texts_of, same_text, not_is, current_new, current_known}
+use Rattle.epx_apply.specs.KeyTables.{Table, IsKeyTableOf}
+use Rattle.epx_apply.proofs.KeyNumberLemmas.{texts_of, same_text, not_is, current_new, current_known}
 use Rattle.epx_apply.proofs.key_table.KeyTable.add_access.Goals as goal
 use Rattle.epx_apply.proofs.key_table.KeyTable.add_access.Goals.{then-is_new+in_ok-push, else-is_new}
 
@@ -13,8 +13,8 @@ returns c done current is =
     let accesses = c.self.inside.accesses.items in
     let key = c.args.key.now in
     let n = c.in_ok-number.number in
-    let before : IsTableOf done current (record { keys = texts_of ks; key_levels = key_levels; accesses = accesses }) = subst (IsTableOf done current) (sym c.self.view_is) is in
-    let T : Table → Type 0 = IsTableOf done (current ++ (key, c.args.writes) ∷ []) in
+    let before : IsKeyTableOf done current (record { keys = texts_of ks; key_levels = key_levels; accesses = accesses }) = subst (IsKeyTableOf done current) (sym c.self.view_is) is in
+    let T : Table → Type 0 = IsKeyTableOf done (current ++ (key, c.args.writes) ∷ []) in
     elim c.if-is_new.branch [
       | then-is_new+in_ok-push w ↦
           let none : list_any (same_text c.text.result) ks ≡ false = not_is (list_any (same_text c.text.result) ks) true (sym c.in_ok-number.ensures.added ∙ w.if-is_new.true) in

@@ -1,14 +1,14 @@
 use Rattle.std.proofs.Common.{◌≡◌, true, false, sym, ap, ◌∙◌, rules}
 use Rattle.epx_types.specs.Done.{is_among}
-use Rattle.epx_base.proofs.IdSets.{found_rising, found_late}
+use Rattle.epx_base.proofs.IdSetLemmas.{found_rising, found_late}
 use Rattle.epx_base.proofs.id_set.IdSet.contains.Goals as goal
 
-pub returns-then-is_found : goal.returns-then-is_found
-returns-then-is_found c =
+pub returns-then-contains_id : goal.returns-then-contains_id
+returns-then-contains_id c =
     let found : is_among c.self.inside.rising.items c.args.id.now ≡ true = search rules in
-    c.if-is_found.true ∙ sym (found_rising c.self.inside.rising.items c.self.inside.late.keys c.self.invariant c.args.id.now found) ∙ ap (λ ids. is_among ids c.args.id.now) c.self.view_is
+    c.if-contains_id.true ∙ sym (found_rising c.self.inside.rising.items c.self.inside.late.keys c.self.invariant c.args.id.now found) ∙ ap (λ ids. is_among ids c.args.id.now) c.self.view_is
 
-pub returns-else-is_found : goal.returns-else-is_found
-returns-else-is_found c =
+pub returns-else-contains_id : goal.returns-else-contains_id
+returns-else-contains_id c =
     let missed : is_among c.self.inside.rising.items c.args.id.now ≡ false = search rules in
     c.contains.ensures ∙ found_late c.self.inside.rising.items c.self.inside.late.keys c.self.invariant c.args.id.now missed ∙ ap (λ ids. is_among ids c.args.id.now) c.self.view_is

@@ -1,6 +1,6 @@
 use Rattle.std.proofs.Common.{◌≡◌, option_copied, ap, ◌∙◌, rules}
 use Rattle.epx_base.specs.Seen.{last}
-use Rattle.epx_base.proofs.IdSets.{last-with_late}
+use Rattle.epx_base.proofs.IdSetLemmas.{last-with_late}
 use Rattle.epx_base.proofs.id_set.IdSet.last.Goals as goal
 
 pub returns : goal.returns

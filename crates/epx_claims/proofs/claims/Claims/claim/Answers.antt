@@ -1,8 +1,8 @@
 use Rattle.std.proofs.Common.{◌∙◌, ap, map, arith}
 use Rattle.epx_claims.specs.Rule.{with_piece, at_end}
 use Rattle.epx_claims.specs.SeatFields.{drawn_of}
-use Rattle.epx_claims.proofs.Drawing.{draws}
-use Rattle.epx_claims.proofs.Seats.{same_claims, shown_by, told_as, told_below}
+use Rattle.epx_claims.proofs.DrawLemmas.{draw_allowed}
+use Rattle.epx_claims.proofs.SeatLemmas.{same_claims, shows_own, step_as, step_below}
 use Rattle.epx_claims.proofs.claims.Claims.claim.Goals as goal
 
 pub fetch_add-found-requires : goal.fetch_add-found-requires
@@ -11,60 +11,60 @@ fetch_add-found-requires c =
     let ready = c.self.invariant in (
       ap (λ k. k.table) own,
       omega arith,
-      draws c.self.inside.table.shared.key (omega arith) (omega arith) _ _ c.seat.inside.seat.me _ c.seat.invariant.shown c.if-seat.false,
+      draw_allowed c.self.inside.table.shared.key (omega arith) (omega arith) _ _ c.seat.inside.seat.me _ c.seat.invariant.shown c.if-seat.false,
     )
 
 pub returns-then-found-self-clause-some : goal.returns-then-found-self-clause-some
 returns-then-found-self-clause-some c =
     let own = same_claims c.seat.inside c.self.inside _ _ c.seat.view_is c.requires c.self.view_is in
     let pieces = ap (λ k. k.pieces) own in
-    let told = c.fetch_add-found.ensures in
-    let is = told.2.1.1 (omega arith) in
-    let longer = ap (λ v. drawn_of v.hands) is ∙ ap (λ hs. drawn_of (map (with_piece c.fetch_add-found.result) hs)) c.seat.invariant.shown in
+    let draw_ensures = c.fetch_add-found.ensures in
+    let is = draw_ensures.2.1.1 (omega arith) in
+    let longer = ap (λ v. drawn_of v.seat_states) is ∙ ap (λ hs. drawn_of (map (with_piece c.fetch_add-found.result) hs)) c.seat.invariant.shown in
     rw (← c.seat.view_is, ← c.self.view_is) (
       c.if-seat.false,
       c.if-found-self.true,
-      told_below _ _ _ _ _ _ _ c.seat.invariant.shown told.2.1.0,
-      (λ i. record { claims = record { table = told.0 i; pieces = (is i).terms.pieces; workers = (is i).terms.workers }; drawn = longer i; share = c.seat.inside.share; ended = c.seat.inside.ended }),
+      step_below _ _ _ _ _ _ _ c.seat.invariant.shown draw_ensures.2.1.0,
+      (λ i. record { claims = record { table = draw_ensures.0 i; pieces = (is i).terms.pieces; workers = (is i).terms.workers }; drawn = longer i; share = c.seat.inside.share; ended = c.seat.inside.ended }),
     )
 
 pub invariant_of-seat : goal.invariant_of-seat
 invariant_of-seat c =
     let own = same_claims c.seat.inside c.self.inside _ _ c.seat.view_is c.requires c.self.view_is in
     let pieces = ap (λ k. k.pieces) own in
-    let told = c.fetch_add-found.ensures in
-    let is = told.2.1.1 (omega arith) in
+    let draw_ensures = c.fetch_add-found.ensures in
+    let is = draw_ensures.2.1.1 (omega arith) in
     record {
-      shown = shown_by _ _ _ _ (ap (λ v. v.hands) is ∙ ap (map (with_piece c.fetch_add-found.result)) c.seat.invariant.shown);
-      no_slot = told.2.0 ∙ c.seat.invariant.no_slot;
+      shown = shows_own _ _ _ _ (ap (λ v. v.seat_states) is ∙ ap (map (with_piece c.fetch_add-found.result)) c.seat.invariant.shown);
+      no_slot = draw_ensures.2.0 ∙ c.seat.invariant.no_slot;
     }
 
 pub invariant_of-seat-else-found-self : goal.invariant_of-seat-else-found-self
 invariant_of-seat-else-found-self c =
     let own = same_claims c.seat.inside c.self.inside _ _ c.seat.view_is c.requires c.self.view_is in
     let pieces = ap (λ k. k.pieces) own in
-    let told = c.fetch_add-found.ensures in
-    let is = told.2.1.2 (omega arith) in
+    let draw_ensures = c.fetch_add-found.ensures in
+    let is = draw_ensures.2.1.2 (omega arith) in
     record {
-      shown = shown_by _ _ _ _ (ap (λ v. v.hands) is ∙ ap (map at_end) c.seat.invariant.shown);
-      no_slot = told.2.0 ∙ c.seat.invariant.no_slot;
+      shown = shows_own _ _ _ _ (ap (λ v. v.seat_states) is ∙ ap (map at_end) c.seat.invariant.shown);
+      no_slot = draw_ensures.2.0 ∙ c.seat.invariant.no_slot;
     }
 
 pub returns-then-found-self-clause-piece : goal.returns-then-found-self-clause-piece
 returns-then-found-self-clause-piece c =
     let own = same_claims c.seat.inside c.self.inside _ _ c.seat.view_is c.requires c.self.view_is in
     let pieces = ap (λ k. k.pieces) own in
-    let told = c.fetch_add-found.ensures in
-    let is = told.2.1.1 (omega arith) in
-    let after = shown_by _ _ _ _ (ap (λ v. v.hands) is ∙ ap (map (with_piece c.fetch_add-found.result)) c.seat.invariant.shown) in
-    rw (← c.seat.view_is, ← c.self.view_is) (told_as _ _ _ _ _ _ _ _ _ _ pieces (ap (λ k. k.workers) own) c.seat.invariant.shown after told.2.1.0)
+    let draw_ensures = c.fetch_add-found.ensures in
+    let is = draw_ensures.2.1.1 (omega arith) in
+    let after = shows_own _ _ _ _ (ap (λ v. v.seat_states) is ∙ ap (map (with_piece c.fetch_add-found.result)) c.seat.invariant.shown) in
+    rw (← c.seat.view_is, ← c.self.view_is) (step_as _ _ _ _ _ _ _ _ _ _ pieces (ap (λ k. k.workers) own) c.seat.invariant.shown after draw_ensures.2.1.0)
 
 pub returns-else-found-self-clause-stop : goal.returns-else-found-self-clause-stop
 returns-else-found-self-clause-stop c =
     let own = same_claims c.seat.inside c.self.inside _ _ c.seat.view_is c.requires c.self.view_is in
     let pieces = ap (λ k. k.pieces) own in
-    let told = c.fetch_add-found.ensures in
+    let draw_ensures = c.fetch_add-found.ensures in
     let full = c.if-found-self.false in
-    let is = told.2.1.2 (omega arith) in
-    let after = shown_by _ _ _ _ (ap (λ v. v.hands) is ∙ ap (map at_end) c.seat.invariant.shown) in
-    rw (← c.seat.view_is, ← c.self.view_is) (λ not_ended. (c.fetch_add-found.result, omega arith, told_as _ _ _ _ _ _ _ _ _ _ pieces (ap (λ k. k.workers) own) c.seat.invariant.shown after told.2.1.0))
+    let is = draw_ensures.2.1.2 (omega arith) in
+    let after = shows_own _ _ _ _ (ap (λ v. v.seat_states) is ∙ ap (map at_end) c.seat.invariant.shown) in
+    rw (← c.seat.view_is, ← c.self.view_is) (λ not_ended. (c.fetch_add-found.result, omega arith, step_as _ _ _ _ _ _ _ _ _ _ pieces (ap (λ k. k.workers) own) c.seat.invariant.shown after draw_ensures.2.1.0))

@@ -1,7 +1,7 @@
 use Rattle.std.proofs.Common.{◌∙◌, ap, arith, rules}
-use Rattle.epx_claims.proofs.Moving.{halves}
-use Rattle.epx_claims.proofs.Parting.{splits}
-use Rattle.epx_claims.proofs.Seats.{same_claims}
+use Rattle.epx_claims.proofs.StepLemmas.{split_allowed}
+use Rattle.epx_claims.proofs.SeatMoveLemmas.{split_seat_allowed}
+use Rattle.epx_claims.proofs.SeatLemmas.{same_claims}
 use Rattle.epx_claims.proofs.claims.Claims.split.Goals as goal
 
 pub load-requires : goal.load-requires
@@ -13,7 +13,7 @@ load-requires c =
     let ready = c.self.invariant in (
       ap (λ k. k.table) own,
       omega arith,
-      halves c.self.inside.table.shared.key _ _ c.seat.inside.seat.me _ c.seat.invariant.shown not_ended (omega arith),
+      split_allowed c.self.inside.table.shared.key _ _ c.seat.inside.seat.me _ c.seat.invariant.shown not_ended (omega arith),
     )
 
 pub split_seat-given-requires : goal.split_seat-given-requires
@@ -22,5 +22,5 @@ split_seat-given-requires c =
     let ready = c.self.invariant in (
       search rules,
       omega arith,
-      splits c.self.inside.table.shared.key _ _,
+      split_seat_allowed c.self.inside.table.shared.key _ _,
     )

@@ -1,6 +1,6 @@
 use Rattle.std.proofs.Common.{◌≡◌, ◌-◌, ◌<◌, ◌++◌, length, take, drop, arith, get_or, sym, refl, ◌∙◌, ap}
 use Rattle.std.proofs.lemmas.List.{with_items_is, get_or_read, take_rest}
-use Rattle.epx_components.proofs.Closing.{closes_group}
+use Rattle.epx_components.proofs.CloseLemmas.{closes_group}
 use Rattle.epx_components.proofs.search.Search.finish.Goals as goal
 
 pub returns : goal.returns

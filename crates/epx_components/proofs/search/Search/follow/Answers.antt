@@ -3,11 +3,11 @@ use Rattle.std.proofs.lemmas.List.{get_or_read}
 use Rattle.std.proofs.lemmas.Result.{on_ok_weaker}
 use Rattle.epx_graph.specs.Graphs.{edges_of}
 use Rattle.epx_components.proofs.EdgeLemmas.{edge_to}
-use Rattle.epx_components.proofs.Following.{follow_less, follow_search}
-use Rattle.epx_components.proofs.Stepping.{open_below}
-use Rattle.epx_components.specs.SearchInvariants.{Keeps}
+use Rattle.epx_components.proofs.FollowLemmas.{follow_less, follow_keeps}
+use Rattle.epx_components.proofs.PathEndLemmas.{open_below}
+use Rattle.epx_components.specs.SearchInvariants.{KeepsSearch}
 use Rattle.epx_components.specs.SearchStates.{state}
-use Rattle.epx_components.specs.SearchWork.{work}
+use Rattle.epx_components.specs.SearchWork.{work_left}
 use Rattle.epx_components.proofs.search.Search.follow.Goals as goal
 
 pub arrive-requires-clause-node : goal.arrive-requires-clause-node
@@ -25,8 +25,8 @@ returns-clause-keeps c =
     let w = c.requires.search.1 in
     let in' = open_below edges _ _ (state s) c.args.node c.requires.next.place w c.requires.next.is_open in
     let next = get_or_read s.looked_at.items c.args.node _ (omega (arith, w.looks)) c.index-next.ensures 0 in
-    on_ok_weaker {Q = Keeps edges (length c.args.graph.now.ids) (state s) (state c.arrive.new.self)} c.arrive.result
-    (λ h seen w. follow_search edges (length c.args.graph.now.ids) seen (state s) (state c.arrive.new.self) c.args.node w c.requires.next
+    on_ok_weaker {Q = KeepsSearch edges (length c.args.graph.now.ids) (state s) (state c.arrive.new.self)} c.arrive.result
+    (λ h seen w. follow_keeps edges (length c.args.graph.now.ids) seen (state s) (state c.arrive.new.self) c.args.node w c.requires.next
     (edge_to c.args.graph.now c.requires.graph c.args.node _ c.requires.next.left) (rw (c.edges.ensures.edges, next) at h)) c.arrive.ensures
 
 pub returns-clause-less : goal.returns-clause-less
@@ -36,5 +36,5 @@ returns-clause-less c =
     let w = c.requires.search.1 in
     let in' = open_below edges _ _ (state s) c.args.node c.requires.next.place w c.requires.next.is_open in
     let next = get_or_read s.looked_at.items c.args.node _ (omega (arith, w.looks)) c.index-next.ensures 0 in
-    on_ok_weaker {Q = work c.args.graph.now.edges (state c.arrive.new.self) < work c.args.graph.now.edges (state s)} c.arrive.result
+    on_ok_weaker {Q = work_left c.args.graph.now.edges (state c.arrive.new.self) < work_left c.args.graph.now.edges (state s)} c.arrive.result
     (λ h. follow_less c.args.graph.now.edges (state s) (state c.arrive.new.self) c.args.node _ (omega (arith, w.looks)) c.requires.next.left (rw (c.edges.ensures.edges, next) at h)) c.arrive.ensures

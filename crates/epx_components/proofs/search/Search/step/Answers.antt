@@ -2,10 +2,10 @@ use Rattle.std.proofs.Common.{◌≡◌, ℕ, ◌-◌, List, length, arith, sym,
 use Rattle.std.proofs.lemmas.List.{get_or_read}
 use Rattle.std.proofs.lemmas.Result.{on_ok_weaker}
 use Rattle.epx_graph.specs.Graphs.{edges_of}
-use Rattle.epx_components.proofs.Finishing.{finish_search}
-use Rattle.epx_components.proofs.Looking.{pop_search}
-use Rattle.epx_components.proofs.Stepping.{open_below, top_open}
-use Rattle.epx_components.specs.SearchInvariants.{IsSearch, Keeps}
+use Rattle.epx_components.proofs.FinishLemmas.{finish_keeps}
+use Rattle.epx_components.proofs.LookLemmas.{pop_keeps}
+use Rattle.epx_components.proofs.PathEndLemmas.{open_below, top_open}
+use Rattle.epx_components.specs.SearchInvariants.{IsSearch, KeepsSearch}
 use Rattle.epx_components.specs.SearchStates.{state}
 use Rattle.epx_components.proofs.search.Search.step.Goals as goal
 
@@ -18,11 +18,11 @@ returns-in-Some-2-clause-keeps c seen w =
     let looked = get_or_read s.looked_at.items c.in-Some.node _ (omega (arith, w.looks)) c.index.ensures 0 in
     let path : c.pop.new.self.items ≡ take (length s.path.items - 1) s.path.items = c.pop.ensures.rest ∙ ap (λ n. take (n - 1) s.path.items) s.path.ok.0 in
     let Then : List ℕ → Type 0 = λ path. IsSearch edges (length c.args.graph.now.ids) seen (record (state s) { path = path }) in
-    subst Then (sym path) (pop_search edges (length c.args.graph.now.ids) seen (state s) c.in-Some.node w top (omega (arith, c.if-index-edges.false, looked, ap length c.edges.ensures.edges)))
+    subst Then (sym path) (pop_keeps edges (length c.args.graph.now.ids) seen (state s) c.in-Some.node w top (omega (arith, c.if-index-edges.false, looked, ap length c.edges.ensures.edges)))
 
 pub returns-in-None-clause-keeps : goal.returns-in-None-clause-keeps
 returns-in-None-clause-keeps c =
     let s = c.args.self.now in
     let edges = edges_of c.args.graph.now in
-    on_ok_weaker {Q = Keeps edges (length c.args.graph.now.ids) (state s) (state c.finish.new.self)} c.finish.result
-    (λ h seen w. finish_search edges (length c.args.graph.now.ids) seen (state s) (state c.finish.new.self) w h (λ i l. omega (arith, c.in-None.ensures.none i l, h.last.1))) c.finish.ensures
+    on_ok_weaker {Q = KeepsSearch edges (length c.args.graph.now.ids) (state s) (state c.finish.new.self)} c.finish.result
+    (λ h seen w. finish_keeps edges (length c.args.graph.now.ids) seen (state s) (state c.finish.new.self) w h (λ i l. omega (arith, c.in-None.ensures.none i l, h.last.1))) c.finish.ensures

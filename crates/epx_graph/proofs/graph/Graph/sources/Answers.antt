@@ -1,13 +1,13 @@
 use Rattle.std.proofs.Common.{◌-◌, length, subst}
 use Rattle.std.proofs.lemmas.Result.{IfOk-weaker}
 use Rattle.epx_graph.specs.Graphs.{DependencyGraph}
-use Rattle.epx_graph.specs.Rows.{AreTurned}
-use Rattle.epx_graph.proofs.Built.{turned_padded}
+use Rattle.epx_graph.specs.Rows.{AreTransposed}
+use Rattle.epx_graph.proofs.BuildLemmas.{transpose_padded}
 use Rattle.epx_graph.proofs.graph.Graph.sources.Goals as goal
 
-pub returns-clause-turned : goal.returns-clause-turned
-returns-clause-turned c =
+pub returns-clause-transpose : goal.returns-clause-transpose
+returns-clause-transpose c =
     let rows = c.self.inside.rows in
     let spare = length c.self.inside.ids.items - length rows in
-    IfOk-weaker c.turned.result (AreTurned rows) (AreTurned c.args.self.now.edges)
-    (λ back h. subst (λ (g : DependencyGraph). AreTurned g.edges back) c.self.view_is (turned_padded rows back spare h)) c.turned.ensures.turned
+    IfOk-weaker c.transpose.result (AreTransposed rows) (AreTransposed c.args.self.now.edges)
+    (λ back h. subst (λ (g : DependencyGraph). AreTransposed g.edges back) c.self.view_is (transpose_padded rows back spare h)) c.transpose.ensures.transpose

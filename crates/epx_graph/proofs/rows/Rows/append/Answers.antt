@@ -1,7 +1,7 @@
 use Rattle.std.proofs.Common.{◌≡◌, ◌+◌, ◌≤◌, ◌<◌, ◌++◌, length, map, All, ℕ, sym, ap, subst, ◌∙◌, arith}
 use Rattle.std.proofs.lemmas.List.{length-append}
 use Rattle.std.proofs.lemmas.List.Elements.{All-weaker}
-use Rattle.epx_graph.proofs.RowsJoined.{ends_within, both_ends, both_rows}
+use Rattle.epx_graph.proofs.RowAppendLemmas.{ends_within, both_ends, both_rows}
 use Rattle.epx_graph.proofs.rows.Rows.append.Goals as goal
 
 pub push_ends-requires : goal.push_ends-requires

@@ -1,5 +1,5 @@
 use Rattle.std.proofs.Common.{ap, length, arith}
-use Rattle.epx_graph.proofs.RowLists.{length_rows}
+use Rattle.epx_graph.proofs.RowLemmas.{length_rows}
 use Rattle.epx_graph.proofs.rows.Rows.len.Goals as goal
 
 pub returns : goal.returns

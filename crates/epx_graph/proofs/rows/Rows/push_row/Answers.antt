@@ -1,5 +1,5 @@
 use Rattle.std.proofs.Common.{◌≡◌, ◌++◌, ◌∷◌, [], append_assoc, ap, ◌∙◌, arith}
-use Rattle.epx_graph.proofs.RowLists.{ends_more, numbers_more}
+use Rattle.epx_graph.proofs.RowLemmas.{ends_more, numbers_more}
 use Rattle.epx_graph.proofs.rows.Rows.push_row.Goals as goal
 
 pub invariant_of-result : goal.invariant_of-result

@@ -1,18 +1,18 @@
 use Rattle.std.proofs.Common.{◌≡◌, ◌∙◌, sym, ap, subst, List, [], ◌∷◌, ◌++◌, map, OnOk, Some}
 use Rattle.epx_types.specs.declared.id.Id.{Id}
 use Rattle.epx_types.specs.PlacedLines.{Placed}
-use Rattle.epx_merge.specs.Ledgers.{Noted, Notes}
-use Rattle.epx_merge.specs.Keyed.{under_names}
-use Rattle.epx_merge.proofs.NotedKeys.{known_line, noted_first}
+use Rattle.epx_merge.specs.Ledgers.{LedgerView, NotesLines}
+use Rattle.epx_merge.specs.LineRows.{with_ids}
+use Rattle.epx_merge.proofs.LedgerMapLemmas.{known_line, noted_first}
 use Rattle.epx_merge.proofs.ledger.Ledger.note.Goals as goal
 
 pub returns-then-is_new : goal.returns-then-is_new
 returns-then-is_new c =
     let disagreements = c.self.inside.disagreements.entries in
-    let after : Noted = record { firsts = under_names c.push.new.self.items; disagreements = disagreements } in
+    let after : LedgerView = record { firsts = with_ids c.push.new.self.items; disagreements = disagreements } in
     let new = sym c.in_ok-place.ensures.added ∙ c.if-is_new.true in
     let last = c.in_ok-push.ensures.items ∙ ap (λ (l : List Placed). l ++ c.args.line ∷ []) c.in_ok-reserve.ensures.items in
-    subst (λ (n : Noted). Notes (c.args.line ∷ []) n after) c.self.view_is
+    subst (λ (n : LedgerView). NotesLines (c.args.line ∷ []) n after) c.self.view_is
     (noted_first c.self.inside.firsts.items disagreements c.args.line c.id.result c.id.ensures c.push.new.self.items c.self.inside.names.keys c.self.invariant new last)
 
 pub compare-requires : goal.compare-requires
@@ -26,5 +26,5 @@ compare-requires c =
 pub returns : goal.returns
 returns c =
     let disagreements = c.self.inside.disagreements.entries in
-    let start : ◌≡◌ {A = Noted} (record { firsts = under_names c.reserve.new.self.items; disagreements = disagreements }) c.args.self.now = ap (λ l. record { firsts = under_names l; disagreements = disagreements }) c.in_ok-reserve.ensures.items ∙ c.self.view_is in
-    subst (λ (n : Noted). OnOk c.compare.result (Notes (c.args.line ∷ []) n c.compare.new.self)) start c.compare.ensures
+    let start : ◌≡◌ {A = LedgerView} (record { firsts = with_ids c.reserve.new.self.items; disagreements = disagreements }) c.args.self.now = ap (λ l. record { firsts = with_ids l; disagreements = disagreements }) c.in_ok-reserve.ensures.items ∙ c.self.view_is in
+    subst (λ (n : LedgerView). OnOk c.compare.result (NotesLines (c.args.line ∷ []) n c.compare.new.self)) start c.compare.ensures

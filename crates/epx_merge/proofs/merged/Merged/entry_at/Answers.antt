@@ -2,7 +2,7 @@ use Rattle.std.proofs.Common.{rules, ◌≡◌, ◌<◌, length, slice_get, Some
 use Rattle.std.specs.Vec.{vec_len}
 use Rattle.std.proofs.lemmas.Option.{slice_get_within, get_or_from_slice_get}
 use Rattle.epx_types.specs.PlacedLines.{Placed}
-use Rattle.epx_merge.proofs.KeyedRows.{length_at, stands_at}
+use Rattle.epx_merge.proofs.MergedMapLemmas.{length_at, stands_at}
 use Rattle.epx_merge.proofs.merged.Merged.entry_at.Goals as goal
 
 pub index-requires : goal.index-requires

@@ -2,9 +2,9 @@ use Rattle.std.proofs.Common.{rules, ◌≡◌, length, slice_get, refl, sym, ap
 use Rattle.std.specs.Vec.{vec_len}
 use Rattle.std.proofs.lemmas.Option.{slice_get_read}
 use Rattle.epx_types.specs.CommittedMap.{ids_of}
-use Rattle.epx_types.proofs.Places.{slice_get-map}
+use Rattle.epx_types.proofs.lists.ListPositionLemmas.{slice_get-map}
 use Rattle.epx_merge.specs.declared.rows.Row.{Row}
-use Rattle.epx_merge.proofs.KeyedRows.{ids_at, length_at}
+use Rattle.epx_merge.proofs.MergedMapLemmas.{ids_at, length_at}
 use Rattle.epx_merge.proofs.merged.Merged.id_at.Goals as goal
 
 pub index-requires : goal.index-requires

@@ -2,7 +2,7 @@ use Rattle.std.proofs.Common.{rules, ◌≡◌, length, sym, ap, subst, ◌∙�
 use Rattle.std.specs.Vec.{vec_len}
 use Rattle.epx_types.specs.Ids.{IsRising}
 use Rattle.epx_types.specs.CommittedMap.{ids_of}
-use Rattle.epx_merge.proofs.KeyedRows.{length_at, rising_at}
+use Rattle.epx_merge.proofs.MergedMapLemmas.{length_at, rising_at}
 use Rattle.epx_merge.proofs.merged.Merged.len.Goals as goal
 
 pub returns-clause-len : goal.returns-clause-len

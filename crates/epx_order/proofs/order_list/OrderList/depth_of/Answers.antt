@@ -1,6 +1,6 @@
 use Rattle.std.proofs.Common.{length, slice_get, refl, sym, ap, ◌∙◌, arith}
 use Rattle.epx_order.specs.Ranks.{ranked}
-use Rattle.epx_order.proofs.RankLists.{rank_at}
+use Rattle.epx_order.proofs.RankLemmas.{rank_at}
 use Rattle.epx_order.proofs.order_list.OrderList.depth_of.Goals as goal
 
 pub returns : goal.returns

@@ -38,8 +38,8 @@ returns-clause-reaches c =
     let read : c.index-node.result.now ≡ node = get_or_read nodes _ _ c.requires.later c.index-node.ensures 0 in
     let first : c.index-2.result.now ≡ start = get_or_read starts _ _ (omega (arith, c.requires.earlier, c.requires.reach.each_place)) c.index-2.ensures 0 in
     let on = (c.requires.reach.start earlier c.requires.earlier).1 in
-    IfOk-weaker c.find.result
+    IfOk-weaker c.find_path.result
     (λ yes. IsTrue yes → NodeReaches edges node (get_or nodes start 0))
     (λ yes. IsTrue yes → NodeReaches edges node (get_or nodes earlier 0))
     (λ yes found true. reaches_on edges node (get_or nodes start 0) (get_or nodes earlier 0) (found true) on)
-    (rw (read, first) at c.find.ensures.reaches)
+    (rw (read, first) at c.find_path.ensures.reaches)

@@ -1,5 +1,5 @@
 use Rattle.std.proofs.Common.{◌∙◌, ◌++◌, ◌∷◌, [], ap}
-use Rattle.epx_txn.proofs.Placing.{listed_more, listed_all}
+use Rattle.epx_txn.proofs.KeySlotLemmas.{listed_more, listed_all}
 use Rattle.epx_txn.proofs.few_writes.FewWrites.pairs.Goals as goal
 
 pub loop-key-preserved : goal.loop-key-preserved

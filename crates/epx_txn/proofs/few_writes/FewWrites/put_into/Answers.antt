@@ -1,4 +1,4 @@
-use Rattle.epx_txn.proofs.Placing.{put_all_listed}
+use Rattle.epx_txn.proofs.KeySlotLemmas.{put_all_listed}
 use Rattle.epx_txn.proofs.few_writes.FewWrites.put_into.Goals as goal
 
 pub returns : goal.returns

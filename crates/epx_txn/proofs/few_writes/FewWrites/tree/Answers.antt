@@ -1,6 +1,6 @@
 use Rattle.std.proofs.Common.{◌∙◌, ap}
 use Rattle.std.specs.FinMap as contents
-use Rattle.epx_txn.proofs.Placing.{inserted_first, inserted_more, inserted_all}
+use Rattle.epx_txn.proofs.KeySlotLemmas.{inserted_first, inserted_more, inserted_all}
 use Rattle.epx_txn.proofs.few_writes.FewWrites.tree.Goals as goal
 
 pub loop-key-init : goal.loop-key-init

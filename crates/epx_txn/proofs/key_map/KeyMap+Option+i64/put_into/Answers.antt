@@ -1,4 +1,4 @@
-use Rattle.epx_txn.proofs.Reading.{put_all_of_tree}
+use Rattle.epx_txn.proofs.MapLoopLemmas.{put_all_of_tree}
 use Rattle.epx_txn.proofs.key_map.KeyMap+Option+i64.put_into.Goals as goal
 
 pub returns : goal.returns

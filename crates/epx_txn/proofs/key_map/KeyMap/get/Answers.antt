@@ -1,6 +1,6 @@
 use Rattle.std.proofs.Common.{◌∙◌, sym, ap}
 use Rattle.std.specs.FinMap as contents
-use Rattle.epx_txn.proofs.TreeEntries.{get-found}
+use Rattle.epx_txn.proofs.TreeEntryLemmas.{get-found}
 use Rattle.epx_txn.proofs.key_map.KeyMap.get.Goals as goal
 
 pub returns : goal.returns

@@ -1,7 +1,7 @@
 use Rattle.std.proofs.Common.{◌∙◌, sym, ap, length}
 use Rattle.std.specs.FinMap as contents
-use Rattle.epx_types.proofs.SortedEntries.{entries-from_entries}
-use Rattle.epx_txn.proofs.TreeEntries.{is_sorted-from_order}
+use Rattle.epx_types.proofs.keys.SortedEntryLemmas.{entries-from_entries}
+use Rattle.epx_txn.proofs.TreeEntryLemmas.{is_sorted-from_order}
 use Rattle.epx_txn.proofs.key_map.KeyMap.len.Goals as goal
 
 pub returns : goal.returns

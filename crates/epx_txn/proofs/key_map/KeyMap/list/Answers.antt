@@ -1,5 +1,5 @@
 use Rattle.std.proofs.Common.{map, []}
-use Rattle.epx_txn.proofs.Reading.{listed_all}
+use Rattle.epx_txn.proofs.MapLoopLemmas.{listed_all}
 use Rattle.epx_txn.proofs.key_map.KeyMap.list.Goals as goal
 
 pub returns : goal.returns

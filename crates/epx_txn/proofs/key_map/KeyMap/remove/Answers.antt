@@ -1,6 +1,6 @@
 use Rattle.std.proofs.Common.{◌∙◌, ap}
 use Rattle.std.specs.FinMap as contents
-use Rattle.epx_txn.proofs.TreeEntries.{from_entries-removed}
+use Rattle.epx_txn.proofs.TreeEntryLemmas.{from_entries-removed}
 use Rattle.epx_txn.proofs.key_map.KeyMap.remove.Goals as goal
 
 pub returns : goal.returns

@@ -1,5 +1,5 @@
 use Rattle.std.proofs.Common.{◌∙◌}
-use Rattle.epx_txn.proofs.ShardLookups.{get-opened}
+use Rattle.epx_txn.proofs.ShardLookupLemmas.{get-opened}
 use Rattle.epx_txn.proofs.store.Store.get.Goals as goal
 
 pub returns : goal.returns

@@ -1,5 +1,5 @@
 use Rattle.std.proofs.Common.{◌≤◌, length, arith}
-use Rattle.epx_txn.proofs.ListedOnce.{len-counted}
+use Rattle.epx_txn.proofs.UniqueKeyLemmas.{len-counted}
 use Rattle.epx_txn.proofs.store.Store.len.Goals as goal
 
 pub returns : goal.returns

@@ -1,6 +1,6 @@
 use Rattle.std.proofs.Common.{T, ap, map, subst, sym, ◌∙◌}
 use Rattle.std.proofs.lemmas.List.Sorted.{IsPermutation-trans}
-use Rattle.epx_txn.proofs.ListedOnce.{entries-rising, entries-listed, rises-sorted}
+use Rattle.epx_txn.proofs.UniqueKeyLemmas.{entries-rising, entries-listed, rises-sorted}
 use Rattle.epx_txn.proofs.store.Store.pairs.Goals.{then-not-rises+in_ok-sort, else-not-rises}
 use Rattle.epx_txn.proofs.store.Store.pairs.Goals as goal
 

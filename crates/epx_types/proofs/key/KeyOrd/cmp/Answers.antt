@@ -1,5 +1,5 @@
 use Rattle.std.proofs.Common.{◌∙◌}
-use Rattle.epx_types.proofs.KeyHeadLemmas.{ordered_by_key_heads}
+use Rattle.epx_types.proofs.keys.KeyHeadLemmas.{ordered_by_key_heads}
 use Rattle.epx_types.proofs.key.KeyOrd.cmp.Goals as goal
 
 pub returns-else-self-other : goal.returns-else-self-other

@@ -1,0 +1,7 @@
+use Rattle.std.proofs.Common.{take, flat_map}
+use Rattle.epx_apply.specs.KeyTables.{AddsAccesses, accesses_of}
+use Rattle.epx_apply.proofs.key_table.KeyTable.push_command.Given as goal
+
+-- the keys of the operations so far are added
+abbrev pub invariant-loop-op : goal.invariant-loop-op
+invariant-loop-op l = AddsAccesses (flat_map accesses_of (take l.op-index l.ops)) l.fn.self l.self

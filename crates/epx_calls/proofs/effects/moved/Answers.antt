@@ -1,7 +1,0 @@
-use Rattle.std.proofs.Common.{rules}
-use Rattle.epx_calls.proofs.TwoWrites.{two_apart}
-use Rattle.epx_calls.proofs.effects.moved.Goals as goal
-
-pub merge_effects-requires-after_bounds : goal.merge_effects-requires-after_bounds
-merge_effects-requires-after_bounds g c κs within =
-    two_apart c.in_ok-one_write.field-0.writes c.in_ok-one_write-2.field-0.writes c.args.removed c.args.put _ _ c.in_ok-one_write.ensures c.in_ok-one_write-2.ensures (search rules)

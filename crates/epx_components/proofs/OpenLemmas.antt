@@ -1,0 +1,104 @@
+-- A node is opened.
+use Rattle.std.proofs.Common.{◌≡◌, ◌≢◌, ℕ, ◌<◌, ◌≤◌, ◌⊎◌, inl, inr, ⊎_elim, List, [], ◌∷◌, ◌++◌, length, get_or, set, sym, subst, ◌∙◌, ap, arith, Contains, length-set}
+use Rattle.std.proofs.lemmas.List.{get_or-set_same, get_or-set_other, get_or_append_left, get_or_push, length_push}
+use Rattle.std.proofs.lemmas.List.Elements.{Contains-push, Contains-append_left}
+use Rattle.epx_graph.specs.NodePaths.{NodeReaches}
+use Rattle.epx_components.proofs.NodePathLemmas.{reaches_itself}
+use Rattle.epx_components.proofs.VisitLemmas.{MayLead-from, MayLead-push, MayLead-to, set_cases}
+use Rattle.epx_components.proofs.StartLemmas.{IsInGroupFrom-pushed, IsInGroupFrom-unpush, AreRisingBelow-push, first_push, push_cases}
+use Rattle.epx_components.specs.SearchInvariants.{AreFinished, IsRow, IsSearch}
+use Rattle.epx_components.specs.SearchStates.{SearchState, visit_of}
+use Rattle.epx_components.specs.SearchSteps.{after_enter}
+use Rattle.epx_components.specs.declared.visit.Visit.{Visit}
+use Rattle.epx_components.specs.declared.visit.Visit.TheVariants.{Closed, Open, Unseen}
+
+enter_row : (place : List Visit) (opened : List ℕ) (k : ℕ) → IsRow place opened → k < length place → visit_of place k ≡ Unseen → IsRow (set place k (Open (length opened))) (opened ++ k ∷ [])
+enter_row place opened k r l un =
+    let m = length opened in
+    let new = set place k (Open m) in
+    record {
+      stands = push_cases opened k (λ p j. visit_of new j ≡ Open p)
+          (λ p h. get_or-set_other place k _ _ Unseen
+          (λ e. let wrong : Open p ≡ Unseen = sym (r.stands p h) ∙ (ap (visit_of place) e ∙ un) in cc) ∙ r.stands p h)
+          (get_or-set_same place k (Open m) Unseen l);
+      placed = λ j p h. ⊎_elim
+          (λ (e : (j ≡ k) × (visit_of new j ≡ Open m)).
+          let same : Open m ≡ Open p = sym e.1 ∙ h in
+          let at : m ≡ p = cc in
+          (omega (arith, length_push opened k), get_or_push opened k 0 p at ∙ sym e.0))
+          (λ (e : (j ≢ k) × (visit_of new j ≡ visit_of place j)).
+          let old = r.placed j p (sym e.1 ∙ h) in
+          (omega (arith, old.0, length_push opened k), get_or_append_left opened (k ∷ []) 0 p old.0 ∙ old.1))
+          (set_cases place k (Open m) j l);
+    }
+
+-- the finished components stay the same
+enter_finished : (edges : ℕ → List ℕ) (place : List Visit) (looked_at order : List ℕ) (count k m : ℕ) → AreFinished edges place looked_at order count → k < length place → visit_of place k ≡ Unseen → AreFinished edges (set place k (Open m)) looked_at order count
+enter_finished edges place looked_at order count k m d l un =
+    let new = set place k (Open m) in
+    let back : (j c : ℕ) → visit_of new j ≡ Closed c → visit_of place j ≡ Closed c = λ j c h.
+    ⊎_elim
+    (λ (e : (j ≡ k) × (visit_of new j ≡ Open m)). let wrong : Open m ≡ Closed c = sym e.1 ∙ h in cc)
+    (λ (e : (j ≢ k) × (visit_of new j ≡ visit_of place j)). sym e.1 ∙ h)
+    (set_cases place k (Open m) j l)
+    in
+    let on : (j c : ℕ) → visit_of place j ≡ Closed c → visit_of new j ≡ Closed c = λ j c h.
+    get_or-set_other place k j _ Unseen (λ e. let wrong : Closed c ≡ Unseen = sym h ∙ (ap (visit_of place) e ∙ un) in cc) ∙ h
+    in
+    record {
+      counted = λ j c h. d.counted j c (back j c h);
+      joined = λ i j c h g. d.joined i j c (back i c h) (back j c g);
+      looked = λ j c h. d.looked j c (back j c h);
+      listed = λ j c h. d.listed j c (back j c h);
+      closed = λ i h. ((d.closed i h).0, on _ _ (d.closed i h).1);
+      sorted = λ i j b c le h e g. d.sorted i j b c le h (back _ b e) (back _ c g);
+      count_below = d.count_below;
+    }
+
+pub enter_keeps : (edges : ℕ → List ℕ) (n seen : ℕ) (s : SearchState) (k : ℕ) → IsSearch edges n seen s → k < n → visit_of s.place k ≡ Unseen → ((j p : ℕ) → visit_of s.place j ≡ Open p → NodeReaches edges j k) → IsSearch edges n seen (after_enter s k)
+enter_keeps edges n seen s k w l un all =
+    let m = length s.opened in
+    let in' : k < length s.place = omega (arith, w.places) in
+    let new = set s.place k (Open m) in
+    let cases : (j : ℕ) → ((j ≡ k) × (visit_of new j ≡ Open m)) ⊎ ((j ≢ k) × (visit_of new j ≡ visit_of s.place j)) = λ j. set_cases s.place k (Open m) j in' in
+    let kept : (j : ℕ) → visit_of s.place j ≢ Unseen → visit_of new j ≡ visit_of s.place j = λ j h.
+    get_or-set_other s.place k j _ Unseen (λ e. h (ap (visit_of s.place) e ∙ un)) in
+    record {
+      places = length-set s.place k (Open m) ∙ w.places;
+      looks = w.looks;
+      seen_below = λ j h e. w.seen_below j h (sym (kept j (w.seen_below j h)) ∙ e);
+      row = enter_row s.place s.opened k w.row in' un;
+      starts = AreRisingBelow-push s.starts m _ w.starts (omega (arith, length_push s.opened k));
+      begins = first_push s.starts m w.begins w.grouped;
+      grouped = λ _. omega (arith, length_push s.starts m);
+      path = AreRisingBelow-push s.path m _ w.path (omega (arith, length_push s.opened k));
+      finished = enter_finished edges s.place s.looked_at s.order s.count k m w.finished in' un;
+      waits = λ j p h. ⊎_elim
+          (λ (e : (j ≡ k) × (visit_of new j ≡ Open m)).
+          let same : Open m ≡ Open p = sym e.1 ∙ h in
+          let at : m ≡ p = cc in
+          inr (subst (Contains (s.path ++ m ∷ [])) at (Contains-push s.path m)))
+          (λ (e : (j ≢ k) × (visit_of new j ≡ visit_of s.place j)).
+          ⊎_elim (λ h. inl h) (λ h. inr (Contains-append_left s.path (m ∷ []) p h)) (w.waits j p (sym e.1 ∙ h)))
+          (cases j);
+      leads = λ j i h.
+          let old = w.leads j i h in
+          let from = kept j (MayLead-from _ _ _ old) in
+          let to = kept (get_or (edges j) i 0) (MayLead-to _ _ _ old) in
+          rw (from, to) (MayLead-push s.starts m _ _ (λ p e. (w.row.placed j p e).0) old);
+      reaches = λ i j p q hi hj from. ⊎_elim
+          (λ (e : (i ≡ k) × (visit_of new i ≡ Open m)). ⊎_elim
+          (λ (f : (j ≡ k) × (visit_of new j ≡ Open m)). reaches_itself edges i j (e.0 ∙ sym f.0))
+          (λ (f : (j ≢ k) × (visit_of new j ≡ visit_of s.place j)).
+          let same : Open m ≡ Open p = sym e.1 ∙ hi in
+          let at : m ≡ p = cc in
+          let last : m ≤ q = IsInGroupFrom-pushed s.starts m p q (omega arith) from in
+          absurd (omega (arith, (w.row.placed j q (sym f.1 ∙ hj)).0)))
+          (cases j))
+          (λ (e : (i ≢ k) × (visit_of new i ≡ visit_of s.place i)). ⊎_elim
+          (λ (f : (j ≡ k) × (visit_of new j ≡ Open m)). rw f.0 (all i p (sym e.1 ∙ hi)))
+          (λ (f : (j ≢ k) × (visit_of new j ≡ visit_of s.place j)).
+          w.reaches i j p q (sym e.1 ∙ hi) (sym f.1 ∙ hj) (IsInGroupFrom-unpush s.starts m p q from))
+          (cases j))
+          (cases i);
+    }

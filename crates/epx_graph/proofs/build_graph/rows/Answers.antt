@@ -1,0 +1,11 @@
+use Rattle.std.proofs.Common.{◌≡◌, [], arith}
+use Rattle.std.proofs.lemmas.Bool.Decides.{nat_tests}
+use Rattle.std.proofs.lemmas.List.{nil_from_length}
+use Rattle.epx_graph.specs.Remainder.{left_of}
+use Rattle.epx_graph.proofs.GatherRowLemmas.{rows_whole}
+use Rattle.epx_graph.proofs.build_graph.rows.Goals as goal
+
+pub returns-then-is_empty : goal.returns-then-is_empty
+returns-then-is_empty c =
+    let none : c.args.gathered.missing.items ≡ [] = nil_from_length c.args.gathered.missing.items (grind (arith, nat_tests, c.is_empty.ensures, c.if-is_empty.true, c.args.gathered.missing.ok.0)) in
+    rows_whole (left_of c.args.left.now) c.args.ids.now c.args.gathered.rows c.args.gathered.missing.items c.requires.nodes c.requires.gathered none

@@ -1,7 +1,0 @@
-use Rattle.std.proofs.Common.{◌≡◌, take}
-use Rattle.epx_types.specs.CommittedMap.{ids_of}
-use Rattle.epx_graph.specs.Left.{left_of}
-use Rattle.epx_graph.proofs.building.committed_ids.Given as goal
-
-abbrev pub invariant-loop-place : goal.invariant-loop-place
-invariant-loop-place l = l.ids.items ≡ ids_of (take l.place (left_of l.left))

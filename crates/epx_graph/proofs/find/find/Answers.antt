@@ -1,5 +1,0 @@
-use Rattle.epx_graph.proofs.Finding.{absent}
-use Rattle.epx_graph.proofs.find.find.Goals as goal
-
-pub returns-in-Err : goal.returns-in-Err
-returns-in-Err c = absent c.args.ids.now c.args.id c.in-Err.field-0 c.requires c.in-Err.ensures.position

@@ -1,6 +1,0 @@
-use Rattle.std.proofs.Common.{take}
-use Rattle.epx_graph.specs.Searches.{Visits}
-use Rattle.epx_graph.proofs.search.Search.visit.Given as goal
-
-abbrev pub invariant-loop-node : goal.invariant-loop-node
-invariant-loop-node l = Visits (take l.node-index l.nodes) l.root l.fn.self (record { marks = l.self-inside.marks.items; stack = l.self-inside.stack.items })

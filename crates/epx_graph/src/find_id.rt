@@ -1,0 +1,47 @@
+//! Finds an Id in a list by rising Id.
+ghost use Rattle.std.specs.Prelude.{◌≡◌, ◌<◌, ◌≤◌, ℕ, length, Contains, IsTrue, MatchOption, Some, slice_get, slice_index_or};
+ghost use Rattle.epx_types.specs.declared.id.Id.{Id};
+ghost use Rattle.epx_types.specs.Ids.{Below, IsRising};
+
+use epx_types::Id;
+
+/// The position of an Id in a list by rising Id, by binary search.
+pub(crate) fn find_id(ids: &[Id], id: Id) -> Option<usize>
+    requires { IsRising ids.now }
+    ensures { MatchOption result (¬ Contains ids.now id) (λ k. slice_get ids.now k ≡ Some id) }
+{
+    match ids.binary_search(&id) {
+        Ok(place) => Some(place),
+        Err(_) => None,
+    }
+}
+
+/// Whether all Ids before a position are below this one. False says nothing.
+fn all_below_before(ids: &[Id], place: usize, id: Id) -> bool
+    requires { IsRising ids.now }
+    ensures { IsTrue result → (k : ℕ) (d : Id) → k < place → Below (slice_index_or ids.now k d) id }
+{
+    if place == 0 {
+        return true;
+    }
+    place <= ids.len() && ids[place - 1] < id
+}
+
+/// Whether all Ids from a position on are above this one. False says nothing.
+fn all_above_from(ids: &[Id], place: usize, id: Id) -> bool
+    requires { IsRising ids.now }
+    ensures { IsTrue result → (k : ℕ) (d : Id) → place ≤ k → k < length ids.now → Below id (slice_index_or ids.now k d) }
+{
+    if place >= ids.len() {
+        return true;
+    }
+    id < ids[place]
+}
+
+/// Whether the neighbours at a position show that the Id is not in the list. False says nothing.
+pub(crate) fn is_absent(ids: &[Id], place: usize, id: Id) -> bool
+    requires { IsRising ids.now }
+    ensures { IsTrue result → ¬ Contains ids.now id }
+{
+    all_below_before(ids, place, id) && all_above_from(ids, place, id)
+}

@@ -1,5 +1,0 @@
-use Rattle.epx_types.proofs.AgreementLemmas.{IsCommittedBy-unique}
-use Rattle.epx_laws.proofs.agreement.committed_map_is_one.Goals as goal
-
-pub returns : goal.returns
-returns c = IsCommittedBy-unique

@@ -1,5 +1,0 @@
-use Rattle.epx_types.proofs.DoneLemmas.{Contains-remaining_iff}
-use Rattle.epx_laws.proofs.done.left_is_not_done.Goals as goal
-
-pub returns : goal.returns
-returns c = Contains-remaining_iff

@@ -1,0 +1,5 @@
+use Rattle.epx_types.proofs.commands.ExecutionLemmas.{execute-append}
+use Rattle.epx_laws.proofs.execution.execution_appends.Goals as goal
+
+pub returns : goal.returns
+returns c = execute-append

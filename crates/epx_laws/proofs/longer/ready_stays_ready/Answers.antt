@@ -1,5 +1,0 @@
-use Rattle.epx_types.proofs.LongerMaps.{IsReady-in_more}
-use Rattle.epx_laws.proofs.longer.ready_stays_ready.Goals as goal
-
-pub returns : goal.returns
-returns c = IsReady-in_more

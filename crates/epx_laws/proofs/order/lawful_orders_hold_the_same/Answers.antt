@@ -1,4 +1,0 @@
-use Rattle.epx_laws.proofs.order.lawful_orders_hold_the_same.Goals as goal
-
-pub returns : goal.returns
-returns c = λ m ids other lawful lawful' x there. lawful'.whole x (lawful.only x there)

@@ -1,5 +1,0 @@
-use Rattle.epx_types.proofs.ResumedExecutions.{IsSound-nothing_done}
-use Rattle.epx_laws.proofs.resuming.nothing_done_is_sound.Goals as goal
-
-pub returns : goal.returns
-returns c = IsSound-nothing_done

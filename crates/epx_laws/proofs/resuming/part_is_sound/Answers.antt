@@ -1,8 +1,0 @@
-use Rattle.epx_types.specs.ExecutionOrder.{ranked_ids}
-use Rattle.epx_types.proofs.ExecutionOrders.{IsExecutionOrder-IsLawful}
-use Rattle.epx_types.proofs.ResumedExecutions.{IsSound-part}
-use Rattle.epx_laws.proofs.resuming.part_is_sound.Goals as goal
-
-pub returns : goal.returns
-returns c = λ m part rising within order ordered.
-    IsSound-part m rising part within (ranked_ids order) (IsExecutionOrder-IsLawful part order ordered)

@@ -1,9 +1,0 @@
-use Rattle.epx_types.specs.Done.{remaining}
-use Rattle.epx_types.specs.ExecutionOrder.{ranked_ids}
-use Rattle.epx_types.proofs.ExecutionOrders.{IsExecutionOrder-IsLawful}
-use Rattle.epx_types.proofs.ResumedExecutions.{IsSound-resumed}
-use Rattle.epx_laws.proofs.resuming.resuming_stays_sound.Goals as goal
-
-pub returns : goal.returns
-returns c = λ m other done d can order ordered.
-    IsSound-resumed m can.rising done d can.sound other can.has (ranked_ids order) (IsExecutionOrder-IsLawful (remaining done other) order ordered)

@@ -1,9 +1,0 @@
-use Rattle.std.proofs.Common.{arith, rules}
-use Rattle.epx_lines.proofs.NumberTexts.{one_digit_more}
-use Rattle.epx_lines.proofs.digits.digits_number.Goals as goal
-
-pub loop-byte-preserved : goal.loop-byte-preserved
-loop-byte-preserved c =
-    let so_far = c.loop-byte.invariant in
-    let more = one_digit_more c.args.bytes.now c.loop-byte.byte-index c.loop-byte.number so_far.all_digits so_far.value (omega arith) (search rules) in
-    record { all_digits = more.0; value = rw c.from.ensures more.1 }

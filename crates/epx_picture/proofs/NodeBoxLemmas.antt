@@ -1,0 +1,41 @@
+-- What the box of an instance shows, from the rank of its node.
+use Rattle.std.proofs.Common.{◌≡◌, ℕ, ◌<◌, List, Bool, true, false, Option, slice_get, Some, sym, ap, ◌∙◌, subst, arith, refl, IsTrue}
+use Rattle.std.proofs.lemmas.Bool.{false≢true}
+use Rattle.std.proofs.lemmas.Option.{slice_get_within}
+use Rattle.epx_types.specs.declared.id.Id.{Id}
+use Rattle.epx_types.specs.Ids.{IsRising}
+use Rattle.epx_types.specs.Instances.{Instance}
+use Rattle.epx_types.proofs.committed.AgreementLemmas.{IsRising-same}
+use Rattle.epx_types.proofs.lists.ListPositionLemmas.{Contains-slice_get}
+use Rattle.epx_graph.specs.Graphs.{DependencyGraph}
+use Rattle.epx_graph.specs.GraphOf.{IsGraphOf}
+use Rattle.epx_graph.proofs.MapPathLemmas.{committed_count}
+use Rattle.epx_components.specs.declared.node_ranks.NodeRank.{NodeRank}
+use Rattle.epx_components.specs.NodeRanks.{IsNodeRank}
+use Rattle.epx_components.proofs.InstanceDepthLemmas.{depth_from_node}
+use Rattle.epx_components.proofs.ReadyRankLemmas.{node_of_place}
+use Rattle.epx_components.proofs.ReadyNodeLemmas.{ready_from_node, node_from_ready}
+use Rattle.epx_picture.specs.NodeBoxes.{IsCluster, IsBoxOf}
+
+from_not_false : (b : Bool) → ¬ (b ≡ false) → IsTrue b
+from_not_false true h = refl
+from_not_false false h = absurd (h refl)
+
+module _ (m : List Instance) (g : DependencyGraph) (is : IsGraphOf m g) (k : ℕ) (e : Instance) (at : slice_get m k ≡ Some e) where
+  below : k < g.committed
+  below = omega (arith, slice_get_within m k e at, committed_count m g is)
+
+  -- the node at a position of the map is that of the instance there
+  pub own_node : slice_get g.ids k ≡ Some e.id
+  own_node = node_of_place m g is k e at below
+
+  pub box_from_node : (s : NodeRank) (cluster : Option Id) → IsNodeRank g k s → IsCluster m e.id cluster → IsBoxOf m (record { id = e.id; seq = e.seq; depth = s.depth; cluster = cluster; waits = s.reaches_missing })
+  box_from_node s cluster stands clustered = record {
+    seq = λ d in_d same. ap (λ (i : Instance). i.seq) (IsRising-same m (subst IsRising is.committed is.graph.committed_rise) d e in_d (Contains-slice_get m k e at) same);
+    depth = depth_from_node m g is k e.id s.depth own_node stands.depth;
+    cluster = clustered;
+    waits = (
+      λ h ready. node_from_ready m g is k e.id own_node ready (stands.missing.0 h),
+      λ waits. from_not_false s.reaches_missing (λ none. waits (ready_from_node m g is k e.id own_node below (λ missing. false≢true (sym none ∙ stands.missing.1 missing)))),
+    );
+  }

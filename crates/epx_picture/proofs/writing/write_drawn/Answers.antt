@@ -1,4 +1,0 @@
-use Rattle.epx_picture.proofs.writing.write_drawn.Goals as goal
-
-pub returns-in-Some : goal.returns-in-Some
-returns-in-Some c = rw c.in-Some.is c.write.ensures.bytes

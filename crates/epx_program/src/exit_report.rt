@@ -1,0 +1,46 @@
+//! How the program ends.
+ghost use Rattle.std.specs.Prelude.{◌≡◌, ◌≢◌, true, false};
+ghost use Rattle.std.specs.Io.KnownBytes.{Appends};
+ghost use Rattle.epx_devices.specs.Transfers.{AppendsPrefix};
+ghost use Rattle.epx_program.specs.Endings.{status_of};
+
+use epx_tool::{Sink, write_out};
+use epx_types::Fault;
+use std::io::Eprint;
+
+/// Writes the line of a fault to standard error, and returns the exit status.
+pub(crate) fn report_fault(rt: &impl Eprint, done: Result<(), Fault>) -> u8
+    ensures { result ≡ status_of done }
+{
+    match done {
+        Ok(()) => 0,
+        Err(fault) => {
+            // If standard error cannot be written, the status still reports the fault.
+            let _printed = eprintln!(rt; "{fault}");
+            fault.status()
+        }
+    }
+}
+
+/// Writes a text of status 0 to the output and any other to standard error. Returns the exit
+/// status, which is 4 if the output failed.
+pub(crate) fn print_text<R: Eprint, W: Sink>(rt: &R, text: &str, status: u8, output: &mut W) -> u8
+    requires { W.has_failed output.old ≡ false }
+
+    ensures told { status ≢ 0 → (result ≡ status) × (output.new ≡ output.old) }
+
+    ensures shown { status ≡ 0 → result ≡ 0
+        → Appends (W.contents output.old) (W.contents output.new) text.now }
+    ensures flushed { status ≡ 0 → result ≡ 0 → W.is_flushed output.new ≡ true }
+    ensures prefix { status ≡ 0
+        → AppendsPrefix (W.contents output.old) (W.contents output.new) text.now }
+
+    ensures status { status ≡ 0 → result ≢ 0 → (result ≡ 4) × (W.has_failed output.new ≡ true) }
+    ensures failed { W.has_failed output.new ≡ true → result ≡ 4 }
+{
+    if status == 0 {
+        return report_fault(rt, write_out(text.as_bytes(), output));
+    }
+    let _printed = eprint!(rt; "{text}");
+    status
+}

@@ -1,0 +1,66 @@
+-- Every committed map has a report and its views, and every list of logs has an answer.
+use Rattle.std.proofs.Common.{◌≢◌, ℕ, List, Result, Ok, Err, refl, inl, inr}
+use Rattle.std.specs.FinMap as contents
+use Rattle.epx_types.specs.declared.fault.Fault.{Fault}
+use Rattle.epx_types.specs.declared.fault.Fault.TheVariants.{Memory}
+use Rattle.epx_types.specs.Ids.{IsRising}
+use Rattle.epx_types.specs.Instances.{Instance}
+use Rattle.epx_types.specs.CommittedMap.{ids_of}
+use Rattle.epx_types.specs.Execution.{execute}
+use Rattle.epx_types.proofs.orders.OrderExistenceLemmas.{execution_order_exists, waiting_list_exists}
+use Rattle.epx_types.proofs.levels.LevelExistenceLemmas.{levels_exist}
+use Rattle.epx_merge.proofs.ExistenceLemmas.{answered_always}
+use Rattle.epx_order.proofs.LeastUncoveredLemmas.{covered_or_not}
+use Rattle.epx_picture.proofs.PictureLemmas.{picture_exists}
+use Rattle.epx_tool.specs.declared.ask.Ask.{Ask}
+use Rattle.epx_tool.specs.declared.ask.Ask.TheVariants.{Order, Levels, Audit, Graph}
+use Rattle.epx_tool.specs.Report.{IsReport, report_text, commands_of}
+use Rattle.epx_tool.specs.OrderText.{IsOrderText, order_text}
+use Rattle.epx_tool.specs.LevelText.{IsLevelText, level_text}
+use Rattle.epx_tool.specs.AuditText.{IsAuditText, covered_line, uncovered_line}
+use Rattle.epx_tool.specs.Views.{IsViewText}
+use Rattle.epx_tool.specs.Answer.{Answers}
+
+module _ (m : List Instance) (rising : IsRising (ids_of m)) where
+  pub report_exists : (text : List ℕ) × IsReport m text
+  report_exists =
+      let order = execution_order_exists m rising in
+      let waiting = waiting_list_exists m rising in (
+        report_text order.0 waiting.0 (execute (commands_of m order.0) contents.empty),
+        record { order = order.0; waiting = waiting.0; ordered = order.1; listed = waiting.1; printed = refl },
+      )
+
+  pub order_text_exists : (text : List ℕ) × IsOrderText m text
+  order_text_exists =
+      let order = execution_order_exists m rising in
+      let waiting = waiting_list_exists m rising in
+      (order_text order.0 waiting.0, record { order = order.0; waiting = waiting.0; ordered = order.1; listed = waiting.1; printed = refl })
+
+  pub level_text_exists : (text : List ℕ) × IsLevelText m text
+  level_text_exists =
+      let order = execution_order_exists m rising in
+      let waiting = waiting_list_exists m rising in
+      let levels = levels_exist (commands_of m order.0) in (
+        level_text order.0 levels.0 waiting.0,
+        record { order = order.0; levels = levels.0; waiting = waiting.0; ordered = order.1; levelled = levels.1; listed = waiting.1; printed = refl },
+      )
+
+  pub audit_text_exists : (text : List ℕ) × IsAuditText m text
+  audit_text_exists = elim (covered_or_not m) [
+    | inl covered ↦ (covered_line, inl (covered, refl))
+    | inr pair ↦ (uncovered_line pair.0 pair.1, inr (pair.0, pair.1, pair.2, refl))
+  ]
+
+  pub view_text_exists : (ask : Ask) → (text : List ℕ) × IsViewText ask m text
+  view_text_exists Order = order_text_exists
+  view_text_exists Levels = level_text_exists
+  view_text_exists Audit = audit_text_exists
+  view_text_exists Graph = picture_exists m rising
+
+-- if every committed map has a text, every list of logs has an answer
+pub answer_exists : (Is : List Instance → List ℕ → Type 0) → ((m : List Instance) → IsRising (ids_of m) → (text : List ℕ) × Is m text) → (logs : List (List ℕ)) → (a : Result (List ℕ) Fault) × (a ≢ Err Memory) × Answers Is logs a
+answer_exists Is text_of_map logs =
+    elim (answered_always logs) [
+      | inl accepted ↦ let text = text_of_map accepted.0 accepted.1.committed.rising in (Ok text.0, (λ same. cc same), (accepted.0, accepted.1, text.1))
+      | inr refused ↦ (Err refused.0, (λ same. refused.1 (cc same)), refused.2)
+    ]

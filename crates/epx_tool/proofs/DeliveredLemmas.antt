@@ -1,0 +1,80 @@
+-- What the sources delivered that are read one after another.
+use Rattle.std.proofs.Common.{◌≡◌, ◌++◌, ◌<◌, ◌≤◌, ℕ, zero, suc, Bool, List, [], ◌∷◌, length, get_or, set, All, Option, Some, ap, ◌∙◌, subst, inr, arith}
+use Rattle.std.proofs.lemmas.List.{length-set, get_or-set_same}
+use Rattle.std.proofs.lemmas.Option.{slice_get_within, slice_get-get_or, get_or_from_slice_get}
+use Rattle.epx_types.specs.declared.fault.Fault.{Fault}
+use Rattle.epx_merge.specs.Limits.{max_log_bytes}
+use Rattle.epx_merge.specs.Refusals.{NoneTooLong}
+use Rattle.epx_devices.specs.Deliveries.{FailRelation, ReadRelation, DeliversAll, IsLogStop}
+use Rattle.epx_tool.specs.Delivered.{FirstDeliver, StopsReading}
+use Rattle.epx_tool.proofs.SourceLemmas.{AreReadUpTo}
+
+-- the first n sources are read, and delivered these logs
+pub record AreDeliveredUpTo {S : Type 0} (remaining : S → Option (List ℕ)) (reads : ReadRelation S)
+    (has_failed : S → Bool) (first now : List S) (n : ℕ) (logs : List (List ℕ)) : Type 0 where
+  pub read : AreReadUpTo remaining has_failed first now n logs
+  pub delivered : FirstDeliver reads first now logs
+
+module _ {S : Type 0} (reads : ReadRelation S) where
+  -- one more source is read
+  pub delivered_step : (first now : List S) (read : List (List ℕ)) (n : ℕ) (d later : S)
+      (log : List ℕ) → length read ≡ n → n < length first → length now ≡ length first
+      → FirstDeliver reads first now read → DeliversAll reads (get_or first n d) later log
+      → FirstDeliver reads first (set now n later) (read ++ log ∷ [])
+  delivered_step [] now read n d later log count l many h all = absurd (omega arith)
+  delivered_step (s ∷ first) [] read n d later log count l many h all = absurd (omega arith)
+  delivered_step (s ∷ first) (t ∷ now) [] zero d later log count l many h all = (all, tt)
+  delivered_step (s ∷ first) (t ∷ now) [] (suc n) d later log count l many h all =
+      absurd (omega arith)
+  delivered_step (s ∷ first) (t ∷ now) (r ∷ read) zero d later log count l many h all =
+      absurd (omega arith)
+  delivered_step (s ∷ first) (t ∷ now) (r ∷ read) (suc n) d later log count l many h all =
+      let rest = delivered_step first now read n d later log in
+      (h.0, rest (omega arith) (omega arith) (omega arith) h.1 all)
+
+  -- reading one more source does not change those read already
+  pub delivered_unchanged : (first now : List S) (read : List (List ℕ)) (n : ℕ) (later : S)
+      → length read ≤ n → FirstDeliver reads first now read
+      → FirstDeliver reads first (set now n later) read
+  delivered_unchanged first now [] n later few h = tt
+  delivered_unchanged [] now (log ∷ read) n later few h = absurd h
+  delivered_unchanged (s ∷ first) [] (log ∷ read) n later few h = absurd h
+  delivered_unchanged (s ∷ first) (t ∷ now) (log ∷ read) zero later few h = absurd (omega arith)
+  delivered_unchanged (s ∷ first) (t ∷ now) (log ∷ read) (suc n) later few h =
+      (h.0, delivered_unchanged first now read n later (omega arith) h.1)
+
+none_too_long : (read : List (List ℕ)) → All (λ bytes. length bytes ≤ max_log_bytes) read
+    → NoneTooLong read
+none_too_long read h k bytes there =
+    let here = get_or_from_slice_get read k bytes bytes there in
+    subst (λ b. length b ≤ max_log_bytes) here (h k bytes (slice_get_within read k bytes there))
+
+-- reading source number n stopped with this fault
+module _ {S : Type 0} (remaining : S → Option (List ℕ)) (reads : ReadRelation S)
+    (fails : FailRelation S) (has_failed : S → Bool) (first now : List S) (n : ℕ)
+    (logs : List (List ℕ)) where
+  pub stops_reading : AreDeliveredUpTo remaining reads has_failed first now n logs → n < length first
+      → (d later : S) (fault : Fault) → get_or now n d ≡ get_or first n d
+      → IsLogStop reads fails n (get_or now n d) later fault
+      → StopsReading reads fails first (set now n later) fault
+  stops_reading h l d later fault same stopped =
+      let within : n < length (set now n later) =
+      omega (arith, l, h.read.as_many, length-set now n later) in
+      let is = slice_get-get_or (set now n later) n later within in
+      let here = get_or-set_same now n later later (omega (arith, l, h.read.as_many)) in
+      inr (record {
+        log = n;
+        before = record {
+          within = l;
+          logs = logs;
+          as_many = h.read.count;
+          whole =
+              delivered_unchanged reads first now logs n later (omega (arith, h.read.count)) h.delivered;
+          short = none_too_long logs h.read.short;
+        };
+        first = get_or first n d;
+        last = later;
+        was = slice_get-get_or first n d l;
+        is = is ∙ ap Some here;
+        stopped = subst (λ (s : S). IsLogStop reads fails n s later fault) same stopped;
+      })

@@ -1,0 +1,33 @@
+-- An execution order has no more instances than its map.
+use Rattle.std.proofs.Common.{◌≡◌, ◌≢◌, ◌≤◌, List, length, Contains, AllPairs, sym, ap, ◌∙◌, arith}
+use Rattle.std.specs.Bool.{Decides}
+use Rattle.std.specs.Ordering.{is_eq, eq_by_cmp}
+use Rattle.std.specs.Cmp.{Equal-is, tied_itself}
+use Rattle.std.proofs.lemmas.Cmp.{eq_by_cmp_equiv}
+use Rattle.std.proofs.lemmas.List.{length-map}
+use Rattle.std.proofs.lemmas.Map.Made.{length-le_from_is_member, is_member-Decides, IsDistinct-from_AllPairs}
+use Rattle.epx_types.specs.declared.id.Id.{Id}
+use Rattle.epx_types.specs.Ids.{id_cmp}
+use Rattle.epx_types.specs.Instances.{Instance}
+use Rattle.epx_types.specs.CommittedMap.{ids_of}
+use Rattle.epx_types.specs.ExecutionOrder.{Ranked, IsExecutionOrder, ranked_ids}
+use Rattle.epx_types.proofs.lists.ComparisonLemmas.{id_cmp_total, id_cmp-IsAntisymmetric}
+use Rattle.epx_types.proofs.orders.ExecutionOrderLemmas.{IsExecutionOrder-IsLawful}
+
+same_id : (x y : Id) → Decides (eq_by_cmp id_cmp x y) (x ≡ y)
+same_id x y = (
+  λ e. id_cmp-IsAntisymmetric x y ((Equal-is (id_cmp x y)).0 e),
+  λ e. ap (λ z. is_eq (id_cmp x z)) (sym e) ∙ ap is_eq (tied_itself id_cmp_total x),
+)
+
+-- a list of distinct Ids that are all in another list is not longer than that list
+pub fewer : (xs ys : List Id) → AllPairs (λ x y. x ≢ y) xs → ((x : Id) → Contains xs x → Contains ys x) → length xs ≤ length ys
+fewer xs ys once within =
+    length-le_from_is_member (eq_by_cmp_equiv id_cmp_total) xs ys (IsDistinct-from_AllPairs same_id xs once)
+    (λ q h. (is_member-Decides same_id ys q).1 (within q ((is_member-Decides same_id xs q).0 h)))
+
+pub ordered_are_few : (m : List Instance) (order : List Ranked) → IsExecutionOrder m order → length order ≤ length m
+ordered_are_few m order h =
+    let lawful = IsExecutionOrder-IsLawful m order h in
+    let few = fewer (ranked_ids order) (ids_of m) lawful.once (λ x there. (lawful.only x there).committed) in
+    omega (arith, few, length-map order (λ (r : Ranked). r.id), length-map m (λ (e : Instance). e.id))

@@ -1,8 +1,0 @@
-use Rattle.epx_txn.proofs.Routing.{AreShards-put_each, whole-put_each}
-use Rattle.epx_txn.proofs.store.Store.take_effects.Goals as goal
-
-pub invariant_of-result : goal.invariant_of-result
-invariant_of-result g c = AreShards-put_each _ _ c.self.inside.shards c.put_routes.new.shards c.self.invariant c.in_ok-routes.ensures c.in_ok-put_routes.ensures
-
-pub returns : goal.returns
-returns g c = whole-put_each _ _ c.self.inside.shards c.put_routes.new.shards c.self.invariant c.in_ok-routes.ensures c.in_ok-put_routes.ensures c.args.self c.self.view_is

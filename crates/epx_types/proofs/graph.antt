@@ -1,0 +1,5 @@
+pub mod DependencyLemmas
+pub mod WaitingListLemmas
+pub mod ReachingLemmas
+pub mod ReachingDecisionLemmas
+pub mod WaitingLemmas

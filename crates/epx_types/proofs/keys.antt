@@ -1,0 +1,3 @@
+pub mod KeyHeadLemmas
+pub mod KeyListLemmas
+pub mod SortedEntryLemmas

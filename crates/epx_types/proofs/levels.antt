@@ -1,0 +1,4 @@
+pub mod LevelLemmas
+pub mod LevelOrderLemmas
+pub mod LevelPositionLemmas
+pub mod LevelExistenceLemmas

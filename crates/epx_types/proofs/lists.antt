@@ -1,0 +1,9 @@
+pub mod ComparisonLemmas
+pub mod SearchLemmas
+pub mod MembershipLemmas
+pub mod PieceLemmas
+pub mod ListPositionLemmas
+pub mod RisingIdLemmas
+pub mod RisingListLemmas
+pub mod BeforeLemmas
+pub mod TotalOrderLemmas

@@ -1,0 +1,7 @@
+pub mod ComponentCountLemmas
+pub mod ExecutionOrderLemmas
+pub mod LawfulExecutionLemmas
+pub mod LawfulOrderLemmas
+pub mod LawfulPartLemmas
+pub mod OrderExistenceLemmas
+pub mod RankExistenceLemmas

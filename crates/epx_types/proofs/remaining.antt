@@ -1,0 +1,5 @@
+pub mod RemainingLemmas
+pub mod RemainingPositionLemmas
+pub mod RemainingReadinessLemmas
+pub mod ResumedExecutionLemmas
+pub mod ResumedMapLemmas

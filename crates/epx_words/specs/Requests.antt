@@ -1,0 +1,61 @@
+-- What a command line asks for.
+use Rattle.std.specs.Prelude.{◌≡◌, ⊤, ℕ, List, ◌∷◌, Option, Some, codes, map, option_map, string_bytes}
+use Rattle.clap.specs.Words.{Row, Text}
+use Rattle.epx_types.specs.Pieces.{PlanNumbers}
+use Rattle.epx_words.specs.declared.words.Task.{Task}
+use Rattle.epx_words.specs.declared.words.Task.TheVariants as task
+use Rattle.epx_words.specs.declared.words.Words.{Words}
+use Rattle.epx_words.specs.declared.words.Words.TheVariants as words
+use Rattle.epx_words.specs.SubcommandRows.{Given, IsCutOf, IsWorkersOf, first_in, logs_in, name_in, rows_in}
+
+-- the name of the subcommand of a task
+abbrev pub task_name : Task → Text
+task_name task.Run = codes "run"
+task_name task.Order = codes "order"
+task_name task.Levels = codes "levels"
+task_name task.Graph = codes "graph"
+task_name task.Resume = codes "resume"
+task_name task.Audit = codes "audit"
+task_name task.Check = codes "check"
+
+-- the path of the first argument, and then the paths of the logs
+abbrev pub AreFirstAndLogs : List Row → Option (List Text) → Type 0
+AreFirstAndLogs rows paths = (first : Text) × (first_in rows ≡ Some first) × (paths ≡ Some (first ∷ logs_in rows))
+
+-- the paths of a task: of its base or its list, if it has one, and then of its logs
+abbrev pub ArePathsOf : Task → List Row → Option (List Text) → Type 0
+ArePathsOf task.Resume rows paths = AreFirstAndLogs rows paths
+ArePathsOf task.Check rows paths = AreFirstAndLogs rows paths
+ArePathsOf _ rows paths = paths ≡ Some (logs_in rows)
+
+-- if the words ask for work, P holds of the task, the plan and the paths
+abbrev pub IfWork : (Task → PlanNumbers → Option (List Text) → Type 0) → Words → Type 0
+IfWork P (words.Work task plan paths) = P task plan (option_map (λ list. map string_bytes list.items) paths)
+IfWork P (words.Text text status) = ⊤
+
+-- the words ask for work
+abbrev pub IsWork : Words → Type 0
+IsWork (words.Work task plan paths) = ⊤
+IsWork (words.Text text status) = ⊥
+
+-- if the words ask for a text, P holds of the status
+abbrev pub IfText : (ℕ → Type 0) → Words → Type 0
+IfText P (words.Work task plan paths) = ⊤
+IfText P (words.Text text status) = P status
+
+-- this is the work that a subcommand asks for by its rows
+pub record AsksFor (given : Given) (asked : Task) (cutting : PlanNumbers) (logs : Option (List Text)) : Type 0 where
+  pub task : name_in given ≡ Some (task_name asked)
+  pub workers : IsWorkersOf (rows_in given) cutting.workers
+  pub cut : IsCutOf (rows_in given) cutting.cut
+  pub paths : ArePathsOf asked (rows_in given) logs
+
+-- the words ask for that work
+abbrev pub IsWorkOf : Given → Words → Type 0
+IsWorkOf given (words.Work task plan paths) = AsksFor given task plan (option_map (λ list. map string_bytes list.items) paths)
+IsWorkOf given (words.Text text status) = ⊥
+
+-- the words ask for a text with this status
+abbrev pub IsText : ℕ → Words → Type 0
+IsText n (words.Work task plan paths) = ⊥
+IsText n (words.Text text status) = status ≡ n

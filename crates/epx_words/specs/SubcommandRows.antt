@@ -1,0 +1,58 @@
+-- The values in the rows of a subcommand: two numbers, the logs, and the argument before them.
+use Rattle.std.specs.Prelude.{◌≡◌, ◌⊎◌, ℕ, List, [], Option, Some, None, codes, option_map, unwrap_or}
+use Rattle.std.specs.Option.{IsSome, option_map_or}
+use Rattle.std.specs.Str.Parse.{IsNumeral, digits_value, without_leading_plus}
+use Rattle.clap.specs.Words.{IsUnsignedIn, Row, Text, all_of, first_of, one_of}
+
+-- the subcommand that words name, with its rows
+abbrev pub Given : Type 0
+Given = Option (Text × List Row)
+
+abbrev pub name_in : Given → Option Text
+name_in = option_map (λ p. p.0)
+
+-- no rows where there is no subcommand
+abbrev pub rows_in : Given → List Row
+rows_in given = option_map_or (λ p. p.1) given []
+
+-- the text is decimal digits, with or without a leading plus, and n is their value
+abbrev pub IsNumberOf : Option Text → ℕ → Type 0
+IsNumberOf None n = ⊥
+IsNumberOf (Some text) n = IsNumeral 10 (without_leading_plus text) × (n ≡ digits_value 10 (without_leading_plus text))
+
+-- the option `--workers` has the value n
+abbrev pub IsWorkersOf : List Row → ℕ → Type 0
+IsWorkersOf rows n = IsNumberOf (one_of (codes "workers") rows) n
+
+-- the option `--cut` has the value n
+abbrev pub IsCutOf : List Row → ℕ → Type 0
+IsCutOf rows n = IsNumberOf (one_of (codes "cut") rows) n
+
+-- the paths of the logs, in their order
+abbrev pub logs_in : List Row → List Text
+logs_in rows = unwrap_or (all_of (codes "logs") rows) []
+
+-- the path of the argument before the logs, if there is one
+abbrev pub first_in : List Row → Option Text
+first_in rows = first_of (codes "first") rows
+
+-- the text is a number from 1 to `most`
+abbrev pub IsNumberUpTo : ℕ → Option Text → Type 0
+IsNumberUpTo most None = ⊥
+IsNumberUpTo most (Some text) = IsUnsignedIn 1 most text
+
+-- the name of a subcommand that asks for work
+abbrev pub IsTaskName : Text → Type 0
+IsTaskName name =
+    (name ≡ codes "run") ⊎ ((name ≡ codes "order") ⊎ ((name ≡ codes "levels") ⊎ ((name ≡ codes "graph") ⊎ ((name ≡ codes "resume") ⊎ ((name ≡ codes "audit") ⊎ (name ≡ codes "check"))))))
+
+-- the name of a subcommand with an argument before the logs: a base, or a list
+abbrev pub NeedsFirst : Text → Type 0
+NeedsFirst name = (name ≡ codes "resume") ⊎ (name ≡ codes "check")
+
+-- a subcommand that asks for work, with both numbers in their ranges and with its required first
+-- argument
+abbrev pub AsksForWork : Given → Type 0
+AsksForWork None = ⊥
+AsksForWork (Some p) =
+    IsTaskName p.0 × IsNumberUpTo 64 (one_of (codes "workers") p.1) × IsNumberUpTo 65536 (one_of (codes "cut") p.1) × (NeedsFirst p.0 → IsSome (first_in p.1))
