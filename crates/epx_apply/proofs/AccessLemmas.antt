@@ -7,7 +7,7 @@ use Rattle.epx_types.specs.declared.op.Op.{Op}
 use Rattle.epx_types.specs.declared.op.Op.TheVariants.{Get, Put, Del, Add, Is, Floor, Copy}
 use Rattle.epx_types.specs.CommandKeys.{touched_by, written_by}
 use Rattle.epx_types.proofs.lists.MembershipLemmas.{Contains-nil, Contains-cons, Contains-cons_cases, Contains-map, Contains-from_map}
-use Rattle.epx_apply.specs.KeyTables.{accesses_of, touched_in, written_in}
+use Rattle.epx_apply.specs.inner.KeyTables.{accesses_of, touched_in, written_in}
 
 -- ---- touched keys
 

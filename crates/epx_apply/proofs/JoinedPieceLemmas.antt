@@ -6,7 +6,7 @@ use Rattle.std.proofs.lemmas.List.{map-append}
 use Rattle.std.proofs.lemmas.List.Folds.{drop_split}
 use Rattle.epx_types.specs.Pieces.{piece_count, piece_start, piece_end}
 use Rattle.epx_types.proofs.lists.PieceLemmas.{piece_count-above, piece_end-after_start}
-use Rattle.epx_apply.specs.Effects.{items_of_piece}
+use Rattle.epx_apply.specs.inner.Effects.{items_of_piece}
 
 module _ {X Y Z : Type 0} (cut : ℕ) (fits : 1 ≤ cut) (f : X → Y) (xs : List X) (inside : Z → List Y) where
   -- the next piece begins at the end of a piece, if there is one

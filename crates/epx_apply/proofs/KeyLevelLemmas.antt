@@ -7,7 +7,7 @@ use Rattle.epx_types.specs.declared.op.Op.{Op}
 use Rattle.epx_types.proofs.lists.MembershipLemmas.{Contains-nil, Contains-head, Contains-cons, Contains-cons_cases}
 use Rattle.epx_apply.specs.declared.key_table.KeyLevels.{KeyLevels}
 use Rattle.epx_apply.specs.declared.key_table.Access.{Access}
-use Rattle.epx_apply.specs.KeyTables.{no_levels, key_levels_at, IsLevelAbove, level_for, raise}
+use Rattle.epx_apply.specs.inner.KeyTables.{no_levels, key_levels_at, IsLevelAbove, level_for, raise}
 
 -- ---- one more command
 

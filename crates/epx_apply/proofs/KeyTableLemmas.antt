@@ -10,7 +10,7 @@ use Rattle.epx_types.proofs.keys.KeyListLemmas.{Contains-rising_keys, Contains-f
 use Rattle.epx_types.specs.CommandKeys.{touched_by, written_by}
 use Rattle.epx_apply.specs.declared.key_table.KeyLevels.{KeyLevels}
 use Rattle.epx_apply.specs.declared.key_table.Access.{Access}
-use Rattle.epx_apply.specs.KeyTables.{Table, no_levels, key_levels_at, key_at, accesses_of, touched_in, written_in, IsLevelAbove, IsKeyTableOf, AddsAccesses, level_for, raise, IsNextLevel}
+use Rattle.epx_apply.specs.inner.KeyTables.{Table, no_levels, key_levels_at, key_at, accesses_of, touched_in, written_in, IsLevelAbove, IsKeyTableOf, AddsAccesses, level_for, raise, IsNextLevel}
 use Rattle.epx_apply.proofs.AccessLemmas.{current-from_touched, touched-from_accesses, current-from_written, written-from_accesses, touched-from_written}
 use Rattle.epx_apply.proofs.KeyLevelLemmas.{IsLevelAbove-raised, IsLevelAbove-kept, fold_above, fold_reached, length_raised, touchers_raised, writers_raised}
 

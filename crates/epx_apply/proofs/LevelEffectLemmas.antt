@@ -11,7 +11,7 @@ use Rattle.epx_types.specs.Writes.{Write, apply_writes, HasDistinctKeys}
 use Rattle.epx_types.proofs.commands.ConflictListLemmas.{writes_over, replies-none_conflict, final-none_conflict, distinct_keys-none_conflict}
 use Rattle.epx_txn.specs.declared.effect.Effect.{Effect}
 use Rattle.epx_txn.proofs.MergeLemmas.{writes_in}
-use Rattle.epx_apply.specs.Effects.{effect_over, effects_over, replies_in}
+use Rattle.epx_apply.specs.inner.Effects.{effect_over, effects_over, replies_in}
 
 -- the effect of the command at a position
 abbrev pub effect_at : Contents → List (List Op) → ℕ → Effect

@@ -14,7 +14,7 @@ use Rattle.epx_types.proofs.levels.LevelOrderLemmas.{by_level, Contains-from_lev
 use Rattle.epx_types.proofs.commands.RearrangedListLemmas.{Once}
 use Rattle.epx_types.proofs.commands.RearrangementLemmas.{Once-from_AllPairs, final-rearranged, replies-rearranged}
 use Rattle.epx_types.proofs.lists.MembershipLemmas.{agree-from_map}
-use Rattle.epx_apply.specs.Effects.{put_replies}
+use Rattle.epx_apply.specs.inner.Effects.{put_replies}
 use Rattle.epx_apply.proofs.ReplyLemmas.{length-put_replies, map-put_replies, map-put_replies_other}
 
 -- the execution of the commands of the levels below `level`, one level after another

@@ -1,3 +1,1 @@
-pub mod Effects
-pub mod KeyTables
-pub mod Layouts
+pub mod inner

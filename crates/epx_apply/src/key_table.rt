@@ -1,7 +1,7 @@
 //! For each key, the levels of the commands so far that touch it and that write it.
 ghost use Rattle.std.specs.Prelude.{◌≡◌, ◌<◌, ◌^◌, ◌+◌, ℕ, List, [], ◌∷◌, length, max, flat_map, fold, All, IfOk, OnOk};
 ghost use Rattle.epx_types.specs.declared.op.Op.{Op};
-ghost use Rattle.epx_apply.specs.KeyTables.{IsKeyTableOf, AddsAccesses, AddsCommand, accesses_of, level_for, raise};
+ghost use Rattle.epx_apply.specs.inner.KeyTables.{IsKeyTableOf, AddsAccesses, AddsCommand, accesses_of, level_for, raise};
 
 use epx_seed::Seed;
 use epx_types::{Key, Memory, Op};
@@ -38,7 +38,7 @@ pub(crate) struct KeyTable<'a> {
 
 impl<'a> Model for KeyTable<'a> {
     ghost use Rattle.std.specs.Prelude.{map};
-    ghost use Rattle.epx_apply.specs.KeyTables.{Table};
+    ghost use Rattle.epx_apply.specs.inner.KeyTables.{Table};
 
     ghost Value = { Table };
 

@@ -8,7 +8,7 @@ ghost use Rattle.epx_types.specs.Execution.{execute};
 ghost use Rattle.epx_types.specs.Levels.{AreLevels};
 ghost use Rattle.epx_types.specs.Pieces.{piece_count};
 ghost use Rattle.epx_types.specs.Rearrangements.{commands_at};
-ghost use Rattle.epx_apply.specs.Effects.{op_lists_of, effect_over, effects_over, items_of_piece, replies_in, put_replies};
+ghost use Rattle.epx_apply.specs.inner.Effects.{op_lists_of, effect_over, effects_over, items_of_piece, replies_in, put_replies};
 
 use crate::level_map::{LevelMap, levels_below};
 use epx_claims::{Gate, claimed_map};

@@ -22,7 +22,7 @@ use Rattle.epx_types.proofs.lists.RisingIdLemmas.{AllPairs-from_IsRising, BelowA
 use Rattle.epx_types.proofs.remaining.RemainingLemmas.{is_among_cases}
 use Rattle.epx_lines.proofs.EntryLemmas.{IsRising-insert, IsRising-fold}
 use Rattle.epx_base.specs.Seen.{last, is_after_last}
-use Rattle.epx_base.specs.IdSets.{with_late, AreRisingAndLate}
+use Rattle.epx_base.specs.inner.IdSets.{with_late, AreRisingAndLate}
 use Rattle.epx_base.proofs.RisingListLemmas.{Contains-insert_itself, Contains-insert_other, Contains-insert_cases, same_ids, last-cons}
 
 -- ---- which Ids are among them

@@ -26,7 +26,7 @@ use Rattle.epx_base.specs.Bases.{put_pairs}
 use Rattle.epx_base.specs.ReportReadings.{read_base_lines}
 use Rattle.epx_base.specs.ReportBases.{replied_ids, DoneAfterExists, ReportIsBase}
 use Rattle.epx_base.proofs.ReportReadingLemmas.{report_is_read_as_it_says}
-use Rattle.epx_base.specs.IdSets.{with_late}
+use Rattle.epx_base.specs.inner.IdSets.{with_late}
 use Rattle.epx_base.proofs.IdSetLemmas.{Contains-with_rising, Contains-with_late, Contains-with_cases}
 use Rattle.epx_base.proofs.RisingListLemmas.{Contains-insert_itself, Contains-insert_other, Contains-insert_cases, same_ids, above_last, above_last_key}
 

@@ -1,6 +1,5 @@
 pub mod Forms
 pub mod Seen
-pub mod IdSets
 pub mod DoneAndStored
 pub mod Bases
 pub mod Laws
@@ -10,3 +9,4 @@ pub mod ReportLines
 pub mod ReportReadings
 pub mod ReportBases
 pub mod LineTokens
+pub mod inner

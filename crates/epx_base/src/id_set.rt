@@ -46,7 +46,7 @@ impl Model for IdSet {
     ghost use Rattle.std.specs.Coded.{coded_list};
     ghost use Rattle.epx_types.specs.declared.id.Id.{Id};
     ghost use Rattle.epx_base.specs.DoneAndStored.{id_code};
-    ghost use Rattle.epx_base.specs.IdSets.{AreRisingAndLate, with_late};
+    ghost use Rattle.epx_base.specs.inner.IdSets.{AreRisingAndLate, with_late};
 
     ghost Value = { List Id };
 

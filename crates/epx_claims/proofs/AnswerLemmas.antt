@@ -5,7 +5,7 @@ use Rattle.std.specs.List.{All}
 use Rattle.std.proofs.lemmas.List.Elements.{All-nil, All-push, All-append}
 use Rattle.epx_claims.specs.declared.work.Answer.{Answer}
 use Rattle.epx_claims.specs.Seated.{ClaimsView, SeatView}
-use Rattle.epx_claims.specs.WorkResult.{HasAnswers, IsFresh, piece_of}
+use Rattle.epx_claims.specs.inner.WorkResult.{HasAnswers, IsFresh, piece_of}
 
 -- the seat after a draw
 abbrev pub with_piece : SeatView → ℕ → SeatView

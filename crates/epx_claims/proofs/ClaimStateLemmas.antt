@@ -5,7 +5,7 @@ use Rattle.std.specs.List.{All}
 use Rattle.epx_claims.specs.declared.seat_state.SeatState.{SeatState}
 use Rattle.epx_claims.specs.Count.{total, one_if, occurrences, once_below}
 use Rattle.epx_claims.specs.ClaimState.{ClaimState}
-use Rattle.epx_claims.specs.Rule.{with_piece, at_end, split_in_two, join_two}
+use Rattle.epx_claims.specs.inner.Rule.{with_piece, at_end, split_in_two, join_two}
 use Rattle.epx_claims.proofs.SumLemmas.{total-le}
 use Rattle.epx_claims.proofs.CountLemmas.{once_below_more, once_below_full, total-append, occurs_at, below_from_once, below_min, positive_from_count, count_of_positive}
 

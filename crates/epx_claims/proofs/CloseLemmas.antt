@@ -8,7 +8,7 @@ use Rattle.epx_claims.specs.declared.seat_state.Terms.{Terms}
 use Rattle.epx_claims.specs.declared.seat_state.View.{View}
 use Rattle.epx_claims.specs.Count.{total, one_if, occurrences, once_below}
 use Rattle.epx_claims.specs.ClaimState.{ClaimState}
-use Rattle.epx_claims.specs.Rule.{HasClaimState}
+use Rattle.epx_claims.specs.inner.Rule.{HasClaimState}
 use Rattle.epx_claims.proofs.StepLemmas.{drawn_in_all, state_by_view}
 use Rattle.epx_claims.proofs.CountLemmas.{positive_from_count}
 use Rattle.epx_claims.proofs.SumLemmas.{others, picked_sum}

@@ -7,7 +7,7 @@ use Rattle.epx_claims.specs.declared.seat_state.SeatState.{SeatState}
 use Rattle.epx_claims.specs.declared.seat_state.Terms.{Terms}
 use Rattle.epx_claims.specs.declared.seat_state.View.{View}
 use Rattle.epx_claims.specs.ClaimState.{ClaimState}
-use Rattle.epx_claims.specs.Rule.{TableSeat, view, with_piece, at_end, HasClaimState, IsDrawOrStop, IsDrawStep}
+use Rattle.epx_claims.specs.inner.Rule.{TableSeat, view, with_piece, at_end, HasClaimState, IsDrawOrStop, IsDrawStep}
 use Rattle.epx_claims.proofs.ClaimStateLemmas.{draw_keeps, stop_keeps, word_fits}
 use Rattle.epx_claims.proofs.StepLemmas.{drawn_in_all, terms_are, state_by_view, state_after}
 use Rattle.epx_claims.proofs.SumLemmas.{others}

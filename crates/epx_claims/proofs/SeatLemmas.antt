@@ -4,11 +4,11 @@ use Rattle.std.specs.List.{All}
 use Rattle.epx_claims.specs.declared.claims.Claims.TheInside.{Inside as Claims}
 use Rattle.epx_claims.specs.declared.seat.ClaimSeat.TheInside.{Inside as Seat}
 use Rattle.epx_claims.specs.declared.seat_state.SeatState.{SeatState}
-use Rattle.epx_claims.specs.ClaimsFields.{claims_view}
+use Rattle.epx_claims.specs.inner.ClaimsFields.{claims_view}
 use Rattle.epx_claims.specs.Count.{occurrences, once_below}
 use Rattle.epx_claims.specs.ClaimState.{ClaimState, StateStep}
-use Rattle.epx_claims.specs.Rule.{seat_state}
-use Rattle.epx_claims.specs.SeatFields.{seat_view, drawn_of}
+use Rattle.epx_claims.specs.inner.Rule.{seat_state}
+use Rattle.epx_claims.specs.inner.SeatFields.{seat_view, drawn_of}
 use Rattle.epx_claims.specs.Seated.{ClaimsView, SeatView}
 use Rattle.epx_claims.proofs.ClaimStateLemmas.{apart, drawn_below}
 

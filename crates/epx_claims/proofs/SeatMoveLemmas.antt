@@ -8,7 +8,7 @@ use Rattle.epx_claims.specs.declared.seat_state.SeatState.{SeatState}
 use Rattle.epx_claims.specs.declared.seat_state.Terms.{Terms}
 use Rattle.epx_claims.specs.declared.seat_state.View.{View}
 use Rattle.epx_claims.specs.Count.{total}
-use Rattle.epx_claims.specs.Rule.{HasTerms, all_seat_states, first_view, other_view, joined_view, spent_view, HasClaimState}
+use Rattle.epx_claims.specs.inner.Rule.{HasTerms, all_seat_states, first_view, other_view, joined_view, spent_view, HasClaimState}
 use Rattle.epx_claims.proofs.ClaimStateLemmas.{same_sums}
 use Rattle.epx_claims.proofs.StepLemmas.{terms_are, terms_known_set}
 use Rattle.epx_claims.proofs.CountLemmas.{total-append}

@@ -10,7 +10,7 @@ use Rattle.epx_claims.specs.declared.seat_state.Terms.{Terms}
 use Rattle.epx_claims.specs.declared.seat_state.View.{View}
 use Rattle.epx_claims.specs.Count.{total}
 use Rattle.epx_claims.specs.ClaimState.{ClaimState, StateStep}
-use Rattle.epx_claims.specs.Rule.{TableSeat, HasTerms, view, all_seat_states, split_in_two, join_two, HasClaimState, IsStateMove, IsSplitStep, IsJoinStep}
+use Rattle.epx_claims.specs.inner.Rule.{TableSeat, HasTerms, view, all_seat_states, split_in_two, join_two, HasClaimState, IsStateMove, IsSplitStep, IsJoinStep}
 use Rattle.epx_claims.proofs.ClaimStateLemmas.{same_sums, split_keeps, join_keeps}
 use Rattle.epx_claims.proofs.CountLemmas.{total-append}
 use Rattle.epx_claims.proofs.SumLemmas.{others, placed_sum, picked_sum}

@@ -6,7 +6,7 @@ use Rattle.atomic_table.proofs.Lists.{set_again}
 use Rattle.epx_claims.specs.declared.seat_state.SeatState.{SeatState}
 use Rattle.epx_claims.specs.declared.seat_state.View.{View}
 use Rattle.epx_claims.specs.Count.{total}
-use Rattle.epx_claims.specs.Rule.{all_seat_states, spent_view}
+use Rattle.epx_claims.specs.inner.Rule.{all_seat_states, spent_view}
 use Rattle.epx_claims.proofs.CountLemmas.{total-append}
 
 -- the seat states of all views but one

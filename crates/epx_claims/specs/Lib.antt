@@ -1,9 +1,6 @@
 pub mod Answered
-pub mod ClaimsFields
 pub mod Count
 pub mod ClaimState
 pub mod ClaimStep
-pub mod Rule
 pub mod Seated
-pub mod SeatFields
-pub mod WorkResult
+pub mod inner

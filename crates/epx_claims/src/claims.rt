@@ -30,7 +30,7 @@ impl Model for Claims {
 
     ghost Value = { ClaimsView };
 
-    ghost use Rattle.epx_claims.specs.ClaimsFields.{claims_view, IsOpen};
+    ghost use Rattle.epx_claims.specs.inner.ClaimsFields.{claims_view, IsOpen};
 
     ghost view = { claims_view };
 

@@ -6,7 +6,7 @@ use atomic_table::{Join, Play, Split, TableRule};
 pub struct ClaimsRule;
 
 impl TableRule<(), View, Terms> for ClaimsRule {
-    ghost use Rattle.epx_claims.specs.Rule.{HasClaimState, opening_view};
+    ghost use Rattle.epx_claims.specs.inner.Rule.{HasClaimState, opening_view};
 
     ghost holds = { HasClaimState };
 
@@ -17,7 +17,7 @@ impl TableRule<(), View, Terms> for ClaimsRule {
 pub struct DrawStep;
 
 impl Play<(), View> for DrawStep {
-    ghost use Rattle.epx_claims.specs.Rule.{IsDrawStep};
+    ghost use Rattle.epx_claims.specs.inner.Rule.{IsDrawStep};
 
     ghost then = { IsDrawStep };
 }
@@ -26,7 +26,7 @@ impl Play<(), View> for DrawStep {
 pub struct SplitStep;
 
 impl Play<(), View> for SplitStep {
-    ghost use Rattle.epx_claims.specs.Rule.{IsSplitStep};
+    ghost use Rattle.epx_claims.specs.inner.Rule.{IsSplitStep};
 
     ghost then = { IsSplitStep };
 }
@@ -35,7 +35,7 @@ impl Play<(), View> for SplitStep {
 pub struct JoinStep;
 
 impl Play<(), View> for JoinStep {
-    ghost use Rattle.epx_claims.specs.Rule.{IsJoinStep};
+    ghost use Rattle.epx_claims.specs.inner.Rule.{IsJoinStep};
 
     ghost then = { IsJoinStep };
 }
@@ -44,7 +44,7 @@ impl Play<(), View> for JoinStep {
 pub struct SplitSeat;
 
 impl Split<View> for SplitSeat {
-    ghost use Rattle.epx_claims.specs.Rule.{first_view, other_view};
+    ghost use Rattle.epx_claims.specs.inner.Rule.{first_view, other_view};
 
     ghost left = { first_view };
 
@@ -55,7 +55,7 @@ impl Split<View> for SplitSeat {
 pub struct JoinSeat;
 
 impl Join<View> for JoinSeat {
-    ghost use Rattle.epx_claims.specs.Rule.{joined_view, spent_view};
+    ghost use Rattle.epx_claims.specs.inner.Rule.{joined_view, spent_view};
 
     ghost both = { joined_view };
 

@@ -19,7 +19,7 @@ impl Model for ClaimSeat {
 
     ghost Value = { SeatView };
 
-    ghost use Rattle.epx_claims.specs.SeatFields.{seat_view, IsClaimSeat};
+    ghost use Rattle.epx_claims.specs.inner.SeatFields.{seat_view, IsClaimSeat};
 
     ghost view = { seat_view };
 

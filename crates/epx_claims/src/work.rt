@@ -3,7 +3,7 @@ ghost use Rattle.std.specs.Prelude.{◌≡◌, ◌<◌, ◌+◌, ◌++◌, ◌||
 ghost use Rattle.std.specs.Thread.{IsSync, IsSend};
 ghost use Rattle.epx_claims.specs.Seated.{IsSeatOf};
 ghost use Rattle.epx_claims.specs.Answered.{IsMapFault};
-ghost use Rattle.epx_claims.specs.WorkResult.{HasAnswers, IsFresh};
+ghost use Rattle.epx_claims.specs.inner.WorkResult.{HasAnswers, IsFresh};
 ghost use Rattle.epx_types.specs.declared.memory.Memory.{Memory};
 
 use crate::claims::Claims;

@@ -3,9 +3,9 @@ use Rattle.std.proofs.Common.{◌≡◌, ◌≢◌, ℕ, ◌+◌, ◌-◌, ◌<�
 use Rattle.std.proofs.lemmas.List.{get_or-drop, length-drop}
 use Rattle.std.proofs.lemmas.Bool.{cases_lt}
 use Rattle.epx_components.proofs.StartLemmas.{IsInGroupFrom-take}
-use Rattle.epx_components.specs.SearchInvariants.{IsRow, MayLead}
-use Rattle.epx_components.specs.SearchStates.{visit_of}
-use Rattle.epx_components.specs.SearchSteps.{Closes}
+use Rattle.epx_components.specs.inner.SearchInvariants.{IsRow, MayLead}
+use Rattle.epx_components.specs.inner.SearchStates.{visit_of}
+use Rattle.epx_components.specs.inner.SearchSteps.{Closes}
 use Rattle.epx_components.specs.declared.visit.Visit.{Visit}
 use Rattle.epx_components.specs.declared.visit.Visit.TheVariants.{Closed, Open, Unseen}
 

@@ -4,8 +4,8 @@ use Rattle.std.proofs.lemmas.List.{get_or_default}
 use Rattle.std.proofs.lemmas.List.Elements.{All-from_get_or}
 use Rattle.epx_components.proofs.VisitLemmas.{placed_below}
 use Rattle.epx_components.specs.Partitions.{IsPartition}
-use Rattle.epx_components.specs.SearchInvariants.{IsSearch, MayLead}
-use Rattle.epx_components.specs.SearchStates.{SearchState, visit_of}
+use Rattle.epx_components.specs.inner.SearchInvariants.{IsSearch, MayLead}
+use Rattle.epx_components.specs.inner.SearchStates.{SearchState, visit_of}
 use Rattle.epx_components.specs.declared.visit.Visit.{Visit}
 use Rattle.epx_components.specs.declared.visit.Visit.TheVariants.{Closed, Open, Unseen}
 

@@ -6,10 +6,10 @@ use Rattle.std.proofs.lemmas.Bool.{cases_lt}
 use Rattle.epx_components.proofs.CloseLemmas.{WasOpen, was_unseen, was_open, was_closed, stays_open, is_closed, stays_closed, MayLead-close}
 use Rattle.epx_components.proofs.PathEndLemmas.{rising_last}
 use Rattle.epx_components.proofs.StartLemmas.{IsInGroupFrom-untake, AreRisingBelow-take, first_take}
-use Rattle.epx_components.specs.SearchInvariants.{AreFinished, IsSearch}
-use Rattle.epx_components.specs.SearchStates.{SearchState, visit_of}
-use Rattle.epx_components.specs.SearchSteps.{Closes, IsFinished}
-use Rattle.epx_components.specs.Starts.{IsInLastGroup}
+use Rattle.epx_components.specs.inner.SearchInvariants.{AreFinished, IsSearch}
+use Rattle.epx_components.specs.inner.SearchStates.{SearchState, visit_of}
+use Rattle.epx_components.specs.inner.SearchSteps.{Closes, IsFinished}
+use Rattle.epx_components.specs.inner.Starts.{IsInLastGroup}
 use Rattle.epx_components.specs.declared.visit.Visit.{Visit}
 use Rattle.epx_components.specs.declared.visit.Visit.TheVariants.{Closed, Open}
 

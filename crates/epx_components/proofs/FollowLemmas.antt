@@ -8,11 +8,11 @@ use Rattle.epx_components.proofs.GroupMergeLemmas.{cut_keeps}
 use Rattle.epx_components.proofs.NodePathLemmas.{reaches_edge, reaches_on}
 use Rattle.epx_components.proofs.OpenLemmas.{enter_keeps}
 use Rattle.epx_components.proofs.StartLemmas.{push_cases}
-use Rattle.epx_components.specs.SearchInvariants.{IsSearch}
-use Rattle.epx_components.specs.SearchStates.{SearchState, visit_of}
-use Rattle.epx_components.specs.SearchSteps.{Arrives, IsNextNode, after_enter, looked}
-use Rattle.epx_components.specs.SearchWork.{edges_left, work_left}
-use Rattle.epx_components.specs.Starts.{IsInGroupFrom}
+use Rattle.epx_components.specs.inner.SearchInvariants.{IsSearch}
+use Rattle.epx_components.specs.inner.SearchStates.{SearchState, visit_of}
+use Rattle.epx_components.specs.inner.SearchSteps.{Arrives, IsNextNode, after_enter, looked}
+use Rattle.epx_components.specs.inner.SearchWork.{edges_left, work_left}
+use Rattle.epx_components.specs.inner.Starts.{IsInGroupFrom}
 use Rattle.epx_components.specs.declared.visit.Visit.{Visit}
 use Rattle.epx_components.specs.declared.visit.Visit.TheVariants.{Closed, Open, Unseen}
 

@@ -5,9 +5,9 @@ use Rattle.epx_graph.specs.NodePaths.{NodeReaches}
 use Rattle.epx_components.proofs.NodePathLemmas.{reaches_on}
 use Rattle.epx_components.proofs.VisitLemmas.{MayLead-take}
 use Rattle.epx_components.proofs.StartLemmas.{IsInGroupFrom-untake, AreRisingBelow-take, first_take}
-use Rattle.epx_components.specs.SearchInvariants.{IsSearch}
-use Rattle.epx_components.specs.SearchStates.{SearchState, visit_of}
-use Rattle.epx_components.specs.Starts.{IsCutAbove}
+use Rattle.epx_components.specs.inner.SearchInvariants.{IsSearch}
+use Rattle.epx_components.specs.inner.SearchStates.{SearchState, visit_of}
+use Rattle.epx_components.specs.inner.Starts.{IsCutAbove}
 use Rattle.epx_components.specs.declared.visit.Visit.TheVariants.{Open}
 
 pub cut_keeps : (edges : ℕ → List ℕ) (n seen : ℕ) (s : SearchState) (new : List ℕ) (k t : ℕ) → IsSearch edges n seen s → visit_of s.place k ≡ Open t → ((j p : ℕ) → visit_of s.place j ≡ Open p → NodeReaches edges j k) → IsCutAbove t s.starts new → IsSearch edges n seen (record s { starts = new })

@@ -4,9 +4,9 @@ use Rattle.std.proofs.lemmas.List.{get_or-take, get_or_default, get_or-set_same,
 use Rattle.std.proofs.lemmas.Bool.{cases_eq, cases_lt}
 use Rattle.epx_components.proofs.VisitLemmas.{placed_below}
 use Rattle.epx_components.proofs.StartLemmas.{AreRisingBelow-take}
-use Rattle.epx_components.specs.SearchInvariants.{IsSearch, MayLead}
-use Rattle.epx_components.specs.SearchStates.{SearchState, visit_of}
-use Rattle.epx_components.specs.SearchSteps.{IsTopNode}
+use Rattle.epx_components.specs.inner.SearchInvariants.{IsSearch, MayLead}
+use Rattle.epx_components.specs.inner.SearchStates.{SearchState, visit_of}
+use Rattle.epx_components.specs.inner.SearchSteps.{IsTopNode}
 use Rattle.epx_components.specs.declared.visit.Visit.TheVariants.{Closed, Open, Unseen}
 
 pub look_keeps : (edges : ℕ → List ℕ) (n seen : ℕ) (s : SearchState) (k p : ℕ) → IsSearch edges n seen s → visit_of s.place k ≡ Open p → get_or s.looked_at k 0 < length (edges k) → MayLead s.starts (visit_of s.place k) (visit_of s.place (get_or (edges k) (get_or s.looked_at k 0) 0)) → IsSearch edges n seen (record s { looked_at = set s.looked_at k (get_or s.looked_at k 0 + 1) })

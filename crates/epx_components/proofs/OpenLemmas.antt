@@ -6,9 +6,9 @@ use Rattle.epx_graph.specs.NodePaths.{NodeReaches}
 use Rattle.epx_components.proofs.NodePathLemmas.{reaches_itself}
 use Rattle.epx_components.proofs.VisitLemmas.{MayLead-from, MayLead-push, MayLead-to, set_cases}
 use Rattle.epx_components.proofs.StartLemmas.{IsInGroupFrom-pushed, IsInGroupFrom-unpush, AreRisingBelow-push, first_push, push_cases}
-use Rattle.epx_components.specs.SearchInvariants.{AreFinished, IsRow, IsSearch}
-use Rattle.epx_components.specs.SearchStates.{SearchState, visit_of}
-use Rattle.epx_components.specs.SearchSteps.{after_enter}
+use Rattle.epx_components.specs.inner.SearchInvariants.{AreFinished, IsRow, IsSearch}
+use Rattle.epx_components.specs.inner.SearchStates.{SearchState, visit_of}
+use Rattle.epx_components.specs.inner.SearchSteps.{after_enter}
 use Rattle.epx_components.specs.declared.visit.Visit.{Visit}
 use Rattle.epx_components.specs.declared.visit.Visit.TheVariants.{Closed, Open, Unseen}
 

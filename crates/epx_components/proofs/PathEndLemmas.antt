@@ -2,10 +2,10 @@
 use Rattle.std.proofs.Common.{◌≡◌, ℕ, ◌-◌, ◌<◌, ◌≤◌, ⊎_elim, List, length, get_or, sym, ◌∙◌, ap, arith}
 use Rattle.std.proofs.lemmas.Bool.{cases_lt}
 use Rattle.epx_components.proofs.VisitLemmas.{placed_below}
-use Rattle.epx_components.specs.SearchInvariants.{IsSearch}
-use Rattle.epx_components.specs.SearchStates.{SearchState, visit_of}
-use Rattle.epx_components.specs.SearchSteps.{IsTopNode}
-use Rattle.epx_components.specs.Starts.{AreRisingBelow}
+use Rattle.epx_components.specs.inner.SearchInvariants.{IsSearch}
+use Rattle.epx_components.specs.inner.SearchStates.{SearchState, visit_of}
+use Rattle.epx_components.specs.inner.SearchSteps.{IsTopNode}
+use Rattle.epx_components.specs.inner.Starts.{AreRisingBelow}
 use Rattle.epx_components.specs.declared.visit.Visit.TheVariants.{Open, Unseen}
 
 pub rising_last : (xs : List ℕ) (n : ℕ) → AreRisingBelow xs n → (i : ℕ) → i < length xs → get_or xs i 0 ≤ get_or xs (length xs - 1) 0

@@ -3,9 +3,9 @@ use Rattle.std.proofs.Common.{◌≡◌, ◌≢◌, ℕ, ◌+◌, ◌<◌, ⊎_e
 use Rattle.std.proofs.lemmas.Bool.{cases_eq}
 use Rattle.std.proofs.lemmas.List.{get_or-set_same}
 use Rattle.epx_components.proofs.OpenLemmas.{enter_keeps}
-use Rattle.epx_components.specs.SearchInvariants.{IsSearch}
-use Rattle.epx_components.specs.SearchStates.{SearchState, visit_of}
-use Rattle.epx_components.specs.SearchSteps.{Arrives, after_enter}
+use Rattle.epx_components.specs.inner.SearchInvariants.{IsSearch}
+use Rattle.epx_components.specs.inner.SearchStates.{SearchState, visit_of}
+use Rattle.epx_components.specs.inner.SearchSteps.{Arrives, after_enter}
 use Rattle.epx_components.specs.declared.visit.Visit.{Visit}
 use Rattle.epx_components.specs.declared.visit.Visit.TheVariants.{Closed, Open, Unseen}
 

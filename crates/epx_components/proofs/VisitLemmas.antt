@@ -3,9 +3,9 @@ use Rattle.std.proofs.Common.{◌≡◌, ◌≢◌, ℕ, ◌<◌, ◌≤◌, ◌
 use Rattle.std.proofs.lemmas.List.{get_or-set_same, get_or-set_other, get_or_past}
 use Rattle.std.proofs.lemmas.Bool.{cases_eq, cases_lt}
 use Rattle.epx_components.proofs.StartLemmas.{IsInGroupFrom-push, IsInGroupFrom-take}
-use Rattle.epx_components.specs.SearchInvariants.{MayLead}
-use Rattle.epx_components.specs.Starts.{IsInGroupFrom}
-use Rattle.epx_components.specs.SearchStates.{visit_of}
+use Rattle.epx_components.specs.inner.SearchInvariants.{MayLead}
+use Rattle.epx_components.specs.inner.Starts.{IsInGroupFrom}
+use Rattle.epx_components.specs.inner.SearchStates.{visit_of}
 use Rattle.epx_components.specs.declared.visit.Visit.{Visit}
 use Rattle.epx_components.specs.declared.visit.Visit.TheVariants.{Closed, Open, Unseen}
 

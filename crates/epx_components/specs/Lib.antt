@@ -4,8 +4,4 @@ pub mod MissingNodes
 pub mod NodeRanks
 pub mod Partitions
 pub mod Targets
-pub mod Starts
-pub mod SearchStates
-pub mod SearchInvariants
-pub mod SearchSteps
-pub mod SearchWork
+pub mod inner

@@ -2,11 +2,11 @@
 ghost use Rattle.std.specs.Prelude.{◌≡◌, ℕ, List, ◌+◌, ◌<◌, ◌≤◌, length, OnOk, IfOk, IfSome, IfNone};
 ghost use Rattle.epx_graph.specs.Graphs.{IsGraph, edges_of};
 ghost use Rattle.epx_components.specs.Partitions.{parts, IsPartitionOf};
-ghost use Rattle.epx_components.specs.Starts.{AreRisingBelow};
-ghost use Rattle.epx_components.specs.SearchStates.{state, visit_of};
-ghost use Rattle.epx_components.specs.SearchInvariants.{IsRow, IsSearch, KeepsSearch};
-ghost use Rattle.epx_components.specs.SearchSteps.{after_enter, Arrives, IsNextNode, IsTopNode, IsPathBelow, IsFinished};
-ghost use Rattle.epx_components.specs.SearchWork.{work_left};
+ghost use Rattle.epx_components.specs.inner.Starts.{AreRisingBelow};
+ghost use Rattle.epx_components.specs.inner.SearchStates.{state, visit_of};
+ghost use Rattle.epx_components.specs.inner.SearchInvariants.{IsRow, IsSearch, KeepsSearch};
+ghost use Rattle.epx_components.specs.inner.SearchSteps.{after_enter, Arrives, IsNextNode, IsTopNode, IsPathBelow, IsFinished};
+ghost use Rattle.epx_components.specs.inner.SearchWork.{work_left};
 
 use crate::partition::Partition;
 use crate::starts::merge_groups;

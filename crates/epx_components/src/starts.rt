@@ -1,6 +1,6 @@
 //! Where the groups of open nodes start.
 ghost use Rattle.std.specs.Prelude.{ℕ};
-ghost use Rattle.epx_components.specs.Starts.{AreRisingBelow, IsCutAbove};
+ghost use Rattle.epx_components.specs.inner.Starts.{AreRisingBelow, IsCutAbove};
 
 /// Merges the groups that start after a position of the row into the group of that position.
 pub(crate) fn merge_groups(starts: &mut Vec<usize>, place: usize)

@@ -1,6 +1,6 @@
 //! The progress of the search, node by node.
 ghost use Rattle.std.specs.Prelude.{◌≡◌, ◌≢◌, ℕ, ◌<◌, length, slice_index, IfOk};
-ghost use Rattle.epx_components.specs.SearchStates.{visit_of};
+ghost use Rattle.epx_components.specs.inner.SearchStates.{visit_of};
 ghost use Rattle.epx_components.specs.declared.visit.Visit.TheVariants.{Closed};
 
 use epx_types::Memory;

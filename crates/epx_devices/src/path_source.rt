@@ -3,7 +3,7 @@ ghost use Rattle.std.specs.Prelude.{◌≡◌, true, false, take, None, IfOk, On
 ghost use Rattle.std.specs.Io.{ReadsAtMost};
 ghost use Rattle.std.specs.Io.KnownBytes.{ReadConsumes};
 ghost use Rattle.epx_devices.specs.Devices.{failed_after};
-ghost use Rattle.epx_devices.specs.DeviceStates.{ReadsNext, ReadsPath};
+ghost use Rattle.epx_devices.specs.inner.DeviceStates.{ReadsNext, ReadsPath};
 
 use crate::device::{DeviceFault, Source};
 use crate::retry::retry_read;
@@ -23,7 +23,7 @@ pub struct PathSource<'a, R: Files> {
 }
 
 impl<'a, R: Files> Model for PathSource<'a, R> {
-    ghost use Rattle.epx_devices.specs.DeviceStates.{PathState};
+    ghost use Rattle.epx_devices.specs.inner.DeviceStates.{PathState};
 
     ghost Value = { PathState R.File };
 

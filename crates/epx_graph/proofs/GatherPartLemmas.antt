@@ -8,7 +8,7 @@ use Rattle.std.proofs.lemmas.Option.{slice_get_within, get_or_from_slice_get}
 use Rattle.epx_types.specs.declared.id.Id.{Id}
 use Rattle.epx_types.specs.Ids.{IsRising}
 use Rattle.epx_types.specs.Instances.{Instance}
-use Rattle.epx_graph.specs.Nodes.{positions_of, missing_of, IsGatheredOf}
+use Rattle.epx_graph.specs.inner.Nodes.{positions_of, missing_of, IsGatheredOf}
 
 -- a part of a list, and the next part
 parts_joined : {X : Type 0} (xs : List X) (a b c : ℕ) → a ≤ b → b ≤ c → slice_range xs a b ++ slice_range xs b c ≡ slice_range xs a c

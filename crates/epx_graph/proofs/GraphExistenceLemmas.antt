@@ -20,8 +20,8 @@ use Rattle.epx_types.proofs.graph.ReachingDecisionLemmas.{not_cases}
 use Rattle.epx_types.proofs.lists.RisingListLemmas.{AreThose, rising_list}
 use Rattle.epx_graph.specs.Graphs.{DependencyGraph, graph_over}
 use Rattle.epx_graph.specs.GraphOf.{IsGraphOf}
-use Rattle.epx_graph.specs.Nodes.{AreMissingIds, AreNodesOf, ArePositionsOf, AreRowsOf}
-use Rattle.epx_graph.specs.Rows.{row_of}
+use Rattle.epx_graph.specs.inner.Nodes.{AreMissingIds, AreNodesOf, ArePositionsOf, AreRowsOf}
+use Rattle.epx_graph.specs.inner.Rows.{row_of}
 use Rattle.epx_graph.proofs.BuildLemmas.{graph_built}
 
 -- ---- the positions of Ids

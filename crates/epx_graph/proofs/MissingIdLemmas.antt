@@ -25,7 +25,7 @@ use Rattle.epx_types.proofs.lists.ListPositionLemmas.{Contains-slice_get}
 use Rattle.epx_types.proofs.committed.PositionLemmas.{position_of-instance}
 use Rattle.epx_types.proofs.graph.DependencyLemmas.{IsCommitted-from_Contains}
 use Rattle.epx_graph.specs.GraphOf.{IsMissing}
-use Rattle.epx_graph.specs.Nodes.{missing_of, all_missing_of, AreMissingIds}
+use Rattle.epx_graph.specs.inner.Nodes.{missing_of, all_missing_of, AreMissingIds}
 
 -- ---- an Id without a position is not committed
 

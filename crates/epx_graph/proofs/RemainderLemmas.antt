@@ -16,8 +16,8 @@ use Rattle.epx_types.proofs.lists.MembershipLemmas.{Contains-nil}
 use Rattle.epx_types.proofs.lists.ListPositionLemmas.{Contains-slice_get, slice_get-map}
 use Rattle.epx_types.proofs.committed.PositionLemmas.{position_of-instance, position_of-found}
 use Rattle.epx_types.proofs.lists.RisingIdLemmas.{AllPairs-from_IsRising, IsRising-from_AllPairs}
-use Rattle.epx_graph.specs.Remainder.{RemainderView, left_of, IsIdStateOf, IsAtPosition, IsPositionLeft, ArePositionTables}
-use Rattle.epx_graph.specs.Nodes.{missing_of, positions_of}
+use Rattle.epx_graph.specs.inner.Remainder.{RemainderView, left_of, IsIdStateOf, IsAtPosition, IsPositionLeft, ArePositionTables}
+use Rattle.epx_graph.specs.inner.Nodes.{missing_of, positions_of}
 use Rattle.epx_graph.specs.declared.left.IdState.{IdState}
 use Rattle.epx_graph.specs.declared.left.IdState.TheVariants as found
 use Rattle.epx_graph.proofs.GatherRowLemmas.{positions_skip, positions_take}

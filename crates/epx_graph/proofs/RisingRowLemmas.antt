@@ -12,7 +12,7 @@ use Rattle.epx_types.specs.CommittedMap.{ids_of, position_of, IsCommitted}
 use Rattle.epx_types.proofs.lists.MembershipLemmas.{Contains-nil, Contains-head, Contains-cons, Contains-cons_cases, Contains-filter, Contains-from_filter}
 use Rattle.epx_types.proofs.lists.ListPositionLemmas.{Contains-slice_get, slice_get-from_Contains, slice_get-map, AllPairs-head, AllPairs-tail, AllPairs-slice_get, AllPairs-from_parts, AllPairs-append}
 use Rattle.epx_types.proofs.committed.PositionLemmas.{position_of-instance}
-use Rattle.epx_graph.specs.Nodes.{positions_of, missing_of, AreNodesOf, ArePositionsOf}
+use Rattle.epx_graph.specs.inner.Nodes.{positions_of, missing_of, AreNodesOf, ArePositionsOf}
 use Rattle.epx_graph.proofs.MissingIdLemmas.{no_position, lacks-from_missing, lacking_missing}
 use Rattle.epx_graph.proofs.MapNodeLemmas.{missing_above}
 use Rattle.epx_graph.proofs.RisingPositionLemmas.{slice_get-take, slice_get-from_take, slice_get-drop, slice_get-from_drop, rising_positions_back, rising_position_is_one}

@@ -2,7 +2,7 @@
 use Rattle.std.proofs.Common.{◌≡◌, ℕ, ◌+◌, ◌-◌, ◌≤◌, List, [], ◌∷◌, ◌++◌, length, take, drop, map, All, refl, sym, ap, subst, ◌∙◌, arith, slice_range}
 use Rattle.std.proofs.Math.Seq.{drop-append-add}
 use Rattle.std.proofs.lemmas.List.{length-append}
-use Rattle.epx_graph.specs.Rows.{rows_from, AreRowEnds}
+use Rattle.epx_graph.specs.inner.Rows.{rows_from, AreRowEnds}
 use Rattle.std.proofs.lemmas.List.Elements.{All-from_get_or}
 use Rattle.epx_graph.proofs.RowLemmas.{range_kept, start_within, ends_rise}
 

@@ -3,7 +3,7 @@ use Rattle.std.proofs.Common.{◌≡◌, ◌≢◌, ◌⊎◌, inl, inr, ℕ, ze
 use Rattle.std.specs.List.{concat}
 use Rattle.std.proofs.lemmas.Bool.{cases_lt}
 use Rattle.std.proofs.lemmas.List.{length-take, length-drop, take_all, drop_all, drop_at, drop-drop, take-append-drop, take-append-le, drop-append-le, length-append, get_or-take, get_or-drop, get_or_default}
-use Rattle.epx_graph.specs.Rows.{rows_from, AreRowEnds, row_of}
+use Rattle.epx_graph.specs.inner.Rows.{rows_from, AreRowEnds, row_of}
 
 -- two numbers are equal, or not
 pub same_or_other : (i j : ℕ) → (i ≡ j) ⊎ (i ≢ j)

@@ -9,8 +9,8 @@ use Rattle.epx_types.proofs.lists.MembershipLemmas.{Contains-nil, Contains-head,
 use Rattle.epx_graph.specs.Graphs.{DependencyGraph, edges_of, IsGraph}
 use Rattle.epx_graph.specs.NodePaths.{IsNodePath, NodeReaches}
 use Rattle.epx_graph.specs.LeastMissing.{IsLeastMissing, mark_of, AreMarksOf}
-use Rattle.epx_graph.specs.Rows.{row_of, AreTransposed}
-use Rattle.epx_graph.specs.Searches.{SearchView, IsMarked, steps_left, IsVisit, IsMissingSearch, IsSpreadFrom, BeginsFrom}
+use Rattle.epx_graph.specs.inner.Rows.{row_of, AreTransposed}
+use Rattle.epx_graph.specs.inner.Searches.{SearchView, IsMarked, steps_left, IsVisit, IsMissingSearch, IsSpreadFrom, BeginsFrom}
 use Rattle.epx_graph.proofs.GraphNodeLemmas.{edge_from_committed}
 use Rattle.epx_graph.proofs.RowLemmas.{same_or_other}
 

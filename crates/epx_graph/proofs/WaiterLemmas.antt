@@ -17,7 +17,7 @@ use Rattle.epx_graph.specs.Graphs.{DependencyGraph, edges_of, IsGraph}
 use Rattle.epx_graph.specs.GraphOf.{IsGraphOf}
 use Rattle.epx_graph.specs.NodePaths.{NodeReaches}
 use Rattle.epx_graph.specs.LeastMissing.{mark_of, AreMarksOf}
-use Rattle.epx_graph.specs.Waiters.{IsWaiter, AreWaiters}
+use Rattle.epx_graph.specs.inner.Waiters.{IsWaiter, AreWaiters}
 use Rattle.epx_graph.proofs.GraphNodeLemmas.{committed_order, missing_order, node_id, reached_within}
 use Rattle.epx_graph.proofs.MapPathLemmas.{node_committed, node_of_committed, node_reaches, reached_node}
 

@@ -3,9 +3,4 @@ pub mod GraphOf
 pub mod NodePaths
 pub mod GraphLaws
 pub mod LeastMissing
-pub mod Rows
-pub mod Nodes
-pub mod Remainder
-pub mod Filling
-pub mod Searches
-pub mod Waiters
+pub mod inner

@@ -5,8 +5,8 @@ ghost use Rattle.epx_types.specs.Ids.{Below, IsRising};
 ghost use Rattle.epx_types.specs.CommittedMap.{ids_of, IsCommitted};
 ghost use Rattle.epx_types.specs.Done.{remaining};
 ghost use Rattle.epx_graph.specs.GraphOf.{IsGraphOfRest, IsGraphOf};
-ghost use Rattle.epx_graph.specs.Remainder.{left_of};
-ghost use Rattle.epx_graph.specs.Nodes.{AreNodesOf, ArePositionsOf, AreRowsOf, IsGathered};
+ghost use Rattle.epx_graph.specs.inner.Remainder.{left_of};
+ghost use Rattle.epx_graph.specs.inner.Nodes.{AreNodesOf, ArePositionsOf, AreRowsOf, IsGathered};
 
 use crate::committed::{Gathered, committed_rows};
 use crate::find_id::find_id;

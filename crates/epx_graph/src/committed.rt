@@ -2,8 +2,8 @@
 ghost use Rattle.std.specs.Prelude.{◌≡◌, ◌≤◌, ◌++◌, ◌∷◌, [], length, slice_range, IfOk, OnOk};
 ghost use Rattle.std.specs.Thread.{IsSync};
 ghost use Rattle.epx_types.specs.Done.{remaining_ids};
-ghost use Rattle.epx_graph.specs.Remainder.{left_of};
-ghost use Rattle.epx_graph.specs.Nodes.{missing_of, positions_of, IsGathered, IsGatheredOf};
+ghost use Rattle.epx_graph.specs.inner.Remainder.{left_of};
+ghost use Rattle.epx_graph.specs.inner.Nodes.{missing_of, positions_of, IsGathered, IsGatheredOf};
 
 use crate::left::{IdState, Remainder};
 use crate::part::Part;

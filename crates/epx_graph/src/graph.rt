@@ -1,7 +1,7 @@
 //! The dependency graph.
 ghost use Rattle.std.specs.Prelude.{◌≡◌, ◌==◌, ◌↔◌, ◌<◌, length, Contains, IfOk, IsTrue, MatchOption, Some, slice_get};
 ghost use Rattle.epx_graph.specs.Graphs.{edges_of, graph_over, missing_ids, IsGraph};
-ghost use Rattle.epx_graph.specs.Rows.{AreTransposed};
+ghost use Rattle.epx_graph.specs.inner.Rows.{AreTransposed};
 
 use crate::find_id::find_id;
 use crate::rows::Rows;

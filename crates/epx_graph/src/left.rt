@@ -3,7 +3,7 @@ ghost use Rattle.std.specs.Prelude.{◌≡◌, ◌↔◌, ◌<◌, length, slice
 ghost use Rattle.epx_types.specs.CommittedMap.{ids_of};
 ghost use Rattle.epx_types.specs.Done.{remaining_ids, without_deps};
 ghost use Rattle.epx_types.specs.Ids.{IsRising};
-ghost use Rattle.epx_graph.specs.Remainder.{IsIdStateOf, IsAtPosition, left_of};
+ghost use Rattle.epx_graph.specs.inner.Remainder.{IsIdStateOf, IsAtPosition, left_of};
 
 use crate::find_id::{find_id, is_absent};
 use epx_merge::{Guesses, Merged};
@@ -40,7 +40,7 @@ impl<'a> Model for Remainder<'a> {
     ghost use Rattle.std.specs.Prelude.{◌<◌, length};
     ghost use Rattle.epx_types.specs.CommittedMap.{ids_of};
     ghost use Rattle.epx_types.specs.Ids.{IsRising};
-    ghost use Rattle.epx_graph.specs.Remainder.{ArePositionTables, RemainderView};
+    ghost use Rattle.epx_graph.specs.inner.Remainder.{ArePositionTables, RemainderView};
 
     ghost Value = { RemainderView };
 

@@ -1,6 +1,6 @@
 //! Lists of numbers, one after another in one vector.
 ghost use Rattle.std.specs.Prelude.{◌≡◌, ◌<◌, ◌≤◌, ◌+◌, ◌^◌, ◌++◌, ◌∷◌, [], length, map, slice_index, slice_range, All, IfOk, OnOk};
-ghost use Rattle.epx_graph.specs.Rows.{row_of};
+ghost use Rattle.epx_graph.specs.inner.Rows.{row_of};
 
 use epx_types::Memory;
 use std::alloc::Global;
@@ -16,7 +16,7 @@ pub(crate) struct Rows {
 
 impl Model for Rows {
     ghost use Rattle.std.specs.Prelude.{ℕ, List, length};
-    ghost use Rattle.epx_graph.specs.Rows.{rows_from, AreRowEnds};
+    ghost use Rattle.epx_graph.specs.inner.Rows.{rows_from, AreRowEnds};
 
     ghost Value = { List (List ℕ) };
 

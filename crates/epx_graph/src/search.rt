@@ -2,8 +2,8 @@
 ghost use Rattle.std.specs.Prelude.{◌≡◌, ◌+◌, ◌<◌, ◌≤◌, [], None, length, replicate, All, IfOk, OnOk};
 ghost use Rattle.epx_graph.specs.Graphs.{DependencyGraph, IsGraph};
 ghost use Rattle.epx_graph.specs.LeastMissing.{AreMarksOf};
-ghost use Rattle.epx_graph.specs.Rows.{AreTransposed};
-ghost use Rattle.epx_graph.specs.Searches.{IsVisit, BeginsFrom};
+ghost use Rattle.epx_graph.specs.inner.Rows.{AreTransposed};
+ghost use Rattle.epx_graph.specs.inner.Searches.{IsVisit, BeginsFrom};
 
 use crate::graph::Graph;
 use crate::rows::Rows;
@@ -21,7 +21,7 @@ struct MissingSearch {
 }
 
 impl Model for MissingSearch {
-    ghost use Rattle.epx_graph.specs.Searches.{SearchView};
+    ghost use Rattle.epx_graph.specs.inner.Searches.{SearchView};
 
     ghost Value = { SearchView };
 

@@ -1,4 +1,3 @@
-pub mod AtMostOne
 pub mod ReachingLaws
 pub mod OrderLaws
 pub mod CommandLaws
@@ -11,3 +10,4 @@ pub mod DoneLaws
 pub mod GrowthLaws
 pub mod ResumedRunLaws
 pub mod ComparisonLaws
+pub mod inner

@@ -7,7 +7,7 @@ use Rattle.serde_json.specs.Written.{compact_text, items_text, members_text, com
 use Rattle.epx_types.specs.Instances.{Instance}
 use Rattle.epx_lines.specs.Meaning.{max_line_bytes}
 use Rattle.epx_lines.specs.Text.{data_of_id, data_of_op, line_text}
-use Rattle.epx_lines.specs.WrittenParts.{IsWritableId, IsWritableOp, FitNumbers}
+use Rattle.epx_lines.specs.inner.WrittenParts.{IsWritableId, IsWritableOp, FitNumbers}
 use Rattle.json.specs.Print.{quoted, escape_byte}
 
 length-comma_if : (later : Bool) → length (comma_if later) ≤ 1

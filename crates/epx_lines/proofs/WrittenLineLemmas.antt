@@ -21,7 +21,7 @@ use Rattle.epx_lines.specs.Elements.{list_of, every}
 use Rattle.epx_lines.specs.DependencyList.{is_other, rising_others, id_of, deps_of}
 use Rattle.epx_lines.specs.OperationList.{op_of, ops_of}
 use Rattle.epx_lines.specs.Text.{data_of_id, data_of_op, object_of, line_text}
-use Rattle.epx_lines.specs.WrittenParts.{IsWritableId, IsWritableOp, FitNumbers, IsWritableEntry}
+use Rattle.epx_lines.specs.inner.WrittenParts.{IsWritableId, IsWritableOp, FitNumbers, IsWritableEntry}
 use Rattle.epx_lines.proofs.ElementLemmas.{at_most-within}
 use Rattle.epx_lines.proofs.JsonTextLemmas.{json_of-some}
 use Rattle.epx_lines.proofs.WrittenPartLemmas.{whole-fits}

@@ -16,7 +16,7 @@ use Rattle.epx_lines.specs.Elements.{whole}
 use Rattle.epx_lines.specs.DependencyList.{id_of}
 use Rattle.epx_lines.specs.OperationList.{key_of, value_or_null, op_with_key, op_with_value, op_of}
 use Rattle.epx_lines.specs.Text.{op_pair, op_triple, data_of_op}
-use Rattle.epx_lines.specs.WrittenParts.{IsWritableId, IsWritableValue, IsWritableOp}
+use Rattle.epx_lines.specs.inner.WrittenParts.{IsWritableId, IsWritableValue, IsWritableOp}
 
 -- ---- numbers and keys
 

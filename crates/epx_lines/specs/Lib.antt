@@ -6,4 +6,4 @@ pub mod Meaning
 pub mod Faults
 pub mod Tokens
 pub mod Text
-pub mod WrittenParts
+pub mod inner

@@ -9,11 +9,11 @@ use Rattle.epx_types.proofs.lists.MembershipLemmas.{Contains-nil, Contains-head}
 use Rattle.epx_lines.specs.declared.Line.{Line}
 use Rattle.epx_merge.specs.declared.pieces.BadLine.{BadLine}
 use Rattle.epx_merge.specs.LogLines.{MeaningAt, placed_among, bad_lines_among}
-use Rattle.epx_merge.specs.Ledgers.{LedgerView, IsLedgerOf, NotesLines}
-use Rattle.epx_merge.specs.ReadPieces.{AreRead}
+use Rattle.epx_merge.specs.inner.Ledgers.{LedgerView, IsLedgerOf, NotesLines}
+use Rattle.epx_merge.specs.inner.ReadPieces.{AreRead}
 use Rattle.epx_merge.specs.Steps.{IsReadFault}
-use Rattle.epx_merge.specs.RedundantLines.{IsRedundant, DropsRedundant, IsRedundantIn, CachesAfter, IsCacheOf, IsNextBatch}
-use Rattle.epx_merge.specs.ReadSteps.{IsReadStep}
+use Rattle.epx_merge.specs.inner.RedundantLines.{IsRedundant, DropsRedundant, IsRedundantIn, CachesAfter, IsCacheOf, IsNextBatch}
+use Rattle.epx_merge.specs.inner.ReadSteps.{IsReadStep}
 use Rattle.epx_merge.proofs.ReadFaultLemmas.{placed_among-append, bad_lines_among-append, fault_after}
 use Rattle.epx_merge.proofs.RedundantLineLemmas.{DropsRedundant-append, length-kept, SameOutcome-kept}
 

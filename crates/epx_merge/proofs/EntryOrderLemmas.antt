@@ -4,7 +4,7 @@ use Rattle.epx_types.specs.Instances.{Instance}
 use Rattle.epx_types.specs.PlacedLines.{Placed, HaveDistinctPlaces}
 use Rattle.epx_types.proofs.lists.MembershipLemmas.{Contains-nil, Contains-cons_cases}
 use Rattle.epx_merge.specs.EntryLines.{entry_lines, entry_lines_from}
-use Rattle.epx_merge.specs.LineOrder.{IsSortedByPlace}
+use Rattle.epx_merge.specs.inner.LineOrder.{IsSortedByPlace}
 use Rattle.epx_merge.proofs.PlaceOrderLemmas.{earlier_line, distinct_places}
 
 from_line : (n : ℕ) (es : List Instance) (p : Placed) → Contains (entry_lines_from n es) p → (p.place.log ≡ 0) × (n ≤ p.place.line)

@@ -19,7 +19,7 @@ use Rattle.epx_merge.specs.Limits.{max_logs, max_log_bytes, max_instances}
 use Rattle.epx_merge.specs.LogLines.{placed_of, BadLineAt, bad_lines_of}
 use Rattle.epx_merge.specs.Refusals.{IsFirstTooLong, NoneTooLong, AreWellFormed, AreNamedBy, IsRefusal}
 use Rattle.epx_merge.specs.Acceptance.{IsAccepted}
-use Rattle.epx_merge.specs.Ledgers.{LedgerView, IsLineOf, IsLedgerOf, NotesLines}
+use Rattle.epx_merge.specs.inner.Ledgers.{LedgerView, IsLineOf, IsLedgerOf, NotesLines}
 use Rattle.epx_merge.proofs.FirstWhereLemmas.{IsFirstWhere-contains, IsFirstWhere-holds}
 use Rattle.epx_merge.proofs.LedgerLemmas.{keys, NotesLines-new, NotesLines-known, NotesLines-disagreement}
 use Rattle.epx_merge.proofs.LedgerMapLemmas.{same_id, entry_found, no_entry}

@@ -4,8 +4,8 @@ use Rattle.epx_types.specs.PlacedLines.{Placed, Earlier}
 use Rattle.epx_types.proofs.lists.ComparisonLemmas.{place_cmp_total}
 use Rattle.epx_types.proofs.lists.MembershipLemmas.{Contains-head, Contains-cons, Contains-cons_cases}
 use Rattle.epx_types.proofs.lists.TotalOrderLemmas.{below_irrefl, below_asymm}
-use Rattle.epx_merge.specs.Ledgers.{IsFirstWhere}
-use Rattle.epx_merge.specs.LineOrder.{IsSortedByPlace}
+use Rattle.epx_merge.specs.inner.Ledgers.{IsFirstWhere}
+use Rattle.epx_merge.specs.inner.LineOrder.{IsSortedByPlace}
 
 module _ (P : Placed → Type 0) where
   -- it is one of them

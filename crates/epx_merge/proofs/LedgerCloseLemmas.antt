@@ -13,8 +13,8 @@ use Rattle.epx_types.proofs.lists.MembershipLemmas.{Contains-nil, Contains-head,
 use Rattle.epx_types.proofs.graph.WaitingLemmas.{Contains-Id_cases}
 use Rattle.epx_merge.specs.declared.ledger.Disagreement.{Disagreement}
 use Rattle.epx_merge.specs.Refusals.{AreNamedBy, IsDisagreementAt}
-use Rattle.epx_merge.specs.Ledgers.{LedgerView, IsLineOf, IsLedgerOf}
-use Rattle.epx_merge.specs.LineOrder.{IsSortedByPlace}
+use Rattle.epx_merge.specs.inner.Ledgers.{LedgerView, IsLineOf, IsLedgerOf}
+use Rattle.epx_merge.specs.inner.LineOrder.{IsSortedByPlace}
 use Rattle.epx_merge.proofs.FirstWhereLemmas.{IsFirstWhere-contains, IsFirstWhere-holds, IsFirstWhere-earliest}
 use Rattle.epx_merge.proofs.LedgerLemmas.{keys, key_of_entry}
 use Rattle.epx_merge.proofs.LedgerMapLemmas.{same_id}

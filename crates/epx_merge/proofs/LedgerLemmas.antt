@@ -6,7 +6,7 @@ use Rattle.epx_types.specs.PlacedLines.{Placed}
 use Rattle.epx_types.specs.Agreement.{Differ}
 use Rattle.epx_types.proofs.lists.MembershipLemmas.{Contains-map, Contains-from_map}
 use Rattle.epx_merge.specs.declared.ledger.Disagreement.{Disagreement}
-use Rattle.epx_merge.specs.Ledgers.{LedgerView, IsFirstWhere, IsLineOf, IsDisagreementOf, IsLedgerOf, NotesLines}
+use Rattle.epx_merge.specs.inner.Ledgers.{LedgerView, IsFirstWhere, IsLineOf, IsDisagreementOf, IsLedgerOf, NotesLines}
 use Rattle.epx_merge.proofs.FirstWhereLemmas.{IsFirstWhere-holds, IsFirstWhere-unique, IsFirstWhere-append, IsFirstWhere-push}
 
 -- ---- entries with keys

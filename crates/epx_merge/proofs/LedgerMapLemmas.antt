@@ -13,8 +13,8 @@ use Rattle.epx_types.specs.PlacedLines.{Placed}
 use Rattle.epx_types.proofs.lists.MembershipLemmas.{Contains-nil, Contains-cons_cases}
 use Rattle.epx_types.proofs.lists.ListPositionLemmas.{slice_get-map, slice_get-from_map, Contains-slice_get}
 use Rattle.epx_merge.specs.declared.ledger.Disagreement.{Disagreement}
-use Rattle.epx_merge.specs.Ledgers.{LedgerView, NotesLines}
-use Rattle.epx_merge.specs.LineRows.{with_ids}
+use Rattle.epx_merge.specs.inner.Ledgers.{LedgerView, NotesLines}
+use Rattle.epx_merge.specs.inner.LineRows.{with_ids}
 use Rattle.epx_merge.proofs.EqualityLemmas.{ids_decide}
 use Rattle.epx_merge.proofs.LedgerLemmas.{keys, key_of_entry, NotesLines-new, NotesLines-known, NotesLines-disagreement}
 

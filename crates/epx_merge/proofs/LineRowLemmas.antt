@@ -18,9 +18,9 @@ use Rattle.epx_types.proofs.lists.MembershipLemmas.{Contains-nil, Contains-head,
 use Rattle.epx_types.proofs.lists.ListPositionLemmas.{slice_get-map}
 use Rattle.epx_merge.specs.declared.ledger.Disagreement.{Disagreement}
 use Rattle.epx_merge.specs.declared.rows.Row.{Row}
-use Rattle.epx_merge.specs.Ledgers.{IsLedgerOf}
+use Rattle.epx_merge.specs.inner.Ledgers.{IsLedgerOf}
 use Rattle.epx_merge.specs.Refusals.{AreNamedBy}
-use Rattle.epx_merge.specs.LineRows.{with_ids, rows_of_ids, instances_at, NamesItsLine, AreLineRows}
+use Rattle.epx_merge.specs.inner.LineRows.{with_ids, rows_of_ids, instances_at, NamesItsLine, AreLineRows}
 use Rattle.epx_merge.proofs.LedgerLemmas.{keys}
 use Rattle.epx_merge.proofs.LedgerMapLemmas.{same_id}
 use Rattle.epx_merge.proofs.RowLemmas.{names_of}

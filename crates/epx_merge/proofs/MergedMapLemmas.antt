@@ -13,7 +13,7 @@ use Rattle.epx_types.proofs.committed.AgreementLemmas.{instance_of_iff}
 use Rattle.epx_types.proofs.lists.ListPositionLemmas.{Contains-slice_get, slice_get-from_Contains}
 use Rattle.epx_types.proofs.committed.PositionLemmas.{position_of-instance, position_of-found}
 use Rattle.epx_merge.specs.declared.rows.Row.{Row}
-use Rattle.epx_merge.specs.LineRows.{instances_at, NamesItsLine, AreLineRows}
+use Rattle.epx_merge.specs.inner.LineRows.{instances_at, NamesItsLine, AreLineRows}
 use Rattle.epx_merge.proofs.LineRowLemmas.{instances_under, ids_under, stands_under}
 
 module _ (lines : List Placed) (rows : List Row) (h : AreLineRows lines rows) where

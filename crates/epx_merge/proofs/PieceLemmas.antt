@@ -11,7 +11,7 @@ use Rattle.epx_claims.specs.Answered.{AreOrderedAnswers}
 use Rattle.epx_merge.specs.declared.pieces.BadLine.{BadLine}
 use Rattle.epx_merge.specs.Limits.{max_log_bytes}
 use Rattle.epx_merge.specs.LogLines.{MeaningAt, meanings_in, meanings_from}
-use Rattle.epx_merge.specs.ReadPieces.{IsRead, AreRead, lines_of_piece}
+use Rattle.epx_merge.specs.inner.ReadPieces.{IsRead, AreRead, lines_of_piece}
 use Rattle.epx_merge.specs.Refusals.{NoneTooLong}
 
 module _ {E : Type 0} (holds : List Placed → E → Type 0) (cut : ℕ) (some : 1 ≤ cut) (lines : List MeaningAt) where

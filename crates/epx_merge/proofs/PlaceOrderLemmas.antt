@@ -12,7 +12,7 @@ use Rattle.epx_lines.specs.Lines.{lines_of}
 use Rattle.epx_lines.specs.declared.Line.{Line}
 use Rattle.epx_lines.specs.declared.Line.TheVariants.{Blank, Entry}
 use Rattle.epx_merge.specs.LogLines.{MeaningAt, meaning_at, meanings_in, meanings_from, meanings_of, placed_at, placed_of, BadLineAt, bad_lines_at, bad_lines_of}
-use Rattle.epx_merge.specs.LineOrder.{AreSortedBy, IsSortedByPlace}
+use Rattle.epx_merge.specs.inner.LineOrder.{AreSortedBy, IsSortedByPlace}
 use Rattle.epx_merge.specs.Refusals.{IsFirstBadLine}
 
 earlier_log : (p q : Place) → p.log < q.log → Earlier p q

@@ -6,7 +6,7 @@ use Rattle.epx_types.specs.declared.fault.Fault.{Fault}
 use Rattle.epx_types.specs.declared.fault.Fault.TheVariants.{Memory, TooManyLogs, LogTooLong, BadLine, TooManyInstances, Disagree, Read, Write, BadBase}
 use Rattle.epx_lines.specs.Lines.{lines_of}
 use Rattle.epx_merge.specs.LogLines.{MeaningAt, meaning_at, meanings_in, meanings_from, placed_at, placed_among, BadLineAt, bad_lines_at, bad_lines_among}
-use Rattle.epx_merge.specs.Ledgers.{LedgerView, NotesLines}
+use Rattle.epx_merge.specs.inner.Ledgers.{LedgerView, NotesLines}
 use Rattle.epx_merge.specs.Steps.{IsReadFault}
 use Rattle.epx_merge.proofs.LedgerLemmas.{NotesLines-nil, NotesLines-append}
 

@@ -4,7 +4,7 @@ use Rattle.std.proofs.Math.Seq.{drop-cons, drop-length}
 use Rattle.epx_types.specs.PlacedLines.{Placed}
 use Rattle.epx_merge.specs.declared.pieces.BadLine.{BadLine}
 use Rattle.epx_merge.specs.LogLines.{MeaningAt, placed_at, placed_among, bad_lines_at, bad_lines_among}
-use Rattle.epx_merge.specs.ReadPieces.{IsCleanRead, IsFirstBad, AreRead}
+use Rattle.epx_merge.specs.inner.ReadPieces.{IsCleanRead, IsFirstBad, AreRead}
 use Rattle.epx_merge.proofs.ReadFaultLemmas.{placed_among-append, bad_lines_among-append}
 
 -- the entries and the instances of the rest are those of all lines, and all bad lines are in the

@@ -3,11 +3,6 @@ pub mod LogLines
 pub mod Refusals
 pub mod Acceptance
 pub mod LogLaws
-pub mod Ledgers
-pub mod LineRows
 pub mod Steps
-pub mod LineOrder
-pub mod ReadPieces
-pub mod RedundantLines
-pub mod ReadSteps
 pub mod EntryLines
+pub mod inner

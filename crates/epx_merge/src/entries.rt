@@ -1,7 +1,7 @@
 //! The committed map of entries in memory, or why they commit none.
 ghost use Rattle.std.specs.Prelude.{MatchResult, OnOk};
 ghost use Rattle.epx_merge.specs.EntryLines.{entry_lines};
-ghost use Rattle.epx_merge.specs.Ledgers.{NotesLines};
+ghost use Rattle.epx_merge.specs.inner.Ledgers.{NotesLines};
 ghost use Rattle.epx_merge.specs.Steps.{IsMerged, IsMergeFault};
 
 use crate::ledger::Ledger;

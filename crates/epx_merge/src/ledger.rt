@@ -1,8 +1,8 @@
 //! The first line of each instance, and the instances whose lines differ.
 ghost use Rattle.std.specs.Prelude.{◌≡◌, List, [], ◌∷◌, OnOk, MatchResult, Some, slice_get};
 ghost use Rattle.epx_types.specs.PlacedLines.{Placed};
-ghost use Rattle.epx_merge.specs.Ledgers.{IsLedgerOf, NotesLines};
-ghost use Rattle.epx_merge.specs.LineOrder.{IsSortedByPlace};
+ghost use Rattle.epx_merge.specs.inner.Ledgers.{IsLedgerOf, NotesLines};
+ghost use Rattle.epx_merge.specs.inner.LineOrder.{IsSortedByPlace};
 ghost use Rattle.epx_merge.specs.Steps.{IsMerged, IsMergeFault};
 
 use crate::limits::MAX_INSTANCES;
@@ -36,8 +36,8 @@ pub(crate) struct Ledger {
 
 impl Model for Ledger {
     ghost use Rattle.std.specs.Prelude.{◌≡◌, map};
-    ghost use Rattle.epx_merge.specs.Ledgers.{LedgerView};
-    ghost use Rattle.epx_merge.specs.LineRows.{with_ids};
+    ghost use Rattle.epx_merge.specs.inner.Ledgers.{LedgerView};
+    ghost use Rattle.epx_merge.specs.inner.LineRows.{with_ids};
 
     ghost Value = { LedgerView };
 

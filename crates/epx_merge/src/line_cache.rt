@@ -1,7 +1,7 @@
 //! A cache of lines, which recognizes repeated lines by their bytes.
 ghost use Rattle.std.specs.Prelude.{◌≡◌, [], IsTrue, IfOk, Contains};
 ghost use Rattle.epx_lines.specs.Meaning.{meaning_of};
-ghost use Rattle.epx_merge.specs.RedundantLines.{CachesAfter};
+ghost use Rattle.epx_merge.specs.inner.RedundantLines.{CachesAfter};
 
 use epx_types::Memory;
 use std::alloc::Global;

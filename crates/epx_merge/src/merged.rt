@@ -2,7 +2,7 @@
 ghost use Rattle.std.specs.Prelude.{◌≡◌, ◌==◌, ◌<◌, IfSome, length, option_copied, slice_get, Some};
 ghost use Rattle.epx_types.specs.CommittedMap.{ids_of, instance_of, position_of};
 ghost use Rattle.epx_types.specs.Ids.{IsRising};
-ghost use Rattle.epx_merge.specs.LineRows.{AreLineRows, instances_at};
+ghost use Rattle.epx_merge.specs.inner.LineRows.{AreLineRows, instances_at};
 
 use crate::guesses::Guesses;
 use crate::placed::PlacedEntry;
@@ -22,7 +22,7 @@ pub struct Merged {
 impl Model for Merged {
     ghost use Rattle.std.specs.Prelude.{List};
     ghost use Rattle.epx_types.specs.Instances.{Instance};
-    ghost use Rattle.epx_merge.specs.LineRows.{instances_at, AreLineRows};
+    ghost use Rattle.epx_merge.specs.inner.LineRows.{instances_at, AreLineRows};
 
     ghost Value = { List Instance };
 

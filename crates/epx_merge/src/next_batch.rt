@@ -1,6 +1,6 @@
 //! The next batch of lines that the workers read.
 ghost use Rattle.std.specs.Prelude.{◌≡◌, ◌<◌, ◌≤◌, ◌^◌, [], IfOk, IsTrue, length};
-ghost use Rattle.epx_merge.specs.RedundantLines.{IsRedundantIn, CachesAfter, IsNextBatch};
+ghost use Rattle.epx_merge.specs.inner.RedundantLines.{IsRedundantIn, CachesAfter, IsNextBatch};
 
 use crate::line::PlacedLine;
 use crate::line_cache::LineCache;

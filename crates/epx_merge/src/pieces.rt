@@ -2,8 +2,8 @@
 ghost use Rattle.std.specs.Prelude.{◌≡◌, ◌<◌, ◌++◌, ◌∷◌, List, [], IfOk, OnOk, MatchOption, MatchResult, length};
 ghost use Rattle.epx_types.specs.Pieces.{piece_count};
 ghost use Rattle.epx_merge.specs.LogLines.{MeaningAt, placed_at, placed_among, bad_lines_at, bad_lines_among};
-ghost use Rattle.epx_merge.specs.ReadPieces.{IsRead, AreRead, lines_of_piece};
-ghost use Rattle.epx_merge.specs.Ledgers.{NotesLines};
+ghost use Rattle.epx_merge.specs.inner.ReadPieces.{IsRead, AreRead, lines_of_piece};
+ghost use Rattle.epx_merge.specs.inner.Ledgers.{NotesLines};
 ghost use Rattle.epx_merge.specs.Steps.{IsReadFault};
 
 use crate::ledger::Ledger;

@@ -1,10 +1,10 @@
 //! Reads logs: returns their committed map, or the first refusal.
 ghost use Rattle.std.specs.Prelude.{◌≡◌, ◌≤◌, ◌^◌, List, [], IfOk, MatchResult, length, map};
 ghost use Rattle.std.specs.Thread.{IsSync};
-ghost use Rattle.epx_merge.specs.ReadSteps.{IsReadStep};
-ghost use Rattle.epx_merge.specs.ReadPieces.{AreRead};
+ghost use Rattle.epx_merge.specs.inner.ReadSteps.{IsReadStep};
+ghost use Rattle.epx_merge.specs.inner.ReadPieces.{AreRead};
 ghost use Rattle.epx_merge.specs.LogLines.{MeaningAt, placed_of, bad_lines_among, bad_lines_of};
-ghost use Rattle.epx_merge.specs.Ledgers.{IsLedgerOf};
+ghost use Rattle.epx_merge.specs.inner.Ledgers.{IsLedgerOf};
 ghost use Rattle.epx_merge.specs.Steps.{IsReadFault};
 ghost use Rattle.epx_merge.specs.Acceptance.{IsAccepted};
 ghost use Rattle.epx_merge.specs.Refusals.{IsRefusal};

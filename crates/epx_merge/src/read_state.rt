@@ -1,9 +1,9 @@
 //! The state between two steps of reading logs, and the next step.
 ghost use Rattle.std.specs.Prelude.{◌≡◌, List, [], IfOk, MatchResult, map};
-ghost use Rattle.epx_merge.specs.ReadSteps.{IsReadStep};
-ghost use Rattle.epx_merge.specs.Ledgers.{IsLedgerOf};
+ghost use Rattle.epx_merge.specs.inner.ReadSteps.{IsReadStep};
+ghost use Rattle.epx_merge.specs.inner.Ledgers.{IsLedgerOf};
 ghost use Rattle.epx_merge.specs.LogLines.{MeaningAt, meanings_of, bad_lines_among};
-ghost use Rattle.epx_merge.specs.ReadPieces.{AreRead};
+ghost use Rattle.epx_merge.specs.inner.ReadPieces.{AreRead};
 ghost use Rattle.epx_merge.specs.Steps.{IsReadFault};
 
 use crate::ledger::Ledger;

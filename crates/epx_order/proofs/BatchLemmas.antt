@@ -5,10 +5,10 @@ use Rattle.epx_graph.specs.Graphs.{DependencyGraph, edges_of}
 use Rattle.epx_components.specs.Partitions.{Parts, IsPartitionOf, number_for}
 use Rattle.epx_order.specs.declared.batch.Batch.{Batch}
 use Rattle.epx_order.specs.declared.doubtful_touches.DoubtfulTouch.{DoubtfulTouch}
-use Rattle.epx_order.specs.Batches.{IsBatch, IsWhole, IsReadyApart}
-use Rattle.epx_order.specs.DoubtfulKeys.{IsRelatedOrFree}
-use Rattle.epx_order.specs.ReadyMarks.{is_marked}
-use Rattle.epx_order.specs.SourceBits.{has_bit, HasAlone}
+use Rattle.epx_order.specs.inner.Batches.{IsBatch, IsWhole, IsReadyApart}
+use Rattle.epx_order.specs.inner.DoubtfulKeys.{IsRelatedOrFree}
+use Rattle.epx_order.specs.inner.ReadyMarks.{is_marked}
+use Rattle.epx_order.specs.inner.SourceBits.{has_bit, HasAlone}
 
 module _ (g : DependencyGraph) (p : Parts) (touches : List DoubtfulTouch) (sources : List ℕ) (words : Batch) (ready : List Bool) (is : IsBatch g p touches sources words) where
   pub batch_whole : IsPartitionOf g p → length ready ≡ length g.ids → IsWhole p ready words

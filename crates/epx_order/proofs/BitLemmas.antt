@@ -4,7 +4,7 @@ use Rattle.std.proofs.lemmas.Bool.{cases_Bool, cases_eq, cases_lt, false≢true}
 use Rattle.std.proofs.lemmas.List.{get_or-map, get_or_past, get_or-set_same, get_or-set_other, length-map}
 use Rattle.std.proofs.lemmas.Nat.Bits.{bit_at-lt, bit_at-zero, bit_at_or, bit_at_and, bit_at_not}
 use Rattle.std.specs.Int.{bit_at, bit_not}
-use Rattle.epx_order.specs.SourceBits.{has_bit}
+use Rattle.epx_order.specs.inner.SourceBits.{has_bit}
 
 pub bit_one : (b w : ℕ) → IsTrue (has_bit b w) ↔ (bit_at w b ≡ 1)
 bit_one b w = grind (arith, tests)

@@ -14,11 +14,11 @@ use Rattle.epx_graph.specs.GraphOf.{IsGraphOf}
 use Rattle.epx_graph.proofs.MapPathLemmas.{committed_count, node_reaches}
 use Rattle.epx_order.specs.declared.doubtful_touches.DoubtfulTouch.{DoubtfulTouch}
 use Rattle.epx_order.specs.declared.touches.Touch.{Touch}
-use Rattle.epx_order.specs.RelatedTouches.{AreAllRelated}
-use Rattle.epx_order.specs.DoubtfulKeys.{doubtful_touch, ShareKey, HoldAllConflicts}
-use Rattle.epx_order.specs.ReadyMarks.{AreReadyMarks}
-use Rattle.epx_order.specs.Touches.{touch, hash_of, touches_of, HoldTouches}
-use Rattle.epx_order.specs.ReachIndexes.{AreNodesOf}
+use Rattle.epx_order.specs.inner.RelatedTouches.{AreAllRelated}
+use Rattle.epx_order.specs.inner.DoubtfulKeys.{doubtful_touch, ShareKey, HoldAllConflicts}
+use Rattle.epx_order.specs.inner.ReadyMarks.{AreReadyMarks}
+use Rattle.epx_order.specs.inner.Touches.{touch, hash_of, touches_of, HoldTouches}
+use Rattle.epx_order.specs.inner.ReachIndexes.{AreNodesOf}
 use Rattle.epx_order.proofs.HashLemmas.{contains_or_not}
 use Rattle.epx_order.proofs.QuickAuditLemmas.{HasPosition, position_of_ready, related}
 use Rattle.epx_order.proofs.ReadyMarkLemmas.{ready_from_mark}

@@ -4,7 +4,7 @@ use Rattle.std.proofs.lemmas.Bool.{cases_eq, cases_lt}
 use Rattle.std.proofs.lemmas.List.{get_or_default, length-set, length-replicate, get_or-replicate, get_or_past}
 use Rattle.std.proofs.lemmas.List.Elements.{Contains-get_or}
 use Rattle.epx_graph.specs.NodePaths.{IsNodePath, NodeReaches}
-use Rattle.epx_order.specs.Ends.{AreEnds, IsEndBelow, IsGreatestEnd}
+use Rattle.epx_order.specs.inner.Ends.{AreEnds, IsEndBelow, IsGreatestEnd}
 use Rattle.epx_components.specs.Partitions.{Parts, IsPartition, component_of, node_at, number_for}
 use Rattle.epx_components.proofs.NodePathLemmas.{reach_falls, reaches_edge, reaches_on}
 use Rattle.epx_components.proofs.PartitionLemmas.{node_below, value_after_set}

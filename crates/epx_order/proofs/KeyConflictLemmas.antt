@@ -1,7 +1,7 @@
 -- Commands conflict exactly if one of two tests finds a key in common.
 use Rattle.std.proofs.Common.{◌≡◌, ◌↔◌, inl, inr, ℕ, List, Bool, false, Contains, IsTrue, sym, ◌∙◌}
 use Rattle.std.proofs.lemmas.Bool.{false≢true}
-use Rattle.epx_order.specs.NodeConflicts.{KeyLists, KeysConflict}
+use Rattle.epx_order.specs.inner.NodeConflicts.{KeyLists, KeysConflict}
 
 abbrev pub ShareKey : List (List ℕ) → List (List ℕ) → Type 0
 ShareKey ks js = (k : List ℕ) × Contains ks k × Contains js k

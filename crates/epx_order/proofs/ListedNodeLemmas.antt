@@ -10,9 +10,9 @@ use Rattle.epx_graph.specs.Graphs.{DependencyGraph}
 use Rattle.epx_graph.specs.GraphOf.{IsGraphOf}
 use Rattle.epx_graph.proofs.GraphNodeLemmas.{node_is_one}
 use Rattle.epx_graph.proofs.MapPathLemmas.{committed_count, node_committed, node_of_committed, node_order}
-use Rattle.epx_order.specs.NodeLists.{AreListed, IsListedIfReady}
+use Rattle.epx_order.specs.inner.NodeLists.{AreListed, IsListedIfReady}
 use Rattle.epx_order.specs.OrderFaults.{HasAllReady, IsOrderFault, ReadyOnce}
-use Rattle.epx_order.specs.ReadyMarks.{is_marked, AreReadyMarks}
+use Rattle.epx_order.specs.inner.ReadyMarks.{is_marked, AreReadyMarks}
 use Rattle.epx_order.specs.declared.order_fault.OrderFault.TheVariants.{Missing}
 use Rattle.epx_order.proofs.ReadyMarkLemmas.{ready_from_mark, mark_from_ready}
 

@@ -16,11 +16,11 @@ use Rattle.epx_graph.specs.GraphOf.{IsGraphOf}
 use Rattle.epx_graph.specs.NodePaths.{NodeReaches}
 use Rattle.epx_graph.proofs.GraphNodeLemmas.{reached_within}
 use Rattle.epx_graph.proofs.MapPathLemmas.{node_committed, node_instance, node_reaches}
-use Rattle.epx_order.specs.Ends.{AreEnds, IsEndBelow}
-use Rattle.epx_order.specs.NodeLists.{AreListed}
+use Rattle.epx_order.specs.inner.Ends.{AreEnds, IsEndBelow}
+use Rattle.epx_order.specs.inner.NodeLists.{AreListed}
 use Rattle.epx_order.specs.OrderFaults.{IsEarlyAt, IsOvertakenAt, IsListOfReady, InOrder, IsOrderFault}
 use Rattle.epx_components.specs.Partitions.{Parts, IsPartitionOf, component_of, number_for}
-use Rattle.epx_order.specs.SequenceKeys.{IsNodeEarlyAt, IsNodeOvertakenAt, AreNodesInOrder, IsNodeFault}
+use Rattle.epx_order.specs.inner.SequenceKeys.{IsNodeEarlyAt, IsNodeOvertakenAt, AreNodesInOrder, IsNodeFault}
 use Rattle.epx_order.specs.declared.order_fault.OrderFault.{OrderFault}
 use Rattle.epx_order.specs.declared.order_fault.OrderFault.TheVariants.{Memory, Stranger, Repeat, Missing, Early, Sequence}
 use Rattle.epx_order.proofs.LawfulOrderLemmas.{lawful_from_order}

@@ -8,9 +8,9 @@ use Rattle.epx_types.specs.Instances.{Instance}
 use Rattle.epx_types.specs.Readiness.{IsReady}
 use Rattle.epx_graph.specs.Graphs.{DependencyGraph, IsGraph}
 use Rattle.epx_graph.proofs.GraphNodeLemmas.{node_is_one}
-use Rattle.epx_order.specs.NodeLists.{AreListed}
+use Rattle.epx_order.specs.inner.NodeLists.{AreListed}
 use Rattle.epx_order.specs.OrderFaults.{ReadyOnce}
-use Rattle.epx_order.specs.ReadyMarks.{is_marked}
+use Rattle.epx_order.specs.inner.ReadyMarks.{is_marked}
 
 module _ (g : DependencyGraph) (is : IsGraph g) (ids : List Id) (n : ℕ) (nodes : List ℕ) (marks : List Bool) (old : AreListed g ids n nodes marks) (x : Id) (at : slice_get ids n ≡ Some x) (k : ℕ) (to : slice_get g.ids k ≡ Some x) where
   -- its node is marked exactly if it is listed at an earlier position

@@ -11,7 +11,7 @@ use Rattle.epx_types.proofs.graph.ReachingLemmas.{Reaches-trans}
 use Rattle.epx_graph.specs.Graphs.{DependencyGraph, edges_of}
 use Rattle.epx_graph.specs.GraphOf.{IsGraphOf}
 use Rattle.epx_graph.proofs.MapPathLemmas.{committed_count, node_reaches}
-use Rattle.epx_order.specs.ReachIndexes.{AreNodesOf, LeadersJoin}
+use Rattle.epx_order.specs.inner.ReachIndexes.{AreNodesOf, LeadersJoin}
 use Rattle.epx_components.proofs.ReadyRankLemmas.{node_of_place}
 
 module _ (m : List Instance) (order : List Ranked) (nodes : List ℕ) (are : AreNodesOf m order nodes) where

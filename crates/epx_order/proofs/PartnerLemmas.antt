@@ -5,10 +5,10 @@ use Rattle.std.proofs.lemmas.Option.{slice_get_within}
 use Rattle.epx_types.specs.Instances.{Instance}
 use Rattle.epx_types.proofs.lists.ListPositionLemmas.{slice_get-from_map, slice_get-map}
 use Rattle.epx_order.specs.declared.doubtful_touches.DoubtfulTouch.{DoubtfulTouch}
-use Rattle.epx_order.specs.Batches.{IsReadyApart}
-use Rattle.epx_order.specs.DoubtfulKeys.{HoldAllConflicts, IsRelatedOrFree}
-use Rattle.epx_order.specs.NodeConflicts.{KeyLists, keys_of, KeysConflict, IsSettled, IsPartner}
-use Rattle.epx_order.specs.ReadyMarks.{is_marked}
+use Rattle.epx_order.specs.inner.Batches.{IsReadyApart}
+use Rattle.epx_order.specs.inner.DoubtfulKeys.{HoldAllConflicts, IsRelatedOrFree}
+use Rattle.epx_order.specs.inner.NodeConflicts.{KeyLists, keys_of, KeysConflict, IsSettled, IsPartner}
+use Rattle.epx_order.specs.inner.ReadyMarks.{is_marked}
 
 module _ (m : List Instance) (edges : ℕ → List ℕ) (ready : List Bool) (k : ℕ) where
   -- after one more node

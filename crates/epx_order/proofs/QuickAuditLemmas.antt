@@ -17,9 +17,9 @@ use Rattle.epx_graph.specs.GraphOf.{IsGraphOf}
 use Rattle.epx_graph.specs.NodePaths.{NodeReaches}
 use Rattle.epx_graph.proofs.MapPathLemmas.{committed_count, node_reaches}
 use Rattle.epx_order.specs.declared.touches.Touch.{Touch}
-use Rattle.epx_order.specs.RelatedTouches.{touch_at, AreAllRelated}
-use Rattle.epx_order.specs.Touches.{touch, HoldTouches}
-use Rattle.epx_order.specs.ReachIndexes.{AreNodesOf}
+use Rattle.epx_order.specs.inner.RelatedTouches.{touch_at, AreAllRelated}
+use Rattle.epx_order.specs.inner.Touches.{touch, HoldTouches}
+use Rattle.epx_order.specs.inner.ReachIndexes.{AreNodesOf}
 use Rattle.epx_components.proofs.ReadyRankLemmas.{node_of_place}
 use Rattle.epx_order.proofs.TouchLemmas.{touch_of_touched, touch_of_written}
 

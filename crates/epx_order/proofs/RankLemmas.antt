@@ -8,7 +8,7 @@ use Rattle.epx_types.specs.declared.id.Id.{Id}
 use Rattle.epx_types.specs.ExecutionOrder.{Ranked, ranked_ids, component_count}
 use Rattle.epx_types.specs.Ids.{id_cmp}
 use Rattle.epx_types.proofs.lists.ListPositionLemmas.{slice_get-map}
-use Rattle.epx_order.specs.Ranks.{ranked, ranked_all}
+use Rattle.epx_order.specs.inner.Ranks.{ranked, ranked_all}
 use Rattle.epx_order.specs.declared.rank.Rank.{Rank}
 
 pub rank_at : (ranks : List Rank) (i : ℕ) (r : Rank) → i < length (ranked_all ranks) → r ≡ get_or ranks i r → slice_get (ranked_all ranks) i ≡ Some (ranked r)

@@ -9,7 +9,7 @@ use Rattle.epx_graph.specs.Graphs.{DependencyGraph, edges_of}
 use Rattle.epx_graph.specs.NodePaths.{NodeReaches}
 use Rattle.epx_order.specs.declared.reach_index.Chain.{Chain}
 use Rattle.epx_order.specs.declared.reach_index.ReachIndex.{ReachIndex}
-use Rattle.epx_order.specs.ReachIndexes.{IsChain, IsReachIndex}
+use Rattle.epx_order.specs.inner.ReachIndexes.{IsChain, IsReachIndex}
 use Rattle.epx_components.proofs.NodePathLemmas.{reaches_itself, reaches_on}
 
 -- Ids that `==` finds equal

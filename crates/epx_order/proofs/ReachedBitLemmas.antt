@@ -11,7 +11,7 @@ use Rattle.epx_components.proofs.MissingLemmas.{AreMarks, marks_found, marks_set
 use Rattle.epx_components.proofs.NodePathLemmas.{reaches_itself}
 use Rattle.epx_components.proofs.PartitionLemmas.{component_below}
 use Rattle.std.proofs.lemmas.List.Elements.{All-from_get_or}
-use Rattle.epx_order.specs.SourceBits.{has_bit, AreSourceMarks, LeadsToBit}
+use Rattle.epx_order.specs.inner.SourceBits.{has_bit, AreSourceMarks, LeadsToBit}
 use Rattle.epx_order.proofs.BitLemmas.{bits_of, bits_at, no_bit, or_bit}
 use Rattle.epx_order.proofs.ReachedMarkLemmas.{AreReached, reached_from, reached_same, reached_skip, reached_step, reached_all}
 

@@ -9,7 +9,7 @@ use Rattle.epx_graph.specs.Graphs.{DependencyGraph, edges_of}
 use Rattle.epx_graph.specs.GraphOf.{IsGraphOf}
 use Rattle.epx_components.proofs.NodePathLemmas.{reaches_itself}
 use Rattle.epx_components.proofs.ReadyNodeLemmas.{ready_from_node, node_from_ready}
-use Rattle.epx_order.specs.ReadyMarks.{is_marked, AreReadyMarks}
+use Rattle.epx_order.specs.inner.ReadyMarks.{is_marked, AreReadyMarks}
 
 module _ (m : List Instance) (g : DependencyGraph) (is : IsGraphOf m g) (ready : List Bool) (marks : AreReadyMarks g ready) where
   pub ready_from_mark : (k : ℕ) (x : Id) → slice_get g.ids k ≡ Some x → IsTrue (is_marked ready k) → IsReady m x

@@ -12,7 +12,7 @@ use Rattle.epx_graph.specs.Graphs.{DependencyGraph, IsGraph}
 use Rattle.epx_graph.specs.GraphOf.{IsGraphOf}
 use Rattle.epx_graph.proofs.GraphNodeLemmas.{node_is_one}
 use Rattle.epx_graph.proofs.MapPathLemmas.{node_of_committed}
-use Rattle.epx_order.specs.Ranks.{ranked, AreReadyRanks}
+use Rattle.epx_order.specs.inner.Ranks.{ranked, AreReadyRanks}
 use Rattle.epx_order.specs.declared.rank.Rank.{Rank}
 
 -- the ranks of the ready instances among the first n nodes, each once

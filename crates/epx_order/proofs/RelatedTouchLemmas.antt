@@ -2,7 +2,7 @@
 use Rattle.std.proofs.Common.{◌≡◌, ◌⊎◌, inl, inr, ℕ, ◌+◌, ◌<◌, ◌≤◌, List, Bool, IsTrue, refl, sym, subst, ap, ◌∙◌, arith}
 use Rattle.std.proofs.lemmas.Bool.{cases_Bool, cases_lt, false≢true}
 use Rattle.epx_order.specs.declared.touches.Touch.{Touch}
-use Rattle.epx_order.specs.RelatedTouches.{touch_at, TouchReaches, AreAllRelated, IsRelatedBack, IsNextWriter}
+use Rattle.epx_order.specs.inner.RelatedTouches.{touch_at, TouchReaches, AreAllRelated, IsRelatedBack, IsNextWriter}
 use Rattle.epx_components.proofs.NodePathLemmas.{reaches_on}
 
 -- of the first n touches, last_writer is the last one that writes, or the first one of its hash

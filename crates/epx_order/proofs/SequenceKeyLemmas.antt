@@ -9,7 +9,7 @@ use Rattle.epx_types.proofs.lists.TotalOrderLemmas.{below_irrefl, below_trans, b
 use Rattle.epx_types.proofs.lists.ComparisonLemmas.{id_cmp_total, id_cmp-IsAntisymmetric, first_is_equal, second_is_equal}
 use Rattle.epx_order.specs.declared.sequence_key.SequenceKey.{SequenceKey}
 use Rattle.epx_components.specs.Partitions.{Parts, component_of}
-use Rattle.epx_order.specs.SequenceKeys.{sequence_key_of, sequence_key_cmp, ComesBefore, IsNodeEarlyAt, IsNodeOvertakenAt, AreNodesInOrder}
+use Rattle.epx_order.specs.inner.SequenceKeys.{sequence_key_of, sequence_key_cmp, ComesBefore, IsNodeEarlyAt, IsNodeOvertakenAt, AreNodesInOrder}
 use Rattle.epx_components.proofs.PartitionLemmas.{value_after_set}
 
 abbrev pub latest_in : Parts → List (Option SequenceKey) → ℕ → Option SequenceKey

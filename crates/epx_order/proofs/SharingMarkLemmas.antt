@@ -3,8 +3,8 @@ use Rattle.std.proofs.Common.{◌≡◌, ◌⊎◌, inl, inr, ℕ, ◌+◌, ◌<
 use Rattle.std.proofs.lemmas.Bool.{cases_Bool, cases_lt, false≢true}
 use Rattle.std.proofs.lemmas.List.{get_or_default}
 use Rattle.epx_order.specs.declared.doubtful_touches.DoubtfulTouch.{DoubtfulTouch}
-use Rattle.epx_order.specs.Batches.{AreSharing}
-use Rattle.epx_order.specs.SourceBits.{has_bit, AreSourceMarks, HasBitsOf}
+use Rattle.epx_order.specs.inner.Batches.{AreSharing}
+use Rattle.epx_order.specs.inner.SourceBits.{has_bit, AreSourceMarks, HasBitsOf}
 use Rattle.epx_order.proofs.BitLemmas.{or_at}
 
 abbrev pub doubtful_at : List DoubtfulTouch → ℕ → DoubtfulTouch

@@ -13,7 +13,7 @@ use Rattle.epx_types.specs.Instances.{Instance}
 use Rattle.epx_types.proofs.lists.ComparisonLemmas.{second_is_equal, id_cmp-IsAntisymmetric, rank_cmp_total}
 use Rattle.epx_types.proofs.lists.MembershipLemmas.{Contains-map, Contains-from_map, Contains-filter}
 use Rattle.epx_types.proofs.lists.ListPositionLemmas.{slice_get-from_map, Contains-slice_get, AllPairs-head, AllPairs-tail, AllPairs-from_slice_get}
-use Rattle.epx_order.specs.Ranks.{ranked, ranked_all, AreReadyRanks}
+use Rattle.epx_order.specs.inner.Ranks.{ranked, ranked_all, AreReadyRanks}
 use Rattle.epx_order.specs.declared.rank.Rank.{Rank}
 
 -- if R holds of any two filtered elements in order, it holds of two elements that pass the test

@@ -5,10 +5,10 @@ use Rattle.std.proofs.lemmas.List.{get_or_default, get_or-take, get_or-drop}
 use Rattle.std.proofs.lemmas.List.Elements.{All-from_get_or}
 use Rattle.epx_types.specs.Instances.{Instance}
 use Rattle.epx_order.specs.declared.doubtful_touches.DoubtfulTouch.{DoubtfulTouch}
-use Rattle.epx_order.specs.DoubtfulKeys.{AreInRange, HoldAllConflicts}
-use Rattle.epx_order.specs.NodeConflicts.{IsSettled}
-use Rattle.epx_order.specs.ReadyMarks.{is_marked}
-use Rattle.epx_order.specs.Sources.{AreSources, AreSettled, IsFirstPair, IsLeastPair}
+use Rattle.epx_order.specs.inner.DoubtfulKeys.{AreInRange, HoldAllConflicts}
+use Rattle.epx_order.specs.inner.NodeConflicts.{IsSettled}
+use Rattle.epx_order.specs.inner.ReadyMarks.{is_marked}
+use Rattle.epx_order.specs.inner.Sources.{AreSources, AreSettled, IsFirstPair, IsLeastPair}
 
 module _ (m : List Instance) (edges : ℕ → List ℕ) (ready : List Bool) (touches : List DoubtfulTouch) (sources : List ℕ) (are : AreSources ready touches sources) (hold : HoldAllConflicts m edges ready touches) where
   -- a node that is none of the later sources

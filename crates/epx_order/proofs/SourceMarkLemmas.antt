@@ -3,7 +3,7 @@ use Rattle.std.proofs.Common.{◌≡◌, ◌↔◌, inl, inr, ℕ, ◌+◌, ◌^
 use Rattle.std.proofs.lemmas.Bool.{cases_eq, cases_lt}
 use Rattle.std.proofs.lemmas.Nat.Bits.{bit_at-pow_same, bit_at-pow_other}
 use Rattle.std.specs.Int.{bit_at}
-use Rattle.epx_order.specs.SourceBits.{has_bit}
+use Rattle.epx_order.specs.inner.SourceBits.{has_bit}
 use Rattle.epx_order.proofs.BitLemmas.{bit_one, or_at}
 
 -- the bits of the first n sources

@@ -1,7 +1,7 @@
 -- Words to which the targets of edges are added, and words that are collected from the targets.
 use Rattle.std.proofs.Common.{◌≡◌, ◌↔◌, ◌⊎◌, inl, inr, ℕ, ◌+◌, ◌<◌, List, length, get_or, set, bit_or, IsTrue, subst, ap, ◌∙◌, arith}
 use Rattle.std.proofs.lemmas.Bool.{cases_lt}
-use Rattle.epx_order.specs.SourceBits.{has_bit}
+use Rattle.epx_order.specs.inner.SourceBits.{has_bit}
 use Rattle.epx_order.proofs.BitLemmas.{or_bit, or_at}
 
 module _ (component targets : List ℕ) where

@@ -7,7 +7,7 @@ use Rattle.epx_types.specs.CommandKeys.{touched_by, written_by, touched_keys, wr
 use Rattle.epx_types.proofs.keys.KeyListLemmas.{Contains-from_rising_keys}
 use Rattle.epx_types.proofs.lists.MembershipLemmas.{Contains-nil, Contains-head, Contains-cons, Contains-cons_cases, Contains-flat_map, Contains-from_flat_map}
 use Rattle.epx_order.specs.declared.touches.Touch.{Touch}
-use Rattle.epx_order.specs.Touches.{touch, touches_by, touches_of}
+use Rattle.epx_order.specs.inner.Touches.{touch, touches_by, touches_of}
 
 only_one : {X : Type 0} (y x : X) → Contains (y ∷ []) x → y ≡ x
 only_one y x h = elim (Contains-cons_cases y [] x h) [ inl same ↦ same | inr none ↦ absurd (Contains-nil x none) ]

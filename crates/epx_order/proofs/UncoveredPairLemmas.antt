@@ -14,8 +14,8 @@ use Rattle.epx_types.proofs.lists.ListPositionLemmas.{Contains-slice_get}
 use Rattle.epx_graph.specs.Graphs.{DependencyGraph, edges_of}
 use Rattle.epx_graph.specs.GraphOf.{IsGraphOf}
 use Rattle.epx_graph.proofs.MapPathLemmas.{committed_count, node_instance, node_of_committed, node_order, node_reaches}
-use Rattle.epx_order.specs.NodeConflicts.{IsSettled, IsUnsettled, IsPartner}
-use Rattle.epx_order.specs.ReadyMarks.{AreReadyMarks}
+use Rattle.epx_order.specs.inner.NodeConflicts.{IsSettled, IsUnsettled, IsPartner}
+use Rattle.epx_order.specs.inner.ReadyMarks.{AreReadyMarks}
 use Rattle.epx_order.specs.Uncovered.{IsUncovered, IsLeastUncovered}
 use Rattle.epx_order.proofs.ReadyMarkLemmas.{ready_from_mark, mark_from_ready}
 use Rattle.epx_components.proofs.ReadyRankLemmas.{node_of_place}

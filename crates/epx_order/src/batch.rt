@@ -3,9 +3,9 @@ ghost use Rattle.std.specs.Prelude.{◌≡◌, ◌↔◌, ℕ, ◌<◌, ◌≤�
 ghost use Rattle.epx_graph.specs.Graphs.{DependencyGraph, edges_of};
 ghost use Rattle.epx_components.specs.Partitions.{parts, IsPartitionOf};
 ghost use Rattle.epx_order.specs.declared.doubtful_touches.DoubtfulTouch.{DoubtfulTouch};
-ghost use Rattle.epx_order.specs.Batches.{IsBatch, IsWhole, IsReadyApart};
-ghost use Rattle.epx_order.specs.DoubtfulKeys.{AreInRange, IsRelatedOrFree};
-ghost use Rattle.epx_order.specs.SourceBits.{has_bit, HasAlone};
+ghost use Rattle.epx_order.specs.inner.Batches.{IsBatch, IsWhole, IsReadyApart};
+ghost use Rattle.epx_order.specs.inner.DoubtfulKeys.{AreInRange, IsRelatedOrFree};
+ghost use Rattle.epx_order.specs.inner.SourceBits.{has_bit, HasAlone};
 
 use crate::doubtful_touches::DoubtfulTouches;
 use crate::related::{find_reached, find_reaching};

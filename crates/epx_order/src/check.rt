@@ -4,7 +4,7 @@ ghost use Rattle.epx_types.specs.LawfulOrders.{IsLawful};
 ghost use Rattle.epx_graph.specs.GraphOf.{IsGraphOf};
 ghost use Rattle.epx_order.specs.OrderFaults.{IsOrderFault};
 ghost use Rattle.epx_components.specs.Partitions.{parts};
-ghost use Rattle.epx_order.specs.SequenceKeys.{ComesBefore, AreNodesInOrder, IsNodeFault};
+ghost use Rattle.epx_order.specs.inner.SequenceKeys.{ComesBefore, AreNodesInOrder, IsNodeFault};
 
 use crate::ends::{find_ends, find_ends_below};
 use crate::node_list::{first_unlisted, list_nodes, ready_nodes};

@@ -1,7 +1,7 @@
 //! The keys of commands, and whether two commands conflict.
 ghost use Rattle.std.specs.Prelude.{◌≡◌, ◌↔◌, ℕ, List, map, Contains, IsTrue, IfOk};
 ghost use Rattle.epx_types.specs.CommandKeys.{touched_keys, written_keys};
-ghost use Rattle.epx_order.specs.NodeConflicts.{keys_of, KeysConflict};
+ghost use Rattle.epx_order.specs.inner.NodeConflicts.{keys_of, KeysConflict};
 
 use epx_merge::Merged;
 use epx_txn::{touched, written};
@@ -18,7 +18,7 @@ pub(crate) struct CommandKeys<'a> {
 
 impl<'a> Model for CommandKeys<'a> {
     ghost use Rattle.std.specs.Prelude.{map};
-    ghost use Rattle.epx_order.specs.NodeConflicts.{KeyLists};
+    ghost use Rattle.epx_order.specs.inner.NodeConflicts.{KeyLists};
 
     ghost Value = { KeyLists };
 

@@ -5,9 +5,9 @@ ghost use Rattle.epx_types.specs.ExecutionOrder.{IsExecutionOrder};
 ghost use Rattle.epx_graph.specs.GraphOf.{IsGraphOf};
 ghost use Rattle.epx_order.specs.declared.doubtful_touches.DoubtfulTouch.{DoubtfulTouch};
 ghost use Rattle.epx_order.specs.declared.touches.Touch.{Touch};
-ghost use Rattle.epx_order.specs.DoubtfulKeys.{doubtful_touch, AreDoubtful, AreInRange};
-ghost use Rattle.epx_order.specs.Touches.{ArePlaced};
-ghost use Rattle.epx_order.specs.ReachIndexes.{IsReachIndex};
+ghost use Rattle.epx_order.specs.inner.DoubtfulKeys.{doubtful_touch, AreDoubtful, AreInRange};
+ghost use Rattle.epx_order.specs.inner.Touches.{ArePlaced};
+ghost use Rattle.epx_order.specs.inner.ReachIndexes.{IsReachIndex};
 
 use crate::order_list::OrderList;
 use crate::quick_audit::{are_all_related, is_related_back, next_writer, order_nodes};

@@ -2,7 +2,7 @@
 //! the same for the components that it reaches.
 ghost use Rattle.std.specs.Prelude.{◌≡◌, ℕ, ◌<◌, ◌≤◌, length, slice_index, All, IfOk};
 ghost use Rattle.epx_graph.specs.Graphs.{edges_of};
-ghost use Rattle.epx_order.specs.Ends.{AreEnds, IsEndBelow, IsGreatestEnd};
+ghost use Rattle.epx_order.specs.inner.Ends.{AreEnds, IsEndBelow, IsGreatestEnd};
 ghost use Rattle.epx_components.specs.Partitions.{parts, number_for, IsPartitionOf};
 
 use epx_components::Partition;

@@ -3,10 +3,10 @@ ghost use Rattle.std.specs.Prelude.{◌≡◌, ℕ, ◌<◌, List, [], ◌∷◌
 ghost use Rattle.epx_types.specs.Instances.{Instance};
 ghost use Rattle.epx_types.specs.Readiness.{IsReady};
 ghost use Rattle.epx_graph.specs.GraphOf.{IsGraphOf};
-ghost use Rattle.epx_order.specs.NodeLists.{AreListed, IsListedIfReady};
+ghost use Rattle.epx_order.specs.inner.NodeLists.{AreListed, IsListedIfReady};
 ghost use Rattle.epx_order.specs.OrderFaults.{ReadyOnce, IsOrderFault};
 ghost use Rattle.epx_components.specs.Partitions.{parts, IsPartitionOf};
-ghost use Rattle.epx_order.specs.ReadyMarks.{is_marked, AreReadyMarks};
+ghost use Rattle.epx_order.specs.inner.ReadyMarks.{is_marked, AreReadyMarks};
 
 use crate::order_fault::OrderFault;
 use epx_components::{Partition, find_missing};

@@ -1,7 +1,7 @@
 //! An index that answers whether one node reaches another without a search.
 ghost use Rattle.std.specs.Prelude.{◌≡◌, ◌+◌, ◌<◌, ◌≤◌, length, slice_index, All, Contains, IfOk, IsTrue};
 ghost use Rattle.epx_graph.specs.Graphs.{edges_of};
-ghost use Rattle.epx_order.specs.ReachIndexes.{IsChain, IsReachIndex, LeadersJoin};
+ghost use Rattle.epx_order.specs.inner.ReachIndexes.{IsChain, IsReachIndex, LeadersJoin};
 
 use crate::order_list::OrderList;
 use epx_graph::Graph;

@@ -6,7 +6,7 @@ ghost use Rattle.epx_types.specs.Done.{remaining};
 ghost use Rattle.epx_types.specs.ExecutionOrder.{IsRanked};
 ghost use Rattle.epx_types.specs.Readiness.{IsReady};
 ghost use Rattle.epx_graph.specs.GraphOf.{IsGraphOfRest, IsGraphOf};
-ghost use Rattle.epx_order.specs.Ranks.{ranked, AreReadyRanks};
+ghost use Rattle.epx_order.specs.inner.Ranks.{ranked, AreReadyRanks};
 ghost use Rattle.epx_components.specs.NodeRanks.{IsNodeRank};
 
 use crate::rank::Rank;

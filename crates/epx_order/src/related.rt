@@ -2,8 +2,8 @@
 ghost use Rattle.std.specs.Prelude.{◌≡◌, ◌↔◌, ◌⊎◌, ℕ, ◌<◌, ◌≤◌, length, map, slice_index, All, IsTrue, IfOk};
 ghost use Rattle.epx_graph.specs.Graphs.{edges_of};
 ghost use Rattle.epx_components.specs.Partitions.{parts, IsPartitionOf};
-ghost use Rattle.epx_order.specs.Batches.{AreReachedBy, AreReaching};
-ghost use Rattle.epx_order.specs.SourceBits.{has_bit, AreSourceMarks, LeadsToBit};
+ghost use Rattle.epx_order.specs.inner.Batches.{AreReachedBy, AreReaching};
+ghost use Rattle.epx_order.specs.inner.SourceBits.{has_bit, AreSourceMarks, LeadsToBit};
 
 use crate::source_marks::source_marks;
 use epx_components::Partition;

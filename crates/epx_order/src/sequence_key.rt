@@ -1,6 +1,6 @@
 //! The order of the instances inside a component.
 ghost use Rattle.std.specs.Prelude.{◌≡◌};
-ghost use Rattle.epx_order.specs.SequenceKeys.{sequence_key_of};
+ghost use Rattle.epx_order.specs.inner.SequenceKeys.{sequence_key_of};
 
 use epx_types::{Entry, Id};
 

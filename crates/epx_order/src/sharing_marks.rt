@@ -1,9 +1,9 @@
 //! The sources that share doubtful keys with each node.
 ghost use Rattle.std.specs.Prelude.{◌≡◌, ◌⊎◌, ℕ, ◌<◌, length, slice_index, Contains, IsTrue, IsFalse, IfOk};
 ghost use Rattle.epx_order.specs.declared.doubtful_touches.DoubtfulTouch.{DoubtfulTouch};
-ghost use Rattle.epx_order.specs.Batches.{AreSharing};
-ghost use Rattle.epx_order.specs.DoubtfulKeys.{AreInRange};
-ghost use Rattle.epx_order.specs.SourceBits.{AreSourceMarks, HasBitsOf};
+ghost use Rattle.epx_order.specs.inner.Batches.{AreSharing};
+ghost use Rattle.epx_order.specs.inner.DoubtfulKeys.{AreInRange};
+ghost use Rattle.epx_order.specs.inner.SourceBits.{AreSourceMarks, HasBitsOf};
 
 use crate::doubtful_touches::DoubtfulTouches;
 use epx_types::Memory;

@@ -1,6 +1,6 @@
 //! Words with one bit for each source of a batch.
 ghost use Rattle.std.specs.Prelude.{◌≡◌, ◌<◌, ◌≤◌, length, All, IfOk};
-ghost use Rattle.epx_order.specs.SourceBits.{has_bit, AreSourceMarks};
+ghost use Rattle.epx_order.specs.inner.SourceBits.{has_bit, AreSourceMarks};
 
 use epx_types::Memory;
 use std::alloc::Global;

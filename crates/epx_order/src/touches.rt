@@ -1,6 +1,6 @@
 //! Which keys the commands of an order touch.
 ghost use Rattle.std.specs.Prelude.{◌≡◌, ◌<◌, [], ◌∷◌, ◌++◌, length, All, IfOk, OnOk};
-ghost use Rattle.epx_order.specs.Touches.{hash_of, touch, touches_by, touches_of, ArePlaced, HoldTouches};
+ghost use Rattle.epx_order.specs.inner.Touches.{hash_of, touch, touches_by, touches_of, ArePlaced, HoldTouches};
 
 use epx_merge::Merged;
 use epx_seed::Seed;

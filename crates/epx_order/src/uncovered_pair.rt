@@ -6,11 +6,11 @@ ghost use Rattle.epx_types.specs.ExecutionOrder.{IsExecutionOrder};
 ghost use Rattle.epx_graph.specs.Graphs.{DependencyGraph, edges_of};
 ghost use Rattle.epx_graph.specs.GraphOf.{IsGraphOf};
 ghost use Rattle.epx_components.specs.Partitions.{parts, IsPartitionOf};
-ghost use Rattle.epx_order.specs.Batches.{IsBatch, IsWhole};
-ghost use Rattle.epx_order.specs.DoubtfulKeys.{AreInRange, HoldAllConflicts};
-ghost use Rattle.epx_order.specs.NodeConflicts.{keys_of, IsSettled, IsPartner};
-ghost use Rattle.epx_order.specs.ReadyMarks.{is_marked};
-ghost use Rattle.epx_order.specs.Sources.{AreSources, AreSettled, IsFirstPair, IsLeastPair};
+ghost use Rattle.epx_order.specs.inner.Batches.{IsBatch, IsWhole};
+ghost use Rattle.epx_order.specs.inner.DoubtfulKeys.{AreInRange, HoldAllConflicts};
+ghost use Rattle.epx_order.specs.inner.NodeConflicts.{keys_of, IsSettled, IsPartner};
+ghost use Rattle.epx_order.specs.inner.ReadyMarks.{is_marked};
+ghost use Rattle.epx_order.specs.inner.Sources.{AreSources, AreSettled, IsFirstPair, IsLeastPair};
 ghost use Rattle.epx_order.specs.Uncovered.{IsLeastUncovered};
 
 use crate::batch::Batch;

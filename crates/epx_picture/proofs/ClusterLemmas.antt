@@ -16,7 +16,7 @@ use Rattle.epx_components.specs.NodeComponents.{InOneNodeComponent, IsNodeLeader
 use Rattle.epx_components.specs.NodeRanks.{IsNodeRank}
 use Rattle.epx_components.proofs.InstanceLeaderLemmas.{leader_from_node}
 use Rattle.epx_components.proofs.NodePathLemmas.{reaches_on}
-use Rattle.epx_picture.specs.Clusters.{AreNodeRanks, AreLeaderMarks}
+use Rattle.epx_picture.specs.inner.Clusters.{AreNodeRanks, AreLeaderMarks}
 use Rattle.epx_picture.specs.NodeBoxes.{IsCluster}
 
 -- nodes of one component have the same leader

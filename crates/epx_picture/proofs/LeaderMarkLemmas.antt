@@ -3,7 +3,7 @@ use Rattle.std.proofs.Common.{◌≡◌, ◌⊎◌, ℕ, ◌+◌, ◌<◌, inl, 
 use Rattle.std.proofs.lemmas.Bool.{cases_eq, cases_lt, false≢true}
 use Rattle.std.proofs.lemmas.List.{length-set, length-replicate, get_or-replicate, get_or_past, get_or-set_same, get_or-set_other}
 use Rattle.epx_components.specs.declared.node_ranks.NodeRank.{NodeRank}
-use Rattle.epx_picture.specs.Clusters.{LeadsAmong, AreLeaderMarks}
+use Rattle.epx_picture.specs.inner.Clusters.{LeadsAmong, AreLeaderMarks}
 
 no_leader_mark : (n l : ℕ) → get_or (replicate n false) l false ≡ false
 no_leader_mark n l = elim (cases_lt l n) [ inl below ↦ get_or-replicate n l false false below | inr past ↦ get_or_past (replicate n false) l false (omega (arith, length-replicate n false, past)) ]

@@ -2,4 +2,4 @@ pub mod NodeBoxes
 pub mod PictureText
 pub mod Pictures
 pub mod PictureLaws
-pub mod Clusters
+pub mod inner

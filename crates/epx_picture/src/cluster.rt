@@ -5,7 +5,7 @@ ghost use Rattle.epx_types.specs.Instances.{Instance};
 ghost use Rattle.epx_graph.specs.GraphOf.{IsGraphOf};
 ghost use Rattle.epx_graph.specs.Graphs.{IsGraph};
 ghost use Rattle.epx_components.specs.NodeRanks.{IsNodeRank};
-ghost use Rattle.epx_picture.specs.Clusters.{AreLeaderMarks, AreNodeRanks};
+ghost use Rattle.epx_picture.specs.inner.Clusters.{AreLeaderMarks, AreNodeRanks};
 ghost use Rattle.epx_picture.specs.NodeBoxes.{IsCluster};
 
 use epx_components::{NodeRank, NodeRanks};

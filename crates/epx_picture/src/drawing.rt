@@ -3,7 +3,7 @@ ghost use Rattle.std.specs.Prelude.{◌≡◌, ◌<◌, length, map, slice_get, 
 ghost use Rattle.epx_types.specs.CommittedMap.{ids_of};
 ghost use Rattle.epx_graph.specs.GraphOf.{IsGraphOf};
 ghost use Rattle.epx_components.specs.NodeRanks.{IsNodeRank};
-ghost use Rattle.epx_picture.specs.Clusters.{AreLeaderMarks, AreNodeRanks};
+ghost use Rattle.epx_picture.specs.inner.Clusters.{AreLeaderMarks, AreNodeRanks};
 ghost use Rattle.epx_picture.specs.declared.node_boxes.NodeBox.{NodeBox};
 ghost use Rattle.epx_picture.specs.NodeBoxes.{IsBoxOf};
 ghost use Rattle.epx_picture.specs.Pictures.{IsPicture};

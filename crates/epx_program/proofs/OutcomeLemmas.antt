@@ -17,7 +17,7 @@ use Rattle.epx_tool.specs.declared.ask.Ask.TheVariants.{Order, Levels, Audit, Gr
 use Rattle.epx_program.proofs.FailedInputLemmas.{unread}
 use Rattle.epx_program.proofs.StatusLemmas.{adds_answer, adds_part}
 use Rattle.epx_program.specs.Endings.{IsTaskResult, IsTaskAnswer, IsTaskFault}
-use Rattle.epx_program.specs.Outcomes.{Outcome, task_showing}
+use Rattle.epx_program.specs.inner.Outcomes.{Outcome, task_showing}
 
 pub view_is_answer : (asked : Ask) (logs : List (List ℕ)) (text : List ℕ)
     → Answers (IsViewText asked) logs (Ok text) → IsTaskAnswer (task_showing asked) logs (Ok text)

@@ -1,4 +1,4 @@
 pub mod Inputs
 pub mod Endings
-pub mod Outcomes
 pub mod Calls
+pub mod inner

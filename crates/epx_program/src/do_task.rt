@@ -4,7 +4,7 @@ ghost use Rattle.std.specs.Io.KnownBytes.{Keeps};
 ghost use Rattle.epx_program.specs.Calls.{paths_of};
 ghost use Rattle.epx_program.specs.Endings.{AddsAnswer, AddsPart, IsTaskResult, task_over};
 ghost use Rattle.epx_program.specs.Inputs.{HasFailedRead, IsInputAlone, OneHasFailedRead, text_count};
-ghost use Rattle.epx_program.specs.Outcomes.{Outcome, task_showing};
+ghost use Rattle.epx_program.specs.inner.Outcomes.{Outcome, task_showing};
 ghost use Rattle.epx_tool.specs.Runs.{AreBytesOf};
 
 use crate::inputs::sources_at;

@@ -15,7 +15,7 @@ use Rattle.epx_types.proofs.keys.SortedEntryLemmas.{keys_of-put}
 use Rattle.epx_types.proofs.commands.WriteLemmas.{get-put_entries, put_entries-insert}
 use Rattle.epx_txn.specs.declared.draft.Step.{Step}
 use Rattle.epx_txn.specs.declared.draft.Step.TheVariants.{Done}
-use Rattle.epx_txn.specs.Drafts.{Draft, contents_through, IsStepOf, AddsKeys}
+use Rattle.epx_txn.specs.inner.Drafts.{Draft, contents_through, IsStepOf, AddsKeys}
 
 -- where the draft has a key, the command sees its value there
 pub read_written : (d : Draft) (c : Contents) (k : List ℕ) (w : Option ℤ) → contents.get d k ≡ Some w → w ≡ contents.get (contents_through d c) k

@@ -16,7 +16,7 @@ use Rattle.epx_types.proofs.commands.WriteLemmas.{read_after_writes}
 use Rattle.epx_txn.proofs.DropLemmas.{drop_at_index}
 use Rattle.std.proofs.lemmas.List.{drop_all}
 use Rattle.epx_txn.specs.declared.draft.Step.TheVariants.{Read, Done, Abort}
-use Rattle.epx_txn.specs.Drafts.{Draft, contents_through, IsStepOf, AddsKeys}
+use Rattle.epx_txn.specs.inner.Drafts.{Draft, contents_through, IsStepOf, AddsKeys}
 
 -- the operations before index i are done; d has their writes and `got` the values that they read
 pub record IsDoneUpTo (ops : List Op) (c : Contents) (i : ℕ) (d : Draft) (got : List (Option ℤ)) : Type 0 where

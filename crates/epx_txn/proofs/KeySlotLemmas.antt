@@ -12,7 +12,7 @@ use Rattle.epx_types.specs.Keys.{key_cmp}
 use Rattle.epx_types.specs.Writes.{apply_writes}
 use Rattle.epx_types.proofs.keys.KeyListLemmas.{key_cmp_total, key_cmp-IsAntisymmetric}
 use Rattle.epx_types.proofs.keys.SortedEntryLemmas.{first_of, find_below, entries-from_entries, write_all, insert_all-from_entries}
-use Rattle.epx_txn.specs.KeySlots.{IsAtSlot, IsInsertedAt}
+use Rattle.epx_txn.specs.inner.KeySlots.{IsAtSlot, IsInsertedAt}
 use Rattle.epx_txn.proofs.DropLemmas.{drop_at_index}
 use Rattle.epx_txn.proofs.RisingEntryLemmas.{below_all_trans, is_sorted-drop}
 

@@ -9,7 +9,7 @@ use Rattle.epx_types.specs.Keys.{key_cmp}
 use Rattle.epx_types.specs.Contents.{Contents}
 use Rattle.epx_types.proofs.keys.KeyListLemmas.{key_cmp_total}
 use Rattle.epx_types.proofs.commands.ContentsLemmas.{same_contents}
-use Rattle.epx_txn.specs.Shards.{shard_of, AreShards, all_contents}
+use Rattle.epx_txn.specs.inner.Shards.{shard_of, AreShards, all_contents}
 
 -- ---- a key among lists of entries
 

@@ -11,7 +11,7 @@ use Rattle.epx_types.specs.declared.memory.Memory.{Memory}
 use Rattle.epx_types.specs.Contents.{Contents, assign}
 use Rattle.epx_types.specs.Writes.{Write, apply_writes}
 use Rattle.epx_types.proofs.commands.ContentsLemmas.{same_contents, get-assign_cases, get-assign_agree}
-use Rattle.epx_txn.specs.Shards.{shard_of, AreShards, all_contents, writes_to}
+use Rattle.epx_txn.specs.inner.Shards.{shard_of, AreShards, all_contents, writes_to}
 use Rattle.epx_txn.proofs.ShardLookupLemmas.{no_contents, shard_of-below, get-all_contents}
 
 -- a write under another key changes nothing under this one

@@ -16,7 +16,7 @@ use Rattle.epx_types.proofs.keys.KeyListLemmas.{key_cmp_total, key_cmp-IsAntisym
 use Rattle.epx_types.proofs.lists.MembershipLemmas.{Contains-nil, Contains-head, Contains-cons, Contains-cons_cases}
 use Rattle.epx_types.proofs.keys.SortedEntryLemmas.{first_of, second_of, less_from_is_lt, entries-from_entries}
 use Rattle.epx_types.proofs.commands.ContentsLemmas.{same_contents}
-use Rattle.epx_txn.specs.Shards.{shard_of, AreShards, all_contents}
+use Rattle.epx_txn.specs.inner.Shards.{shard_of, AreShards, all_contents}
 use Rattle.epx_txn.proofs.ShardLookupLemmas.{no_contents, find-nowhere}
 use Rattle.epx_txn.proofs.RisingEntryLemmas.{both_of, below_all_trans}
 

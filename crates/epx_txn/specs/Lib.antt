@@ -1,5 +1,1 @@
-pub mod Drafts
-pub mod KeySlots
-pub mod Shards
-pub mod Routes
-pub mod Rises
+pub mod inner

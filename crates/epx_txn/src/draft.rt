@@ -2,7 +2,7 @@
 ghost use Rattle.std.specs.Prelude.{◌≡◌, IfOk, OnOk, if◌then◌else◌};
 ghost use Rattle.std.specs.FinMap as contents;
 ghost use Rattle.epx_types.specs.Writes.{apply_writes};
-ghost use Rattle.epx_txn.specs.Drafts.{contents_through, IsStepOf};
+ghost use Rattle.epx_txn.specs.inner.Drafts.{contents_through, IsStepOf};
 
 use crate::few_writes::FewWrites;
 use crate::key_map::KeyMap;

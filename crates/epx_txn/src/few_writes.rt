@@ -4,7 +4,7 @@ ghost use Rattle.std.specs.FinMap as contents;
 ghost use Rattle.std.specs.FinMap.{is_sorted};
 ghost use Rattle.epx_types.specs.Keys.{key_cmp};
 ghost use Rattle.epx_types.specs.Writes.{apply_writes};
-ghost use Rattle.epx_txn.specs.KeySlots.{IsAtSlot, IsInsertedAt};
+ghost use Rattle.epx_txn.specs.inner.KeySlots.{IsAtSlot, IsInsertedAt};
 
 use crate::key_map::KeyMap;
 use crate::store::Store;

@@ -25,7 +25,7 @@ impl Model for Store {
     ghost use Rattle.std.specs.FinMap as contents;
     ghost use Rattle.std.specs.Coded.{coded_list, coded_ℕ, coded_ℤ};
     ghost use Rattle.epx_types.specs.Contents.{Contents};
-    ghost use Rattle.epx_txn.specs.Shards.{AreShards, all_contents};
+    ghost use Rattle.epx_txn.specs.inner.Shards.{AreShards, all_contents};
 
     ghost Value = { Contents };
 

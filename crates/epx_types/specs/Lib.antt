@@ -1,6 +1,5 @@
 pub mod Keys
 pub mod KeyHeads
-pub mod KeyTexts
 pub mod Ids
 pub mod Instances
 pub mod Contents
@@ -26,3 +25,4 @@ pub mod Pieces
 pub mod Done
 pub mod Sound
 pub mod Faults
+pub mod inner

@@ -25,7 +25,7 @@ impl Model for Key {
     ghost use Rattle.std.specs.Prelude.{◌≡◌, List, ℕ};
     ghost use Rattle.epx_types.specs.Keys.{FitsKey};
     ghost use Rattle.epx_types.specs.KeyHeads.{AreBytes, head_of};
-    ghost use Rattle.epx_types.specs.KeyTexts.{bytes_of};
+    ghost use Rattle.epx_types.specs.inner.KeyTexts.{bytes_of};
 
     ghost Value = { List ℕ };
 

@@ -1,6 +1,6 @@
 //! The text of a key, stored in the key itself if it is short.
 ghost use Rattle.std.specs.Prelude.{◌≡◌, IfOk};
-ghost use Rattle.epx_types.specs.KeyTexts.{bytes_of};
+ghost use Rattle.epx_types.specs.inner.KeyTexts.{bytes_of};
 
 use crate::memory::Memory;
 use arrayvec::ArrayString;

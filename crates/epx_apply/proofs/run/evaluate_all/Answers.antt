@@ -1,7 +1,7 @@
 use Rattle.std.proofs.Common.{◌≡◌, ◌∙◌, sym, rules}
 use Rattle.std.proofs.lemmas.Result.{IfOk-weaker}
 use Rattle.epx_types.specs.Rearrangements.{commands_at}
-use Rattle.epx_apply.specs.Effects.{op_lists_of, effects_over, items_of_piece}
+use Rattle.epx_apply.specs.inner.Effects.{op_lists_of, effects_over, items_of_piece}
 use Rattle.epx_apply.proofs.JoinedPieceLemmas.{parts_joined}
 use Rattle.epx_apply.proofs.LevelEffectLemmas.{effect_at, effects_over-each}
 use Rattle.epx_apply.proofs.run.evaluate_all.Goals as goal

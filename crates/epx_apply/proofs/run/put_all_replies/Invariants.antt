@@ -1,4 +1,4 @@
-use Rattle.epx_apply.specs.Effects.{replies_in, put_replies}
+use Rattle.epx_apply.specs.inner.Effects.{replies_in, put_replies}
 use Rattle.epx_apply.proofs.ReplyLemmas.{ArePutUpTo}
 use Rattle.epx_apply.proofs.run.put_all_replies.Given as goal
 

@@ -1,6 +1,6 @@
 use Rattle.std.proofs.Common.{◌≡◌, ◌++◌, drop}
 use Rattle.epx_types.specs.Execution.{execute}
-use Rattle.epx_apply.specs.Effects.{op_lists_of}
+use Rattle.epx_apply.specs.inner.Effects.{op_lists_of}
 use Rattle.epx_apply.proofs.run.run_all.Given as goal
 
 abbrev pub invariant-loop-command : goal.invariant-loop-command

@@ -5,7 +5,7 @@ use Rattle.epx_types.specs.Conflicts.{NoneConflict}
 use Rattle.epx_types.specs.Levels.{AreLevels}
 use Rattle.epx_types.specs.Rearrangements.{commands_at}
 use Rattle.epx_types.proofs.levels.LevelOrderLemmas.{length-level_positions, level-no_conflict}
-use Rattle.epx_apply.specs.Effects.{op_lists_of}
+use Rattle.epx_apply.specs.inner.Effects.{op_lists_of}
 use Rattle.epx_apply.proofs.LevelRunLemmas.{members-within, one_level_more, final-at_end, replies-at_end}
 use Rattle.epx_apply.proofs.run.run_levels.Goals as goal
 

@@ -1,4 +1,4 @@
-use Rattle.epx_apply.specs.Effects.{op_lists_of}
+use Rattle.epx_apply.specs.inner.Effects.{op_lists_of}
 use Rattle.epx_apply.proofs.LevelRunLemmas.{IsRunUpTo}
 use Rattle.epx_apply.proofs.run.run_levels.Given as goal
 

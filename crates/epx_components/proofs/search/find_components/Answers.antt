@@ -3,8 +3,8 @@ use Rattle.epx_graph.specs.Graphs.{edges_of}
 use Rattle.epx_graph.proofs.GraphNodeLemmas.{edge_within}
 use Rattle.epx_components.proofs.EdgeLemmas.{edge_from}
 use Rattle.epx_components.proofs.EndLemmas.{all_closed, end_partition}
-use Rattle.epx_components.specs.SearchInvariants.{IsSearch}
-use Rattle.epx_components.specs.SearchStates.{visit_of, state}
+use Rattle.epx_components.specs.inner.SearchInvariants.{IsSearch}
+use Rattle.epx_components.specs.inner.SearchStates.{visit_of, state}
 use Rattle.epx_components.proofs.search.find_components.Goals as goal
 
 pub loop-root-init : goal.loop-root-init

@@ -1,7 +1,7 @@
 use Rattle.std.proofs.Common.{◌≡◌, length}
 use Rattle.epx_graph.specs.Graphs.{edges_of}
-use Rattle.epx_components.specs.SearchInvariants.{IsSearch}
-use Rattle.epx_components.specs.SearchStates.{state}
+use Rattle.epx_components.specs.inner.SearchInvariants.{IsSearch}
+use Rattle.epx_components.specs.inner.SearchStates.{state}
 use Rattle.epx_components.proofs.search.find_components.Given as goal
 
 abbrev pub invariant-loop-root : goal.invariant-loop-root

@@ -1,5 +1,5 @@
 use Rattle.std.proofs.Common.{◌≡◌, ℕ, ◌<◌, vec_len, get_or}
-use Rattle.epx_components.specs.SearchStates.{visit_of}
+use Rattle.epx_components.specs.inner.SearchStates.{visit_of}
 use Rattle.epx_components.specs.declared.visit.Visit.TheVariants.{Closed}
 use Rattle.epx_components.proofs.visit.component_numbers.Given as goal
 

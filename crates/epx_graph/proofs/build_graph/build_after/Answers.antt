@@ -1,5 +1,5 @@
 use Rattle.std.proofs.Common.{sym, ap}
-use Rattle.epx_graph.specs.Remainder.{left_of}
+use Rattle.epx_graph.specs.inner.Remainder.{left_of}
 use Rattle.epx_graph.proofs.BuildLemmas.{graph_kept, graph_built}
 use Rattle.epx_graph.proofs.build_graph.build_after.Goals as goal
 

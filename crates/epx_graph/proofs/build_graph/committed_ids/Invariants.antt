@@ -1,6 +1,6 @@
 use Rattle.std.proofs.Common.{◌≡◌, take}
 use Rattle.epx_types.specs.CommittedMap.{ids_of}
-use Rattle.epx_graph.specs.Remainder.{left_of}
+use Rattle.epx_graph.specs.inner.Remainder.{left_of}
 use Rattle.epx_graph.proofs.build_graph.committed_ids.Given as goal
 
 abbrev pub invariant-loop-place : goal.invariant-loop-place

@@ -1,7 +1,7 @@
 use Rattle.std.proofs.Common.{◌≡◌, ◌++◌, sym, ap, subst, ◌∙◌}
 use Rattle.epx_types.specs.CommittedMap.{ids_of}
-use Rattle.epx_graph.specs.Remainder.{left_of}
-use Rattle.epx_graph.specs.Nodes.{AreNodesOf}
+use Rattle.epx_graph.specs.inner.Remainder.{left_of}
+use Rattle.epx_graph.specs.inner.Nodes.{AreNodesOf}
 use Rattle.epx_graph.proofs.MissingIdLemmas.{missing_kept}
 use Rattle.epx_graph.proofs.MapNodeLemmas.{nodes_joined}
 use Rattle.epx_graph.proofs.build_graph.nodes.Goals as goal

@@ -1,7 +1,7 @@
 use Rattle.std.proofs.Common.{◌≡◌, ◌++◌, ◌∷◌, [], ◌+◌, List, Some, slice_get, Contains, length, take, drop, get_or, sym, ap, subst, ◌∙◌}
 use Rattle.epx_types.specs.declared.id.Id.{Id}
-use Rattle.epx_graph.specs.Remainder.{left_of}
-use Rattle.epx_graph.specs.Nodes.{ArePositionsOf}
+use Rattle.epx_graph.specs.inner.Remainder.{left_of}
+use Rattle.epx_graph.specs.inner.Nodes.{ArePositionsOf}
 use Rattle.epx_graph.proofs.RisingRowLemmas.{missing_skip, missing_more}
 use Rattle.epx_graph.proofs.build_graph.number_missing.Goals as goal
 use Rattle.epx_graph.proofs.build_graph.number_missing.Goals.{in-Some+in_ok-push, in_default}

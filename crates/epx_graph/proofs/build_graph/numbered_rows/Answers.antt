@@ -4,8 +4,8 @@ use Rattle.epx_types.specs.declared.id.Id.{Id}
 use Rattle.epx_types.specs.CommittedMap.{IsCommitted}
 use Rattle.epx_types.specs.Done.{without_deps, remaining_ids}
 use Rattle.epx_types.proofs.lists.RisingIdLemmas.{AllPairs-from_IsRising}
-use Rattle.epx_graph.specs.Remainder.{left_of}
-use Rattle.epx_graph.specs.Nodes.{positions_of, missing_of, ArePositionsOf, AreRowsOf}
+use Rattle.epx_graph.specs.inner.Remainder.{left_of}
+use Rattle.epx_graph.specs.inner.Nodes.{positions_of, missing_of, ArePositionsOf, AreRowsOf}
 use Rattle.epx_graph.proofs.MapNodeLemmas.{rows_more}
 use Rattle.epx_graph.proofs.RisingRowLemmas.{row_joined}
 use Rattle.epx_graph.proofs.GatherRowLemmas.{row_short, starts_with_missing, lacking_rises, lacking_lacks}

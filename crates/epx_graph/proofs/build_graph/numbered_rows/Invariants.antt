@@ -1,6 +1,6 @@
 use Rattle.std.proofs.Common.{◌≡◌, drop}
-use Rattle.epx_graph.specs.Remainder.{left_of}
-use Rattle.epx_graph.specs.Nodes.{all_missing_of, AreRowsOf}
+use Rattle.epx_graph.specs.inner.Remainder.{left_of}
+use Rattle.epx_graph.specs.inner.Nodes.{all_missing_of, AreRowsOf}
 use Rattle.epx_graph.proofs.build_graph.numbered_rows.Given as goal
 
 abbrev pub invariant-loop-place : goal.invariant-loop-place

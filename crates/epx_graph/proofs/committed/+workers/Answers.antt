@@ -1,7 +1,7 @@
 use Rattle.std.proofs.Common.{slice_range}
 use Rattle.std.proofs.lemmas.Result.{IfOk-at_ok}
-use Rattle.epx_graph.specs.Remainder.{left_of}
-use Rattle.epx_graph.specs.Nodes.{IsGatheredOf}
+use Rattle.epx_graph.specs.inner.Remainder.{left_of}
+use Rattle.epx_graph.specs.inner.Nodes.{IsGatheredOf}
 use Rattle.epx_graph.proofs.GatherPartLemmas.{gathered_both}
 use Rattle.epx_graph.proofs.committed.+workers.Goals as goal
 

@@ -1,7 +1,7 @@
 use Rattle.std.proofs.Common.{◌≡◌, length, ap, subst, ◌∙◌, arith, slice_range}
 use Rattle.std.proofs.lemmas.Result.{IfOk-weaker}
-use Rattle.epx_graph.specs.Remainder.{left_of}
-use Rattle.epx_graph.specs.Nodes.{IsGatheredOf}
+use Rattle.epx_graph.specs.inner.Remainder.{left_of}
+use Rattle.epx_graph.specs.inner.Nodes.{IsGatheredOf}
 use Rattle.epx_graph.proofs.GatherPartLemmas.{whole_range}
 use Rattle.epx_graph.proofs.committed.committed_rows.Goals as goal
 

@@ -1,7 +1,7 @@
 use Rattle.std.proofs.Common.{◌≡◌, ◌++◌, take}
 use Rattle.epx_types.specs.Done.{remaining_ids}
-use Rattle.epx_graph.specs.Remainder.{left_of}
-use Rattle.epx_graph.specs.Nodes.{positions_of, missing_of}
+use Rattle.epx_graph.specs.inner.Remainder.{left_of}
+use Rattle.epx_graph.specs.inner.Nodes.{positions_of, missing_of}
 use Rattle.epx_graph.proofs.committed.gather.Given as goal
 
 abbrev pub invariant-loop-id : goal.invariant-loop-id

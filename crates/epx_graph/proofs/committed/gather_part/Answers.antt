@@ -1,7 +1,7 @@
 use Rattle.std.proofs.Common.{◌≡◌, ◌+◌, ◌++◌, ◌∷◌, [], List, ℕ, sym, ap, subst, ◌∙◌, slice_range, arith}
 use Rattle.epx_types.specs.Done.{without_deps, remaining_ids}
-use Rattle.epx_graph.specs.Remainder.{left_of}
-use Rattle.epx_graph.specs.Nodes.{positions_of, missing_of, IsGatheredOf}
+use Rattle.epx_graph.specs.inner.Remainder.{left_of}
+use Rattle.epx_graph.specs.inner.Nodes.{positions_of, missing_of, IsGatheredOf}
 use Rattle.epx_graph.proofs.GatherPartLemmas.{gathered_none, gathered_more}
 use Rattle.epx_graph.proofs.RemainderLemmas.{rest_rises}
 use Rattle.epx_graph.proofs.committed.gather_part.Goals as goal

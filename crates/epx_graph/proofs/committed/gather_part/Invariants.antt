@@ -1,6 +1,6 @@
 use Rattle.std.proofs.Common.{slice_range}
-use Rattle.epx_graph.specs.Remainder.{left_of}
-use Rattle.epx_graph.specs.Nodes.{IsGatheredOf}
+use Rattle.epx_graph.specs.inner.Remainder.{left_of}
+use Rattle.epx_graph.specs.inner.Nodes.{IsGatheredOf}
 use Rattle.epx_graph.proofs.committed.gather_part.Given as goal
 
 abbrev pub invariant-loop-place : goal.invariant-loop-place

@@ -1,5 +1,5 @@
 use Rattle.std.proofs.Common.{◌≡◌, []}
-use Rattle.epx_graph.specs.Searches.{BeginsFrom}
+use Rattle.epx_graph.specs.inner.Searches.{BeginsFrom}
 use Rattle.epx_graph.proofs.search.least_missing.Given as goal
 
 -- the missing nodes below this one are done

@@ -1,4 +1,4 @@
-use Rattle.epx_graph.specs.Waiters.{AreWaiters}
+use Rattle.epx_graph.specs.inner.Waiters.{AreWaiters}
 use Rattle.epx_graph.proofs.waiters.waiting.Given as goal
 
 abbrev pub invariant-loop-node : goal.invariant-loop-node

@@ -2,7 +2,7 @@ use Rattle.std.proofs.Common.{◌≡◌, map, take}
 use Rattle.std.specs.List.{All}
 use Rattle.serde_json.specs.View.{view}
 use Rattle.epx_lines.specs.Text.{data_of_id}
-use Rattle.epx_lines.specs.WrittenParts.{IsWritableId}
+use Rattle.epx_lines.specs.inner.WrittenParts.{IsWritableId}
 use Rattle.epx_lines.proofs.write.id_values.Given as goal
 
 abbrev pub invariant-loop-id : goal.invariant-loop-id

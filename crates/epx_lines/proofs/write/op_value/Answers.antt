@@ -2,7 +2,7 @@ use Rattle.std.proofs.Common.{Option, Some, None, ℤ, List, ℕ}
 use Rattle.std.specs.Option.{IfSome}
 use Rattle.epx_types.specs.Keys.{FitsKey}
 use Rattle.epx_types.specs.declared.op.Op.TheVariants.{Is}
-use Rattle.epx_lines.specs.WrittenParts.{IsWritableOp, IsWritableValue}
+use Rattle.epx_lines.specs.inner.WrittenParts.{IsWritableOp, IsWritableValue}
 use Rattle.epx_lines.proofs.WrittenPartLemmas.{IsWritableOp-Get, IsWritableOp-Put, IsWritableOp-Del, IsWritableOp-Add, IsWritableOp-Is_none, IsWritableOp-Is_some, IsWritableOp-Floor, IsWritableOp-Copy}
 use Rattle.epx_lines.proofs.write.op_value.Goals as goal
 

@@ -2,7 +2,7 @@ use Rattle.std.proofs.Common.{arith, subst}
 use Rattle.std.proofs.lemmas.Grind.{common_steps}
 use Rattle.std.proofs.lemmas.List.Elements.{All-more}
 use Rattle.epx_types.specs.declared.op.Op.{Op}
-use Rattle.epx_lines.specs.WrittenParts.{IsWritableOp}
+use Rattle.epx_lines.specs.inner.WrittenParts.{IsWritableOp}
 use Rattle.epx_lines.proofs.write.op_values.Goals as goal
 
 pub loop-op-preserved : goal.loop-op-preserved

@@ -2,7 +2,7 @@ use Rattle.std.proofs.Common.{◌≡◌, map, take}
 use Rattle.std.specs.List.{All}
 use Rattle.serde_json.specs.View.{view}
 use Rattle.epx_lines.specs.Text.{data_of_op}
-use Rattle.epx_lines.specs.WrittenParts.{IsWritableOp}
+use Rattle.epx_lines.specs.inner.WrittenParts.{IsWritableOp}
 use Rattle.epx_lines.proofs.write.op_values.Given as goal
 
 abbrev pub invariant-loop-op : goal.invariant-loop-op

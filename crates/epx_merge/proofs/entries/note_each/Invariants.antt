@@ -1,6 +1,6 @@
 use Rattle.std.proofs.Common.{◌≡◌, ◌+◌, suc, length}
 use Rattle.epx_merge.specs.EntryLines.{entry_lines, entry_lines_from}
-use Rattle.epx_merge.specs.Ledgers.{LedgerView, NotesLines}
+use Rattle.epx_merge.specs.inner.Ledgers.{LedgerView, NotesLines}
 use Rattle.epx_merge.proofs.entries.note_each.Given as goal
 
 -- noting the rest, on the lines after this one, notes all entries

@@ -1,5 +1,5 @@
 use Rattle.std.proofs.Common.{subst}
-use Rattle.epx_merge.specs.RedundantLines.{CachesAfter}
+use Rattle.epx_merge.specs.inner.RedundantLines.{CachesAfter}
 use Rattle.epx_merge.proofs.next_batch.is_redundant.Goals as goal
 
 pub returns-else-is_blank-clause-held : goal.returns-else-is_blank-clause-held

@@ -1,5 +1,5 @@
 use Rattle.std.proofs.Common.{rules}
-use Rattle.epx_merge.specs.RedundantLines.{IsRedundantIn}
+use Rattle.epx_merge.specs.inner.RedundantLines.{IsRedundantIn}
 use Rattle.epx_merge.proofs.BatchLemmas.{batch_none, batch_more, batch_redundant}
 use Rattle.epx_merge.proofs.next_batch.next_batch.Goals as goal
 

@@ -1,7 +1,7 @@
 use Rattle.std.proofs.Common.{◌≡◌, ◌<◌, [], map, length, sym, subst, ◌∙◌, refl, arith, rules}
 use Rattle.std.proofs.lemmas.List.{nil_from_length}
 use Rattle.epx_merge.specs.LogLines.{meanings_of}
-use Rattle.epx_merge.specs.ReadPieces.{AreRead}
+use Rattle.epx_merge.specs.inner.ReadPieces.{AreRead}
 use Rattle.epx_merge.proofs.BatchLemmas.{is_some_length, so_far_first, so_far_next, so_far_less, so_far_fault, so_far_over, fault_at_first}
 use Rattle.epx_merge.proofs.read.read_all.Goals as goal
 

@@ -1,7 +1,7 @@
 use Rattle.std.proofs.Common.{◌≡◌, rules}
 use Rattle.std.proofs.lemmas.Result.{IfOk-at_ok}
-use Rattle.epx_merge.specs.ReadPieces.{AreRead}
-use Rattle.epx_merge.specs.ReadSteps.{IsReadStep}
+use Rattle.epx_merge.specs.inner.ReadPieces.{AreRead}
+use Rattle.epx_merge.specs.inner.ReadSteps.{IsReadStep}
 use Rattle.epx_merge.proofs.read.read_and_step.Goals as goal
 
 pub returns : goal.returns

@@ -1,7 +1,7 @@
 use Rattle.std.proofs.Common.{◌≡◌, ◌<◌, ◌∙◌, length, sym, subst, ap, rules}
 use Rattle.std.proofs.lemmas.Result.{IfOk-weaker}
 use Rattle.epx_types.specs.Pieces.{piece_count}
-use Rattle.epx_merge.specs.ReadPieces.{IsRead, lines_of_piece}
+use Rattle.epx_merge.specs.inner.ReadPieces.{IsRead, lines_of_piece}
 use Rattle.epx_merge.proofs.PieceLemmas.{read_in_order}
 use Rattle.epx_merge.proofs.read.read_pieces.Goals as goal
 

@@ -1,8 +1,8 @@
 use Rattle.std.proofs.Common.{◌<◌, length, ℕ}
 use Rattle.std.proofs.lemmas.Result.{MatchResult-weaker}
 use Rattle.epx_graph.specs.Graphs.{edges_of}
-use Rattle.epx_order.specs.Ends.{AreEnds, IsEndBelow}
-use Rattle.epx_order.specs.NodeLists.{IsListedIfReady}
+use Rattle.epx_order.specs.inner.Ends.{AreEnds, IsEndBelow}
+use Rattle.epx_order.specs.inner.NodeLists.{IsListedIfReady}
 use Rattle.epx_order.specs.OrderFaults.{IsListOfReady}
 use Rattle.epx_components.specs.Partitions.{parts, number_for}
 use Rattle.epx_order.proofs.ListedNodeLemmas.{ready_is_listed, missing_found, nodes_committed, nodes_within}

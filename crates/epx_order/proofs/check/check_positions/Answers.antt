@@ -3,7 +3,7 @@ use Rattle.std.proofs.lemmas.Bool.{false≢true}
 use Rattle.std.proofs.lemmas.List.{get_or_read}
 use Rattle.std.proofs.lemmas.List.Elements.{All-get_or}
 use Rattle.epx_components.specs.Partitions.{parts, component_of}
-use Rattle.epx_order.specs.SequenceKeys.{sequence_key_of, ComesBefore, IsNodeEarlyAt}
+use Rattle.epx_order.specs.inner.SequenceKeys.{sequence_key_of, ComesBefore, IsNodeEarlyAt}
 use Rattle.epx_order.proofs.SequenceKeyLemmas.{latest_in, overtaken_from_latest, overtaken_to_latest, latest_step, nodes_in_order_step}
 use Rattle.epx_order.proofs.check.check_positions.Goals as goal
 

@@ -1,5 +1,5 @@
 use Rattle.epx_components.specs.Partitions.{parts}
-use Rattle.epx_order.specs.SequenceKeys.{AreNodesInOrder}
+use Rattle.epx_order.specs.inner.SequenceKeys.{AreNodesInOrder}
 use Rattle.epx_order.proofs.SequenceKeyLemmas.{AreLatest}
 use Rattle.epx_order.proofs.check.check_positions.Given as goal
 

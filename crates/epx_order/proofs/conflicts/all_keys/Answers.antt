@@ -2,7 +2,7 @@ use Rattle.std.proofs.Common.{◌≡◌, ◌++◌, ◌∷◌, [], map, take, sym
 use Rattle.std.proofs.lemmas.List.{take_more, map_push}
 use Rattle.std.proofs.lemmas.Option.{slice_get_within, get_or_from_slice_get}
 use Rattle.epx_types.specs.CommandKeys.{touched_keys, written_keys}
-use Rattle.epx_order.specs.NodeConflicts.{KeyLists, keys_of}
+use Rattle.epx_order.specs.inner.NodeConflicts.{KeyLists, keys_of}
 use Rattle.epx_order.proofs.conflicts.all_keys.Goals as goal
 
 pub loop-position-preserved : goal.loop-position-preserved

@@ -1,5 +1,5 @@
 use Rattle.std.proofs.Common.{◌≡◌, map, take}
-use Rattle.epx_order.specs.NodeConflicts.{keys_of}
+use Rattle.epx_order.specs.inner.NodeConflicts.{keys_of}
 use Rattle.epx_order.proofs.conflicts.all_keys.Given as goal
 
 abbrev pub invariant-loop-position : goal.invariant-loop-position

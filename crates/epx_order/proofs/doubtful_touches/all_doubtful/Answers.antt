@@ -1,6 +1,6 @@
 use Rattle.std.proofs.Common.{ℕ, ◌+◌, ◌<◌, List, Contains, sym, subst}
 use Rattle.epx_order.specs.declared.doubtful_touches.DoubtfulTouch.{DoubtfulTouch}
-use Rattle.epx_order.specs.DoubtfulKeys.{AreInRange}
+use Rattle.epx_order.specs.inner.DoubtfulKeys.{AreInRange}
 use Rattle.epx_order.proofs.DoubtfulTouchLemmas.{writes_the_only_key, all_doubtful_more, all_doubtful_in_range}
 use Rattle.epx_order.proofs.doubtful_touches.all_doubtful.Goals as goal
 

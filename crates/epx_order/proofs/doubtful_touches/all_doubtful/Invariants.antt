@@ -1,5 +1,5 @@
 use Rattle.std.proofs.Common.{ℕ, ◌<◌, Contains}
-use Rattle.epx_order.specs.DoubtfulKeys.{AreInRange}
+use Rattle.epx_order.specs.inner.DoubtfulKeys.{AreInRange}
 use Rattle.epx_order.proofs.DoubtfulTouchLemmas.{writes_the_only_key}
 use Rattle.epx_order.proofs.doubtful_touches.all_doubtful.Given as goal
 

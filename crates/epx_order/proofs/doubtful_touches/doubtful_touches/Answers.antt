@@ -1,8 +1,8 @@
 use Rattle.std.proofs.Common.{◌≡◌, ◌+◌, ◌++◌, ◌∷◌, [], get_or, Contains, sym, subst, ap, ◌∙◌, arith}
 use Rattle.std.proofs.lemmas.List.Elements.{Contains-get_or}
 use Rattle.epx_order.specs.declared.touches.Touch.{Touch}
-use Rattle.epx_order.specs.DoubtfulKeys.{doubtful_touch}
-use Rattle.epx_order.specs.RelatedTouches.{touch_at}
+use Rattle.epx_order.specs.inner.DoubtfulKeys.{doubtful_touch}
+use Rattle.epx_order.specs.inner.RelatedTouches.{touch_at}
 use Rattle.epx_order.proofs.DoubtfulTouchLemmas.{AreFound, HoldFound, touch_at_index, found_more, all_more, all_same}
 use Rattle.epx_order.proofs.HashLemmas.{one_index}
 use Rattle.epx_order.proofs.doubtful_touches.doubtful_touches.Goals as goal

@@ -2,9 +2,9 @@ use Rattle.std.proofs.Common.{◌≡◌, ℕ, ◌<◌, All, Contains, length, ge
 use Rattle.std.proofs.lemmas.List.Elements.{All-contains}
 use Rattle.epx_graph.specs.Graphs.{edges_of}
 use Rattle.epx_order.specs.declared.touches.Touch.{Touch}
-use Rattle.epx_order.specs.DoubtfulKeys.{doubtful_touch, AreInRange}
-use Rattle.epx_order.specs.RelatedTouches.{AreAllRelated}
-use Rattle.epx_order.specs.Touches.{HoldTouches}
+use Rattle.epx_order.specs.inner.DoubtfulKeys.{doubtful_touch, AreInRange}
+use Rattle.epx_order.specs.inner.RelatedTouches.{AreAllRelated}
+use Rattle.epx_order.specs.inner.Touches.{HoldTouches}
 use Rattle.epx_order.proofs.DoubtfulKeyLemmas.{hold_all_conflicts, hold_if_all_doubtful}
 use Rattle.epx_order.proofs.DoubtfulTouchLemmas.{writes_the_only_key}
 use Rattle.epx_order.proofs.OrderNodeLemmas.{nodes_in_map, nodes_in_graph, leaders_join}

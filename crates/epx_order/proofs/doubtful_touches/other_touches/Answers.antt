@@ -1,6 +1,6 @@
 use Rattle.std.proofs.Common.{◌≡◌, ◌+◌, ◌++◌, ◌∷◌, [], not, Contains, sym, subst, ap, ◌∙◌, arith}
 use Rattle.epx_order.specs.declared.touches.Touch.{Touch}
-use Rattle.epx_order.specs.RelatedTouches.{touch_at}
+use Rattle.epx_order.specs.inner.RelatedTouches.{touch_at}
 use Rattle.epx_order.proofs.DoubtfulTouchLemmas.{AreSome, HoldOthers, touch_at_index, other_touches_more, hold_more, hold_same}
 use Rattle.epx_order.proofs.HashLemmas.{present}
 use Rattle.epx_order.proofs.doubtful_touches.other_touches.Goals as goal

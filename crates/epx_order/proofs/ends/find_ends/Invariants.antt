@@ -1,4 +1,4 @@
-use Rattle.epx_order.specs.Ends.{AreEnds}
+use Rattle.epx_order.specs.inner.Ends.{AreEnds}
 use Rattle.epx_components.specs.Partitions.{parts}
 use Rattle.epx_order.proofs.ends.find_ends.Given as goal
 

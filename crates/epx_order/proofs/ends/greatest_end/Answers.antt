@@ -1,5 +1,5 @@
 use Rattle.std.proofs.Common.{◌+◌, refl, sym, subst}
-use Rattle.epx_order.specs.Ends.{IsGreatestEnd}
+use Rattle.epx_order.specs.inner.Ends.{IsGreatestEnd}
 use Rattle.epx_order.proofs.EndLemmas.{greatest_end_skip, greatest_end_take}
 use Rattle.epx_order.proofs.ends.greatest_end.Goals as goal
 use Rattle.epx_order.proofs.ends.greatest_end.Goals.{then-other-own, else-other-own}

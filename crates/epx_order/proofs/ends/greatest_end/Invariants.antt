@@ -1,4 +1,4 @@
-use Rattle.epx_order.specs.Ends.{IsGreatestEnd}
+use Rattle.epx_order.specs.inner.Ends.{IsGreatestEnd}
 use Rattle.epx_order.proofs.ends.greatest_end.Given as goal
 
 abbrev pub invariant-loop-target : goal.invariant-loop-target

@@ -1,7 +1,7 @@
 use Rattle.std.proofs.Common.{List}
 use Rattle.epx_types.specs.Instances.{Instance}
 use Rattle.epx_graph.specs.GraphOf.{IsGraphOf}
-use Rattle.epx_order.specs.NodeLists.{AreListed}
+use Rattle.epx_order.specs.inner.NodeLists.{AreListed}
 use Rattle.epx_order.specs.OrderFaults.{ReadyOnce}
 use Rattle.epx_order.proofs.node_list.list_nodes.Given as goal
 

@@ -2,8 +2,8 @@ use Rattle.std.proofs.Common.{◌<◌, All, Contains, IsTrue, length, sym, subst
 use Rattle.std.proofs.lemmas.Result.{IfOk-weaker}
 use Rattle.epx_types.specs.Conflicts.{IsCovered}
 use Rattle.epx_graph.specs.Graphs.{edges_of}
-use Rattle.epx_order.specs.RelatedTouches.{AreAllRelated}
-use Rattle.epx_order.specs.Touches.{HoldTouches}
+use Rattle.epx_order.specs.inner.RelatedTouches.{AreAllRelated}
+use Rattle.epx_order.specs.inner.Touches.{HoldTouches}
 use Rattle.epx_order.proofs.QuickAuditLemmas.{covered_from_related}
 use Rattle.epx_order.proofs.OrderNodeLemmas.{nodes_in_map, nodes_in_graph, leaders_join}
 use Rattle.epx_order.proofs.quick_audit.is_found_covered.Goals as goal

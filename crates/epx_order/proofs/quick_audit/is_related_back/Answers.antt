@@ -3,7 +3,7 @@ use Rattle.std.proofs.lemmas.Bool.{cases_lt, false≢true}
 use Rattle.std.proofs.lemmas.List.Elements.{Contains-get_or}
 use Rattle.epx_graph.specs.Graphs.{edges_of}
 use Rattle.epx_order.specs.declared.search.Search.{Search}
-use Rattle.epx_order.specs.RelatedTouches.{touch_at, TouchReaches}
+use Rattle.epx_order.specs.inner.RelatedTouches.{touch_at, TouchReaches}
 use Rattle.epx_order.proofs.quick_audit.is_related_back.Goals as goal
 use Rattle.epx_order.proofs.quick_audit.is_related_back.Goals.{then-touch, else-touch, then-touch-2, else-touch-2, else-asked-via-then-asked+in_ok-reaches+else-not-branch, else-asked-via-else-asked}
 

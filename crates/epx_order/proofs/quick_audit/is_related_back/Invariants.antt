@@ -1,6 +1,6 @@
 use Rattle.std.proofs.Common.{◌≡◌, ℕ, ◌<◌, ◌≤◌, length, ◌⊎◌, IsTrue}
 use Rattle.epx_graph.specs.Graphs.{edges_of}
-use Rattle.epx_order.specs.RelatedTouches.{touch_at, TouchReaches}
+use Rattle.epx_order.specs.inner.RelatedTouches.{touch_at, TouchReaches}
 use Rattle.epx_order.proofs.quick_audit.is_related_back.Given as goal
 
 abbrev pub invariant-loop-earlier : goal.invariant-loop-earlier

@@ -4,7 +4,7 @@ use Rattle.std.proofs.lemmas.List.Elements.{All-get_or}
 use Rattle.epx_graph.specs.Graphs.{edges_of}
 use Rattle.epx_components.specs.Partitions.{parts, component_of, node_at, number_for}
 use Rattle.epx_components.proofs.PartitionLemmas.{node_below, component_below}
-use Rattle.epx_order.specs.SourceBits.{has_bit}
+use Rattle.epx_order.specs.inner.SourceBits.{has_bit}
 use Rattle.epx_order.proofs.BitLemmas.{no_bit}
 use Rattle.epx_order.proofs.ReachedBitLemmas.{AreReachedBits, source_components_below, reached_bits_first, reached_bits_step, reached_bits_skip, reached_bits_all}
 use Rattle.epx_order.proofs.related.find_reached.Goals as goal

@@ -3,7 +3,7 @@ use Rattle.std.proofs.lemmas.List.{get_or_read, length-replicate}
 use Rattle.epx_graph.specs.Graphs.{edges_of}
 use Rattle.epx_components.specs.Partitions.{parts, component_of, node_at}
 use Rattle.epx_components.proofs.PartitionLemmas.{node_below, component_below}
-use Rattle.epx_order.specs.SourceBits.{has_bit, LeadsToBit}
+use Rattle.epx_order.specs.inner.SourceBits.{has_bit, LeadsToBit}
 use Rattle.epx_order.proofs.ReachedBitLemmas.{AreReachingBits, reaching_bits_first, reaching_bits_more, reaching_bits_all}
 use Rattle.epx_order.proofs.related.find_reaching.Goals as goal
 

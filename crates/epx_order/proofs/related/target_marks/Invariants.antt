@@ -1,5 +1,5 @@
 use Rattle.std.proofs.Common.{◌↔◌, ℕ, ◌<◌, get_or, IsTrue}
-use Rattle.epx_order.specs.SourceBits.{has_bit}
+use Rattle.epx_order.specs.inner.SourceBits.{has_bit}
 use Rattle.epx_order.proofs.related.target_marks.Given as goal
 
 abbrev pub invariant-loop-target : goal.invariant-loop-target

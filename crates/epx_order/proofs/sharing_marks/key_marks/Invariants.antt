@@ -1,5 +1,5 @@
 use Rattle.std.proofs.Common.{◌≡◌, ◌⊎◌, ℕ, ◌<◌, length, get_or, IsTrue, IsFalse}
-use Rattle.epx_order.specs.SourceBits.{HasBitsOf}
+use Rattle.epx_order.specs.inner.SourceBits.{HasBitsOf}
 use Rattle.epx_order.proofs.SharingMarkLemmas.{doubtful_at}
 use Rattle.epx_order.proofs.sharing_marks.key_marks.Given as goal
 

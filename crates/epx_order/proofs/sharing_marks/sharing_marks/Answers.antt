@@ -2,7 +2,7 @@ use Rattle.std.proofs.Common.{◌≡◌, inl, inr, ◌<◌, Bool, length, length
 use Rattle.std.proofs.lemmas.List.{get_or_read}
 use Rattle.std.proofs.lemmas.List.Elements.{Contains-get_or}
 use Rattle.epx_order.specs.declared.doubtful_touches.DoubtfulTouch.{DoubtfulTouch}
-use Rattle.epx_order.specs.SourceBits.{HasBitsOf}
+use Rattle.epx_order.specs.inner.SourceBits.{HasBitsOf}
 use Rattle.epx_order.proofs.SharingMarkLemmas.{doubtful_at, doubtful_at_index, word_of, shared_more, all_sharing}
 use Rattle.epx_order.proofs.sharing_marks.sharing_marks.Goals as goal
 use Rattle.epx_order.proofs.sharing_marks.sharing_marks.Goals.{then-touch, else-touch}

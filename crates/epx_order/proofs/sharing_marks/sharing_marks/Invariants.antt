@@ -1,5 +1,5 @@
 use Rattle.std.proofs.Common.{◌≡◌, ℕ, ◌<◌, length, get_or}
-use Rattle.epx_order.specs.SourceBits.{HasBitsOf}
+use Rattle.epx_order.specs.inner.SourceBits.{HasBitsOf}
 use Rattle.epx_order.proofs.SharingMarkLemmas.{doubtful_at, word_of}
 use Rattle.epx_order.proofs.sharing_marks.sharing_marks.Given as goal
 

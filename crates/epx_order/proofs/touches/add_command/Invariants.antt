@@ -1,5 +1,5 @@
 use Rattle.std.proofs.Common.{◌≡◌, ◌++◌, take}
-use Rattle.epx_order.specs.Touches.{touches_of}
+use Rattle.epx_order.specs.inner.Touches.{touches_of}
 use Rattle.epx_order.proofs.touches.add_command.Given as goal
 
 abbrev pub invariant-loop-op : goal.invariant-loop-op

@@ -3,7 +3,7 @@ use Rattle.std.proofs.lemmas.Bool.{cases_lt}
 use Rattle.std.proofs.lemmas.List.Elements.{Contains-append_left, Contains-append_right, Contains-append_cases}
 use Rattle.std.proofs.lemmas.List.Sorted.{Contains-permutation, IsPermutation-sym}
 use Rattle.epx_types.specs.Instances.{Instance}
-use Rattle.epx_order.specs.Touches.{touches_of}
+use Rattle.epx_order.specs.inner.Touches.{touches_of}
 use Rattle.epx_order.proofs.TouchLemmas.{touch_place}
 use Rattle.epx_order.proofs.touches.find_touches.Goals as goal
 

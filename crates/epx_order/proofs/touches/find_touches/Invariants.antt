@@ -1,4 +1,4 @@
-use Rattle.epx_order.specs.Touches.{ArePlaced, HoldTouches}
+use Rattle.epx_order.specs.inner.Touches.{ArePlaced, HoldTouches}
 use Rattle.epx_order.proofs.touches.find_touches.Given as goal
 
 abbrev pub invariant-loop-position : goal.invariant-loop-position

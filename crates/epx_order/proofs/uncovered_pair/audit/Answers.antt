@@ -1,9 +1,9 @@
 use Rattle.std.proofs.Common.{length, sym, subst, ap, ◌∙◌, arith}
 use Rattle.std.proofs.lemmas.List.{length-map}
 use Rattle.epx_graph.specs.Graphs.{edges_of}
-use Rattle.epx_order.specs.NodeConflicts.{keys_of}
-use Rattle.epx_order.specs.ReadyMarks.{AreReadyMarks}
-use Rattle.epx_order.specs.Sources.{IsLeastPair}
+use Rattle.epx_order.specs.inner.NodeConflicts.{keys_of}
+use Rattle.epx_order.specs.inner.ReadyMarks.{AreReadyMarks}
+use Rattle.epx_order.specs.inner.Sources.{IsLeastPair}
 use Rattle.epx_order.proofs.UncoveredPairLemmas.{covered_from_settled, least_from_partner, pair_within}
 use Rattle.epx_order.proofs.uncovered_pair.audit.Goals as goal
 

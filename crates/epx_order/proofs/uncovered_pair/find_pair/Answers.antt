@@ -1,7 +1,7 @@
 use Rattle.std.proofs.Common.{◌≡◌, ◌+◌, ◌-◌, ◌*◌, ◌<◌, All, Contains, length, length-take, length-drop, take, drop, min, IsTrue, sym, subst, arith}
 use Rattle.epx_graph.specs.Graphs.{edges_of}
-use Rattle.epx_order.specs.ReadyMarks.{is_marked}
-use Rattle.epx_order.specs.Sources.{AreSources, AreSettled}
+use Rattle.epx_order.specs.inner.ReadyMarks.{is_marked}
+use Rattle.epx_order.specs.inner.Sources.{AreSources, AreSettled}
 use Rattle.epx_order.proofs.SourceLemmas.{part_ready, part_in_range, part_at, settled_below, settled_batch, least_from_first}
 use Rattle.epx_order.proofs.uncovered_pair.find_pair.Goals as goal
 

@@ -3,7 +3,7 @@ use Rattle.std.proofs.lemmas.Bool.{false≢true}
 use Rattle.std.proofs.lemmas.List.{get_or_read}
 use Rattle.std.proofs.lemmas.List.Elements.{Contains-get_or}
 use Rattle.epx_order.specs.declared.doubtful_touches.DoubtfulTouch.{DoubtfulTouch}
-use Rattle.epx_order.specs.ReadyMarks.{is_marked}
+use Rattle.epx_order.specs.inner.ReadyMarks.{is_marked}
 use Rattle.epx_order.proofs.SharingMarkLemmas.{doubtful_at, doubtful_at_index}
 use Rattle.epx_order.proofs.SourceListLemmas.{AreSourcesBelow, sources_same, sources_more, all_sources, reason_more, marks_more}
 use Rattle.epx_order.proofs.uncovered_pair.find_sources.Goals as goal

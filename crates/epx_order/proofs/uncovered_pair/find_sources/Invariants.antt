@@ -1,5 +1,5 @@
 use Rattle.std.proofs.Common.{◌≡◌, ℕ, ◌<◌, length, IsTrue}
-use Rattle.epx_order.specs.ReadyMarks.{is_marked}
+use Rattle.epx_order.specs.inner.ReadyMarks.{is_marked}
 use Rattle.epx_order.proofs.SharingMarkLemmas.{doubtful_at}
 use Rattle.epx_order.proofs.SourceListLemmas.{IsTouching, AreSourcesBelow}
 use Rattle.epx_order.proofs.uncovered_pair.find_sources.Given as goal

@@ -4,7 +4,7 @@ use Rattle.std.proofs.lemmas.List.{length-map}
 use Rattle.std.proofs.lemmas.Option.{slice_get_within}
 use Rattle.epx_graph.specs.Graphs.{edges_of}
 use Rattle.epx_components.specs.Partitions.{parts}
-use Rattle.epx_order.specs.NodeConflicts.{keys_of, IsSettled}
+use Rattle.epx_order.specs.inner.NodeConflicts.{keys_of, IsSettled}
 use Rattle.epx_order.proofs.BatchLemmas.{batch_whole}
 use Rattle.epx_order.proofs.PartnerLemmas.{settled_by_rest}
 use Rattle.epx_order.proofs.uncovered_pair.first_pair.Goals as goal

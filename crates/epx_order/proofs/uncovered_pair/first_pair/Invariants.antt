@@ -1,9 +1,9 @@
 use Rattle.std.proofs.Common.{◌≡◌, List, map}
 use Rattle.epx_types.specs.Instances.{Instance}
 use Rattle.epx_graph.specs.Graphs.{edges_of}
-use Rattle.epx_order.specs.DoubtfulKeys.{HoldAllConflicts}
-use Rattle.epx_order.specs.NodeConflicts.{keys_of}
-use Rattle.epx_order.specs.Sources.{AreSettled}
+use Rattle.epx_order.specs.inner.DoubtfulKeys.{HoldAllConflicts}
+use Rattle.epx_order.specs.inner.NodeConflicts.{keys_of}
+use Rattle.epx_order.specs.inner.Sources.{AreSettled}
 use Rattle.epx_order.proofs.uncovered_pair.first_pair.Given as goal
 
 abbrev pub invariant-loop-bit : goal.invariant-loop-bit

@@ -2,10 +2,10 @@ use Rattle.std.proofs.Common.{◌≡◌, Some, IsTrue, slice_get, sym, subst, ap
 use Rattle.std.proofs.lemmas.Bool.{false≢true}
 use Rattle.std.proofs.lemmas.Option.{slice_get-get_or}
 use Rattle.epx_graph.specs.Graphs.{edges_of}
-use Rattle.epx_order.specs.Batches.{IsReadyApart}
-use Rattle.epx_order.specs.DoubtfulKeys.{IsRelatedOrFree}
-use Rattle.epx_order.specs.NodeConflicts.{IsSettled}
-use Rattle.epx_order.specs.SourceBits.{has_bit}
+use Rattle.epx_order.specs.inner.Batches.{IsReadyApart}
+use Rattle.epx_order.specs.inner.DoubtfulKeys.{IsRelatedOrFree}
+use Rattle.epx_order.specs.inner.NodeConflicts.{IsSettled}
+use Rattle.epx_order.specs.inner.SourceBits.{has_bit}
 use Rattle.epx_order.proofs.PartnerLemmas.{settled_more, settled_by_rest, settled_by_keys, partner_found, settled_past}
 use Rattle.epx_order.proofs.uncovered_pair.first_partner.Goals as goal
 use Rattle.epx_order.proofs.uncovered_pair.first_partner.Goals.{else-has_bit-via-then-has_bit+else-conflict, else-has_bit-via-else-has_bit}

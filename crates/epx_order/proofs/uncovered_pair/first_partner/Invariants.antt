@@ -3,9 +3,9 @@ use Rattle.epx_types.specs.Instances.{Instance}
 use Rattle.epx_graph.specs.Graphs.{DependencyGraph, edges_of}
 use Rattle.epx_components.specs.Partitions.{parts}
 use Rattle.epx_order.specs.declared.doubtful_touches.DoubtfulTouch.{DoubtfulTouch}
-use Rattle.epx_order.specs.Batches.{IsBatch}
-use Rattle.epx_order.specs.DoubtfulKeys.{HoldAllConflicts}
-use Rattle.epx_order.specs.NodeConflicts.{keys_of, IsSettled}
+use Rattle.epx_order.specs.inner.Batches.{IsBatch}
+use Rattle.epx_order.specs.inner.DoubtfulKeys.{HoldAllConflicts}
+use Rattle.epx_order.specs.inner.NodeConflicts.{keys_of, IsSettled}
 use Rattle.epx_order.proofs.uncovered_pair.first_partner.Given as goal
 
 abbrev pub invariant-loop-other : goal.invariant-loop-other

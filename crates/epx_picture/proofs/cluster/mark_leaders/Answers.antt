@@ -1,6 +1,6 @@
 use Rattle.std.proofs.Common.{◌+◌, List, Bool, sym, subst, ap, arith}
 use Rattle.epx_components.proofs.InstanceLeaderLemmas.{leader_within}
-use Rattle.epx_picture.specs.Clusters.{AreLeaderMarks}
+use Rattle.epx_picture.specs.inner.Clusters.{AreLeaderMarks}
 use Rattle.epx_picture.proofs.LeaderMarkLemmas.{leader_marks_none, leader_marks_past, leader_marks_more}
 use Rattle.epx_picture.proofs.cluster.mark_leaders.Goals as goal
 use Rattle.epx_picture.proofs.cluster.mark_leaders.Goals.{then-leader-node, else-leader-node}

@@ -1,4 +1,4 @@
-use Rattle.epx_picture.specs.Clusters.{AreLeaderMarks}
+use Rattle.epx_picture.specs.inner.Clusters.{AreLeaderMarks}
 use Rattle.epx_picture.proofs.cluster.mark_leaders.Given as goal
 
 abbrev pub invariant-loop-node : goal.invariant-loop-node

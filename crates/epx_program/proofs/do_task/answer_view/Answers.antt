@@ -1,6 +1,6 @@
 use Rattle.epx_tool.specs.Views.{IsViewText}
 use Rattle.epx_program.proofs.OutcomeLemmas.{outcome, view_is_answer, view_is_refused}
-use Rattle.epx_program.specs.Outcomes.{task_showing}
+use Rattle.epx_program.specs.inner.Outcomes.{task_showing}
 use Rattle.epx_program.proofs.do_task.answer_view.Goals as goal
 
 pub returns : goal.returns

@@ -2,7 +2,7 @@ use Rattle.std.proofs.Common.{◌≡◌, refl, rules, Some, []}
 use Rattle.epx_types.specs.declared.op.Op.TheVariants.{Put, Add, Copy}
 use Rattle.epx_types.specs.Operations.{operate}
 use Rattle.epx_types.specs.Contents.{assign}
-use Rattle.epx_txn.specs.Drafts.{contents_through}
+use Rattle.epx_txn.specs.inner.Drafts.{contents_through}
 use Rattle.epx_txn.proofs.DraftLemmas.{written_step}
 use Rattle.epx_txn.proofs.draft.operate.Goals as goal
 

@@ -1,7 +1,7 @@
 use Rattle.std.proofs.Common.{◌∷◌, [], true, false, inl, inr, sym, subst, OnOk}
 use Rattle.std.proofs.lemmas.Result.{on_ok_weaker}
 use Rattle.epx_types.specs.declared.op.Op.{Op}
-use Rattle.epx_apply.specs.KeyTables.{AddsAccesses, accesses_of}
+use Rattle.epx_apply.specs.inner.KeyTables.{AddsAccesses, accesses_of}
 use Rattle.epx_apply.proofs.KeyTableLemmas.{AddsAccesses-append}
 use Rattle.epx_apply.proofs.key_table.KeyTable.add_accesses.Goals as goal
 

@@ -3,7 +3,7 @@ use Rattle.std.specs.BTreeSet.{insert_key}
 use Rattle.epx_types.specs.Ids.{id_cmp}
 use Rattle.epx_types.specs.Done.{is_among}
 use Rattle.epx_base.specs.Seen.{last, is_after_last}
-use Rattle.epx_base.specs.IdSets.{with_late, AreRisingAndLate}
+use Rattle.epx_base.specs.inner.IdSets.{with_late, AreRisingAndLate}
 use Rattle.epx_base.proofs.IdSetLemmas.{above_is_new, pushed, with_late-pushed, found_rising, found_late, already_there, late_inserted, with_late-inserted}
 use Rattle.epx_base.proofs.id_set.IdSet.insert.Goals as goal
 

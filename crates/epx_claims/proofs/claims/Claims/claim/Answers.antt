@@ -1,6 +1,6 @@
 use Rattle.std.proofs.Common.{◌∙◌, ap, map, arith}
-use Rattle.epx_claims.specs.Rule.{with_piece, at_end}
-use Rattle.epx_claims.specs.SeatFields.{drawn_of}
+use Rattle.epx_claims.specs.inner.Rule.{with_piece, at_end}
+use Rattle.epx_claims.specs.inner.SeatFields.{drawn_of}
 use Rattle.epx_claims.proofs.DrawLemmas.{draw_allowed}
 use Rattle.epx_claims.proofs.SeatLemmas.{same_claims, shows_own, step_as, step_below}
 use Rattle.epx_claims.proofs.claims.Claims.claim.Goals as goal

@@ -1,8 +1,8 @@
 use Rattle.std.proofs.Common.{◌+◌, length}
 use Rattle.epx_graph.specs.Graphs.{edges_of}
-use Rattle.epx_components.specs.SearchInvariants.{IsSearch}
-use Rattle.epx_components.specs.SearchStates.{state}
-use Rattle.epx_components.specs.SearchWork.{work_left}
+use Rattle.epx_components.specs.inner.SearchInvariants.{IsSearch}
+use Rattle.epx_components.specs.inner.SearchStates.{state}
+use Rattle.epx_components.specs.inner.SearchWork.{work_left}
 use Rattle.epx_components.proofs.search.Search.explore.Given as goal
 
 abbrev pub invariant-loop-self : goal.invariant-loop-self

@@ -5,9 +5,9 @@ use Rattle.epx_graph.specs.Graphs.{edges_of}
 use Rattle.epx_components.proofs.EdgeLemmas.{edge_to}
 use Rattle.epx_components.proofs.FollowLemmas.{follow_less, follow_keeps}
 use Rattle.epx_components.proofs.PathEndLemmas.{open_below}
-use Rattle.epx_components.specs.SearchInvariants.{KeepsSearch}
-use Rattle.epx_components.specs.SearchStates.{state}
-use Rattle.epx_components.specs.SearchWork.{work_left}
+use Rattle.epx_components.specs.inner.SearchInvariants.{KeepsSearch}
+use Rattle.epx_components.specs.inner.SearchStates.{state}
+use Rattle.epx_components.specs.inner.SearchWork.{work_left}
 use Rattle.epx_components.proofs.search.Search.follow.Goals as goal
 
 pub arrive-requires-clause-node : goal.arrive-requires-clause-node

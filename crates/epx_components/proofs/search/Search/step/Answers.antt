@@ -5,8 +5,8 @@ use Rattle.epx_graph.specs.Graphs.{edges_of}
 use Rattle.epx_components.proofs.FinishLemmas.{finish_keeps}
 use Rattle.epx_components.proofs.LookLemmas.{pop_keeps}
 use Rattle.epx_components.proofs.PathEndLemmas.{open_below, top_open}
-use Rattle.epx_components.specs.SearchInvariants.{IsSearch, KeepsSearch}
-use Rattle.epx_components.specs.SearchStates.{state}
+use Rattle.epx_components.specs.inner.SearchInvariants.{IsSearch, KeepsSearch}
+use Rattle.epx_components.specs.inner.SearchStates.{state}
 use Rattle.epx_components.proofs.search.Search.step.Goals as goal
 
 pub returns-in-Some-2-clause-keeps : goal.returns-in-Some-2-clause-keeps

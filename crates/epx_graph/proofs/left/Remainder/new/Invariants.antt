@@ -1,4 +1,4 @@
-use Rattle.epx_graph.specs.Remainder.{RemainderView, ArePositionTables}
+use Rattle.epx_graph.specs.inner.Remainder.{RemainderView, ArePositionTables}
 use Rattle.epx_graph.proofs.left.Remainder.new.Given as goal
 
 abbrev pub invariant-loop-position : goal.invariant-loop-position

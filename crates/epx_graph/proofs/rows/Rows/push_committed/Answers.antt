@@ -1,7 +1,7 @@
 use Rattle.std.proofs.Common.{◌++◌, ◌∷◌, [], ap, ◌∙◌, arith}
 use Rattle.epx_types.specs.Done.{remaining_ids}
-use Rattle.epx_graph.specs.Remainder.{left_of}
-use Rattle.epx_graph.specs.Nodes.{positions_of}
+use Rattle.epx_graph.specs.inner.Remainder.{left_of}
+use Rattle.epx_graph.specs.inner.Nodes.{positions_of}
 use Rattle.epx_graph.proofs.RowLemmas.{ends_more, numbers_more}
 use Rattle.epx_graph.proofs.rows.Rows.push_committed.Goals as goal
 

@@ -1,5 +1,5 @@
 use Rattle.std.proofs.Common.{◌≡◌, ◌<◌, ◌∷◌, length, get_or, slice_range, sym, ap, ◌∙◌, arith}
-use Rattle.epx_graph.specs.Rows.{row_of}
+use Rattle.epx_graph.specs.inner.Rows.{row_of}
 use Rattle.epx_graph.proofs.RowLemmas.{length_rows, ends_rise, row_is}
 use Rattle.epx_graph.proofs.rows.Rows.row.Goals as goal
 

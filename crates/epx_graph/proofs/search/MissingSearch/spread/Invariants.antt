@@ -1,4 +1,4 @@
-use Rattle.epx_graph.specs.Searches.{steps_left, IsSpreadFrom}
+use Rattle.epx_graph.specs.inner.Searches.{steps_left, IsSpreadFrom}
 use Rattle.epx_graph.proofs.search.MissingSearch.spread.Given as goal
 
 abbrev pub invariant-loop-node : goal.invariant-loop-node

@@ -1,7 +1,7 @@
 use Rattle.std.proofs.Common.{◌<◌, None, get_or, length, sym, arith}
 use Rattle.std.proofs.lemmas.List.{get_or_read}
 use Rattle.std.proofs.lemmas.List.Elements.{All-get_or}
-use Rattle.epx_graph.specs.Searches.{SearchView}
+use Rattle.epx_graph.specs.inner.Searches.{SearchView}
 use Rattle.epx_graph.proofs.SearchLemmas.{visit_skip, visit_mark}
 use Rattle.epx_graph.proofs.search.MissingSearch.visit.Goals as goal
 

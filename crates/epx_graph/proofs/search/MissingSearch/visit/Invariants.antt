@@ -1,5 +1,5 @@
 use Rattle.std.proofs.Common.{take}
-use Rattle.epx_graph.specs.Searches.{IsVisit}
+use Rattle.epx_graph.specs.inner.Searches.{IsVisit}
 use Rattle.epx_graph.proofs.search.MissingSearch.visit.Given as goal
 
 abbrev pub invariant-loop-node : goal.invariant-loop-node

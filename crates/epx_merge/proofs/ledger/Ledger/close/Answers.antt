@@ -2,8 +2,8 @@ use Rattle.std.proofs.Common.{rules, ◌≡◌, map, length, IsPermutation, sym,
 use Rattle.std.specs.Vec.{vec_len}
 use Rattle.std.proofs.lemmas.List.{length-map}
 use Rattle.epx_merge.specs.declared.rows.Row.{Row}
-use Rattle.epx_merge.specs.Ledgers.{LedgerView, IsLedgerOf}
-use Rattle.epx_merge.specs.LineRows.{with_ids, rows_of_ids}
+use Rattle.epx_merge.specs.inner.Ledgers.{LedgerView, IsLedgerOf}
+use Rattle.epx_merge.specs.inner.LineRows.{with_ids, rows_of_ids}
 use Rattle.epx_merge.proofs.LineRowLemmas.{AreLineRows-moved, AreNamedBy-rows, IsCommittedBy-rows}
 use Rattle.epx_merge.proofs.LedgerCloseLemmas.{Agree-from_ledger, no_disagreements, first_disagreement}
 use Rattle.epx_merge.proofs.ledger.Ledger.close.Goals as goal

@@ -1,8 +1,8 @@
 use Rattle.std.proofs.Common.{◌≢◌, ◌∙◌, sym, subst, true≢false, [], ◌∷◌}
 use Rattle.indexmap.proofs.CallerLemmas.{insert_entry-new}
 use Rattle.epx_merge.specs.declared.ledger.Disagreement.{Disagreement}
-use Rattle.epx_merge.specs.Ledgers.{LedgerView, NotesLines}
-use Rattle.epx_merge.specs.LineRows.{with_ids}
+use Rattle.epx_merge.specs.inner.Ledgers.{LedgerView, NotesLines}
+use Rattle.epx_merge.specs.inner.LineRows.{with_ids}
 use Rattle.epx_merge.proofs.LedgerMapLemmas.{same_id, is_none, line_under, noted_equal, noted_disagreed, noted_disagreement}
 use Rattle.epx_merge.proofs.ledger.Ledger.compare.Goals as goal
 use Rattle.epx_merge.proofs.ledger.Ledger.compare.Goals.{then-same_entry-via-then-same_entry, then-same_entry-via-else-same_entry+then-contains_key}

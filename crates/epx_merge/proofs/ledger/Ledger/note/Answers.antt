@@ -1,8 +1,8 @@
 use Rattle.std.proofs.Common.{◌≡◌, ◌∙◌, sym, ap, subst, List, [], ◌∷◌, ◌++◌, map, OnOk, Some}
 use Rattle.epx_types.specs.declared.id.Id.{Id}
 use Rattle.epx_types.specs.PlacedLines.{Placed}
-use Rattle.epx_merge.specs.Ledgers.{LedgerView, NotesLines}
-use Rattle.epx_merge.specs.LineRows.{with_ids}
+use Rattle.epx_merge.specs.inner.Ledgers.{LedgerView, NotesLines}
+use Rattle.epx_merge.specs.inner.LineRows.{with_ids}
 use Rattle.epx_merge.proofs.LedgerMapLemmas.{known_line, noted_first}
 use Rattle.epx_merge.proofs.ledger.Ledger.note.Goals as goal
 

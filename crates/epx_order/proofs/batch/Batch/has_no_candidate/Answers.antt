@@ -1,8 +1,8 @@
 use Rattle.std.proofs.Common.{◌≡◌, inl, inr, get_or, IsTrue, subst, arith}
 use Rattle.std.proofs.lemmas.Bool.{cases_lt}
 use Rattle.epx_graph.specs.Graphs.{edges_of}
-use Rattle.epx_order.specs.DoubtfulKeys.{IsRelatedOrFree}
-use Rattle.epx_order.specs.SourceBits.{has_bit}
+use Rattle.epx_order.specs.inner.DoubtfulKeys.{IsRelatedOrFree}
+use Rattle.epx_order.specs.inner.SourceBits.{has_bit}
 use Rattle.epx_order.proofs.BitLemmas.{no_bit}
 use Rattle.epx_order.proofs.batch.Batch.has_no_candidate.Goals as goal
 

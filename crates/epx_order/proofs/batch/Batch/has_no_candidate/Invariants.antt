@@ -2,8 +2,8 @@ use Rattle.std.proofs.Common.{ℕ, ◌<◌, List, length, get_or}
 use Rattle.epx_graph.specs.Graphs.{DependencyGraph, edges_of}
 use Rattle.epx_components.specs.Partitions.{parts}
 use Rattle.epx_order.specs.declared.doubtful_touches.DoubtfulTouch.{DoubtfulTouch}
-use Rattle.epx_order.specs.Batches.{IsBatch}
-use Rattle.epx_order.specs.DoubtfulKeys.{IsRelatedOrFree}
+use Rattle.epx_order.specs.inner.Batches.{IsBatch}
+use Rattle.epx_order.specs.inner.DoubtfulKeys.{IsRelatedOrFree}
 use Rattle.epx_order.proofs.batch.Batch.has_no_candidate.Given as goal
 
 abbrev pub invariant-loop-node : goal.invariant-loop-node

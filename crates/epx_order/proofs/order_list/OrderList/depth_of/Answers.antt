@@ -1,5 +1,5 @@
 use Rattle.std.proofs.Common.{length, slice_get, refl, sym, ap, ◌∙◌, arith}
-use Rattle.epx_order.specs.Ranks.{ranked}
+use Rattle.epx_order.specs.inner.Ranks.{ranked}
 use Rattle.epx_order.proofs.RankLemmas.{rank_at}
 use Rattle.epx_order.proofs.order_list.OrderList.depth_of.Goals as goal
 

@@ -1,7 +1,7 @@
 use Rattle.std.proofs.Common.{◌≡◌, ℕ, ◌+◌, ◌<◌, List, set, length, get_or, sym, subst, arith}
 use Rattle.std.proofs.lemmas.List.{get_or_read}
 use Rattle.epx_graph.specs.Graphs.{edges_of}
-use Rattle.epx_order.specs.ReachIndexes.{IsChain}
+use Rattle.epx_order.specs.inner.ReachIndexes.{IsChain}
 use Rattle.epx_order.proofs.ReachIndexLemmas.{AreChains, chains_next, chains_all}
 use Rattle.epx_order.proofs.reach_index.ReachIndex.of.Goals as goal
 

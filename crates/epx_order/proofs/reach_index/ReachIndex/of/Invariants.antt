@@ -1,5 +1,5 @@
 use Rattle.epx_graph.specs.Graphs.{edges_of}
-use Rattle.epx_order.specs.ReachIndexes.{IsChain}
+use Rattle.epx_order.specs.inner.ReachIndexes.{IsChain}
 use Rattle.epx_order.proofs.ReachIndexLemmas.{AreChains}
 use Rattle.epx_order.proofs.reach_index.ReachIndex.of.Given as goal
 

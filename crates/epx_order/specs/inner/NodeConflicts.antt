@@ -4,7 +4,7 @@ use Rattle.epx_types.specs.CommandKeys.{touched_keys, written_keys}
 use Rattle.epx_types.specs.Conflicts.{Conflict}
 use Rattle.epx_types.specs.Instances.{Instance}
 use Rattle.epx_graph.specs.NodePaths.{NodeReaches}
-use Rattle.epx_order.specs.ReadyMarks.{is_marked}
+use Rattle.epx_order.specs.inner.ReadyMarks.{is_marked}
 
 -- the keys that a command touches, and those that it writes
 pub record KeyLists : Type 0 where

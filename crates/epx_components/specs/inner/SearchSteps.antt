@@ -2,8 +2,8 @@
 use Rattle.std.specs.Prelude.{◌≡◌, ℕ, ◌+◌, ◌-◌, ◌<◌, ◌≤◌, ◌⊎◌, List, [], ◌∷◌, ◌++◌, length, take, drop, slice_index, slice_set}
 use Rattle.epx_components.specs.declared.visit.Visit.{Visit}
 use Rattle.epx_components.specs.declared.visit.Visit.TheVariants.{Unseen, Open, Closed}
-use Rattle.epx_components.specs.Starts.{IsInLastGroup, IsCutAbove}
-use Rattle.epx_components.specs.SearchStates.{SearchState, visit_of}
+use Rattle.epx_components.specs.inner.Starts.{IsInLastGroup, IsCutAbove}
+use Rattle.epx_components.specs.inner.SearchStates.{SearchState, visit_of}
 
 -- a node of the last group with an edge left
 pub record IsNextNode (edges : ℕ → List ℕ) (s : SearchState) (k : ℕ) : Type 0 where

@@ -3,8 +3,8 @@ use Rattle.std.specs.Prelude.{◌≡◌, ◌≤◌, ◌^◌, List, [], length, R
 use Rattle.epx_types.specs.declared.fault.Why.{Why}
 use Rattle.epx_lines.specs.declared.Line.{Line}
 use Rattle.epx_merge.specs.LogLines.{MeaningAt, placed_among, bad_lines_among}
-use Rattle.epx_merge.specs.Ledgers.{LedgerView, NotesLines}
-use Rattle.epx_merge.specs.RedundantLines.{IsNextBatch}
+use Rattle.epx_merge.specs.inner.Ledgers.{LedgerView, NotesLines}
+use Rattle.epx_merge.specs.inner.RedundantLines.{IsNextBatch}
 
 -- the lines that were read are noted and none of them is bad; the next batch is empty only if no
 -- line is left

@@ -6,7 +6,7 @@ use Rattle.epx_graph.specs.Graphs.{DependencyGraph, edges_of}
 use Rattle.epx_graph.specs.NodePaths.{NodeReaches}
 use Rattle.epx_order.specs.declared.doubtful_touches.DoubtfulTouch.{DoubtfulTouch}
 use Rattle.epx_order.specs.declared.touches.Touch.{Touch}
-use Rattle.epx_order.specs.ReadyMarks.{is_marked, AreReadyMarks}
+use Rattle.epx_order.specs.inner.ReadyMarks.{is_marked, AreReadyMarks}
 
 -- a touch of a key, by the number of the key and the node at the position of the touch in an order
 abbrev pub doubtful_touch : List ℕ → ℕ → Touch → DoubtfulTouch

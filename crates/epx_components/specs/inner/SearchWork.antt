@@ -1,6 +1,6 @@
 -- How much a search has left to do: it falls with each step.
 use Rattle.std.specs.Prelude.{ℕ, ◌+◌, ◌-◌, ◌*◌, List, [], ◌∷◌, length}
-use Rattle.epx_components.specs.SearchStates.{SearchState}
+use Rattle.epx_components.specs.inner.SearchStates.{SearchState}
 
 -- how many edges have not been looked at
 abbrev pub edges_left : List (List ℕ) → List ℕ → ℕ

@@ -2,7 +2,7 @@
 use Rattle.std.specs.Prelude.{◌≡◌, ◌↔◌, ℕ, ◌<◌, List, Bool, length, slice_get, slice_index, Some, IsTrue}
 use Rattle.epx_types.specs.declared.id.Id.{Id}
 use Rattle.epx_graph.specs.Graphs.{DependencyGraph}
-use Rattle.epx_order.specs.ReadyMarks.{is_marked}
+use Rattle.epx_order.specs.inner.ReadyMarks.{is_marked}
 
 -- the nodes of the first n instances of a list, and for each node whether it is one of them
 pub record AreListed (g : DependencyGraph) (ids : List Id) (n : ℕ) (nodes : List ℕ) (marks : List Bool) : Type 0 where

@@ -3,8 +3,8 @@ use Rattle.std.specs.Prelude.{◌≡◌, ◌≢◌, ℕ, ◌<◌, ◌≤◌, ◌
 use Rattle.epx_graph.specs.NodePaths.{NodeReaches}
 use Rattle.epx_components.specs.declared.visit.Visit.{Visit}
 use Rattle.epx_components.specs.declared.visit.Visit.TheVariants.{Unseen, Open, Closed}
-use Rattle.epx_components.specs.Starts.{AreRisingBelow, IsInGroupFrom}
-use Rattle.epx_components.specs.SearchStates.{SearchState, visit_of}
+use Rattle.epx_components.specs.inner.Starts.{AreRisingBelow, IsInGroupFrom}
+use Rattle.epx_components.specs.inner.SearchStates.{SearchState, visit_of}
 
 -- an edge that was looked at leads from a node in the first state to a node in the second
 abbrev pub MayLead : List ℕ → Visit → Visit → Type 0

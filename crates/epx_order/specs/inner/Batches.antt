@@ -6,9 +6,9 @@ use Rattle.epx_graph.specs.NodePaths.{NodeReaches}
 use Rattle.epx_components.specs.Partitions.{Parts, number_for}
 use Rattle.epx_order.specs.declared.batch.Batch.{Batch}
 use Rattle.epx_order.specs.declared.doubtful_touches.DoubtfulTouch.{DoubtfulTouch}
-use Rattle.epx_order.specs.DoubtfulKeys.{ShareKey}
-use Rattle.epx_order.specs.ReadyMarks.{is_marked}
-use Rattle.epx_order.specs.SourceBits.{has_bit}
+use Rattle.epx_order.specs.inner.DoubtfulKeys.{ShareKey}
+use Rattle.epx_order.specs.inner.ReadyMarks.{is_marked}
+use Rattle.epx_order.specs.inner.SourceBits.{has_bit}
 
 -- bit b of a component's word: source b reaches it
 abbrev pub AreReachedBy : DependencyGraph → Parts → List ℕ → List ℕ → Type 0

@@ -2,8 +2,8 @@
 use Rattle.std.specs.Prelude.{◌≡◌, ℕ, ◌<◌, List, Bool, length, slice_index, Contains, IsTrue}
 use Rattle.epx_types.specs.Instances.{Instance}
 use Rattle.epx_order.specs.declared.doubtful_touches.DoubtfulTouch.{DoubtfulTouch}
-use Rattle.epx_order.specs.NodeConflicts.{IsSettled, IsPartner}
-use Rattle.epx_order.specs.ReadyMarks.{is_marked}
+use Rattle.epx_order.specs.inner.NodeConflicts.{IsSettled, IsPartner}
+use Rattle.epx_order.specs.inner.ReadyMarks.{is_marked}
 
 -- all ready nodes that touch a doubtful key
 pub record AreSources (ready : List Bool) (touches : List DoubtfulTouch) (sources : List ℕ) : Type 0 where
