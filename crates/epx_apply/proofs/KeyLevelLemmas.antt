@@ -1,19 +1,26 @@
 -- The levels of a key when a command is added to the table.
-use Rattle.std.proofs.Common.{◌≡◌, ◌⊎◌, inl, inr, ℕ, suc, max, ◌<◌, ◌≤◌, Bool, true, List, [], ◌∷◌, ◌++◌, length, fold, if◌then◌else◌, Contains, refl, sym, ap, subst, ◌∙◌, true≢false, arith}
+use Rattle.std.proofs.Common.{◌≡◌, ◌⊎◌, inl, inr, ℕ, suc, max, ◌<◌, ◌≤◌, Bool, true, List, [], ◌∷◌}
+use Rattle.std.proofs.Common.{◌++◌, length, fold, if◌then◌else◌, Contains, refl, sym, ap, subst}
+use Rattle.std.proofs.Common.{◌∙◌, true≢false, arith}
 use Rattle.std.proofs.lemmas.Bool.{cases_lt, cases_eq, cases_Bool}
 use Rattle.std.proofs.lemmas.List.{length-set, get_or-set_same, get_or-set_other}
-use Rattle.std.proofs.lemmas.List.Elements.{Contains-append_left, Contains-push, Contains-push_cases}
+use Rattle.std.proofs.lemmas.List.Elements.{Contains-append_left, Contains-push}
+use Rattle.std.proofs.lemmas.List.Elements.{Contains-push_cases}
 use Rattle.epx_types.specs.declared.op.Op.{Op}
-use Rattle.epx_types.proofs.lists.MembershipLemmas.{Contains-nil, Contains-head, Contains-cons, Contains-cons_cases}
+use Rattle.epx_types.proofs.lists.MembershipLemmas.{Contains-nil, Contains-head, Contains-cons}
+use Rattle.epx_types.proofs.lists.MembershipLemmas.{Contains-cons_cases}
 use Rattle.epx_apply.specs.declared.key_table.KeyLevels.{KeyLevels}
 use Rattle.epx_apply.specs.declared.key_table.Access.{Access}
-use Rattle.epx_apply.specs.inner.KeyTables.{no_levels, key_levels_at, IsLevelAbove, level_for, raise}
+use Rattle.epx_apply.specs.inner.KeyTables.{no_levels, key_levels_at, IsLevelAbove, level_for}
+use Rattle.epx_apply.specs.inner.KeyTables.{raise}
 
 -- ---- one more command
 
-module _ (keys_of : List Op → List (List ℕ)) (done : List (List Op × ℕ)) (ops : List Op) (level : ℕ) (k : List ℕ) (n : ℕ) (is : IsLevelAbove keys_of done k n) where
+module _ (keys_of : List Op → List (List ℕ)) (done : List (List Op × ℕ)) (ops : List Op)
+    (level : ℕ) (k : List ℕ) (n : ℕ) (is : IsLevelAbove keys_of done k n) where
   -- a command that has the key
-  pub IsLevelAbove-raised : Contains (keys_of ops) k → IsLevelAbove keys_of (done ++ (ops, level) ∷ []) k (max n (suc level))
+  pub IsLevelAbove-raised : Contains (keys_of ops) k
+      → IsLevelAbove keys_of (done ++ (ops, level) ∷ []) k (max n (suc level))
   IsLevelAbove-raised has = record {
     above = λ o l c h. elim (Contains-push_cases done (ops, level) (o, l) c) [
       | inl old ↦ let low = is.above o l old h in omega arith
@@ -22,46 +29,67 @@ module _ (keys_of : List Op → List (List ℕ)) (done : List (List Op × ℕ)) 
     reached = elim (cases_lt (suc level) n) [
       | inl higher ↦ elim is.reached [
         | inl none ↦ absurd (omega arith)
-        | inr (o, l, c, h, e) ↦ inr (o, l, Contains-append_left done ((ops, level) ∷ []) (o, l) c, h, omega arith)
+        | inr (o, l, c, h, e) ↦ inr (
+          o,
+          l,
+          Contains-append_left done ((ops, level) ∷ []) (o, l) c,
+          h,
+          omega arith,
+        )
       ]
       | inr lower ↦ inr (ops, level, Contains-push done (ops, level), has, omega arith)
     ];
   }
 
   -- a command that does not have the key
-  pub IsLevelAbove-kept : ¬ Contains (keys_of ops) k → IsLevelAbove keys_of (done ++ (ops, level) ∷ []) k n
+  pub IsLevelAbove-kept : ¬ Contains (keys_of ops) k
+      → IsLevelAbove keys_of (done ++ (ops, level) ∷ []) k n
   IsLevelAbove-kept lacks = record {
     above = λ o l c h. elim (Contains-push_cases done (ops, level) (o, l) c) [
       | inl old ↦ is.above o l old h
-      | inr new ↦ absurd (lacks (subst (λ (e : List Op × ℕ). Contains (keys_of e.0) k) (sym new) h))
+      | inr new ↦ absurd
+          (lacks (subst (λ (e : List Op × ℕ). Contains (keys_of e.0) k) (sym new) h))
     ];
     reached = elim is.reached [
       | inl none ↦ inl none
-      | inr (o, l, c, h, e) ↦ inr (o, l, Contains-append_left done ((ops, level) ∷ []) (o, l) c, h, e)
+      | inr (o, l, c, h, e) ↦ inr (
+        o,
+        l,
+        Contains-append_left done ((ops, level) ∷ []) (o, l) c,
+        h,
+        e,
+      )
     ];
   }
 
 -- ---- the least level that all accesses allow
 
 module _ (key_levels : List KeyLevels) where
-  fold_from : (m : ℕ) (accesses : List Access) → m ≤ fold (λ level a. max level (level_for key_levels a)) m accesses
+  fold_from : (m : ℕ) (accesses : List Access)
+      → m ≤ fold (λ level a. max level (level_for key_levels a)) m accesses
   fold_from m [] = omega arith
-  fold_from m (a ∷ accesses) = let rest = fold_from (max m (level_for key_levels a)) accesses in omega arith
+  fold_from m (a ∷ accesses) = let rest = fold_from (max m (level_for key_levels a)) accesses in
+      omega arith
 
   -- it is at least the level for each access
-  pub fold_above : (m : ℕ) (accesses : List Access) (a : Access) → Contains accesses a → level_for key_levels a ≤ fold (λ level a. max level (level_for key_levels a)) m accesses
+  pub fold_above : (m : ℕ) (accesses : List Access) (a : Access) → Contains accesses a
+      → level_for key_levels a ≤ fold (λ level a. max level (level_for key_levels a)) m accesses
   fold_above m [] a h = absurd (Contains-nil a h)
   fold_above m (b ∷ accesses) a h =
       elim (Contains-cons_cases b accesses a h) [
         | inl same ↦
             let rest = fold_from (max m (level_for key_levels b)) accesses in
-            let at : level_for key_levels b ≡ level_for key_levels a = ap (level_for key_levels) same in
+            let at : level_for key_levels b ≡ level_for key_levels a =
+            ap (level_for key_levels) same in
             omega arith
         | inr later ↦ fold_above (max m (level_for key_levels b)) accesses a later
       ]
 
   -- it is the level for one of them, or the initial level
-  pub fold_reached : (m : ℕ) (accesses : List Access) → (fold (λ level a. max level (level_for key_levels a)) m accesses ≡ m) ⊎ ((a : Access) × Contains accesses a × (fold (λ level a. max level (level_for key_levels a)) m accesses ≡ level_for key_levels a))
+  pub fold_reached : (m : ℕ) (accesses : List Access)
+      → (fold (λ level a. max level (level_for key_levels a)) m accesses ≡ m)
+      ⊎ ((a : Access) × Contains accesses a
+      × (fold (λ level a. max level (level_for key_levels a)) m accesses ≡ level_for key_levels a))
   fold_reached m [] = inl refl
   fold_reached m (b ∷ accesses) =
       elim (fold_reached (max m (level_for key_levels b)) accesses) [
@@ -75,34 +103,63 @@ module _ (key_levels : List KeyLevels) where
 -- ---- raising the levels for one access after another
 
 module _ (n : ℕ) where
-  pub length_raised : (accesses : List Access) (key_levels : List KeyLevels) → length (fold (raise n) key_levels accesses) ≡ length key_levels
+  pub length_raised : (accesses : List Access) (key_levels : List KeyLevels)
+      → length (fold (raise n) key_levels accesses) ≡ length key_levels
   length_raised [] key_levels = refl
-  length_raised (a ∷ accesses) key_levels = length_raised accesses (raise n key_levels a) ∙ length-set key_levels a.key _
+  length_raised (a ∷ accesses) key_levels =
+      length_raised accesses (raise n key_levels a) ∙ length-set key_levels a.key _
 
   -- the new `touchers` of a key
-  pub touchers_raised : (accesses : List Access) (key_levels : List KeyLevels) (x : ℕ) → x < length key_levels →
-      (((w : Bool) × Contains accesses (record { key = x; writes = w })) × ((key_levels_at (fold (raise n) key_levels accesses) x).touchers ≡ max (key_levels_at key_levels x).touchers n))
-      ⊎ (((w : Bool) → ¬ Contains accesses (record { key = x; writes = w })) × ((key_levels_at (fold (raise n) key_levels accesses) x).touchers ≡ (key_levels_at key_levels x).touchers))
-  touchers_raised [] key_levels x low = inr (λ w h. Contains-nil (record { key = x; writes = w }) h, refl)
+  pub touchers_raised : (accesses : List Access) (key_levels : List KeyLevels) (x : ℕ)
+      → x < length key_levels →
+      (((w : Bool) × Contains accesses (record { key = x; writes = w }))
+      × ((key_levels_at (fold (raise n) key_levels accesses) x).touchers
+      ≡ max (key_levels_at key_levels x).touchers n))
+      ⊎ (((w : Bool) → ¬ Contains accesses (record { key = x; writes = w }))
+      × ((key_levels_at (fold (raise n) key_levels accesses) x).touchers
+      ≡ (key_levels_at key_levels x).touchers))
+  touchers_raised [] key_levels x low =
+      inr (λ w h. Contains-nil (record { key = x; writes = w }) h, refl)
   touchers_raised (a ∷ accesses) key_levels x low =
       let rest = touchers_raised accesses (raise n key_levels a) x (omega (
         arith,
         low,
         length-set key_levels a.key (record {
-          writers = if a.writes then max (key_levels_at key_levels a.key).writers n else (key_levels_at key_levels a.key).writers;
+          writers = if a.writes then max (key_levels_at key_levels a.key).writers n else
+              (key_levels_at key_levels a.key).writers;
           touchers = max (key_levels_at key_levels a.key).touchers n;
         }),
       )) in
       elim (cases_eq x a.key) [
         | inl same ↦
-            let now : (key_levels_at (raise n key_levels a) x).touchers ≡ max (key_levels_at key_levels x).touchers n =
-            subst (λ y. (key_levels_at (raise n key_levels a) y).touchers ≡ max (key_levels_at key_levels y).touchers n) (sym same) (ap (λ (b : KeyLevels). b.touchers) (get_or-set_same key_levels a.key _ no_levels (subst (λ y. y < length key_levels) same low))) in
-            let here : Contains (a ∷ accesses) (record { key = x; writes = a.writes }) = subst (λ y. Contains (a ∷ accesses) (record { key = y; writes = a.writes })) (sym same) (Contains-head a accesses) in
-            elim rest [ inl (later, e) ↦ inl ((a.writes, here), omega arith) | inr (none, e) ↦ inl ((a.writes, here), omega arith) ]
-        | inr other ↦
-            let kept : (key_levels_at (raise n key_levels a) x).touchers ≡ (key_levels_at key_levels x).touchers = ap (λ (b : KeyLevels). b.touchers) (get_or-set_other key_levels a.key x _ no_levels other) in
+            let now : (key_levels_at (raise n key_levels a) x).touchers
+            ≡ max (key_levels_at key_levels x).touchers n =
+            subst (λ y. (key_levels_at (raise n key_levels a) y).touchers
+            ≡ max (key_levels_at key_levels y).touchers n) (sym same)
+            (ap (λ (b : KeyLevels). b.touchers)
+            (get_or-set_same key_levels a.key _ no_levels
+            (subst (λ y. y < length key_levels) same low))) in
+            let here : Contains (a ∷ accesses) (record { key = x; writes = a.writes }) =
+            subst (λ y. Contains (a ∷ accesses) (record { key = y; writes = a.writes }))
+            (sym same) (Contains-head a accesses) in
             elim rest [
-              | inl (later, e) ↦ inl ((later.0, Contains-cons a accesses (record { key = x; writes = later.0 }) later.1), e ∙ ap (λ t. max t n) kept)
+              | inl (later, e) ↦ inl ((a.writes, here), omega arith)
+              | inr (none, e) ↦ inl ((a.writes, here), omega arith)
+            ]
+        | inr other ↦
+            let kept : (key_levels_at (raise n key_levels a) x).touchers
+            ≡ (key_levels_at key_levels x).touchers =
+            ap (λ (b : KeyLevels). b.touchers)
+            (get_or-set_other key_levels a.key x _ no_levels other) in
+            elim rest [
+              | inl (later, e) ↦ inl (
+                (
+                  later.0,
+                  Contains-cons a accesses (record { key = x; writes = later.0 })
+                      later.1,
+                ),
+                e ∙ ap (λ t. max t n) kept,
+              )
               | inr (none, e) ↦ inr (
                 λ w h. elim (Contains-cons_cases a accesses (record { key = x; writes = w }) h) [
                   | inl here ↦ other (sym (ap (λ (b : Access). b.key) here))
@@ -114,46 +171,84 @@ module _ (n : ℕ) where
       ]
 
   -- the new `writers` of a key
-  pub writers_raised : (accesses : List Access) (key_levels : List KeyLevels) (x : ℕ) → x < length key_levels →
-      (Contains accesses (record { key = x; writes = true }) × ((key_levels_at (fold (raise n) key_levels accesses) x).writers ≡ max (key_levels_at key_levels x).writers n))
-      ⊎ ((¬ Contains accesses (record { key = x; writes = true })) × ((key_levels_at (fold (raise n) key_levels accesses) x).writers ≡ (key_levels_at key_levels x).writers))
-  writers_raised [] key_levels x low = inr (λ h. Contains-nil (record { key = x; writes = true }) h, refl)
+  pub writers_raised : (accesses : List Access) (key_levels : List KeyLevels) (x : ℕ)
+      → x < length key_levels →
+      (Contains accesses (record { key = x; writes = true })
+      × ((key_levels_at (fold (raise n) key_levels accesses) x).writers
+      ≡ max (key_levels_at key_levels x).writers n))
+      ⊎ ((¬ Contains accesses (record { key = x; writes = true }))
+      × ((key_levels_at (fold (raise n) key_levels accesses) x).writers
+      ≡ (key_levels_at key_levels x).writers))
+  writers_raised [] key_levels x low =
+      inr (λ h. Contains-nil (record { key = x; writes = true }) h, refl)
   writers_raised (a ∷ accesses) key_levels x low =
       let rest = writers_raised accesses (raise n key_levels a) x (omega (
         arith,
         low,
         length-set key_levels a.key (record {
-          writers = if a.writes then max (key_levels_at key_levels a.key).writers n else (key_levels_at key_levels a.key).writers;
+          writers = if a.writes then max (key_levels_at key_levels a.key).writers n else
+              (key_levels_at key_levels a.key).writers;
           touchers = max (key_levels_at key_levels a.key).touchers n;
         }),
       )) in
       elim (cases_eq x a.key) [
         | inl same ↦
-            let now : (key_levels_at (raise n key_levels a) x).writers ≡ (if a.writes then max (key_levels_at key_levels x).writers n else (key_levels_at key_levels x).writers) =
-            subst (λ y. (key_levels_at (raise n key_levels a) y).writers ≡ (if a.writes then max (key_levels_at key_levels y).writers n else (key_levels_at key_levels y).writers)) (sym same) (ap (λ (b : KeyLevels). b.writers) (get_or-set_same key_levels a.key _ no_levels (subst (λ y. y < length key_levels) same low))) in
-            let here : Contains (a ∷ accesses) (record { key = x; writes = a.writes }) = subst (λ y. Contains (a ∷ accesses) (record { key = y; writes = a.writes })) (sym same) (Contains-head a accesses) in
+            let now : (key_levels_at (raise n key_levels a) x).writers
+            ≡ (if a.writes then max (key_levels_at key_levels x).writers n else
+            (key_levels_at key_levels x).writers) =
+            subst (λ y. (key_levels_at (raise n key_levels a) y).writers
+            ≡ (if a.writes then max (key_levels_at key_levels y).writers n else
+            (key_levels_at key_levels y).writers)) (sym same)
+            (ap (λ (b : KeyLevels). b.writers)
+            (get_or-set_same key_levels a.key _ no_levels
+            (subst (λ y. y < length key_levels) same low))) in
+            let here : Contains (a ∷ accesses) (record { key = x; writes = a.writes }) =
+            subst (λ y. Contains (a ∷ accesses) (record { key = y; writes = a.writes }))
+            (sym same) (Contains-head a accesses) in
             elim (cases_Bool a.writes) [
               | inl writes ↦
-                  let up : (key_levels_at (raise n key_levels a) x).writers ≡ max (key_levels_at key_levels x).writers n = now ∙ ap (λ b. if b then max (key_levels_at key_levels x).writers n else (key_levels_at key_levels x).writers) writes in
-                  let written : Contains (a ∷ accesses) (record { key = x; writes = true }) = subst (λ b. Contains (a ∷ accesses) (record { key = x; writes = b })) writes here in
-                  elim rest [ inl (later, e) ↦ inl (written, omega arith) | inr (none, e) ↦ inl (written, omega arith) ]
-              | inr reads ↦
-                  let kept : (key_levels_at (raise n key_levels a) x).writers ≡ (key_levels_at key_levels x).writers = now ∙ ap (λ b. if b then max (key_levels_at key_levels x).writers n else (key_levels_at key_levels x).writers) reads in
+                  let up : (key_levels_at (raise n key_levels a) x).writers
+                  ≡ max (key_levels_at key_levels x).writers n =
+                  now ∙ ap (λ b. if b then max (key_levels_at key_levels x).writers n else
+                  (key_levels_at key_levels x).writers) writes in
+                  let written : Contains (a ∷ accesses) (record { key = x; writes = true }) =
+                  subst (λ b. Contains (a ∷ accesses) (record { key = x; writes = b })) writes
+                  here in
                   elim rest [
-                    | inl (later, e) ↦ inl (Contains-cons a accesses (record { key = x; writes = true }) later, e ∙ ap (λ t. max t n) kept)
+                    | inl (later, e) ↦ inl (written, omega arith)
+                    | inr (none, e) ↦ inl (written, omega arith)
+                  ]
+              | inr reads ↦
+                  let kept : (key_levels_at (raise n key_levels a) x).writers
+                  ≡ (key_levels_at key_levels x).writers =
+                  now ∙ ap (λ b. if b then max (key_levels_at key_levels x).writers n else
+                  (key_levels_at key_levels x).writers) reads in
+                  elim rest [
+                    | inl (later, e) ↦ inl (
+                      Contains-cons a accesses (record { key = x; writes = true }) later,
+                      e ∙ ap (λ t. max t n) kept,
+                    )
                     | inr (none, e) ↦ inr (
-                      λ h. elim (Contains-cons_cases a accesses (record { key = x; writes = true }) h) [
-                        | inl at ↦ true≢false (sym (ap (λ (b : Access). b.writes) at) ∙ reads)
-                        | inr later ↦ none later
-                      ],
+                      λ h. elim (Contains-cons_cases a accesses (record { key = x; writes = true })
+                          h) [
+                            | inl at ↦ true≢false (sym (ap (λ (b : Access). b.writes) at) ∙ reads)
+                            | inr later ↦ none later
+                          ],
                       e ∙ kept,
                     )
                   ]
             ]
         | inr other ↦
-            let kept : (key_levels_at (raise n key_levels a) x).writers ≡ (key_levels_at key_levels x).writers = ap (λ (b : KeyLevels). b.writers) (get_or-set_other key_levels a.key x _ no_levels other) in
+            let kept : (key_levels_at (raise n key_levels a) x).writers
+            ≡ (key_levels_at key_levels x).writers =
+            ap (λ (b : KeyLevels). b.writers)
+            (get_or-set_other key_levels a.key x _ no_levels other) in
             elim rest [
-              | inl (later, e) ↦ inl (Contains-cons a accesses (record { key = x; writes = true }) later, e ∙ ap (λ t. max t n) kept)
+              | inl (later, e) ↦ inl (
+                Contains-cons a accesses (record { key = x; writes = true })
+                    later,
+                e ∙ ap (λ t. max t n) kept,
+              )
               | inr (none, e) ↦ inr (
                 λ h. elim (Contains-cons_cases a accesses (record { key = x; writes = true }) h) [
                   | inl here ↦ other (sym (ap (λ (b : Access). b.key) here))

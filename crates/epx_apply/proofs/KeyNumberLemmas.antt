@@ -1,5 +1,7 @@
 -- Keys that are numbered by an indexed set.
-use Rattle.std.proofs.Common.{◌≡◌, inl, inr, ℕ, ◌<◌, Bool, true, false, not, ◌||◌, List, [], ◌∷◌, ◌++◌, length, map, get_or, Contains, Some, if◌then◌else◌, slice_get, refl, sym, ap, subst, ◌∙◌, true≢false, Bor}
+use Rattle.std.proofs.Common.{◌≡◌, inl, inr, ℕ, ◌<◌, Bool, true, false, not, ◌||◌, List, [], ◌∷◌}
+use Rattle.std.proofs.Common.{◌++◌, length, map, get_or, Contains, Some, if◌then◌else◌, slice_get}
+use Rattle.std.proofs.Common.{refl, sym, ap, subst, ◌∙◌, true≢false, Bor}
 use Rattle.std.specs.Str.{bytes_eq}
 use Rattle.std.specs.List.{list_any}
 use Rattle.std.proofs.lemmas.Bool.{cases_Bool}
@@ -27,40 +29,72 @@ not_is false true e = refl
 not_is false false e = absurd (true≢false e)
 
 -- a key that equals no key of the set is not in it
-absent : (k : Bor (List ℕ)) (ks : List (Bor (List ℕ))) → list_any (same_text k) ks ≡ false → ¬ Contains (texts_of ks) k.now
+absent : (k : Bor (List ℕ)) (ks : List (Bor (List ℕ))) → list_any (same_text k) ks ≡ false
+    → ¬ Contains (texts_of ks) k.now
 absent k [] none h = Contains-nil k.now h
 absent k (j ∷ ks) none h =
     elim (cases_Bool (bytes_eq k.now j.now)) [
       | inl same ↦ true≢false (sym (ap (λ b. b || list_any (same_text k) ks) same) ∙ none)
       | inr other ↦ elim (Contains-cons_cases j.now (texts_of ks) k.now h) [
         | inl here ↦ true≢false (sym ((bytes_eq-Decides k.now j.now).1 (sym here)) ∙ other)
-        | inr later ↦ absent k ks (sym (ap (λ b. b || list_any (same_text k) ks) other) ∙ none) later
+        | inr later ↦ absent k ks (sym (ap (λ b. b || list_any (same_text k) ks) other) ∙ none)
+            later
       ]
     ]
 
-at_number : {X : Type 0} (xs : List X) (i : ℕ) (x d : X) → slice_get xs i ≡ Some x → (i < length xs) × (get_or xs i d ≡ x)
+at_number : {X : Type 0} (xs : List X) (i : ℕ) (x d : X) → slice_get xs i ≡ Some x
+    → (i < length xs) × (get_or xs i d ≡ x)
 at_number xs i x d e = (slice_get_within xs i x e, get_or_from_slice_get xs i x d e)
 
-module _ (done : List (List Op × ℕ)) (current : List (List ℕ × Bool)) (ks ks' : List (Bor (List ℕ))) (key_levels : List KeyLevels) (accesses : List Access) (k : Bor (List ℕ)) (key : List ℕ) (w : Bool) (number : ℕ) (text : k.now ≡ key)
-    (is : IsKeyTableOf done current (record { keys = texts_of ks; key_levels = key_levels; accesses = accesses }))
+module _ (done : List (List Op × ℕ)) (current : List (List ℕ × Bool))
+    (ks ks' : List (Bor (List ℕ))) (key_levels : List KeyLevels) (accesses : List Access)
+    (k : Bor (List ℕ)) (key : List ℕ) (w : Bool) (number : ℕ) (text : k.now ≡ key)
+    (is : IsKeyTableOf done current
+    (record { keys = texts_of ks; key_levels = key_levels; accesses = accesses }))
     (keys : ks' ≡ (if list_any (same_text k) ks then ks else ks ++ k ∷ []))
-    (stored : (x : Bor (List ℕ)) × (slice_get ks' number ≡ Some x) × (bytes_eq k.now x.now ≡ true)) where
+    (stored : (x : Bor (List ℕ)) × (slice_get ks' number ≡ Some x)
+    × (bytes_eq k.now x.now ≡ true)) where
   at : (number < length (texts_of ks')) × (key_at (texts_of ks') number ≡ key)
   at =
-      let read = at_number (texts_of ks') number stored.0.now [] (slice_get-map (λ (j : Bor (List ℕ)). j.now) ks' number stored.0 stored.1) in
+      let read = at_number (texts_of ks') number stored.0.now []
+      (slice_get-map (λ (j : Bor (List ℕ)). j.now) ks' number stored.0 stored.1) in
       (read.0, read.1 ∙ sym ((bytes_eq-Decides k.now stored.0.now).0 stored.2) ∙ text)
 
   pub current_new : list_any (same_text k) ks ≡ false
-      → IsKeyTableOf done (current ++ (key, w) ∷ []) (record { keys = texts_of ks'; key_levels = key_levels ++ no_levels ∷ []; accesses = accesses ++ record { key = number; writes = w } ∷ [] })
+      → IsKeyTableOf done (current ++ (key, w) ∷ [])
+      (record {
+        keys = texts_of ks';
+        key_levels = key_levels ++ no_levels ∷ [];
+        accesses = accesses ++ record { key = number; writes = w } ∷ [];
+      })
   current_new none =
-      let pushed : texts_of ks' ≡ texts_of ks ++ k.now ∷ [] = ap texts_of (keys ∙ ap (λ b. if b then ks else ks ++ k ∷ []) none) ∙ map-append (λ (j : Bor (List ℕ)). j.now) ks (k ∷ []) in
-      let grown = grow done current (record { keys = texts_of ks; key_levels = key_levels; accesses = accesses }) is k.now (absent k ks none) in
-      access_known done current (record { keys = texts_of ks'; key_levels = key_levels ++ no_levels ∷ []; accesses = accesses })
-      (subst (λ qs. IsKeyTableOf done current (record { keys = qs; key_levels = key_levels ++ no_levels ∷ []; accesses = accesses })) (sym pushed) grown) number key w at.0 at.1
+      let pushed : texts_of ks' ≡ texts_of ks ++ k.now ∷ [] =
+      ap texts_of (keys ∙ ap (λ b. if b then ks else ks ++ k ∷ []) none)
+      ∙ map-append (λ (j : Bor (List ℕ)). j.now) ks (k ∷ []) in
+      let grown = grow done current
+      (record { keys = texts_of ks; key_levels = key_levels; accesses = accesses }) is k.now
+      (absent k ks none) in
+      access_known done current
+      (record {
+        keys = texts_of ks';
+        key_levels = key_levels ++ no_levels ∷ [];
+        accesses = accesses;
+      })
+      (subst (λ qs. IsKeyTableOf done current
+      (record { keys = qs; key_levels = key_levels ++ no_levels ∷ []; accesses = accesses }))
+      (sym pushed) grown) number key w at.0 at.1
 
   pub current_known : list_any (same_text k) ks ≡ true
-      → IsKeyTableOf done (current ++ (key, w) ∷ []) (record { keys = texts_of ks'; key_levels = key_levels; accesses = accesses ++ record { key = number; writes = w } ∷ [] })
+      → IsKeyTableOf done (current ++ (key, w) ∷ [])
+      (record {
+        keys = texts_of ks';
+        key_levels = key_levels;
+        accesses = accesses ++ record { key = number; writes = w } ∷ [];
+      })
   current_known found =
       let kept : ks' ≡ ks = keys ∙ ap (λ b. if b then ks else ks ++ k ∷ []) found in
-      access_known done current (record { keys = texts_of ks'; key_levels = key_levels; accesses = accesses })
-      (subst (λ qs. IsKeyTableOf done current (record { keys = texts_of qs; key_levels = key_levels; accesses = accesses })) (sym kept) is) number key w at.0 at.1
+      access_known done current
+      (record { keys = texts_of ks'; key_levels = key_levels; accesses = accesses })
+      (subst (λ qs. IsKeyTableOf done current
+      (record { keys = texts_of qs; key_levels = key_levels; accesses = accesses })) (sym kept)
+      is) number key w at.0 at.1

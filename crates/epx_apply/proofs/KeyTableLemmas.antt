@@ -1,36 +1,57 @@
 -- Tables when keys and commands are added.
-use Rattle.std.proofs.Common.{◌≡◌, ◌⊎◌, inl, inr, ℕ, suc, max, ◌+◌, ◌<◌, ◌≤◌, Bool, true, List, [], ◌∷◌, ◌++◌, length, flat_map, get_or, take, fold, if◌then◌else◌, Contains, All, refl, sym, ap, ap₂, subst, ◌∙◌, arith, append-nil, append_assoc}
+use Rattle.std.proofs.Common.{◌≡◌, ◌⊎◌, inl, inr, ℕ, suc, max, ◌+◌, ◌<◌, ◌≤◌, Bool, true, List, []}
+use Rattle.std.proofs.Common.{◌∷◌, ◌++◌, length, flat_map, get_or, take, fold, if◌then◌else◌}
+use Rattle.std.proofs.Common.{Contains, All, refl, sym, ap, ap₂, subst, ◌∙◌, arith, append-nil}
+use Rattle.std.proofs.Common.{append_assoc}
 use Rattle.std.proofs.lemmas.Bool.{cases_lt, cases_Bool}
-use Rattle.std.proofs.lemmas.List.{map-append, length_push, get_or_append_left, get_or_push, take_all, take_more, flat_map_more}
-use Rattle.std.proofs.lemmas.List.Elements.{Contains-get_or, Contains-append_left, Contains-push_cases}
+use Rattle.std.proofs.lemmas.List.{map-append, length_push, get_or_append_left, get_or_push}
+use Rattle.std.proofs.lemmas.List.{take_all, take_more, flat_map_more}
+use Rattle.std.proofs.lemmas.List.Elements.{Contains-get_or, Contains-append_left}
+use Rattle.std.proofs.lemmas.List.Elements.{Contains-push_cases}
 use Rattle.epx_types.specs.declared.op.Op.{Op}
 use Rattle.epx_types.specs.Conflicts.{Conflict}
-use Rattle.epx_types.proofs.lists.MembershipLemmas.{Contains-nil, Contains-map, Contains-from_map, map-agree}
+use Rattle.epx_types.proofs.lists.MembershipLemmas.{Contains-nil, Contains-map, Contains-from_map}
+use Rattle.epx_types.proofs.lists.MembershipLemmas.{map-agree}
 use Rattle.epx_types.proofs.keys.KeyListLemmas.{Contains-rising_keys, Contains-from_rising_keys}
 use Rattle.epx_types.specs.CommandKeys.{touched_by, written_by}
 use Rattle.epx_apply.specs.declared.key_table.KeyLevels.{KeyLevels}
 use Rattle.epx_apply.specs.declared.key_table.Access.{Access}
-use Rattle.epx_apply.specs.inner.KeyTables.{Table, no_levels, key_levels_at, key_at, accesses_of, touched_in, written_in, IsLevelAbove, IsKeyTableOf, AddsAccesses, level_for, raise, IsNextLevel}
-use Rattle.epx_apply.proofs.AccessLemmas.{current-from_touched, touched-from_accesses, current-from_written, written-from_accesses, touched-from_written}
-use Rattle.epx_apply.proofs.KeyLevelLemmas.{IsLevelAbove-raised, IsLevelAbove-kept, fold_above, fold_reached, length_raised, touchers_raised, writers_raised}
+use Rattle.epx_apply.specs.inner.KeyTables.{Table, no_levels, key_levels_at, key_at, accesses_of}
+use Rattle.epx_apply.specs.inner.KeyTables.{touched_in, written_in, IsLevelAbove, IsKeyTableOf}
+use Rattle.epx_apply.specs.inner.KeyTables.{AddsAccesses, level_for, raise, IsNextLevel}
+use Rattle.epx_apply.proofs.AccessLemmas.{current-from_touched, touched-from_accesses}
+use Rattle.epx_apply.proofs.AccessLemmas.{current-from_written, written-from_accesses}
+use Rattle.epx_apply.proofs.AccessLemmas.{touched-from_written}
+use Rattle.epx_apply.proofs.KeyLevelLemmas.{IsLevelAbove-raised, IsLevelAbove-kept, fold_above}
+use Rattle.epx_apply.proofs.KeyLevelLemmas.{fold_reached, length_raised, touchers_raised}
+use Rattle.epx_apply.proofs.KeyLevelLemmas.{writers_raised}
 
 -- ---- adding a key
 
 pub AddsAccesses-nil : (t : Table) → AddsAccesses [] t t
-AddsAccesses-nil t done current is = let P : List (List ℕ × Bool) → Type 0 = λ l. IsKeyTableOf done l t in subst P (sym (append-nil current)) is
+AddsAccesses-nil t done current is = let P : List (List ℕ × Bool)
+    → Type 0 = λ l. IsKeyTableOf done l t in subst P (sym (append-nil current)) is
 
-pub AddsAccesses-append : (xs ys : List (List ℕ × Bool)) (a b c : Table) → AddsAccesses xs a b → AddsAccesses ys b c → AddsAccesses (xs ++ ys) a c
+pub AddsAccesses-append : (xs ys : List (List ℕ × Bool)) (a b c : Table) → AddsAccesses xs a b
+    → AddsAccesses ys b c → AddsAccesses (xs ++ ys) a c
 AddsAccesses-append xs ys a b c first second done current is =
-    let P : List (List ℕ × Bool) → Type 0 = λ l. IsKeyTableOf done l c in subst P (append_assoc current xs ys) (second done (current ++ xs) (first done current is))
+    let P : List (List ℕ × Bool) → Type 0 = λ l. IsKeyTableOf done l c in
+    subst P (append_assoc current xs ys) (second done (current ++ xs) (first done current is))
 
 -- the keys of the accesses of a table
 abbrev current_at : List (List ℕ) → Access → List ℕ × Bool
 current_at keys a = (key_at keys a.key, a.writes)
 
-module _ (done : List (List Op × ℕ)) (current : List (List ℕ × Bool)) (t : Table) (is : IsKeyTableOf done current t) where
+module _ (done : List (List Op × ℕ)) (current : List (List ℕ × Bool)) (t : Table)
+    (is : IsKeyTableOf done current t) where
   -- a key that is in the table
   pub access_known : (x : ℕ) (k : List ℕ) (w : Bool) → x < length t.keys → key_at t.keys x ≡ k
-      → IsKeyTableOf done (current ++ (k, w) ∷ []) (record { keys = t.keys; key_levels = t.key_levels; accesses = t.accesses ++ record { key = x; writes = w } ∷ [] })
+      → IsKeyTableOf done (current ++ (k, w) ∷ [])
+      (record {
+        keys = t.keys;
+        key_levels = t.key_levels;
+        accesses = t.accesses ++ record { key = x; writes = w } ∷ [];
+      })
   access_known x k w low at = record {
     small = is.small;
     known = is.known;
@@ -38,7 +59,8 @@ module _ (done : List (List Op × ℕ)) (current : List (List ℕ × Bool)) (t :
     key_levels = is.key_levels;
     touchers = is.touchers;
     writers = is.writers;
-    current_keys = map-append (current_at t.keys) t.accesses (record { key = x; writes = w } ∷ []) ∙ ap₂ (λ (l : List (List ℕ × Bool)) (q : List ℕ). l ++ (q, w) ∷ []) is.current_keys at;
+    current_keys = map-append (current_at t.keys) t.accesses (record { key = x; writes = w } ∷ [])
+        ∙ ap₂ (λ (l : List (List ℕ × Bool)) (q : List ℕ). l ++ (q, w) ∷ []) is.current_keys at;
     within = λ a h. elim (Contains-push_cases t.accesses (record { key = x; writes = w }) a h) [
       | inl old ↦ is.within a old
       | inr new ↦ subst (λ (b : Access). b.key < length t.keys) new low
@@ -46,21 +68,34 @@ module _ (done : List (List Op × ℕ)) (current : List (List ℕ × Bool)) (t :
   }
 
   -- a key that is new to the table
-  pub grow : (k : List ℕ) → ¬ Contains t.keys k → IsKeyTableOf done current (record { keys = t.keys ++ k ∷ []; key_levels = t.key_levels ++ no_levels ∷ []; accesses = t.accesses })
+  pub grow : (k : List ℕ) → ¬ Contains t.keys k
+      → IsKeyTableOf done current
+      (record {
+        keys = t.keys ++ k ∷ [];
+        key_levels = t.key_levels ++ no_levels ∷ [];
+        accesses = t.accesses;
+      })
   grow k fresh = record {
     small = is.small;
     known = λ ops l q c h. Contains-append_left t.keys (k ∷ []) q (is.known ops l q c h);
     no_repeats = no_repeats;
-    key_levels = length_push t.key_levels no_levels ∙ ap (λ n. n + 1) is.key_levels ∙ sym (length_push t.keys k);
+    key_levels = length_push t.key_levels no_levels ∙ ap (λ n. n + 1) is.key_levels
+        ∙ sym (length_push t.keys k);
     touchers = λ x low. elim (place x low) [
-      | inl (old, key, at_key) ↦ at touched_in x key at_key (λ (b : KeyLevels). b.touchers) (is.touchers x old)
-      | inr (key, at_key) ↦ none touched_in x key (λ (b : KeyLevels). b.touchers) refl at_key (λ ops h. h)
+      | inl (old, key, at_key) ↦ at touched_in x key at_key (λ (b : KeyLevels). b.touchers)
+          (is.touchers x old)
+      | inr (key, at_key) ↦ none touched_in x key (λ (b : KeyLevels). b.touchers) refl at_key
+          (λ ops h. h)
     ];
     writers = λ x low. elim (place x low) [
-      | inl (old, key, at_key) ↦ at written_in x key at_key (λ (b : KeyLevels). b.writers) (is.writers x old)
-      | inr (key, at_key) ↦ none written_in x key (λ (b : KeyLevels). b.writers) refl at_key (λ ops h. touched-from_written ops k h)
+      | inl (old, key, at_key) ↦ at written_in x key at_key (λ (b : KeyLevels). b.writers)
+          (is.writers x old)
+      | inr (key, at_key) ↦ none written_in x key (λ (b : KeyLevels). b.writers) refl at_key
+          (λ ops h. touched-from_written ops k h)
     ];
-    current_keys = map-agree (current_at (t.keys ++ k ∷ [])) (current_at t.keys) t.accesses (λ a h. ap (λ (q : List ℕ). (q, a.writes)) (get_or_append_left t.keys (k ∷ []) [] a.key (is.within a h))) ∙ is.current_keys;
+    current_keys = map-agree (current_at (t.keys ++ k ∷ [])) (current_at t.keys) t.accesses
+        (λ a h. ap (λ (q : List ℕ). (q, a.writes))
+        (get_or_append_left t.keys (k ∷ []) [] a.key (is.within a h))) ∙ is.current_keys;
     within = λ a h. omega (arith, is.within a h, length_push t.keys k);
   } where
     keys' : List (List ℕ)
@@ -69,121 +104,218 @@ module _ (done : List (List Op × ℕ)) (current : List (List ℕ × Bool)) (t :
     key_levels' : List KeyLevels
     key_levels' = t.key_levels ++ no_levels ∷ []
 
-    place : (x : ℕ) → x < length (t.keys ++ k ∷ []) → ((x < length t.keys) × (key_at (t.keys ++ k ∷ []) x ≡ key_at t.keys x) × (key_levels_at (t.key_levels ++ no_levels ∷ []) x ≡ key_levels_at t.key_levels x))
-        ⊎ ((key_at (t.keys ++ k ∷ []) x ≡ k) × (key_levels_at (t.key_levels ++ no_levels ∷ []) x ≡ no_levels))
+    place : (x : ℕ) → x < length (t.keys ++ k ∷ [])
+        → ((x < length t.keys) × (key_at (t.keys ++ k ∷ []) x ≡ key_at t.keys x)
+        × (key_levels_at (t.key_levels ++ no_levels ∷ []) x ≡ key_levels_at t.key_levels x))
+        ⊎ ((key_at (t.keys ++ k ∷ []) x ≡ k)
+        × (key_levels_at (t.key_levels ++ no_levels ∷ []) x ≡ no_levels))
     place x low =
         elim (cases_lt x (length t.keys)) [
-          | inl old ↦ inl (old, get_or_append_left t.keys (k ∷ []) [] x old, get_or_append_left t.key_levels (no_levels ∷ []) no_levels x (omega (arith, is.key_levels)))
+          | inl old ↦ inl (
+            old,
+            get_or_append_left t.keys (k ∷ []) [] x old,
+            get_or_append_left t.key_levels (no_levels ∷ []) no_levels x
+                (omega (arith, is.key_levels)),
+          )
           | inr new ↦
               let same : length t.keys ≡ x = omega (arith, length_push t.keys k) in
-              inr (get_or_push t.keys k [] x same, get_or_push t.key_levels no_levels no_levels x (is.key_levels ∙ same))
+              inr (
+                get_or_push t.keys k [] x same,
+                get_or_push t.key_levels no_levels no_levels x (is.key_levels ∙ same),
+              )
         ]
 
-    at : (keys_of : List Op → List (List ℕ)) (x : ℕ) → key_at (t.keys ++ k ∷ []) x ≡ key_at t.keys x → key_levels_at (t.key_levels ++ no_levels ∷ []) x ≡ key_levels_at t.key_levels x → (side : KeyLevels → ℕ) → IsLevelAbove keys_of done (key_at t.keys x) (side (key_levels_at t.key_levels x))
-        → IsLevelAbove keys_of done (key_at (t.keys ++ k ∷ []) x) (side (key_levels_at (t.key_levels ++ no_levels ∷ []) x))
+    at : (keys_of : List Op → List (List ℕ)) (x : ℕ)
+        → key_at (t.keys ++ k ∷ []) x ≡ key_at t.keys x
+        → key_levels_at (t.key_levels ++ no_levels ∷ []) x ≡ key_levels_at t.key_levels x
+        → (side : KeyLevels → ℕ) → IsLevelAbove keys_of done (key_at t.keys x)
+        (side (key_levels_at t.key_levels x))
+        → IsLevelAbove keys_of done (key_at (t.keys ++ k ∷ []) x)
+        (side (key_levels_at (t.key_levels ++ no_levels ∷ []) x))
     at keys_of x key at_key side h =
-        subst (λ q. IsLevelAbove keys_of done q (side (key_levels_at (t.key_levels ++ no_levels ∷ []) x))) (sym key) (subst (λ b. IsLevelAbove keys_of done (key_at t.keys x) (side b)) (sym at_key) h)
+        subst (λ q. IsLevelAbove keys_of done q
+        (side (key_levels_at (t.key_levels ++ no_levels ∷ []) x))) (sym key)
+        (subst (λ b. IsLevelAbove keys_of done (key_at t.keys x) (side b)) (sym at_key) h)
 
     -- no command has the key
-    none : (keys_of : List Op → List (List ℕ)) (x : ℕ) → key_at (t.keys ++ k ∷ []) x ≡ k → (side : KeyLevels → ℕ) → side no_levels ≡ 0 → key_levels_at (t.key_levels ++ no_levels ∷ []) x ≡ no_levels → ((ops : List Op) → Contains (keys_of ops) k → Contains (touched_in ops) k)
-        → IsLevelAbove keys_of done (key_at (t.keys ++ k ∷ []) x) (side (key_levels_at (t.key_levels ++ no_levels ∷ []) x))
+    none : (keys_of : List Op → List (List ℕ)) (x : ℕ) → key_at (t.keys ++ k ∷ []) x ≡ k
+        → (side : KeyLevels → ℕ) → side no_levels ≡ 0
+        → key_levels_at (t.key_levels ++ no_levels ∷ []) x ≡ no_levels
+        → ((ops : List Op) → Contains (keys_of ops) k → Contains (touched_in ops) k)
+        → IsLevelAbove keys_of done (key_at (t.keys ++ k ∷ []) x)
+        (side (key_levels_at (t.key_levels ++ no_levels ∷ []) x))
     none keys_of x key side low at_key touch =
-        subst (λ q. IsLevelAbove keys_of done q (side (key_levels_at (t.key_levels ++ no_levels ∷ []) x))) (sym key) (record {
+        subst (λ q. IsLevelAbove keys_of done q
+        (side (key_levels_at (t.key_levels ++ no_levels ∷ []) x))) (sym key) (record {
           above = λ ops l c h. absurd (fresh (is.known ops l k c (touch ops h)));
           reached = inl (ap side at_key ∙ low);
         })
 
-    no_repeats : (x y : ℕ) → x < length (t.keys ++ k ∷ []) → y < length (t.keys ++ k ∷ []) → key_at (t.keys ++ k ∷ []) x ≡ key_at (t.keys ++ k ∷ []) y → x ≡ y
+    no_repeats : (x y : ℕ) → x < length (t.keys ++ k ∷ []) → y < length (t.keys ++ k ∷ [])
+        → key_at (t.keys ++ k ∷ []) x ≡ key_at (t.keys ++ k ∷ []) y → x ≡ y
     no_repeats x y low low' same =
         elim (cases_lt x (length t.keys)) [
           | inl here ↦ elim (cases_lt y (length t.keys)) [
-            | inl there ↦ is.no_repeats x y here there (sym (get_or_append_left t.keys (k ∷ []) [] x here) ∙ same ∙ get_or_append_left t.keys (k ∷ []) [] y there)
+            | inl there ↦ is.no_repeats x y here there
+                (sym (get_or_append_left t.keys (k ∷ []) [] x here) ∙ same
+                ∙ get_or_append_left t.keys (k ∷ []) [] y there)
             | inr last ↦
                 let at_last : length t.keys ≡ y = omega (arith, length_push t.keys k) in
-                let is_k : key_at t.keys x ≡ k = sym (get_or_append_left t.keys (k ∷ []) [] x here) ∙ same ∙ get_or_push t.keys k [] y at_last in
+                let is_k : key_at t.keys x ≡ k = sym (get_or_append_left t.keys (k ∷ []) [] x here)
+                ∙ same ∙ get_or_push t.keys k [] y at_last in
                 absurd (fresh (subst (Contains t.keys) is_k (Contains-get_or t.keys x [] here)))
           ]
           | inr last ↦
               let at_last : length t.keys ≡ x = omega (arith, length_push t.keys k) in
               elim (cases_lt y (length t.keys)) [
                 | inl there ↦
-                    let is_k : key_at t.keys y ≡ k = sym (get_or_append_left t.keys (k ∷ []) [] y there) ∙ sym same ∙ get_or_push t.keys k [] x at_last in
-                    absurd (fresh (subst (Contains t.keys) is_k (Contains-get_or t.keys y [] there)))
+                    let is_k : key_at t.keys y ≡ k =
+                    sym (get_or_append_left t.keys (k ∷ []) [] y there) ∙ sym same
+                    ∙ get_or_push t.keys k [] x at_last in
+                    absurd (fresh (subst (Contains t.keys) is_k
+                    (Contains-get_or t.keys y [] there)))
                 | inr too ↦ omega (arith, length_push t.keys k)
               ]
         ]
 
 -- ---- adding a command
 
-module _ (done : List (List Op × ℕ)) (ops : List Op) (t : Table) (is : IsKeyTableOf done (flat_map accesses_of ops) t) where
+module _ (done : List (List Op × ℕ)) (ops : List Op) (t : Table)
+    (is : IsKeyTableOf done (flat_map accesses_of ops) t) where
   level : ℕ
   level = fold (λ level a. max level (level_for t.key_levels a)) 0 t.accesses
 
   -- the access of a key of the command
-  access_of : (k : List ℕ) (w : Bool) → Contains {X = List ℕ × Bool} (flat_map accesses_of ops) (k, w) → (a : Access) × Contains t.accesses a × (key_at t.keys a.key ≡ k) × (a.writes ≡ w)
+  access_of : (k : List ℕ) (w : Bool)
+      → Contains {X = List ℕ × Bool} (flat_map accesses_of ops) (k, w)
+      → (a : Access) × Contains t.accesses a × (key_at t.keys a.key ≡ k) × (a.writes ≡ w)
   access_of k w h =
-      let from = Contains-from_map (current_at t.keys) t.accesses (k, w) (subst (λ (l : List (List ℕ × Bool)). Contains {X = List ℕ × Bool} l (k, w)) (sym is.current_keys) h) in
-      (from.0, from.1, ap (λ (a : List ℕ × Bool). a.0) from.2, ap (λ (a : List ℕ × Bool). a.1) from.2)
+      let from = Contains-from_map (current_at t.keys) t.accesses (k, w)
+      (subst (λ (l : List (List ℕ × Bool)). Contains {X = List ℕ × Bool} l (k, w))
+      (sym is.current_keys) h) in (
+        from.0,
+        from.1,
+        ap (λ (a : List ℕ × Bool). a.0) from.2,
+        ap (λ (a : List ℕ × Bool). a.1) from.2,
+      )
 
-  current_of : (a : Access) → Contains t.accesses a → Contains {X = List ℕ × Bool} (flat_map accesses_of ops) (key_at t.keys a.key, a.writes)
-  current_of a h = subst (λ (l : List (List ℕ × Bool)). Contains {X = List ℕ × Bool} l (key_at t.keys a.key, a.writes)) is.current_keys (Contains-map (current_at t.keys) t.accesses a h)
+  current_of : (a : Access) → Contains t.accesses a
+      → Contains {X = List ℕ × Bool} (flat_map accesses_of ops) (key_at t.keys a.key, a.writes)
+  current_of a h =
+      subst (λ (l : List (List ℕ × Bool)). Contains {X = List ℕ × Bool} l
+      (key_at t.keys a.key, a.writes)) is.current_keys
+      (Contains-map (current_at t.keys) t.accesses a h)
 
   -- the access with the number of a key
-  access_at : (x : ℕ) → x < length t.keys → (w : Bool) → Contains {X = List ℕ × Bool} (flat_map accesses_of ops) (key_at t.keys x, w) → Contains t.accesses (record { key = x; writes = w })
+  access_at : (x : ℕ) → x < length t.keys → (w : Bool)
+      → Contains {X = List ℕ × Bool} (flat_map accesses_of ops) (key_at t.keys x, w)
+      → Contains t.accesses (record { key = x; writes = w })
   access_at x low w h =
       let a = access_of (key_at t.keys x) w h in
       let same : a.0.key ≡ x = is.no_repeats a.0.key x (is.within a.0 a.1) low a.2 in
-      subst (λ y. Contains t.accesses (record { key = y; writes = w })) same (subst (λ v. Contains t.accesses (record { key = a.0.key; writes = v })) a.3 a.1)
+      subst (λ y. Contains t.accesses (record { key = y; writes = w })) same
+      (subst (λ v. Contains t.accesses (record { key = a.0.key; writes = v })) a.3 a.1)
 
   -- the level for an access of a key that an earlier command writes, or for a write of a key that
   -- it touches, is above that command
-  above_written : (a : Access) → Contains t.accesses a → (earlier : List Op) (l : ℕ) → Contains done (earlier, l) → Contains (written_in earlier) (key_at t.keys a.key) → l < level_for t.key_levels a
+  above_written : (a : Access) → Contains t.accesses a → (earlier : List Op) (l : ℕ)
+      → Contains done (earlier, l) → Contains (written_in earlier) (key_at t.keys a.key)
+      → l < level_for t.key_levels a
   above_written a c earlier l d h =
       elim (cases_Bool a.writes) [
-        | inl writes ↦ let low = (is.touchers a.key (is.within a c)).above earlier l d (touched-from_written earlier (key_at t.keys a.key) h) in rw writes low
-        | inr reads ↦ let low = (is.writers a.key (is.within a c)).above earlier l d h in rw reads low
+        | inl writes ↦ let low = (is.touchers a.key (is.within a c)).above earlier l d
+            (touched-from_written earlier (key_at t.keys a.key) h) in rw writes low
+        | inr reads ↦ let low = (is.writers a.key (is.within a c)).above earlier l d h in
+            rw reads low
       ]
 
-  above_touched : (a : Access) → Contains t.accesses a → a.writes ≡ true → (earlier : List Op) (l : ℕ) → Contains done (earlier, l) → Contains (touched_in earlier) (key_at t.keys a.key) → l < level_for t.key_levels a
-  above_touched a c writes earlier l d h = let low = (is.touchers a.key (is.within a c)).above earlier l d h in rw writes low
+  above_touched : (a : Access) → Contains t.accesses a → a.writes ≡ true
+      → (earlier : List Op) (l : ℕ) → Contains done (earlier, l)
+      → Contains (touched_in earlier) (key_at t.keys a.key) → l < level_for t.key_levels a
+  above_touched a c writes earlier l d h = let low =
+      (is.touchers a.key (is.within a c)).above earlier l d h in rw writes low
 
-  above : (earlier : List Op) (l : ℕ) → Contains done (earlier, l) → Conflict earlier ops → l < fold (λ level a. max level (level_for t.key_levels a)) 0 t.accesses
+  above : (earlier : List Op) (l : ℕ) → Contains done (earlier, l) → Conflict earlier ops
+      → l < fold (λ level a. max level (level_for t.key_levels a)) 0 t.accesses
   above earlier l d (k, either) =
       elim either [
         | inl (w, r) ↦
-            let adds_access = current-from_touched ops k (Contains-from_rising_keys (flat_map touched_by ops) k r) in
+            let adds_access = current-from_touched ops k
+            (Contains-from_rising_keys (flat_map touched_by ops) k r) in
             let a = access_of k adds_access.0 adds_access.1 in
-            let low = above_written a.0 a.1 earlier l d (subst (Contains (written_in earlier)) (sym a.2) (Contains-from_rising_keys (flat_map written_by earlier) k w)) in
+            let low = above_written a.0 a.1 earlier l d
+            (subst (Contains (written_in earlier)) (sym a.2)
+            (Contains-from_rising_keys (flat_map written_by earlier) k w)) in
             omega (arith, fold_above t.key_levels 0 t.accesses a.0 a.1)
         | inr (r, w) ↦
-            let a = access_of k true (current-from_written ops k (Contains-from_rising_keys (flat_map written_by ops) k w)) in
-            let low = above_touched a.0 a.1 a.3 earlier l d (subst (Contains (touched_in earlier)) (sym a.2) (Contains-from_rising_keys (flat_map touched_by earlier) k r)) in
+            let a = access_of k true
+            (current-from_written ops k
+            (Contains-from_rising_keys (flat_map written_by ops) k w)) in
+            let low = above_touched a.0 a.1 a.3 earlier l d
+            (subst (Contains (touched_in earlier)) (sym a.2)
+            (Contains-from_rising_keys (flat_map touched_by earlier) k r)) in
             omega (arith, fold_above t.key_levels 0 t.accesses a.0 a.1)
       ]
 
   -- the level for an access is 0 or one above a command that conflicts
-  level_reached : (a : Access) → Contains t.accesses a → (level_for t.key_levels a ≡ 0) ⊎ ((earlier : List Op) × (l : ℕ) × Contains done (earlier, l) × Conflict earlier ops × (level_for t.key_levels a ≡ suc l))
+  level_reached : (a : Access) → Contains t.accesses a
+      → (level_for t.key_levels a ≡ 0)
+      ⊎ ((earlier : List Op) × (l : ℕ) × Contains done (earlier, l) × Conflict earlier ops
+      × (level_for t.key_levels a ≡ suc l))
   level_reached a c =
       let k = key_at t.keys a.key in
       let adds_access = current_of a c in
       elim (cases_Bool a.writes) [
         | inl writes ↦
-            let is_level_above : level_for t.key_levels a ≡ (key_levels_at t.key_levels a.key).touchers = ap (λ b. if b then (key_levels_at t.key_levels a.key).touchers else (key_levels_at t.key_levels a.key).writers) writes in
-            let written = written-from_accesses ops k (subst (λ v. Contains {X = List ℕ × Bool} (flat_map accesses_of ops) (k, v)) writes adds_access) in
+            let is_level_above : level_for t.key_levels a
+            ≡ (key_levels_at t.key_levels a.key).touchers =
+            ap (λ b. if b then (key_levels_at t.key_levels a.key).touchers else
+            (key_levels_at t.key_levels a.key).writers) writes in
+            let written = written-from_accesses ops k
+            (subst (λ v. Contains {X = List ℕ × Bool} (flat_map accesses_of ops) (k, v)) writes
+            adds_access) in
             elim (is.touchers a.key (is.within a c)).reached [
               | inl none ↦ inl (is_level_above ∙ none)
-              | inr (o, l, d, h, e) ↦ inr (o, l, d, (k, inr (Contains-rising_keys (flat_map touched_by o) k h, Contains-rising_keys (flat_map written_by ops) k written)), is_level_above ∙ e)
+              | inr (o, l, d, h, e) ↦ inr (
+                o,
+                l,
+                d,
+                (
+                  k,
+                  inr (
+                    Contains-rising_keys (flat_map touched_by o) k h,
+                    Contains-rising_keys (flat_map written_by ops) k written,
+                  ),
+                ),
+                is_level_above ∙ e,
+              )
             ]
         | inr reads ↦
-            let is_level_above : level_for t.key_levels a ≡ (key_levels_at t.key_levels a.key).writers = ap (λ b. if b then (key_levels_at t.key_levels a.key).touchers else (key_levels_at t.key_levels a.key).writers) reads in
+            let is_level_above : level_for t.key_levels a
+            ≡ (key_levels_at t.key_levels a.key).writers =
+            ap (λ b. if b then (key_levels_at t.key_levels a.key).touchers else
+            (key_levels_at t.key_levels a.key).writers) reads in
             let touched = touched-from_accesses ops k a.writes adds_access in
             elim (is.writers a.key (is.within a c)).reached [
               | inl none ↦ inl (is_level_above ∙ none)
-              | inr (o, l, d, h, e) ↦ inr (o, l, d, (k, inl (Contains-rising_keys (flat_map written_by o) k h, Contains-rising_keys (flat_map touched_by ops) k touched)), is_level_above ∙ e)
+              | inr (o, l, d, h, e) ↦ inr (
+                o,
+                l,
+                d,
+                (
+                  k,
+                  inl (
+                    Contains-rising_keys (flat_map written_by o) k h,
+                    Contains-rising_keys (flat_map touched_by ops) k touched,
+                  ),
+                ),
+                is_level_above ∙ e,
+              )
             ]
       ]
 
-  pub next : IsNextLevel done ops (fold (λ level a. max level (level_for t.key_levels a)) 0 t.accesses)
+  pub next : IsNextLevel done ops
+      (fold (λ level a. max level (level_for t.key_levels a)) 0 t.accesses)
   next = record {
     above = above;
     reached = elim (fold_reached t.key_levels 0 t.accesses) [
@@ -196,29 +328,37 @@ module _ (done : List (List Op × ℕ)) (ops : List Op) (t : Table) (is : IsKeyT
   }
 
   -- the level is at most the number of commands before
-  pub level_small : fold (λ level a. max level (level_for t.key_levels a)) 0 t.accesses ≤ length done
+  pub level_small : fold (λ level a. max level (level_for t.key_levels a)) 0 t.accesses
+      ≤ length done
   level_small =
       elim next.reached [
         | inl none ↦ omega arith
         | inr (o, l, d, meets, e) ↦ let low = is.small o l d in omega arith
       ]
 
-  pub noted : (n : ℕ) (key_levels : List KeyLevels) → n ≡ suc (fold (λ level a. max level (level_for t.key_levels a)) 0 t.accesses) → key_levels ≡ fold (raise n) t.key_levels t.accesses
-      → IsKeyTableOf (done ++ (ops, fold (λ level a. max level (level_for t.key_levels a)) 0 t.accesses) ∷ []) [] (record { keys = t.keys; key_levels = key_levels; accesses = [] })
+  pub noted : (n : ℕ) (key_levels : List KeyLevels)
+      → n ≡ suc (fold (λ level a. max level (level_for t.key_levels a)) 0 t.accesses)
+      → key_levels ≡ fold (raise n) t.key_levels t.accesses
+      → IsKeyTableOf
+      (done ++ (ops, fold (λ level a. max level (level_for t.key_levels a)) 0 t.accesses) ∷ [])
+      [] (record { keys = t.keys; key_levels = key_levels; accesses = [] })
   noted n key_levels is_n are_levels_above = record {
     small = λ o l c. elim (Contains-push_cases done (ops, level') (o, l) c) [
       | inl old ↦ let low = is.small o l old in omega (arith, length_push done (ops, level'))
-      | inr new ↦ let same : level' ≡ l = ap (λ (e : List Op × ℕ). e.1) new in omega (arith, level_small, length_push done (ops, level'))
+      | inr new ↦ let same : level' ≡ l = ap (λ (e : List Op × ℕ). e.1) new in
+          omega (arith, level_small, length_push done (ops, level'))
     ];
     known = λ o l k c h. elim (Contains-push_cases done (ops, level') (o, l) c) [
       | inl old ↦ is.known o l k old h
       | inr new ↦
-          let adds_access = current-from_touched ops k (subst (λ (e : List Op × ℕ). Contains (touched_in e.0) k) (sym new) h) in
+          let adds_access = current-from_touched ops k
+          (subst (λ (e : List Op × ℕ). Contains (touched_in e.0) k) (sym new) h) in
           let a = access_of k adds_access.0 adds_access.1 in
           subst (Contains t.keys) a.2 (Contains-get_or t.keys a.0.key [] (is.within a.0 a.1))
     ];
     no_repeats = is.no_repeats;
-    key_levels = ap length are_levels_above ∙ length_raised n t.accesses t.key_levels ∙ is.key_levels;
+    key_levels = ap length are_levels_above ∙ length_raised n t.accesses t.key_levels
+        ∙ is.key_levels;
     touchers = touchers;
     writers = writers;
     current_keys = refl;
@@ -227,52 +367,103 @@ module _ (done : List (List Op × ℕ)) (ops : List Op) (t : Table) (is : IsKeyT
     level' : ℕ
     level' = fold (λ level a. max level (level_for t.key_levels a)) 0 t.accesses
 
-    touchers : (x : ℕ) → x < length t.keys → IsLevelAbove touched_in (done ++ (ops, level') ∷ []) (key_at t.keys x) (key_levels_at key_levels x).touchers
+    touchers : (x : ℕ) → x < length t.keys
+        → IsLevelAbove touched_in (done ++ (ops, level') ∷ []) (key_at t.keys x)
+        (key_levels_at key_levels x).touchers
     touchers x low =
         let before = is.touchers x low in
-        let at : (key_levels_at key_levels x).touchers ≡ (key_levels_at (fold (raise n) t.key_levels t.accesses) x).touchers = ap (λ (bs : List KeyLevels). (key_levels_at bs x).touchers) are_levels_above in
+        let at : (key_levels_at key_levels x).touchers
+        ≡ (key_levels_at (fold (raise n) t.key_levels t.accesses) x).touchers =
+        ap (λ (bs : List KeyLevels). (key_levels_at bs x).touchers) are_levels_above in
         elim (touchers_raised n t.accesses t.key_levels x (omega (arith, is.key_levels))) [
           | inl ((w, c), e) ↦
-              let now : (key_levels_at key_levels x).touchers ≡ max (key_levels_at t.key_levels x).touchers (suc level') = at ∙ e ∙ ap (max (key_levels_at t.key_levels x).touchers) is_n in
-              subst (IsLevelAbove touched_in (done ++ (ops, level') ∷ []) (key_at t.keys x)) (sym now)
-              (IsLevelAbove-raised touched_in done ops level' (key_at t.keys x) (key_levels_at t.key_levels x).touchers before (touched-from_accesses ops (key_at t.keys x) w (current_of (record { key = x; writes = w }) c)))
+              let now : (key_levels_at key_levels x).touchers
+              ≡ max (key_levels_at t.key_levels x).touchers (suc level') =
+              at ∙ e ∙ ap (max (key_levels_at t.key_levels x).touchers) is_n in
+              subst (IsLevelAbove touched_in (done ++ (ops, level') ∷ []) (key_at t.keys x))
+              (sym now)
+              (IsLevelAbove-raised touched_in done ops level' (key_at t.keys x)
+              (key_levels_at t.key_levels x).touchers before
+              (touched-from_accesses ops (key_at t.keys x) w
+              (current_of (record { key = x; writes = w }) c)))
           | inr (none, e) ↦
-              subst (IsLevelAbove touched_in (done ++ (ops, level') ∷ []) (key_at t.keys x)) (sym (at ∙ e))
-              (IsLevelAbove-kept touched_in done ops level' (key_at t.keys x) (key_levels_at t.key_levels x).touchers before (λ h. let adds_access = current-from_touched ops (key_at t.keys x) h in none adds_access.0 (access_at x low adds_access.0 adds_access.1)))
+              subst (IsLevelAbove touched_in (done ++ (ops, level') ∷ []) (key_at t.keys x))
+              (sym (at ∙ e))
+              (IsLevelAbove-kept touched_in done ops level' (key_at t.keys x)
+              (key_levels_at t.key_levels x).touchers before
+              (λ h. let adds_access = current-from_touched ops (key_at t.keys x) h in
+              none adds_access.0 (access_at x low adds_access.0 adds_access.1)))
         ]
 
-    writers : (x : ℕ) → x < length t.keys → IsLevelAbove written_in (done ++ (ops, level') ∷ []) (key_at t.keys x) (key_levels_at key_levels x).writers
+    writers : (x : ℕ) → x < length t.keys
+        → IsLevelAbove written_in (done ++ (ops, level') ∷ []) (key_at t.keys x)
+        (key_levels_at key_levels x).writers
     writers x low =
         let before = is.writers x low in
-        let at : (key_levels_at key_levels x).writers ≡ (key_levels_at (fold (raise n) t.key_levels t.accesses) x).writers = ap (λ (bs : List KeyLevels). (key_levels_at bs x).writers) are_levels_above in
+        let at : (key_levels_at key_levels x).writers
+        ≡ (key_levels_at (fold (raise n) t.key_levels t.accesses) x).writers =
+        ap (λ (bs : List KeyLevels). (key_levels_at bs x).writers) are_levels_above in
         elim (writers_raised n t.accesses t.key_levels x (omega (arith, is.key_levels))) [
           | inl (c, e) ↦
-              let now : (key_levels_at key_levels x).writers ≡ max (key_levels_at t.key_levels x).writers (suc level') = at ∙ e ∙ ap (max (key_levels_at t.key_levels x).writers) is_n in
-              subst (IsLevelAbove written_in (done ++ (ops, level') ∷ []) (key_at t.keys x)) (sym now)
-              (IsLevelAbove-raised written_in done ops level' (key_at t.keys x) (key_levels_at t.key_levels x).writers before (written-from_accesses ops (key_at t.keys x) (current_of (record { key = x; writes = true }) c)))
+              let now : (key_levels_at key_levels x).writers
+              ≡ max (key_levels_at t.key_levels x).writers (suc level') =
+              at ∙ e ∙ ap (max (key_levels_at t.key_levels x).writers) is_n in
+              subst (IsLevelAbove written_in (done ++ (ops, level') ∷ []) (key_at t.keys x))
+              (sym now)
+              (IsLevelAbove-raised written_in done ops level' (key_at t.keys x)
+              (key_levels_at t.key_levels x).writers before
+              (written-from_accesses ops (key_at t.keys x)
+              (current_of (record { key = x; writes = true }) c)))
           | inr (none, e) ↦
-              subst (IsLevelAbove written_in (done ++ (ops, level') ∷ []) (key_at t.keys x)) (sym (at ∙ e))
-              (IsLevelAbove-kept written_in done ops level' (key_at t.keys x) (key_levels_at t.key_levels x).writers before (λ h. none (access_at x low true (current-from_written ops (key_at t.keys x) h))))
+              subst (IsLevelAbove written_in (done ++ (ops, level') ∷ []) (key_at t.keys x))
+              (sym (at ∙ e))
+              (IsLevelAbove-kept written_in done ops level' (key_at t.keys x)
+              (key_levels_at t.key_levels x).writers before
+              (λ h. none
+              (access_at x low true (current-from_written ops (key_at t.keys x) h))))
         ]
 
-  pub added_by : (level : ℕ) (key_levels : List KeyLevels) → level ≡ fold (λ level a. max level (level_for t.key_levels a)) 0 t.accesses → key_levels ≡ fold (raise (level + 1)) t.key_levels t.accesses
-      → IsNextLevel done ops level × IsKeyTableOf (done ++ (ops, level) ∷ []) [] (record { keys = t.keys; key_levels = key_levels; accesses = [] })
+  pub added_by : (level : ℕ) (key_levels : List KeyLevels)
+      → level ≡ fold (λ level a. max level (level_for t.key_levels a)) 0 t.accesses
+      → key_levels ≡ fold (raise (level + 1)) t.key_levels t.accesses
+      → IsNextLevel done ops level × IsKeyTableOf (done ++ (ops, level) ∷ []) []
+      (record { keys = t.keys; key_levels = key_levels; accesses = [] })
   added_by level key_levels is_level are_levels_above = (
     subst (IsNextLevel done ops) (sym is_level) next,
-    subst (λ (l : ℕ). IsKeyTableOf (done ++ (ops, l) ∷ []) [] (record { keys = t.keys; key_levels = key_levels; accesses = [] })) (sym is_level) (noted (level + 1) key_levels (omega (arith, is_level)) are_levels_above),
+    subst (λ (l : ℕ). IsKeyTableOf (done ++ (ops, l) ∷ []) []
+        (record { keys = t.keys; key_levels = key_levels; accesses = [] })) (sym is_level)
+        (noted (level + 1) key_levels (omega (arith, is_level)) are_levels_above),
   )
 
 -- ---- adding the keys of a command, operation by operation
 
-pub adds_more_accesses : (ops : List Op) (i : ℕ) (op : Op) (a b c : Table) → i < length ops → op ≡ get_or ops i op → AddsAccesses (flat_map accesses_of (take i ops)) a b → AddsAccesses (accesses_of op) b c → AddsAccesses (flat_map accesses_of (take (i + 1) ops)) a c
+pub adds_more_accesses : (ops : List Op) (i : ℕ) (op : Op) (a b c : Table) → i < length ops
+    → op ≡ get_or ops i op → AddsAccesses (flat_map accesses_of (take i ops)) a b
+    → AddsAccesses (accesses_of op) b c
+    → AddsAccesses (flat_map accesses_of (take (i + 1) ops)) a c
 adds_more_accesses ops i op a b c within is_op first second =
-    let more : flat_map accesses_of (take (i + 1) ops) ≡ flat_map accesses_of (take i ops) ++ accesses_of op =
-    ap (flat_map accesses_of) (take_more ops i op within ∙ ap (λ (o : Op). take i ops ++ o ∷ []) (sym is_op)) ∙ sym (flat_map_more accesses_of [] (take i ops) op) in
-    subst (λ (l : List (List ℕ × Bool)). AddsAccesses l a c) (sym more) (AddsAccesses-append (flat_map accesses_of (take i ops)) (accesses_of op) a b c first second)
+    let more : flat_map accesses_of (take (i + 1) ops)
+    ≡ flat_map accesses_of (take i ops) ++ accesses_of op =
+    ap (flat_map accesses_of)
+    (take_more ops i op within ∙ ap (λ (o : Op). take i ops ++ o ∷ []) (sym is_op))
+    ∙ sym (flat_map_more accesses_of [] (take i ops) op) in
+    subst (λ (l : List (List ℕ × Bool)). AddsAccesses l a c) (sym more)
+    (AddsAccesses-append (flat_map accesses_of (take i ops)) (accesses_of op) a b c first
+    second)
 
-pub adds_all_accesses : (ops : List Op) (i : ℕ) (a b : Table) → length ops ≤ i → AddsAccesses (flat_map accesses_of (take i ops)) a b → (done : List (List Op × ℕ)) → IsKeyTableOf done [] a → IsKeyTableOf done (flat_map accesses_of ops) b
-adds_all_accesses ops i a b past adds_access done is = subst (λ (l : List Op). IsKeyTableOf done (flat_map accesses_of l) b) (take_all i ops past) (adds_access done [] is)
+pub adds_all_accesses : (ops : List Op) (i : ℕ) (a b : Table) → length ops ≤ i
+    → AddsAccesses (flat_map accesses_of (take i ops)) a b → (done : List (List Op × ℕ))
+    → IsKeyTableOf done [] a → IsKeyTableOf done (flat_map accesses_of ops) b
+adds_all_accesses ops i a b past adds_access done is =
+    subst (λ (l : List Op). IsKeyTableOf done (flat_map accesses_of l) b) (take_all i ops past)
+    (adds_access done [] is)
 
 -- each number of a key has levels
-pub keys_within : (done : List (List Op × ℕ)) (current : List (List ℕ × Bool)) (t : Table) → IsKeyTableOf done current t → All (λ a. a.key < length t.key_levels) t.accesses
-keys_within done current t is k d low = omega (arith, is.within (get_or t.accesses k d) (Contains-get_or t.accesses k d low), is.key_levels)
+pub keys_within : (done : List (List Op × ℕ)) (current : List (List ℕ × Bool)) (t : Table)
+    → IsKeyTableOf done current t → All (λ a. a.key < length t.key_levels) t.accesses
+keys_within done current t is k d low =
+    omega (
+      arith,
+      is.within (get_or t.accesses k d) (Contains-get_or t.accesses k d low),
+      is.key_levels,
+    )

@@ -8,7 +8,9 @@ use Rattle.epx_types.specs.Contents.{Contents}
 use Rattle.epx_types.specs.Execution.{execute}
 use Rattle.epx_types.specs.Rearrangements.{commands_at}
 use Rattle.epx_types.specs.Writes.{Write, apply_writes, HasDistinctKeys}
-use Rattle.epx_types.proofs.commands.ConflictListLemmas.{writes_over, replies-none_conflict, final-none_conflict, distinct_keys-none_conflict}
+use Rattle.epx_types.proofs.commands.ConflictListLemmas.{writes_over, replies-none_conflict}
+use Rattle.epx_types.proofs.commands.ConflictListLemmas.{final-none_conflict}
+use Rattle.epx_types.proofs.commands.ConflictListLemmas.{distinct_keys-none_conflict}
 use Rattle.epx_txn.specs.declared.effect.Effect.{Effect}
 use Rattle.epx_txn.proofs.MergeLemmas.{writes_in}
 use Rattle.epx_apply.specs.inner.Effects.{effect_over, effects_over, replies_in}
@@ -17,22 +19,29 @@ use Rattle.epx_apply.specs.inner.Effects.{effect_over, effects_over, replies_in}
 abbrev pub effect_at : Contents → List (List Op) → ℕ → Effect
 effect_at c commands i = effect_over c (slice_index_or commands i [])
 
-pub effects_over-each : (c : Contents) (commands : List (List Op)) (places : List ℕ) → effects_over c (commands_at commands places) ≡ map (effect_at c commands) places
-effects_over-each c commands places = map-map (effect_over c) (λ i. slice_index_or commands i []) places
+pub effects_over-each : (c : Contents) (commands : List (List Op)) (places : List ℕ)
+    → effects_over c (commands_at commands places) ≡ map (effect_at c commands) places
+effects_over-each c commands places =
+    map-map (effect_over c) (λ i. slice_index_or commands i []) places
 
 -- commands of which no two conflict
-module _ (commands : List (List Op)) (c : Contents) (effects : List Effect) (are : effects ≡ effects_over c commands) (apart : NoneConflict commands) where
+module _ (commands : List (List Op)) (c : Contents) (effects : List Effect)
+    (are : effects ≡ effects_over c commands) (apart : NoneConflict commands) where
   their_writes : writes_in effects ≡ writes_over commands c
   their_writes = ap writes_in are ∙ flat_map-map (λ e. e.writes) (effect_over c) commands
 
   -- no two of them write the same key
   pub no_key_twice : HasDistinctKeys (writes_in effects)
-  no_key_twice = subst (λ (ws : List Write). HasDistinctKeys ws) (sym their_writes) (distinct_keys-none_conflict commands apart c)
+  no_key_twice = subst (λ (ws : List Write). HasDistinctKeys ws) (sym their_writes)
+      (distinct_keys-none_conflict commands apart c)
 
   -- merging their writes yields the contents after them
-  pub merged : (after : Contents) → after ≡ apply_writes (writes_in effects) c → after ≡ (execute commands c).final
-  merged after put = put ∙ ap (λ ws. apply_writes ws c) their_writes ∙ sym (final-none_conflict commands apart c)
+  pub merged : (after : Contents) → after ≡ apply_writes (writes_in effects) c
+      → after ≡ (execute commands c).final
+  merged after put = put ∙ ap (λ ws. apply_writes ws c) their_writes
+      ∙ sym (final-none_conflict commands apart c)
 
   -- their replies are those of executing them one after another
   pub replied : replies_in effects ≡ (execute commands c).replies
-  replied = ap replies_in are ∙ map-map (λ e. e.reply) (effect_over c) commands ∙ sym (replies-none_conflict commands apart c)
+  replied = ap replies_in are ∙ map-map (λ e. e.reply) (effect_over c) commands
+      ∙ sym (replies-none_conflict commands apart c)

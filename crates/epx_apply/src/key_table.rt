@@ -1,7 +1,9 @@
 //! For each key, the levels of the commands so far that touch it and that write it.
-ghost use Rattle.std.specs.Prelude.{◌≡◌, ◌<◌, ◌^◌, ◌+◌, ℕ, List, [], ◌∷◌, length, max, flat_map, fold, All, IfOk, OnOk};
+ghost use Rattle.std.specs.Prelude.{◌≡◌, ◌<◌, ◌^◌, ◌+◌, ℕ, List, [], ◌∷◌, length, max, flat_map};
+ghost use Rattle.std.specs.Prelude.{fold, All, IfOk, OnOk};
 ghost use Rattle.epx_types.specs.declared.op.Op.{Op};
-ghost use Rattle.epx_apply.specs.inner.KeyTables.{IsKeyTableOf, AddsAccesses, AddsCommand, accesses_of, level_for, raise};
+ghost use Rattle.epx_apply.specs.inner.KeyTables.{IsKeyTableOf, AddsAccesses, AddsCommand};
+ghost use Rattle.epx_apply.specs.inner.KeyTables.{accesses_of, level_for, raise};
 
 use epx_seed::Seed;
 use epx_types::{Key, Memory, Op};
@@ -136,7 +138,8 @@ impl<'a> KeyTable<'a> {
     /// Returns the level of the next command and adds the command to the table. All its keys are
     /// looked up before any level is raised, so it does not conflict with itself.
     pub(crate) fn push_command(&mut self, ops: &'a [Op]) -> Result<usize, Memory>
-        requires { (done : List (List Op × ℕ)) × IsKeyTableOf done [] self.old × (length done + 1 < 2 ^ 64) }
+        requires { (done : List (List Op × ℕ)) × IsKeyTableOf done [] self.old
+            × (length done + 1 < 2 ^ 64) }
         ensures { IfOk result (λ level. AddsCommand ops.now level self.old self.new) }
     {
         for op in ops {

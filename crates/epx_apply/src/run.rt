@@ -1,14 +1,16 @@
 //! Executes commands level by level. The commands of one level do not conflict. Each is evaluated
 //! over the store before the level, which is only read. Then the writes of all of them are merged
 //! into the store.
-ghost use Rattle.std.specs.Prelude.{◌≡◌, ◌<◌, ◌≤◌, ◌^◌, ◌++◌, ◌∷◌, [], ℕ, length, map, flat_map, slice_set, All, IfOk, IfSome, OnOk, OnErr};
+ghost use Rattle.std.specs.Prelude.{◌≡◌, ◌<◌, ◌≤◌, ◌^◌, ◌++◌, ◌∷◌, [], ℕ, length, map, flat_map};
+ghost use Rattle.std.specs.Prelude.{slice_set, All, IfOk, IfSome, OnOk, OnErr};
 ghost use Rattle.epx_types.specs.Commands.{command_on};
 ghost use Rattle.epx_types.specs.Conflicts.{NoneConflict};
 ghost use Rattle.epx_types.specs.Execution.{execute};
 ghost use Rattle.epx_types.specs.Levels.{AreLevels};
 ghost use Rattle.epx_types.specs.Pieces.{piece_count};
 ghost use Rattle.epx_types.specs.Rearrangements.{commands_at};
-ghost use Rattle.epx_apply.specs.inner.Effects.{op_lists_of, effect_over, effects_over, items_of_piece, replies_in, put_replies};
+ghost use Rattle.epx_apply.specs.inner.Effects.{op_lists_of, effect_over, effects_over};
+ghost use Rattle.epx_apply.specs.inner.Effects.{items_of_piece, replies_in, put_replies};
 
 use crate::level_map::{LevelMap, levels_below};
 use epx_claims::{Gate, claimed_map};

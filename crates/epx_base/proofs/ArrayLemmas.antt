@@ -7,7 +7,8 @@ use Rattle.serde_json.specs.declared.value.Value.{Value}
 use Rattle.epx_lines.specs.Elements.{list_of}
 use Rattle.epx_base.specs.Forms.{form_of_list, form_of}
 
-fewer_than_three : (vs : List Value) → length vs < 3 → form_of_list (list_of (items_view vs)) ≡ None
+fewer_than_three : (vs : List Value) → length vs < 3
+    → form_of_list (list_of (items_view vs)) ≡ None
 fewer_than_three [] l = refl
 fewer_than_three (a ∷ []) l = refl
 fewer_than_three (a ∷ b ∷ []) l = refl

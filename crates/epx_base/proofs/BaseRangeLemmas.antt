@@ -1,5 +1,6 @@
 -- The Ids, keys and values of a base are within their limits.
-use Rattle.std.proofs.Common.{◌≡◌, ℕ, ◌+◌, ℤ, w64, List, [], ◌∷◌, ◌++◌, Contains, Option, Some, None, option_map, Result, inl, inr, sym, ◌∙◌, subst, rules}
+use Rattle.std.proofs.Common.{◌≡◌, ℕ, ◌+◌, ℤ, w64, List, [], ◌∷◌, ◌++◌, Contains, Option, Some}
+use Rattle.std.proofs.Common.{None, option_map, Result, inl, inr, sym, ◌∙◌, subst, rules}
 use Rattle.std.specs.Prelude.{⊤, FitsSigned, IfSome, IfOk}
 use Rattle.std.specs.List.{AllByRecursion}
 use Rattle.std.specs.FinMap as contents
@@ -18,14 +19,17 @@ use Rattle.epx_lines.specs.Meaning.{json_of}
 use Rattle.epx_base.specs.declared.form.Counts.{Counts}
 use Rattle.epx_base.specs.declared.form.BaseLine.{BaseLine}
 use Rattle.epx_base.specs.declared.form.BaseLine.TheVariants.{Header, Done, Reply, Waiting, Store}
-use Rattle.epx_base.specs.Forms.{id_from, counts_of, header_of, id_line_of, short_line_of, form_of_list, form_of, base_line_of}
+use Rattle.epx_base.specs.Forms.{id_from, counts_of, header_of, id_line_of, short_line_of}
+use Rattle.epx_base.specs.Forms.{form_of_list, form_of, base_line_of}
 use Rattle.epx_base.specs.Seen.{Seen, nothing_seen, after, after_with}
 use Rattle.epx_base.specs.Bases.{after_line, or_line_number, reading, put_pairs, IsBase}
 use Rattle.epx_base.specs.ReportReadings.{FitsNumbers}
 use Rattle.epx_base.proofs.RisingListLemmas.{Contains-insert_cases}
-use Rattle.epx_base.proofs.JsonStringLemmas.{by_branch, IfSome-branch, IfSome-map, IfSome-and_then, IfSome-trivial}
+use Rattle.epx_base.proofs.JsonStringLemmas.{by_branch, IfSome-branch, IfSome-map, IfSome-and_then}
+use Rattle.epx_base.proofs.JsonStringLemmas.{IfSome-trivial}
 use Rattle.epx_base.proofs.JsonValueLemmas.{FitsData}
-use Rattle.epx_base.proofs.LineRangeLemmas.{IsStoreKey, signed_fits, key_of_fits, elements_fit, id_of_pair_fits, json_of_fits}
+use Rattle.epx_base.proofs.LineRangeLemmas.{IsStoreKey, signed_fits, key_of_fits, elements_fit}
+use Rattle.epx_base.proofs.LineRangeLemmas.{id_of_pair_fits, json_of_fits}
 
 -- ---- what a line says
 

@@ -1,5 +1,6 @@
 -- The replies of executed commands, and the contents that they leave, are within their limits.
-use Rattle.std.proofs.Common.{◌≡◌, ℕ, suc, ◌+◌, ◌<◌, ◌≤◌, true, ℤ, pos, negsuc, w64, List, [], ◌∷◌, ◌++◌, length, Option, Some, None, refl, arith}
+use Rattle.std.proofs.Common.{◌≡◌, ℕ, suc, ◌+◌, ◌<◌, ◌≤◌, true, ℤ, pos, negsuc, w64, List, [], ◌∷◌}
+use Rattle.std.proofs.Common.{◌++◌, length, Option, Some, None, refl, arith}
 use Rattle.std.specs.Prelude.{FitsSigned, IfSome, ◌+ℤ◌, int_lt}
 use Rattle.std.specs.List.{AllByRecursion}
 use Rattle.std.specs.FinMap as contents
@@ -62,7 +63,8 @@ record FitsOutcome (o : Outcome) : Type 0 where
   reply : FitsReply o.reply
   after : FitsContents o.after
 
-AllFitValues-append : (xs ys : List (Option ℤ)) → AllFitValues xs → AllFitValues ys → AllFitValues (xs ++ ys)
+AllFitValues-append : (xs ys : List (Option ℤ)) → AllFitValues xs → AllFitValues ys
+    → AllFitValues (xs ++ ys)
 AllFitValues-append [] ys h k = k
 AllFitValues-append (x ∷ xs) ys h k = (h.0, AllFitValues-append xs ys h.1 k)
 

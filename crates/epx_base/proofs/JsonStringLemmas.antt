@@ -1,5 +1,8 @@
 -- Every string among the tokens of a UTF-8 JSON text is UTF-8.
-use Rattle.std.proofs.Common.{◌≡◌, ℕ, ◌+◌, ◌*◌, ◌<◌, Bool, true, false, ◌&&◌, ◌||◌, ◌==◌, nat_lt, cond, List, [], ◌∷◌, ◌++◌, length, get_or, Option, Some, None, IsUtf8, option_map, option_and_then, Ordering, Less, Equal, Greater, refl, sym, subst, arith, rules, append-nil, append_assoc, ltb-true}
+use Rattle.std.proofs.Common.{◌≡◌, ℕ, ◌+◌, ◌*◌, ◌<◌, Bool, true, false, ◌&&◌, ◌||◌, ◌==◌, nat_lt}
+use Rattle.std.proofs.Common.{cond, List, [], ◌∷◌, ◌++◌, length, get_or, Option, Some, None}
+use Rattle.std.proofs.Common.{IsUtf8, option_map, option_and_then, Ordering, Less, Equal, Greater}
+use Rattle.std.proofs.Common.{refl, sym, subst, arith, rules, append-nil, append_assoc, ltb-true}
 use Rattle.std.specs.Prelude.{IfSome, ⊤}
 use Rattle.std.specs.List.{AllByRecursion}
 use Rattle.std.specs.Ordering.{match_ordering}
@@ -10,11 +13,18 @@ use Rattle.std.proofs.lemmas.Bool.{eqb-true, and_parts}
 use Rattle.std.proofs.lemmas.Bool.Decides.{nat_tests}
 use Rattle.std.proofs.lemmas.List.{length-append}
 use Rattle.std.proofs.lemmas.Option.{IfSome_then}
-use Rattle.std.proofs.lemmas.Str.{IsUtf8-append, IsUtf8-encode, IsUtf8-take, IsUtf8-drop, IsCharBoundary-before_ascii, IsCharBoundary-after_ascii, encode_ascii}
+use Rattle.std.proofs.lemmas.Str.{IsUtf8-append, IsUtf8-encode, IsUtf8-take, IsUtf8-drop}
+use Rattle.std.proofs.lemmas.Str.{IsCharBoundary-before_ascii, IsCharBoundary-after_ascii}
+use Rattle.std.proofs.lemmas.Str.{encode_ascii}
 use Rattle.json.specs.Token.{Token, key, string, bad}
-use Rattle.json.specs.Text.{code_unit, short_escape, is_high_surrogate, is_low_surrogate, surrogate_pair, plain, after_backslash, after_u, after_high, prepend, content}
+use Rattle.json.specs.Text.{code_unit, short_escape, is_high_surrogate, is_low_surrogate}
+use Rattle.json.specs.Text.{surrogate_pair, plain, after_backslash, after_u, after_high, prepend}
+use Rattle.json.specs.Text.{content}
 use Rattle.json.specs.Word.{number_before, ends_word, word}
-use Rattle.json.specs.Lex.{Lexeme, token, comma, colon, Class, quote, backslash, operator, other, class, operator_lexeme, string_token, Mode, between, in_word, in_string, lex_byte, lex, Place, fresh, after_value, after_comma, after_key, if_allowed, place_token, punctuate, begins_colon, tokens}
+use Rattle.json.specs.Lex.{Lexeme, token, comma, colon, Class, quote, backslash, operator, other}
+use Rattle.json.specs.Lex.{class, operator_lexeme, string_token, Mode, between, in_word, in_string}
+use Rattle.json.specs.Lex.{lex_byte, lex, Place, fresh, after_value, after_comma, after_key}
+use Rattle.json.specs.Lex.{if_allowed, place_token, punctuate, begins_colon, tokens}
 
 -- ---- tests and optional values
 

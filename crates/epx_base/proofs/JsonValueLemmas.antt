@@ -1,6 +1,8 @@
 -- In the value of a UTF-8 JSON text each string is UTF-8, and each number that is read as an i64
 -- fits 64 bits.
-use Rattle.std.proofs.Common.{ℕ, zero, suc, ◌^◌, ◌≤◌, ◌&&◌, nat_lt, nat_le, Bool, true, false, pos, w64, List, [], ◌∷◌, length, Option, Some, None, IsUtf8, option_map, option_and_then, arith, rules, ltb-true, leb-true}
+use Rattle.std.proofs.Common.{ℕ, zero, suc, ◌^◌, ◌≤◌, ◌&&◌, nat_lt, nat_le, Bool, true, false, pos}
+use Rattle.std.proofs.Common.{w64, List, [], ◌∷◌, length, Option, Some, None, IsUtf8, option_map}
+use Rattle.std.proofs.Common.{option_and_then, arith, rules, ltb-true, leb-true}
 use Rattle.std.specs.Prelude.{⊤, FitsSigned, IfSome, neg_ℤ}
 use Rattle.std.specs.Float.Numeral.{Parts, numeral_digits}
 use Rattle.std.specs.Ordering.{nat_cmp}
@@ -9,11 +11,15 @@ use Rattle.std.proofs.lemmas.Bool.{and_parts}
 use Rattle.json.specs.Token.{Token}
 use Rattle.json.specs.Lex.{tokens}
 use Rattle.json.specs.Json as json
-use Rattle.json.specs.Json.{Parse, after_end_array, read_key, items_step, members_step, items, members, value_with, value}
-use Rattle.serde_json.specs.Data.{Num, unsigned, Data, number, string, array, object, Items, no_items, item, Members, no_members, member, put}
+use Rattle.json.specs.Json.{Parse, after_end_array, read_key, items_step, members_step, items}
+use Rattle.json.specs.Json.{members, value_with, value}
+use Rattle.serde_json.specs.Data.{Num, unsigned, Data, number, string, array, object, Items}
+use Rattle.serde_json.specs.Data.{no_items, item, Members, no_members, member, put}
 use Rattle.serde_json.specs.Find.{as_i64}
-use Rattle.serde_json.specs.Read.{is_integer, float_of, number_from, number_of, of_json, of_items, of_members, max_depth, read}
-use Rattle.epx_base.proofs.JsonStringLemmas.{by_ordering, IfSome-test, IfSome-branch, IfSome-map, IfSome-and_then, FitTokens, tokens_fit}
+use Rattle.serde_json.specs.Read.{is_integer, float_of, number_from, number_of, of_json, of_items}
+use Rattle.serde_json.specs.Read.{of_members, max_depth, read}
+use Rattle.epx_base.proofs.JsonStringLemmas.{by_ordering, IfSome-test, IfSome-branch, IfSome-map}
+use Rattle.epx_base.proofs.JsonStringLemmas.{IfSome-and_then, FitTokens, tokens_fit}
 
 -- ---- values
 

@@ -1,5 +1,8 @@
 -- The Ids, keys and values of the instance on a log line are within their limits.
-use Rattle.std.proofs.Common.{◌≡◌, ℕ, suc, ◌^◌, ◌<◌, ◌≤◌, ◌&&◌, nat_lt, nat_le, w64, List, [], ◌∷◌, length, filter, codes, Contains, Option, Some, None, IsUtf8, option_map, option_and_then, Result, Ok, Err, inl, inr, refl, ap, arith, rules, ltb-true, leb-true}
+use Rattle.std.proofs.Common.{◌≡◌, ℕ, suc, ◌^◌, ◌<◌, ◌≤◌, ◌&&◌, nat_lt, nat_le, w64, List, [], ◌∷◌}
+use Rattle.std.proofs.Common.{length, filter, codes, Contains, Option, Some, None, IsUtf8}
+use Rattle.std.proofs.Common.{option_map, option_and_then, Result, Ok, Err, inl, inr, refl, ap}
+use Rattle.std.proofs.Common.{arith, rules, ltb-true, leb-true}
 use Rattle.std.specs.Prelude.{⊤, FitsSigned, IfSome, is_some}
 use Rattle.std.specs.List.{AllByRecursion}
 use Rattle.std.specs.Cmp.Lexicographic.{slice_cmp}
@@ -9,7 +12,8 @@ use Rattle.std.proofs.lemmas.Bool.{and_parts}
 use Rattle.std.proofs.lemmas.List.Elements.{All-contains, All-from_recursion}
 use Rattle.std.proofs.lemmas.Option.{IfSome_then}
 use Rattle.std.proofs.lemmas.Str.{IsUtf8-from_is_utf8}
-use Rattle.serde_json.specs.Data.{Data, number, string, array, object, Items, no_items, item, Members, no_members, member}
+use Rattle.serde_json.specs.Data.{Data, number, string, array, object, Items, no_items, item}
+use Rattle.serde_json.specs.Data.{Members, no_members, member}
 use Rattle.serde_json.specs.Find.{get, get_member, as_str, as_number, as_u64, as_i64, as_object}
 use Rattle.epx_types.specs.declared.id.Id.{Id}
 use Rattle.epx_types.specs.declared.op.Op.{Op}
@@ -21,13 +25,17 @@ use Rattle.epx_types.specs.Instances.{Instance}
 use Rattle.epx_types.proofs.lists.MembershipLemmas.{Contains-nil, Contains-from_filter}
 use Rattle.epx_lines.specs.declared.Line.{Line}
 use Rattle.epx_lines.specs.declared.Line.TheVariants.{Entry}
-use Rattle.epx_lines.specs.Elements.{below, whole, signed, list_of, elements, at_most, every, each_of_at_most}
+use Rattle.epx_lines.specs.Elements.{below, whole, signed, list_of, elements, at_most, every}
+use Rattle.epx_lines.specs.Elements.{each_of_at_most}
 use Rattle.epx_lines.specs.DependencyList.{id_of_pair, id_of, is_other, rising_others, deps_of}
-use Rattle.epx_lines.specs.OperationList.{key_from, key_of, op_with_key, op_with_value, value_or_null, op_of_list, op_of, ops_of}
-use Rattle.epx_lines.specs.Meaning.{json_of, at_member, is_committed, need, meaning_of_object, meaning_of_value, meaning_of}
+use Rattle.epx_lines.specs.OperationList.{key_from, key_of, op_with_key, op_with_value}
+use Rattle.epx_lines.specs.OperationList.{value_or_null, op_of_list, op_of, ops_of}
+use Rattle.epx_lines.specs.Meaning.{json_of, at_member, is_committed, need, meaning_of_object}
+use Rattle.epx_lines.specs.Meaning.{meaning_of_value, meaning_of}
 use Rattle.epx_base.specs.ReportReadings.{FitsNumbers}
 use Rattle.epx_base.proofs.IdSetLemmas.{Contains-with_cases}
-use Rattle.epx_base.proofs.JsonStringLemmas.{by_branch, by_ordering, IfSome-test, IfSome-branch, IfSome-map, IfSome-and_then, IfSome-trivial}
+use Rattle.epx_base.proofs.JsonStringLemmas.{by_branch, by_ordering, IfSome-test, IfSome-branch}
+use Rattle.epx_base.proofs.JsonStringLemmas.{IfSome-map, IfSome-and_then, IfSome-trivial}
 use Rattle.epx_base.proofs.JsonValueLemmas.{FitsNum, FitsData, FitItems, FitMembers, read_fits}
 
 -- ---- the limits of an instance

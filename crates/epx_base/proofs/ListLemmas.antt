@@ -4,7 +4,8 @@ use Rattle.epx_types.specs.declared.id.Id.{Id}
 use Rattle.epx_base.specs.Lists.{list_reading, IsList, IsBadList}
 use Rattle.epx_base.specs.ListLaws.{ListOrBadList}
 
-one_or_the_other : (bytes : List ℕ) (r : Result (List Id) ℕ) → list_reading bytes ≡ r → ((ids : List Id) × IsList bytes ids) ⊎ ((line : ℕ) × IsBadList bytes line)
+one_or_the_other : (bytes : List ℕ) (r : Result (List Id) ℕ) → list_reading bytes ≡ r
+    → ((ids : List Id) × IsList bytes ids) ⊎ ((line : ℕ) × IsBadList bytes line)
 one_or_the_other bytes (Ok ids) e = inl (ids, e)
 one_or_the_other bytes (Err n) e = inr (n, e)
 

@@ -1,5 +1,7 @@
 -- The text of a value without objects and floats is read back as that value.
-use Rattle.std.proofs.Common.{◌≡◌, ℕ, suc, ◌+◌, ◌-◌, ◌^◌, ◌<◌, ◌≤◌, nat_lt, ℤ, pos, negsuc, Bool, true, false, [], ◌∷◌, ◌++◌, Some, IsUtf8, option_map, option_and_then, decimal, refl, sym, ap, ◌∙◌, arith, append-nil}
+use Rattle.std.proofs.Common.{◌≡◌, ℕ, suc, ◌+◌, ◌-◌, ◌^◌, ◌<◌, ◌≤◌, nat_lt, ℤ, pos, negsuc, Bool}
+use Rattle.std.proofs.Common.{true, false, [], ◌∷◌, ◌++◌, Some, IsUtf8, option_map}
+use Rattle.std.proofs.Common.{option_and_then, decimal, refl, sym, ap, ◌∙◌, arith, append-nil}
 use Rattle.std.proofs.lemmas.Str.{IsUtf8-append, IsUtf8-from_ascii}
 use Rattle.std.proofs.lemmas.Fmt.{IsAscii-decimal}
 use Rattle.std.proofs.lemmas.Int.{ints}
@@ -17,12 +19,14 @@ use Rattle.json.proofs.Printed.Tokens.{tokens-print}
 use Rattle.json.proofs.Printed.Trees.{value-json_tokens, ArePrintable-json_tokens}
 use Rattle.json.proofs.Printed.Decimals.{IsNumber-decimal, IsNumber-signed_decimal}
 use Rattle.json.proofs.Printed.Utf8.{IsUtf8-are_ascii, IsUtf8-quoted}
-use Rattle.serde_json.specs.Data.{Num, unsigned, negative, Data, null, boolean, number, string, array, object, Items, no_items, item, depth, items_depth}
+use Rattle.serde_json.specs.Data.{Num, unsigned, negative, Data, null, boolean, number, string}
+use Rattle.serde_json.specs.Data.{array, object, Items, no_items, item, depth, items_depth}
 use Rattle.serde_json.specs.Read.{number_of, of_json, of_items, read, max_depth}
 use Rattle.serde_json.specs.Written.{number_text, outline, items_outline, compact_text, items_text}
 use Rattle.serde_json.proofs.Texts.{print-outline}
 use Rattle.serde_json.proofs.Numbers.{number_of-decimal, number_of-negative}
-use Rattle.epx_base.proofs.LineFeedLemmas.{is_unbroken, both_unbroken, is_unbroken-decimal, is_unbroken-quoted}
+use Rattle.epx_base.proofs.LineFeedLemmas.{is_unbroken, both_unbroken, is_unbroken-decimal}
+use Rattle.epx_base.proofs.LineFeedLemmas.{is_unbroken-quoted}
 use Rattle.epx_lines.specs.Meaning.{json_of}
 use Rattle.epx_lines.proofs.JsonTextLemmas.{json_of-some}
 
@@ -82,7 +86,8 @@ mutual
   depth-outline (array ds) h = ap suc (items_depth-outline ds h)
   depth-outline (object ms) h = absurd h
 
-  items_depth-outline : (ds : Items) → ArePlain ds → tree.items_depth (items_outline ds) ≡ items_depth ds
+  items_depth-outline : (ds : Items) → ArePlain ds
+      → tree.items_depth (items_outline ds) ≡ items_depth ds
   items_depth-outline no_items h = refl
   items_depth-outline (item d ds) h = rw (depth-outline d h.0, items_depth-outline ds h.1) refl
 
@@ -92,13 +97,18 @@ mutual
   IsUtf8-compact_text (boolean b) h = absurd h
   IsUtf8-compact_text (number n) h = h.utf8
   IsUtf8-compact_text (string s) h = IsUtf8-quoted s h
-  IsUtf8-compact_text (array ds) h = IsUtf8-append (91 ∷ []) _ (IsUtf8-are_ascii (91 ∷ []) refl) (IsUtf8-items_text false ds h)
+  IsUtf8-compact_text (array ds) h =
+      IsUtf8-append (91 ∷ []) _ (IsUtf8-are_ascii (91 ∷ []) refl) (IsUtf8-items_text false ds h)
   IsUtf8-compact_text (object ms) h = absurd h
 
   IsUtf8-items_text : (later : Bool) (ds : Items) → ArePlain ds → IsUtf8 (items_text later ds)
   IsUtf8-items_text later no_items h = IsUtf8-are_ascii (93 ∷ []) refl
-  IsUtf8-items_text true (item d ds) h = IsUtf8-append (44 ∷ []) _ (IsUtf8-are_ascii (44 ∷ []) refl) (IsUtf8-append (compact_text d) _ (IsUtf8-compact_text d h.0) (IsUtf8-items_text true ds h.1))
-  IsUtf8-items_text false (item d ds) h = IsUtf8-append (compact_text d) _ (IsUtf8-compact_text d h.0) (IsUtf8-items_text true ds h.1)
+  IsUtf8-items_text true (item d ds) h =
+      IsUtf8-append (44 ∷ []) _ (IsUtf8-are_ascii (44 ∷ []) refl)
+      (IsUtf8-append (compact_text d) _ (IsUtf8-compact_text d h.0)
+      (IsUtf8-items_text true ds h.1))
+  IsUtf8-items_text false (item d ds) h =
+      IsUtf8-append (compact_text d) _ (IsUtf8-compact_text d h.0) (IsUtf8-items_text true ds h.1)
 
 mutual
   pub is_unbroken-compact_text : (d : Data) → IsPlain d → is_unbroken (compact_text d) ≡ true
@@ -109,38 +119,58 @@ mutual
   is_unbroken-compact_text (array ds) h = is_unbroken-items_text false ds h
   is_unbroken-compact_text (object ms) h = absurd h
 
-  is_unbroken-items_text : (later : Bool) (ds : Items) → ArePlain ds → is_unbroken (items_text later ds) ≡ true
+  is_unbroken-items_text : (later : Bool) (ds : Items) → ArePlain ds
+      → is_unbroken (items_text later ds) ≡ true
   is_unbroken-items_text later no_items h = refl
-  is_unbroken-items_text true (item d ds) h = both_unbroken (compact_text d) (items_text true ds) (is_unbroken-compact_text d h.0) (is_unbroken-items_text true ds h.1)
-  is_unbroken-items_text false (item d ds) h = both_unbroken (compact_text d) (items_text true ds) (is_unbroken-compact_text d h.0) (is_unbroken-items_text true ds h.1)
+  is_unbroken-items_text true (item d ds) h =
+      both_unbroken (compact_text d) (items_text true ds) (is_unbroken-compact_text d h.0)
+      (is_unbroken-items_text true ds h.1)
+  is_unbroken-items_text false (item d ds) h =
+      both_unbroken (compact_text d) (items_text true ds) (is_unbroken-compact_text d h.0)
+      (is_unbroken-items_text true ds h.1)
 
-tokens-compact_text : (d : Data) → IsPlain d → tokens (compact_text d) ≡ tree.json_tokens (outline d) ++ []
+tokens-compact_text : (d : Data) → IsPlain d
+    → tokens (compact_text d) ≡ tree.json_tokens (outline d) ++ []
 tokens-compact_text d h =
     ap tokens (sym (print-outline d))
-    ∙ tokens-print (tree.json_tokens (outline d)) (ArePrintable-json_tokens (outline d) (numbers_shaped d h))
+    ∙ tokens-print (tree.json_tokens (outline d))
+    (ArePrintable-json_tokens (outline d) (numbers_shaped d h))
     ∙ sym (append-nil (tree.json_tokens (outline d)))
 
 -- the text of a plain value is read as that value
-pub read-compact_text : (d : Data) → IsPlain d → depth d ≤ max_depth → read (compact_text d) ≡ Some d
+pub read-compact_text : (d : Data) → IsPlain d → depth d ≤ max_depth
+    → read (compact_text d) ≡ Some d
 read-compact_text d h shallow =
-    let value = ap (json.value max_depth) (tokens-compact_text d h) ∙ value-json_tokens (outline d) max_depth [] (omega (arith, depth-outline d h)) in
-    ap (λ o. option_and_then of_json (option_and_then (λ p. json.if_last p.0 p.1) o)) value ∙ of_json-outline d h
+    let value = ap (json.value max_depth) (tokens-compact_text d h)
+    ∙ value-json_tokens (outline d) max_depth [] (omega (arith, depth-outline d h)) in
+    ap (λ o. option_and_then of_json (option_and_then (λ p. json.if_last p.0 p.1) o)) value
+    ∙ of_json-outline d h
 
-pub json_of-compact_text : (d : Data) → IsPlain d → depth d ≤ max_depth → json_of (compact_text d) ≡ Some d
-json_of-compact_text d h shallow = json_of-some (compact_text d) d (IsUtf8-compact_text d h, read-compact_text d h shallow)
+pub json_of-compact_text : (d : Data) → IsPlain d → depth d ≤ max_depth
+    → json_of (compact_text d) ≡ Some d
+json_of-compact_text d h shallow =
+    json_of-some (compact_text d) d (IsUtf8-compact_text d h, read-compact_text d h shallow)
 
 -- ---- numbers
 
 pub IsWritable-unsigned : (n : ℕ) → n < 2 ^ 64 → IsWritable (unsigned n)
-IsWritable-unsigned n l = record { reads = number_of-decimal n l; shaped = IsNumber-decimal n l; utf8 = IsUtf8-from_ascii (decimal n) (IsAscii-decimal n l); unbroken = is_unbroken-decimal n l }
+IsWritable-unsigned n l =
+    record {
+      reads = number_of-decimal n l;
+      shaped = IsNumber-decimal n l;
+      utf8 = IsUtf8-from_ascii (decimal n) (IsAscii-decimal n l);
+      unbroken = is_unbroken-decimal n l;
+    }
 
 -- the least signed number of 64 bits is a case of its own
 shaped-least : IsNumber (signed_decimal (negsuc (2 ^ 63 - 1)))
 unfolding after_number digits
 shaped-least = refl
 
-shaped-negative : (t : Bool) (n : ℕ) → nat_lt (n + 1) (2 ^ 63) ≡ t → n < 2 ^ 63 → IsNumber (signed_decimal (negsuc n))
-shaped-negative true n e l = let within : n + 1 < 2 ^ 63 = grind (arith, nat_tests) in IsNumber-signed_decimal (negsuc n) (omega arith)
+shaped-negative : (t : Bool) (n : ℕ) → nat_lt (n + 1) (2 ^ 63) ≡ t → n < 2 ^ 63
+    → IsNumber (signed_decimal (negsuc n))
+shaped-negative true n e l = let within : n + 1 < 2 ^ 63 = grind (arith, nat_tests) in
+    IsNumber-signed_decimal (negsuc n) (omega arith)
 shaped-negative false n e l =
     let past : 2 ^ 63 ≤ n + 1 = grind (arith, nat_tests) in
     let same : n ≡ 2 ^ 63 - 1 = omega arith in
@@ -150,10 +180,12 @@ pub IsWritable-negative : (n : ℕ) → n < 2 ^ 63 → IsWritable (negative (neg
 IsWritable-negative n l = record {
   reads = number_of-negative n l;
   shaped = shaped-negative (nat_lt (n + 1) (2 ^ 63)) n refl l;
-  utf8 = IsUtf8-append (45 ∷ []) _ (IsUtf8-are_ascii (45 ∷ []) refl) (IsUtf8-from_ascii (decimal (suc n)) (IsAscii-decimal (suc n) (omega arith)));
+  utf8 = IsUtf8-append (45 ∷ []) _ (IsUtf8-are_ascii (45 ∷ []) refl)
+      (IsUtf8-from_ascii (decimal (suc n)) (IsAscii-decimal (suc n) (omega arith)));
   unbroken = is_unbroken-decimal (suc n) (omega arith);
 }
 
 pub IsWritable-of_integer : (v : ℤ) → FitsSigned w64 v → IsWritable (of_integer v)
-IsWritable-of_integer (pos n) h = let l : n < 2 ^ 63 = omega (arith, ints, h) in IsWritable-unsigned n (omega arith)
+IsWritable-of_integer (pos n) h = let l : n < 2 ^ 63 = omega (arith, ints, h) in
+    IsWritable-unsigned n (omega arith)
 IsWritable-of_integer (negsuc n) h = IsWritable-negative n (omega (arith, ints, h))

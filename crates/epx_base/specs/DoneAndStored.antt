@@ -11,9 +11,12 @@ pub record DoneAndStored : Type 0 where
   pub stored : Contents
 
 abbrev pub id_code : Coded Id
-id_code = code_by (ℕ × ℕ) (coded× coded_ℕ coded_ℕ) (λ x. (x.replica, x.number)) (λ p. record { replica = p.0; number = p.1 }) (λ _. refl)
+id_code = code_by (ℕ × ℕ) (coded× coded_ℕ coded_ℕ) (λ x. (x.replica, x.number))
+    (λ p. record { replica = p.0; number = p.1 }) (λ _. refl)
 
 -- coded as the pair of its fields
 abbrev pub done_and_stored_code : Coded DoneAndStored
 done_and_stored_code =
-    code_by (List Id × Contents) (coded× (coded_list id_code) (contents.code (coded_list coded_ℕ) coded_ℤ)) (λ b. (b.done, b.stored)) (λ p. record { done = p.0; stored = p.1 }) (λ _. refl)
+    code_by (List Id × Contents)
+    (coded× (coded_list id_code) (contents.code (coded_list coded_ℕ) coded_ℤ))
+    (λ b. (b.done, b.stored)) (λ p. record { done = p.0; stored = p.1 }) (λ _. refl)

@@ -14,5 +14,6 @@ value_token None = null
 value_token (Some v) = number (signed_decimal v)
 
 abbrev pub reply_tokens : Reply → List Token
-reply_tokens (Values vs) = string (codes "ok") ∷ begin_array ∷ (map value_token vs ++ end_array ∷ [])
+reply_tokens (Values vs) = string (codes "ok") ∷ begin_array
+    ∷ (map value_token vs ++ end_array ∷ [])
 reply_tokens (Abort place) = string (codes "abort") ∷ number (decimal place) ∷ []

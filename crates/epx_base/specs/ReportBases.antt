@@ -18,7 +18,8 @@ pub record AreLinesInOrder (r : ReportData) : Type 0 where
   pub replied_once : AllPairs (λ x y. x ≢ y) (replied_ids r.replies)
   pub replied_new : (x : Id) → Contains (replied_ids r.replies) x → ¬ Contains r.done x
   pub waiting_rise : IsRising (waiting_ids r.waiting)
-  pub waiting_left : (x : Id) → Contains (waiting_ids r.waiting) x → (¬ Contains r.done x) × (¬ Contains (replied_ids r.replies) x)
+  pub waiting_left : (x : Id) → Contains (waiting_ids r.waiting) x
+      → (¬ Contains r.done x) × (¬ Contains (replied_ids r.replies) x)
 
 -- the instances that were done before or that have a reply, each once, by rising Id
 pub record AreDoneAfter (r : ReportData) (done : List Id) : Type 0 where
@@ -30,4 +31,6 @@ DoneAfterExists = (r : ReportData) → IsRising r.done → (done : List Id) × A
 
 -- a report in order whose store lines list the contents is a base
 abbrev pub ReportIsBase : Type 0
-ReportIsBase = (r : ReportData) (done : List Id) (stored : Contents) → FitsReportData r → AreLinesInOrder r → AreDoneAfter r done → r.stored ≡ contents.entries stored → IsBase (text_of_report r) done stored
+ReportIsBase = (r : ReportData) (done : List Id) (stored : Contents) → FitsReportData r
+    → AreLinesInOrder r → AreDoneAfter r done → r.stored ≡ contents.entries stored
+    → IsBase (text_of_report r) done stored

@@ -26,7 +26,8 @@ data_of_number n = number (unsigned n)
 -- up
 abbrev pub header_data : ℕ → ℕ → ℕ → List Data
 header_data executed waiting components =
-    string (codes "executed") ∷ data_of_number executed ∷ string (codes "waiting") ∷ data_of_number waiting
+    string (codes "executed") ∷ data_of_number executed ∷ string (codes "waiting")
+    ∷ data_of_number waiting
     ∷ string (codes "components") ∷ data_of_number components ∷ []
 
 abbrev pub header_line : ℕ → ℕ → ℕ → List ℕ
@@ -40,14 +41,18 @@ abbrev pub done_line : Id → List ℕ
 done_line x = line_of (done_data x)
 
 abbrev pub reply_data : Id → Reply → List Data
-reply_data x (Values vs) = string (codes "reply") ∷ data_of_number x.replica ∷ data_of_number x.number ∷ string (codes "ok") ∷ array_of (map data_of_value vs) ∷ []
-reply_data x (Abort place) = string (codes "reply") ∷ data_of_number x.replica ∷ data_of_number x.number ∷ string (codes "abort") ∷ data_of_number place ∷ []
+reply_data x (Values vs) = string (codes "reply") ∷ data_of_number x.replica
+    ∷ data_of_number x.number ∷ string (codes "ok") ∷ array_of (map data_of_value vs) ∷ []
+reply_data x (Abort place) = string (codes "reply") ∷ data_of_number x.replica
+    ∷ data_of_number x.number ∷ string (codes "abort") ∷ data_of_number place ∷ []
 
 abbrev pub reply_line : Id × Reply → List ℕ
 reply_line p = line_of (reply_data p.0 p.1)
 
 abbrev pub waiting_data : Waiting → List Data
-waiting_data w = string (codes "waiting") ∷ data_of_number w.id.replica ∷ data_of_number w.id.number ∷ data_of_number w.missing.replica ∷ data_of_number w.missing.number ∷ []
+waiting_data w = string (codes "waiting") ∷ data_of_number w.id.replica
+    ∷ data_of_number w.id.number ∷ data_of_number w.missing.replica
+    ∷ data_of_number w.missing.number ∷ []
 
 abbrev pub waiting_line : Waiting → List ℕ
 waiting_line w = line_of (waiting_data w)

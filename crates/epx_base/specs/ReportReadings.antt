@@ -1,5 +1,7 @@
 -- A report, and the result of reading it as a base.
-use Rattle.std.specs.Prelude.{◌≡◌, ℕ, ℤ, ◌+◌, ◌^◌, ◌<◌, ◌≤◌, List, [], ◌∷◌, ◌++◌, length, map, flat_map, All, Option, IfSome, IsUtf8, Result, Ok, Err, if◌then◌else◌}
+use Rattle.std.specs.Prelude.{◌≡◌, ℕ, ℤ, ◌+◌, ◌^◌, ◌<◌, ◌≤◌, List, [], ◌∷◌, ◌++◌, length, map}
+use Rattle.std.specs.Prelude.{flat_map, All, Option, IfSome, IsUtf8, Result, Ok, Err}
+use Rattle.std.specs.Prelude.{if◌then◌else◌}
 use Rattle.std.specs.Int.{w64}
 use Rattle.std.specs.Int.RustNames.{FitsSigned}
 use Rattle.epx_types.specs.declared.id.Id.{Id}
@@ -11,7 +13,8 @@ use Rattle.epx_base.specs.declared.form.BaseLine.{BaseLine}
 use Rattle.epx_base.specs.declared.form.BaseLine.TheVariants as line
 use Rattle.epx_base.specs.Seen.{Seen, nothing_seen, after, is_complete}
 use Rattle.epx_base.specs.Bases.{or_line_number, base_reading}
-use Rattle.epx_base.specs.ReportLines.{header_line, done_line, reply_line, waiting_line, store_line}
+use Rattle.epx_base.specs.ReportLines.{header_line, done_line, reply_line, waiting_line}
+use Rattle.epx_base.specs.ReportLines.{store_line}
 
 -- ---- a report
 
@@ -26,13 +29,17 @@ pub record ReportData : Type 0 where
 abbrev pub text_of_report : ReportData → List ℕ
 text_of_report r =
     header_line (length r.replies) (length r.waiting) r.components
-    ++ (flat_map done_line r.done ++ (flat_map reply_line r.replies ++ (flat_map waiting_line r.waiting ++ flat_map store_line r.stored)))
+    ++ (flat_map done_line r.done
+    ++ (flat_map reply_line r.replies
+    ++ (flat_map waiting_line r.waiting ++ flat_map store_line r.stored)))
 
 -- what the lines of a report say, in order
 abbrev pub said : ReportData → List BaseLine
 said r =
     line.Header (record { executed = length r.replies; waiting = length r.waiting })
-    ∷ (map line.Done r.done ++ (map (λ p. line.Reply p.0) r.replies ++ (map (λ w. line.Waiting w.id) r.waiting ++ map (λ p. line.Store p.0 p.1) r.stored)))
+    ∷ (map line.Done r.done
+    ++ (map (λ p. line.Reply p.0) r.replies
+    ++ (map (λ w. line.Waiting w.id) r.waiting ++ map (λ p. line.Store p.0 p.1) r.stored)))
 
 -- ---- the numbers and texts of a report are within their limits
 
@@ -63,4 +70,5 @@ read_base_lines s n (l ∷ ls) = or_line_number n (after s l) (λ t. read_base_l
 
 -- reading the text of a report yields what its lines say
 abbrev pub ReportIsReadAsItSays : Type 0
-ReportIsReadAsItSays = (r : ReportData) → FitsReportData r → base_reading (text_of_report r) ≡ read_base_lines nothing_seen 1 (said r)
+ReportIsReadAsItSays = (r : ReportData) → FitsReportData r
+    → base_reading (text_of_report r) ≡ read_base_lines nothing_seen 1 (said r)

@@ -1,5 +1,7 @@
 -- What the lines before a line of a base say, and which lines are allowed next.
-use Rattle.std.specs.Prelude.{ℕ, ℤ, ◌+◌, ◌-◌, ◌==◌, ◌&&◌, Bool, true, false, not, nat_lt, List, [], ◌∷◌, ◌++◌, length, slice_get, Option, Some, None, option_map, if◌then◌else◌}
+use Rattle.std.specs.Prelude.{ℕ, ℤ, ◌+◌, ◌-◌, ◌==◌, ◌&&◌, Bool, true, false, not, nat_lt, List, []}
+use Rattle.std.specs.Prelude.{◌∷◌, ◌++◌, length, slice_get, Option, Some, None, option_map}
+use Rattle.std.specs.Prelude.{if◌then◌else◌}
 use Rattle.std.specs.BTreeSet.{insert_key}
 use Rattle.std.specs.Ordering.{is_lt}
 use Rattle.std.specs.declared.cmp.Ordering.{Ordering}
@@ -48,7 +50,8 @@ is_after_last cmp (Some y) x = is_lt (cmp y x)
 -- line
 abbrev pub after_done : Seen → Id → Option Seen
 after_done s x =
-    if (s.replies == 0) && (length s.waiting == 0) && (length s.stored == 0) && is_after_last id_cmp (last s.done) x
+    if (s.replies == 0) && (length s.waiting == 0) && (length s.stored == 0) && is_after_last
+    id_cmp (last s.done) x
     then Some (record s { done = insert_key id_cmp s.done x }) else None
 
 -- a reply line: while replies are missing (so there was no waiting and no store line), for an
@@ -62,14 +65,16 @@ after_reply c s x =
 -- for an instance that is not done, with a greater Id than the last waiting line
 abbrev pub after_waiting : Counts → Seen → Id → Option Seen
 after_waiting c s x =
-    if (s.replies == c.executed) && nat_lt (length s.waiting) c.waiting && is_after_last id_cmp (last s.waiting) x && not (is_among s.done x)
+    if (s.replies == c.executed) && nat_lt (length s.waiting) c.waiting && is_after_last id_cmp
+    (last s.waiting) x && not (is_among s.done x)
     then Some (record s { waiting = s.waiting ++ x ∷ [] }) else None
 
 -- a store line: after all replies and all waiting lines, with a greater key than the last store
 -- line
 abbrev pub after_store : Counts → Seen → List ℕ → ℤ → Option Seen
 after_store c s k v =
-    if (s.replies == c.executed) && (length s.waiting == c.waiting) && is_after_last key_cmp (option_map (λ p. p.0) (last s.stored)) k
+    if (s.replies == c.executed) && (length s.waiting == c.waiting) && is_after_last key_cmp
+    (option_map (λ p. p.0) (last s.stored)) k
     then Some (record s { stored = s.stored ++ (k, v) ∷ [] }) else None
 
 -- the header is the first line and no other

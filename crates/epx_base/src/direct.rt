@@ -5,7 +5,8 @@ ghost use Rattle.std.specs.Prelude.{◌≡◌, true, [], ◌∷◌, codes, Some,
 ghost use Rattle.serde_json.specs.Data.{Data};
 ghost use Rattle.epx_lines.specs.Meaning.{json_of};
 ghost use Rattle.epx_lines.specs.Tokens.{BeginsWith, BeginsWithAll, ParsesTo, ParsesAllTo};
-ghost use Rattle.epx_base.specs.Forms.{is_value_list, is_op_index, is_outcome, form_named, form_of};
+ghost use Rattle.epx_base.specs.Forms.{is_value_list, is_op_index, is_outcome, form_named};
+ghost use Rattle.epx_base.specs.Forms.{form_of};
 
 use crate::form::{BaseLine, Counts};
 use epx_lines::{take_id_parts, take_key, take_number, take_signed, take_text, take_value_or_null};

@@ -1,7 +1,8 @@
 //! Reads a line of a base from its JSON value.
 ghost use Rattle.std.specs.Prelude.{◌≡◌, IfOk};
 ghost use Rattle.serde_json.specs.View.{view};
-ghost use Rattle.epx_base.specs.Forms.{is_text, counts_of, header_of, is_value_list, is_op_index, is_outcome, id_line_of, short_line_of, form_of};
+ghost use Rattle.epx_base.specs.Forms.{is_text, counts_of, header_of, is_value_list, is_op_index};
+ghost use Rattle.epx_base.specs.Forms.{is_outcome, id_line_of, short_line_of, form_of};
 
 use epx_lines::{read_id_parts, read_key, read_number, read_value_or_null};
 use epx_types::entry::MAX_OPS;
@@ -101,7 +102,8 @@ fn read_header(
     third_name: &Value,
     components: &Value,
 ) -> Option<BaseLine>
-    ensures { result ≡ header_of (view name.now) (view executed.now) (view second_name.now) (view waiting.now) (view third_name.now) (view components.now) }
+    ensures { result ≡ header_of (view name.now) (view executed.now) (view second_name.now)
+        (view waiting.now) (view third_name.now) (view components.now) }
 {
     if !has_text(name, "executed") {
         return None;
@@ -121,7 +123,8 @@ fn read_id_line(
     first: &Value,
     second: &Value,
 ) -> Option<BaseLine>
-    ensures { result ≡ id_line_of (view name.now) (view replica.now) (view number.now) (view first.now) (view second.now) }
+    ensures { result ≡ id_line_of (view name.now) (view replica.now) (view number.now)
+        (view first.now) (view second.now) }
 {
     if has_text(name, "reply") {
         if !is_outcome_of_command(first, second) {
@@ -144,7 +147,8 @@ fn read_short_line(
     first: &Value,
     second: &Value,
 ) -> Result<Option<BaseLine>, Memory>
-    ensures { IfOk result (λ o. o ≡ short_line_of (view name.now) (view first.now) (view second.now)) }
+    ensures { IfOk result
+        (λ o. o ≡ short_line_of (view name.now) (view first.now) (view second.now)) }
 {
     if has_text(name, "done") {
         return Ok(read_id_parts(first, second).map(BaseLine::Done));

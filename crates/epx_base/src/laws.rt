@@ -1,6 +1,8 @@
 //! Laws about bases, lists and reports.
-ghost use Rattle.epx_base.specs.Laws.{BaseOrBadBase, BaseIsNoBadBase, BaseSaysOneThing, BadBaseIsBadAtOneLine};
-ghost use Rattle.epx_base.specs.ListLaws.{ListOrBadList, ListIsNoBadList, ListNamesOneList, BadListIsBadAtOneLine};
+ghost use Rattle.epx_base.specs.Laws.{BaseOrBadBase, BaseIsNoBadBase, BaseSaysOneThing};
+ghost use Rattle.epx_base.specs.Laws.{BadBaseIsBadAtOneLine};
+ghost use Rattle.epx_base.specs.ListLaws.{ListOrBadList, ListIsNoBadList, ListNamesOneList};
+ghost use Rattle.epx_base.specs.ListLaws.{BadListIsBadAtOneLine};
 ghost use Rattle.epx_base.specs.ReportReadings.{ReportIsReadAsItSays};
 ghost use Rattle.epx_base.specs.ReportBases.{DoneAfterExists, ReportIsBase};
 

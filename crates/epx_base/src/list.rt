@@ -25,7 +25,8 @@ fn read_listed_id(alloc: Global, bytes: &[u8]) -> Result<Option<Id>, Memory>
 /// Adds the instance of one more line to the list. False if the line is not blank and names no
 /// instance.
 fn take_line(alloc: Global, ids: &mut Vec<Id>, bytes: &[u8]) -> Result<bool, Memory>
-    ensures { IfOk result (λ named. with_line ids.old.items bytes.now ≡ some_if named ids.new.items) }
+    ensures { IfOk result (λ named. with_line ids.old.items bytes.now
+        ≡ some_if named ids.new.items) }
 {
     if is_blank_line(bytes) {
         return Ok(true);

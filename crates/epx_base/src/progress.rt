@@ -1,7 +1,8 @@
 //! The state of reading the lines of a base one after another.
 ghost use Rattle.std.specs.Prelude.{◌≡◌, None, IfOk};
 ghost use Rattle.std.specs.FinMap as contents;
-ghost use Rattle.epx_base.specs.Seen.{nothing_seen, after_done, after_reply, after_waiting, after_store, after_with, after, some_if, is_complete};
+ghost use Rattle.epx_base.specs.Seen.{nothing_seen, after_done, after_reply, after_waiting};
+ghost use Rattle.epx_base.specs.Seen.{after_store, after_with, after, some_if, is_complete};
 ghost use Rattle.epx_base.specs.Bases.{after_line, put_pairs};
 
 use crate::base::Base;
@@ -44,7 +45,13 @@ impl Model for Progress {
 
     ghost Value = { Seen };
 
-    ghost view = { λ p. record { counts = p.counts; done = p.done; replies = p.replies; waiting = p.waiting.items; stored = p.stored.items } };
+    ghost view = { λ p. record {
+      counts = p.counts;
+      done = p.done;
+      replies = p.replies;
+      waiting = p.waiting.items;
+      stored = p.stored.items;
+    } };
 }
 
 impl Progress {
@@ -87,7 +94,8 @@ impl Progress {
     }
 
     fn take_waiting(&mut self, counts: Counts, id: Id) -> Result<bool, Memory>
-        ensures { IfOk result (λ stands. after_waiting counts self.old id ≡ some_if stands self.new) }
+        ensures { IfOk result (λ stands. after_waiting counts self.old id
+            ≡ some_if stands self.new) }
     {
         if self.replies != counts.executed || self.waiting.len() as u64 >= counts.waiting {
             return Ok(false);
@@ -100,7 +108,8 @@ impl Progress {
     }
 
     fn take_store(&mut self, counts: Counts, key: Key, value: i64) -> Result<bool, Memory>
-        ensures { IfOk result (λ stands. after_store counts self.old key value ≡ some_if stands self.new) }
+        ensures { IfOk result (λ stands. after_store counts self.old key value
+            ≡ some_if stands self.new) }
     {
         if self.replies != counts.executed || self.waiting.len() as u64 != counts.waiting {
             return Ok(false);

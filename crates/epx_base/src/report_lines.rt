@@ -5,7 +5,8 @@ ghost use Rattle.std.specs.FinMap as contents;
 ghost use Rattle.json.specs.Token.{begin_array, end_array, string};
 ghost use Rattle.json.specs.Print.{print};
 ghost use Rattle.epx_base.specs.LineTokens.{id_tokens, value_token, reply_tokens};
-ghost use Rattle.epx_base.specs.ReportLines.{line_feed, done_line, header_line, reply_line, store_line, waiting_line};
+ghost use Rattle.epx_base.specs.ReportLines.{line_feed, done_line, header_line, reply_line};
+ghost use Rattle.epx_base.specs.ReportLines.{store_line, waiting_line};
 
 use epx_txn::Store;
 use epx_types::{Id, Key, Memory, Reply};

@@ -1,5 +1,6 @@
 -- Two writes under different keys.
-use Rattle.std.proofs.Common.{◌≡◌, ◌≢◌, ℕ, ℤ, false, List, [], ◌∷◌, ◌++◌, Option, sym, subst, inl, inr, All, AllPairs, arith}
+use Rattle.std.proofs.Common.{◌≡◌, ◌≢◌, ℕ, ℤ, false, List, [], ◌∷◌, ◌++◌, Option, sym, subst, inl}
+use Rattle.std.proofs.Common.{inr, All, AllPairs, arith}
 use Rattle.std.specs.Ordering.{eq_by_cmp}
 use Rattle.std.proofs.lemmas.List.Kept.{AllPairs-cons}
 use Rattle.std.proofs.lemmas.List.Elements.{All-nil, All-cons}
@@ -11,10 +12,16 @@ differs : (j k : List ℕ) → eq_by_cmp key_cmp j k ≡ false → j ≢ k
 differs j k e = elim (key_cases j k) [ inl tied ↦ absurd (cc (e, tied.0)) | inr other ↦ other.1 ]
 
 -- no key is in them twice
-pub two_apart : (vs ws : List Write) (j k : List ℕ) (v w : Option ℤ) → vs ≡ (j, v) ∷ [] → ws ≡ (k, w) ∷ [] → eq_by_cmp key_cmp j k ≡ false → HasDistinctKeys (vs ++ (ws ++ []))
+pub two_apart : (vs ws : List Write) (j k : List ℕ) (v w : Option ℤ) → vs ≡ (j, v) ∷ []
+    → ws ≡ (k, w) ∷ [] → eq_by_cmp key_cmp j k ≡ false → HasDistinctKeys (vs ++ (ws ++ []))
 two_apart vs ws j k v w first second e =
     let Apart : Write → Write → Type 0 = λ x y. x.0 ≢ y.0 in
-    let others : All (Apart (j, v)) ((k, w) ∷ []) = All-cons (Apart (j, v)) (k, w) [] (differs j k e) (All-nil (Apart (j, v))) in
-    let last : AllPairs Apart ((k, w) ∷ []) = AllPairs-cons Apart (k, w) [] (All-nil (Apart (k, w))) (λ a b d p q. absurd (omega arith)) in
+    let others : All (Apart (j, v)) ((k, w) ∷ []) =
+    All-cons (Apart (j, v)) (k, w) [] (differs j k e) (All-nil (Apart (j, v))) in
+    let last : AllPairs Apart ((k, w) ∷ []) =
+    AllPairs-cons Apart (k, w) [] (All-nil (Apart (k, w)))
+    (λ a b d p q. absurd (omega arith)) in
     let P : List Write → List Write → Type 0 = λ x y. HasDistinctKeys (x ++ (y ++ [])) in
-    subst (λ (x : List Write). P x ws) (sym first) (subst (λ (y : List Write). P ((j, v) ∷ []) y) (sym second) (AllPairs-cons Apart (j, v) ((k, w) ∷ []) others last))
+    subst (λ (x : List Write). P x ws) (sym first)
+    (subst (λ (y : List Write). P ((j, v) ∷ []) y) (sym second)
+    (AllPairs-cons Apart (j, v) ((k, w) ∷ []) others last))

@@ -1,5 +1,6 @@
 -- The answers of a part of the work, after one more piece and after a join.
-use Rattle.std.proofs.Common.{◌≡◌, ℕ, ◌+◌, Bool, ◌||◌, true, false, List, [], ◌∷◌, ◌++◌, map, sym, refl, ap, ◌∙◌, subst, arith}
+use Rattle.std.proofs.Common.{◌≡◌, ℕ, ◌+◌, Bool, ◌||◌, true, false, List, [], ◌∷◌, ◌++◌, map, sym}
+use Rattle.std.proofs.Common.{refl, ap, ◌∙◌, subst, arith}
 use mathlib.Core.List.{map-append}
 use Rattle.std.specs.List.{All}
 use Rattle.std.proofs.lemmas.List.Elements.{All-nil, All-push, All-append}
@@ -9,7 +10,12 @@ use Rattle.epx_claims.specs.inner.WorkResult.{HasAnswers, IsFresh, piece_of}
 
 -- the seat after a draw
 abbrev pub with_piece : SeatView → ℕ → SeatView
-with_piece s p = record { claims = s.claims; drawn = s.drawn ++ p ∷ []; share = s.share; ended = s.ended }
+with_piece s p = record {
+  claims = s.claims;
+  drawn = s.drawn ++ p ∷ [];
+  share = s.share;
+  ended = s.ended;
+}
 
 -- the seat after it ended
 abbrev pub at_end : SeatView → SeatView
@@ -17,24 +23,35 @@ at_end s = record { claims = s.claims; drawn = s.drawn; share = s.share; ended =
 
 -- the seat after a join of two
 abbrev pub both_seats : SeatView → SeatView → SeatView
-both_seats s t = record { claims = s.claims; drawn = s.drawn ++ t.drawn; share = s.share + t.share; ended = s.ended || t.ended }
+both_seats s t = record {
+  claims = s.claims;
+  drawn = s.drawn ++ t.drawn;
+  share = s.share + t.share;
+  ended = s.ended || t.ended;
+}
 
 module _ {T : Type 0} (answers : ℕ → T → Type 0) (claims : ClaimsView) where
   -- at the start there are no answers
-  pub answers_none : (share : ℕ) (seat : SeatView) (items : List (Answer T)) → IsFresh claims share seat → items ≡ [] → HasAnswers answers claims share false seat items
+  pub answers_none : (share : ℕ) (seat : SeatView) (items : List (Answer T))
+      → IsFresh claims share seat → items ≡ [] → HasAnswers answers claims share false seat items
   answers_none share seat items fresh none = record {
     own = fresh.own;
     share_is = fresh.share_is;
     ended_is = fresh.not_ended;
     drawn = fresh.nothing ∙ ap (map piece_of) (sym none);
-    each = subst (All (λ a. answers a.piece a.value)) (sym none) (All-nil (λ a. answers a.piece a.value));
+    each = subst (All (λ a. answers a.piece a.value)) (sym none)
+        (All-nil (λ a. answers a.piece a.value));
   }
 
   -- one more piece, with its answer
-  pub answers_push : (share : ℕ) (ended : Bool) (seat seat' : SeatView) (items items' : List (Answer T)) (a : Answer T) → HasAnswers answers claims share ended seat items
-      → seat' ≡ with_piece seat a.piece → items' ≡ items ++ a ∷ [] → answers a.piece a.value → HasAnswers answers claims share ended seat' items'
+  pub answers_push : (share : ℕ) (ended : Bool) (seat seat' : SeatView)
+      (items items' : List (Answer T)) (a : Answer T)
+      → HasAnswers answers claims share ended seat items
+      → seat' ≡ with_piece seat a.piece → items' ≡ items ++ a ∷ [] → answers a.piece a.value
+      → HasAnswers answers claims share ended seat' items'
   answers_push share ended seat seat' items items' a has seat_is items_is good =
-      subst (λ (p : SeatView × List (Answer T)). HasAnswers answers claims share ended p.0 p.1) (λ i. (sym seat_is i, sym items_is i)) (record {
+      subst (λ (p : SeatView × List (Answer T)). HasAnswers answers claims share ended p.0 p.1)
+      (λ i. (sym seat_is i, sym items_is i)) (record {
         own = has.own;
         share_is = has.share_is;
         ended_is = has.ended_is;
@@ -43,9 +60,12 @@ module _ {T : Type 0} (answers : ℕ → T → Type 0) (claims : ClaimsView) whe
       })
 
   -- no piece is left
-  pub answers_ended : (share : ℕ) (seat seat' : SeatView) (items : List (Answer T)) → HasAnswers answers claims share false seat items → seat' ≡ at_end seat → HasAnswers answers claims share true seat' items
+  pub answers_ended : (share : ℕ) (seat seat' : SeatView) (items : List (Answer T))
+      → HasAnswers answers claims share false seat items → seat' ≡ at_end seat
+      → HasAnswers answers claims share true seat' items
   answers_ended share seat seat' items has seat_is =
-      subst (λ (s : SeatView). HasAnswers answers claims share true s items) (sym seat_is) (record {
+      subst (λ (s : SeatView). HasAnswers answers claims share true s items) (sym seat_is)
+      (record {
         own = has.own;
         share_is = has.share_is;
         ended_is = refl;
@@ -54,10 +74,13 @@ module _ {T : Type 0} (answers : ℕ → T → Type 0) (claims : ClaimsView) whe
       })
 
   -- two seats are joined, and their answers appended
-  pub answers_joined : (share one other : ℕ) (s t seat : SeatView) (xs ys items : List (Answer T)) → HasAnswers answers claims one true s xs → HasAnswers answers claims other true t ys
-      → one + other ≡ share → seat ≡ both_seats s t → items ≡ xs ++ ys → HasAnswers answers claims share true seat items
+  pub answers_joined : (share one other : ℕ) (s t seat : SeatView) (xs ys items : List (Answer T))
+      → HasAnswers answers claims one true s xs → HasAnswers answers claims other true t ys
+      → one + other ≡ share → seat ≡ both_seats s t → items ≡ xs ++ ys
+      → HasAnswers answers claims share true seat items
   answers_joined share one other s t seat xs ys items left right whole seat_is items_is =
-      subst (λ (p : SeatView × List (Answer T)). HasAnswers answers claims share true p.0 p.1) (λ i. (sym seat_is i, sym items_is i)) (record {
+      subst (λ (p : SeatView × List (Answer T)). HasAnswers answers claims share true p.0 p.1)
+      (λ i. (sym seat_is i, sym items_is i)) (record {
         own = left.own;
         share_is = (let a = left.share_is in let b = right.share_is in omega arith);
         ended_is = ap (λ e. e || t.ended) left.ended_is;

@@ -1,13 +1,16 @@
 -- States of the claims, as lists of seat states: what each step does to them, and what follows for
 -- one seat.
-use Rattle.std.proofs.Common.{◌≡◌, ℕ, ◌+◌, ◌-◌, ◌/◌, ◌<◌, ◌≤◌, eqb, Bool, true, false, cond, ◌||◌, List, [], ◌∷◌, get_or, sym, ap, ◌∙◌, arith}
+use Rattle.std.proofs.Common.{◌≡◌, ℕ, ◌+◌, ◌-◌, ◌/◌, ◌<◌, ◌≤◌, eqb, Bool, true, false, cond, ◌||◌}
+use Rattle.std.proofs.Common.{List, [], ◌∷◌, get_or, sym, ap, ◌∙◌, arith}
 use Rattle.std.specs.List.{All}
 use Rattle.epx_claims.specs.declared.seat_state.SeatState.{SeatState}
 use Rattle.epx_claims.specs.Count.{total, one_if, occurrences, once_below}
 use Rattle.epx_claims.specs.ClaimState.{ClaimState}
 use Rattle.epx_claims.specs.inner.Rule.{with_piece, at_end, split_in_two, join_two}
 use Rattle.epx_claims.proofs.SumLemmas.{total-le}
-use Rattle.epx_claims.proofs.CountLemmas.{once_below_more, once_below_full, total-append, occurs_at, below_from_once, below_min, positive_from_count, count_of_positive}
+use Rattle.epx_claims.proofs.CountLemmas.{once_below_more, once_below_full, total-append}
+use Rattle.epx_claims.proofs.CountLemmas.{occurs_at, below_from_once, below_min}
+use Rattle.epx_claims.proofs.CountLemmas.{positive_from_count, count_of_positive}
 
 -- if the join of two has ended, one of them has
 either_ended : (a b : Bool) → one_if (a || b) ≤ one_if a + one_if b
@@ -22,23 +25,28 @@ both_stops false true x y = omega arith
 both_stops false false x y = omega arith
 
 stops_fit : (h : SeatState) → cond h.ended h.share 0 ≤ h.share
-stops_fit h = elim h.ended as (λ b. cond b h.share 0 ≤ h.share) [ true ↦ omega arith | false ↦ omega arith ]
+stops_fit h = elim h.ended as (λ b. cond b h.share 0 ≤ h.share)
+    [ true ↦ omega arith | false ↦ omega arith ]
 
 module _ (n w c : ℕ) where
   -- consistency is about sums, so another list with the same sums is consistent too
-  pub same_sums : (xs ys : List SeatState) → ((f : SeatState → ℕ) → total f xs ≡ total f ys) → ClaimState n w c xs → ClaimState n w c ys
+  pub same_sums : (xs ys : List SeatState) → ((f : SeatState → ℕ) → total f xs ≡ total f ys)
+      → ClaimState n w c xs → ClaimState n w c ys
   same_sums xs ys same d = record {
     each_once = λ x. sym (same (λ h. occurrences x h.drawn)) ∙ d.each_once x;
     no_empty_share = sym (same (λ h. one_if (eqb h.share 0))) ∙ d.no_empty_share;
     all_shares = sym (same (λ h. h.share)) ∙ d.all_shares;
-    all_pieces_drawn = λ some_ended. let e = same (λ h. one_if h.ended) in d.all_pieces_drawn (omega arith);
+    all_pieces_drawn = λ some_ended. let e = same (λ h. one_if h.ended) in
+        d.all_pieces_drawn (omega arith);
     few_stops = let e = same (λ h. cond h.ended h.share 0) in let g = d.few_stops in omega arith;
   }
 
   -- a seat draws the next piece
-  pub draw_keeps : (h : SeatState) (hs : List SeatState) → c < n → ClaimState n w c (h ∷ hs) → ClaimState n w (c + 1) (with_piece c h ∷ hs)
+  pub draw_keeps : (h : SeatState) (hs : List SeatState) → c < n → ClaimState n w c (h ∷ hs)
+      → ClaimState n w (c + 1) (with_piece c h ∷ hs)
   draw_keeps h hs left d = record {
-    each_once = λ x. let p = total-append (λ y. one_if (eqb y x)) h.drawn (c ∷ []) in let g = d.each_once x in let m = once_below_more x c n left in omega arith;
+    each_once = λ x. let p = total-append (λ y. one_if (eqb y x)) h.drawn (c ∷ []) in
+        let g = d.each_once x in let m = once_below_more x c n left in omega arith;
     no_empty_share = d.no_empty_share;
     all_shares = d.all_shares;
     all_pieces_drawn = λ some_ended. let g = d.all_pieces_drawn some_ended in omega arith;
@@ -46,7 +54,8 @@ module _ (n w c : ℕ) where
   }
 
   -- a seat stops
-  pub stop_keeps : (h : SeatState) (hs : List SeatState) → h.ended ≡ false → n ≤ c → ClaimState n w c (h ∷ hs) → ClaimState n w (c + 1) (at_end h ∷ hs)
+  pub stop_keeps : (h : SeatState) (hs : List SeatState) → h.ended ≡ false → n ≤ c
+      → ClaimState n w c (h ∷ hs) → ClaimState n w (c + 1) (at_end h ∷ hs)
   stop_keeps h hs not_ended full d = record {
     each_once = λ x. let g = d.each_once x in let m = once_below_full x c n full in omega arith;
     no_empty_share = d.no_empty_share;
@@ -61,7 +70,8 @@ module _ (n w c : ℕ) where
   }
 
   -- a seat is split
-  pub split_keeps : (h : SeatState) (hs : List SeatState) → h.ended ≡ false → 2 ≤ h.share → ClaimState n w c (h ∷ hs) → ClaimState n w c (split_in_two (h ∷ hs))
+  pub split_keeps : (h : SeatState) (hs : List SeatState) → h.ended ≡ false → 2 ≤ h.share
+      → ClaimState n w c (h ∷ hs) → ClaimState n w c (split_in_two (h ∷ hs))
   split_keeps h hs not_ended enough d = record {
     each_once = λ x. let g = d.each_once x in omega arith;
     no_empty_share =
@@ -78,21 +88,26 @@ module _ (n w c : ℕ) where
   }
 
   -- two seats are joined
-  pub join_keeps : (h k : SeatState) (hs : List SeatState) → ClaimState n w c (h ∷ k ∷ hs) → ClaimState n w c (join_two (h ∷ k ∷ hs))
+  pub join_keeps : (h k : SeatState) (hs : List SeatState) → ClaimState n w c (h ∷ k ∷ hs)
+      → ClaimState n w c (join_two (h ∷ k ∷ hs))
   join_keeps h k hs d = record {
-    each_once = λ x. let g = d.each_once x in let p = total-append (λ y. one_if (eqb y x)) h.drawn k.drawn in omega arith;
+    each_once = λ x. let g = d.each_once x in
+        let p = total-append (λ y. one_if (eqb y x)) h.drawn k.drawn in omega arith;
     no_empty_share =
         let g = d.no_empty_share in
         let positive = positive_from_count h.share (omega arith) in
         let b = count_of_positive (h.share + k.share) (omega arith) in
         omega arith;
     all_shares = let g = d.all_shares in omega arith;
-    all_pieces_drawn = λ some_ended. let o = either_ended h.ended k.ended in d.all_pieces_drawn (omega arith);
-    few_stops = let g = d.few_stops in let b = both_stops h.ended k.ended h.share k.share in omega arith;
+    all_pieces_drawn = λ some_ended. let o = either_ended h.ended k.ended in
+        d.all_pieces_drawn (omega arith);
+    few_stops = let g = d.few_stops in let b = both_stops h.ended k.ended h.share k.share in
+        omega arith;
   }
 
   -- what a seat has drawn is below the word
-  pub drawn_below : (h : SeatState) (hs : List SeatState) → ClaimState n w c (h ∷ hs) → All (λ p. p < c) h.drawn
+  pub drawn_below : (h : SeatState) (hs : List SeatState) → ClaimState n w c (h ∷ hs)
+      → All (λ p. p < c) h.drawn
   drawn_below h hs d k d0 inside =
       let x : ℕ = get_or h.drawn k d0 in
       let t = occurs_at h.drawn k d0 inside in
@@ -100,9 +115,11 @@ module _ (n w c : ℕ) where
       below_from_once x c n (omega arith)
 
   -- no number is in the lists of two seats, or twice in one
-  pub apart : (h k : SeatState) (hs : List SeatState) → ClaimState n w c (h ∷ k ∷ hs) → (x : ℕ) → occurrences x h.drawn + occurrences x k.drawn ≤ once_below x n
+  pub apart : (h k : SeatState) (hs : List SeatState) → ClaimState n w c (h ∷ k ∷ hs) → (x : ℕ)
+      → occurrences x h.drawn + occurrences x k.drawn ≤ once_below x n
   apart h k hs d x = let e = d.each_once x in let b = below_min x c n in omega arith
 
   -- the word is at most the numbers of pieces and workers together, so it never wraps
   pub word_fits : (hs : List SeatState) → ClaimState n w c hs → c ≤ n + w
-  word_fits hs d = let t = total-le (λ k. cond k.ended k.share 0) (λ k. k.share) stops_fit hs in let a = d.all_shares in let b = d.few_stops in omega arith
+  word_fits hs d = let t = total-le (λ k. cond k.ended k.share 0) (λ k. k.share) stops_fit hs in
+      let a = d.all_shares in let b = d.few_stops in omega arith

@@ -1,5 +1,6 @@
 -- The seat that has every share has drawn all the pieces that were drawn.
-use Rattle.std.proofs.Common.{◌≡◌, ℕ, eqb, min, true, List, [], ◌∷◌, ◌++◌, length, get_or, sym, refl, ap, ◌∙◌, subst, arith}
+use Rattle.std.proofs.Common.{◌≡◌, ℕ, eqb, min, true, List, [], ◌∷◌, ◌++◌, length, get_or, sym}
+use Rattle.std.proofs.Common.{refl, ap, ◌∙◌, subst, arith}
 use mathlib.Core.Option.{some, some-injective, some-ne-none}
 use lib.ListN.{get_elem?}
 use Rattle.atomic_table.specs.Table.{State, Final, Seen}
@@ -14,9 +15,11 @@ use Rattle.epx_claims.proofs.CountLemmas.{positive_from_count}
 use Rattle.epx_claims.proofs.SumLemmas.{others, picked_sum}
 
 -- seat states whose shares add up to 0 are none
-no_seat_states : (hs : List SeatState) → total (λ h. h.share) hs ≡ 0 → total (λ h. one_if (eqb h.share 0)) hs ≡ 0 → hs ≡ []
+no_seat_states : (hs : List SeatState) → total (λ h. h.share) hs ≡ 0
+    → total (λ h. one_if (eqb h.share 0)) hs ≡ 0 → hs ≡ []
 no_seat_states [] none full = refl
-no_seat_states (h ∷ hs) none full = let p = positive_from_count h.share (omega arith) in absurd (omega arith)
+no_seat_states (h ∷ hs) none full = let p = positive_from_count h.share (omega arith) in
+    absurd (omega arith)
 
 -- what `close` returns: the length of the list, which has each number below it once; if the seat
 -- has ended, the number of pieces
@@ -31,18 +34,27 @@ at_zero : (xs : List ℕ) (x : ℕ) → get_elem? xs 0 ≡ some x → get_or xs 
 at_zero [] x e = absurd (some-ne-none x (sym e))
 at_zero (y ∷ ys) x e = some-injective y x e
 
-drawn_at_end : (terms : Terms) (id word : ℕ) (v : View) (h : SeatState) (ws : List ℕ) (xs : List (Unit {0})) → v.seat_states ≡ h ∷ [] → h.share ≡ terms.workers → get_elem? ws 0 ≡ some word
-    → Final (Seen (HasClaimState terms) id v) ws xs → IsAllDrawn terms.pieces terms.workers (min word terms.pieces) h
+drawn_at_end : (terms : Terms) (id word : ℕ) (v : View) (h : SeatState) (ws : List ℕ)
+    (xs : List (Unit {0})) → v.seat_states ≡ h ∷ [] → h.share ≡ terms.workers
+    → get_elem? ws 0 ≡ some word
+    → Final (Seen (HasClaimState terms) id v) ws xs
+    → IsAllDrawn terms.pieces terms.workers (min word terms.pieces) h
 drawn_at_end terms id word v h ws xs is every found final =
     let s : State (Unit {0}) View = final.0 in
     let r : HasClaimState terms s = final.1.0 in
-    let c : get_or s.words 0 0 ≡ word = ap (λ (z : List ℕ). get_or z 0 0) final.2 ∙ at_zero ws word found in
+    let c : get_or s.words 0 0 ≡ word = ap (λ (z : List ℕ). get_or z 0 0) final.2
+    ∙ at_zero ws word found in
     let hs : List SeatState = others s.views id in
-    let with_rest : ClaimState terms.pieces terms.workers word (h ∷ hs) = subst (λ (p : ℕ × List SeatState). ClaimState terms.pieces terms.workers p.0 (p.1 ++ hs)) (λ i. (c i, is i)) (state_by_view terms (get_or s.words 0 0) s.views id v final.1.1 r.deal) in
+    let with_rest : ClaimState terms.pieces terms.workers word (h ∷ hs) =
+    subst (λ (p : ℕ × List SeatState). ClaimState terms.pieces terms.workers p.0 (p.1 ++ hs))
+    (λ i. (c i, is i)) (state_by_view terms (get_or s.words 0 0) s.views id v final.1.1
+    r.deal) in
     let shares = with_rest.all_shares in
     let full = with_rest.no_empty_share in
     let alone : hs ≡ [] = no_seat_states hs (omega arith) (omega arith) in
-    let d : ClaimState terms.pieces terms.workers word (h ∷ []) = subst (λ (z : List SeatState). ClaimState terms.pieces terms.workers word (h ∷ z)) alone with_rest in
+    let d : ClaimState terms.pieces terms.workers word (h ∷ []) =
+    subst (λ (z : List SeatState). ClaimState terms.pieces terms.workers word (h ∷ z)) alone
+    with_rest in
     record {
       length =
           let a = picked_sum (λ k. length k.drawn) s.views id v final.1.1 in
@@ -51,13 +63,17 @@ drawn_at_end terms id word v h ws xs is every found final =
           let l = r.lengths in
           omega arith;
       each_once = λ x. let e = d.each_once x in omega arith;
-      all = λ ended. let one : one_if h.ended ≡ 1 = ap one_if ended in let g = d.all_pieces_drawn (omega arith) in omega arith;
+      all = λ ended. let one : one_if h.ended ≡ 1 = ap one_if ended in
+          let g = d.all_pieces_drawn (omega arith) in omega arith;
       deal = (word, refl, d);
     }
 
 -- the same, with the number of pieces and the answer under other names
-pub drawn_at_close : (terms : Terms) (id word pieces answer : ℕ) (v : View) (h : SeatState) (ws : List ℕ) (xs : List (Unit {0})) → v.seat_states ≡ h ∷ [] → h.share ≡ terms.workers → get_elem? ws 0 ≡ some word
-    → terms.pieces ≡ pieces → answer ≡ min word pieces → Final (Seen (HasClaimState terms) id v) ws xs → IsAllDrawn pieces terms.workers answer h
+pub drawn_at_close : (terms : Terms) (id word pieces answer : ℕ) (v : View) (h : SeatState)
+    (ws : List ℕ) (xs : List (Unit {0})) → v.seat_states ≡ h ∷ [] → h.share ≡ terms.workers
+    → get_elem? ws 0 ≡ some word
+    → terms.pieces ≡ pieces → answer ≡ min word pieces
+    → Final (Seen (HasClaimState terms) id v) ws xs → IsAllDrawn pieces terms.workers answer h
 drawn_at_close terms id word pieces answer v h ws xs is every found same answer_is final =
     let all = drawn_at_end terms id word v h ws xs is every found final in
     let same_answer : min word terms.pieces ≡ answer = ap (min word) same ∙ sym answer_is in

@@ -1,5 +1,6 @@
 -- Tests on numbers, and how often a number is in a list.
-use Rattle.std.proofs.Common.{◌≡◌, ◌≢◌, ℕ, ◌+◌, ◌<◌, ◌≤◌, eqb, min, not, List, [], ◌∷◌, ◌++◌, length, get_or, zero, suc, arith}
+use Rattle.std.proofs.Common.{◌≡◌, ◌≢◌, ℕ, ◌+◌, ◌<◌, ◌≤◌, eqb, min, not, List, [], ◌∷◌, ◌++◌}
+use Rattle.std.proofs.Common.{length, get_or, zero, suc, arith}
 use Rattle.std.proofs.lemmas.Bool.Decides.{nat_tests}
 use Rattle.epx_claims.specs.Count.{total, one_if, occurrences, once_below}
 
@@ -20,7 +21,8 @@ pub count_of_positive : (a : ℕ) → 0 < a → one_if (eqb a 0) ≡ 0
 count_of_positive a h = grind (arith, nat_tests)
 
 -- if the bound grows by one, one more number is below it
-pub once_below_more : (x c n : ℕ) → c < n → once_below x (min (c + 1) n) ≡ once_below x (min c n) + one_if (eqb c x)
+pub once_below_more : (x c n : ℕ) → c < n
+    → once_below x (min (c + 1) n) ≡ once_below x (min c n) + one_if (eqb c x)
 once_below_more x c n h = grind (arith, nat_tests)
 
 -- a word that grows past the number of pieces changes nothing
@@ -32,7 +34,8 @@ pub below_from_once : (x c n : ℕ) → 1 ≤ once_below x (min c n) → x < c
 below_from_once x c n h = grind (arith, nat_tests)
 
 -- the sum over two lists, one appended to the other
-pub total-append : {A : Type 0} (f : A → ℕ) (xs ys : List A) → total f (xs ++ ys) ≡ total f xs + total f ys
+pub total-append : {A : Type 0} (f : A → ℕ) (xs ys : List A)
+    → total f (xs ++ ys) ≡ total f xs + total f ys
 total-append f [] ys = omega arith
 total-append f (x ∷ xs) ys = omega (arith, total-append f xs ys)
 

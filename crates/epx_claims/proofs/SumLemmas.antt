@@ -1,5 +1,6 @@
 -- Sums over the seat states of all views, after one view is written or added.
-use Rattle.std.proofs.Common.{◌≡◌, ℕ, ◌+◌, ◌≤◌, List, [], ◌∷◌, ◌++◌, set, take, drop, sym, ap, ◌∙◌, arith, zero, suc}
+use Rattle.std.proofs.Common.{◌≡◌, ℕ, ◌+◌, ◌≤◌, List, [], ◌∷◌, ◌++◌, set, take, drop, sym, ap, ◌∙◌}
+use Rattle.std.proofs.Common.{arith, zero, suc}
 use mathlib.Core.Option.{some, some-ne-none}
 use lib.ListN.{get_elem?}
 use Rattle.atomic_table.proofs.Lists.{set_again}
@@ -15,19 +16,36 @@ others vs i = all_seat_states (set vs i spent_view)
 
 module _ (f : SeatState → ℕ) where
   -- one view is written
-  pub placed_sum : (vs : List View) (i : ℕ) (v w : View) → get_elem? vs i ≡ some v → total f (all_seat_states (set vs i w)) ≡ total f w.seat_states + total f (others vs i)
+  pub placed_sum : (vs : List View) (i : ℕ) (v w : View) → get_elem? vs i ≡ some v
+      → total f (all_seat_states (set vs i w)) ≡ total f w.seat_states + total f (others vs i)
   placed_sum [] i v w e = absurd (some-ne-none v (sym e))
   placed_sum (x ∷ xs) zero v w e = total-append f w.seat_states (all_seat_states xs)
-  placed_sum (x ∷ xs) (suc i) v w e = omega (arith, total-append f x.seat_states (all_seat_states (set xs i w)), total-append f x.seat_states (others xs i), placed_sum xs i v w e)
+  placed_sum (x ∷ xs) (suc i) v w e =
+      omega (
+        arith,
+        total-append f x.seat_states (all_seat_states (set xs i w)),
+        total-append f x.seat_states (others xs i),
+        placed_sum xs i v w e,
+      )
 
   -- one view is taken out
-  pub picked_sum : (vs : List View) (i : ℕ) (v : View) → get_elem? vs i ≡ some v → total f (all_seat_states vs) ≡ total f v.seat_states + total f (others vs i)
-  picked_sum vs i v e = ap (λ z. total f (all_seat_states z)) (sym (set_again vs i v e)) ∙ placed_sum vs i v v e
+  pub picked_sum : (vs : List View) (i : ℕ) (v : View) → get_elem? vs i ≡ some v
+      → total f (all_seat_states vs) ≡ total f v.seat_states + total f (others vs i)
+  picked_sum vs i v e = ap (λ z. total f (all_seat_states z)) (sym (set_again vs i v e))
+      ∙ placed_sum vs i v v e
 
   -- one view is added
-  pub pushed_sum : (vs : List View) (w : View) → total f (all_seat_states (vs ++ w ∷ [])) ≡ total f (all_seat_states vs) + total f w.seat_states
+  pub pushed_sum : (vs : List View) (w : View)
+      → total f (all_seat_states (vs ++ w ∷ [])) ≡ total f (all_seat_states vs)
+      + total f w.seat_states
   pushed_sum [] w = omega (arith, total-append f w.seat_states [])
-  pushed_sum (x ∷ xs) w = omega (arith, total-append f x.seat_states (all_seat_states xs), total-append f x.seat_states (all_seat_states (xs ++ w ∷ [])), pushed_sum xs w)
+  pushed_sum (x ∷ xs) w =
+      omega (
+        arith,
+        total-append f x.seat_states (all_seat_states xs),
+        total-append f x.seat_states (all_seat_states (xs ++ w ∷ [])),
+        pushed_sum xs w,
+      )
 
   -- a list in two parts
   pub parts_sum : (hs : List SeatState) → total f (take 1 hs) + total f (drop 1 hs) ≡ total f hs
@@ -35,6 +53,7 @@ module _ (f : SeatState → ℕ) where
   parts_sum (h ∷ hs) = omega arith
 
 -- a sum of smaller terms is smaller
-pub total-le : (f g : SeatState → ℕ) → ((h : SeatState) → f h ≤ g h) → (hs : List SeatState) → total f hs ≤ total g hs
+pub total-le : (f g : SeatState → ℕ) → ((h : SeatState) → f h ≤ g h) → (hs : List SeatState)
+    → total f hs ≤ total g hs
 total-le f g le [] = omega arith
 total-le f g le (h ∷ hs) = omega (arith, le h, total-le f g le hs)

@@ -6,7 +6,8 @@ use Rattle.epx_claims.specs.Count.{total, count, occurrences, once_below}
 
 pub record ClaimState (pieces workers word : ℕ) (seat_states : List SeatState) : Type 0 where
   -- the lists together hold each number below the word and below `pieces` once, and no other
-  pub each_once : (x : ℕ) → total (λ h. occurrences x h.drawn) seat_states ≡ once_below x (min word pieces)
+  pub each_once : (x : ℕ) → total (λ h. occurrences x h.drawn) seat_states
+      ≡ once_below x (min word pieces)
   -- each seat has a share of at least 1
   pub no_empty_share : count (λ h. h.share == 0) seat_states ≡ 0
   -- the shares add up to `workers`
@@ -18,7 +19,8 @@ pub record ClaimState (pieces workers word : ℕ) (seat_states : List SeatState)
 
 -- One step: the word and some seats change, while all other seats stay. The state is consistent
 -- before the step and after it
-pub record StateStep (pieces workers word next : ℕ) (mine mine_next : List SeatState) : Type 0 where
+pub record StateStep (pieces workers word next : ℕ) (mine mine_next : List SeatState) : Type
+    0 where
   pub others : List SeatState
   pub before : ClaimState pieces workers word (mine ++ others)
   pub after : ClaimState pieces workers next (mine_next ++ others)

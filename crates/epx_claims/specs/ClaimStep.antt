@@ -13,9 +13,12 @@ use Rattle.epx_claims.specs.Seated.{ClaimsView, SeatView, seat_state_of}
 
 -- the word and these seats are the whole state of the claims, and it is consistent
 abbrev pub IsClaimState : ClaimsView → ℕ → List SeatView → Type 0
-IsClaimState claims word seats = ClaimState claims.pieces claims.workers word (map seat_state_of seats)
+IsClaimState claims word seats =
+    ClaimState claims.pieces claims.workers word (map seat_state_of seats)
 
 -- the word becomes the next, and the seats before become those after. All other seats stay, and
 -- the state is consistent before and after
 abbrev pub ClaimStep : ClaimsView → ℕ → ℕ → List SeatView → List SeatView → Type 0
-ClaimStep claims word next before after = StateStep claims.pieces claims.workers word next (map seat_state_of before) (map seat_state_of after)
+ClaimStep claims word next before after =
+    StateStep claims.pieces claims.workers word next (map seat_state_of before)
+    (map seat_state_of after)

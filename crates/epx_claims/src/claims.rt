@@ -1,5 +1,6 @@
 //! Numbered pieces of work, which threads draw from one shared counter, each piece once.
-ghost use Rattle.std.specs.Prelude.{◌≡◌, ◌<◌, ◌≤◌, ◌^◌, ◌+◌, ◌-◌, ◌/◌, ◌++◌, ◌||◌, [], ◌∷◌, ℕ, min, true, false, None, length, IfOk, IfSome, IfNone};
+ghost use Rattle.std.specs.Prelude.{◌≡◌, ◌<◌, ◌≤◌, ◌^◌, ◌+◌, ◌-◌, ◌/◌, ◌++◌, ◌||◌, [], ◌∷◌, ℕ};
+ghost use Rattle.std.specs.Prelude.{min, true, false, None, length, IfOk, IfSome, IfNone};
 ghost use Rattle.std.specs.List.{All};
 ghost use Rattle.epx_claims.specs.Count.{occurrences, once_below};
 ghost use Rattle.epx_claims.specs.ClaimStep.{ClaimStep, IsClaimState};
@@ -17,7 +18,8 @@ use std::marker::Model;
 ///
 /// Threads share the claims by reference; each draws through its own seat. Between any two atomic
 /// steps of any threads, the shared counter and the seats that are not spent are in a consistent
-/// state (`IsClaimState`). Each call's contract says how its own step changes that state, and that all
+/// state (`IsClaimState`). Each call's contract says how its own step changes that state, and that
+/// all
 /// other seats stay the same during it. It does not say which other seats exist.
 #[derive(Drop)]
 pub struct Claims {
@@ -63,10 +65,15 @@ impl Claims {
     /// A seat that has ended takes no step.
     pub fn claim(&self, seat: &mut ClaimSeat) -> Option<u64>
         requires { IsSeatOf self.now seat.old }
-        ensures some { IfSome result (λ p. (seat.old.ended ≡ false) × (p < self.now.pieces) × All (λ q. q < p) seat.old.drawn × (seat.new ≡ record seat.old { drawn = seat.old.drawn ++ p ∷ [] })) }
+        ensures some { IfSome result (λ p. (seat.old.ended ≡ false) × (p < self.now.pieces)
+            × All (λ q. q < p) seat.old.drawn
+            × (seat.new ≡ record seat.old { drawn = seat.old.drawn ++ p ∷ [] })) }
         ensures none { IfNone result (seat.new ≡ record seat.old { ended = true }) }
-        ensures piece { IfSome result (λ p. ClaimStep self.now p (p + 1) (seat.old ∷ []) (seat.new ∷ [])) }
-        ensures stop { IfNone result (seat.old.ended ≡ false → (word : ℕ) × (self.now.pieces ≤ word) × ClaimStep self.now word (word + 1) (seat.old ∷ []) (seat.new ∷ [])) }
+        ensures piece { IfSome result
+            (λ p. ClaimStep self.now p (p + 1) (seat.old ∷ []) (seat.new ∷ [])) }
+        ensures stop { IfNone result (seat.old.ended ≡ false
+            → (word : ℕ) × (self.now.pieces ≤ word)
+            × ClaimStep self.now word (word + 1) (seat.old ∷ []) (seat.new ∷ [])) }
         ensures ended { seat.old.ended ≡ true → (result ≡ None) × (seat.new ≡ seat.old) }
     {
         if seat.ended {
@@ -91,7 +98,8 @@ impl Claims {
         requires share { 2 ≤ seat.old.share }
         ensures kept { seat.new ≡ record seat.old { share = seat.old.share - seat.old.share / 2 } }
         ensures given { result ≡ fresh_seat self.now (seat.old.share / 2) }
-        ensures deal { (word : ℕ) × ClaimStep self.now word word (seat.old ∷ []) (seat.new ∷ result ∷ []) }
+        ensures deal { (word : ℕ) × ClaimStep self.now word word (seat.old ∷ [])
+            (seat.new ∷ result ∷ []) }
     {
         let half = seat.share / 2;
         let shared = &self.table.shared;
@@ -110,9 +118,15 @@ impl Claims {
     pub fn join(&self, seat: &mut ClaimSeat, other: ClaimSeat)
         requires own { IsSeatOf self.now seat.old }
         requires other { IsSeatOf self.now other }
-        ensures both { seat.new ≡ record seat.old { drawn = seat.old.drawn ++ other.drawn; share = seat.old.share + other.share; ended = seat.old.ended || other.ended } }
-        ensures apart { (x : ℕ) → occurrences x seat.old.drawn + occurrences x other.drawn ≤ once_below x self.now.pieces }
-        ensures deal { (word : ℕ) × ClaimStep self.now word word (seat.old ∷ other ∷ []) (seat.new ∷ []) }
+        ensures both { seat.new ≡ record seat.old {
+          drawn = seat.old.drawn ++ other.drawn;
+          share = seat.old.share + other.share;
+          ended = seat.old.ended || other.ended;
+        } }
+        ensures apart { (x : ℕ) → occurrences x seat.old.drawn + occurrences x other.drawn
+            ≤ once_below x self.now.pieces }
+        ensures deal { (word : ℕ) × ClaimStep self.now word word (seat.old ∷ other ∷ [])
+            (seat.new ∷ []) }
     {
         let ClaimSeat {
             seat: theirs,
@@ -134,7 +148,8 @@ impl Claims {
         ensures length { result ≡ length seat.drawn }
         ensures each_once { (x : ℕ) → occurrences x seat.drawn ≡ once_below x result }
         ensures all { seat.ended ≡ true → result ≡ self.pieces }
-        ensures deal { (word : ℕ) × (result ≡ min word self.pieces) × IsClaimState self word (seat ∷ []) }
+        ensures deal { (word : ℕ) × (result ≡ min word self.pieces)
+            × IsClaimState self word (seat ∷ []) }
     {
         let Claims { table, pieces } = self;
         let ClaimSeat {

@@ -27,7 +27,8 @@ pub fn claimed_map<
     requires n { n ≤ 2 ^ 40 }
     requires calls { (i : ℕ) → i < n → F.pre f i }
     ensures ok { IfOk result (λ v. AreOrderedAnswers (λ i x. F.post f i (Ok x)) n v.items) }
-    ensures err { IfErr result (IsMapFault (λ i e. F.post f i (Err e)) (λ e. (m : Memory) × E.from_gives m e) n) }
+    ensures err { IfErr result
+        (IsMapFault (λ i e. F.post f i (Err e)) (λ e. (m : Memory) × E.from_gives m e) n) }
 {
     let workers = plan.workers().min(n);
     if n <= 1 || workers == 1 {
@@ -48,7 +49,8 @@ fn plain_map<T: Drop, E: From<Memory> + Drop, G: Gate, F: Fn(usize) -> Result<T,
 ) -> Result<Vec<T>, E>
     requires calls { (i : ℕ) → i < n → F.pre f.now i }
     ensures ok { IfOk result (λ v. AreOrderedAnswers (λ i x. F.post f.now i (Ok x)) n v.items) }
-    ensures err { IfErr result (IsMapFault (λ i e. F.post f.now i (Err e)) (λ e. (m : Memory) × E.from_gives m e) n) }
+    ensures err { IfErr result
+        (IsMapFault (λ i e. F.post f.now i (Err e)) (λ e. (m : Memory) × E.from_gives m e) n) }
 {
     let mut values = Vec::new(alloc);
     for i in 0..n {

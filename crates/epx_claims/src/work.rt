@@ -37,8 +37,12 @@ fn draw_all<T: Drop, E: From<Memory> + Drop, G: Gate, F: Fn(usize) -> Result<T, 
 ) -> Result<WorkResult<T>, E>
     requires seat { IsFresh claims.now seat.share seat }
     requires calls { (i : ℕ) → i < claims.now.pieces → F.pre f.now i }
-    ensures ok { IfOk result (λ w. HasAnswers (λ i x. F.post f.now i (Ok x)) claims.now seat.share true w.seat w.answers.items) }
-    ensures err { IfErr result (IsMapFault (λ i e. F.post f.now i (Err e)) (λ e. (m : Memory) × E.from_gives m e) claims.now.pieces) }
+    ensures ok { IfOk result
+        (λ w. HasAnswers (λ i x. F.post f.now i (Ok x)) claims.now seat.share true w.seat
+        w.answers.items) }
+    ensures err { IfErr result
+        (IsMapFault (λ i e. F.post f.now i (Err e)) (λ e. (m : Memory) × E.from_gives m e)
+        claims.now.pieces) }
 {
     let mut seat = seat;
     let mut answers = Vec::new(alloc);
@@ -67,8 +71,14 @@ fn join_results<T: Drop>(
 ) -> Result<WorkResult<T>, Memory>
     requires left { IsSeatOf claims.now left.seat }
     requires right { IsSeatOf claims.now right.seat }
-    ensures seat { IfOk result (λ w. w.seat ≡ record left.seat { drawn = left.seat.drawn ++ right.seat.drawn; share = left.seat.share + right.seat.share; ended = left.seat.ended || right.seat.ended }) }
-    ensures answers { IfOk result (λ w. w.answers.items ≡ left.answers.items ++ right.answers.items) }
+    ensures seat { IfOk result
+        (λ w. w.seat ≡ record left.seat {
+          drawn = left.seat.drawn ++ right.seat.drawn;
+          share = left.seat.share + right.seat.share;
+          ended = left.seat.ended || right.seat.ended;
+        }) }
+    ensures answers { IfOk result
+        (λ w. w.answers.items ≡ left.answers.items ++ right.answers.items) }
 {
     let WorkResult {
         mut seat,
@@ -102,8 +112,12 @@ pub(crate) fn work<
 ) -> Result<WorkResult<T>, E>
     requires seat { IsFresh claims.now seat.share seat }
     requires calls { (i : ℕ) → i < claims.now.pieces → F.pre f.now i }
-    ensures ok { IfOk result (λ w. HasAnswers (λ i x. F.post f.now i (Ok x)) claims.now seat.share true w.seat w.answers.items) }
-    ensures err { IfErr result (IsMapFault (λ i e. F.post f.now i (Err e)) (λ e. (m : Memory) × E.from_gives m e) claims.now.pieces) }
+    ensures ok { IfOk result
+        (λ w. HasAnswers (λ i x. F.post f.now i (Ok x)) claims.now seat.share true w.seat
+        w.answers.items) }
+    ensures err { IfErr result
+        (IsMapFault (λ i e. F.post f.now i (Err e)) (λ e. (m : Memory) × E.from_gives m e)
+        claims.now.pieces) }
 {
     let mut seat = seat;
     if seat.share() < 2 {
@@ -111,14 +125,26 @@ pub(crate) fn work<
     }
     let other = claims.split(&mut seat);
     let mine = move || -> Result<WorkResult<T>, E>
-        requires { IsSync R.row × IsSync G.row × IsSync F.row × IsSend T.row × IsSend E.row × IsFresh claims.now seat.share seat × ((i : ℕ) → i < claims.now.pieces → F.pre f.now i) }
-        ensures ok { IfOk result (λ w. HasAnswers (λ i x. F.post f.entry.now i (Ok x)) claims.entry.now seat.share true w.seat w.answers.items) }
-        ensures err { IfErr result (IsMapFault (λ i e. F.post f.entry.now i (Err e)) (λ e. (m : Memory) × E.from_gives m e) claims.entry.now.pieces) }
+        requires { IsSync R.row × IsSync G.row × IsSync F.row × IsSend T.row × IsSend E.row
+            × IsFresh claims.now seat.share seat
+            × ((i : ℕ) → i < claims.now.pieces → F.pre f.now i) }
+        ensures ok { IfOk result
+            (λ w. HasAnswers (λ i x. F.post f.entry.now i (Ok x)) claims.entry.now seat.share true
+            w.seat w.answers.items) }
+        ensures err { IfErr result
+            (IsMapFault (λ i e. F.post f.entry.now i (Err e))
+            (λ e. (m : Memory) × E.from_gives m e) claims.entry.now.pieces) }
     { work(rt, alloc, claims, seat, gate, f) };
     let theirs = move || -> Result<WorkResult<T>, E>
-        requires { IsSync R.row × IsSync G.row × IsSync F.row × IsSend T.row × IsSend E.row × IsFresh claims.now other.share other × ((i : ℕ) → i < claims.now.pieces → F.pre f.now i) }
-        ensures ok { IfOk result (λ w. HasAnswers (λ i x. F.post f.entry.now i (Ok x)) claims.entry.now other.share true w.seat w.answers.items) }
-        ensures err { IfErr result (IsMapFault (λ i e. F.post f.entry.now i (Err e)) (λ e. (m : Memory) × E.from_gives m e) claims.entry.now.pieces) }
+        requires { IsSync R.row × IsSync G.row × IsSync F.row × IsSend T.row × IsSend E.row
+            × IsFresh claims.now other.share other
+            × ((i : ℕ) → i < claims.now.pieces → F.pre f.now i) }
+        ensures ok { IfOk result
+            (λ w. HasAnswers (λ i x. F.post f.entry.now i (Ok x)) claims.entry.now other.share true
+            w.seat w.answers.items) }
+        ensures err { IfErr result
+            (IsMapFault (λ i e. F.post f.entry.now i (Err e))
+            (λ e. (m : Memory) × E.from_gives m e) claims.entry.now.pieces) }
     { work(rt, alloc, claims, other, gate, f) };
     let (left, right) = join(rt, mine, theirs);
     Ok(join_results(claims, left?, right?)?)

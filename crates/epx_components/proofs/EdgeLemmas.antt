@@ -5,9 +5,12 @@ use Rattle.epx_graph.specs.Graphs.{DependencyGraph, edges_of, IsGraph}
 use Rattle.epx_graph.proofs.GraphNodeLemmas.{edge_from_committed, edge_within}
 
 -- only nodes have edges
-pub edge_from : (g : DependencyGraph) → IsGraph g → (k j : ℕ) → Contains (edges_of g k) j → k < length g.ids
+pub edge_from : (g : DependencyGraph) → IsGraph g → (k j : ℕ) → Contains (edges_of g k) j
+    → k < length g.ids
 edge_from g is k j h = omega (arith, edge_from_committed g is k j h, is.committed_nodes)
 
 -- and edges lead only to nodes
-pub edge_to : (g : DependencyGraph) → IsGraph g → (k i : ℕ) → i < length (edges_of g k) → get_or (edges_of g k) i 0 < length g.ids
-edge_to g is k i l = edge_within g is k (get_or (edges_of g k) i 0) (Contains-get_or (edges_of g k) i 0 l)
+pub edge_to : (g : DependencyGraph) → IsGraph g → (k i : ℕ) → i < length (edges_of g k)
+    → get_or (edges_of g k) i 0 < length g.ids
+edge_to g is k i l = edge_within g is k (get_or (edges_of g k) i 0)
+    (Contains-get_or (edges_of g k) i 0 l)

@@ -1,11 +1,16 @@
 -- The last group becomes a component.
-use Rattle.std.proofs.Common.{◌≡◌, ℕ, ◌+◌, ◌-◌, ◌<◌, ◌≤◌, ◌⊎◌, inl, inr, List, ◌++◌, length, get_or, take, drop, refl, sym, subst, ◌∙◌, ap, arith, length-append, length-take}
-use Rattle.std.proofs.lemmas.List.{get_or-take, get_or_append_left, get_or-append_right, get_or-drop, length-drop, get_or_default}
+use Rattle.std.proofs.Common.{◌≡◌, ℕ, ◌+◌, ◌-◌, ◌<◌, ◌≤◌, ◌⊎◌, inl, inr, List, ◌++◌, length}
+use Rattle.std.proofs.Common.{get_or, take, drop, refl, sym, subst, ◌∙◌, ap, arith, length-append}
+use Rattle.std.proofs.Common.{length-take}
+use Rattle.std.proofs.lemmas.List.{get_or-take, get_or_append_left, get_or-append_right}
+use Rattle.std.proofs.lemmas.List.{get_or-drop, length-drop, get_or_default}
 use Rattle.std.proofs.lemmas.List.Elements.{Contains-append_left, Contains-append_right}
 use Rattle.std.proofs.lemmas.Bool.{cases_lt}
-use Rattle.epx_components.proofs.CloseLemmas.{WasOpen, was_unseen, was_open, was_closed, stays_open, is_closed, stays_closed, MayLead-close}
+use Rattle.epx_components.proofs.CloseLemmas.{WasOpen, was_unseen, was_open, was_closed}
+use Rattle.epx_components.proofs.CloseLemmas.{stays_open, is_closed, stays_closed, MayLead-close}
 use Rattle.epx_components.proofs.PathEndLemmas.{rising_last}
-use Rattle.epx_components.proofs.StartLemmas.{IsInGroupFrom-untake, AreRisingBelow-take, first_take}
+use Rattle.epx_components.proofs.StartLemmas.{IsInGroupFrom-untake, AreRisingBelow-take}
+use Rattle.epx_components.proofs.StartLemmas.{first_take}
 use Rattle.epx_components.specs.inner.SearchInvariants.{AreFinished, IsSearch}
 use Rattle.epx_components.specs.inner.SearchStates.{SearchState, visit_of}
 use Rattle.epx_components.specs.inner.SearchSteps.{Closes, IsFinished}
@@ -14,19 +19,40 @@ use Rattle.epx_components.specs.declared.visit.Visit.{Visit}
 use Rattle.epx_components.specs.declared.visit.Visit.TheVariants.{Closed, Open}
 
 -- the nodes of the last group join the finished ones
-finish_last_group : (edges : ℕ → List ℕ) (n seen : ℕ) (s : SearchState) (place : List Visit) (start : ℕ) → IsSearch edges n seen s → ((k : ℕ) → Closes start s.count (visit_of s.place k) (visit_of place k)) → start < length s.opened → IsInLastGroup s.starts start → ((i : ℕ) → i < length s.path → get_or s.path i 0 < start) → AreFinished edges place s.looked_at (s.order ++ drop start s.opened) (s.count + 1)
+finish_last_group : (edges : ℕ → List ℕ) (n seen : ℕ) (s : SearchState) (place : List Visit)
+    (start : ℕ) → IsSearch edges n seen s
+    → ((k : ℕ) → Closes start s.count (visit_of s.place k) (visit_of place k))
+    → start < length s.opened → IsInLastGroup s.starts start
+    → ((i : ℕ) → i < length s.path → get_or s.path i 0 < start)
+    → AreFinished edges place s.looked_at (s.order ++ drop start s.opened) (s.count + 1)
 finish_last_group edges n seen s place start w at in' last off =
     let group = drop start s.opened in
     let all = s.order ++ group in
-    let was : (k c : ℕ) → visit_of place k ≡ Closed c → (visit_of s.place k ≡ Closed c) ⊎ WasOpen start s.count (visit_of s.place k) c = λ k c e. was_closed start s.count _ _ c (at k) e in
-    let counted : (k c : ℕ) → visit_of place k ≡ Closed c → c < s.count + 1 = λ k c e. elim (was k c e) [ inl h ↦ omega (arith, w.finished.counted k c h) | inr h ↦ omega (arith, h.3) ] in
+    let was : (k c : ℕ) → visit_of place k ≡ Closed c
+    → (visit_of s.place k ≡ Closed c) ⊎ WasOpen start s.count (visit_of s.place k) c =
+    λ k c e. was_closed start s.count _ _ c (at k) e in
+    let counted : (k c : ℕ) → visit_of place k ≡ Closed c
+    → c < s.count + 1 = λ k c e. elim (was k c e)
+    [ inl h ↦ omega (arith, w.finished.counted k c h) | inr h ↦ omega (arith, h.3) ] in
     -- a node of the order is closed already, or is closed in this step
-    let old : (i : ℕ) → i < length s.order → (c : ℕ) × (visit_of s.place (get_or s.order i 0) ≡ Closed c) × (visit_of place (get_or all i 0) ≡ Closed c) = λ i l.
-    let c = w.finished.closed i l in
-    (c.0, c.1, rw (get_or_append_left s.order group 0 i l) (stays_closed start s.count _ _ c.0 (at _) c.1)) in
-    let now : (i : ℕ) → length s.order ≤ i → i < length all → visit_of place (get_or all i 0) ≡ Closed s.count = λ i le l.
-    rw (get_or-append_right s.order group (length s.order) i 0 refl le, get_or-drop start s.opened (i - length s.order) 0)
-    (is_closed start s.count _ _ _ (at _) (w.row.stands (start + (i - length s.order)) (omega (arith, length-append s.order group, length-drop start s.opened))) (omega arith)) in
+    let old : (i : ℕ) → i < length s.order → (c : ℕ)
+    × (visit_of s.place (get_or s.order i 0) ≡ Closed c)
+    × (visit_of place (get_or all i 0) ≡ Closed c) = λ i l.
+    let c = w.finished.closed i l in (
+      c.0,
+      c.1,
+      rw (get_or_append_left s.order group 0 i l)
+          (stays_closed start s.count _ _ c.0 (at _) c.1),
+    ) in
+    let now : (i : ℕ) → length s.order ≤ i → i < length all
+    → visit_of place (get_or all i 0) ≡ Closed s.count = λ i le l.
+    rw (
+      get_or-append_right s.order group (length s.order) i 0 refl le,
+      get_or-drop start s.opened (i - length s.order) 0,
+    )
+    (is_closed start s.count _ _ _ (at _)
+    (w.row.stands (start + (i - length s.order))
+    (omega (arith, length-append s.order group, length-drop start s.opened))) (omega arith)) in
     record {
       counted = counted;
       joined = λ k j c ek ej. elim (was k c ek) [
@@ -43,7 +69,8 @@ finish_last_group edges n seen s place start w at in' last off =
         | inl h ↦ w.finished.looked k c h
         | inr h ↦ elim (w.waits k h.0 h.1) [
           | inl none ↦ none
-          | inr on ↦ absurd (omega (arith, off on.0 on.1, get_or_default s.path on.0 0 h.0 on.1, on.2, h.2))
+          | inr on ↦ absurd
+              (omega (arith, off on.0 on.1, get_or_default s.path on.0 0 h.0 on.1, on.2, h.2))
         ]
       ];
       listed = λ k c e. elim (was k c e) [
@@ -53,10 +80,13 @@ finish_last_group edges n seen s place start w at in' last off =
             Contains-append_right s.order group k (
               h.0 - start,
               omega (arith, h.2, here.0, length-drop start s.opened),
-              get_or-drop start s.opened (h.0 - start) k ∙ (ap (λ x. get_or s.opened x k) (omega (arith, h.2)) ∙ (get_or_default s.opened h.0 k 0 here.0 ∙ here.1)),
+              get_or-drop start s.opened (h.0 - start) k
+                  ∙ (ap (λ x. get_or s.opened x k) (omega (arith, h.2))
+                  ∙ (get_or_default s.opened h.0 k 0 here.0 ∙ here.1)),
             )
       ];
-      closed = λ i l. elim (cases_lt i (length s.order)) [ inl h ↦ ((old i h).0, (old i h).2) | inr h ↦ (s.count, now i h l) ];
+      closed = λ i l. elim (cases_lt i (length s.order))
+          [ inl h ↦ ((old i h).0, (old i h).2) | inr h ↦ (s.count, now i h l) ];
       sorted = λ i j c d le l ei ej. elim (cases_lt j (length s.order)) [
         | inl h ↦
             let a = old i (omega arith) in
@@ -71,20 +101,31 @@ finish_last_group edges n seen s place start w at in' last off =
             let d_is : s.count ≡ d = cc in
             omega (arith, counted _ c ei)
       ];
-      count_below = omega (arith, length-append s.order group, length-drop start s.opened, w.finished.count_below);
+      count_below = omega (
+        arith,
+        length-append s.order group,
+        length-drop start s.opened,
+        w.finished.count_below,
+      );
     }
 
-pub finish_keeps : (edges : ℕ → List ℕ) (n seen : ℕ) (s new : SearchState) → IsSearch edges n seen s → (f : IsFinished s new) → ((i : ℕ) → i < length s.path → get_or s.path i 0 < f.start) → IsSearch edges n seen new
+pub finish_keeps : (edges : ℕ → List ℕ) (n seen : ℕ) (s new : SearchState)
+    → IsSearch edges n seen s → (f : IsFinished s new)
+    → ((i : ℕ) → i < length s.path → get_or s.path i 0 < f.start) → IsSearch edges n seen new
 finish_keeps edges n seen s new w f off =
     let start = f.start in
     let last = length s.starts - 1 in
     let is_last : last < length s.starts = omega (arith, f.last) in
     let in' : start < length s.opened = omega (arith, w.starts.below last is_last, f.last) in
     let long : length (take start s.opened) ≡ start = omega (arith, length-take start s.opened) in
-    let at : (k : ℕ) → Closes start s.count (visit_of s.place k) (visit_of new.place k) = f.closes in
-    let before : (k p : ℕ) → visit_of new.place k ≡ Open p → (visit_of s.place k ≡ Open p) × (p < start) = λ k p e. was_open start s.count _ _ p (at k) e in
-    let low : (i : ℕ) → i < last → i < length s.starts → get_or s.starts i 0 < start = λ i l h. omega (arith, w.starts.rises i last l is_last, f.last) in
-    let all_low : IsInLastGroup s.starts start = λ i l. omega (arith, rising_last s.starts (length s.opened) w.starts i l, f.last.1) in
+    let at : (k : ℕ) → Closes start s.count (visit_of s.place k) (visit_of new.place k) =
+    f.closes in
+    let before : (k p : ℕ) → visit_of new.place k ≡ Open p → (visit_of s.place k ≡ Open p)
+    × (p < start) = λ k p e. was_open start s.count _ _ p (at k) e in
+    let low : (i : ℕ) → i < last → i < length s.starts → get_or s.starts i 0 < start =
+    λ i l h. omega (arith, w.starts.rises i last l is_last, f.last) in
+    let all_low : IsInLastGroup s.starts start =
+    λ i l. omega (arith, rising_last s.starts (length s.opened) w.starts i l, f.last.1) in
     let P : SearchState → Type 0 = λ x. IsSearch edges n seen x in
     subst P (sym f.same) (record {
       places = f.places ∙ w.places;
@@ -92,7 +133,8 @@ finish_keeps edges n seen s new w f off =
       seen_below = λ k l e. w.seen_below k l (was_unseen start s.count _ _ (at k) e);
       row = record {
         stands = λ p l. let l' : p < start = omega arith in
-            rw (get_or-take start s.opened p 0) (stays_open start s.count _ _ p (at _) (w.row.stands p (omega arith)) l');
+            rw (get_or-take start s.opened p 0)
+            (stays_open start s.count _ _ p (at _) (w.row.stands p (omega arith)) l');
         placed = λ k p e. let b = before k p e in
             (omega (arith, b.1), get_or-take start s.opened p 0 b.1 ∙ (w.row.placed k p b.0).1);
       };
@@ -100,13 +142,17 @@ finish_keeps edges n seen s new w f off =
       begins = first_take s.starts last w.begins;
       grouped = λ h. elim (cases_lt 0 last) [
         | inl l ↦ omega (arith, length-take last s.starts)
-        | inr l ↦ let e : last ≡ 0 = omega arith in absurd (omega (arith, w.begins, ap (λ x. get_or s.starts x 0) e, f.last.1, h))
+        | inr l ↦ let e : last ≡ 0 = omega arith in
+            absurd (omega (arith, w.begins, ap (λ x. get_or s.starts x 0) e, f.last.1, h))
       ];
       path = record { below = λ i l. omega (arith, off i l); rises = w.path.rises };
       waits = λ k p e. w.waits k p (before k p e).0;
-      leads = λ k i l. MayLead-close s.starts last start s.count _ _ _ _ is_last f.last.1 (λ d e. w.finished.counted _ d e) (at k) (at _) (w.leads k i l);
+      leads = λ k i l. MayLead-close s.starts last start s.count _ _ _ _ is_last f.last.1
+          (λ d e. w.finished.counted _ d e) (at k) (at _) (w.leads k i l);
       reaches = λ k j p q hk hj from.
           let bk = before k p hk in
-          w.reaches k j p q bk.0 (before j q hj).0 (IsInGroupFrom-untake s.starts last p q (λ i h l. let e : last ≡ i = omega arith in omega (arith, ap (λ x. get_or s.starts x 0) e, f.last, bk.1)) from);
+          w.reaches k j p q bk.0 (before j q hj).0
+          (IsInGroupFrom-untake s.starts last p q (λ i h l. let e : last ≡ i = omega arith in
+          omega (arith, ap (λ x. get_or s.starts x 0) e, f.last, bk.1)) from);
       finished = finish_last_group edges n seen s new.place start w at in' all_low off;
     })

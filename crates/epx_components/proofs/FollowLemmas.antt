@@ -1,5 +1,6 @@
 -- An edge that is looked at, from a node of the last group.
-use Rattle.std.proofs.Common.{◌≡◌, ℕ, ◌+◌, ◌<◌, ◌≤◌, List, [], ◌∷◌, ◌++◌, length, get_or, set, refl, sym, subst, ◌∙◌, ap, arith, length-take, zero, suc}
+use Rattle.std.proofs.Common.{◌≡◌, ℕ, ◌+◌, ◌<◌, ◌≤◌, List, [], ◌∷◌, ◌++◌, length, get_or, set}
+use Rattle.std.proofs.Common.{refl, sym, subst, ◌∙◌, ap, arith, length-take, zero, suc}
 use Rattle.std.proofs.lemmas.List.{get_or-set_same, get_or-set_other, get_or-take, length_push}
 use Rattle.std.proofs.lemmas.List.Elements.{Contains-get_or}
 use Rattle.epx_graph.specs.NodePaths.{NodeReaches}
@@ -19,20 +20,29 @@ use Rattle.epx_components.specs.declared.visit.Visit.TheVariants.{Closed, Open, 
 abbrev next_of : (ℕ → List ℕ) → SearchState → ℕ → ℕ
 next_of edges s k = get_or (edges k) (get_or s.looked_at k 0) 0
 
-groups_reach : (edges : ℕ → List ℕ) (n seen : ℕ) (s : SearchState) (k : ℕ) → IsSearch edges n seen s → IsNextNode edges s k → (j p : ℕ) → visit_of s.place j ≡ Open p → NodeReaches edges j (next_of edges s k)
+groups_reach : (edges : ℕ → List ℕ) (n seen : ℕ) (s : SearchState) (k : ℕ)
+    → IsSearch edges n seen s → IsNextNode edges s k → (j p : ℕ) → visit_of s.place j ≡ Open p
+    → NodeReaches edges j (next_of edges s k)
 groups_reach edges n seen s k w next j p h =
     reaches_on edges j k _ (w.reaches j k p next.place h next.is_open (λ i l _. next.is_last i l))
     (reaches_edge edges k _ (Contains-get_or (edges k) _ 0 next.left))
 
-follow_at : (edges : ℕ → List ℕ) (n seen : ℕ) (s new : SearchState) (k : ℕ) (x : Visit) → visit_of s.place (next_of edges s k) ≡ x → IsSearch edges n seen s → IsNextNode edges s k → next_of edges s k < n → Arrives x (next_of edges s k) (looked s k) new → IsSearch edges n seen new
+follow_at : (edges : ℕ → List ℕ) (n seen : ℕ) (s new : SearchState) (k : ℕ) (x : Visit)
+    → visit_of s.place (next_of edges s k) ≡ x → IsSearch edges n seen s → IsNextNode edges s k
+    → next_of edges s k < n → Arrives x (next_of edges s k) (looked s k) new
+    → IsSearch edges n seen new
 follow_at edges n seen s new k Unseen e w next l h =
     let to = next_of edges s k in
     let m = length s.opened in
     let in' : to < length s.place = omega (arith, w.places) in
     let open' : visit_of (set s.place to (Open m)) k ≡ Open next.place =
-    get_or-set_other s.place to k _ Unseen (λ f. let wrong : Open next.place ≡ Unseen = sym next.is_open ∙ (ap (visit_of s.place) f ∙ e) in cc) ∙ next.is_open in
-    let at : visit_of (set s.place to (Open m)) to ≡ Open m = get_or-set_same s.place to (Open m) Unseen in' in
-    let from : IsInGroupFrom (s.starts ++ m ∷ []) next.place m = push_cases s.starts m (λ _ b. b ≤ next.place → b ≤ m) (λ i in'' _. omega (arith, w.starts.below i in'')) (λ _. omega arith) in
+    get_or-set_other s.place to k _ Unseen (λ f. let wrong : Open next.place ≡ Unseen =
+    sym next.is_open ∙ (ap (visit_of s.place) f ∙ e) in cc) ∙ next.is_open in
+    let at : visit_of (set s.place to (Open m)) to ≡ Open m =
+    get_or-set_same s.place to (Open m) Unseen in' in
+    let from : IsInGroupFrom (s.starts ++ m ∷ []) next.place m =
+    push_cases s.starts m (λ _ b. b ≤ next.place → b ≤ m)
+    (λ i in'' _. omega (arith, w.starts.below i in'')) (λ _. omega arith) in
     let P : SearchState → Type 0 = λ t. IsSearch edges n seen t in
     subst P (sym h) (look_keeps edges n seen (after_enter s to) k next.place
     (enter_keeps edges n seen s to w l e (groups_reach edges n seen s k w next)) open' next.left
@@ -44,29 +54,56 @@ follow_at edges n seen s new k (Open t) e w next l h =
     rw (get_or-take cut.kept s.starts i 0 in') (cut.below i in')) in
     let P : SearchState → Type 0 = λ u. IsSearch edges n seen u in
     subst P (sym h.1) (look_keeps edges n seen (record s { starts = new.starts }) k next.place
-    (cut_keeps edges n seen s new.starts (next_of edges s k) t w e (groups_reach edges n seen s k w next) cut) next.is_open next.left
+    (cut_keeps edges n seen s new.starts (next_of edges s k) t w e
+    (groups_reach edges n seen s k w next) cut) next.is_open next.left
     (rw (next.is_open, e) from))
 follow_at edges n seen s new k (Closed c) e w next l h =
     let P : SearchState → Type 0 = λ t. IsSearch edges n seen t in
-    subst P (sym h) (look_keeps edges n seen s k next.place w next.is_open next.left (rw (next.is_open, e) tt))
+    subst P (sym h) (look_keeps edges n seen s k next.place w next.is_open next.left
+    (rw (next.is_open, e) tt))
 
-pub follow_keeps : (edges : ℕ → List ℕ) (n seen : ℕ) (s new : SearchState) (k : ℕ) → IsSearch edges n seen s → IsNextNode edges s k → next_of edges s k < n → Arrives (visit_of s.place (next_of edges s k)) (next_of edges s k) (looked s k) new → IsSearch edges n seen new
+pub follow_keeps : (edges : ℕ → List ℕ) (n seen : ℕ) (s new : SearchState) (k : ℕ)
+    → IsSearch edges n seen s → IsNextNode edges s k → next_of edges s k < n
+    → Arrives (visit_of s.place (next_of edges s k)) (next_of edges s k) (looked s k) new
+    → IsSearch edges n seen new
 follow_keeps edges n seen s new k w next l h = follow_at edges n seen s new k _ refl w next l h
 
-edges_left-set : (rows : List (List ℕ)) (looked_at : List ℕ) (k : ℕ) → k < length looked_at → get_or looked_at k 0 < length (get_or rows k []) → edges_left rows (set looked_at k (get_or looked_at k 0 + 1)) + 1 ≡ edges_left rows looked_at
+edges_left-set : (rows : List (List ℕ)) (looked_at : List ℕ) (k : ℕ) → k < length looked_at
+    → get_or looked_at k 0 < length (get_or rows k [])
+    → edges_left rows (set looked_at k (get_or looked_at k 0 + 1)) + 1 ≡ edges_left rows looked_at
 edges_left-set [] [] k l h = absurd (omega arith)
 edges_left-set [] (n ∷ looked_at) k l h = absurd (omega arith)
 edges_left-set (row ∷ rows) [] k l h = absurd (omega arith)
 edges_left-set (row ∷ rows) (n ∷ looked_at) zero l h = omega arith
-edges_left-set (row ∷ rows) (n ∷ looked_at) (suc k) l h = omega (arith, edges_left-set rows looked_at k (omega arith) h)
+edges_left-set (row ∷ rows) (n ∷ looked_at) (suc k) l h =
+    omega (arith, edges_left-set rows looked_at k (omega arith) h)
 
 -- an edge leads to at most one new node, which is added to the path and to the starts
-arrive_less : (x : Visit) (k : ℕ) (s new : SearchState) → Arrives x k s new → (new.looked_at ≡ s.looked_at) × (length new.path + length new.starts ≤ length s.path + length s.starts + 2)
-arrive_less Unseen k s new h = (ap (λ t. t.looked_at) h, omega (arith, ap (λ t. length t.path) h, ap (λ t. length t.starts) h, length_push s.path (length s.opened), length_push s.starts (length s.opened)))
-arrive_less (Open t) k s new h = (ap (λ t. t.looked_at) h.1, omega (arith, ap (λ t. length t.path) h.1, ap length h.0.same, length-take h.0.kept s.starts))
-arrive_less (Closed c) k s new h = (ap (λ t. t.looked_at) h, omega (arith, ap (λ t. length t.path) h, ap (λ t. length t.starts) h))
+arrive_less : (x : Visit) (k : ℕ) (s new : SearchState) → Arrives x k s new
+    → (new.looked_at ≡ s.looked_at)
+    × (length new.path + length new.starts ≤ length s.path + length s.starts + 2)
+arrive_less Unseen k s new h = (
+  ap (λ t. t.looked_at) h,
+  omega (
+    arith,
+    ap (λ t. length t.path) h,
+    ap (λ t. length t.starts) h,
+    length_push s.path (length s.opened),
+    length_push s.starts (length s.opened),
+  ),
+)
+arrive_less (Open t) k s new h = (
+  ap (λ t. t.looked_at) h.1,
+  omega (arith, ap (λ t. length t.path) h.1, ap length h.0.same, length-take h.0.kept s.starts),
+)
+arrive_less (Closed c) k s new h = (
+  ap (λ t. t.looked_at) h,
+  omega (arith, ap (λ t. length t.path) h, ap (λ t. length t.starts) h),
+)
 
-pub follow_less : (rows : List (List ℕ)) (s new : SearchState) (k j : ℕ) → k < length s.looked_at → get_or s.looked_at k 0 < length (get_or rows k []) → Arrives (visit_of s.place j) j (looked s k) new → work_left rows new < work_left rows s
+pub follow_less : (rows : List (List ℕ)) (s new : SearchState) (k j : ℕ) → k < length s.looked_at
+    → get_or s.looked_at k 0 < length (get_or rows k [])
+    → Arrives (visit_of s.place j) j (looked s k) new → work_left rows new < work_left rows s
 follow_less rows s new k j l left h =
     let less = arrive_less (visit_of s.place j) j (looked s k) new h in
     rw less.0 (omega (arith, edges_left-set rows s.looked_at k l left, less.1))

@@ -4,13 +4,17 @@ use Rattle.std.proofs.lemmas.Bool.{cases_lt}
 use Rattle.epx_graph.specs.NodePaths.{NodeReaches}
 use Rattle.epx_components.proofs.NodePathLemmas.{reaches_on}
 use Rattle.epx_components.proofs.VisitLemmas.{MayLead-take}
-use Rattle.epx_components.proofs.StartLemmas.{IsInGroupFrom-untake, AreRisingBelow-take, first_take}
+use Rattle.epx_components.proofs.StartLemmas.{IsInGroupFrom-untake, AreRisingBelow-take}
+use Rattle.epx_components.proofs.StartLemmas.{first_take}
 use Rattle.epx_components.specs.inner.SearchInvariants.{IsSearch}
 use Rattle.epx_components.specs.inner.SearchStates.{SearchState, visit_of}
 use Rattle.epx_components.specs.inner.Starts.{IsCutAbove}
 use Rattle.epx_components.specs.declared.visit.Visit.TheVariants.{Open}
 
-pub cut_keeps : (edges : ℕ → List ℕ) (n seen : ℕ) (s : SearchState) (new : List ℕ) (k t : ℕ) → IsSearch edges n seen s → visit_of s.place k ≡ Open t → ((j p : ℕ) → visit_of s.place j ≡ Open p → NodeReaches edges j k) → IsCutAbove t s.starts new → IsSearch edges n seen (record s { starts = new })
+pub cut_keeps : (edges : ℕ → List ℕ) (n seen : ℕ) (s : SearchState) (new : List ℕ) (k t : ℕ)
+    → IsSearch edges n seen s → visit_of s.place k ≡ Open t
+    → ((j p : ℕ) → visit_of s.place j ≡ Open p → NodeReaches edges j k) → IsCutAbove t s.starts new
+    → IsSearch edges n seen (record s { starts = new })
 cut_keeps edges n seen s new k t w is all cut =
     let m = cut.kept in
     let P : List ℕ → Type 0 = λ starts. IsSearch edges n seen (record s { starts = starts }) in

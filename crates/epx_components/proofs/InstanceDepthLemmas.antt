@@ -12,22 +12,36 @@ use Rattle.epx_components.specs.NodeDepths.{NodeDescends, IsNodeDepth}
 
 module _ (m : List Instance) (g : DependencyGraph) (is : IsGraphOf m g) where
   -- a chain down from a node is one down from its instance
-  descent_from_nodes : (k : ℕ) (x : Id) → slice_get g.ids k ≡ Some x → (cs : List ℕ) → NodeDescends (edges_of g) k cs → (ys : List Id) × Descends m x ys × (length ys ≡ length cs)
+  descent_from_nodes : (k : ℕ) (x : Id) → slice_get g.ids k ≡ Some x → (cs : List ℕ)
+      → NodeDescends (edges_of g) k cs → (ys : List Id) × Descends m x ys × (length ys ≡ length cs)
   descent_from_nodes k x at [] down = ([], tt, refl)
   descent_from_nodes k x at (c ∷ cs) down =
-      let y = node_id g is.graph c (reached_within g is.graph k down.0.0 c (slice_get_within g.ids k x at) down.0.1) in
-      let rest = descent_from_nodes c y.0 y.1 cs down.2 in
-      (y.0 ∷ rest.0, ((node_reaches m g is k c x y.0 at y.1).0 down.0, λ back. down.1 ((node_reaches m g is c k y.0 x y.1 at).1 back), rest.1), omega (arith, rest.2))
+      let y = node_id g is.graph c
+      (reached_within g is.graph k down.0.0 c (slice_get_within g.ids k x at) down.0.1) in
+      let rest = descent_from_nodes c y.0 y.1 cs down.2 in (
+        y.0 ∷ rest.0,
+        (
+          (node_reaches m g is k c x y.0 at y.1).0 down.0,
+          λ back. down.1 ((node_reaches m g is c k y.0 x y.1 at).1 back),
+          rest.1,
+        ),
+        omega (arith, rest.2),
+      )
 
   -- the converse
-  nodes_from_descent : (k : ℕ) (x : Id) → slice_get g.ids k ≡ Some x → (ys : List Id) → Descends m x ys → (cs : List ℕ) × NodeDescends (edges_of g) k cs × (length cs ≡ length ys)
+  nodes_from_descent : (k : ℕ) (x : Id) → slice_get g.ids k ≡ Some x → (ys : List Id)
+      → Descends m x ys → (cs : List ℕ) × NodeDescends (edges_of g) k cs × (length cs ≡ length ys)
   nodes_from_descent k x at [] down = ([], tt, refl)
   nodes_from_descent k x at (y ∷ ys) down =
       let c = reached_node m g is k x y at down.0 in
-      let rest = nodes_from_descent c.0 y c.1 ys down.2 in
-      (c.0 ∷ rest.0, (c.2, λ back. down.1 ((node_reaches m g is c.0 k y x c.1 at).0 back), rest.1), omega (arith, rest.2))
+      let rest = nodes_from_descent c.0 y c.1 ys down.2 in (
+        c.0 ∷ rest.0,
+        (c.2, λ back. down.1 ((node_reaches m g is c.0 k y x c.1 at).0 back), rest.1),
+        omega (arith, rest.2),
+      )
 
-  pub depth_from_node : (k : ℕ) (x : Id) (depth : ℕ) → slice_get g.ids k ≡ Some x → IsNodeDepth (edges_of g) k depth → IsDepth m x depth
+  pub depth_from_node : (k : ℕ) (x : Id) (depth : ℕ) → slice_get g.ids k ≡ Some x
+      → IsNodeDepth (edges_of g) k depth → IsDepth m x depth
   depth_from_node k x depth at is_depth =
       let down = is_depth.descent in
       let ids = descent_from_nodes k x at down.0 down.1 in

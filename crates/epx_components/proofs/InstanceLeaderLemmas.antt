@@ -1,5 +1,6 @@
 -- The leader of an instance is that of its node.
-use Rattle.std.proofs.Common.{◌≡◌, ℕ, ◌<◌, List, length, slice_get, Some, sym, ap, ◌∙◌, inl, inr, arith}
+use Rattle.std.proofs.Common.{◌≡◌, ℕ, ◌<◌, List, length, slice_get, Some, sym, ap, ◌∙◌, inl, inr}
+use Rattle.std.proofs.Common.{arith}
 use Rattle.std.proofs.lemmas.Bool.{cases_lt}
 use Rattle.epx_types.specs.declared.id.Id.{Id}
 use Rattle.epx_types.specs.Components.{IsLeader}
@@ -13,13 +14,19 @@ use Rattle.epx_graph.proofs.MapPathLemmas.{node_committed, node_reaches, node_or
 use Rattle.epx_components.specs.NodeComponents.{IsNodeLeader}
 
 -- a leader is a node
-pub leader_within : (g : DependencyGraph) → IsGraph g → (k l : ℕ) → k < length g.ids → IsNodeLeader (edges_of g) k l → l < length g.ids
+pub leader_within : (g : DependencyGraph) → IsGraph g → (k l : ℕ) → k < length g.ids
+    → IsNodeLeader (edges_of g) k l → l < length g.ids
 leader_within g is k l below lead = reached_within g is k lead.member.0.0 l below lead.member.0.1
 
 -- the leader of an instance, committed or missing, is that of the leader of its node
-pub leader_from_node : (m : List Instance) (g : DependencyGraph) → IsGraphOf m g → (k l : ℕ) (x y : Id) → slice_get g.ids k ≡ Some x → slice_get g.ids l ≡ Some y → IsNodeLeader (edges_of g) k l → IsLeader m x y
+pub leader_from_node : (m : List Instance) (g : DependencyGraph) → IsGraphOf m g
+    → (k l : ℕ) (x y : Id) → slice_get g.ids k ≡ Some x → slice_get g.ids l ≡ Some y
+    → IsNodeLeader (edges_of g) k l → IsLeader m x y
 leader_from_node m g is k l x y at to lead = record {
-  member = ((node_reaches m g is k l x y at to).0 lead.member.0, (node_reaches m g is l k y x to at).0 lead.member.1);
+  member = (
+    (node_reaches m g is k l x y at to).0 lead.member.0,
+    (node_reaches m g is l k y x to at).0 lead.member.1,
+  );
   least = λ z one.
       let j = reached_node m g is k x z at one.0 in
       let back = (node_reaches m g is j.0 k z x j.1 at).1 one.1 in
@@ -28,9 +35,14 @@ leader_from_node m g is k l x y at to lead = record {
       let here = (node_reaches m g is l k y x to at).0 lead.member.1 in
       elim (cases_lt l j.0) [
         | inl less ↦
-            let apart : ¬ (y ≡ z) = λ same. (let one_node = node_is_one g is.graph l j.0 y to (j.1 ∙ ap Some (sym same)) in omega arith) in
-            let l_in = (node_committed m g is l y to).1 (Reaches-committed m y z (Reaches-trans m y x z here one.0) apart) in
-            let j_in = (node_committed m g is j.0 z j.1).1 (Reaches-committed m z y (Reaches-trans m z x y one.1 there) (λ same. apart (sym same))) in
+            let apart : ¬ (y ≡ z) =
+            λ same. (let one_node = node_is_one g is.graph l j.0 y to
+            (j.1 ∙ ap Some (sym same)) in omega arith) in
+            let l_in = (node_committed m g is l y to).1
+            (Reaches-committed m y z (Reaches-trans m y x z here one.0) apart) in
+            let j_in = (node_committed m g is j.0 z j.1).1
+            (Reaches-committed m z y (Reaches-trans m z x y one.1 there)
+            (λ same. apart (sym same))) in
             inr ((node_order m g is l j.0 y z to j.1 l_in j_in).0 less)
         | inr more ↦
             let one_node : l ≡ j.0 = omega arith in

@@ -1,5 +1,7 @@
 -- An edge has been looked at; a position leaves the path.
-use Rattle.std.proofs.Common.{◌≡◌, ◌≢◌, ℕ, ◌+◌, ◌-◌, ◌<◌, ◌≤◌, inl, inr, ⊎_elim, List, length, get_or, set, take, sym, subst, ◌∙◌, ap, arith, Contains, length-take, length-set}
+use Rattle.std.proofs.Common.{◌≡◌, ◌≢◌, ℕ, ◌+◌, ◌-◌, ◌<◌, ◌≤◌, inl, inr, ⊎_elim, List, length}
+use Rattle.std.proofs.Common.{get_or, set, take, sym, subst, ◌∙◌, ap, arith, Contains, length-take}
+use Rattle.std.proofs.Common.{length-set}
 use Rattle.std.proofs.lemmas.List.{get_or-take, get_or_default, get_or-set_same, get_or-set_other}
 use Rattle.std.proofs.lemmas.Bool.{cases_eq, cases_lt}
 use Rattle.epx_components.proofs.VisitLemmas.{placed_below}
@@ -9,13 +11,28 @@ use Rattle.epx_components.specs.inner.SearchStates.{SearchState, visit_of}
 use Rattle.epx_components.specs.inner.SearchSteps.{IsTopNode}
 use Rattle.epx_components.specs.declared.visit.Visit.TheVariants.{Closed, Open, Unseen}
 
-pub look_keeps : (edges : ℕ → List ℕ) (n seen : ℕ) (s : SearchState) (k p : ℕ) → IsSearch edges n seen s → visit_of s.place k ≡ Open p → get_or s.looked_at k 0 < length (edges k) → MayLead s.starts (visit_of s.place k) (visit_of s.place (get_or (edges k) (get_or s.looked_at k 0) 0)) → IsSearch edges n seen (record s { looked_at = set s.looked_at k (get_or s.looked_at k 0 + 1) })
+pub look_keeps : (edges : ℕ → List ℕ) (n seen : ℕ) (s : SearchState) (k p : ℕ)
+    → IsSearch edges n seen s → visit_of s.place k ≡ Open p
+    → get_or s.looked_at k 0 < length (edges k)
+    → MayLead s.starts (visit_of s.place k)
+    (visit_of s.place (get_or (edges k) (get_or s.looked_at k 0) 0))
+    → IsSearch edges n seen
+    (record s { looked_at = set s.looked_at k (get_or s.looked_at k 0 + 1) })
 look_keeps edges n seen s k p w is left leads =
-    let in' : k < length s.looked_at = omega (arith, placed_below s.place k (λ e. let wrong : Open p ≡ Unseen = sym is ∙ e in cc), w.places, w.looks) in
+    let in' : k < length s.looked_at =
+    omega (
+      arith,
+      placed_below s.place k (λ e. let wrong : Open p ≡ Unseen = sym is ∙ e in cc),
+      w.places,
+      w.looks,
+    ) in
     let new = set s.looked_at k (get_or s.looked_at k 0 + 1) in
-    let same : get_or new k 0 ≡ get_or s.looked_at k 0 + 1 = get_or-set_same s.looked_at k _ 0 in' in
-    let other : (j : ℕ) → j ≢ k → get_or new j 0 ≡ get_or s.looked_at j 0 = λ j ne. get_or-set_other s.looked_at k j _ 0 ne in
-    let Led : ℕ → ℕ → Type 0 = λ j i. MayLead s.starts (visit_of s.place j) (visit_of s.place (get_or (edges j) i 0)) in
+    let same : get_or new k 0 ≡ get_or s.looked_at k 0 + 1 =
+    get_or-set_same s.looked_at k _ 0 in' in
+    let other : (j : ℕ) → j ≢ k → get_or new j 0 ≡ get_or s.looked_at j 0 =
+    λ j ne. get_or-set_other s.looked_at k j _ 0 ne in
+    let Led : ℕ → ℕ → Type 0 = λ j i. MayLead s.starts (visit_of s.place j)
+    (visit_of s.place (get_or (edges j) i 0)) in
     record {
       places = w.places;
       looks = length-set s.looked_at k _ ∙ w.looks;
@@ -27,10 +44,12 @@ look_keeps edges n seen s k p w is left leads =
       path = w.path;
       waits = λ j q h. ⊎_elim
           (λ (e : j ≡ k). ⊎_elim
-          (λ (f : length (edges j) ≤ get_or s.looked_at j 0). absurd (omega (arith, ap (λ x. get_or s.looked_at x 0) e, ap (λ x. length (edges x)) e)))
+          (λ (f : length (edges j) ≤ get_or s.looked_at j 0). absurd
+          (omega (arith, ap (λ x. get_or s.looked_at x 0) e, ap (λ x. length (edges x)) e)))
           (λ f. inr f)
           (w.waits j q h))
-          (λ (ne : j ≢ k). ⊎_elim (λ (f : length (edges j) ≤ get_or s.looked_at j 0). inl (omega (arith, other j ne))) (λ f. inr f) (w.waits j q h))
+          (λ (ne : j ≢ k). ⊎_elim (λ (f : length (edges j) ≤ get_or s.looked_at j 0).
+          inl (omega (arith, other j ne))) (λ f. inr f) (w.waits j q h))
           (cases_eq j k);
       leads = λ j i h. ⊎_elim
           (λ (e : j ≡ k). ⊎_elim
@@ -45,7 +64,12 @@ look_keeps edges n seen s k p w is left leads =
       finished = record {
         counted = w.finished.counted;
         joined = w.finished.joined;
-        looked = λ j c h. omega (arith, w.finished.looked j c h, other j (λ e. let wrong : Open p ≡ Closed c = sym is ∙ (ap (visit_of s.place) (sym e) ∙ h) in cc));
+        looked = λ j c h. omega (
+          arith,
+          w.finished.looked j c h,
+          other j (λ e. let wrong : Open p ≡ Closed c =
+              sym is ∙ (ap (visit_of s.place) (sym e) ∙ h) in cc),
+        );
         listed = w.finished.listed;
         closed = w.finished.closed;
         sorted = w.finished.sorted;
@@ -54,7 +78,9 @@ look_keeps edges n seen s k p w is left leads =
     }
 
 -- the last position leaves the path, since its node has no edge left
-pub pop_keeps : (edges : ℕ → List ℕ) (n seen : ℕ) (s : SearchState) (k : ℕ) → IsSearch edges n seen s → IsTopNode s k → length (edges k) ≤ get_or s.looked_at k 0 → IsSearch edges n seen (record s { path = take (length s.path - 1) s.path })
+pub pop_keeps : (edges : ℕ → List ℕ) (n seen : ℕ) (s : SearchState) (k : ℕ)
+    → IsSearch edges n seen s → IsTopNode s k → length (edges k) ≤ get_or s.looked_at k 0
+    → IsSearch edges n seen (record s { path = take (length s.path - 1) s.path })
 pop_keeps edges n seen s k w top none =
     let last = length s.path - 1 in
     record {
@@ -68,11 +94,17 @@ pop_keeps edges n seen s k w top none =
       path = AreRisingBelow-take s.path last _ _ w.path (λ i _ l. w.path.below i l);
       waits = λ j p h. ⊎_elim (λ f. inl f)
           (λ (f : Contains s.path p). ⊎_elim
-          (λ (l : f.0 < last). inr (f.0, omega (arith, length-take last s.path), get_or-take last s.path f.0 p l ∙ f.2))
+          (λ (l : f.0 < last). inr (
+            f.0,
+            omega (arith, length-take last s.path),
+            get_or-take last s.path f.0 p l ∙ f.2,
+          ))
           (λ (l : last ≤ f.0).
           let ends : last ≡ f.0 = omega (arith, f.1) in
-          let p_is : get_or s.path last 0 ≡ p = ap (λ x. get_or s.path x 0) ends ∙ (get_or_default s.path f.0 0 p f.1 ∙ f.2) in
-          let j_is : j ≡ k = sym (w.row.placed j p h).1 ∙ (ap (λ x. get_or s.opened x 0) (sym p_is ∙ top.ends) ∙ top.node) in
+          let p_is : get_or s.path last 0 ≡ p =
+          ap (λ x. get_or s.path x 0) ends ∙ (get_or_default s.path f.0 0 p f.1 ∙ f.2) in
+          let j_is : j ≡ k = sym (w.row.placed j p h).1
+          ∙ (ap (λ x. get_or s.opened x 0) (sym p_is ∙ top.ends) ∙ top.node) in
           inl (rw j_is none))
           (cases_lt f.0 last))
           (w.waits j p h);

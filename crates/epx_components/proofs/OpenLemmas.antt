@@ -1,25 +1,31 @@
 -- A node is opened.
-use Rattle.std.proofs.Common.{◌≡◌, ◌≢◌, ℕ, ◌<◌, ◌≤◌, ◌⊎◌, inl, inr, ⊎_elim, List, [], ◌∷◌, ◌++◌, length, get_or, set, sym, subst, ◌∙◌, ap, arith, Contains, length-set}
-use Rattle.std.proofs.lemmas.List.{get_or-set_same, get_or-set_other, get_or_append_left, get_or_push, length_push}
+use Rattle.std.proofs.Common.{◌≡◌, ◌≢◌, ℕ, ◌<◌, ◌≤◌, ◌⊎◌, inl, inr, ⊎_elim, List, [], ◌∷◌, ◌++◌}
+use Rattle.std.proofs.Common.{length, get_or, set, sym, subst, ◌∙◌, ap, arith, Contains}
+use Rattle.std.proofs.Common.{length-set}
+use Rattle.std.proofs.lemmas.List.{get_or-set_same, get_or-set_other, get_or_append_left}
+use Rattle.std.proofs.lemmas.List.{get_or_push, length_push}
 use Rattle.std.proofs.lemmas.List.Elements.{Contains-push, Contains-append_left}
 use Rattle.epx_graph.specs.NodePaths.{NodeReaches}
 use Rattle.epx_components.proofs.NodePathLemmas.{reaches_itself}
 use Rattle.epx_components.proofs.VisitLemmas.{MayLead-from, MayLead-push, MayLead-to, set_cases}
-use Rattle.epx_components.proofs.StartLemmas.{IsInGroupFrom-pushed, IsInGroupFrom-unpush, AreRisingBelow-push, first_push, push_cases}
+use Rattle.epx_components.proofs.StartLemmas.{IsInGroupFrom-pushed, IsInGroupFrom-unpush}
+use Rattle.epx_components.proofs.StartLemmas.{AreRisingBelow-push, first_push, push_cases}
 use Rattle.epx_components.specs.inner.SearchInvariants.{AreFinished, IsRow, IsSearch}
 use Rattle.epx_components.specs.inner.SearchStates.{SearchState, visit_of}
 use Rattle.epx_components.specs.inner.SearchSteps.{after_enter}
 use Rattle.epx_components.specs.declared.visit.Visit.{Visit}
 use Rattle.epx_components.specs.declared.visit.Visit.TheVariants.{Closed, Open, Unseen}
 
-enter_row : (place : List Visit) (opened : List ℕ) (k : ℕ) → IsRow place opened → k < length place → visit_of place k ≡ Unseen → IsRow (set place k (Open (length opened))) (opened ++ k ∷ [])
+enter_row : (place : List Visit) (opened : List ℕ) (k : ℕ) → IsRow place opened → k < length place
+    → visit_of place k ≡ Unseen → IsRow (set place k (Open (length opened))) (opened ++ k ∷ [])
 enter_row place opened k r l un =
     let m = length opened in
     let new = set place k (Open m) in
     record {
       stands = push_cases opened k (λ p j. visit_of new j ≡ Open p)
           (λ p h. get_or-set_other place k _ _ Unseen
-          (λ e. let wrong : Open p ≡ Unseen = sym (r.stands p h) ∙ (ap (visit_of place) e ∙ un) in cc) ∙ r.stands p h)
+          (λ e. let wrong : Open p ≡ Unseen = sym (r.stands p h) ∙ (ap (visit_of place) e ∙ un) in
+          cc) ∙ r.stands p h)
           (get_or-set_same place k (Open m) Unseen l);
       placed = λ j p h. ⊎_elim
           (λ (e : (j ≡ k) × (visit_of new j ≡ Open m)).
@@ -27,23 +33,29 @@ enter_row place opened k r l un =
           let at : m ≡ p = cc in
           (omega (arith, length_push opened k), get_or_push opened k 0 p at ∙ sym e.0))
           (λ (e : (j ≢ k) × (visit_of new j ≡ visit_of place j)).
-          let old = r.placed j p (sym e.1 ∙ h) in
-          (omega (arith, old.0, length_push opened k), get_or_append_left opened (k ∷ []) 0 p old.0 ∙ old.1))
+          let old = r.placed j p (sym e.1 ∙ h) in (
+            omega (arith, old.0, length_push opened k),
+            get_or_append_left opened (k ∷ []) 0 p old.0 ∙ old.1,
+          ))
           (set_cases place k (Open m) j l);
     }
 
 -- the finished components stay the same
-enter_finished : (edges : ℕ → List ℕ) (place : List Visit) (looked_at order : List ℕ) (count k m : ℕ) → AreFinished edges place looked_at order count → k < length place → visit_of place k ≡ Unseen → AreFinished edges (set place k (Open m)) looked_at order count
+enter_finished : (edges : ℕ → List ℕ) (place : List Visit) (looked_at order : List ℕ)
+    (count k m : ℕ) → AreFinished edges place looked_at order count → k < length place
+    → visit_of place k ≡ Unseen → AreFinished edges (set place k (Open m)) looked_at order count
 enter_finished edges place looked_at order count k m d l un =
     let new = set place k (Open m) in
     let back : (j c : ℕ) → visit_of new j ≡ Closed c → visit_of place j ≡ Closed c = λ j c h.
     ⊎_elim
-    (λ (e : (j ≡ k) × (visit_of new j ≡ Open m)). let wrong : Open m ≡ Closed c = sym e.1 ∙ h in cc)
+    (λ (e : (j ≡ k) × (visit_of new j ≡ Open m)). let wrong : Open m ≡ Closed c = sym e.1 ∙ h in
+    cc)
     (λ (e : (j ≢ k) × (visit_of new j ≡ visit_of place j)). sym e.1 ∙ h)
     (set_cases place k (Open m) j l)
     in
     let on : (j c : ℕ) → visit_of place j ≡ Closed c → visit_of new j ≡ Closed c = λ j c h.
-    get_or-set_other place k j _ Unseen (λ e. let wrong : Closed c ≡ Unseen = sym h ∙ (ap (visit_of place) e ∙ un) in cc) ∙ h
+    get_or-set_other place k j _ Unseen (λ e. let wrong : Closed c ≡ Unseen =
+    sym h ∙ (ap (visit_of place) e ∙ un) in cc) ∙ h
     in
     record {
       counted = λ j c h. d.counted j c (back j c h);
@@ -55,12 +67,17 @@ enter_finished edges place looked_at order count k m d l un =
       count_below = d.count_below;
     }
 
-pub enter_keeps : (edges : ℕ → List ℕ) (n seen : ℕ) (s : SearchState) (k : ℕ) → IsSearch edges n seen s → k < n → visit_of s.place k ≡ Unseen → ((j p : ℕ) → visit_of s.place j ≡ Open p → NodeReaches edges j k) → IsSearch edges n seen (after_enter s k)
+pub enter_keeps : (edges : ℕ → List ℕ) (n seen : ℕ) (s : SearchState) (k : ℕ)
+    → IsSearch edges n seen s → k < n → visit_of s.place k ≡ Unseen
+    → ((j p : ℕ) → visit_of s.place j ≡ Open p → NodeReaches edges j k)
+    → IsSearch edges n seen (after_enter s k)
 enter_keeps edges n seen s k w l un all =
     let m = length s.opened in
     let in' : k < length s.place = omega (arith, w.places) in
     let new = set s.place k (Open m) in
-    let cases : (j : ℕ) → ((j ≡ k) × (visit_of new j ≡ Open m)) ⊎ ((j ≢ k) × (visit_of new j ≡ visit_of s.place j)) = λ j. set_cases s.place k (Open m) j in' in
+    let cases : (j : ℕ) → ((j ≡ k) × (visit_of new j ≡ Open m))
+    ⊎ ((j ≢ k) × (visit_of new j ≡ visit_of s.place j)) =
+    λ j. set_cases s.place k (Open m) j in' in
     let kept : (j : ℕ) → visit_of s.place j ≢ Unseen → visit_of new j ≡ visit_of s.place j = λ j h.
     get_or-set_other s.place k j _ Unseen (λ e. h (ap (visit_of s.place) e ∙ un)) in
     record {
@@ -79,7 +96,8 @@ enter_keeps edges n seen s k w l un all =
           let at : m ≡ p = cc in
           inr (subst (Contains (s.path ++ m ∷ [])) at (Contains-push s.path m)))
           (λ (e : (j ≢ k) × (visit_of new j ≡ visit_of s.place j)).
-          ⊎_elim (λ h. inl h) (λ h. inr (Contains-append_left s.path (m ∷ []) p h)) (w.waits j p (sym e.1 ∙ h)))
+          ⊎_elim (λ h. inl h) (λ h. inr (Contains-append_left s.path (m ∷ []) p h))
+          (w.waits j p (sym e.1 ∙ h)))
           (cases j);
       leads = λ j i h.
           let old = w.leads j i h in
@@ -98,7 +116,8 @@ enter_keeps edges n seen s k w l un all =
           (λ (e : (i ≢ k) × (visit_of new i ≡ visit_of s.place i)). ⊎_elim
           (λ (f : (j ≡ k) × (visit_of new j ≡ Open m)). rw f.0 (all i p (sym e.1 ∙ hi)))
           (λ (f : (j ≢ k) × (visit_of new j ≡ visit_of s.place j)).
-          w.reaches i j p q (sym e.1 ∙ hi) (sym f.1 ∙ hj) (IsInGroupFrom-unpush s.starts m p q from))
+          w.reaches i j p q (sym e.1 ∙ hi) (sym f.1 ∙ hj)
+          (IsInGroupFrom-unpush s.starts m p q from))
           (cases j))
           (cases i);
     }

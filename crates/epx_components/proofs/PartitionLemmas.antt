@@ -1,24 +1,37 @@
 -- Facts of a partition node by node, and after a write for one component.
-use Rattle.std.proofs.Common.{◌≡◌, ◌≢◌, ◌⊎◌, inl, inr, ⊎_elim, ℕ, ◌<◌, List, length, get_or, set, ap, ◌∙◌, All}
+use Rattle.std.proofs.Common.{◌≡◌, ◌≢◌, ◌⊎◌, inl, inr, ⊎_elim, ℕ, ◌<◌, List, length, get_or, set}
+use Rattle.std.proofs.Common.{ap, ◌∙◌, All}
 use Rattle.std.proofs.lemmas.Bool.{cases_eq}
 use Rattle.std.proofs.lemmas.List.{get_or-set_same, get_or-set_other}
 use Rattle.std.proofs.lemmas.List.Elements.{All-get_or, All-from_get_or, Contains-get_or}
 use Rattle.epx_components.specs.Partitions.{Parts, IsPartition, component_of, node_at}
 
-pub node_below : (edges : ℕ → List ℕ) (p : Parts) → IsPartition edges p → (i : ℕ) → i < length p.order → node_at p i < length p.component
+pub node_below : (edges : ℕ → List ℕ) (p : Parts) → IsPartition edges p → (i : ℕ)
+    → i < length p.order → node_at p i < length p.component
 node_below edges p is i l = All-get_or (λ k. k < length p.component) p.order i 0 l is.nodes
 
-pub component_below : (edges : ℕ → List ℕ) (p : Parts) → IsPartition edges p → (k : ℕ) → k < length p.component → component_of p k < p.count
+pub component_below : (edges : ℕ → List ℕ) (p : Parts) → IsPartition edges p → (k : ℕ)
+    → k < length p.component → component_of p k < p.count
 component_below edges p is k l = All-get_or (λ c. c < p.count) p.component k 0 l is.counted
 
-pub targets_below : (edges : ℕ → List ℕ) (p : Parts) → IsPartition edges p → (k : ℕ) → All (λ j. j < length p.component) (edges k)
-targets_below edges p is k = All-from_get_or (λ j. j < length p.component) (edges k) 0 (λ x l. is.within k _ (Contains-get_or (edges k) x 0 l))
+pub targets_below : (edges : ℕ → List ℕ) (p : Parts) → IsPartition edges p → (k : ℕ)
+    → All (λ j. j < length p.component) (edges k)
+targets_below edges p is k = All-from_get_or (λ j. j < length p.component) (edges k) 0
+    (λ x l. is.within k _ (Contains-get_or (edges k) x 0 l))
 
 -- the value of a node after a write for the component of b
-pub value_after_set : {A : Type 0} (none : A) (p : Parts) (xs : List A) (b : ℕ) (x : A) → component_of p b < length xs → (k : ℕ) → ((component_of p k ≡ component_of p b) × (get_or (set xs (component_of p b) x) (component_of p k) none ≡ x)) ⊎ ((component_of p k ≢ component_of p b) × (get_or (set xs (component_of p b) x) (component_of p k) none ≡ get_or xs (component_of p k) none))
+pub value_after_set : {A : Type 0} (none : A) (p : Parts) (xs : List A) (b : ℕ) (x : A)
+    → component_of p b < length xs → (k : ℕ)
+    → ((component_of p k ≡ component_of p b)
+    × (get_or (set xs (component_of p b) x) (component_of p k) none ≡ x))
+    ⊎ ((component_of p k ≢ component_of p b)
+    × (get_or (set xs (component_of p b) x) (component_of p k) none
+    ≡ get_or xs (component_of p k) none))
 value_after_set none p xs b x l k =
     let own = component_of p b in
     ⊎_elim
-    (λ (e : component_of p k ≡ own). inl (e, ap (λ c. get_or (set xs own x) c none) e ∙ get_or-set_same xs own x none l))
-    (λ (ne : component_of p k ≢ own). inr (ne, get_or-set_other xs own (component_of p k) x none ne))
+    (λ (e : component_of p k ≡ own). inl
+    (e, ap (λ c. get_or (set xs own x) c none) e ∙ get_or-set_same xs own x none l))
+    (λ (ne : component_of p k ≢ own). inr
+    (ne, get_or-set_other xs own (component_of p k) x none ne))
     (cases_eq (component_of p k) own)

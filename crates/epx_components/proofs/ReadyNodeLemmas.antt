@@ -12,7 +12,8 @@ use Rattle.epx_graph.proofs.MapPathLemmas.{node_committed, node_reaches, reached
 use Rattle.epx_components.specs.MissingNodes.{ReachesMissing}
 
 module _ (m : List Instance) (g : DependencyGraph) (is : IsGraphOf m g) where
-  pub ready_from_node : (k : ℕ) (x : Id) → slice_get g.ids k ≡ Some x → k < g.committed → ¬ ReachesMissing (edges_of g) g.committed k → IsReady m x
+  pub ready_from_node : (k : ℕ) (x : Id) → slice_get g.ids k ≡ Some x → k < g.committed
+      → ¬ ReachesMissing (edges_of g) g.committed k → IsReady m x
   ready_from_node k x at l none = record {
     committed = (node_committed m g is k x at).0 l;
     complete = λ y there.
@@ -23,8 +24,10 @@ module _ (m : List Instance) (g : DependencyGraph) (is : IsGraphOf m g) where
         ];
   }
 
-  pub node_from_ready : (k : ℕ) (x : Id) → slice_get g.ids k ≡ Some x → IsReady m x → ¬ ReachesMissing (edges_of g) g.committed k
+  pub node_from_ready : (k : ℕ) (x : Id) → slice_get g.ids k ≡ Some x → IsReady m x
+      → ¬ ReachesMissing (edges_of g) g.committed k
   node_from_ready k x at ready (j, past, path) =
-      let y = node_id g is.graph j (reached_within g is.graph k path.0 j (slice_get_within g.ids k x at) path.1) in
+      let y = node_id g is.graph j
+      (reached_within g is.graph k path.0 j (slice_get_within g.ids k x at) path.1) in
       let committed = ready.complete y.0 ((node_reaches m g is k j x y.0 at y.1).0 path) in
       omega (arith, (node_committed m g is j y.0 y.1).1 committed)

@@ -1,5 +1,6 @@
 -- States of nodes: after a write, and where edges lead after the groups change.
-use Rattle.std.proofs.Common.{◌≡◌, ◌≢◌, ℕ, ◌<◌, ◌≤◌, ◌⊎◌, inl, inr, ⊎_elim, List, [], ◌∷◌, ◌++◌, length, set, take, refl, ◌∙◌, ap}
+use Rattle.std.proofs.Common.{◌≡◌, ◌≢◌, ℕ, ◌<◌, ◌≤◌, ◌⊎◌, inl, inr, ⊎_elim, List, [], ◌∷◌, ◌++◌}
+use Rattle.std.proofs.Common.{length, set, take, refl, ◌∙◌, ap}
 use Rattle.std.proofs.lemmas.List.{get_or-set_same, get_or-set_other, get_or_past}
 use Rattle.std.proofs.lemmas.Bool.{cases_eq, cases_lt}
 use Rattle.epx_components.proofs.StartLemmas.{IsInGroupFrom-push, IsInGroupFrom-take}
@@ -10,7 +11,9 @@ use Rattle.epx_components.specs.declared.visit.Visit.{Visit}
 use Rattle.epx_components.specs.declared.visit.Visit.TheVariants.{Closed, Open, Unseen}
 
 -- the state of a node after a write
-pub set_cases : (ps : List Visit) (k : ℕ) (x : Visit) (j : ℕ) → k < length ps → ((j ≡ k) × (visit_of (set ps k x) j ≡ x)) ⊎ ((j ≢ k) × (visit_of (set ps k x) j ≡ visit_of ps j))
+pub set_cases : (ps : List Visit) (k : ℕ) (x : Visit) (j : ℕ) → k < length ps
+    → ((j ≡ k) × (visit_of (set ps k x) j ≡ x))
+    ⊎ ((j ≢ k) × (visit_of (set ps k x) j ≡ visit_of ps j))
 set_cases ps k x j l =
     ⊎_elim
     (λ (e : j ≡ k). inl (e, ap (visit_of (set ps k x)) e ∙ get_or-set_same ps k x Unseen l))
@@ -19,7 +22,8 @@ set_cases ps k x j l =
 
 -- a node that is not unseen is in the list
 pub placed_below : (ps : List Visit) (k : ℕ) → visit_of ps k ≢ Unseen → k < length ps
-placed_below ps k h = ⊎_elim (λ (l : k < length ps). l) (λ (l : length ps ≤ k). absurd (h (get_or_past ps k Unseen l))) (cases_lt k (length ps))
+placed_below ps k h = ⊎_elim (λ (l : k < length ps). l)
+    (λ (l : length ps ≤ k). absurd (h (get_or_past ps k Unseen l))) (cases_lt k (length ps))
 
 pub MayLead-from : (starts : List ℕ) (x y : Visit) → MayLead starts x y → x ≢ Unseen
 MayLead-from starts Unseen y h = absurd h
@@ -34,7 +38,9 @@ MayLead-to starts (Open p) Unseen h = absurd h
 MayLead-to starts (Closed c) Unseen h = absurd h
 
 -- an edge stays good if the new starts keep each position in the groups from its own on
-MayLead-later : (old new : List ℕ) (x y : Visit) → ((p q : ℕ) → x ≡ Open p → IsInGroupFrom old p q → IsInGroupFrom new p q) → MayLead old x y → MayLead new x y
+MayLead-later : (old new : List ℕ) (x y : Visit)
+    → ((p q : ℕ) → x ≡ Open p → IsInGroupFrom old p q → IsInGroupFrom new p q) → MayLead old x y
+    → MayLead new x y
 MayLead-later old new Unseen y on h = absurd h
 MayLead-later old new (Open p) Unseen on h = absurd h
 MayLead-later old new (Open p) (Open q) on h = on p q refl h
@@ -43,8 +49,13 @@ MayLead-later old new (Closed c) Unseen on h = absurd h
 MayLead-later old new (Closed c) (Open q) on h = absurd h
 MayLead-later old new (Closed c) (Closed d) on h = h
 
-pub MayLead-push : (starts : List ℕ) (m : ℕ) (x y : Visit) → ((p : ℕ) → x ≡ Open p → p < m) → MayLead starts x y → MayLead (starts ++ m ∷ []) x y
-MayLead-push starts m x y below h = MayLead-later starts (starts ++ m ∷ []) x y (λ p q e. IsInGroupFrom-push starts m p q (below p e)) h
+pub MayLead-push : (starts : List ℕ) (m : ℕ) (x y : Visit) → ((p : ℕ) → x ≡ Open p → p < m)
+    → MayLead starts x y → MayLead (starts ++ m ∷ []) x y
+MayLead-push starts m x y below h =
+    MayLead-later starts (starts ++ m ∷ []) x y
+    (λ p q e. IsInGroupFrom-push starts m p q (below p e)) h
 
-pub MayLead-take : (starts : List ℕ) (n : ℕ) (x y : Visit) → MayLead starts x y → MayLead (take n starts) x y
-MayLead-take starts n x y h = MayLead-later starts (take n starts) x y (λ p q _. IsInGroupFrom-take starts n p q) h
+pub MayLead-take : (starts : List ℕ) (n : ℕ) (x y : Visit) → MayLead starts x y
+    → MayLead (take n starts) x y
+MayLead-take starts n x y h = MayLead-later starts (take n starts) x y
+    (λ p q _. IsInGroupFrom-take starts n p q) h

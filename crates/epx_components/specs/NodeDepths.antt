@@ -5,7 +5,8 @@ use Rattle.epx_graph.specs.NodePaths.{NodeReaches}
 -- a chain that begins at k, in which each reaches the next and is not reached by it
 abbrev pub NodeDescends : (ℕ → List ℕ) → ℕ → List ℕ → Type 0
 NodeDescends edges k [] = Unit {0}
-NodeDescends edges k (c ∷ cs) = NodeReaches edges k c × ¬ NodeReaches edges c k × NodeDescends edges c cs
+NodeDescends edges k (c ∷ cs) = NodeReaches edges k c × ¬ NodeReaches edges c k
+    × NodeDescends edges c cs
 
 -- the greatest number of steps of such a chain
 pub record IsNodeDepth (edges : ℕ → List ℕ) (k depth : ℕ) : Type 0 where

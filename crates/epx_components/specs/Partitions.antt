@@ -1,6 +1,7 @@
 -- The components of a graph's nodes, numbered so that no edge leads to a component with a greater
 -- number.
-use Rattle.std.specs.Prelude.{◌≡◌, ℕ, ◌<◌, ◌≤◌, List, length, slice_index, slice_index_or, Bool, false, Contains, All}
+use Rattle.std.specs.Prelude.{◌≡◌, ℕ, ◌<◌, ◌≤◌, List, length, slice_index, slice_index_or, Bool}
+use Rattle.std.specs.Prelude.{false, Contains, All}
 use Rattle.epx_graph.specs.Graphs.{DependencyGraph, edges_of}
 use Rattle.epx_graph.specs.NodePaths.{NodeReaches}
 use Rattle.epx_components.specs.declared.partition.Partition.{Partition}
@@ -17,11 +18,13 @@ parts p = record { component = p.component.items; order = p.order.items; count =
 
 -- no edge leads to a component with a greater number
 abbrev pub EdgesFall : (ℕ → List ℕ) → List ℕ → Type 0
-EdgesFall edges component = (k j : ℕ) → Contains (edges k) j → slice_index component j ≤ slice_index component k
+EdgesFall edges component = (k j : ℕ) → Contains (edges k) j
+    → slice_index component j ≤ slice_index component k
 
 -- the nodes of a component reach each other
 abbrev pub MembersReach : (ℕ → List ℕ) → List ℕ → Type 0
-MembersReach edges component = (k j : ℕ) → k < length component → j < length component → slice_index component k ≡ slice_index component j → NodeReaches edges k j
+MembersReach edges component = (k j : ℕ) → k < length component → j < length component
+    → slice_index component k ≡ slice_index component j → NodeReaches edges k j
 
 pub record IsPartition (edges : ℕ → List ℕ) (p : Parts) : Type 0 where
   pub within : (k j : ℕ) → Contains (edges k) j → j < length p.component
@@ -31,7 +34,9 @@ pub record IsPartition (edges : ℕ → List ℕ) (p : Parts) : Type 0 where
   -- the order has each node, by rising component
   pub listed : (k : ℕ) → k < length p.component → Contains p.order k
   pub nodes : All (λ k. k < length p.component) p.order
-  pub sorted : (i j : ℕ) → i ≤ j → j < length p.order → slice_index p.component (slice_index p.order i) ≤ slice_index p.component (slice_index p.order j)
+  pub sorted : (i j : ℕ) → i ≤ j → j < length p.order
+      → slice_index p.component (slice_index p.order i)
+      ≤ slice_index p.component (slice_index p.order j)
 
 -- the components of a graph
 pub record IsPartitionOf (g : DependencyGraph) (p : Parts) : Type 0 where

@@ -36,8 +36,11 @@ impl Model for ComponentMap {
 /// the only error.
 pub fn components(alloc: Global, graph: &Graph) -> Result<ComponentMap, Memory>
     ensures len { IfOk result (λ found. length found ≡ length graph.now.ids) }
-    ensures leaders { IfOk result (λ found. (k : ℕ) → k < length graph.now.ids → IsNodeLeader (edges_of graph.now) k (slice_index found k)) }
-    ensures instances { IfOk result (λ found. (m : List Instance) → IsGraphOf m graph.now → (k : ℕ) (x : Id) → slice_get graph.now.ids k ≡ Some x → (y : Id) × (slice_get graph.now.ids (slice_index found k) ≡ Some y) × IsLeader m x y) }
+    ensures leaders { IfOk result (λ found. (k : ℕ) → k < length graph.now.ids
+        → IsNodeLeader (edges_of graph.now) k (slice_index found k)) }
+    ensures instances { IfOk result (λ found. (m : List Instance) → IsGraphOf m graph.now
+        → (k : ℕ) (x : Id) → slice_get graph.now.ids k ≡ Some x
+        → (y : Id) × (slice_get graph.now.ids (slice_index found k) ≡ Some y) × IsLeader m x y) }
 {
     let partition = find_components(alloc, graph)?;
     let leaders = find_leaders(alloc, graph, &partition)?;

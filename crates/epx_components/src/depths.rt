@@ -18,7 +18,8 @@ pub(crate) fn find_depths(
 ) -> Result<Vec<usize>, Memory>
     requires { IsPartitionOf graph.now (parts partition.now) }
     ensures len { IfOk result (λ depths. length depths.items ≡ (parts partition.now).count) }
-    ensures each { IfOk result (λ depths. (k : ℕ) → k < length graph.now.ids → IsNodeDepth (edges_of graph.now) k (number_for (parts partition.now) depths.items k)) }
+    ensures each { IfOk result (λ depths. (k : ℕ) → k < length graph.now.ids
+        → IsNodeDepth (edges_of graph.now) k (number_for (parts partition.now) depths.items k)) }
 {
     let mut depths = vec![in alloc; 0; partition.count]?;
     for node in &partition.order {
@@ -33,7 +34,8 @@ pub(crate) fn find_depths(
 /// is none.
 fn depth_above(targets: &[usize], component: &[usize], depths: &[usize], own: usize) -> usize
     requires targets { All (λ j. j < length component.now) targets.now }
-    requires falls { (i : ℕ) → i < length targets.now → slice_index component.now (slice_index targets.now i) ≤ own }
+    requires falls { (i : ℕ) → i < length targets.now
+        → slice_index component.now (slice_index targets.now i) ≤ own }
     requires own { own < length depths.now }
     requires low { (c : ℕ) → slice_index depths.now c ≤ c }
     ensures { IsDepthAbove component.now depths.now own targets.now (length targets.now) result }

@@ -17,7 +17,8 @@ pub(crate) fn find_leaders(
 ) -> Result<Vec<usize>, Memory>
     requires { IsPartitionOf graph.now (parts partition.now) }
     ensures len { IfOk result (λ leaders. length leaders.items ≡ (parts partition.now).count) }
-    ensures each { IfOk result (λ leaders. (k : ℕ) → k < length graph.now.ids → IsNodeLeader (edges_of graph.now) k (number_for (parts partition.now) leaders.items k)) }
+    ensures each { IfOk result (λ leaders. (k : ℕ) → k < length graph.now.ids
+        → IsNodeLeader (edges_of graph.now) k (number_for (parts partition.now) leaders.items k)) }
 {
     let mut leaders = vec![in alloc; 0; partition.count]?;
     for node in (0..graph.len()).rev() {

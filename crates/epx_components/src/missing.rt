@@ -18,7 +18,9 @@ pub fn find_missing(
 ) -> Result<Vec<bool>, Memory>
     requires { IsPartitionOf graph.now (parts partition.now) }
     ensures len { IfOk result (λ marks. length marks.items ≡ (parts partition.now).count) }
-    ensures each { IfOk result (λ marks. (k : ℕ) → k < length graph.now.ids → IsTrue (mark_for (parts partition.now) marks.items k) ↔ ReachesMissing (edges_of graph.now) graph.now.committed k) }
+    ensures each { IfOk result (λ marks. (k : ℕ) → k < length graph.now.ids
+        → IsTrue (mark_for (parts partition.now) marks.items k)
+        ↔ ReachesMissing (edges_of graph.now) graph.now.committed k) }
 {
     let mut marks = vec![in alloc; false; partition.count]?;
     // If no node is missing, no edge needs to be looked at.
@@ -38,7 +40,9 @@ fn reaches_missing_by_edge(graph: &Graph, node: usize, component: &[usize], mark
     requires node { node < length graph.now.ids }
     requires targets { All (λ j. j < length component.now) (edges_of graph.now node) }
     requires counted { All (λ c. c < length marks.now) component.now }
-    ensures { IsTrue result ↔ ((graph.now.committed ≤ node) ⊎ LeadsToMarked component.now marks.now (edges_of graph.now node)) }
+    ensures { IsTrue result
+        ↔ ((graph.now.committed ≤ node) ⊎ LeadsToMarked component.now marks.now
+        (edges_of graph.now node)) }
 {
     if !graph.is_committed(node) {
         return true;

@@ -45,7 +45,8 @@ impl NodeRanks {
     /// only error.
     pub fn of(alloc: Global, graph: &Graph) -> Result<NodeRanks, Memory>
         ensures len { IfOk result (λ found. length found ≡ length graph.now.ids) }
-        ensures each { IfOk result (λ found. (k : ℕ) (node_rank : NodeRank) → slice_get found k ≡ Some node_rank → IsNodeRank graph.now k node_rank) }
+        ensures each { IfOk result (λ found. (k : ℕ) (node_rank : NodeRank)
+            → slice_get found k ≡ Some node_rank → IsNodeRank graph.now k node_rank) }
     {
         let partition = find_components(alloc, graph)?;
         let leaders = find_leaders(alloc, graph, &partition)?;

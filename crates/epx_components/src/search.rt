@@ -1,11 +1,13 @@
 //! The depth-first search for components.
-ghost use Rattle.std.specs.Prelude.{◌≡◌, ℕ, List, ◌+◌, ◌<◌, ◌≤◌, length, OnOk, IfOk, IfSome, IfNone};
+ghost use Rattle.std.specs.Prelude.{◌≡◌, ℕ, List, ◌+◌, ◌<◌, ◌≤◌, length, OnOk, IfOk, IfSome};
+ghost use Rattle.std.specs.Prelude.{IfNone};
 ghost use Rattle.epx_graph.specs.Graphs.{IsGraph, edges_of};
 ghost use Rattle.epx_components.specs.Partitions.{parts, IsPartitionOf};
 ghost use Rattle.epx_components.specs.inner.Starts.{AreRisingBelow};
 ghost use Rattle.epx_components.specs.inner.SearchStates.{state, visit_of};
 ghost use Rattle.epx_components.specs.inner.SearchInvariants.{IsRow, IsSearch, KeepsSearch};
-ghost use Rattle.epx_components.specs.inner.SearchSteps.{after_enter, Arrives, IsNextNode, IsTopNode, IsPathBelow, IsFinished};
+ghost use Rattle.epx_components.specs.inner.SearchSteps.{after_enter, Arrives, IsNextNode};
+ghost use Rattle.epx_components.specs.inner.SearchSteps.{IsTopNode, IsPathBelow, IsFinished};
 ghost use Rattle.epx_components.specs.inner.SearchWork.{work_left};
 
 use crate::partition::Partition;
@@ -74,9 +76,11 @@ impl Search {
     pub(crate) fn explore(&mut self, graph: &Graph, root: usize) -> Result<(), Memory>
         requires graph { IsGraph graph.now }
         requires root { root < length graph.now.ids }
-        requires search { IsSearch (edges_of graph.now) (length graph.now.ids) root (state self.old) }
+        requires search { IsSearch (edges_of graph.now) (length graph.now.ids) root
+            (state self.old) }
         requires none { length (state self.old).starts ≡ 0 }
-        ensures search { OnOk result (IsSearch (edges_of graph.now) (length graph.now.ids) (root + 1) (state self.new)) }
+        ensures search { OnOk result
+            (IsSearch (edges_of graph.now) (length graph.now.ids) (root + 1) (state self.new)) }
         ensures none { OnOk result (length (state self.new).starts ≡ 0) }
     {
         self.arrive(root)?;
@@ -89,10 +93,14 @@ impl Search {
     /// Looks at one edge of the last group, or finishes the group if it has none left.
     fn step(&mut self, graph: &Graph) -> Result<(), Memory>
         requires graph { IsGraph graph.now }
-        requires search { (seen : ℕ) × IsSearch (edges_of graph.now) (length graph.now.ids) seen (state self.old) }
+        requires search { (seen : ℕ) × IsSearch (edges_of graph.now) (length graph.now.ids) seen
+            (state self.old) }
         requires some { 0 < length (state self.old).starts }
-        ensures keeps { OnOk result (KeepsSearch (edges_of graph.now) (length graph.now.ids) (state self.old) (state self.new)) }
-        ensures less { OnOk result (work_left graph.now.edges (state self.new) < work_left graph.now.edges (state self.old)) }
+        ensures keeps { OnOk result
+            (KeepsSearch (edges_of graph.now) (length graph.now.ids) (state self.old)
+            (state self.new)) }
+        ensures less { OnOk result (work_left graph.now.edges (state self.new)
+            < work_left graph.now.edges (state self.old)) }
     {
         match self.top() {
             Some(node) if self.looked_at[node] < graph.edges(node).len() => {
@@ -124,10 +132,14 @@ impl Search {
     /// Looks at the next edge of a node in the last group.
     fn follow(&mut self, graph: &Graph, node: usize) -> Result<(), Memory>
         requires graph { IsGraph graph.now }
-        requires search { (seen : ℕ) × IsSearch (edges_of graph.now) (length graph.now.ids) seen (state self.old) }
+        requires search { (seen : ℕ) × IsSearch (edges_of graph.now) (length graph.now.ids) seen
+            (state self.old) }
         requires next { IsNextNode (edges_of graph.now) (state self.old) node }
-        ensures keeps { OnOk result (KeepsSearch (edges_of graph.now) (length graph.now.ids) (state self.old) (state self.new)) }
-        ensures less { OnOk result (work_left graph.now.edges (state self.new) < work_left graph.now.edges (state self.old)) }
+        ensures keeps { OnOk result
+            (KeepsSearch (edges_of graph.now) (length graph.now.ids) (state self.old)
+            (state self.new)) }
+        ensures less { OnOk result (work_left graph.now.edges (state self.new)
+            < work_left graph.now.edges (state self.old)) }
     {
         let next = self.looked_at[node];
         let target = graph.edges(node)[next];
@@ -140,7 +152,8 @@ impl Search {
     fn arrive(&mut self, node: usize) -> Result<(), Memory>
         requires node { node < length (state self.old).place }
         requires starts { AreRisingBelow (state self.old).starts (length (state self.old).opened) }
-        ensures { OnOk result (Arrives (visit_of (state self.old).place node) node (state self.old) (state self.new)) }
+        ensures { OnOk result (Arrives (visit_of (state self.old).place node) node (state self.old)
+            (state self.new)) }
     {
         match self.place[node] {
             Visit::Unseen => self.enter(node)?,

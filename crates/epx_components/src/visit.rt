@@ -19,8 +19,10 @@ pub(crate) enum Visit {
 /// Puts nodes into a component.
 pub(crate) fn close_nodes(place: &mut [Visit], nodes: &[usize], component: usize)
     requires { (i : ℕ) → i < length nodes.now → slice_index nodes.now i < length place.old }
-    ensures closed { (i : ℕ) → i < length nodes.now → visit_of place.new (slice_index nodes.now i) ≡ Closed component }
-    ensures others { (k : ℕ) → ((i : ℕ) → i < length nodes.now → slice_index nodes.now i ≢ k) → visit_of place.new k ≡ visit_of place.old k }
+    ensures closed { (i : ℕ) → i < length nodes.now
+        → visit_of place.new (slice_index nodes.now i) ≡ Closed component }
+    ensures others { (k : ℕ) → ((i : ℕ) → i < length nodes.now → slice_index nodes.now i ≢ k)
+        → visit_of place.new k ≡ visit_of place.old k }
 {
     for node in nodes {
         place[*node] = Visit::Closed(component);
@@ -31,7 +33,8 @@ pub(crate) fn close_nodes(place: &mut [Visit], nodes: &[usize], component: usize
 pub(crate) fn component_numbers(alloc: Global, place: &[Visit]) -> Result<Vec<usize>, Memory>
     requires { (k : ℕ) → k < length place.now → (c : ℕ) × (visit_of place.now k ≡ Closed c) }
     ensures len { IfOk result (λ component. length component.items ≡ length place.now) }
-    ensures closed { IfOk result (λ component. (k : ℕ) → k < length place.now → visit_of place.now k ≡ Closed (slice_index component.items k)) }
+    ensures closed { IfOk result (λ component. (k : ℕ) → k < length place.now
+        → visit_of place.now k ≡ Closed (slice_index component.items k)) }
 {
     let mut component = Vec::with_capacity(alloc, place.len())?;
     for place in place {

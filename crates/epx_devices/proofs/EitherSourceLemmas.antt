@@ -2,7 +2,8 @@
 use Rattle.std.proofs.Common.{◌≡◌, ℕ, List, [], ◌∷◌, flat_map, refl, sym, subst}
 use Rattle.epx_devices.specs.declared.either_source.EitherSource.{EitherSource}
 use Rattle.epx_devices.specs.declared.either_source.EitherSource.TheVariants.{First, Second}
-use Rattle.epx_devices.specs.Deliveries.{FailRelation, ReadRelation, ReadStep, AreReads, DeliversThenFails}
+use Rattle.epx_devices.specs.Deliveries.{FailRelation, ReadRelation, ReadStep, AreReads}
+use Rattle.epx_devices.specs.Deliveries.{DeliversThenFails}
 use Rattle.epx_devices.specs.EitherSources.{fails_by, reads_by}
 
 module _ {A B : Type 0} (ra : ReadRelation A) (rb : ReadRelation B) where
@@ -36,7 +37,8 @@ module _ {A B : Type 0} (ra : ReadRelation A) (rb : ReadRelation B) where
       (steps : List (ReadStep B)) × (last : B) × (now ≡ Second last) × AreReads rb b steps last
 
   EndsInSecond-step : (b : B) (room : ℕ) (bytes : List ℕ) (next now : EitherSource A B)
-      → either_reads (Second b) room bytes next → EndsInSecond next now → EndsInSecond (Second b) now
+      → either_reads (Second b) room bytes next → EndsInSecond next now
+      → EndsInSecond (Second b) now
   EndsInSecond-step b room bytes (First a) now read later = absurd read
   EndsInSecond-step b room bytes (Second next) now read later =
       let step : ReadStep B = record { room = room; bytes = bytes; next = next } in

@@ -4,13 +4,15 @@ use Rattle.std.proofs.lemmas.Grind.{common_steps}
 use Rattle.std.proofs.Math.Seq.{take-add}
 use Rattle.std.specs.Io.KnownBytes.{Appends, Consumes}
 
-pub Consumes-trans : (a b c : Option (List ℕ)) (xs ys : List ℕ) → Consumes a b xs → Consumes b c ys → Consumes a c (xs ++ ys)
+pub Consumes-trans : (a b c : Option (List ℕ)) (xs ys : List ℕ) → Consumes a b xs → Consumes b c ys
+    → Consumes a c (xs ++ ys)
 Consumes-trans None b c xs ys p q = tt
 Consumes-trans (Some us) None c xs ys p q = absurd p
 Consumes-trans (Some us) (Some vs) None xs ys p q = absurd q
 Consumes-trans (Some us) (Some vs) (Some ws) xs ys p q = grind (arith, common_steps)
 
-pub Appends-trans : (a b c : Option (List ℕ)) (xs ys : List ℕ) → Appends a b xs → Appends b c ys → Appends a c (xs ++ ys)
+pub Appends-trans : (a b c : Option (List ℕ)) (xs ys : List ℕ) → Appends a b xs → Appends b c ys
+    → Appends a c (xs ++ ys)
 Appends-trans None b c xs ys p q = tt
 Appends-trans (Some us) None c xs ys p q = absurd p
 Appends-trans (Some us) (Some vs) None xs ys p q = absurd q

@@ -1,5 +1,7 @@
 -- The loop invariants of the two transfers.
-use Rattle.std.proofs.Common.{◌≡◌, ℕ, ◌+◌, ◌-◌, ◌≤◌, Bool, false, List, [], ◌∷◌, ◌++◌, length, take, drop, flat_map, Option, refl, sym, ap, ◌∙◌, subst, arith, append-nil}
+use Rattle.std.proofs.Common.{◌≡◌, ℕ, ◌+◌, ◌-◌, ◌≤◌, Bool, false, List, [], ◌∷◌, ◌++◌, length}
+use Rattle.std.proofs.Common.{take, drop, flat_map, Option, refl, sym, ap, ◌∙◌, subst, arith}
+use Rattle.std.proofs.Common.{append-nil}
 use Rattle.std.proofs.lemmas.Grind.{common_steps, flat_map-append}
 use Rattle.epx_devices.specs.Deliveries.{ReadRelation, ReadStep, AreReads, Delivers}
 use Rattle.epx_devices.proofs.KnownBytesLemmas.{Appends-trans, Consumes-trans, take-more}
@@ -14,7 +16,8 @@ pub record IsRead {S : Type 0} (remaining : S → Option (List ℕ)) (reads : Re
   pub few : length bytes ≤ 67108865
 
 -- the sink has accepted the first n bytes, and no call has failed
-pub record IsWritten {S : Type 0} (contents : S → Option (List ℕ)) (has_failed : S → Bool) (first now : S) (bytes : List ℕ) (n : ℕ) : Type 0 where
+pub record IsWritten {S : Type 0} (contents : S → Option (List ℕ)) (has_failed : S → Bool)
+    (first now : S) (bytes : List ℕ) (n : ℕ) : Type 0 where
   pub whole : has_failed now ≡ false
   pub within : n ≤ length bytes
   pub appended : Appends (contents first) (contents now) (take n bytes)
@@ -23,9 +26,15 @@ pub record IsWritten {S : Type 0} (contents : S → Option (List ℕ)) (has_fail
 pub take-rest : (n : ℕ) (xs : List ℕ) → take (length xs - n) (drop n xs) ≡ drop n xs
 take-rest n xs = grind (arith, common_steps)
 
-pub IsWritten-step : {S : Type 0} (contents : S → Option (List ℕ)) (has_failed : S → Bool) (first now later : S) (bytes : List ℕ) (n k : ℕ) → IsWritten contents has_failed first now bytes n → k ≤ length (take (length bytes - n) (drop n bytes)) → Appends (contents now) (contents later) (take k (take (length bytes - n) (drop n bytes))) → has_failed later ≡ false → IsWritten contents has_failed first later bytes (n + k)
+pub IsWritten-step : {S : Type 0} (contents : S → Option (List ℕ)) (has_failed : S → Bool)
+    (first now later : S) (bytes : List ℕ) (n k : ℕ)
+    → IsWritten contents has_failed first now bytes n
+    → k ≤ length (take (length bytes - n) (drop n bytes))
+    → Appends (contents now) (contents later) (take k (take (length bytes - n) (drop n bytes)))
+    → has_failed later ≡ false → IsWritten contents has_failed first later bytes (n + k)
 IsWritten-step contents has_failed first now later bytes n k sofar few appended whole =
-    let all = Appends-trans (contents first) (contents now) (contents later) (take n bytes) (take k (drop n bytes)) sofar.appended (rw take-rest at appended) in
+    let all = Appends-trans (contents first) (contents now) (contents later) (take n bytes)
+    (take k (drop n bytes)) sofar.appended (rw take-rest at appended) in
     record {
       whole = whole;
       within = grind (arith, common_steps);
@@ -66,7 +75,8 @@ module _ {S : Type 0} (reads : ReadRelation S) where
         → IsRead remaining reads has_failed first later (bytes ++ part)
     IsRead-step first now later bytes part room sofar consumed read few whole = record {
       whole = whole;
-      consumed = Consumes-trans (remaining first) _ (remaining later) bytes part sofar.consumed consumed;
+      consumed = Consumes-trans (remaining first) _ (remaining later) bytes part sofar.consumed
+          consumed;
       delivered = delivered-then first now later bytes part room sofar.delivered read;
       few = grind (arith, common_steps);
     }

@@ -1,5 +1,6 @@
 -- Devices in memory that fail after a set number of bytes.
-use Rattle.std.specs.Prelude.{◌≡◌, ℕ, ◌-◌, min, Bool, true, List, Option, Some, unwrap_or, option_map}
+use Rattle.std.specs.Prelude.{◌≡◌, ℕ, ◌-◌, min, Bool, true, List, Option, Some, unwrap_or}
+use Rattle.std.specs.Prelude.{option_map}
 
 pub record FuseState : Type 0 where
   -- the remaining bytes of a source, or the bytes that a sink has accepted

@@ -1,5 +1,6 @@
 //! Sources, from which logs are read, and sinks, to which reports are written.
-ghost use Rattle.std.specs.Prelude.{◌≡◌, ⊤, ℕ, Bool, true, List, Option, None, IfOk, OnOk, OnErr, IsErr, length, take};
+ghost use Rattle.std.specs.Prelude.{◌≡◌, ⊤, ℕ, Bool, true, List, Option, None, IfOk, OnOk, OnErr};
+ghost use Rattle.std.specs.Prelude.{IsErr, length, take};
 ghost use Rattle.std.specs.Io.{ReadsAtMost, WritesAtMost};
 ghost use Rattle.std.specs.Io.KnownBytes.{Keeps, ReadConsumes, WriteAppends};
 ghost use Rattle.epx_devices.specs.Devices.{AcceptsSome, failed_after};

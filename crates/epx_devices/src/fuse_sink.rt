@@ -1,5 +1,6 @@
 //! A sink in memory that fails after a set number of bytes.
-ghost use Rattle.std.specs.Prelude.{◌≡◌, ◌≤◌, ◌↔◌, false, true, [], ◌++◌, Some, IfOk, OnOk, OnErr, IsErr, length, take};
+ghost use Rattle.std.specs.Prelude.{◌≡◌, ◌≤◌, ◌↔◌, false, true, [], ◌++◌, Some, IfOk, OnOk, OnErr};
+ghost use Rattle.std.specs.Prelude.{IsErr, length, take};
 ghost use Rattle.std.specs.Io.{WritesAtMost};
 ghost use Rattle.std.specs.Io.KnownBytes.{Keeps, WriteAppends};
 ghost use Rattle.epx_devices.specs.Devices.{AcceptsSome, failed_after};
@@ -26,7 +27,12 @@ impl Model for FuseSink {
 
     ghost Value = { FuseState };
 
-    ghost view = { λ s. record { bytes = s.bytes.items; at_once = s.at_once; fuse = s.fuse; failed = s.failed } };
+    ghost view = { λ s. record {
+      bytes = s.bytes.items;
+      at_once = s.at_once;
+      fuse = s.fuse;
+      failed = s.failed;
+    } };
 
     ghost invariant = { λ s. 1 ≤ s.at_once };
 }
@@ -70,7 +76,8 @@ impl Sink for FuseSink {
         ensures fuse_spent { IsSpent self.old → IsErr result }
         ensures err { OnErr result (self.new ≡ after_failure self.old) }
         ensures count { IfOk result (λ n. n ≡ allowed self.old (length part.now)) }
-        ensures ok { IfOk result (λ n. self.new ≡ after_transfer self.old n (self.old.bytes ++ take n part.now)) }
+        ensures ok { IfOk result
+            (λ n. self.new ≡ after_transfer self.old n (self.old.bytes ++ take n part.now)) }
     {
         let count = allowed(part.len(), self.at_once, self.fuse);
         if self.fuse == Some(0) || self.bytes.extend_from_slice(&part[..count]).is_err() {

@@ -1,5 +1,6 @@
 //! A source over memory that fails after a set number of bytes.
-ghost use Rattle.std.specs.Prelude.{◌≡◌, ◌≤◌, ◌↔◌, ◌++◌, false, Some, IfOk, OnErr, IsErr, length, min, take, drop};
+ghost use Rattle.std.specs.Prelude.{◌≡◌, ◌≤◌, ◌↔◌, ◌++◌, false, Some, IfOk, OnErr, IsErr, length};
+ghost use Rattle.std.specs.Prelude.{min, take, drop};
 ghost use Rattle.std.specs.Io.{ReadsAtMost};
 ghost use Rattle.std.specs.Io.KnownBytes.{ReadConsumes};
 ghost use Rattle.epx_devices.specs.Devices.{failed_after};
@@ -25,7 +26,12 @@ impl<'a> Model for FuseSource<'a> {
 
     ghost Value = { FuseState };
 
-    ghost view = { λ s. record { bytes = s.bytes.now; at_once = s.at_once; fuse = s.fuse; failed = s.failed } };
+    ghost view = { λ s. record {
+      bytes = s.bytes.now;
+      at_once = s.at_once;
+      fuse = s.fuse;
+      failed = s.failed;
+    } };
 
     ghost invariant = { λ s. 1 ≤ s.at_once };
 }
@@ -35,7 +41,12 @@ impl<'a> FuseSource<'a> {
     /// any number.
     pub fn new(bytes: &'a [u8], at_once: usize, fuse: Option<usize>) -> FuseSource<'a>
         requires { 1 ≤ at_once }
-        ensures { result ≡ record { bytes = bytes.now; at_once = at_once; fuse = fuse; failed = false } }
+        ensures { result ≡ record {
+          bytes = bytes.now;
+          at_once = at_once;
+          fuse = fuse;
+          failed = false;
+        } }
     {
         FuseSource {
             bytes,
@@ -64,8 +75,10 @@ impl Source for FuseSource<'_> {
 
         ensures fuse_spent { IsErr result ↔ IsSpent self.old }
         ensures err { OnErr result (self.new ≡ after_failure self.old) }
-        ensures count { IfOk result (λ n. n ≡ min (allowed self.old (length part.new)) (length self.old.bytes)) }
-        ensures ok { IfOk result (λ n. self.new ≡ after_transfer self.old n (drop n self.old.bytes)) }
+        ensures count { IfOk result
+            (λ n. n ≡ min (allowed self.old (length part.new)) (length self.old.bytes)) }
+        ensures ok { IfOk result
+            (λ n. self.new ≡ after_transfer self.old n (drop n self.old.bytes)) }
     {
         if self.fuse == Some(0) {
             self.failed = true;

@@ -1,5 +1,6 @@
 //! A source over memory, whose bytes are known.
-ghost use Rattle.std.specs.Prelude.{◌≡◌, ◌++◌, false, List, ℕ, Some, Ok, IfOk, OnErr, length, min, take};
+ghost use Rattle.std.specs.Prelude.{◌≡◌, ◌++◌, false, List, ℕ, Some, Ok, IfOk, OnErr, length, min};
+ghost use Rattle.std.specs.Prelude.{take};
 ghost use Rattle.std.specs.Io.{ReadsAtMost};
 ghost use Rattle.std.specs.Io.KnownBytes.{ReadConsumes};
 ghost use Rattle.epx_devices.specs.Devices.{failed_after};

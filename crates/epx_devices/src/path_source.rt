@@ -48,7 +48,8 @@ impl<'a, R: Files> PathSource<'a, R> {
         ensures bound { ReadsAtMost result part.new }
         ensures bytes { let left = option_and_then R.File.remaining self.new.file in
             ReadConsumes (option_and_then R.File.remaining self.old.file) left result part.new }
-        ensures given { IfOk result (λ count. ReadsNext R.File.remaining self.old.file self.new.file (take count part.new)) }
+        ensures given { IfOk result
+            (λ count. ReadsNext R.File.remaining self.old.file self.new.file (take count part.new)) }
         ensures path { self.new.path ≡ self.old.path }
         ensures failed { self.new.failed ≡ self.old.failed }
     {

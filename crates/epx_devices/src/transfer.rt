@@ -1,8 +1,10 @@
 //! Reading a whole log, and writing a whole text.
-ghost use Rattle.std.specs.Prelude.{◌≡◌, ◌≤◌, ◌↔◌, ◌+◌, true, false, length, IfOk, OnOk, IfErr, IfSome, IsErr, IsErrOf};
+ghost use Rattle.std.specs.Prelude.{◌≡◌, ◌≤◌, ◌↔◌, ◌+◌, true, false, length, IfOk, OnOk, IfErr};
+ghost use Rattle.std.specs.Prelude.{IfSome, IsErr, IsErrOf};
 ghost use Rattle.std.specs.Io.KnownBytes.{Appends, IsAtEnd};
 ghost use Rattle.epx_devices.specs.Deliveries.{DeliversAll, IsLogStop};
-ghost use Rattle.epx_devices.specs.Transfers.{IsReadLogFault, ConsumesUpTo, ConsumesExactly, AppendsPrefix};
+ghost use Rattle.epx_devices.specs.Transfers.{IsReadLogFault, ConsumesUpTo, ConsumesExactly};
+ghost use Rattle.epx_devices.specs.Transfers.{AppendsPrefix};
 
 use crate::device::{Sink, Source};
 use epx_types::{Fault, Memory};
@@ -21,7 +23,8 @@ const PART_BYTES: usize = 65_536;
 pub fn read_log<R: Source>(alloc: Global, log: usize, source: &mut R) -> Result<Vec<u8>, Fault>
     requires { R.has_failed source.old ≡ false }
 
-    ensures bytes { IfOk result (λ bytes. IfSome (R.remaining source.old) (λ all. bytes.items ≡ all)) }
+    ensures bytes { IfOk result
+        (λ bytes. IfSome (R.remaining source.old) (λ all. bytes.items ≡ all)) }
     ensures delivered { IfOk result (λ bytes.
         DeliversAll R.reads source.old source.new bytes.items) }
     ensures end { OnOk result (IsAtEnd (R.remaining source.new)) }
@@ -30,8 +33,10 @@ pub fn read_log<R: Source>(alloc: Global, log: usize, source: &mut R) -> Result<
     ensures faults { IfErr result (IsReadLogFault log) }
     ensures stops { IfErr result (IsLogStop R.reads R.fails log source.old source.new) }
     ensures failed { IsErrOf result (Fault.Read log) ↔ (R.has_failed source.new ≡ true) }
-    ensures too_long { IsErrOf result (Fault.LogTooLong log) → ConsumesExactly (R.remaining source.old) (R.remaining source.new) (MAX_LOG_BYTES + 1) }
-    ensures no_further { ConsumesUpTo (R.remaining source.old) (R.remaining source.new) (MAX_LOG_BYTES + 1) }
+    ensures too_long { IsErrOf result (Fault.LogTooLong log)
+        → ConsumesExactly (R.remaining source.old) (R.remaining source.new) (MAX_LOG_BYTES + 1) }
+    ensures no_further { ConsumesUpTo (R.remaining source.old) (R.remaining source.new)
+        (MAX_LOG_BYTES + 1) }
 {
     let mut bytes = Vec::new(alloc);
     let mut part = [0; PART_BYTES];

@@ -1,8 +1,12 @@
 -- What is built is the graph of the map.
-use Rattle.std.proofs.Common.{◌≡◌, inl, inr, ℕ, ◌-◌, ◌<◌, ◌≤◌, List, [], ◌++◌, length, take, drop, replicate, get_or, Some, slice_get, Contains, All, AllPairs, refl, sym, ap, subst, ◌∙◌, arith}
+use Rattle.std.proofs.Common.{◌≡◌, inl, inr, ℕ, ◌-◌, ◌<◌, ◌≤◌, List, [], ◌++◌, length, take, drop}
+use Rattle.std.proofs.Common.{replicate, get_or, Some, slice_get, Contains, All, AllPairs, refl}
+use Rattle.std.proofs.Common.{sym, ap, subst, ◌∙◌, arith}
 use Rattle.std.proofs.lemmas.Bool.{cases_lt}
-use Rattle.std.proofs.lemmas.List.{length-append, length-replicate, get_or_append_left, get_or-append_right, get_or-replicate, get_or_past}
-use Rattle.std.proofs.lemmas.List.Elements.{All-append, All-replicate, All-nil, All-from_get_or, All-contains_itself, All-weaker}
+use Rattle.std.proofs.lemmas.List.{length-append, length-replicate, get_or_append_left}
+use Rattle.std.proofs.lemmas.List.{get_or-append_right, get_or-replicate, get_or_past}
+use Rattle.std.proofs.lemmas.List.Elements.{All-append, All-replicate, All-nil, All-from_get_or}
+use Rattle.std.proofs.lemmas.List.Elements.{All-contains_itself, All-weaker}
 use Rattle.std.proofs.lemmas.Option.{slice_get_within, slice_get-get_or}
 use Rattle.epx_types.specs.declared.id.Id.{Id}
 use Rattle.epx_types.specs.Ids.{IsRising}
@@ -21,27 +25,32 @@ use Rattle.epx_graph.proofs.MapNodeLemmas.{nodes_long}
 use Rattle.epx_graph.proofs.RisingPositionLemmas.{slice_get-take}
 
 -- appending empty rows changes no row
-pub row_padded : (rows : List (List ℕ)) (n k : ℕ) → row_of (rows ++ replicate n []) k ≡ row_of rows k
+pub row_padded : (rows : List (List ℕ)) (n k : ℕ)
+    → row_of (rows ++ replicate n []) k ≡ row_of rows k
 row_padded rows n k =
     elim (cases_lt k (length rows)) [
       | inl l ↦ get_or_append_left rows (replicate n []) [] k l
-      | inr past ↦ get_or-append_right rows (replicate n []) (length rows) k [] refl past ∙ none (k - length rows) ∙ sym (get_or_past rows k [] past)
+      | inr past ↦ get_or-append_right rows (replicate n []) (length rows) k [] refl past
+          ∙ none (k - length rows) ∙ sym (get_or_past rows k [] past)
     ]
   where
     none : (i : ℕ) → row_of (replicate n []) i ≡ []
     none i =
         elim (cases_lt i n) [
           | inl l ↦ get_or-replicate n i [] [] l
-          | inr past ↦ get_or_past (replicate n []) i [] (omega (arith, length-replicate {A = List ℕ} n []))
+          | inr past ↦ get_or_past (replicate n []) i []
+              (omega (arith, length-replicate {A = List ℕ} n []))
         ]
 
-pub transpose_padded : (rows transpose : List (List ℕ)) (n : ℕ) → AreTransposed rows transpose → AreTransposed (rows ++ replicate n []) transpose
+pub transpose_padded : (rows transpose : List (List ℕ)) (n : ℕ) → AreTransposed rows transpose
+    → AreTransposed (rows ++ replicate n []) transpose
 transpose_padded rows transpose n is k j = (
   λ h. (is k j).0 (subst (λ (row : List ℕ). Contains row j) (row_padded rows n k) h),
   λ h. subst (λ (row : List ℕ). Contains row j) (sym (row_padded rows n k)) ((is k j).1 h),
 )
 
-module _ (m : List Instance) (ids : List Id) (rows : List (List ℕ)) (nodes : AreNodesOf m ids) (are : AreRowsOf m ids rows (length m)) where
+module _ (m : List Instance) (ids : List Id) (rows : List (List ℕ)) (nodes : AreNodesOf m ids)
+    (are : AreRowsOf m ids rows (length m)) where
   committed_is : take (length rows) ids ≡ ids_of m
   committed_is = ap (λ n. take n ids) are.0 ∙ nodes.committed
 
@@ -50,13 +59,17 @@ module _ (m : List Instance) (ids : List Id) (rows : List (List ℕ)) (nodes : A
 
   -- the instance of a row
   instance_of_row : (k : ℕ) → k < length rows → (e : Instance) × (slice_get m k ≡ Some e)
-  instance_of_row k l = let d : Instance = record { id = record { replica = 0; number = 0 }; seq = 0; deps = []; ops = [] } in (get_or m k d, slice_get-get_or m k d (omega (arith, are.0)))
+  instance_of_row k l = let d : Instance =
+      record { id = record { replica = 0; number = 0 }; seq = 0; deps = []; ops = [] } in
+      (get_or m k d, slice_get-get_or m k d (omega (arith, are.0)))
 
   row_in_range : (k : ℕ) → k < length rows → All (λ j. j < length ids) (row_of rows k)
   row_in_range k l =
       let e = instance_of_row k l in
       let row = are.1 k e.0 (omega (arith, are.0)) e.1 in
-      All-weaker (Contains (row_of rows k)) (λ j. j < length ids) (λ j h. let at = (row.exact j).0 h in slice_get_within ids j at.0 at.2) (row_of rows k) (All-contains_itself (row_of rows k))
+      All-weaker (Contains (row_of rows k)) (λ j. j < length ids)
+      (λ j h. let at = (row.exact j).0 h in slice_get_within ids j at.0 at.2) (row_of rows k)
+      (All-contains_itself (row_of rows k))
 
   no_row : (k : ℕ) → length rows ≤ k → edges_of (graph_over ids rows) k ≡ []
   no_row k l = row_padded rows (length ids - length rows) k ∙ get_or_past rows k [] l
@@ -66,48 +79,74 @@ module _ (m : List Instance) (ids : List Id) (rows : List (List ℕ)) (nodes : A
       elim (cases_lt k (length rows)) [
         | inl l ↦
             let e = instance_of_row k l in
-            subst (AllPairs (λ i j. i < j)) (sym (row_padded rows (length ids - length rows) k)) (are.1 k e.0 (omega (arith, are.0)) e.1).rising
-        | inr past ↦ subst (AllPairs (λ i j. i < j)) (sym (no_row k past)) (λ i j d l within. absurd (omega arith))
+            subst (AllPairs (λ i j. i < j)) (sym (row_padded rows (length ids - length rows) k))
+            (are.1 k e.0 (omega (arith, are.0)) e.1).rising
+        | inr past ↦ subst (AllPairs (λ i j. i < j)) (sym (no_row k past))
+            (λ i j d l within. absurd (omega arith))
       ]
 
   pub graph_kept : IsGraph (graph_over ids rows)
   graph_kept = record {
-    edge_lists = omega (arith, length-append rows (replicate (length ids - length rows) []), length-replicate {A = List ℕ} (length ids - length rows) [], are.0, nodes_long m ids nodes);
+    edge_lists = omega (
+      arith,
+      length-append rows (replicate (length ids - length rows) []),
+      length-replicate {A = List ℕ} (length ids - length rows) [],
+      are.0,
+      nodes_long m ids nodes,
+    );
     committed_nodes = omega (arith, are.0, nodes_long m ids nodes);
-    in_range = All-append (λ (row : List ℕ). All (λ j. j < length ids) row) rows (replicate (length ids - length rows) [])
+    in_range = All-append (λ (row : List ℕ). All (λ j. j < length ids) row) rows
+        (replicate (length ids - length rows) [])
         (All-from_get_or (λ (row : List ℕ). All (λ j. j < length ids) row) rows [] row_in_range)
-        (All-replicate (λ (row : List ℕ). All (λ j. j < length ids) row) (length ids - length rows) [] (All-nil (λ j. j < length ids)));
+        (All-replicate (λ (row : List ℕ). All (λ j. j < length ids) row) (length ids - length rows)
+        [] (All-nil (λ j. j < length ids)));
     edges_rise = rows_rise;
     missing_lead_nowhere = no_row;
     committed_rise = subst IsRising (sym committed_is) nodes.committed_rise;
     missing_rise = subst IsRising (sym missing_is) nodes.missing.rising;
-    apart = λ x h k. ((nodes.missing.exact x).0 (subst (λ (l : List Id). Contains l x) missing_is k)).1 (subst (λ (l : List Id). Contains l x) committed_is h);
+    apart = λ x h k.
+        ((nodes.missing.exact x).0 (subst (λ (l : List Id). Contains l x) missing_is k)).1
+        (subst (λ (l : List Id). Contains l x) committed_is h);
   }
 
-  edge_there : (k j : ℕ) (x y : Id) → slice_get ids k ≡ Some x → slice_get ids j ≡ Some y → Contains (edges_of (graph_over ids rows) k) j → DependsOn m x y
+  edge_there : (k j : ℕ) (x y : Id) → slice_get ids k ≡ Some x → slice_get ids j ≡ Some y
+      → Contains (edges_of (graph_over ids rows) k) j → DependsOn m x y
   edge_there k j x y p q h =
       elim (cases_lt k (length rows)) [
         | inl l ↦
-            let at : slice_get (ids_of m) k ≡ Some x = ap (λ xs. slice_get xs k) (sym committed_is) ∙ slice_get-take ids (length rows) k x l p in
+            let at : slice_get (ids_of m) k ≡ Some x =
+            ap (λ xs. slice_get xs k) (sym committed_is)
+            ∙ slice_get-take ids (length rows) k x l p in
             let e = slice_get-from_map (λ (i : Instance). i.id) m k x at in
             let row = are.1 k e.0 (omega (arith, are.0)) e.1 in
-            let number = (row.exact j).0 (subst (λ (r : List ℕ). Contains r j) (row_padded rows (length ids - length rows) k) h) in
+            let number =
+            (row.exact j).0 (subst (λ (r : List ℕ). Contains r j)
+            (row_padded rows (length ids - length rows) k) h) in
             let one : Some number.0 ≡ Some y = sym number.2 ∙ q in
             (e.0, Contains-slice_get m k e.0 e.1, e.2, subst (Contains e.0.deps) (cc one) number.1)
-        | inr past ↦ absurd (Contains-nil j (subst (λ (r : List ℕ). Contains r j) (no_row k past) h))
+        | inr past ↦ absurd
+            (Contains-nil j (subst (λ (r : List ℕ). Contains r j) (no_row k past) h))
       ]
 
-  dep_of_edge : (k j : ℕ) (x y : Id) → slice_get ids k ≡ Some x → slice_get ids j ≡ Some y → DependsOn m x y → Contains (edges_of (graph_over ids rows) k) j
+  dep_of_edge : (k j : ℕ) (x y : Id) → slice_get ids k ≡ Some x → slice_get ids j ≡ Some y
+      → DependsOn m x y → Contains (edges_of (graph_over ids rows) k) j
   dep_of_edge k j x y p q d =
       let g = graph_over ids rows in
-      let found = committed_node g graph_kept x (subst (λ (l : List Id). Contains l x) (sym committed_is) (DependsOn-committed m x y d)) in
+      let found = committed_node g graph_kept x
+      (subst (λ (l : List Id). Contains l x) (sym committed_is)
+      (DependsOn-committed m x y d)) in
       let same : found.0 ≡ k = node_is_one g graph_kept found.0 k x found.2 p in
       let l : k < length rows = omega (arith, found.1) in
-      let at : slice_get (ids_of m) k ≡ Some x = ap (λ xs. slice_get xs k) (sym committed_is) ∙ slice_get-take ids (length rows) k x l p in
+      let at : slice_get (ids_of m) k ≡ Some x =
+      ap (λ xs. slice_get xs k) (sym committed_is)
+      ∙ slice_get-take ids (length rows) k x l p in
       let e = slice_get-from_map (λ (i : Instance). i.id) m k x at in
       let row = are.1 k e.0 (omega (arith, are.0)) e.1 in
-      let listed = (DependsOn-listed m nodes.committed_rise e.0 (Contains-slice_get m k e.0 e.1) y).0 (subst (λ (z : Id). DependsOn m z y) (sym e.2) d) in
-      subst (λ (r : List ℕ). Contains r j) (sym (row_padded rows (length ids - length rows) k)) ((row.exact j).1 (y, listed, q))
+      let listed =
+      (DependsOn-listed m nodes.committed_rise e.0 (Contains-slice_get m k e.0 e.1) y).0
+      (subst (λ (z : Id). DependsOn m z y) (sym e.2) d) in
+      subst (λ (r : List ℕ). Contains r j) (sym (row_padded rows (length ids - length rows) k))
+      ((row.exact j).1 (y, listed, q))
 
   pub graph_built : IsGraphOf m (graph_over ids rows)
   graph_built = record {

@@ -1,5 +1,7 @@
 -- Each committed map has a graph.
-use Rattle.std.proofs.Common.{◌≡◌, ◌⊎◌, ◌∙◌, ◌<◌, ℕ, true, List, [], ◌++◌, map, length, take, drop, flat_map, Contains, Option, Some, None, slice_get, nat_cmp, Ordering, Less, Equal, Greater, is_lt, refl, sym, ap, subst, inl, inr}
+use Rattle.std.proofs.Common.{◌≡◌, ◌⊎◌, ◌∙◌, ◌<◌, ℕ, true, List, [], ◌++◌, map, length, take, drop}
+use Rattle.std.proofs.Common.{flat_map, Contains, Option, Some, None, slice_get, nat_cmp, Ordering}
+use Rattle.std.proofs.Common.{Less, Equal, Greater, is_lt, refl, sym, ap, subst, inl, inr}
 use Rattle.std.specs.Cmp.{nat_cmp_total, ranked}
 use Rattle.std.specs.Ordering.{MatchOrdering}
 use Rattle.std.specs.FinMap.{nat_cmp-IsAntisymmetric}
@@ -12,7 +14,8 @@ use Rattle.epx_types.specs.Instances.{Instance}
 use Rattle.epx_types.specs.CommittedMap.{ids_of, IsCommitted}
 use Rattle.epx_types.proofs.lists.ComparisonLemmas.{id_cmp_total, id_cmp-IsAntisymmetric}
 use Rattle.epx_types.proofs.lists.MembershipLemmas.{Contains-flat_map, Contains-from_flat_map}
-use Rattle.epx_types.proofs.lists.ListPositionLemmas.{slice_get-map, AllPairs-slice_get, AllPairs-from_slice_get}
+use Rattle.epx_types.proofs.lists.ListPositionLemmas.{slice_get-map, AllPairs-slice_get}
+use Rattle.epx_types.proofs.lists.ListPositionLemmas.{AllPairs-from_slice_get}
 use Rattle.epx_types.proofs.lists.RisingIdLemmas.{IsRising-from_AllPairs}
 use Rattle.epx_types.proofs.graph.WaitingLemmas.{Contains-Id_cases}
 use Rattle.epx_types.proofs.commands.RearrangementLemmas.{list_positions, Contains-list_positions}
@@ -45,26 +48,35 @@ module _ (ids xs : List Id) where
     by (Some y) e =
         elim (Contains-Id_cases xs y) [
           | inl there ↦ inl (y, there, e)
-          | inr none ↦ inr (λ h. let same : Some h.0 ≡ Some y = sym h.2 ∙ e in none (subst (Contains xs) (cc same) h.1))
+          | inr none ↦ inr (λ h. let same : Some h.0 ≡ Some y = sym h.2 ∙ e in
+              none (subst (Contains xs) (cc same) h.1))
         ]
 
-  places : (row : List ℕ) × AreThose nat_cmp_total nat_cmp-IsAntisymmetric IsPositionIn (list_positions (length ids)) row
-  places = rising_list nat_cmp_total nat_cmp-IsAntisymmetric IsPositionIn IsPositionIn-cases (list_positions (length ids))
+  places : (row : List ℕ) × AreThose nat_cmp_total nat_cmp-IsAntisymmetric IsPositionIn
+      (list_positions (length ids)) row
+  places = rising_list nat_cmp_total nat_cmp-IsAntisymmetric IsPositionIn IsPositionIn-cases
+      (list_positions (length ids))
 
   places_are : ArePositionsOf ids xs places.0
   places_are = record {
-    rising = AllPairs-from_slice_get (λ i j. i < j) places.0 (λ k n i j l p q. less_from_is_lt i j (AllPairs-slice_get (λ i j. is_lt (nat_cmp i j) ≡ true) places.0 places.1.elements_rise k n i j l p q));
+    rising = AllPairs-from_slice_get (λ i j. i < j) places.0
+        (λ k n i j l p q. less_from_is_lt i j
+        (AllPairs-slice_get (λ i j. is_lt (nat_cmp i j) ≡ true) places.0 places.1.elements_rise k n
+        i j l p q));
     exact = λ j. (
       λ h. (places.1.elements_only j h).1,
-      λ is. places.1.elements_all j (Contains-list_positions (length ids) j (slice_get_within ids j is.0 is.2)) is,
+      λ is. places.1.elements_all j
+          (Contains-list_positions (length ids) j (slice_get_within ids j is.0 is.2)) is,
     );
   }
 
 -- ---- the nodes and the rows of a map
 
 module _ (m : List Instance) (rising : IsRising (ids_of m)) where
-  missing_instances : (those : List Id) × AreThose id_cmp_total id_cmp-IsAntisymmetric (λ y. ¬ IsCommitted m y) (flat_map (λ e. e.deps) m) those
-  missing_instances = rising_list id_cmp_total id_cmp-IsAntisymmetric (λ y. ¬ IsCommitted m y) (λ y. not_cases (Contains-Id_cases (ids_of m) y)) (flat_map (λ e. e.deps) m)
+  missing_instances : (those : List Id) × AreThose id_cmp_total id_cmp-IsAntisymmetric
+      (λ y. ¬ IsCommitted m y) (flat_map (λ e. e.deps) m) those
+  missing_instances = rising_list id_cmp_total id_cmp-IsAntisymmetric (λ y. ¬ IsCommitted m y)
+      (λ y. not_cases (Contains-Id_cases (ids_of m) y)) (flat_map (λ e. e.deps) m)
 
   missing_are : AreMissingIds m missing_instances.0
   missing_are = record {
@@ -73,7 +85,8 @@ module _ (m : List Instance) (rising : IsRising (ids_of m)) where
       λ h. let was = missing_instances.1.elements_only y h in
           let e = Contains-from_flat_map (λ (e : Instance). e.deps) m y was.0 in
           ((e.0.id, (e.0, e.1, refl, e.2)), was.1),
-      λ h. let d = h.0.1 in missing_instances.1.elements_all y (Contains-flat_map (λ (e : Instance). e.deps) m d.0 y d.1 d.3) h.1,
+      λ h. let d = h.0.1 in missing_instances.1.elements_all y
+          (Contains-flat_map (λ (e : Instance). e.deps) m d.0 y d.1 d.3) h.1,
     );
   }
 
@@ -86,8 +99,11 @@ module _ (m : List Instance) (rising : IsRising (ids_of m)) where
       let long : length (ids_of m) ≡ length m = length-map m (λ (e : Instance). e.id) in
       record {
         committed_rise = rising;
-        committed = ap (λ n. take n (ids_of m ++ missing_instances.0)) (sym long) ∙ take-append_seam (ids_of m) missing_instances.0;
-        missing = subst (AreMissingIds m) (sym (ap (λ n. drop n (ids_of m ++ missing_instances.0)) (sym long) ∙ drop-append_seam (ids_of m) missing_instances.0)) missing_are;
+        committed = ap (λ n. take n (ids_of m ++ missing_instances.0)) (sym long)
+            ∙ take-append_seam (ids_of m) missing_instances.0;
+        missing = subst (AreMissingIds m)
+            (sym (ap (λ n. drop n (ids_of m ++ missing_instances.0)) (sym long)
+            ∙ drop-append_seam (ids_of m) missing_instances.0)) missing_are;
       }
 
   rows : List (List ℕ)
@@ -98,7 +114,9 @@ module _ (m : List Instance) (rising : IsRising (ids_of m)) where
   rows_are = (
     length-map m (λ (e : Instance). (places nodes e.deps).0),
     λ k e l at.
-        let row : row_of (map (λ e. (places nodes e.deps).0) m) k ≡ (places nodes e.deps).0 = get_or_from_slice_get (map (λ e. (places nodes e.deps).0) m) k (places nodes e.deps).0 [] (slice_get-map (λ (e : Instance). (places nodes e.deps).0) m k e at) in
+        let row : row_of (map (λ e. (places nodes e.deps).0) m) k ≡ (places nodes e.deps).0 =
+        get_or_from_slice_get (map (λ e. (places nodes e.deps).0) m) k (places nodes e.deps).0
+        [] (slice_get-map (λ (e : Instance). (places nodes e.deps).0) m k e at) in
         subst (ArePositionsOf nodes e.deps) (sym row) (places_are nodes e.deps),
   )
 

@@ -1,5 +1,6 @@
 -- Paths of the graph of a map are those of the map.
-use Rattle.std.proofs.Common.{◌≡◌, ◌↔◌, ℕ, ◌<◌, List, [], ◌∷◌, length, slice_get, Some, Contains, refl, sym, ap, subst, ◌∙◌, inl, inr, arith}
+use Rattle.std.proofs.Common.{◌≡◌, ◌↔◌, ℕ, ◌<◌, List, [], ◌∷◌, length, slice_get, Some, Contains}
+use Rattle.std.proofs.Common.{refl, sym, ap, subst, ◌∙◌, inl, inr, arith}
 use Rattle.std.proofs.lemmas.Bool.{cases_lt}
 use Rattle.std.proofs.lemmas.List.{length-take, length-map}
 use Rattle.epx_types.specs.declared.id.Id.{Id}
@@ -13,7 +14,9 @@ use Rattle.epx_types.proofs.graph.WaitingLemmas.{Contains-Id_cases}
 use Rattle.epx_graph.specs.Graphs.{DependencyGraph, edges_of, committed_ids}
 use Rattle.epx_graph.specs.GraphOf.{IsGraphOf}
 use Rattle.epx_graph.specs.NodePaths.{IsNodePath, NodeReaches}
-use Rattle.epx_graph.proofs.GraphNodeLemmas.{committed_at, committed_node, missing_node, Contains-committed, Contains-missing, node_is_one, edge_within, node_id, committed_order}
+use Rattle.epx_graph.proofs.GraphNodeLemmas.{committed_at, committed_node, missing_node}
+use Rattle.epx_graph.proofs.GraphNodeLemmas.{Contains-committed, Contains-missing, node_is_one}
+use Rattle.epx_graph.proofs.GraphNodeLemmas.{edge_within, node_id, committed_order}
 
 module _ (m : List Instance) (g : DependencyGraph) (is : IsGraphOf m g) where
   -- ---- nodes and instances
@@ -21,14 +24,17 @@ module _ (m : List Instance) (g : DependencyGraph) (is : IsGraphOf m g) where
   -- the number of committed nodes is the number of instances of the map
   pub committed_count : g.committed ≡ length m
   committed_count =
-      let long : length (committed_ids g) ≡ length m = ap length is.committed ∙ length-map m (λ (e : Instance). e.id) in
+      let long : length (committed_ids g) ≡ length m =
+      ap length is.committed ∙ length-map m (λ (e : Instance). e.id) in
       omega (arith, length-take g.committed g.ids, is.graph.committed_nodes)
 
   -- a node is committed exactly if its instance is
-  pub node_committed : (k : ℕ) (x : Id) → slice_get g.ids k ≡ Some x → (k < g.committed) ↔ IsCommitted m x
+  pub node_committed : (k : ℕ) (x : Id) → slice_get g.ids k ≡ Some x
+      → (k < g.committed) ↔ IsCommitted m x
   node_committed k x at = (there, back) where
     there : k < g.committed → IsCommitted m x
-    there l = subst (λ (ids : List Id). Contains ids x) is.committed (Contains-committed g is.graph k x at l)
+    there l = subst (λ (ids : List Id). Contains ids x) is.committed
+        (Contains-committed g is.graph k x at l)
 
     back : IsCommitted m x → k < g.committed
     back h =
@@ -38,36 +44,45 @@ module _ (m : List Instance) (g : DependencyGraph) (is : IsGraphOf m g) where
         ]
 
   -- the instance at a position of the map is that of the node with this number
-  pub node_instance : (k : ℕ) (x : Id) → slice_get g.ids k ≡ Some x → k < g.committed → (e : Instance) × (slice_get m k ≡ Some e) × (e.id ≡ x)
-  node_instance k x at l = slice_get-from_map (λ (e : Instance). e.id) m k x (ap (λ ids. slice_get ids k) (sym is.committed) ∙ committed_at g is.graph k x at l)
+  pub node_instance : (k : ℕ) (x : Id) → slice_get g.ids k ≡ Some x → k < g.committed
+      → (e : Instance) × (slice_get m k ≡ Some e) × (e.id ≡ x)
+  node_instance k x at l = slice_get-from_map (λ (e : Instance). e.id) m k x
+      (ap (λ ids. slice_get ids k) (sym is.committed) ∙ committed_at g is.graph k x at l)
 
   -- a committed instance has a node, and so has each of its dependencies
-  pub node_of_committed : (x : Id) → IsCommitted m x → (k : ℕ) × (k < g.committed) × (slice_get g.ids k ≡ Some x)
-  node_of_committed x h = committed_node g is.graph x (subst (λ (ids : List Id). Contains ids x) (sym is.committed) h)
+  pub node_of_committed : (x : Id) → IsCommitted m x
+      → (k : ℕ) × (k < g.committed) × (slice_get g.ids k ≡ Some x)
+  node_of_committed x h = committed_node g is.graph x
+      (subst (λ (ids : List Id). Contains ids x) (sym is.committed) h)
 
   pub node_of_dependency : (x y : Id) → DependsOn m x y → (j : ℕ) × (slice_get g.ids j ≡ Some y)
   node_of_dependency x y d =
       elim (Contains-Id_cases (ids_of m) y) [
         | inl there ↦ let k = node_of_committed y there in (k.0, k.2)
-        | inr missing ↦ let k = missing_node g is.graph y ((is.missing y).1 ((x, d), missing)) in (k.0, k.2)
+        | inr missing ↦ let k = missing_node g is.graph y ((is.missing y).1 ((x, d), missing)) in
+            (k.0, k.2)
       ]
 
   -- among committed nodes the order of numbers is that of Ids
-  pub node_order : (k j : ℕ) (x y : Id) → slice_get g.ids k ≡ Some x → slice_get g.ids j ≡ Some y → k < g.committed → j < g.committed → (k < j) ↔ Below x y
+  pub node_order : (k j : ℕ) (x y : Id) → slice_get g.ids k ≡ Some x → slice_get g.ids j ≡ Some y
+      → k < g.committed → j < g.committed → (k < j) ↔ Below x y
   node_order = committed_order g is.graph
 
   -- ---- paths
 
-  node_path : (k : ℕ) (x : Id) → slice_get g.ids k ≡ Some x → (cs : List ℕ) (j : ℕ) (y : Id) → slice_get g.ids j ≡ Some y → IsNodePath (edges_of g) k cs j → Reaches m x y
+  node_path : (k : ℕ) (x : Id) → slice_get g.ids k ≡ Some x → (cs : List ℕ) (j : ℕ) (y : Id)
+      → slice_get g.ids j ≡ Some y → IsNodePath (edges_of g) k cs j → Reaches m x y
   node_path k x at [] j y to path =
       let same : Some x ≡ Some y = sym at ∙ ap (slice_get g.ids) path ∙ to in
       inl (cc same)
   node_path k x at (c ∷ cs) j y to path =
       let z = node_id g is.graph c (edge_within g is.graph k c path.0) in
       let step = (is.edges k c x z.0 at z.1).0 path.0 in
-      Reaches-trans m x z.0 y (Reaches-dependency m x z.0 step) (node_path c z.0 z.1 cs j y to path.1)
+      Reaches-trans m x z.0 y (Reaches-dependency m x z.0 step)
+      (node_path c z.0 z.1 cs j y to path.1)
 
-  map_path : (k : ℕ) (x : Id) → slice_get g.ids k ≡ Some x → (via : List Id) (y : Id) → IsPath m x via y → (j : ℕ) × (slice_get g.ids j ≡ Some y) × NodeReaches (edges_of g) k j
+  map_path : (k : ℕ) (x : Id) → slice_get g.ids k ≡ Some x → (via : List Id) (y : Id)
+      → IsPath m x via y → (j : ℕ) × (slice_get g.ids j ≡ Some y) × NodeReaches (edges_of g) k j
   map_path k x at [] y path =
       let j = node_of_dependency x y path in
       (j.0, j.1, (j.0 ∷ [], ((is.edges k j.0 x y at j.1).1 path, refl)))
@@ -77,19 +92,22 @@ module _ (m : List Instance) (g : DependencyGraph) (is : IsGraphOf m g) where
       (rest.0, rest.1, (c.0 ∷ rest.2.0, ((is.edges k c.0 x z at c.1).1 path.0, rest.2.1)))
 
   -- if an instance has a node, each instance that it reaches has a node that this node reaches
-  pub reached_node : (k : ℕ) (x y : Id) → slice_get g.ids k ≡ Some x → Reaches m x y → (j : ℕ) × (slice_get g.ids j ≡ Some y) × NodeReaches (edges_of g) k j
+  pub reached_node : (k : ℕ) (x y : Id) → slice_get g.ids k ≡ Some x → Reaches m x y
+      → (j : ℕ) × (slice_get g.ids j ≡ Some y) × NodeReaches (edges_of g) k j
   reached_node k x y at (inl same) = (k, at ∙ ap Some same, ([], refl))
   reached_node k x y at (inr path) = map_path k x at path.0 y path.1
 
   -- what a committed instance reaches has a node
-  pub node_of_reached : (x y : Id) → IsCommitted m x → Reaches m x y → (j : ℕ) × (slice_get g.ids j ≡ Some y)
+  pub node_of_reached : (x y : Id) → IsCommitted m x → Reaches m x y
+      → (j : ℕ) × (slice_get g.ids j ≡ Some y)
   node_of_reached x y h there =
       let k = node_of_committed x h in
       let j = reached_node k.0 x y k.2 there in
       (j.0, j.1)
 
   -- one node reaches another exactly if its instance reaches the other's instance
-  pub node_reaches : (k j : ℕ) (x y : Id) → slice_get g.ids k ≡ Some x → slice_get g.ids j ≡ Some y → NodeReaches (edges_of g) k j ↔ Reaches m x y
+  pub node_reaches : (k j : ℕ) (x y : Id) → slice_get g.ids k ≡ Some x → slice_get g.ids j ≡ Some y
+      → NodeReaches (edges_of g) k j ↔ Reaches m x y
   node_reaches k j x y at to = (λ path. node_path k x at path.0 j y to path.1, back) where
     back : Reaches m x y → NodeReaches (edges_of g) k j
     back there =

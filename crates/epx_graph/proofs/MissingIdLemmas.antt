@@ -1,5 +1,8 @@
 -- The missing instances of a map, gathered, sorted and each kept once.
-use Rattle.std.proofs.Common.{◌≡◌, ◌↔◌, inl, inr, ℕ, ◌+◌, true, not, cond, List, [], ◌∷◌, ◌++◌, length, take, get_or, position, Option, Some, None, is_some, slice_get, Contains, nat_lt, Less, refl, sym, ap, subst, ◌∙◌, append-nil, arith}
+use Rattle.std.proofs.Common.{◌≡◌, ◌↔◌, inl, inr, ℕ, ◌+◌, true, not, cond, List, [], ◌∷◌, ◌++◌}
+use Rattle.std.proofs.Common.{length, take, get_or, position, Option, Some, None, is_some}
+use Rattle.std.proofs.Common.{slice_get, Contains, nat_lt, Less, refl, sym, ap, subst, ◌∙◌}
+use Rattle.std.proofs.Common.{append-nil, arith}
 use Rattle.std.specs.List.{position_or_len, AllByRecursion, dedup}
 use Rattle.std.specs.List.Sorted.{IsSorted, IsPermutation, IsStrictlySortedBy}
 use Rattle.std.specs.List.Retain.{IsFiltered, DiffersFromLast}
@@ -10,7 +13,8 @@ use Rattle.std.proofs.lemmas.Bool.Decides.{nat_tests}
 use Rattle.std.proofs.lemmas.List.{take_more, map_push}
 use Rattle.std.proofs.lemmas.List.Elements.{All-contains, filter_passes, filter-append}
 use Rattle.std.proofs.lemmas.List.Filters.{dedup_is}
-use Rattle.std.proofs.lemmas.List.Kept.{IsStrictlySortedBy-dedup, Contains-dedup, Contains-from_dedup}
+use Rattle.std.proofs.lemmas.List.Kept.{IsStrictlySortedBy-dedup, Contains-dedup}
+use Rattle.std.proofs.lemmas.List.Kept.{Contains-from_dedup}
 use Rattle.std.proofs.lemmas.List.Sorted.{Contains-permutation, IsPermutation-sym}
 use Rattle.std.proofs.lemmas.List.Sums.{fails_before_first}
 use Rattle.std.proofs.lemmas.Option.{slice_get_within, get_or_from_slice_get}
@@ -20,7 +24,9 @@ use Rattle.epx_types.specs.Ids.{id_cmp, BelowAll, IsRising}
 use Rattle.epx_types.specs.Instances.{Instance}
 use Rattle.epx_types.specs.CommittedMap.{ids_of, position_of, IsCommitted}
 use Rattle.epx_types.proofs.lists.ComparisonLemmas.{id_cmp_total, id_cmp-IsAntisymmetric}
-use Rattle.epx_types.proofs.lists.MembershipLemmas.{Contains-filter, Contains-from_filter, Contains-flat_map, Contains-from_flat_map, Contains-from_map}
+use Rattle.epx_types.proofs.lists.MembershipLemmas.{Contains-filter, Contains-from_filter}
+use Rattle.epx_types.proofs.lists.MembershipLemmas.{Contains-flat_map, Contains-from_flat_map}
+use Rattle.epx_types.proofs.lists.MembershipLemmas.{Contains-from_map}
 use Rattle.epx_types.proofs.lists.ListPositionLemmas.{Contains-slice_get}
 use Rattle.epx_types.proofs.committed.PositionLemmas.{position_of-instance}
 use Rattle.epx_types.proofs.graph.DependencyLemmas.{IsCommitted-from_Contains}
@@ -35,7 +41,8 @@ no_position m x none h =
     let from = Contains-from_map (λ (e : Instance). e.id) m x h in
     let e = from.0 in
     let k = from.1.0 in
-    let passes : p (get_or m k e) ≡ true = ap p from.1.2 ∙ ap (λ y. is_eq (id_cmp y x)) from.2 ∙ ap is_eq (tied_itself id_cmp_total x) in
+    let passes : p (get_or m k e) ≡ true = ap p from.1.2 ∙ ap (λ y. is_eq (id_cmp y x)) from.2
+    ∙ ap is_eq (tied_itself id_cmp_total x) in
     elim (cases_lt (position_or_len p m) (length m)) [
       | inl l ↦
           let test : nat_lt (position_or_len p m) (length m) ≡ true = grind (arith, nat_tests) in
@@ -46,10 +53,12 @@ no_position m x none h =
           absurd (cc (passes, fails))
     ]
 
-pub some_position : (m : List Instance) (x : Id) (i : ℕ) → position_of m x ≡ Some i → IsCommitted m x
+pub some_position : (m : List Instance) (x : Id) (i : ℕ) → position_of m x ≡ Some i
+    → IsCommitted m x
 some_position m x i some =
     let at = position_of-instance m x i some in
-    subst (IsCommitted m) at.2 (IsCommitted-from_Contains m at.0 (Contains-slice_get m i at.0 at.1))
+    subst (IsCommitted m) at.2
+    (IsCommitted-from_Contains m at.0 (Contains-slice_get m i at.0 at.1))
 
 pub none_position : (m : List Instance) (x : Id) → ¬ IsCommitted m x → position_of m x ≡ None
 none_position m x missing = by (position_of m x) refl where
@@ -57,10 +66,12 @@ none_position m x missing = by (position_of m x) refl where
   by None e = refl
   by (Some i) e = absurd (missing (some_position m x i e))
 
-pub lacks-from_missing : (m : List Instance) (x : Id) → ¬ IsCommitted m x → not (is_some (position_of m x)) ≡ true
+pub lacks-from_missing : (m : List Instance) (x : Id) → ¬ IsCommitted m x
+    → not (is_some (position_of m x)) ≡ true
 lacks-from_missing m x missing = ap (λ o. not (is_some o)) (none_position m x missing)
 
-missing-from_lacks : (m : List Instance) (x : Id) → not (is_some (position_of m x)) ≡ true → ¬ IsCommitted m x
+missing-from_lacks : (m : List Instance) (x : Id) → not (is_some (position_of m x)) ≡ true
+    → ¬ IsCommitted m x
 missing-from_lacks m x passes = by (position_of m x) refl passes where
   by : (o : Option ℕ) → position_of m x ≡ o → not (is_some o) ≡ true → ¬ IsCommitted m x
   by None e p = no_position m x e
@@ -68,34 +79,44 @@ missing-from_lacks m x passes = by (position_of m x) refl passes where
 
 -- ---- what is gathered
 
-pub lacking_missing : (m : List Instance) (xs : List Id) (x : Id) → Contains (missing_of m xs) x → ¬ IsCommitted m x
+pub lacking_missing : (m : List Instance) (xs : List Id) (x : Id) → Contains (missing_of m xs) x
+    → ¬ IsCommitted m x
 lacking_missing m xs x h =
     let p = λ (y : Id). not (is_some (position_of m y)) in
-    missing-from_lacks m x (All-contains (λ (y : Id). p y ≡ true) (missing_of m xs) x (filter_passes p xs) h)
+    missing-from_lacks m x
+    (All-contains (λ (y : Id). p y ≡ true) (missing_of m xs) x (filter_passes p xs) h)
 
-Contains-all_missing_of : (m : List Instance) (x : Id) → Contains (all_missing_of m m) x ↔ IsMissing m x
+Contains-all_missing_of : (m : List Instance) (x : Id)
+    → Contains (all_missing_of m m) x ↔ IsMissing m x
 Contains-all_missing_of m x = (there, back) where
   there : Contains (all_missing_of m m) x → IsMissing m x
   there h =
       let from = Contains-from_flat_map (λ (e : Instance). missing_of m e.deps) m x h in
-      let listed = Contains-from_filter (λ (y : Id). not (is_some (position_of m y))) from.0.deps x from.2 in
+      let listed = Contains-from_filter (λ (y : Id). not (is_some (position_of m y))) from.0.deps x
+      from.2 in
       ((from.0.id, (from.0, from.1, refl, listed)), lacking_missing m from.0.deps x from.2)
 
   back : IsMissing m x → Contains (all_missing_of m m) x
   back h =
       let d = h.0.1 in
-      Contains-flat_map (λ (e : Instance). missing_of m e.deps) m d.0 x d.1 (Contains-filter (λ (y : Id). not (is_some (position_of m y))) d.0.deps x d.3 (lacks-from_missing m x h.1))
+      Contains-flat_map (λ (e : Instance). missing_of m e.deps) m d.0 x d.1
+      (Contains-filter (λ (y : Id). not (is_some (position_of m y))) d.0.deps x d.3
+      (lacks-from_missing m x h.1))
 
 -- one more Id
-pub lacking_skip : (m : List Instance) (xs : List Id) (x : Id) (i : ℕ) → position_of m x ≡ Some i → missing_of m (xs ++ x ∷ []) ≡ missing_of m xs
+pub lacking_skip : (m : List Instance) (xs : List Id) (x : Id) (i : ℕ) → position_of m x ≡ Some i
+    → missing_of m (xs ++ x ∷ []) ≡ missing_of m xs
 lacking_skip m xs x i some =
     let p = λ (y : Id). not (is_some (position_of m y)) in
-    filter-append p xs (x ∷ []) ∙ ap (λ o. missing_of m xs ++ cond (not (is_some o)) (x ∷ []) []) some ∙ append-nil (missing_of m xs)
+    filter-append p xs (x ∷ []) ∙ ap (λ o. missing_of m xs ++ cond (not (is_some o)) (x ∷ []) [])
+    some ∙ append-nil (missing_of m xs)
 
-pub lacking_take : (m : List Instance) (xs : List Id) (x : Id) → position_of m x ≡ None → missing_of m (xs ++ x ∷ []) ≡ missing_of m xs ++ x ∷ []
+pub lacking_take : (m : List Instance) (xs : List Id) (x : Id) → position_of m x ≡ None
+    → missing_of m (xs ++ x ∷ []) ≡ missing_of m xs ++ x ∷ []
 lacking_take m xs x none =
     let p = λ (y : Id). not (is_some (position_of m y)) in
-    filter-append p xs (x ∷ []) ∙ ap (λ o. missing_of m xs ++ cond (not (is_some o)) (x ∷ []) []) none
+    filter-append p xs (x ∷ []) ∙ ap (λ o. missing_of m xs ++ cond (not (is_some o)) (x ∷ []) [])
+    none
 
 -- ---- sorted, and each once
 
@@ -111,14 +132,20 @@ ids_tie : (x y : Id) → id_eq.eq-value.it x y ≡ eq_by_cmp id_cmp x y
 ids_tie x y = grind (arith, nat_tests)
 
 -- the sorted Ids without equal neighbours
-pub each_kept : (gathered sorted ids : List Id) → IsPermutation gathered sorted → IsSorted id_cmp sorted → IsFiltered (DiffersFromLast id_eq.eq-value.it) [] sorted ids → IsRising ids × ((x : Id) → Contains ids x ↔ Contains gathered x)
+pub each_kept : (gathered sorted ids : List Id) → IsPermutation gathered sorted
+    → IsSorted id_cmp sorted → IsFiltered (DiffersFromLast id_eq.eq-value.it) [] sorted ids
+    → IsRising ids × ((x : Id) → Contains ids x ↔ Contains gathered x)
 each_kept gathered sorted ids moved sorts filtered =
     let E = id_eq.eq-value.it in
     let kept : ids ≡ dedup E sorted = dedup_is E sorted ids filtered in (
-      subst IsRising (sym kept) (rising_from_strict (dedup E sorted) (IsStrictlySortedBy-dedup id_cmp_total {E = E} ids_tie sorted sorts)),
+      subst IsRising (sym kept)
+          (rising_from_strict (dedup E sorted)
+          (IsStrictlySortedBy-dedup id_cmp_total {E = E} ids_tie sorted sorts)),
       λ x. (
-        λ h. Contains-permutation sorted gathered x (IsPermutation-sym gathered sorted moved) (Contains-from_dedup E sorted x (subst (λ (l : List Id). Contains l x) kept h)),
-        λ h. subst (λ (l : List Id). Contains l x) (sym kept) (keeps sorted x (Contains-permutation gathered sorted x moved h)),
+        λ h. Contains-permutation sorted gathered x (IsPermutation-sym gathered sorted moved)
+            (Contains-from_dedup E sorted x (subst (λ (l : List Id). Contains l x) kept h)),
+        λ h. subst (λ (l : List Id). Contains l x) (sym kept)
+            (keeps sorted x (Contains-permutation gathered sorted x moved h)),
       ),
     )
   where
@@ -131,26 +158,32 @@ each_kept gathered sorted ids moved sorts filtered =
         record {
           refl = λ x. ids_tie x x ∙ by_cmp.refl x;
           symm = λ x y. ids_tie x y ∙ by_cmp.symm x y ∙ sym (ids_tie y x);
-          congr = λ x y z t. ids_tie x z ∙ by_cmp.congr x y z (sym (ids_tie x y) ∙ t) ∙ sym (ids_tie y z);
+          congr = λ x y z t. ids_tie x z ∙ by_cmp.congr x y z (sym (ids_tie x y) ∙ t)
+              ∙ sym (ids_tie y z);
         }
 
     keeps : (xs : List Id) (x : Id) → Contains xs x → Contains (dedup id_eq.eq-value.it xs) x
     keeps xs x h = Contains-dedup {E = id_eq.eq-value.it} equal same xs x h
 
 -- if they are all that the instances lack, they are the missing ones
-pub missing_kept : (m : List Instance) (gathered ids : List Id) → gathered ≡ all_missing_of m m → IsRising ids → ((x : Id) → Contains ids x ↔ Contains gathered x) → AreMissingIds m ids
+pub missing_kept : (m : List Instance) (gathered ids : List Id) → gathered ≡ all_missing_of m m
+    → IsRising ids → ((x : Id) → Contains ids x ↔ Contains gathered x) → AreMissingIds m ids
 missing_kept m gathered ids is rising exact = record {
   rising = rising;
   exact = λ x. (
-    λ h. (Contains-all_missing_of m x).0 (subst (λ (l : List Id). Contains l x) is ((exact x).0 h)),
-    λ h. (exact x).1 (subst (λ (l : List Id). Contains l x) (sym is) ((Contains-all_missing_of m x).1 h)),
+    λ h. (Contains-all_missing_of m x).0
+        (subst (λ (l : List Id). Contains l x) is ((exact x).0 h)),
+    λ h. (exact x).1 (subst (λ (l : List Id). Contains l x) (sym is)
+        ((Contains-all_missing_of m x).1 h)),
   );
 }
 
 -- ---- committed Ids
 
 -- one more instance
-pub ids_more : (m : List Instance) (i : ℕ) (e : Instance) → slice_get m i ≡ Some e → ids_of (take (i + 1) m) ≡ ids_of (take i m) ++ e.id ∷ []
+pub ids_more : (m : List Instance) (i : ℕ) (e : Instance) → slice_get m i ≡ Some e
+    → ids_of (take (i + 1) m) ≡ ids_of (take i m) ++ e.id ∷ []
 ids_more m i e at =
     let same : get_or m i e ≡ e = get_or_from_slice_get m i e e at in
-    ap ids_of (take_more m i e (slice_get_within m i e at)) ∙ map_push (λ (d : Instance). d.id) (take i m) (get_or m i e) ∙ ap (λ (d : Instance). ids_of (take i m) ++ d.id ∷ []) same
+    ap ids_of (take_more m i e (slice_get_within m i e at)) ∙ map_push (λ (d : Instance). d.id)
+    (take i m) (get_or m i e) ∙ ap (λ (d : Instance). ids_of (take i m) ++ d.id ∷ []) same

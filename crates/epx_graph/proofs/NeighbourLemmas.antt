@@ -1,5 +1,7 @@
 -- An Id between two neighbours in a list by rising Id is not in the list.
-use Rattle.std.proofs.Common.{◌≡◌, ◌-◌, ◌<◌, ◌≤◌, ℕ, List, length, true, get_or, Contains, Some, Ordering, Less, Equal, Greater, is_lt, inl, inr, sym, subst, ◌∙◌, arith}
+use Rattle.std.proofs.Common.{◌≡◌, ◌-◌, ◌<◌, ◌≤◌, ℕ, List, length, true, get_or, Contains, Some}
+use Rattle.std.proofs.Common.{Ordering, Less, Equal, Greater, is_lt, inl, inr, sym, subst, ◌∙◌}
+use Rattle.std.proofs.Common.{arith}
 use Rattle.std.specs.Ordering.{ordering_then, partial_ordering_then, is_some_and}
 use Rattle.std.proofs.lemmas.Bool.{cases_lt}
 use Rattle.std.proofs.lemmas.Bool.Decides.{nat_tests}
@@ -12,7 +14,8 @@ use Rattle.epx_types.proofs.lists.RisingIdLemmas.{AllPairs-from_IsRising}
 use Rattle.epx_types.proofs.lists.TotalOrderLemmas.{below_irrefl, below_trans}
 
 -- `<` of two fields, from their comparisons
-pub is_lt-from_lt : (r s : Ordering) → is_some_and is_lt (partial_ordering_then (Some r) (Some s)) ≡ true → is_lt (ordering_then r s) ≡ true
+pub is_lt-from_lt : (r s : Ordering) → is_some_and is_lt (partial_ordering_then (Some r) (Some s))
+    ≡ true → is_lt (ordering_then r s) ≡ true
 is_lt-from_lt Less s p = p
 is_lt-from_lt Equal s p = p
 is_lt-from_lt Greater s p = p
@@ -22,28 +25,36 @@ pub same_from_eq : (x y : Id) → id_eq.eq-value.it x y ≡ true → x ≡ y
 same_from_eq x y h = grind (arith, nat_tests)
 
 -- inside a list the default does not matter
-pub other_default : (ids : List Id) (k : ℕ) (d e : Id) → k < length ids → get_or ids k d ≡ get_or ids k e
+pub other_default : (ids : List Id) (k : ℕ) (d e : Id) → k < length ids
+    → get_or ids k d ≡ get_or ids k e
 other_default ids k d e within =
     let one = slice_get-get_or ids k d within in
     let other = slice_get-get_or ids k e within in
     cc
 
 module _ (ids : List Id) (rising : IsRising ids) (x : Id) (n : ℕ) (d : Id) where
-  pub below_before : 0 < n → n ≤ length ids → Below (get_or ids (n - 1) d) x → (k : ℕ) → k < n → Below (get_or ids k d) x
+  pub below_before : 0 < n → n ≤ length ids → Below (get_or ids (n - 1) d) x → (k : ℕ) → k < n
+      → Below (get_or ids k d) x
   below_before some within last k l =
       elim (cases_lt k (n - 1)) [
-        | inl lower ↦ below_trans id_cmp_total (get_or ids k d) (get_or ids (n - 1) d) x (AllPairs-from_IsRising ids rising k (n - 1) d lower (omega arith)) last
-        | inr other ↦ let e : n - 1 ≡ k = omega arith in subst (λ i. Below (get_or ids i d) x) e last
+        | inl lower ↦ below_trans id_cmp_total (get_or ids k d) (get_or ids (n - 1) d) x
+            (AllPairs-from_IsRising ids rising k (n - 1) d lower (omega arith)) last
+        | inr other ↦ let e : n - 1 ≡ k = omega arith in
+            subst (λ i. Below (get_or ids i d) x) e last
       ]
 
-  pub above_from : Below x (get_or ids n d) → (k : ℕ) → n ≤ k → k < length ids → Below x (get_or ids k d)
+  pub above_from : Below x (get_or ids n d) → (k : ℕ) → n ≤ k → k < length ids
+      → Below x (get_or ids k d)
   above_from first k l within =
       elim (cases_lt n k) [
-        | inl lower ↦ below_trans id_cmp_total x (get_or ids n d) (get_or ids k d) first (AllPairs-from_IsRising ids rising n k d lower within)
+        | inl lower ↦ below_trans id_cmp_total x (get_or ids n d) (get_or ids k d) first
+            (AllPairs-from_IsRising ids rising n k d lower within)
         | inr other ↦ let e : n ≡ k = omega arith in subst (λ i. Below x (get_or ids i d)) e first
       ]
 
-pub absent_between : (ids : List Id) (x : Id) (n : ℕ) → ((k : ℕ) (d : Id) → k < n → Below (get_or ids k d) x) → ((k : ℕ) (d : Id) → n ≤ k → k < length ids → Below x (get_or ids k d)) → ¬ Contains ids x
+pub absent_between : (ids : List Id) (x : Id) (n : ℕ)
+    → ((k : ℕ) (d : Id) → k < n → Below (get_or ids k d) x)
+    → ((k : ℕ) (d : Id) → n ≤ k → k < length ids → Below x (get_or ids k d)) → ¬ Contains ids x
 absent_between ids x n low high (k, within, is) =
     elim (cases_lt k n) [
       | inl lower ↦ below_irrefl id_cmp_total x (subst (λ y. Below y x) is (low k x lower))

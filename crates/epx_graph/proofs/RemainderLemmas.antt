@@ -1,7 +1,10 @@
 -- What is left of a map: the positions of its instances and of other Ids.
-use Rattle.std.proofs.Common.{◌≡◌, ℕ, zero, suc, ◌+◌, ◌<◌, List, [], ◌∷◌, ◌++◌, length, take, Option, Some, None, cond, not, get_or, slice_get, Contains, refl, sym, ap, ◌∙◌, subst, inl, inr, append-nil, arith}
+use Rattle.std.proofs.Common.{◌≡◌, ℕ, zero, suc, ◌+◌, ◌<◌, List, [], ◌∷◌, ◌++◌, length, take}
+use Rattle.std.proofs.Common.{Option, Some, None, cond, not, get_or, slice_get, Contains, refl}
+use Rattle.std.proofs.Common.{sym, ap, ◌∙◌, subst, inl, inr, append-nil, arith}
 use Rattle.std.proofs.lemmas.Bool.{cases_lt}
-use Rattle.std.proofs.lemmas.List.{append_assoc, length_push, nil_from_length, get_or_append_left, get_or_push, get_or_read, take_all, take_more}
+use Rattle.std.proofs.lemmas.List.{append_assoc, length_push, nil_from_length, get_or_append_left}
+use Rattle.std.proofs.lemmas.List.{get_or_push, get_or_read, take_all, take_more}
 use Rattle.std.proofs.lemmas.List.Elements.{filter-append}
 use Rattle.std.proofs.lemmas.List.Kept.{AllPairs-filter}
 use Rattle.std.proofs.lemmas.Option.{slice_get_within, slice_get-get_or}
@@ -10,44 +13,60 @@ use Rattle.epx_types.specs.Ids.{Below, IsRising}
 use Rattle.epx_types.specs.Instances.{Instance}
 use Rattle.epx_types.specs.CommittedMap.{ids_of, position_of}
 use Rattle.epx_types.specs.Done.{is_among, without_deps, remaining, remaining_ids}
-use Rattle.epx_types.proofs.remaining.RemainingLemmas.{Contains-remaining_iff, IsRising-remaining, is_among_cases, not_among, remaining-nil}
-use Rattle.epx_types.proofs.remaining.RemainingPositionLemmas.{remaining_skip, remaining_more, remaining_position}
+use Rattle.epx_types.proofs.remaining.RemainingLemmas.{Contains-remaining_iff, IsRising-remaining}
+use Rattle.epx_types.proofs.remaining.RemainingLemmas.{is_among_cases, not_among, remaining-nil}
+use Rattle.epx_types.proofs.remaining.RemainingPositionLemmas.{remaining_skip, remaining_more}
+use Rattle.epx_types.proofs.remaining.RemainingPositionLemmas.{remaining_position}
 use Rattle.epx_types.proofs.lists.MembershipLemmas.{Contains-nil}
 use Rattle.epx_types.proofs.lists.ListPositionLemmas.{Contains-slice_get, slice_get-map}
 use Rattle.epx_types.proofs.committed.PositionLemmas.{position_of-instance, position_of-found}
 use Rattle.epx_types.proofs.lists.RisingIdLemmas.{AllPairs-from_IsRising, IsRising-from_AllPairs}
-use Rattle.epx_graph.specs.inner.Remainder.{RemainderView, left_of, IsIdStateOf, IsAtPosition, IsPositionLeft, ArePositionTables}
+use Rattle.epx_graph.specs.inner.Remainder.{RemainderView, left_of, IsIdStateOf, IsAtPosition}
+use Rattle.epx_graph.specs.inner.Remainder.{IsPositionLeft, ArePositionTables}
 use Rattle.epx_graph.specs.inner.Nodes.{missing_of, positions_of}
 use Rattle.epx_graph.specs.declared.left.IdState.{IdState}
 use Rattle.epx_graph.specs.declared.left.IdState.TheVariants as found
 use Rattle.epx_graph.proofs.GatherRowLemmas.{positions_skip, positions_take}
-use Rattle.epx_graph.proofs.MissingIdLemmas.{no_position, none_position, lacking_skip, lacking_take}
+use Rattle.epx_graph.proofs.MissingIdLemmas.{no_position, none_position, lacking_skip}
+use Rattle.epx_graph.proofs.MissingIdLemmas.{lacking_take}
 
 -- ---- the Ids of a list that are not done
 
 module _ (done : List Id) where
-  rest_push : (xs : List Id) (x : Id) → remaining_ids done (xs ++ x ∷ []) ≡ remaining_ids done xs ++ cond (not (is_among done x)) (x ∷ []) []
+  rest_push : (xs : List Id) (x : Id) → remaining_ids done (xs ++ x ∷ [])
+      ≡ remaining_ids done xs ++ cond (not (is_among done x)) (x ∷ []) []
   rest_push xs x = filter-append (λ y. not (is_among done y)) xs (x ∷ [])
 
-  pub rest_skip : (xs : List Id) (x : Id) → Contains done x → remaining_ids done (xs ++ x ∷ []) ≡ remaining_ids done xs
+  pub rest_skip : (xs : List Id) (x : Id) → Contains done x
+      → remaining_ids done (xs ++ x ∷ []) ≡ remaining_ids done xs
   rest_skip xs x among =
       elim (is_among_cases done x) [
-        | inl found ↦ rest_push xs x ∙ ap (λ b. remaining_ids done xs ++ cond (not b) (x ∷ []) []) found.0 ∙ append-nil (remaining_ids done xs)
+        | inl found ↦ rest_push xs x ∙ ap (λ b. remaining_ids done xs ++ cond (not b) (x ∷ []) [])
+            found.0 ∙ append-nil (remaining_ids done xs)
         | inr other ↦ absurd (other.1 among)
       ]
 
-  pub rest_more : (xs : List Id) (x : Id) → ¬ Contains done x → remaining_ids done (xs ++ x ∷ []) ≡ remaining_ids done xs ++ x ∷ []
-  rest_more xs x left = rest_push xs x ∙ ap (λ b. remaining_ids done xs ++ cond (not b) (x ∷ []) []) (not_among done x left)
+  pub rest_more : (xs : List Id) (x : Id) → ¬ Contains done x
+      → remaining_ids done (xs ++ x ∷ []) ≡ remaining_ids done xs ++ x ∷ []
+  rest_more xs x left = rest_push xs x
+      ∙ ap (λ b. remaining_ids done xs ++ cond (not b) (x ∷ []) []) (not_among done x left)
 
   -- one more Id of a list
-  pub count_skip : (xs : List Id) (i : ℕ) (d : Id) → i < length xs → Contains done (get_or xs i d) → length (remaining_ids done (take (i + 1) xs)) ≡ length (remaining_ids done (take i xs))
-  count_skip xs i d l among = ap (λ ys. length (remaining_ids done ys)) (take_more xs i d l) ∙ ap length (rest_skip (take i xs) (get_or xs i d) among)
+  pub count_skip : (xs : List Id) (i : ℕ) (d : Id) → i < length xs → Contains done (get_or xs i d)
+      → length (remaining_ids done (take (i + 1) xs)) ≡ length (remaining_ids done (take i xs))
+  count_skip xs i d l among = ap (λ ys. length (remaining_ids done ys)) (take_more xs i d l)
+      ∙ ap length (rest_skip (take i xs) (get_or xs i d) among)
 
-  pub count_more : (xs : List Id) (i : ℕ) (d : Id) → i < length xs → ¬ Contains done (get_or xs i d) → length (remaining_ids done (take (i + 1) xs)) ≡ length (remaining_ids done (take i xs)) + 1
-  count_more xs i d l left = ap (λ ys. length (remaining_ids done ys)) (take_more xs i d l) ∙ ap length (rest_more (take i xs) (get_or xs i d) left) ∙ length_push (remaining_ids done (take i xs)) (get_or xs i d)
+  pub count_more : (xs : List Id) (i : ℕ) (d : Id) → i < length xs
+      → ¬ Contains done (get_or xs i d) → length (remaining_ids done (take (i + 1) xs))
+      ≡ length (remaining_ids done (take i xs)) + 1
+  count_more xs i d l left = ap (λ ys. length (remaining_ids done ys)) (take_more xs i d l)
+      ∙ ap length (rest_more (take i xs) (get_or xs i d) left)
+      ∙ length_push (remaining_ids done (take i xs)) (get_or xs i d)
 
   pub rest_rises : (xs : List Id) → IsRising xs → IsRising (remaining_ids done xs)
-  rest_rises xs rising = IsRising-from_AllPairs (remaining_ids done xs) (AllPairs-filter Below (λ x. not (is_among done x)) xs (AllPairs-from_IsRising xs rising))
+  rest_rises xs rising = IsRising-from_AllPairs (remaining_ids done xs)
+      (AllPairs-filter Below (λ x. not (is_among done x)) xs (AllPairs-from_IsRising xs rising))
 
 -- ---- where nothing is done
 
@@ -58,24 +77,42 @@ rest-nil (x ∷ xs) = ap (λ ys. x ∷ ys) (rest-nil xs)
 pub all_rest : (done xs : List Id) → length done ≡ 0 → remaining_ids done xs ≡ xs
 all_rest done xs none = ap (λ ds. remaining_ids ds xs) (nil_from_length done none) ∙ rest-nil xs
 
-position-nil : (m : List Instance) (p : ℕ) (e : Instance) → slice_get m p ≡ Some e → slice_get (remaining [] m) p ≡ Some (without_deps [] e)
+position-nil : (m : List Instance) (p : ℕ) (e : Instance) → slice_get m p ≡ Some e
+    → slice_get (remaining [] m) p ≡ Some (without_deps [] e)
 position-nil [] p e at = absurd (cc at)
-position-nil (d ∷ m) zero e at = let same : d ≡ e = cc at in ap (λ (x : Instance). Some (without_deps [] x)) same
+position-nil (d ∷ m) zero e at = let same : d ≡ e = cc at in
+    ap (λ (x : Instance). Some (without_deps [] x)) same
 position-nil (d ∷ m) (suc p) e at = position-nil m p e at
 
 module _ (r : RemainderView) (none : length r.done ≡ 0) where
   pub all_left : left_of r ≡ r.whole
-  all_left = ap (λ done. remaining done r.whole) (nil_from_length r.done none) ∙ remaining-nil r.whole
+  all_left = ap (λ done. remaining done r.whole) (nil_from_length r.done none)
+      ∙ remaining-nil r.whole
 
   -- each instance has the same position as in the map
   pub position_as_in_map : (p : ℕ) → p < length (left_of r) → IsAtPosition r p p
   position_as_in_map p l =
-      let d : Instance = record { id = record { replica = 0; number = 0 }; seq = 0; deps = []; ops = [] } in
-      let at = slice_get-get_or r.whole p d (omega (arith, l, ap length all_left)) in
-      (get_or r.whole p d, at, subst (λ (done : List Id). slice_get (remaining done r.whole) p ≡ Some (without_deps done (get_or r.whole p d))) (sym (nil_from_length r.done none)) (position-nil r.whole p (get_or r.whole p d) at))
+      let d : Instance = record {
+        id = record { replica = 0; number = 0 };
+        seq = 0;
+        deps = [];
+        ops = [];
+      } in
+      let at = slice_get-get_or r.whole p d (omega (arith, l, ap length all_left)) in (
+        get_or r.whole p d,
+        at,
+        subst (λ (done : List Id). slice_get (remaining done r.whole) p
+            ≡ Some (without_deps done (get_or r.whole p d))) (sym (nil_from_length r.done none))
+            (position-nil r.whole p (get_or r.whole p d) at),
+      )
 
-  pub found_there : (x : Id) (p : ℕ) → position_of r.whole x ≡ Some p → IsIdStateOf r x (found.Remainder p)
-  found_there x p at = (λ h. Contains-nil x (subst (λ (ds : List Id). Contains ds x) (nil_from_length r.done none) h), ap (λ m. position_of m x) all_left ∙ at)
+  pub found_there : (x : Id) (p : ℕ) → position_of r.whole x ≡ Some p
+      → IsIdStateOf r x (found.Remainder p)
+  found_there x p at = (
+    λ h. Contains-nil x (subst (λ (ds : List Id). Contains ds x) (nil_from_length r.done none)
+        h),
+    ap (λ m. position_of m x) all_left ∙ at,
+  )
 
 -- ---- the tables
 
@@ -87,21 +124,30 @@ tables_none r = record {
   all_positions_left = λ p e l at. absurd (omega (arith, l));
 }
 
-module _ (r : RemainderView) (positions : List ℕ) (positions_left : List (Option ℕ)) (n : ℕ) (e : Instance) (at : slice_get r.whole n ≡ Some e) (are : ArePositionTables r positions positions_left n) where
-  tables_push : (place : Option ℕ) → IsPositionLeft r e place → (p : ℕ) (d : Instance) → p < n + 1 → slice_get r.whole p ≡ Some d → IsPositionLeft r d (get_or (positions_left ++ place ∷ []) p None)
+module _ (r : RemainderView) (positions : List ℕ) (positions_left : List (Option ℕ)) (n : ℕ)
+    (e : Instance) (at : slice_get r.whole n ≡ Some e)
+    (are : ArePositionTables r positions positions_left n) where
+  tables_push : (place : Option ℕ) → IsPositionLeft r e place → (p : ℕ) (d : Instance) → p < n + 1
+      → slice_get r.whole p ≡ Some d
+      → IsPositionLeft r d (get_or (positions_left ++ place ∷ []) p None)
   tables_push place is p d l there =
       elim (cases_lt p n) [
-        | inl lower ↦ subst (IsPositionLeft r d) (sym (get_or_append_left positions_left (place ∷ []) None p (omega (arith, are.all)))) (are.all_positions_left p d lower there)
+        | inl lower ↦ subst (IsPositionLeft r d)
+            (sym (get_or_append_left positions_left (place ∷ []) None p (omega (arith, are.all))))
+            (are.all_positions_left p d lower there)
         | inr not_lower ↦
             let same : p ≡ n = omega arith in
             let one : Some d ≡ Some e = sym there ∙ ap (slice_get r.whole) same ∙ at in
             let of : d ≡ e = cc one in
-            let last : get_or (positions_left ++ place ∷ []) p None ≡ place = get_or_push positions_left place None p (omega (arith, are.all)) in
-            subst (IsPositionLeft r d) (sym last) (subst (λ (i : Instance). IsPositionLeft r i place) (sym of) is)
+            let last : get_or (positions_left ++ place ∷ []) p None ≡ place =
+            get_or_push positions_left place None p (omega (arith, are.all)) in
+            subst (IsPositionLeft r d) (sym last)
+            (subst (λ (i : Instance). IsPositionLeft r i place) (sym of) is)
       ]
 
   -- one more instance, which is done
-  pub tables_skip : Contains r.done e.id → ArePositionTables r positions (positions_left ++ None ∷ []) (n + 1)
+  pub tables_skip : Contains r.done e.id
+      → ArePositionTables r positions (positions_left ++ None ∷ []) (n + 1)
   tables_skip among = record {
     many = are.many ∙ ap length (sym (remaining_skip r.done r.whole n e at among));
     at_positions = are.at_positions;
@@ -110,9 +156,13 @@ module _ (r : RemainderView) (positions : List ℕ) (positions_left : List (Opti
   }
 
   -- one more instance, which is left
-  pub tables_more : ¬ Contains r.done e.id → ArePositionTables r (positions ++ n ∷ []) (positions_left ++ Some (length positions) ∷ []) (n + 1)
+  pub tables_more : ¬ Contains r.done e.id
+      → ArePositionTables r (positions ++ n ∷ []) (positions_left ++ Some (length positions) ∷ [])
+      (n + 1)
   tables_more left = record {
-    many = length_push positions n ∙ ap (λ k. k + 1) are.many ∙ sym (ap length (remaining_more r.done r.whole n e at left) ∙ length_push (remaining r.done (take n r.whole)) (without_deps r.done e));
+    many = length_push positions n ∙ ap (λ k. k + 1) are.many
+        ∙ sym (ap length (remaining_more r.done r.whole n e at left)
+        ∙ length_push (remaining r.done (take n r.whole)) (without_deps r.done e));
     at_positions = at_positions;
     all = length_push positions_left (Some (length positions)) ∙ ap (λ k. k + 1) are.all;
     all_positions_left = tables_push (Some (length positions)) here;
@@ -120,49 +170,72 @@ module _ (r : RemainderView) (positions : List ℕ) (positions_left : List (Opti
     here : slice_get (left_of r) (length positions) ≡ Some (without_deps r.done e)
     here = ap (slice_get (left_of r)) are.many ∙ remaining_position r.done r.whole n e at left
 
-    at_positions : (k : ℕ) → k < length (positions ++ n ∷ []) → IsAtPosition r (get_or (positions ++ n ∷ []) k 0) k
+    at_positions : (k : ℕ) → k < length (positions ++ n ∷ [])
+        → IsAtPosition r (get_or (positions ++ n ∷ []) k 0) k
     at_positions k l =
         elim (cases_lt k (length positions)) [
-          | inl lower ↦ subst (λ p. IsAtPosition r p k) (sym (get_or_append_left positions (n ∷ []) 0 k lower)) (are.at_positions k lower)
+          | inl lower ↦ subst (λ p. IsAtPosition r p k)
+              (sym (get_or_append_left positions (n ∷ []) 0 k lower)) (are.at_positions k lower)
           | inr not_lower ↦
               let same : length positions ≡ k = omega (arith, l, length_push positions n) in
-              subst (λ p. IsAtPosition r p k) (sym (get_or_push positions n 0 k same)) (e, at, ap (slice_get (left_of r)) (sym same) ∙ here)
+              subst (λ p. IsAtPosition r p k) (sym (get_or_push positions n 0 k same))
+              (e, at, ap (slice_get (left_of r)) (sym same) ∙ here)
         ]
 
-module _ (r : RemainderView) (positions : List ℕ) (positions_left : List (Option ℕ)) (are : ArePositionTables r positions positions_left (length r.whole)) where
+module _ (r : RemainderView) (positions : List ℕ) (positions_left : List (Option ℕ))
+    (are : ArePositionTables r positions positions_left (length r.whole)) where
   pub tables_long : length positions ≡ length (left_of r)
-  tables_long = are.many ∙ ap (λ es. length (remaining r.done es)) (take_all (length r.whole) r.whole (omega arith))
+  tables_long = are.many ∙ ap (λ es. length (remaining r.done es))
+      (take_all (length r.whole) r.whole (omega arith))
 
   -- what the table says of the position of an instance that is left
-  pub position_from_table : (k p : ℕ) → k < length (left_of r) → p ≡ get_or positions k p → IsAtPosition r p k
+  pub position_from_table : (k p : ℕ) → k < length (left_of r) → p ≡ get_or positions k p
+      → IsAtPosition r p k
   position_from_table k p l read =
       let within : k < length positions = omega (arith, l, tables_long) in
-      subst (λ i. IsAtPosition r i k) (sym (get_or_read positions k p within read 0)) (are.at_positions k within)
+      subst (λ i. IsAtPosition r i k) (sym (get_or_read positions k p within read 0))
+      (are.at_positions k within)
 
   -- what the table says of the instance at a position
-  position_read : (p : ℕ) (e : Instance) (place : Option ℕ) → slice_get r.whole p ≡ Some e → place ≡ get_or positions_left p place → IsPositionLeft r e place
+  position_read : (p : ℕ) (e : Instance) (place : Option ℕ) → slice_get r.whole p ≡ Some e
+      → place ≡ get_or positions_left p place → IsPositionLeft r e place
   position_read p e place at read =
       let l = slice_get_within r.whole p e at in
-      subst (IsPositionLeft r e) (sym (get_or_read positions_left p place (omega (arith, are.all)) read None)) (are.all_positions_left p e l at)
+      subst (IsPositionLeft r e)
+      (sym (get_or_read positions_left p place (omega (arith, are.all)) read None))
+      (are.all_positions_left p e l at)
 
   -- and of the Id at it
-  pub found_left : IsRising (ids_of r.whole) → (p k : ℕ) (x : Id) (place : Option ℕ) → position_of r.whole x ≡ Some p → place ≡ get_or positions_left p place → place ≡ Some k → IsIdStateOf r x (found.Remainder k)
+  pub found_left : IsRising (ids_of r.whole) → (p k : ℕ) (x : Id) (place : Option ℕ)
+      → position_of r.whole x ≡ Some p → place ≡ get_or positions_left p place → place ≡ Some k
+      → IsIdStateOf r x (found.Remainder k)
   found_left rising p k x place at read some =
       let e = position_of-instance r.whole x p at in
-      let there : slice_get (left_of r) k ≡ Some (without_deps r.done e.0) = subst (IsPositionLeft r e.0) some (position_read p e.0 place e.1 read) in
-      let is = Contains-slice_get (ids_of (left_of r)) k x (slice_get-map (λ (i : Instance). i.id) (left_of r) k (without_deps r.done e.0) there ∙ ap Some e.2) in (
+      let there : slice_get (left_of r) k ≡ Some (without_deps r.done e.0) =
+      subst (IsPositionLeft r e.0) some (position_read p e.0 place e.1 read) in
+      let is = Contains-slice_get (ids_of (left_of r)) k x
+      (slice_get-map (λ (i : Instance). i.id) (left_of r) k (without_deps r.done e.0) there
+      ∙ ap Some e.2) in (
         ((Contains-remaining_iff r.done r.whole x).0 is).1,
-        position_of-found (left_of r) (IsRising-remaining r.done r.whole rising) x k (without_deps r.done e.0) there e.2,
+        position_of-found (left_of r) (IsRising-remaining r.done r.whole rising) x k
+            (without_deps r.done e.0) there e.2,
       )
 
-  pub found_done : (p : ℕ) (x : Id) (place : Option ℕ) → position_of r.whole x ≡ Some p → place ≡ get_or positions_left p place → place ≡ None → Contains r.done x
+  pub found_done : (p : ℕ) (x : Id) (place : Option ℕ) → position_of r.whole x ≡ Some p
+      → place ≡ get_or positions_left p place → place ≡ None → Contains r.done x
   found_done p x place at read none =
       let e = position_of-instance r.whole x p at in
-      subst (Contains r.done) e.2 (subst (IsPositionLeft r e.0) none (position_read p e.0 place e.1 read))
+      subst (Contains r.done) e.2
+      (subst (IsPositionLeft r e.0) none (position_read p e.0 place e.1 read))
 
 -- an Id without a position is not left
-pub found_missing : (r : RemainderView) (x : Id) → position_of r.whole x ≡ None → ¬ Contains r.done x → IsIdStateOf r x found.Missing
-found_missing r x none left = (left, none_position (left_of r) x (λ h. no_position r.whole x none ((Contains-remaining_iff r.done r.whole x).0 h).0))
+pub found_missing : (r : RemainderView) (x : Id) → position_of r.whole x ≡ None
+    → ¬ Contains r.done x → IsIdStateOf r x found.Missing
+found_missing r x none left = (
+  left,
+  none_position (left_of r) x
+      (λ h. no_position r.whole x none ((Contains-remaining_iff r.done r.whole x).0 h).0),
+)
 
 -- ---- Ids gathered one after another
 
@@ -184,11 +257,15 @@ module _ (r : RemainderView) where
   abbrev missing_in : List Id → List Id
   missing_in xs = missing_of (left_of r) (remaining_ids r.done xs)
 
-  gathered_push : (xs : List Id) (x : Id) (f : IdState) → IsIdStateOf r x f → (positions_in (xs ++ x ∷ []) ≡ positions_in xs ++ positions_found f) × (missing_in (xs ++ x ∷ []) ≡ missing_in xs ++ missing_found x f)
+  gathered_push : (xs : List Id) (x : Id) (f : IdState) → IsIdStateOf r x f
+      → (positions_in (xs ++ x ∷ []) ≡ positions_in xs ++ positions_found f)
+      × (missing_in (xs ++ x ∷ []) ≡ missing_in xs ++ missing_found x f)
   gathered_push xs x (found.Remainder k) is =
       let rest = rest_more r.done xs x is.0 in (
-        ap (positions_of (left_of r)) rest ∙ positions_take (left_of r) (remaining_ids r.done xs) x k is.1,
-        ap (missing_of (left_of r)) rest ∙ lacking_skip (left_of r) (remaining_ids r.done xs) x k is.1 ∙ sym (append-nil (missing_in xs)),
+        ap (positions_of (left_of r)) rest ∙ positions_take (left_of r) (remaining_ids r.done xs) x
+            k is.1,
+        ap (missing_of (left_of r)) rest ∙ lacking_skip (left_of r) (remaining_ids r.done xs) x k
+            is.1 ∙ sym (append-nil (missing_in xs)),
       )
   gathered_push xs x found.Done is =
       let rest = rest_skip r.done xs x is in (
@@ -197,16 +274,29 @@ module _ (r : RemainderView) where
       )
   gathered_push xs x found.Missing is =
       let rest = rest_more r.done xs x is.0 in (
-        ap (positions_of (left_of r)) rest ∙ positions_skip (left_of r) (remaining_ids r.done xs) x is.1 ∙ sym (append-nil (positions_in xs)),
-        ap (missing_of (left_of r)) rest ∙ lacking_take (left_of r) (remaining_ids r.done xs) x is.1,
+        ap (positions_of (left_of r)) rest ∙ positions_skip (left_of r) (remaining_ids r.done xs) x
+            is.1 ∙ sym (append-nil (positions_in xs)),
+        ap (missing_of (left_of r)) rest ∙ lacking_take (left_of r) (remaining_ids r.done xs) x
+            is.1,
       )
 
   -- one more Id
-  pub gathered_next : (xs : List Id) (i : ℕ) (d : Id) → i < length xs → (f : IdState) → IsIdStateOf r (get_or xs i d) f → (old numbers new : List ℕ) (before missing after : List Id) → numbers ≡ old ++ positions_in (take i xs) → missing ≡ before ++ missing_in (take i xs) → new ≡ numbers ++ positions_found f → after ≡ missing ++ missing_found (get_or xs i d) f → (new ≡ old ++ positions_in (take (i + 1) xs)) × (after ≡ before ++ missing_in (take (i + 1) xs))
-  gathered_next xs i d l f is old numbers new before missing after numbers_are missing_are new_is after_is =
+  pub gathered_next : (xs : List Id) (i : ℕ) (d : Id) → i < length xs → (f : IdState)
+      → IsIdStateOf r (get_or xs i d) f
+      → (old numbers new : List ℕ) (before missing after : List Id)
+      → numbers ≡ old ++ positions_in (take i xs) → missing ≡ before ++ missing_in (take i xs)
+      → new ≡ numbers ++ positions_found f → after ≡ missing ++ missing_found (get_or xs i d) f
+      → (new ≡ old ++ positions_in (take (i + 1) xs))
+      × (after ≡ before ++ missing_in (take (i + 1) xs))
+  gathered_next xs i d l f is old numbers new before missing after numbers_are missing_are new_is
+      after_is =
       let x = get_or xs i d in
       let next = gathered_push (take i xs) x f is in
       let more = sym (take_more xs i d l) in (
-        new_is ∙ ap (λ ks. ks ++ positions_found f) numbers_are ∙ append_assoc old (positions_in (take i xs)) (positions_found f) ∙ ap (λ ks. old ++ ks) (sym next.0 ∙ ap positions_in more),
-        after_is ∙ ap (λ ys. ys ++ missing_found x f) missing_are ∙ append_assoc before (missing_in (take i xs)) (missing_found x f) ∙ ap (λ ys. before ++ ys) (sym next.1 ∙ ap missing_in more),
+        new_is ∙ ap (λ ks. ks ++ positions_found f) numbers_are
+            ∙ append_assoc old (positions_in (take i xs)) (positions_found f)
+            ∙ ap (λ ks. old ++ ks) (sym next.0 ∙ ap positions_in more),
+        after_is ∙ ap (λ ys. ys ++ missing_found x f) missing_are
+            ∙ append_assoc before (missing_in (take i xs)) (missing_found x f)
+            ∙ ap (λ ys. before ++ ys) (sym next.1 ∙ ap missing_in more),
       )

@@ -1,5 +1,6 @@
 -- Positions of rising Ids, and of what is taken from a list and dropped from it.
-use Rattle.std.proofs.Common.{◌≡◌, ℕ, ◌+◌, ◌-◌, ◌<◌, ◌≤◌, List, take, drop, get_or, slice_get, Some, sym, ap, subst, ◌∙◌, inl, inr, arith}
+use Rattle.std.proofs.Common.{◌≡◌, ℕ, ◌+◌, ◌-◌, ◌<◌, ◌≤◌, List, take, drop, get_or, slice_get}
+use Rattle.std.proofs.Common.{Some, sym, ap, subst, ◌∙◌, inl, inr, arith}
 use Rattle.std.proofs.lemmas.Bool.{cases_lt}
 use Rattle.std.proofs.lemmas.List.{length-take, length-drop, get_or-take, get_or-drop}
 use Rattle.std.proofs.lemmas.Option.{slice_get_within, slice_get-get_or, get_or_from_slice_get}
@@ -12,25 +13,34 @@ use Rattle.epx_types.proofs.lists.ComparisonLemmas.{id_cmp_total}
 
 -- ---- what is taken and dropped
 
-pub slice_get-take : {X : Type 0} (xs : List X) (n k : ℕ) (x : X) → k < n → slice_get xs k ≡ Some x → slice_get (take n xs) k ≡ Some x
+pub slice_get-take : {X : Type 0} (xs : List X) (n k : ℕ) (x : X) → k < n → slice_get xs k ≡ Some x
+    → slice_get (take n xs) k ≡ Some x
 slice_get-take xs n k x l at =
     let within = slice_get_within xs k x at in
-    slice_get-get_or (take n xs) k x (omega (arith, length-take n xs)) ∙ ap Some (get_or-take n xs k x l ∙ get_or_from_slice_get xs k x x at)
+    slice_get-get_or (take n xs) k x (omega (arith, length-take n xs))
+    ∙ ap Some (get_or-take n xs k x l ∙ get_or_from_slice_get xs k x x at)
 
-pub slice_get-from_take : {X : Type 0} (xs : List X) (n k : ℕ) (x : X) → slice_get (take n xs) k ≡ Some x → (k < n) × (slice_get xs k ≡ Some x)
+pub slice_get-from_take : {X : Type 0} (xs : List X) (n k : ℕ) (x : X)
+    → slice_get (take n xs) k ≡ Some x → (k < n) × (slice_get xs k ≡ Some x)
 slice_get-from_take xs n k x at =
     let within = slice_get_within (take n xs) k x at in
-    let l : k < n = omega (arith, length-take n xs) in
-    (l, slice_get-get_or xs k x (omega (arith, length-take n xs)) ∙ ap Some (sym (get_or-take n xs k x l) ∙ get_or_from_slice_get (take n xs) k x x at))
+    let l : k < n = omega (arith, length-take n xs) in (
+      l,
+      slice_get-get_or xs k x (omega (arith, length-take n xs))
+          ∙ ap Some (sym (get_or-take n xs k x l) ∙ get_or_from_slice_get (take n xs) k x x at),
+    )
 
-pub slice_get-drop : {X : Type 0} (xs : List X) (n k : ℕ) (x : X) → n ≤ k → slice_get xs k ≡ Some x → slice_get (drop n xs) (k - n) ≡ Some x
+pub slice_get-drop : {X : Type 0} (xs : List X) (n k : ℕ) (x : X) → n ≤ k → slice_get xs k ≡ Some x
+    → slice_get (drop n xs) (k - n) ≡ Some x
 slice_get-drop xs n k x l at =
     let within = slice_get_within xs k x at in
     let same : n + (k - n) ≡ k = omega arith in
     slice_get-get_or (drop n xs) (k - n) x (omega (arith, length-drop n xs))
-    ∙ ap Some (get_or-drop n xs (k - n) x ∙ ap (λ i. get_or xs i x) same ∙ get_or_from_slice_get xs k x x at)
+    ∙ ap Some (get_or-drop n xs (k - n) x ∙ ap (λ i. get_or xs i x) same
+    ∙ get_or_from_slice_get xs k x x at)
 
-pub slice_get-from_drop : {X : Type 0} (xs : List X) (n i : ℕ) (x : X) → slice_get (drop n xs) i ≡ Some x → slice_get xs (n + i) ≡ Some x
+pub slice_get-from_drop : {X : Type 0} (xs : List X) (n i : ℕ) (x : X)
+    → slice_get (drop n xs) i ≡ Some x → slice_get xs (n + i) ≡ Some x
 slice_get-from_drop xs n i x at =
     let within = slice_get_within (drop n xs) i x at in
     slice_get-get_or xs (n + i) x (omega (arith, length-drop n xs))
@@ -39,11 +49,14 @@ slice_get-from_drop xs n i x at =
 -- ---- rising Ids
 
 -- the lower of two positions has the lower Id
-pub rising_positions : (xs : List Id) → IsRising xs → (i j : ℕ) (x y : Id) → slice_get xs i ≡ Some x → slice_get xs j ≡ Some y → i < j → Below x y
-rising_positions xs rising i j x y p q l = AllPairs-slice_get Below xs (AllPairs-from_IsRising xs rising) i j x y l p q
+pub rising_positions : (xs : List Id) → IsRising xs → (i j : ℕ) (x y : Id)
+    → slice_get xs i ≡ Some x → slice_get xs j ≡ Some y → i < j → Below x y
+rising_positions xs rising i j x y p q l =
+    AllPairs-slice_get Below xs (AllPairs-from_IsRising xs rising) i j x y l p q
 
 -- an Id has one position
-pub rising_position_is_one : (xs : List Id) → IsRising xs → (i j : ℕ) (x : Id) → slice_get xs i ≡ Some x → slice_get xs j ≡ Some x → i ≡ j
+pub rising_position_is_one : (xs : List Id) → IsRising xs → (i j : ℕ) (x : Id)
+    → slice_get xs i ≡ Some x → slice_get xs j ≡ Some x → i ≡ j
 rising_position_is_one xs rising i j x p q =
     elim (cases_lt i j) [
       | inl l ↦ absurd (below_irrefl id_cmp_total x (rising_positions xs rising i j x x p q l))
@@ -54,12 +67,14 @@ rising_position_is_one xs rising i j x p q =
     ]
 
 -- the lower Id has the lower position
-pub rising_positions_back : (xs : List Id) → IsRising xs → (i j : ℕ) (x y : Id) → slice_get xs i ≡ Some x → slice_get xs j ≡ Some y → Below x y → i < j
+pub rising_positions_back : (xs : List Id) → IsRising xs → (i j : ℕ) (x y : Id)
+    → slice_get xs i ≡ Some x → slice_get xs j ≡ Some y → Below x y → i < j
 rising_positions_back xs rising i j x y p q below =
     elim (cases_lt i j) [
       | inl l ↦ l
       | inr m ↦ elim (cases_lt j i) [
-        | inl l ↦ absurd (below_asymm id_cmp_total x y below (rising_positions xs rising j i y x q p l))
+        | inl l ↦ absurd
+            (below_asymm id_cmp_total x y below (rising_positions xs rising j i y x q p l))
         | inr n ↦
             let same : i ≡ j = omega arith in
             let one : Some x ≡ Some y = sym p ∙ ap (slice_get xs) same ∙ q in

@@ -1,21 +1,32 @@
 -- Rising Ids have rising positions, so a row of positions needs no sorting.
-use Rattle.std.proofs.Common.{◌≡◌, inl, inr, ℕ, ◌+◌, ◌-◌, ◌<◌, ◌≤◌, not, cond, List, [], ◌∷◌, ◌++◌, length, take, drop, get_or, Option, Some, None, is_some, slice_get, Contains, All, AllPairs, refl, sym, ap, subst, ◌∙◌, arith}
+use Rattle.std.proofs.Common.{◌≡◌, inl, inr, ℕ, ◌+◌, ◌-◌, ◌<◌, ◌≤◌, not, cond, List, [], ◌∷◌, ◌++◌}
+use Rattle.std.proofs.Common.{length, take, drop, get_or, Option, Some, None, is_some, slice_get}
+use Rattle.std.proofs.Common.{Contains, All, AllPairs, refl, sym, ap, subst, ◌∙◌, arith}
 use Rattle.std.specs.List.{cons_option}
 use Rattle.std.proofs.lemmas.Bool.{cases_lt}
 use Rattle.std.proofs.lemmas.List.{length-map, take_more}
-use Rattle.std.proofs.lemmas.List.Elements.{All-get_or, All-contains, Contains-append_left, Contains-append_right, Contains-append_cases, Contains-push, Contains-push_cases}
+use Rattle.std.proofs.lemmas.List.Elements.{All-get_or, All-contains, Contains-append_left}
+use Rattle.std.proofs.lemmas.List.Elements.{Contains-append_right, Contains-append_cases}
+use Rattle.std.proofs.lemmas.List.Elements.{Contains-push, Contains-push_cases}
 use Rattle.std.proofs.lemmas.Option.{slice_get_within, slice_get-get_or}
 use Rattle.epx_types.specs.declared.id.Id.{Id}
 use Rattle.epx_types.specs.Ids.{Below, IsRising}
 use Rattle.epx_types.specs.Instances.{Instance}
 use Rattle.epx_types.specs.CommittedMap.{ids_of, position_of, IsCommitted}
-use Rattle.epx_types.proofs.lists.MembershipLemmas.{Contains-nil, Contains-head, Contains-cons, Contains-cons_cases, Contains-filter, Contains-from_filter}
-use Rattle.epx_types.proofs.lists.ListPositionLemmas.{Contains-slice_get, slice_get-from_Contains, slice_get-map, AllPairs-head, AllPairs-tail, AllPairs-slice_get, AllPairs-from_parts, AllPairs-append}
+use Rattle.epx_types.proofs.lists.MembershipLemmas.{Contains-nil, Contains-head, Contains-cons}
+use Rattle.epx_types.proofs.lists.MembershipLemmas.{Contains-cons_cases, Contains-filter}
+use Rattle.epx_types.proofs.lists.MembershipLemmas.{Contains-from_filter}
+use Rattle.epx_types.proofs.lists.ListPositionLemmas.{Contains-slice_get, slice_get-from_Contains}
+use Rattle.epx_types.proofs.lists.ListPositionLemmas.{slice_get-map, AllPairs-head, AllPairs-tail}
+use Rattle.epx_types.proofs.lists.ListPositionLemmas.{AllPairs-slice_get, AllPairs-from_parts}
+use Rattle.epx_types.proofs.lists.ListPositionLemmas.{AllPairs-append}
 use Rattle.epx_types.proofs.committed.PositionLemmas.{position_of-instance}
 use Rattle.epx_graph.specs.inner.Nodes.{positions_of, missing_of, AreNodesOf, ArePositionsOf}
 use Rattle.epx_graph.proofs.MissingIdLemmas.{no_position, lacks-from_missing, lacking_missing}
 use Rattle.epx_graph.proofs.MapNodeLemmas.{missing_above}
-use Rattle.epx_graph.proofs.RisingPositionLemmas.{slice_get-take, slice_get-from_take, slice_get-drop, slice_get-from_drop, rising_positions_back, rising_position_is_one}
+use Rattle.epx_graph.proofs.RisingPositionLemmas.{slice_get-take, slice_get-from_take}
+use Rattle.epx_graph.proofs.RisingPositionLemmas.{slice_get-drop, slice_get-from_drop}
+use Rattle.epx_graph.proofs.RisingPositionLemmas.{rising_positions_back, rising_position_is_one}
 
 -- ---- the positions of no Ids
 
@@ -27,30 +38,38 @@ positions_none ids = record {
 
 -- ---- one Id before the others
 
-positions_skipped : (ids : List Id) (x : Id) (xs : List Id) (row : List ℕ) → ¬ Contains ids x → ArePositionsOf ids xs row → ArePositionsOf ids (x ∷ xs) row
+positions_skipped : (ids : List Id) (x : Id) (xs : List Id) (row : List ℕ) → ¬ Contains ids x
+    → ArePositionsOf ids xs row → ArePositionsOf ids (x ∷ xs) row
 positions_skipped ids x xs row lacks are = record {
   rising = are.rising;
   exact = λ j. (
     λ h. let at = (are.exact j).0 h in (at.0, Contains-cons x xs at.0 at.1, at.2),
     λ h. elim (Contains-cons_cases x xs h.0 h.1) [
-      | inl first ↦ absurd (lacks (subst (Contains ids) (sym first) (Contains-slice_get ids j h.0 h.2)))
+      | inl first ↦ absurd
+          (lacks (subst (Contains ids) (sym first) (Contains-slice_get ids j h.0 h.2)))
       | inr rest ↦ (are.exact j).1 (h.0, rest, h.2)
     ],
   );
 }
 
-positions_cons : (ids : List Id) (rising : IsRising ids) (x : Id) (xs : List Id) (i : ℕ) (row : List ℕ) → AllPairs Below (x ∷ xs) → slice_get ids i ≡ Some x → ArePositionsOf ids xs row → ArePositionsOf ids (x ∷ xs) (i ∷ row)
+positions_cons : (ids : List Id) (rising : IsRising ids) (x : Id) (xs : List Id) (i : ℕ)
+    (row : List ℕ) → AllPairs Below (x ∷ xs) → slice_get ids i ≡ Some x → ArePositionsOf ids xs row
+    → ArePositionsOf ids (x ∷ xs) (i ∷ row)
 positions_cons ids rising x xs i row rise at are = record {
   rising = AllPairs-from_parts (λ a b. a < b) i row
-      (λ j h. let there = (are.exact j).0 h in rising_positions_back ids rising i j x there.0 at there.2 (AllPairs-head Below x xs there.0 rise there.1)) are.rising;
+      (λ j h. let there = (are.exact j).0 h in
+      rising_positions_back ids rising i j x there.0 at there.2
+      (AllPairs-head Below x xs there.0 rise there.1)) are.rising;
   exact = λ j. (
     λ h. elim (Contains-cons_cases i row j h) [
       | inl first ↦ (x, Contains-head x xs, ap (slice_get ids) (sym first) ∙ at)
-      | inr rest ↦ let there = (are.exact j).0 rest in (there.0, Contains-cons x xs there.0 there.1, there.2)
+      | inr rest ↦ let there = (are.exact j).0 rest in
+          (there.0, Contains-cons x xs there.0 there.1, there.2)
     ],
     λ h. elim (Contains-cons_cases x xs h.0 h.1) [
       | inl first ↦
-          let same : i ≡ j = rising_position_is_one ids rising i j x at (h.2 ∙ ap Some (sym first)) in
+          let same : i ≡ j = rising_position_is_one ids rising i j x at
+          (h.2 ∙ ap Some (sym first)) in
           subst (Contains (i ∷ row)) same (Contains-head i row)
       | inr rest ↦ Contains-cons i row j ((are.exact j).1 (h.0, rest, h.2))
     ],
@@ -59,27 +78,38 @@ positions_cons ids rising x xs i row rise at are = record {
 
 -- ---- committed dependencies
 
-pub positions_are_rising : (m : List Instance) → IsRising (ids_of m) → (xs : List Id) → AllPairs Below xs → ArePositionsOf (ids_of m) xs (positions_of m xs)
+pub positions_are_rising : (m : List Instance) → IsRising (ids_of m) → (xs : List Id)
+    → AllPairs Below xs → ArePositionsOf (ids_of m) xs (positions_of m xs)
 positions_are_rising m rising [] rise = positions_none (ids_of m)
-positions_are_rising m rising (x ∷ xs) rise = by (position_of m x) refl (positions_are_rising m rising xs (AllPairs-tail Below x xs rise)) where
-  by : (o : Option ℕ) → position_of m x ≡ o → ArePositionsOf (ids_of m) xs (positions_of m xs) → ArePositionsOf (ids_of m) (x ∷ xs) (cons_option o (positions_of m xs))
-  by None none rest = positions_skipped (ids_of m) x xs (positions_of m xs) (no_position m x none) rest
-  by (Some i) some rest =
-      let stands = position_of-instance m x i some in
-      positions_cons (ids_of m) rising x xs i (positions_of m xs) rise (slice_get-map (λ (e : Instance). e.id) m i stands.0 stands.1 ∙ ap Some stands.2) rest
+positions_are_rising m rising (x ∷ xs) rise =
+    by (position_of m x) refl
+    (positions_are_rising m rising xs (AllPairs-tail Below x xs rise)) where
+      by : (o : Option ℕ) → position_of m x ≡ o → ArePositionsOf (ids_of m) xs (positions_of m xs)
+          → ArePositionsOf (ids_of m) (x ∷ xs) (cons_option o (positions_of m xs))
+      by None none rest = positions_skipped (ids_of m) x xs (positions_of m xs)
+          (no_position m x none)
+          rest
+      by (Some i) some rest =
+          let stands = position_of-instance m x i some in
+          positions_cons (ids_of m) rising x xs i (positions_of m xs) rise
+          (slice_get-map (λ (e : Instance). e.id) m i stands.0 stands.1 ∙ ap Some stands.2) rest
 
 -- each is committed or missing
-pub positions_count : (m : List Instance) (xs : List Id) → length (positions_of m xs) + length (missing_of m xs) ≡ length xs
+pub positions_count : (m : List Instance) (xs : List Id)
+    → length (positions_of m xs) + length (missing_of m xs) ≡ length xs
 positions_count m [] = refl
 positions_count m (x ∷ xs) = by (position_of m x) (positions_count m xs) where
-  by : (o : Option ℕ) → length (positions_of m xs) + length (missing_of m xs) ≡ length xs → length (cons_option o (positions_of m xs)) + length (cond (not (is_some o)) (x ∷ missing_of m xs) (missing_of m xs)) ≡ length (x ∷ xs)
+  by : (o : Option ℕ) → length (positions_of m xs) + length (missing_of m xs) ≡ length xs
+      → length (cons_option o (positions_of m xs))
+      + length (cond (not (is_some o)) (x ∷ missing_of m xs) (missing_of m xs)) ≡ length (x ∷ xs)
   by None rest = omega (arith, rest)
   by (Some i) rest = omega (arith, rest)
 
 module _ (m : List Instance) (ids : List Id) (nodes : AreNodesOf m ids) where
   -- ---- a row of both
 
-  module _ (xs : List Id) (rise : AllPairs Below xs) (high : List ℕ) (are : ArePositionsOf ids (missing_of m xs) high) where
+  module _ (xs : List Id) (rise : AllPairs Below xs) (high : List ℕ)
+      (are : ArePositionsOf ids (missing_of m xs) high) where
     low : ArePositionsOf (ids_of m) xs (positions_of m xs)
     low = positions_are_rising m nodes.committed_rise xs rise
 
@@ -91,24 +121,49 @@ module _ (m : List Instance) (ids : List Id) (nodes : AreNodesOf m ids) where
         let within = slice_get_within (ids_of m) i p.0 p.2 in
         omega (arith, length-map m (λ (e : Instance). e.id))
 
-    there : (j : ℕ) → Contains (positions_of m xs ++ high) j → (x : Id) × Contains xs x × (slice_get ids j ≡ Some x)
+    there : (j : ℕ) → Contains (positions_of m xs ++ high) j
+        → (x : Id) × Contains xs x × (slice_get ids j ≡ Some x)
     there j h =
         elim (Contains-append_cases (positions_of m xs) high j h) [
           | inl p ↦
-              let at = (low.exact j).0 p in
-              (at.0, at.1, (slice_get-from_take ids (length m) j at.0 (ap (λ l. slice_get l j) nodes.committed ∙ at.2)).1)
+              let at = (low.exact j).0 p in (
+                at.0,
+                at.1,
+                (slice_get-from_take ids (length m) j at.0
+                    (ap (λ l. slice_get l j) nodes.committed ∙ at.2)).1,
+              )
           | inr q ↦
-              let at = (are.exact j).0 q in
-              (at.0, Contains-from_filter (λ (y : Id). not (is_some (position_of m y))) xs at.0 at.1, at.2)
+              let at = (are.exact j).0 q in (
+                at.0,
+                Contains-from_filter (λ (y : Id). not (is_some (position_of m y))) xs at.0
+                    at.1,
+                at.2,
+              )
         ]
 
-    back : (j : ℕ) (x : Id) → Contains xs x → slice_get ids j ≡ Some x → Contains (positions_of m xs ++ high) j
+    back : (j : ℕ) (x : Id) → Contains xs x → slice_get ids j ≡ Some x
+        → Contains (positions_of m xs ++ high) j
     back j x h at =
         elim (cases_lt j (length m)) [
-          | inl l ↦ Contains-append_left (positions_of m xs) high j ((low.exact j).1 (x, h, ap (λ l. slice_get l j) (sym nodes.committed) ∙ slice_get-take ids (length m) j x l at))
+          | inl l ↦ Contains-append_left (positions_of m xs) high j
+              ((low.exact j).1 (
+                x,
+                h,
+                ap (λ l. slice_get l j) (sym nodes.committed)
+                    ∙ slice_get-take ids (length m) j x l at,
+              ))
           | inr past ↦
-              let missing = ((nodes.missing.exact x).0 (Contains-slice_get (drop (length m) ids) (j - length m) x (slice_get-drop ids (length m) j x past at))).1 in
-              Contains-append_right (positions_of m xs) high j ((are.exact j).1 (x, Contains-filter (λ (y : Id). not (is_some (position_of m y))) xs x h (lacks-from_missing m x missing), at))
+              let missing =
+              ((nodes.missing.exact x).0
+              (Contains-slice_get (drop (length m) ids) (j - length m) x
+              (slice_get-drop ids (length m) j x past at))).1 in
+              Contains-append_right (positions_of m xs) high j
+              ((are.exact j).1 (
+                x,
+                Contains-filter (λ (y : Id). not (is_some (position_of m y))) xs x h
+                    (lacks-from_missing m x missing),
+                at,
+              ))
         ]
 
     -- the positions of committed Ids, and then those of missing ones
@@ -120,7 +175,8 @@ module _ (m : List Instance) (ids : List Id) (nodes : AreNodesOf m ids) where
 
   -- ---- one more missing Id
 
-  module _ (xs : List Id) (rise : AllPairs Below xs) (lacks : All (λ x. ¬ IsCommitted m x) xs) (i : ℕ) (l : i < length xs) (row : List ℕ) (are : ArePositionsOf ids (take i xs) row) where
+  module _ (xs : List Id) (rise : AllPairs Below xs) (lacks : All (λ x. ¬ IsCommitted m x) xs)
+      (i : ℕ) (l : i < length xs) (row : List ℕ) (are : ArePositionsOf ids (take i xs) row) where
     abbrev pub x : Id
     x = get_or xs i (record { replica = 0; number = 0 })
 
@@ -131,60 +187,77 @@ module _ (m : List Instance) (ids : List Id) (nodes : AreNodesOf m ids) where
     lacks_x = All-get_or (λ y. ¬ IsCommitted m y) xs i (record { replica = 0; number = 0 }) l lacks
 
     -- a numbered Id is not this one, and comes before it
-    above : (j : ℕ) → Contains row j → (y : Id) × Below y x × (length m ≤ j) × (slice_get ids j ≡ Some y)
+    above : (j : ℕ) → Contains row j → (y : Id) × Below y x × (length m ≤ j)
+        × (slice_get ids j ≡ Some y)
     above j h =
         let there = (are.exact j).0 h in
         let at = slice_get-from_Contains (take i xs) there.0 there.1 in
         let before = slice_get-from_take xs i at.0 there.0 at.1 in
-        let missing = All-contains (λ y. ¬ IsCommitted m y) xs there.0 lacks (Contains-slice_get xs at.0 there.0 before.1) in (
+        let missing = All-contains (λ y. ¬ IsCommitted m y) xs there.0 lacks
+        (Contains-slice_get xs at.0 there.0 before.1) in (
           there.0,
-          AllPairs-slice_get Below xs rise at.0 i there.0 x before.0 before.1 (slice_get-get_or xs i (record { replica = 0; number = 0 }) l),
+          AllPairs-slice_get Below xs rise at.0 i there.0 x before.0 before.1
+              (slice_get-get_or xs i (record { replica = 0; number = 0 }) l),
           missing_above m ids nodes there.0 j missing there.2,
           there.2,
         )
 
-    pub missing_skip : ¬ Contains (drop (length m) ids) x → ArePositionsOf ids (take (i + 1) xs) row
+    pub missing_skip : ¬ Contains (drop (length m) ids) x
+        → ArePositionsOf ids (take (i + 1) xs) row
     missing_skip none = subst (λ (ys : List Id). ArePositionsOf ids ys row) (sym more) (record {
       rising = are.rising;
       exact = λ j. (
-        λ h. let there = (are.exact j).0 h in (there.0, Contains-append_left (take i xs) (x ∷ []) there.0 there.1, there.2),
+        λ h. let there = (are.exact j).0 h in
+            (there.0, Contains-append_left (take i xs) (x ∷ []) there.0 there.1, there.2),
         λ h. elim (Contains-push_cases (take i xs) x h.0 h.1) [
           | inl old ↦ (are.exact j).1 (h.0, old, h.2)
           | inr last ↦
               let at : slice_get ids j ≡ Some x = h.2 ∙ ap Some (sym last) in
-              absurd (none (Contains-slice_get (drop (length m) ids) (j - length m) x (slice_get-drop ids (length m) j x (missing_above m ids nodes x j lacks_x at) at)))
+              absurd (none (Contains-slice_get (drop (length m) ids) (j - length m) x
+              (slice_get-drop ids (length m) j x (missing_above m ids nodes x j lacks_x at)
+              at)))
         ],
       );
     })
 
-    pub missing_more : (place : ℕ) → slice_get (drop (length m) ids) place ≡ Some x → ArePositionsOf ids (take (i + 1) xs) (row ++ (length m + place) ∷ [])
-    missing_more place at = subst (λ (ys : List Id). ArePositionsOf ids ys (row ++ (length m + place) ∷ [])) (sym more) (record {
-      rising = AllPairs-append (λ a b. a < b) row ((length m + place) ∷ []) are.rising (λ a b d low within. absurd (omega arith)) below;
-      exact = λ j. (
-        λ h. elim (Contains-push_cases row (length m + place) j h) [
-          | inl old ↦ let there = (are.exact j).0 old in (there.0, Contains-append_left (take i xs) (x ∷ []) there.0 there.1, there.2)
-          | inr last ↦ (x, Contains-push (take i xs) x, ap (slice_get ids) (sym last) ∙ number)
-        ],
-        λ h. elim (Contains-push_cases (take i xs) x h.0 h.1) [
-          | inl old ↦ Contains-append_left row ((length m + place) ∷ []) j ((are.exact j).1 (h.0, old, h.2))
-          | inr last ↦ subst (Contains (row ++ (length m + place) ∷ [])) (one j (h.2 ∙ ap Some (sym last))) (Contains-push row (length m + place))
-        ],
-      );
-    }) where
-      number : slice_get ids (length m + place) ≡ Some x
-      number = slice_get-from_drop ids (length m) place x at
+    pub missing_more : (place : ℕ) → slice_get (drop (length m) ids) place ≡ Some x
+        → ArePositionsOf ids (take (i + 1) xs) (row ++ (length m + place) ∷ [])
+    missing_more place at =
+        subst (λ (ys : List Id). ArePositionsOf ids ys (row ++ (length m + place) ∷ [])) (sym more)
+        (record {
+          rising = AllPairs-append (λ a b. a < b) row ((length m + place) ∷ []) are.rising
+              (λ a b d low within. absurd (omega arith)) below;
+          exact = λ j. (
+            λ h. elim (Contains-push_cases row (length m + place) j h) [
+              | inl old ↦ let there = (are.exact j).0 old in
+                  (there.0, Contains-append_left (take i xs) (x ∷ []) there.0 there.1, there.2)
+              | inr last ↦ (x, Contains-push (take i xs) x, ap (slice_get ids) (sym last) ∙ number)
+            ],
+            λ h. elim (Contains-push_cases (take i xs) x h.0 h.1) [
+              | inl old ↦ Contains-append_left row ((length m + place) ∷ []) j
+                  ((are.exact j).1 (h.0, old, h.2))
+              | inr last ↦ subst (Contains (row ++ (length m + place) ∷ []))
+                  (one j (h.2 ∙ ap Some (sym last))) (Contains-push row (length m + place))
+            ],
+          );
+        }) where
+          number : slice_get ids (length m + place) ≡ Some x
+          number = slice_get-from_drop ids (length m) place x at
 
-      one : (j : ℕ) → slice_get ids j ≡ Some x → length m + place ≡ j
-      one j there =
-          let past = missing_above m ids nodes x j lacks_x there in
-          let same = rising_position_is_one (drop (length m) ids) nodes.missing.rising place (j - length m) x at (slice_get-drop ids (length m) j x past there) in
-          omega arith
+          one : (j : ℕ) → slice_get ids j ≡ Some x → length m + place ≡ j
+          one j there =
+              let past = missing_above m ids nodes x j lacks_x there in
+              let same = rising_position_is_one (drop (length m) ids) nodes.missing.rising place
+              (j - length m) x at (slice_get-drop ids (length m) j x past there) in
+              omega arith
 
-      below : (a b : ℕ) → Contains row a → Contains ((length m + place) ∷ []) b → a < b
-      below a b h k =
-          let old = above a h in
-          let lower = rising_positions_back (drop (length m) ids) nodes.missing.rising (a - length m) place old.0 x (slice_get-drop ids (length m) a old.0 old.2 old.3) at old.1 in
-          elim (Contains-cons_cases (length m + place) [] b k) [
-            | inl same ↦ omega (arith, old.2)
-            | inr none ↦ absurd (Contains-nil b none)
-          ]
+          below : (a b : ℕ) → Contains row a → Contains ((length m + place) ∷ []) b → a < b
+          below a b h k =
+              let old = above a h in
+              let lower = rising_positions_back (drop (length m) ids) nodes.missing.rising
+              (a - length m) place old.0 x (slice_get-drop ids (length m) a old.0 old.2 old.3) at
+              old.1 in
+              elim (Contains-cons_cases (length m + place) [] b k) [
+                | inl same ↦ omega (arith, old.2)
+                | inr none ↦ absurd (Contains-nil b none)
+              ]

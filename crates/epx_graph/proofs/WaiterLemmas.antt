@@ -1,8 +1,10 @@
 -- The marked nodes are the waiting list of the map.
-use Rattle.std.proofs.Common.{◌≡◌, inl, inr, ℕ, ◌+◌, ◌<◌, ◌≤◌, List, [], ◌∷◌, ◌++◌, Option, Some, None, slice_get, Contains, refl, sym, ap, subst, ◌∙◌, arith}
+use Rattle.std.proofs.Common.{◌≡◌, inl, inr, ℕ, ◌+◌, ◌<◌, ◌≤◌, List, [], ◌∷◌, ◌++◌, Option, Some}
+use Rattle.std.proofs.Common.{None, slice_get, Contains, refl, sym, ap, subst, ◌∙◌, arith}
 use Rattle.std.proofs.lemmas.Bool.{cases_lt}
 use Rattle.std.proofs.lemmas.List.{map_push}
-use Rattle.std.proofs.lemmas.List.Elements.{Contains-append_left, Contains-push, Contains-push_cases}
+use Rattle.std.proofs.lemmas.List.Elements.{Contains-append_left, Contains-push}
+use Rattle.std.proofs.lemmas.List.Elements.{Contains-push_cases}
 use Rattle.std.proofs.lemmas.Option.{slice_get_within}
 use Rattle.epx_types.specs.declared.id.Id.{Id}
 use Rattle.epx_types.specs.Ids.{Below, BelowAll, UpTo, IsRising}
@@ -11,25 +13,33 @@ use Rattle.epx_types.specs.CommittedMap.{IsCommitted}
 use Rattle.epx_types.specs.Reaching.{Reaches}
 use Rattle.epx_types.specs.Readiness.{WaitsFor}
 use Rattle.epx_types.specs.WaitingLists.{Waiting, waiting_ids, IsWaitingList}
-use Rattle.epx_types.proofs.lists.MembershipLemmas.{Contains-nil, Contains-head, Contains-cons, Contains-from_map}
+use Rattle.epx_types.proofs.lists.MembershipLemmas.{Contains-nil, Contains-head, Contains-cons}
+use Rattle.epx_types.proofs.lists.MembershipLemmas.{Contains-from_map}
 use Rattle.epx_types.proofs.graph.ReachingLemmas.{UpTo-antisymm}
 use Rattle.epx_graph.specs.Graphs.{DependencyGraph, edges_of, IsGraph}
 use Rattle.epx_graph.specs.GraphOf.{IsGraphOf}
 use Rattle.epx_graph.specs.NodePaths.{NodeReaches}
 use Rattle.epx_graph.specs.LeastMissing.{mark_of, AreMarksOf}
 use Rattle.epx_graph.specs.inner.Waiters.{IsWaiter, AreWaiters}
-use Rattle.epx_graph.proofs.GraphNodeLemmas.{committed_order, missing_order, node_id, reached_within}
-use Rattle.epx_graph.proofs.MapPathLemmas.{node_committed, node_of_committed, node_reaches, reached_node}
+use Rattle.epx_graph.proofs.GraphNodeLemmas.{committed_order, missing_order, node_id}
+use Rattle.epx_graph.proofs.GraphNodeLemmas.{reached_within}
+use Rattle.epx_graph.proofs.MapPathLemmas.{node_committed, node_of_committed, node_reaches}
+use Rattle.epx_graph.proofs.MapPathLemmas.{reached_node}
 
 -- ---- an Id at the end of rising ones
 
-BelowAll-push : (x : Id) (ys : List Id) (z : Id) → BelowAll x ys → Below x z → BelowAll x (ys ++ z ∷ [])
+BelowAll-push : (x : Id) (ys : List Id) (z : Id) → BelowAll x ys → Below x z
+    → BelowAll x (ys ++ z ∷ [])
 BelowAll-push x [] z h l = (l, tt)
 BelowAll-push x (y ∷ ys) z h l = (h.0, BelowAll-push x ys z h.1 l)
 
-IsRising-push : (xs : List Id) (z : Id) → IsRising xs → ((x : Id) → Contains xs x → Below x z) → IsRising (xs ++ z ∷ [])
+IsRising-push : (xs : List Id) (z : Id) → IsRising xs → ((x : Id) → Contains xs x → Below x z)
+    → IsRising (xs ++ z ∷ [])
 IsRising-push [] z h below = (tt, tt)
-IsRising-push (x ∷ xs) z h below = (BelowAll-push x xs z h.0 (below x (Contains-head x xs)), IsRising-push xs z h.1 (λ y c. below y (Contains-cons x xs y c)))
+IsRising-push (x ∷ xs) z h below = (
+  BelowAll-push x xs z h.0 (below x (Contains-head x xs)),
+  IsRising-push xs z h.1 (λ y c. below y (Contains-cons x xs y c)),
+)
 
 -- ---- node by node
 
@@ -41,7 +51,8 @@ waiters_none g marks = record {
 }
 
 -- a node without a mark
-pub waiters_skip : (g : DependencyGraph) (marks : List (Option ℕ)) (n : ℕ) (ws : List Waiting) → mark_of marks n ≡ None → AreWaiters g marks n ws → AreWaiters g marks (n + 1) ws
+pub waiters_skip : (g : DependencyGraph) (marks : List (Option ℕ)) (n : ℕ) (ws : List Waiting)
+    → mark_of marks n ≡ None → AreWaiters g marks n ws → AreWaiters g marks (n + 1) ws
 waiters_skip g marks n ws none is = record {
   from = λ w h. let at = is.from w h in (at.0, omega (arith, at.1), at.2);
   whole = λ k w l h. elim (cases_lt k n) [
@@ -55,18 +66,23 @@ waiters_skip g marks n ws none is = record {
 }
 
 -- a node has one waiter
-waiter_is_one : (g : DependencyGraph) (marks : List (Option ℕ)) (k n : ℕ) (v w : Waiting) → k ≡ n → IsWaiter g marks k v → IsWaiter g marks n w → w ≡ v
+waiter_is_one : (g : DependencyGraph) (marks : List (Option ℕ)) (k n : ℕ) (v w : Waiting) → k ≡ n
+    → IsWaiter g marks k v → IsWaiter g marks n w → w ≡ v
 waiter_is_one g marks k n v w same p q =
     let ids : Some w.id ≡ Some v.id = sym q.id ∙ ap (slice_get g.ids) (sym same) ∙ p.id in
     let id : w.id ≡ v.id = cc ids in
-    let both : Some q.mark ≡ Some p.mark = sym q.marked ∙ ap (mark_of marks) (sym same) ∙ p.marked in
+    let both : Some q.mark ≡ Some p.mark =
+    sym q.marked ∙ ap (mark_of marks) (sym same) ∙ p.marked in
     let mark : q.mark ≡ p.mark = cc both in
-    let missings : Some w.missing ≡ Some v.missing = sym q.missing ∙ ap (slice_get g.ids) mark ∙ p.missing in
+    let missings : Some w.missing ≡ Some v.missing =
+    sym q.missing ∙ ap (slice_get g.ids) mark ∙ p.missing in
     let missing : w.missing ≡ v.missing = cc missings in
     λ i. record { id = id i; missing = missing i }
 
 -- a marked node
-pub waiters_more : (g : DependencyGraph) (graph : IsGraph g) (marks : List (Option ℕ)) (n : ℕ) (ws : List Waiting) (w : Waiting) → n < g.committed → IsWaiter g marks n w → AreWaiters g marks n ws → AreWaiters g marks (n + 1) (ws ++ w ∷ [])
+pub waiters_more : (g : DependencyGraph) (graph : IsGraph g) (marks : List (Option ℕ)) (n : ℕ)
+    (ws : List Waiting) (w : Waiting) → n < g.committed → IsWaiter g marks n w
+    → AreWaiters g marks n ws → AreWaiters g marks (n + 1) (ws ++ w ∷ [])
 waiters_more g graph marks n ws w within waits is = record {
   from = λ v h. elim (Contains-push_cases ws w v h) [
     | inl old ↦ let at = is.from v old in (at.0, omega (arith, at.1), at.2)
@@ -76,22 +92,28 @@ waiters_more g graph marks n ws w within waits is = record {
     | inl lower ↦ Contains-append_left ws (w ∷ []) v (is.whole k v lower h)
     | inr not_lower ↦
         let same : k ≡ n = omega arith in
-        subst (Contains (ws ++ w ∷ [])) (waiter_is_one g marks k n v w same h waits) (Contains-push ws w)
+        subst (Contains (ws ++ w ∷ [])) (waiter_is_one g marks k n v w same h waits)
+        (Contains-push ws w)
   ];
-  rising = subst IsRising (sym (map_push (λ (v : Waiting). v.id) ws w)) (IsRising-push (waiting_ids ws) w.id is.rising below);
+  rising = subst IsRising (sym (map_push (λ (v : Waiting). v.id) ws w))
+      (IsRising-push (waiting_ids ws) w.id is.rising below);
 } where
   below : (x : Id) → Contains (waiting_ids ws) x → Below x w.id
   below x h =
       let from = Contains-from_map (λ (v : Waiting). v.id) ws x h in
       let at = is.from from.0 from.1 in
       let lower : at.0 < n = at.1 in
-      subst (λ (y : Id). Below y w.id) from.2 ((committed_order g graph at.0 n from.0.id w.id at.2.id waits.id (omega arith) within).0 lower)
+      subst (λ (y : Id). Below y w.id) from.2
+      ((committed_order g graph at.0 n from.0.id w.id at.2.id waits.id (omega arith) within).0
+      lower)
 
 -- ---- the waiting list
 
-module _ (m : List Instance) (g : DependencyGraph) (is : IsGraphOf m g) (marks : List (Option ℕ)) (are : AreMarksOf g marks) where
+module _ (m : List Instance) (g : DependencyGraph) (is : IsGraphOf m g) (marks : List (Option ℕ))
+    (are : AreMarksOf g marks) where
   -- the node of an Id that is not committed is missing
-  missing_number : (j : ℕ) (y : Id) → slice_get g.ids j ≡ Some y → ¬ IsCommitted m y → g.committed ≤ j
+  missing_number : (j : ℕ) (y : Id) → slice_get g.ids j ≡ Some y → ¬ IsCommitted m y
+      → g.committed ≤ j
   missing_number j y at missing =
       elim (cases_lt j g.committed) [
         | inl l ↦ absurd (missing ((node_committed m g is j y at).0 l))
@@ -102,7 +124,8 @@ module _ (m : List Instance) (g : DependencyGraph) (is : IsGraphOf m g) (marks :
   missing_id j y at past h = let l = (node_committed m g is j y at).1 h in absurd (omega arith)
 
   -- the numbers of missing nodes rise with their Ids
-  up_to : (s j : ℕ) (x y : Id) → slice_get g.ids s ≡ Some x → slice_get g.ids j ≡ Some y → g.committed ≤ s → s ≤ j → UpTo x y
+  up_to : (s j : ℕ) (x y : Id) → slice_get g.ids s ≡ Some x → slice_get g.ids j ≡ Some y
+      → g.committed ≤ s → s ≤ j → UpTo x y
   up_to s j x y p q past l =
       elim (cases_lt s j) [
         | inl lower ↦ inr ((missing_order g is.graph s j x y p q past (omega arith)).0 lower)
@@ -112,7 +135,8 @@ module _ (m : List Instance) (g : DependencyGraph) (is : IsGraphOf m g) (marks :
             inl (cc one)
       ]
 
-  waiter_waits : (k : ℕ) (w : Waiting) → k < g.committed → IsWaiter g marks k w → WaitsFor m w.id w.missing
+  waiter_waits : (k : ℕ) (w : Waiting) → k < g.committed → IsWaiter g marks k w
+      → WaitsFor m w.id w.missing
   waiter_waits k w l h =
       let found = are.marked k h.mark h.marked in
       record {
@@ -121,29 +145,47 @@ module _ (m : List Instance) (g : DependencyGraph) (is : IsGraphOf m g) (marks :
         missing = missing_id h.mark w.missing h.missing found.missing;
         least = λ z there lacks.
             let j = reached_node m g is k w.id z h.id there in
-            up_to h.mark j.0 w.missing z h.missing j.1 found.missing (found.least j.0 (missing_number j.0 z j.1 lacks) j.2);
+            up_to h.mark j.0 w.missing z h.missing j.1 found.missing
+            (found.least j.0 (missing_number j.0 z j.1 lacks) j.2);
       }
 
-  waits_marked : (x y : Id) → WaitsFor m x y → (k : ℕ) × (k < g.committed) × IsWaiter g marks k (record { id = x; missing = y })
+  waits_marked : (x y : Id) → WaitsFor m x y
+      → (k : ℕ) × (k < g.committed) × IsWaiter g marks k (record { id = x; missing = y })
   waits_marked x y waits =
       let k = node_of_committed m g is x waits.committed in
       let j = reached_node m g is k.0 x y k.2 waits.reached in
       let past = missing_number j.0 y j.1 waits.missing in
       by k.0 k.1 k.2 j.0 j.1 j.2 past (mark_of marks k.0) refl
     where
-      by : (k : ℕ) → k < g.committed → slice_get g.ids k ≡ Some x → (j : ℕ) → slice_get g.ids j ≡ Some y → NodeReaches (edges_of g) k j → g.committed ≤ j → (o : Option ℕ) → mark_of marks k ≡ o → (i : ℕ) × (i < g.committed) × IsWaiter g marks i (record { id = x; missing = y })
-      by k l at j to there past None none = absurd (are.unmarked k j l none past (slice_get_within g.ids j y to) there)
+      by : (k : ℕ) → k < g.committed → slice_get g.ids k ≡ Some x → (j : ℕ)
+          → slice_get g.ids j ≡ Some y → NodeReaches (edges_of g) k j → g.committed ≤ j
+          → (o : Option ℕ) → mark_of marks k ≡ o → (i : ℕ) × (i < g.committed)
+          × IsWaiter g marks i (record { id = x; missing = y })
+      by k l at j to there past None none =
+          absurd (are.unmarked k j l none past (slice_get_within g.ids j y to) there)
       by k l at j to there past (Some s) marked =
           let found = are.marked k s marked in
-          let z = node_id g is.graph s (reached_within g is.graph k found.reached.0 s (omega (arith, is.graph.committed_nodes)) found.reached.1) in
+          let z = node_id g is.graph s
+          (reached_within g is.graph k found.reached.0 s
+          (omega (arith, is.graph.committed_nodes)) found.reached.1) in
           let reached : Reaches m x z.0 = (node_reaches m g is k s x z.0 at z.1).0 found.reached in
           let low : UpTo y z.0 = waits.least z.0 reached (missing_id s z.0 z.1 found.missing) in
-          let high : UpTo z.0 y = up_to s j z.0 y z.1 to found.missing (found.least j past there) in
-          (k, l, record { mark = s; marked = marked; id = at; missing = z.1 ∙ ap Some (UpTo-antisymm z.0 y high low) })
+          let high : UpTo z.0 y = up_to s j z.0 y z.1 to found.missing
+          (found.least j past there) in (
+            k,
+            l,
+            record {
+              mark = s;
+              marked = marked;
+              id = at;
+              missing = z.1 ∙ ap Some (UpTo-antisymm z.0 y high low);
+            },
+          )
 
   pub waiting_list : (ws : List Waiting) → AreWaiters g marks g.committed ws → IsWaitingList m ws
   waiting_list ws waiters = record {
     waits = λ w h. let at = waiters.from w h in waiter_waits at.0 w at.1 at.2;
-    whole = λ x y waits. let at = waits_marked x y waits in waiters.whole at.0 (record { id = x; missing = y }) at.1 at.2;
+    whole = λ x y waits. let at = waits_marked x y waits in
+        waiters.whole at.0 (record { id = x; missing = y }) at.1 at.2;
     rising = waiters.rising;
   }

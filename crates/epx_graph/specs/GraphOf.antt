@@ -17,7 +17,8 @@ pub record IsGraphOf (m : List Instance) (g : DependencyGraph) : Type 0 where
   pub graph : IsGraph g
   pub committed : committed_ids g ≡ ids_of m
   pub missing : (x : Id) → Contains (missing_ids g) x ↔ IsMissing m x
-  pub edges : (k j : ℕ) (x y : Id) → slice_get g.ids k ≡ Some x → slice_get g.ids j ≡ Some y → Contains (edges_of g k) j ↔ DependsOn m x y
+  pub edges : (k j : ℕ) (x y : Id) → slice_get g.ids k ≡ Some x → slice_get g.ids j ≡ Some y
+      → Contains (edges_of g k) j ↔ DependsOn m x y
 
 -- the graph of what is left of the map, for some list of done Ids
 abbrev pub IsGraphOfRest : List Instance → DependencyGraph → Type 0

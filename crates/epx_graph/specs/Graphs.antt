@@ -1,5 +1,6 @@
 -- Dependency graphs over node numbers.
-use Rattle.std.specs.Prelude.{◌≡◌, ℕ, ◌-◌, ◌<◌, ◌≤◌, List, [], ◌++◌, length, take, drop, replicate, slice_index_or, All, AllPairs, Contains}
+use Rattle.std.specs.Prelude.{◌≡◌, ℕ, ◌-◌, ◌<◌, ◌≤◌, List, [], ◌++◌, length, take, drop, replicate}
+use Rattle.std.specs.Prelude.{slice_index_or, All, AllPairs, Contains}
 use Rattle.epx_types.specs.declared.id.Id.{Id}
 use Rattle.epx_types.specs.Ids.{IsRising}
 
@@ -35,4 +36,8 @@ pub record IsGraph (g : DependencyGraph) : Type 0 where
 
 -- the graph with these node Ids and the edges of the committed nodes
 abbrev pub graph_over : List Id → List (List ℕ) → DependencyGraph
-graph_over ids rows = record { ids = ids; committed = length rows; edges = rows ++ replicate (length ids - length rows) [] }
+graph_over ids rows = record {
+  ids = ids;
+  committed = length rows;
+  edges = rows ++ replicate (length ids - length rows) [];
+}

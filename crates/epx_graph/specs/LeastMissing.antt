@@ -18,4 +18,5 @@ mark_of marks k = slice_index_or marks k None
 pub record AreMarksOf (g : DependencyGraph) (marks : List (Option ℕ)) : Type 0 where
   pub nodes : length marks ≡ g.committed
   pub marked : (k s : ℕ) → mark_of marks k ≡ Some s → IsLeastMissing g k s
-  pub unmarked : (k s : ℕ) → k < g.committed → mark_of marks k ≡ None → g.committed ≤ s → s < length g.ids → ¬ NodeReaches (edges_of g) k s
+  pub unmarked : (k s : ℕ) → k < g.committed → mark_of marks k ≡ None → g.committed ≤ s
+      → s < length g.ids → ¬ NodeReaches (edges_of g) k s

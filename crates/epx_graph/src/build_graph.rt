@@ -84,7 +84,8 @@ fn numbered_rows(
 ) -> Result<Rows, Memory>
     requires nodes { AreNodesOf (left_of left.now) ids.now }
     requires gathered { IsGathered (left_of left.now) gathered.now.rows gathered.now.missing.items }
-    ensures { IfOk result (λ rows. AreRowsOf (left_of left.now) ids.now rows (length (left_of left.now))) }
+    ensures { IfOk result
+        (λ rows. AreRowsOf (left_of left.now) ids.now rows (length (left_of left.now))) }
 {
     let mut rows = gathered.rows.room(alloc, gathered.missing.len())?;
     let mut missing = gathered.missing.as_slice();
@@ -104,7 +105,8 @@ fn numbered_rows(
 fn rows(alloc: Global, left: &Remainder, ids: &[Id], gathered: Gathered) -> Result<Rows, Memory>
     requires nodes { AreNodesOf (left_of left.now) ids.now }
     requires gathered { IsGathered (left_of left.now) gathered.rows gathered.missing.items }
-    ensures { IfOk result (λ rows. AreRowsOf (left_of left.now) ids.now rows (length (left_of left.now))) }
+    ensures { IfOk result
+        (λ rows. AreRowsOf (left_of left.now) ids.now rows (length (left_of left.now))) }
 {
     if gathered.missing.is_empty() {
         let Gathered { rows, missing: _ } = gathered;

@@ -37,8 +37,12 @@ fn gather(
     numbers: &mut Vec<usize>,
     missing: &mut Vec<Id>,
 ) -> Result<(), Memory>
-    ensures numbers { OnOk result (numbers.new.items ≡ numbers.old.items ++ positions_of (left_of left.now) (remaining_ids left.now.done deps.now)) }
-    ensures missing { OnOk result (missing.new.items ≡ missing.old.items ++ missing_of (left_of left.now) (remaining_ids left.now.done deps.now)) }
+    ensures numbers { OnOk result
+        (numbers.new.items ≡ numbers.old.items ++ positions_of (left_of left.now)
+        (remaining_ids left.now.done deps.now)) }
+    ensures missing { OnOk result
+        (missing.new.items ≡ missing.old.items ++ missing_of (left_of left.now)
+        (remaining_ids left.now.done deps.now)) }
 {
     for id in deps {
         match left.look_up(*id) {
@@ -59,8 +63,12 @@ impl Rows {
         deps: &[Id],
         missing: &mut Vec<Id>,
     ) -> Result<Rows, Memory>
-        ensures rows { IfOk result (λ rows. rows ≡ self ++ positions_of (left_of left.now) (remaining_ids left.now.done deps.now) ∷ []) }
-        ensures missing { OnOk result (missing.new.items ≡ missing.old.items ++ missing_of (left_of left.now) (remaining_ids left.now.done deps.now)) }
+        ensures rows { IfOk result
+            (λ rows. rows ≡ self ++ positions_of (left_of left.now)
+            (remaining_ids left.now.done deps.now) ∷ []) }
+        ensures missing { OnOk result
+            (missing.new.items ≡ missing.old.items ++ missing_of (left_of left.now)
+            (remaining_ids left.now.done deps.now)) }
     {
         let Rows {
             mut ends,
@@ -76,7 +84,8 @@ impl Gathered {
     /// Appends what was gathered of the next instances.
     fn append(self, later: Gathered) -> Result<Gathered, Memory>
         ensures rows { IfOk result (λ gathered. gathered.rows ≡ self.rows ++ later.rows) }
-        ensures missing { IfOk result (λ gathered. gathered.missing.items ≡ self.missing.items ++ later.missing.items) }
+        ensures missing { IfOk result
+            (λ gathered. gathered.missing.items ≡ self.missing.items ++ later.missing.items) }
     {
         let Gathered { rows, mut missing } = self;
         missing.extend_from_slice(&later.missing)?;
@@ -91,7 +100,9 @@ impl Gathered {
 fn gather_part(alloc: Global, left: &Remainder, part: Part) -> Result<Gathered, Memory>
     requires start { part.start ≤ part.end }
     requires end { part.end ≤ length (left_of left.now) }
-    ensures { IfOk result (λ gathered. IsGatheredOf (left_of left.now) (slice_range (left_of left.now) part.start part.end) gathered.rows gathered.missing.items) }
+    ensures { IfOk result
+        (λ gathered. IsGatheredOf (left_of left.now)
+        (slice_range (left_of left.now) part.start part.end) gathered.rows gathered.missing.items) }
 {
     let mut rows = part.room(alloc)?;
     let mut missing = Vec::new(alloc);
@@ -113,7 +124,9 @@ fn gather_parts<R: Threads + Sync>(
 ) -> Result<Gathered, Memory>
     requires start { part.start ≤ part.end }
     requires end { part.end ≤ length (left_of left.now) }
-    ensures { IfOk result (λ gathered. IsGatheredOf (left_of left.now) (slice_range (left_of left.now) part.start part.end) gathered.rows gathered.missing.items) }
+    ensures { IfOk result
+        (λ gathered. IsGatheredOf (left_of left.now)
+        (slice_range (left_of left.now) part.start part.end) gathered.rows gathered.missing.items) }
 {
     if workers < 2 || part.end - part.start < FEWEST_FOR_THREADS {
         return gather_part(alloc, left, part);
@@ -123,11 +136,18 @@ fn gather_parts<R: Threads + Sync>(
     let ours = workers - others;
     let mine = move || -> Result<Gathered, Memory>
         requires { IsSync R.row × (low.start ≤ low.end) × (low.end ≤ length (left_of left.now)) }
-        ensures { IfOk result (λ gathered. IsGatheredOf (left_of left.entry.now) (slice_range (left_of left.entry.now) low.start low.end) gathered.rows gathered.missing.items) }
+        ensures { IfOk result
+            (λ gathered. IsGatheredOf (left_of left.entry.now)
+            (slice_range (left_of left.entry.now) low.start low.end) gathered.rows
+            gathered.missing.items) }
     { gather_parts(rt, alloc, left, ours, low) };
     let theirs = move || -> Result<Gathered, Memory>
-        requires { IsSync R.row × (high.start ≤ high.end) × (high.end ≤ length (left_of left.now)) }
-        ensures { IfOk result (λ gathered. IsGatheredOf (left_of left.entry.now) (slice_range (left_of left.entry.now) high.start high.end) gathered.rows gathered.missing.items) }
+        requires { IsSync R.row × (high.start ≤ high.end)
+            × (high.end ≤ length (left_of left.now)) }
+        ensures { IfOk result
+            (λ gathered. IsGatheredOf (left_of left.entry.now)
+            (slice_range (left_of left.entry.now) high.start high.end) gathered.rows
+            gathered.missing.items) }
     { gather_parts(rt, alloc, left, others, high) };
     let (first, second) = join(rt, mine, theirs);
     let gathered = first?.append(second?)?;
@@ -159,7 +179,8 @@ pub(crate) fn committed_rows<R: Threads + Sync>(
     left: &Remainder,
     plan: Plan,
 ) -> Result<Gathered, Memory>
-    ensures { IfOk result (λ gathered. IsGathered (left_of left.now) gathered.rows gathered.missing.items) }
+    ensures { IfOk result
+        (λ gathered. IsGathered (left_of left.now) gathered.rows gathered.missing.items) }
 {
     let part = Part::all_instances(left.len(), mean_deps(left));
     gather_parts(rt, alloc, left, plan.workers(), part)

@@ -1,5 +1,6 @@
 //! Finds an Id in a list by rising Id.
-ghost use Rattle.std.specs.Prelude.{◌≡◌, ◌<◌, ◌≤◌, ℕ, length, Contains, IsTrue, MatchOption, Some, slice_get, slice_index_or};
+ghost use Rattle.std.specs.Prelude.{◌≡◌, ◌<◌, ◌≤◌, ℕ, length, Contains, IsTrue, MatchOption, Some};
+ghost use Rattle.std.specs.Prelude.{slice_get, slice_index_or};
 ghost use Rattle.epx_types.specs.declared.id.Id.{Id};
 ghost use Rattle.epx_types.specs.Ids.{Below, IsRising};
 
@@ -19,7 +20,8 @@ pub(crate) fn find_id(ids: &[Id], id: Id) -> Option<usize>
 /// Whether all Ids before a position are below this one. False says nothing.
 fn all_below_before(ids: &[Id], place: usize, id: Id) -> bool
     requires { IsRising ids.now }
-    ensures { IsTrue result → (k : ℕ) (d : Id) → k < place → Below (slice_index_or ids.now k d) id }
+    ensures { IsTrue result → (k : ℕ) (d : Id) → k < place
+        → Below (slice_index_or ids.now k d) id }
 {
     if place == 0 {
         return true;
@@ -30,7 +32,8 @@ fn all_below_before(ids: &[Id], place: usize, id: Id) -> bool
 /// Whether all Ids from a position on are above this one. False says nothing.
 fn all_above_from(ids: &[Id], place: usize, id: Id) -> bool
     requires { IsRising ids.now }
-    ensures { IsTrue result → (k : ℕ) (d : Id) → place ≤ k → k < length ids.now → Below id (slice_index_or ids.now k d) }
+    ensures { IsTrue result → (k : ℕ) (d : Id) → place ≤ k → k < length ids.now
+        → Below id (slice_index_or ids.now k d) }
 {
     if place >= ids.len() {
         return true;

@@ -1,5 +1,6 @@
 //! The dependency graph.
-ghost use Rattle.std.specs.Prelude.{◌≡◌, ◌==◌, ◌↔◌, ◌<◌, length, Contains, IfOk, IsTrue, MatchOption, Some, slice_get};
+ghost use Rattle.std.specs.Prelude.{◌≡◌, ◌==◌, ◌↔◌, ◌<◌, length, Contains, IfOk, IsTrue};
+ghost use Rattle.std.specs.Prelude.{MatchOption, Some, slice_get};
 ghost use Rattle.epx_graph.specs.Graphs.{edges_of, graph_over, missing_ids, IsGraph};
 ghost use Rattle.epx_graph.specs.inner.Rows.{AreTransposed};
 
@@ -62,7 +63,8 @@ impl Graph {
 
     /// The node of an instance, if it has one. Takes logarithmic time.
     pub fn node(&self, id: Id) -> Option<usize>
-        ensures { MatchOption result (¬ Contains self.now.ids id) (λ node. slice_get self.now.ids node ≡ Some id) }
+        ensures { MatchOption result (¬ Contains self.now.ids id)
+            (λ node. slice_get self.now.ids node ≡ Some id) }
     {
         let (committed, missing) = self.ids.split_at(self.committed_len());
         if let Some(place) = find_id(committed, id) {

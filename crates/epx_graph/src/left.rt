@@ -1,5 +1,6 @@
 //! What is left of a committed map once some of its instances are done.
-ghost use Rattle.std.specs.Prelude.{◌≡◌, ◌↔◌, ◌<◌, length, slice_get, Contains, IsTrue, Some, IfOk};
+ghost use Rattle.std.specs.Prelude.{◌≡◌, ◌↔◌, ◌<◌, length, slice_get, Contains, IsTrue, Some};
+ghost use Rattle.std.specs.Prelude.{IfOk};
 ghost use Rattle.epx_types.specs.CommittedMap.{ids_of};
 ghost use Rattle.epx_types.specs.Done.{remaining_ids, without_deps};
 ghost use Rattle.epx_types.specs.Ids.{IsRising};
@@ -47,7 +48,9 @@ impl<'a> Model for Remainder<'a> {
     ghost view = { λ l. record { whole = l.merged.now; done = l.done.now } };
 
     ghost invariant = { λ l. let r : RemainderView = record { whole = l.merged.now; done = l.done.now } in
-        IsRising (ids_of r.whole) × IsRising r.done × (0 < length r.done → ArePositionTables r l.positions.items l.positions_left.items (length r.whole)) };
+        IsRising (ids_of r.whole) × IsRising r.done
+        × (0 < length r.done → ArePositionTables r l.positions.items l.positions_left.items
+        (length r.whole)) };
 }
 
 /// Guesses of the positions of the done instances.
@@ -175,7 +178,8 @@ impl<'a> Remainder<'a> {
     /// The entry at a position of those that are left. It still has its done dependencies.
     pub(crate) fn entry_at(&self, place: usize) -> &Entry
         requires { place < length (left_of self.now) }
-        ensures { slice_get (left_of self.now) place ≡ Some (without_deps self.now.done result.now) }
+        ensures { slice_get (left_of self.now) place
+            ≡ Some (without_deps self.now.done result.now) }
     {
         self.merged.entry_at(self.position_at(place))
     }

@@ -1,5 +1,6 @@
 //! Lists of numbers, one after another in one vector.
-ghost use Rattle.std.specs.Prelude.{◌≡◌, ◌<◌, ◌≤◌, ◌+◌, ◌^◌, ◌++◌, ◌∷◌, [], length, map, slice_index, slice_range, All, IfOk, OnOk};
+ghost use Rattle.std.specs.Prelude.{◌≡◌, ◌<◌, ◌≤◌, ◌+◌, ◌^◌, ◌++◌, ◌∷◌, [], length, map};
+ghost use Rattle.std.specs.Prelude.{slice_index, slice_range, All, IfOk, OnOk};
 ghost use Rattle.epx_graph.specs.inner.Rows.{row_of};
 
 use epx_types::Memory;

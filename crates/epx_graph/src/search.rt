@@ -1,5 +1,6 @@
 //! Finds the least missing node that each committed node reaches.
-ghost use Rattle.std.specs.Prelude.{◌≡◌, ◌+◌, ◌<◌, ◌≤◌, [], None, length, replicate, All, IfOk, OnOk};
+ghost use Rattle.std.specs.Prelude.{◌≡◌, ◌+◌, ◌<◌, ◌≤◌, [], None, length, replicate, All, IfOk};
+ghost use Rattle.std.specs.Prelude.{OnOk};
 ghost use Rattle.epx_graph.specs.Graphs.{DependencyGraph, IsGraph};
 ghost use Rattle.epx_graph.specs.LeastMissing.{AreMarksOf};
 ghost use Rattle.epx_graph.specs.inner.Rows.{AreTransposed};
@@ -30,7 +31,8 @@ impl Model for MissingSearch {
 
 impl MissingSearch {
     fn new(alloc: Global, committed: usize) -> Result<MissingSearch, Memory>
-        ensures { IfOk result (λ search. search ≡ record { marks = replicate committed None; stack = [] }) }
+        ensures { IfOk result
+            (λ search. search ≡ record { marks = replicate committed None; stack = [] }) }
     {
         Ok(MissingSearch {
             marks: vec![in alloc; None; committed]?,
@@ -61,7 +63,8 @@ impl MissingSearch {
         requires empty { self.old.stack ≡ [] }
         ensures len { OnOk result (length self.new.marks ≡ length self.old.marks) }
         ensures empty { OnOk result (self.new.stack ≡ []) }
-        ensures search { OnOk result ((g : DependencyGraph) → IsGraph g → AreTransposed g.edges sources.now → g.committed ≤ root
+        ensures search { OnOk result ((g : DependencyGraph) → IsGraph g
+            → AreTransposed g.edges sources.now → g.committed ≤ root
             → BeginsFrom g root self.old.marks → BeginsFrom g (root + 1) self.new.marks) }
     {
         self.stack.push(root)?;

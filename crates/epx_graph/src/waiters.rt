@@ -29,7 +29,8 @@ impl Model for Waiter {
 
 /// The waiting list of the map that this is the graph of, by rising Id. Takes linear time.
 pub fn waiting(alloc: Global, graph: &Graph) -> Result<Vec<Waiter>, Memory>
-    ensures { IfOk result (λ waiters. (m : List Instance) → IsGraphOf m graph.now → IsWaitingList m waiters.items) }
+    ensures { IfOk result (λ waiters. (m : List Instance) → IsGraphOf m graph.now
+        → IsWaitingList m waiters.items) }
 {
     let marks = least_missing(alloc, graph)?;
     let mut waiters = Vec::new(alloc);

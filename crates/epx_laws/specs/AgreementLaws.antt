@@ -14,21 +14,27 @@ CommittedMapIsUnique = (lines : List Placed) → AtMostOne (IsCommittedBy lines)
 
 -- lines that have a committed map agree
 abbrev pub CommittedLinesAgree : Type 0
-CommittedLinesAgree = (lines : List Placed) (m : List Instance) → IsCommittedBy lines m → Agree lines
+CommittedLinesAgree = (lines : List Placed) (m : List Instance) → IsCommittedBy lines m
+    → Agree lines
 
 -- lines with a first disagreement do not agree
 abbrev pub DisagreementExcludesAgreement : Type 0
-DisagreementExcludesAgreement = (lines : List Placed) (id : Id) (first second : Placed) → IsFirstDisagreement lines id first second → ¬ Agree lines
+DisagreementExcludesAgreement = (lines : List Placed) (id : Id) (first second : Placed)
+    → IsFirstDisagreement lines id first second → ¬ Agree lines
 
 -- two first disagreements of lines with distinct places are equal
 abbrev pub FirstDisagreementIsUnique : Type 0
-FirstDisagreementIsUnique = (lines : List Placed) → HaveDistinctPlaces lines → (id id' : Id) (first second first' second' : Placed) →
-    IsFirstDisagreement lines id first second → IsFirstDisagreement lines id' first' second' → (id ≡ id') × (first ≡ first') × (second ≡ second')
+FirstDisagreementIsUnique = (lines : List Placed) → HaveDistinctPlaces lines
+    → (id id' : Id) (first second first' second' : Placed) →
+    IsFirstDisagreement lines id first second → IsFirstDisagreement lines id' first' second'
+    → (id ≡ id') × (first ≡ first') × (second ≡ second')
 
 -- a look-up of an Id finds exactly the instance of that Id
 abbrev pub LookUpFindsInstance : Type 0
-LookUpFindsInstance = (m : List Instance) → IsRising (ids_of m) → (x : Id) (e : Instance) → (instance_of m x ≡ Some e) ↔ Contains m e × (e.id ≡ x)
+LookUpFindsInstance = (m : List Instance) → IsRising (ids_of m) → (x : Id) (e : Instance)
+    → (instance_of m x ≡ Some e) ↔ Contains m e × (e.id ≡ x)
 
 -- the position of an Id is the position of its instance in the map
 abbrev pub PositionHasInstance : Type 0
-PositionHasInstance = (m : List Instance) → IsRising (ids_of m) → (x : Id) (i : ℕ) → (position_of m x ≡ Some i) ↔ (e : Instance) × (slice_get m i ≡ Some e) × (e.id ≡ x)
+PositionHasInstance = (m : List Instance) → IsRising (ids_of m) → (x : Id) (i : ℕ)
+    → (position_of m x ≡ Some i) ↔ (e : Instance) × (slice_get m i ≡ Some e) × (e.id ≡ x)

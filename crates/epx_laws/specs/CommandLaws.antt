@@ -1,5 +1,6 @@
 -- Laws of what commands read and write.
-use Rattle.std.specs.Prelude.{◌≡◌, ◌↔◌, ◌<◌, length, take, ℕ, ℤ, List, [], Contains, AllPairs, Option}
+use Rattle.std.specs.Prelude.{◌≡◌, ◌↔◌, ◌<◌, length, take, ℕ, ℤ, List, [], Contains, AllPairs}
+use Rattle.std.specs.Prelude.{Option}
 use Rattle.epx_types.specs.declared.op.Op.{Op}
 use Rattle.epx_types.specs.declared.reply.Reply.TheVariants.{Values, Abort}
 use Rattle.epx_types.specs.Keys.{KeyBelow, rising_keys}
@@ -10,19 +11,23 @@ use Rattle.epx_types.specs.Writes.{Write, writes_of, apply_writes, HasDistinctKe
 
 -- the contents after a command are those before it with its writes applied
 abbrev pub WritesAreTheEffect : Type 0
-WritesAreTheEffect = (ops : List Op) (c : Contents) → apply_writes (writes_of ops c) c ≡ (command_on ops c).after
+WritesAreTheEffect = (ops : List Op) (c : Contents)
+    → apply_writes (writes_of ops c) c ≡ (command_on ops c).after
 
 -- an aborted command leaves the contents unchanged and writes nothing
 abbrev pub AbortLeavesContents : Type 0
-AbortLeavesContents = (ops : List Op) (c : Contents) (j : ℕ) → (command_on ops c).reply ≡ Abort j → ((command_on ops c).after ≡ c) × (writes_of ops c ≡ [])
+AbortLeavesContents = (ops : List Op) (c : Contents) (j : ℕ) → (command_on ops c).reply ≡ Abort j
+    → ((command_on ops c).after ≡ c) × (writes_of ops c ≡ [])
 
 -- an abort names the index of an operation, and the operations before it succeed
 abbrev pub AbortNamesIndex : Type 0
 AbortNamesIndex = (ops : List Op) (c : Contents) (j : ℕ) → (command_on ops c).reply ≡ Abort j →
-    (j < length ops) × ((reads : List (Option ℤ)) × ((command_on (take j ops) c).reply ≡ Values reads))
+    (j < length ops)
+    × ((reads : List (Option ℤ)) × ((command_on (take j ops) c).reply ≡ Values reads))
 
 abbrev pub WritesNameWrittenKeys : Type 0
-WritesNameWrittenKeys = (ops : List Op) (c : Contents) (w : Write) → Contains (writes_of ops c) w → Contains (written_keys ops) w.0
+WritesNameWrittenKeys = (ops : List Op) (c : Contents) (w : Write) → Contains (writes_of ops c) w
+    → Contains (written_keys ops) w.0
 
 -- a command writes no key twice
 abbrev pub NoKeyWrittenTwice : Type 0
@@ -35,4 +40,5 @@ TouchedKeysDecide = (ops : List Op) (c d : Contents) → AgreeOn (touched_keys o
 
 -- the rising keys of a list rise and are exactly its keys
 abbrev pub KeysRise : Type 0
-KeysRise = (ks : List (List ℕ)) → AllPairs KeyBelow (rising_keys ks) × ((k : List ℕ) → Contains (rising_keys ks) k ↔ Contains ks k)
+KeysRise = (ks : List (List ℕ)) → AllPairs KeyBelow (rising_keys ks)
+    × ((k : List ℕ) → Contains (rising_keys ks) k ↔ Contains ks k)

@@ -12,4 +12,6 @@ ConflictIsSymmetric = (a b : List Op) → Conflict a b → Conflict b a
 -- order leaves the same contents
 abbrev pub CommandsExchange : Type 0
 CommandsExchange = (a b : List Op) → ¬ Conflict a b → (c : Contents) →
-    ((command_on b (command_on a c).after).reply ≡ (command_on b c).reply) × ((command_on b (command_on a c).after).after ≡ (command_on a (command_on b c).after).after)
+    ((command_on b (command_on a c).after).reply ≡ (command_on b c).reply)
+    × ((command_on b (command_on a c).after).after
+    ≡ (command_on a (command_on b c).after).after)

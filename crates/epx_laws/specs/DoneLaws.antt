@@ -14,17 +14,23 @@ NothingDoneLeavesAll = (m : List Instance) → remaining [] m ≡ m
 
 -- the remaining map has exactly the Ids that are not done
 abbrev pub RemainingIsNotDone : Type 0
-RemainingIsNotDone = (done : List Id) (m : List Instance) (x : Id) → Contains (ids_of (remaining done m)) x ↔ Contains (ids_of m) x × (¬ Contains done x)
+RemainingIsNotDone = (done : List Id) (m : List Instance) (x : Id)
+    → Contains (ids_of (remaining done m)) x ↔ Contains (ids_of m) x × (¬ Contains done x)
 
 -- if the Ids of a map rise, those of the remaining map rise
 abbrev pub RemainingIdsRise : Type 0
-RemainingIdsRise = (done : List Id) (m : List Instance) → IsRising (ids_of m) → IsRising (ids_of (remaining done m))
+RemainingIdsRise = (done : List Id) (m : List Instance) → IsRising (ids_of m)
+    → IsRising (ids_of (remaining done m))
 
 -- a remaining instance depends exactly on its former dependencies that are not done
 abbrev pub RemainingDependencies : Type 0
-RemainingDependencies = (done : List Id) (m : List Instance) (x y : Id) → DependsOn (remaining done m) x y ↔ DependsOn m x y × (¬ Contains done x) × (¬ Contains done y)
+RemainingDependencies = (done : List Id) (m : List Instance) (x y : Id)
+    → DependsOn (remaining done m) x y ↔ DependsOn m x y × (¬ Contains done x)
+    × (¬ Contains done y)
 
 -- if all done instances are ready, an instance that is not done is ready in the remaining map
 -- exactly if it is ready in the whole map
 abbrev pub RemainingIsReadyAlike : Type 0
-RemainingIsReadyAlike = (done : List Id) (m : List Instance) → ((x : Id) → Contains done x → IsReady m x) → (x : Id) → ¬ Contains done x → IsReady (remaining done m) x ↔ IsReady m x
+RemainingIsReadyAlike = (done : List Id) (m : List Instance)
+    → ((x : Id) → Contains done x → IsReady m x) → (x : Id) → ¬ Contains done x
+    → IsReady (remaining done m) x ↔ IsReady m x

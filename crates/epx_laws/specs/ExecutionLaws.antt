@@ -9,21 +9,27 @@ use Rattle.epx_types.specs.Rearrangements.{commands_at, IsRearrangement}
 -- executing a list of one command is executing that command
 abbrev pub OneCommandExecutes : Type 0
 OneCommandExecutes = (ops : List Op) (c : Contents) →
-    ((execute (ops ∷ []) c).replies ≡ (command_on ops c).reply ∷ []) × ((execute (ops ∷ []) c).final ≡ (command_on ops c).after)
+    ((execute (ops ∷ []) c).replies ≡ (command_on ops c).reply ∷ [])
+    × ((execute (ops ∷ []) c).final ≡ (command_on ops c).after)
 
 -- each command has a reply
 abbrev pub EachCommandReplies : Type 0
-EachCommandReplies = (commands : List (List Op)) (c : Contents) → length (execute commands c).replies ≡ length commands
+EachCommandReplies = (commands : List (List Op)) (c : Contents)
+    → length (execute commands c).replies ≡ length commands
 
 -- executing two lists one after the other is executing their concatenation
 abbrev pub ExecutionAppends : Type 0
 ExecutionAppends = (first rest : List (List Op)) (c : Contents) →
-    ((execute (first ++ rest) c).replies ≡ (execute first c).replies ++ (execute rest (execute first c).final).replies)
+    ((execute (first ++ rest) c).replies ≡ (execute first c).replies
+    ++ (execute rest (execute first c).final).replies)
     × ((execute (first ++ rest) c).final ≡ (execute rest (execute first c).final).final)
 
 -- a rearrangement that keeps the order of any two commands that conflict leaves the same contents,
 -- and each command has the same reply
 abbrev pub RearrangementsExecuteAlike : Type 0
-RearrangementsExecuteAlike = (commands : List (List Op)) (places : List ℕ) → IsRearrangement commands places → (c : Contents) →
+RearrangementsExecuteAlike = (commands : List (List Op)) (places : List ℕ)
+    → IsRearrangement commands places → (c : Contents) →
     ((execute (commands_at commands places) c).final ≡ (execute commands c).final)
-    × ((k i : ℕ) → slice_get places k ≡ Some i → slice_get (execute (commands_at commands places) c).replies k ≡ slice_get (execute commands c).replies i)
+    × ((k i : ℕ) → slice_get places k ≡ Some i
+    → slice_get (execute (commands_at commands places) c).replies k
+    ≡ slice_get (execute commands c).replies i)

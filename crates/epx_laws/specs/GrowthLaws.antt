@@ -18,14 +18,20 @@ IsWithin m more = (e : Instance) → Contains m e → Contains more e
 -- if more lines commit all instances that some lines commit, the map of the former contains the
 -- map of the latter
 abbrev pub MoreLinesCommitMore : Type 0
-MoreLinesCommitMore = (lines more : List Placed) → ((p : Placed) → Contains lines p → (q : Placed) × Contains more q × (q.instance ≡ p.instance)) →
+MoreLinesCommitMore = (lines more : List Placed)
+    → ((p : Placed) → Contains lines p → (q : Placed) × Contains more q
+    × (q.instance ≡ p.instance)) →
     (m n : List Instance) → IsCommittedBy lines m → IsCommittedBy more n → IsWithin m n
 
 -- an instance that is ready in a map is ready in every map that contains it
 abbrev pub ReadyStaysReady : Type 0
-ReadyStaysReady = (m more : List Instance) → IsRising (ids_of more) → IsWithin m more → (x : Id) → IsReady m x → IsReady more x
+ReadyStaysReady = (m more : List Instance) → IsRising (ids_of more) → IsWithin m more → (x : Id)
+    → IsReady m x → IsReady more x
 
 -- if that map is covered, the instance has the same reply there, in any two lawful orders
 abbrev pub RepliesStay : Type 0
-RepliesStay = (m more : List Instance) → IsRising (ids_of more) → IsWithin m more → IsCovered more → (ids other : List Id) → IsLawful m ids → IsLawful more other → (c : Contents) →
-    (i j : ℕ) (x : Id) → slice_get ids i ≡ Some x → slice_get other j ≡ Some x → slice_get (execute (commands_in more other) c).replies j ≡ slice_get (execute (commands_in m ids) c).replies i
+RepliesStay = (m more : List Instance) → IsRising (ids_of more) → IsWithin m more → IsCovered more
+    → (ids other : List Id) → IsLawful m ids → IsLawful more other → (c : Contents) →
+    (i j : ℕ) (x : Id) → slice_get ids i ≡ Some x → slice_get other j ≡ Some x
+    → slice_get (execute (commands_in more other) c).replies j
+    ≡ slice_get (execute (commands_in m ids) c).replies i

@@ -18,22 +18,28 @@ LevelsAreUnique = (commands : List (List Op)) → AtMostOne (AreLevels commands)
 
 -- two commands of one level do not conflict
 abbrev pub LevelHasNoConflict : Type 0
-LevelHasNoConflict = (commands : List (List Op)) (i j l : ℕ) → i ≢ j → IsLevel commands i l → IsLevel commands j l → ¬ ConflictAt commands i j
+LevelHasNoConflict = (commands : List (List Op)) (i j l : ℕ) → i ≢ j → IsLevel commands i l
+    → IsLevel commands j l → ¬ ConflictAt commands i j
 
 -- of two commands that conflict, the later has the greater level
 abbrev pub ConflictsClimb : Type 0
-ConflictsClimb = (commands : List (List Op)) (i j k l : ℕ) → i < j → ConflictAt commands i j → IsLevel commands i k → IsLevel commands j l → k < l
+ConflictsClimb = (commands : List (List Op)) (i j k l : ℕ) → i < j → ConflictAt commands i j
+    → IsLevel commands i k → IsLevel commands j l → k < l
 
 -- levels are the least numbers that are greater at each later command that conflicts
 abbrev pub LevelsAreLeast : Type 0
-LevelsAreLeast = (commands : List (List Op)) (f : ℕ → ℕ) → RisesWithConflicts commands f → (j l : ℕ) → IsLevel commands j l → l ≤ f j
+LevelsAreLeast = (commands : List (List Op)) (f : ℕ → ℕ) → RisesWithConflicts commands f
+    → (j l : ℕ) → IsLevel commands j l → l ≤ f j
 
 -- no such numbers are fewer than the levels: a list with the number of each command has at least
 -- as many elements as there are levels
 abbrev pub LevelsAreFewest : Type 0
-LevelsAreFewest = (commands : List (List Op)) (f : ℕ → ℕ) → RisesWithConflicts commands f → (levels : List ℕ) → AreLevels commands levels →
-    (numbers : List ℕ) → ((j : ℕ) → j < length commands → Contains numbers (f j)) → level_count levels ≤ length numbers
+LevelsAreFewest = (commands : List (List Op)) (f : ℕ → ℕ) → RisesWithConflicts commands f
+    → (levels : List ℕ) → AreLevels commands levels →
+    (numbers : List ℕ) → ((j : ℕ) → j < length commands → Contains numbers (f j))
+    → level_count levels ≤ length numbers
 
 -- each number below the number of levels is the level of some command
 abbrev pub EachLevelIsReached : Type 0
-EachLevelIsReached = (commands : List (List Op)) (levels : List ℕ) → AreLevels commands levels → (l : ℕ) → l < level_count levels → Contains levels l
+EachLevelIsReached = (commands : List (List Op)) (levels : List ℕ) → AreLevels commands levels
+    → (l : ℕ) → l < level_count levels → Contains levels l

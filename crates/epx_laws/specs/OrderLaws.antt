@@ -15,18 +15,21 @@ use Rattle.epx_laws.specs.inner.AtMostOne.{AtMostOne}
 
 -- a committed map has an execution order
 abbrev pub ExecutionOrderExists : Type 0
-ExecutionOrderExists = (m : List Instance) → IsRising (ids_of m) → (order : List Ranked) × IsExecutionOrder m order
+ExecutionOrderExists = (m : List Instance) → IsRising (ids_of m)
+    → (order : List Ranked) × IsExecutionOrder m order
 
 abbrev pub ExecutionOrderIsUnique : Type 0
 ExecutionOrderIsUnique = (m : List Instance) → AtMostOne (IsExecutionOrder m)
 
 abbrev pub ExecutionOrderIsLawful : Type 0
-ExecutionOrderIsLawful = (m : List Instance) (order : List Ranked) → IsExecutionOrder m order → IsLawful m (map (λ r. r.id) order)
+ExecutionOrderIsLawful = (m : List Instance) (order : List Ranked) → IsExecutionOrder m order
+    → IsLawful m (map (λ r. r.id) order)
 
 -- the leader of each instance of an execution order is in the order, and is its own leader; so
 -- each component has one leader in it
 abbrev pub LeadersAreInOrder : Type 0
-LeadersAreInOrder = (m : List Instance) (order : List Ranked) → IsExecutionOrder m order → (r : Ranked) → Contains order r →
+LeadersAreInOrder = (m : List Instance) (order : List Ranked) → IsExecutionOrder m order
+    → (r : Ranked) → Contains order r →
     (l : Ranked) × Contains order l × (l.id ≡ r.leader) × (l.leader ≡ l.id)
 
 -- These are the leaders of an order: each occurs once and leads some instance, each leader is
@@ -38,7 +41,8 @@ pub record AreLeaders (order : List Ranked) (leaders : List Id) : Type 0 where
   pub counted : length leaders ≡ component_count order
 
 abbrev pub ComponentsAreCounted : Type 0
-ComponentsAreCounted = (m : List Instance) (order : List Ranked) → IsExecutionOrder m order → (leaders : List Id) × AreLeaders order leaders
+ComponentsAreCounted = (m : List Instance) (order : List Ranked) → IsExecutionOrder m order
+    → (leaders : List Id) × AreLeaders order leaders
 
 -- x is before y in this order if one of them reaches the other
 pub record KeepsOrder (m : List Instance) (ids : List Id) (x y : Id) : Type 0 where
@@ -47,11 +51,13 @@ pub record KeepsOrder (m : List Instance) (ids : List Id) (x y : Id) : Type 0 wh
 
 -- if one of two instances reaches the other, they come in the same order in all lawful orders
 abbrev pub RelatedKeepOrder : Type 0
-RelatedKeepOrder = (m : List Instance) (ids other : List Id) → IsLawful m ids → IsLawful m other → (x y : Id) → Before ids x y → KeepsOrder m other x y
+RelatedKeepOrder = (m : List Instance) (ids other : List Id) → IsLawful m ids → IsLawful m other
+    → (x y : Id) → Before ids x y → KeepsOrder m other x y
 
 -- lawful orders of one map have the same instances
 abbrev pub LawfulOrdersHaveSameIds : Type 0
-LawfulOrdersHaveSameIds = (m : List Instance) (ids other : List Id) → IsLawful m ids → IsLawful m other → (x : Id) → Contains ids x → Contains other x
+LawfulOrdersHaveSameIds = (m : List Instance) (ids other : List Id) → IsLawful m ids
+    → IsLawful m other → (x : Id) → Contains ids x → Contains other x
 
 -- d and e are different ready instances that conflict
 pub record AreReadyAndConflict (m : List Instance) (d e : Instance) : Type 0 where
@@ -64,11 +70,15 @@ pub record AreReadyAndConflict (m : List Instance) (d e : Instance) : Type 0 whe
 
 -- two ready instances of a covered map that conflict come in the same order in all lawful orders
 abbrev pub ConflictsKeepOrder : Type 0
-ConflictsKeepOrder = (m : List Instance) → IsCovered m → (ids other : List Id) → IsLawful m ids → IsLawful m other →
+ConflictsKeepOrder = (m : List Instance) → IsCovered m → (ids other : List Id) → IsLawful m ids
+    → IsLawful m other →
     (d e : Instance) → AreReadyAndConflict m d e → Before ids d.id e.id → Before other d.id e.id
 
 -- two lawful orders of a covered map leave the same contents, and each instance has the same reply
 abbrev pub LawfulOrdersExecuteAlike : Type 0
-LawfulOrdersExecuteAlike = (m : List Instance) → IsRising (ids_of m) → IsCovered m → (ids other : List Id) → IsLawful m ids → IsLawful m other → (c : Contents) →
+LawfulOrdersExecuteAlike = (m : List Instance) → IsRising (ids_of m) → IsCovered m
+    → (ids other : List Id) → IsLawful m ids → IsLawful m other → (c : Contents) →
     ((execute (commands_in m other) c).final ≡ (execute (commands_in m ids) c).final)
-    × ((i j : ℕ) (x : Id) → slice_get ids i ≡ Some x → slice_get other j ≡ Some x → slice_get (execute (commands_in m other) c).replies j ≡ slice_get (execute (commands_in m ids) c).replies i)
+    × ((i j : ℕ) (x : Id) → slice_get ids i ≡ Some x → slice_get other j ≡ Some x
+    → slice_get (execute (commands_in m other) c).replies j
+    ≡ slice_get (execute (commands_in m ids) c).replies i)

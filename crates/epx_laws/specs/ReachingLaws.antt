@@ -14,13 +14,15 @@ use Rattle.epx_laws.specs.inner.AtMostOne.{AtMostOne}
 -- only committed instances depend on others, each exactly on the Ids in its list of dependencies
 pub record DependenciesAreListed : Type 0 where
   pub committed : (m : List Instance) (x y : Id) → DependsOn m x y → IsCommitted m x
-  pub listed : (m : List Instance) → IsRising (ids_of m) → (e : Instance) → Contains m e → (y : Id) → DependsOn m e.id y ↔ Contains e.deps y
+  pub listed : (m : List Instance) → IsRising (ids_of m) → (e : Instance) → Contains m e → (y : Id)
+      → DependsOn m e.id y ↔ Contains e.deps y
 
 abbrev pub ReachingIsReflexive : Type 0
 ReachingIsReflexive = (m : List Instance) (x : Id) → Reaches m x x
 
 abbrev pub ReachingIsTransitive : Type 0
-ReachingIsTransitive = (m : List Instance) (x y z : Id) → Reaches m x y → Reaches m y z → Reaches m x z
+ReachingIsTransitive = (m : List Instance) (x y z : Id) → Reaches m x y → Reaches m y z
+    → Reaches m x z
 
 abbrev pub DependenciesAreReached : Type 0
 DependenciesAreReached = (m : List Instance) (x y : Id) → DependsOn m x y → Reaches m x y
@@ -31,18 +33,22 @@ PassesOn m p = (x y : Id) → DependsOn m x y → p x ≡ true → p y ≡ true
 
 -- a test that passes from instances to their dependencies passes to all that they reach
 abbrev pub ReachingIsLeast : Type 0
-ReachingIsLeast = (m : List Instance) (p : Id → Bool) → PassesOn m p → (x y : Id) → Reaches m x y → p x ≡ true → p y ≡ true
+ReachingIsLeast = (m : List Instance) (p : Id → Bool) → PassesOn m p → (x y : Id) → Reaches m x y
+    → p x ≡ true → p y ≡ true
 
 -- being in one component is reflexive, symmetric and transitive
 pub record OneComponentIsEquivalence : Type 0 where
   pub reflexive : (m : List Instance) (x : Id) → InOneComponent m x x
   pub symmetric : (m : List Instance) (x y : Id) → InOneComponent m x y → InOneComponent m y x
-  pub transitive : (m : List Instance) (x y z : Id) → InOneComponent m x y → InOneComponent m y z → InOneComponent m x z
+  pub transitive : (m : List Instance) (x y z : Id) → InOneComponent m x y → InOneComponent m y z
+      → InOneComponent m x z
 
 -- members of one component have the same leader and the same depth, and are ready together
 pub record MembersAreAlike : Type 0 where
-  pub leader : (m : List Instance) (x y l : Id) → InOneComponent m x y → IsLeader m x l → IsLeader m y l
-  pub depth : (m : List Instance) (x y : Id) (k : ℕ) → InOneComponent m x y → IsDepth m x k → IsDepth m y k
+  pub leader : (m : List Instance) (x y l : Id) → InOneComponent m x y → IsLeader m x l
+      → IsLeader m y l
+  pub depth : (m : List Instance) (x y : Id) (k : ℕ) → InOneComponent m x y → IsDepth m x k
+      → IsDepth m y k
   pub ready : (m : List Instance) (x y : Id) → InOneComponent m x y → IsReady m x → IsReady m y
 
 -- each instance has a leader
@@ -61,11 +67,13 @@ DepthIsUnique = (m : List Instance) (x : Id) → AtMostOne (IsDepth m x)
 
 -- if x reaches y and y does not reach x, the depth of y is less
 abbrev pub DepthFalls : Type 0
-DepthFalls = (m : List Instance) (x y : Id) (j k : ℕ) → Reaches m x y → ¬ Reaches m y x → IsDepth m x j → IsDepth m y k → k < j
+DepthFalls = (m : List Instance) (x y : Id) (j k : ℕ) → Reaches m x y → ¬ Reaches m y x
+    → IsDepth m x j → IsDepth m y k → k < j
 
 -- depths are the least numbers that fall from x to y if x reaches y and y does not reach x
 abbrev pub DepthIsLeast : Type 0
-DepthIsLeast = (m : List Instance) (f : Id → ℕ) → FallsOneWay m f → (x : Id) (k : ℕ) → IsDepth m x k → k ≤ f x
+DepthIsLeast = (m : List Instance) (f : Id → ℕ) → FallsOneWay m f → (x : Id) (k : ℕ)
+    → IsDepth m x k → k ≤ f x
 
 -- an instance waits for at most one other
 abbrev pub WaitsForOne : Type 0
@@ -73,7 +81,8 @@ WaitsForOne = (m : List Instance) (x : Id) → AtMostOne (WaitsFor m x)
 
 -- a committed map has a waiting list
 abbrev pub WaitingListExists : Type 0
-WaitingListExists = (m : List Instance) → IsRising (ids_of m) → (ws : List Waiting) × IsWaitingList m ws
+WaitingListExists = (m : List Instance) → IsRising (ids_of m)
+    → (ws : List Waiting) × IsWaitingList m ws
 
 -- a map has at most one waiting list
 abbrev pub WaitingListIsUnique : Type 0
@@ -81,12 +90,15 @@ WaitingListIsUnique = (m : List Instance) → AtMostOne (IsWaitingList m)
 
 -- a committed instance is ready, or waits for another
 abbrev pub ReadyOrWaits : Type 0
-ReadyOrWaits = (m : List Instance) (x : Id) → IsCommitted m x → IsReady m x ⊎ ((y : Id) × WaitsFor m x y)
+ReadyOrWaits = (m : List Instance) (x : Id) → IsCommitted m x
+    → IsReady m x ⊎ ((y : Id) × WaitsFor m x y)
 
 -- a committed instance is ready exactly if it waits for nothing
 abbrev pub ReadyWaitsForNothing : Type 0
-ReadyWaitsForNothing = (m : List Instance) (x : Id) → IsCommitted m x → (IsReady m x ↔ ((y : Id) → ¬ WaitsFor m x y))
+ReadyWaitsForNothing = (m : List Instance) (x : Id) → IsCommitted m x
+    → (IsReady m x ↔ ((y : Id) → ¬ WaitsFor m x y))
 
 -- if each dependency is committed, each committed instance is ready
 abbrev pub NoneMissingAllReady : Type 0
-NoneMissingAllReady = (m : List Instance) → NoneMissing m → (x : Id) → IsCommitted m x → IsReady m x
+NoneMissingAllReady = (m : List Instance) → NoneMissing m → (x : Id) → IsCommitted m x
+    → IsReady m x

@@ -1,5 +1,7 @@
 //! Laws of what the lines of logs commit.
-ghost use Rattle.epx_laws.specs.AgreementLaws.{PositionHasInstance, CommittedMapIsUnique, CommittedLinesAgree, DisagreementExcludesAgreement, FirstDisagreementIsUnique, LookUpFindsInstance};
+ghost use Rattle.epx_laws.specs.AgreementLaws.{PositionHasInstance, CommittedMapIsUnique};
+ghost use Rattle.epx_laws.specs.AgreementLaws.{CommittedLinesAgree, DisagreementExcludesAgreement};
+ghost use Rattle.epx_laws.specs.AgreementLaws.{FirstDisagreementIsUnique, LookUpFindsInstance};
 
 /// Lines have at most one committed map.
 pub fn committed_map_is_unique()

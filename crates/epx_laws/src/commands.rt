@@ -1,5 +1,7 @@
 //! Laws of what commands read and write.
-ghost use Rattle.epx_laws.specs.CommandLaws.{WritesAreTheEffect, AbortLeavesContents, AbortNamesIndex, WritesNameWrittenKeys, NoKeyWrittenTwice, TouchedKeysDecide, KeysRise};
+ghost use Rattle.epx_laws.specs.CommandLaws.{WritesAreTheEffect, AbortLeavesContents};
+ghost use Rattle.epx_laws.specs.CommandLaws.{AbortNamesIndex, WritesNameWrittenKeys};
+ghost use Rattle.epx_laws.specs.CommandLaws.{NoKeyWrittenTwice, TouchedKeysDecide, KeysRise};
 
 /// The contents after a command are those before it with its writes applied, one after another.
 pub fn writes_are_the_effect()

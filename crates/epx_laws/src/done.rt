@@ -1,5 +1,7 @@
 //! Laws of the remaining map, a committed map without its done instances.
-ghost use Rattle.epx_laws.specs.DoneLaws.{RemainingDependencies, RemainingIsReadyAlike, NothingDoneLeavesAll, RemainingIsNotDone, RemainingIdsRise};
+ghost use Rattle.epx_laws.specs.DoneLaws.{RemainingDependencies, RemainingIsReadyAlike};
+ghost use Rattle.epx_laws.specs.DoneLaws.{NothingDoneLeavesAll, RemainingIsNotDone};
+ghost use Rattle.epx_laws.specs.DoneLaws.{RemainingIdsRise};
 
 /// If nothing is done, the whole map remains.
 pub fn nothing_done_leaves_all()

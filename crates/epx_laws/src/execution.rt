@@ -1,5 +1,6 @@
 //! Laws of commands executed one after another.
-ghost use Rattle.epx_laws.specs.ExecutionLaws.{OneCommandExecutes, EachCommandReplies, ExecutionAppends, RearrangementsExecuteAlike};
+ghost use Rattle.epx_laws.specs.ExecutionLaws.{OneCommandExecutes, EachCommandReplies};
+ghost use Rattle.epx_laws.specs.ExecutionLaws.{ExecutionAppends, RearrangementsExecuteAlike};
 
 /// Executing a list of one command is executing that command.
 pub fn one_command_executes()

@@ -1,5 +1,7 @@
 //! Laws of conflict levels.
-ghost use Rattle.epx_laws.specs.LevelLaws.{LevelsExist, LevelIsUnique, LevelsAreUnique, LevelHasNoConflict, ConflictsClimb, LevelsAreLeast, LevelsAreFewest, EachLevelIsReached};
+ghost use Rattle.epx_laws.specs.LevelLaws.{LevelsExist, LevelIsUnique, LevelsAreUnique};
+ghost use Rattle.epx_laws.specs.LevelLaws.{LevelHasNoConflict, ConflictsClimb, LevelsAreLeast};
+ghost use Rattle.epx_laws.specs.LevelLaws.{LevelsAreFewest, EachLevelIsReached};
 
 /// Every list of commands has levels.
 pub fn levels_exist()

@@ -1,5 +1,9 @@
 //! Laws of execution orders.
-ghost use Rattle.epx_laws.specs.OrderLaws.{ExecutionOrderExists, ComponentsAreCounted, RelatedKeepOrder, LawfulOrdersHaveSameIds, LawfulOrdersExecuteAlike, ConflictsKeepOrder, ExecutionOrderIsUnique, ExecutionOrderIsLawful, LeadersAreInOrder};
+ghost use Rattle.epx_laws.specs.OrderLaws.{ExecutionOrderExists, ComponentsAreCounted};
+ghost use Rattle.epx_laws.specs.OrderLaws.{RelatedKeepOrder, LawfulOrdersHaveSameIds};
+ghost use Rattle.epx_laws.specs.OrderLaws.{LawfulOrdersExecuteAlike, ConflictsKeepOrder};
+ghost use Rattle.epx_laws.specs.OrderLaws.{ExecutionOrderIsUnique, ExecutionOrderIsLawful};
+ghost use Rattle.epx_laws.specs.OrderLaws.{LeadersAreInOrder};
 
 /// A committed map has an execution order.
 pub fn execution_order_exists()

@@ -1,5 +1,6 @@
 //! Laws of the pieces of a plan.
-ghost use Rattle.epx_laws.specs.PieceLaws.{PiecesFollowEachOther, PieceSizeIsBounded, PiecesCoverItems};
+ghost use Rattle.epx_laws.specs.PieceLaws.{PiecesFollowEachOther, PieceSizeIsBounded};
+ghost use Rattle.epx_laws.specs.PieceLaws.{PiecesCoverItems};
 
 /// The pieces follow each other from the first item to the last.
 pub fn pieces_follow_each_other()

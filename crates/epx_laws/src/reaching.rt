@@ -1,5 +1,12 @@
 //! Laws of reaching, of components and of readiness.
-ghost use Rattle.epx_laws.specs.ReachingLaws.{DependenciesAreListed, ReachingIsReflexive, ReachingIsTransitive, DependenciesAreReached, ReachingIsLeast, OneComponentIsEquivalence, MembersAreAlike, LeaderExists, LeaderIsUnique, DepthExists, DepthIsUnique, DepthFalls, DepthIsLeast, WaitsForOne, WaitingListExists, WaitingListIsUnique, ReadyOrWaits, ReadyWaitsForNothing, NoneMissingAllReady};
+ghost use Rattle.epx_laws.specs.ReachingLaws.{DependenciesAreListed, ReachingIsReflexive};
+ghost use Rattle.epx_laws.specs.ReachingLaws.{ReachingIsTransitive, DependenciesAreReached};
+ghost use Rattle.epx_laws.specs.ReachingLaws.{ReachingIsLeast, OneComponentIsEquivalence};
+ghost use Rattle.epx_laws.specs.ReachingLaws.{MembersAreAlike, LeaderExists, LeaderIsUnique};
+ghost use Rattle.epx_laws.specs.ReachingLaws.{DepthExists, DepthIsUnique, DepthFalls};
+ghost use Rattle.epx_laws.specs.ReachingLaws.{DepthIsLeast, WaitsForOne, WaitingListExists};
+ghost use Rattle.epx_laws.specs.ReachingLaws.{WaitingListIsUnique, ReadyOrWaits};
+ghost use Rattle.epx_laws.specs.ReachingLaws.{ReadyWaitsForNothing, NoneMissingAllReady};
 
 /// Only committed instances depend on others, each exactly on the Ids in its list of dependencies.
 pub fn dependencies_are_listed()

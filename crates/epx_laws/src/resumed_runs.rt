@@ -1,6 +1,9 @@
 //! Laws of resumed runs: executing the remaining map over the contents that the done instances
 //! left.
-ghost use Rattle.epx_laws.specs.ResumedRunLaws.{NothingDoneIsSound, PartAndRestAreLawful, PartIsSound, ResumedRepliesAreThoseOfTheWhole, ResumingStaysSound, AllDoneIsTheWhole, ResumingWithAllLeftIsTheWhole};
+ghost use Rattle.epx_laws.specs.ResumedRunLaws.{NothingDoneIsSound, PartAndRestAreLawful};
+ghost use Rattle.epx_laws.specs.ResumedRunLaws.{PartIsSound, ResumedRepliesAreThoseOfTheWhole};
+ghost use Rattle.epx_laws.specs.ResumedRunLaws.{ResumingStaysSound, AllDoneIsTheWhole};
+ghost use Rattle.epx_laws.specs.ResumedRunLaws.{ResumingWithAllLeftIsTheWhole};
 
 /// If nothing is done, the empty contents are sound.
 pub fn nothing_done_is_sound()

@@ -1,5 +1,7 @@
 -- A loop over the elements of a parsed array, and what the definitions read from them.
-use Rattle.std.proofs.Common.{◌≡◌, ℕ, suc, ◌+◌, ◌<◌, ◌≤◌, List, [], ◌∷◌, ◌++◌, length, get_or, drop, map, Option, Some, None, option_map, option_and_then, refl, sym, ap, ◌∙◌, arith}
+use Rattle.std.proofs.Common.{◌≡◌, ℕ, suc, ◌+◌, ◌<◌, ◌≤◌, List, [], ◌∷◌, ◌++◌, length, get_or}
+use Rattle.std.proofs.Common.{drop, map, Option, Some, None, option_map, option_and_then, refl}
+use Rattle.std.proofs.Common.{sym, ap, ◌∙◌, arith}
 use Rattle.std.proofs.lemmas.Bool.Decides.{nat_tests}
 use Rattle.std.proofs.lemmas.List.{append_assoc, drop_more}
 use Rattle.serde_json.specs.Data.{Data}
@@ -24,15 +26,21 @@ length-list_of (v ∷ vs) = ap suc (length-list_of vs)
 
 -- ---- one more element is read
 
-joined : {B : Type 0} (done : List B) (y : B) (rest : Option (List B)) → option_map (λ more. done ++ more) (option_map (λ ys. y ∷ ys) rest) ≡ option_map (λ more. (done ++ y ∷ []) ++ more) rest
+joined : {B : Type 0} (done : List B) (y : B) (rest : Option (List B))
+    → option_map (λ more. done ++ more) (option_map (λ ys. y ∷ ys) rest)
+    ≡ option_map (λ more. (done ++ y ∷ []) ++ more) rest
 joined done y None = refl
 joined done y (Some ys) = ap Some (sym (append_assoc done (y ∷ []) ys))
 
-pub read_one_more : {A B : Type 0} (f : A → Option B) (xs : List A) (i : ℕ) (x : A) (y : B) (done : List B) (whole : Option (List B)) → i < length xs → x ≡ get_or xs i x → f x ≡ Some y
-    → whole ≡ option_map (λ more. done ++ more) (every f (drop i xs)) → whole ≡ option_map (λ more. (done ++ y ∷ []) ++ more) (every f (drop (i + 1) xs))
+pub read_one_more : {A B : Type 0} (f : A → Option B) (xs : List A) (i : ℕ) (x : A) (y : B)
+    (done : List B) (whole : Option (List B)) → i < length xs → x ≡ get_or xs i x → f x ≡ Some y
+    → whole ≡ option_map (λ more. done ++ more) (every f (drop i xs))
+    → whole ≡ option_map (λ more. (done ++ y ∷ []) ++ more) (every f (drop (i + 1) xs))
 read_one_more f xs i x y done whole l at is e =
-    e ∙ ap (λ rest. option_map (λ more. done ++ more) (every f rest)) (drop_more xs i x l ∙ ap (λ z. z ∷ drop (i + 1) xs) (sym at))
-    ∙ ap (λ o. option_map (λ more. done ++ more) (option_and_then (λ z. option_map (λ ys. z ∷ ys) (every f (drop (i + 1) xs))) o)) is
+    e ∙ ap (λ rest. option_map (λ more. done ++ more) (every f rest))
+    (drop_more xs i x l ∙ ap (λ z. z ∷ drop (i + 1) xs) (sym at))
+    ∙ ap (λ o. option_map (λ more. done ++ more)
+    (option_and_then (λ z. option_map (λ ys. z ∷ ys) (every f (drop (i + 1) xs))) o)) is
     ∙ joined done y (every f (drop (i + 1) xs))
 
 -- ---- lists of the wrong length are neither a pair nor an operation
@@ -48,11 +56,13 @@ no_pair_of_more (a ∷ []) l = absurd (omega arith)
 no_pair_of_more (a ∷ b ∷ []) l = absurd (omega arith)
 no_pair_of_more (a ∷ b ∷ c ∷ vs) l = refl
 
-pub id_of_short : (d : Data) (vs : List Value) → Some (items_view vs) ≡ as_array d → length vs < 2 → None ≡ id_of d
+pub id_of_short : (d : Data) (vs : List Value) → Some (items_view vs) ≡ as_array d → length vs < 2
+    → None ≡ id_of d
 unfolding id_of
 id_of_short d vs e l = rw (← e) (sym (no_pair vs l))
 
-pub id_of_long : (d : Data) (vs : List Value) → Some (items_view vs) ≡ as_array d → 3 ≤ length vs → None ≡ id_of d
+pub id_of_long : (d : Data) (vs : List Value) → Some (items_view vs) ≡ as_array d → 3 ≤ length vs
+    → None ≡ id_of d
 unfolding id_of
 id_of_long d vs e l = rw (← e) (sym (no_pair_of_more vs l))
 
@@ -68,11 +78,13 @@ no_op_of_more (a ∷ b ∷ []) l = absurd (omega arith)
 no_op_of_more (a ∷ b ∷ c ∷ []) l = absurd (omega arith)
 no_op_of_more (a ∷ b ∷ c ∷ e ∷ vs) l = refl
 
-pub op_of_short : (d : Data) (vs : List Value) → Some (items_view vs) ≡ as_array d → length vs < 2 → None ≡ op_of d
+pub op_of_short : (d : Data) (vs : List Value) → Some (items_view vs) ≡ as_array d → length vs < 2
+    → None ≡ op_of d
 unfolding op_of
 op_of_short d vs e l = rw (← e) (sym (no_op vs l))
 
-pub op_of_long : (d : Data) (vs : List Value) → Some (items_view vs) ≡ as_array d → 4 ≤ length vs → None ≡ op_of d
+pub op_of_long : (d : Data) (vs : List Value) → Some (items_view vs) ≡ as_array d → 4 ≤ length vs
+    → None ≡ op_of d
 unfolding op_of
 op_of_long d vs e l = rw (← e) (sym (no_op_of_more vs l))
 
@@ -84,25 +96,34 @@ at_most-within n xs l = grind (arith, nat_tests)
 at_most-past : {A : Type 0} (n : ℕ) (xs : List A) → n < length xs → at_most n xs ≡ None
 at_most-past n xs l = grind (arith, nat_tests)
 
-every-list_of : {B : Type 0} (f : Data → Option B) (vs : List Value) → every f (list_of (items_view vs)) ≡ every (λ v. f (view v)) vs
+every-list_of : {B : Type 0} (f : Data → Option B) (vs : List Value)
+    → every f (list_of (items_view vs)) ≡ every (λ v. f (view v)) vs
 every-list_of f [] = refl
-every-list_of f (v ∷ vs) = ap (λ o. option_and_then (λ y. option_map (λ ys. y ∷ ys) o) (f (view v))) (every-list_of f vs)
+every-list_of f (v ∷ vs) =
+    ap (λ o. option_and_then (λ y. option_map (λ ys. y ∷ ys) o) (f (view v))) (every-list_of f vs)
 
-some_elements : {B : Type 0} (f : Data → Option B) (n : ℕ) (vs : List Value) → length vs ≤ n → option_and_then (every f) (at_most n (list_of (items_view vs))) ≡ every (λ v. f (view v)) vs
-some_elements f n vs l = ap (option_and_then (every f)) (at_most-within n _ (omega (arith, length-list_of vs))) ∙ every-list_of f vs
+some_elements : {B : Type 0} (f : Data → Option B) (n : ℕ) (vs : List Value) → length vs ≤ n
+    → option_and_then (every f) (at_most n (list_of (items_view vs))) ≡ every (λ v. f (view v)) vs
+some_elements f n vs l = ap (option_and_then (every f))
+    (at_most-within n _ (omega (arith, length-list_of vs))) ∙ every-list_of f vs
 
-too_many : {B : Type 0} (f : Data → Option B) (n : ℕ) (vs : List Value) → n < length vs → option_and_then (every f) (at_most n (list_of (items_view vs))) ≡ None
-too_many f n vs l = ap (option_and_then (every f)) (at_most-past n _ (omega (arith, length-list_of vs)))
+too_many : {B : Type 0} (f : Data → Option B) (n : ℕ) (vs : List Value) → n < length vs
+    → option_and_then (every f) (at_most n (list_of (items_view vs))) ≡ None
+too_many f n vs l = ap (option_and_then (every f))
+    (at_most-past n _ (omega (arith, length-list_of vs)))
 
-pub deps_of_many : (self : Id) (d : Data) (vs : List Value) → Some (items_view vs) ≡ as_array d → 256 < length vs → None ≡ deps_of self d
+pub deps_of_many : (self : Id) (d : Data) (vs : List Value) → Some (items_view vs) ≡ as_array d
+    → 256 < length vs → None ≡ deps_of self d
 unfolding deps_of
 deps_of_many self d vs e l = rw (← e, too_many id_of 256 vs l)
 
-pub ops_of_many : (d : Data) (vs : List Value) → Some (items_view vs) ≡ as_array d → 64 < length vs → None ≡ ops_of d
+pub ops_of_many : (d : Data) (vs : List Value) → Some (items_view vs) ≡ as_array d → 64 < length vs
+    → None ≡ ops_of d
 unfolding ops_of
 ops_of_many d vs e l = rw (← e, too_many op_of 64 vs l)
 
-pub ops_of_some : (d : Data) (vs : List Value) → Some (items_view vs) ≡ as_array d → length vs ≤ 64 → ops_of d ≡ every (λ v. op_of (view v)) vs
+pub ops_of_some : (d : Data) (vs : List Value) → Some (items_view vs) ≡ as_array d → length vs ≤ 64
+    → ops_of d ≡ every (λ v. op_of (view v)) vs
 unfolding ops_of
 ops_of_some d vs e l = rw (← e) (some_elements op_of 64 vs l)
 
@@ -111,25 +132,35 @@ same_option None = refl
 same_option (Some x) = refl
 
 -- at the start of a loop, no element has been read
-pub ops_begin : (d : Data) (vs items : List Value) (ops : List Op) → Some (items_view vs) ≡ as_array d → length vs ≤ 64 → items ≡ vs → ops ≡ [] → ops_of d ≡ option_map (λ more. ops ++ more) (every (λ v. op_of (view v)) (drop 0 items))
+pub ops_begin : (d : Data) (vs items : List Value) (ops : List Op)
+    → Some (items_view vs) ≡ as_array d → length vs ≤ 64 → items ≡ vs → ops ≡ []
+    → ops_of d ≡ option_map (λ more. ops ++ more) (every (λ v. op_of (view v)) (drop 0 items))
 ops_begin d vs items ops e l same none = rw (same, none) (ops_of_some d vs e l ∙ same_option _)
 
-pub ids_begin : (d : Data) (vs items : List Value) (ids : List Id) → Some (items_view vs) ≡ as_array d → length vs ≤ 256 → items ≡ vs → ids ≡ [] → each_of_at_most 256 id_of d ≡ option_map (λ more. ids ++ more) (every (λ v. id_of (view v)) (drop 0 items))
-ids_begin d vs items ids e l same none = rw (same, none, ← e) (some_elements id_of 256 vs l ∙ same_option _)
+pub ids_begin : (d : Data) (vs items : List Value) (ids : List Id)
+    → Some (items_view vs) ≡ as_array d → length vs ≤ 256 → items ≡ vs → ids ≡ []
+    → each_of_at_most 256 id_of d ≡ option_map (λ more. ids ++ more)
+    (every (λ v. id_of (view v)) (drop 0 items))
+ids_begin d vs items ids e l same none =
+    rw (same, none, ← e) (some_elements id_of 256 vs l ∙ same_option _)
 
 -- ---- a loop: `ahead` takes the results of the rest, `later` all of them but the first
 
 module _ {A B C : Type 0} (f : A → Option B) where
-  heads : (o : Option (List B)) (y : B) (ahead later : List B → C) → ((ys : List B) → ahead (y ∷ ys) ≡ later ys) → option_map ahead (option_map (λ ys. y ∷ ys) o) ≡ option_map later o
+  heads : (o : Option (List B)) (y : B) (ahead later : List B → C)
+      → ((ys : List B) → ahead (y ∷ ys) ≡ later ys)
+      → option_map ahead (option_map (λ ys. y ∷ ys) o) ≡ option_map later o
   heads None y ahead later same = refl
   heads (Some ys) y ahead later same = ap Some (same ys)
 
   -- f of the next element is y
-  pub every-more : (xs : List A) (i : ℕ) (x : A) (y : B) (ahead later : List B → C) → i < length xs → x ≡ get_or xs i x → f x ≡ Some y → ((ys : List B) → ahead (y ∷ ys) ≡ later ys)
+  pub every-more : (xs : List A) (i : ℕ) (x : A) (y : B) (ahead later : List B → C) → i < length xs
+      → x ≡ get_or xs i x → f x ≡ Some y → ((ys : List B) → ahead (y ∷ ys) ≡ later ys)
       → option_map ahead (every f (drop i xs)) ≡ option_map later (every f (drop (i + 1) xs))
   every-more xs i x y ahead later l here gives same =
       rw (drop_more xs i x l, ← here, gives) (heads (every f (drop (i + 1) xs)) y ahead later same)
 
 -- f has no value at the next element
-pub every-stop : {A B : Type 0} (f : A → Option B) (xs : List A) (i : ℕ) (x : A) → i < length xs → x ≡ get_or xs i x → f x ≡ None → every f (drop i xs) ≡ None
+pub every-stop : {A B : Type 0} (f : A → Option B) (xs : List A) (i : ℕ) (x : A) → i < length xs
+    → x ≡ get_or xs i x → f x ≡ None → every f (drop i xs) ≡ None
 every-stop f xs i x l here gives = rw (drop_more xs i x l, ← here, gives)

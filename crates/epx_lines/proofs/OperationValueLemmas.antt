@@ -44,7 +44,8 @@ value_or_null-key_of (array ds) k h = refl
 value_or_null-key_of (object ms) k h = refl
 
 -- neither a number nor null
-pub value_or_null-neither : (d : Data) → is_some (as_null d) ≡ false → signed d ≡ None → value_or_null d ≡ None
+pub value_or_null-neither : (d : Data) → is_some (as_null d) ≡ false → signed d ≡ None
+    → value_or_null d ≡ None
 unfolding value_or_null
 value_or_null-neither null other none = absurd (cc other)
 value_or_null-neither (boolean b) other none = refl

@@ -10,25 +10,40 @@ use Rattle.epx_lines.proofs.OnLiterals.{lines_on_literals}
 
 -- a put and a get of one key
 pub first_entry : Instance
-first_entry = record { id = record { replica = 0; number = 0 }; seq = 1; deps = []; ops = Put (codes "a") (pos 5) ∷ Get (codes "a") ∷ [] }
+first_entry = record {
+  id = record { replica = 0; number = 0 };
+  seq = 1;
+  deps = [];
+  ops = Put (codes "a") (pos 5) ∷ Get (codes "a") ∷ [];
+}
 
-pub put_and_get : meaning_of (codes "{\"r\":0,\"i\":0,\"seq\":1,\"deps\":[],\"ops\":[[\"put\",\"a\",5],[\"get\",\"a\"]]}") ≡ Ok (Entry first_entry)
+pub put_and_get : meaning_of
+    (codes "{\"r\":0,\"i\":0,\"seq\":1,\"deps\":[],\"ops\":[[\"put\",\"a\",5],[\"get\",\"a\"]]}")
+    ≡ Ok (Entry first_entry)
 unfolding lines_on_literals first_entry
 put_and_get = refl
 
 -- the line that is written for it
-pub put_and_get_written : line_text first_entry ≡ codes "{\"deps\":[],\"i\":0,\"ops\":[[\"put\",\"a\",5],[\"get\",\"a\"]],\"r\":0,\"seq\":1}"
+pub put_and_get_written : line_text first_entry
+    ≡ codes "{\"deps\":[],\"i\":0,\"ops\":[[\"put\",\"a\",5],[\"get\",\"a\"]],\"r\":0,\"seq\":1}"
 unfolding lines_on_literals first_entry
 put_and_get_written = refl
 
 -- a no-op with dependencies out of order, a repeat, and the instance itself among them
-pub unsorted_dependencies : meaning_of (codes "{\"r\":2,\"i\":0,\"seq\":2,\"deps\":[[1,0],[0,7],[2,0],[1,0]],\"ops\":[]}")
-    ≡ Ok (Entry (record { id = record { replica = 2; number = 0 }; seq = 2; deps = record { replica = 0; number = 7 } ∷ record { replica = 1; number = 0 } ∷ []; ops = [] }))
+pub unsorted_dependencies : meaning_of
+    (codes "{\"r\":2,\"i\":0,\"seq\":2,\"deps\":[[1,0],[0,7],[2,0],[1,0]],\"ops\":[]}")
+    ≡ Ok (Entry (record {
+      id = record { replica = 2; number = 0 };
+      seq = 2;
+      deps = record { replica = 0; number = 7 } ∷ record { replica = 1; number = 0 } ∷ [];
+      ops = [];
+    }))
 unfolding lines_on_literals
 unsorted_dependencies = refl
 
 -- a sequence number with a fraction, before a bad list of operations
-pub sequence_with_fraction : meaning_of (codes "{\"r\":0,\"i\":0,\"seq\":1.0,\"deps\":[],\"ops\":7}") ≡ Err Seq
+pub sequence_with_fraction : meaning_of
+    (codes "{\"r\":0,\"i\":0,\"seq\":1.0,\"deps\":[],\"ops\":7}") ≡ Err Seq
 unfolding lines_on_literals
 sequence_with_fraction = refl
 
@@ -37,11 +52,13 @@ pub blank_line : meaning_of (9 ∷ 13 ∷ []) ≡ Ok Blank
 blank_line = refl
 
 -- an instance that was executed
-pub executed_line : meaning_of (codes "{\"r\":0,\"i\":0,\"seq\":1,\"status\":\"executed\",\"deps\":[],\"ops\":[[\"put\",\"a\",5],[\"get\",\"a\"]]}") ≡ Ok (Entry first_entry)
+pub executed_line : meaning_of
+    (codes "{\"r\":0,\"i\":0,\"seq\":1,\"status\":\"executed\",\"deps\":[],\"ops\":[[\"put\",\"a\",5],[\"get\",\"a\"]]}") ≡ Ok (Entry first_entry)
 unfolding lines_on_literals first_entry
 executed_line = refl
 
 -- an instance that is only accepted, with invalid dependencies
-pub accepted_line : meaning_of (codes "{\"r\":0,\"i\":0,\"seq\":1,\"status\":\"accepted\",\"deps\":7,\"ops\":[]}") ≡ Ok Blank
+pub accepted_line : meaning_of
+    (codes "{\"r\":0,\"i\":0,\"seq\":1,\"status\":\"accepted\",\"deps\":7,\"ops\":[]}") ≡ Ok Blank
 unfolding lines_on_literals
 accepted_line = refl

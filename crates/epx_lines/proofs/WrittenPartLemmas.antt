@@ -1,5 +1,7 @@
 -- Each part of a written line reads as what was written, and is short.
-use Rattle.std.proofs.Common.{◌≡◌, ℕ, suc, ◌+◌, ◌*◌, ◌^◌, ◌<◌, ◌≤◌, ℤ, pos, negsuc, Bool, true, false, cond, nat_lt, codes, List, [], ◌∷◌, ◌++◌, length, Some, None, option_map, refl, ap, arith, length-append, lit<, lit≤}
+use Rattle.std.proofs.Common.{◌≡◌, ℕ, suc, ◌+◌, ◌*◌, ◌^◌, ◌<◌, ◌≤◌, ℤ, pos, negsuc, Bool, true}
+use Rattle.std.proofs.Common.{false, cond, nat_lt, codes, List, [], ◌∷◌, ◌++◌, length, Some, None}
+use Rattle.std.proofs.Common.{option_map, refl, ap, arith, length-append, lit<, lit≤}
 use Rattle.std.proofs.lemmas.Bool.Decides.{nat_tests}
 use Rattle.std.proofs.lemmas.Fmt.{length-decimal-le}
 use Rattle.std.proofs.lemmas.Int.{ints}
@@ -40,36 +42,63 @@ key_of-fits k h = grind (arith, nat_tests, h.0, h.1)
 
 length-escape_byte : (x : ℕ) → length (escape_byte x) ≤ 6
 unfolding escape_byte
-length-escape_byte x = at_tests (nat_lt 0 (escape_letter x)) (nat_lt x 32) _ _ _ (omega arith) (omega arith) (omega arith)
+length-escape_byte x = at_tests (nat_lt 0 (escape_letter x)) (nat_lt x 32) _ _ _ (omega arith)
+    (omega arith) (omega arith)
   where
-    at_tests : (s t : Bool) (a b c : List ℕ) → length a ≤ 6 → length b ≤ 6 → length c ≤ 6 → length (cond s a (cond t b c)) ≤ 6
+    at_tests : (s t : Bool) (a b c : List ℕ) → length a ≤ 6 → length b ≤ 6 → length c ≤ 6
+        → length (cond s a (cond t b c)) ≤ 6
     at_tests true t a b c p q r = p
     at_tests false true a b c p q r = q
     at_tests false false a b c p q r = r
 
 length-escape : (s : List ℕ) → length (escape s) ≤ 6 * length s
 length-escape [] = omega arith
-length-escape (x ∷ s) = omega (arith, length-append (escape_byte x) (escape s), length-escape_byte x, length-escape s)
+length-escape (x ∷ s) =
+    omega (arith, length-append (escape_byte x) (escape s), length-escape_byte x, length-escape s)
 
 pub length-quoted : (k : List ℕ) → FitsKey k → length (quoted k) ≤ 386
 length-quoted k h = omega (arith, length-append (escape k) (34 ∷ []), length-escape k, h.1)
 
 -- ---- dependencies
 
-pub FitsId_here : (r i : ℕ) → r < 256 → i < 2 ^ 64 → IsWritableId (record { replica = r; number = i })
+pub FitsId_here : (r i : ℕ) → r < 256 → i < 2 ^ 64
+    → IsWritableId (record { replica = r; number = i })
 unfolding id_of
 FitsId_here r i p q = record {
   reads = rw (whole-fits 256 r p, whole-fits (2 ^ 64) i q);
-  short = omega (arith, length-decimal-le 3 r (lit< tt) (omega arith) (omega arith), length-decimal-le 20 i (lit< tt) (omega arith) q, length-append (decimal r) (44 ∷ (decimal i ++ 93 ∷ [])), length-append (decimal i) (93 ∷ []));
+  short = omega (
+    arith,
+    length-decimal-le 3 r (lit< tt) (omega arith) (omega arith),
+    length-decimal-le 20 i (lit< tt) (omega arith) q,
+    length-append (decimal r) (44 ∷ (decimal i ++ 93 ∷ [])),
+    length-append (decimal i) (93 ∷ []),
+  );
 }
 
 -- ---- operations
 
-length-op_pair : (name k : List ℕ) → length (quoted name) ≤ 7 → FitsKey k → length (compact_text (op_pair name k)) ≤ 782
-length-op_pair name k n h = omega (arith, length-append (quoted name) (44 ∷ (quoted k ++ 93 ∷ [])), length-append (quoted k) (93 ∷ []), length-quoted k h)
+length-op_pair : (name k : List ℕ) → length (quoted name) ≤ 7 → FitsKey k
+    → length (compact_text (op_pair name k)) ≤ 782
+length-op_pair name k n h =
+    omega (
+      arith,
+      length-append (quoted name) (44 ∷ (quoted k ++ 93 ∷ [])),
+      length-append (quoted k) (93 ∷ []),
+      length-quoted k h,
+    )
 
-length-op_triple : (name k : List ℕ) (d : Data) → length (quoted name) + length (compact_text d) ≤ 392 → FitsKey k → length (compact_text (op_triple name k d)) ≤ 782
-length-op_triple name k d n h = omega (arith, length-append (quoted name) (44 ∷ (quoted k ++ 44 ∷ (compact_text d ++ 93 ∷ []))), length-append (quoted k) (44 ∷ (compact_text d ++ 93 ∷ [])), length-append (compact_text d) (93 ∷ []), length-quoted k h)
+length-op_triple : (name k : List ℕ) (d : Data)
+    → length (quoted name) + length (compact_text d) ≤ 392 → FitsKey k
+    → length (compact_text (op_triple name k d)) ≤ 782
+length-op_triple name k d n h =
+    omega (
+      arith,
+      length-append (quoted name)
+          (44 ∷ (quoted k ++ 44 ∷ (compact_text d ++ 93 ∷ []))),
+      length-append (quoted k) (44 ∷ (compact_text d ++ 93 ∷ [])),
+      length-append (compact_text d) (93 ∷ []),
+      length-quoted k h,
+    )
 
 pub IsWritableOp-Get : (k : List ℕ) → FitsKey k → IsWritableOp (Get k)
 unfolding data_of_op op_of op_with_key escape_byte
@@ -85,21 +114,24 @@ IsWritableOp-Del k h = record {
   short = length-op_pair (codes "del") k (lit≤ tt) h;
 }
 
-pub IsWritableOp-Put : (k : List ℕ) (v : ℤ) → FitsKey k → IsWritableValue v → IsWritableOp (Put k v)
+pub IsWritableOp-Put : (k : List ℕ) (v : ℤ) → FitsKey k → IsWritableValue v
+    → IsWritableOp (Put k v)
 unfolding data_of_op op_of op_with_value escape_byte
 IsWritableOp-Put k v h f = record {
   reads = rw (key_of-fits k h) (ap (option_map (Put k)) f.reads);
   short = length-op_triple (codes "put") k (number (of_integer v)) (omega (arith, f.short)) h;
 }
 
-pub IsWritableOp-Add : (k : List ℕ) (v : ℤ) → FitsKey k → IsWritableValue v → IsWritableOp (Add k v)
+pub IsWritableOp-Add : (k : List ℕ) (v : ℤ) → FitsKey k → IsWritableValue v
+    → IsWritableOp (Add k v)
 unfolding data_of_op op_of op_with_value escape_byte
 IsWritableOp-Add k v h f = record {
   reads = rw (key_of-fits k h) (ap (option_map (Add k)) f.reads);
   short = length-op_triple (codes "add") k (number (of_integer v)) (omega (arith, f.short)) h;
 }
 
-pub IsWritableOp-Floor : (k : List ℕ) (v : ℤ) → FitsKey k → IsWritableValue v → IsWritableOp (Floor k v)
+pub IsWritableOp-Floor : (k : List ℕ) (v : ℤ) → FitsKey k → IsWritableValue v
+    → IsWritableOp (Floor k v)
 unfolding data_of_op op_of op_with_value escape_byte
 IsWritableOp-Floor k v h f = record {
   reads = rw (key_of-fits k h) (ap (option_map (Floor k)) f.reads);
@@ -113,7 +145,8 @@ IsWritableOp-Is_none k h = record {
   short = length-op_triple (codes "is") k null (lit≤ tt) h;
 }
 
-pub IsWritableOp-Is_some : (k : List ℕ) (v : ℤ) → FitsKey k → IsWritableValue v → IsWritableOp (Is k (Some v))
+pub IsWritableOp-Is_some : (k : List ℕ) (v : ℤ) → FitsKey k → IsWritableValue v
+    → IsWritableOp (Is k (Some v))
 unfolding data_of_op op_of op_with_value value_or_null escape_byte
 IsWritableOp-Is_some k v h f = record {
   reads = rw (key_of-fits k h) (ap (λ o. option_map (Is k) (option_map Some o)) f.reads);

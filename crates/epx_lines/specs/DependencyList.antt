@@ -1,5 +1,6 @@
 -- The dependencies of a line.
-use Rattle.std.specs.Prelude.{◌^◌, Bool, not, List, [], ◌∷◌, filter, fold, Option, None, option_map, option_and_then}
+use Rattle.std.specs.Prelude.{◌^◌, Bool, not, List, [], ◌∷◌, filter, fold, Option, None}
+use Rattle.std.specs.Prelude.{option_map, option_and_then}
 use Rattle.std.specs.Ordering.{is_eq}
 use Rattle.std.specs.BTreeSet.{insert_key}
 use Rattle.serde_json.specs.Data.{Data}
@@ -8,7 +9,10 @@ use Rattle.epx_types.specs.Ids.{id_cmp}
 use Rattle.epx_lines.specs.Elements.{whole, elements, each_of_at_most}
 
 abbrev pub id_of_pair : List Data → Option Id
-id_of_pair (r ∷ i ∷ []) = option_and_then (λ replica. option_map (λ number. record { replica = replica; number = number }) (whole (2 ^ 64) i)) (whole 256 r)
+id_of_pair (r ∷ i ∷ []) =
+    option_and_then
+    (λ replica. option_map (λ number. record { replica = replica; number = number })
+    (whole (2 ^ 64) i)) (whole 256 r)
 id_of_pair _ = None
 
 -- the Id that is written as `[r,i]`

@@ -1,5 +1,6 @@
 -- Numbers and lists in a JSON value.
-use Rattle.std.specs.Prelude.{ℕ, nat_lt, nat_le, ℤ, List, [], ◌∷◌, length, Option, Some, None, option_map, option_and_then, if◌then◌else◌}
+use Rattle.std.specs.Prelude.{ℕ, nat_lt, nat_le, ℤ, List, [], ◌∷◌, length, Option, Some, None}
+use Rattle.std.specs.Prelude.{option_map, option_and_then, if◌then◌else◌}
 use Rattle.serde_json.specs.Data.{Data, Items, no_items, item}
 use Rattle.serde_json.specs.Find.{as_array, as_number, as_u64, as_i64}
 

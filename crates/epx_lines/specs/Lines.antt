@@ -1,5 +1,6 @@
 -- The lines of a log.
-use Rattle.std.specs.Prelude.{◌≡◌, ℕ, ◌-◌, ◌==◌, ◌&&◌, Bool, not, nat_lt, List, [], ◌∷◌, ◌++◌, length, slice_index, flat_map, All, Contains, if◌then◌else◌}
+use Rattle.std.specs.Prelude.{◌≡◌, ℕ, ◌-◌, ◌==◌, ◌&&◌, Bool, not, nat_lt, List, [], ◌∷◌, ◌++◌}
+use Rattle.std.specs.Prelude.{length, slice_index, flat_map, All, Contains, if◌then◌else◌}
 
 -- puts a byte in front of the first line
 abbrev pub prepend_to_first : ℕ → List (List ℕ) → List (List ℕ)
@@ -33,4 +34,5 @@ LinesMakeUpTheBytes = (bytes : List ℕ) → AreLinesOf bytes (lines_of bytes)
 
 -- no other list of lines is such
 abbrev pub LinesAreOne : Type 0
-LinesAreOne = (bytes : List ℕ) (lines : List (List ℕ)) → AreLinesOf bytes lines → lines ≡ lines_of bytes
+LinesAreOne = (bytes : List ℕ) (lines : List (List ℕ)) → AreLinesOf bytes lines
+    → lines ≡ lines_of bytes

@@ -1,5 +1,7 @@
 -- What a line of a log means: nothing, a committed instance, or the first fault.
-use Rattle.std.specs.Prelude.{ℕ, ◌^◌, ◌==◌, ◌||◌, Bool, true, false, nat_lt, List, length, codes, Option, Some, None, is_some, Result, Ok, Err, option_and_then, if◌then◌else◌}
+use Rattle.std.specs.Prelude.{ℕ, ◌^◌, ◌==◌, ◌||◌, Bool, true, false, nat_lt, List, length, codes}
+use Rattle.std.specs.Prelude.{Option, Some, None, is_some, Result, Ok, Err, option_and_then}
+use Rattle.std.specs.Prelude.{if◌then◌else◌}
 use Rattle.std.specs.List.{list_all}
 use Rattle.std.specs.Str.{is_utf8, bytes_eq}
 use Rattle.serde_json.specs.Data.{Data}
@@ -7,7 +9,8 @@ use Rattle.serde_json.specs.Read.{read}
 use Rattle.serde_json.specs.Find.{get, as_object, as_str}
 use Rattle.epx_types.specs.declared.id.Id.{Id}
 use Rattle.epx_types.specs.declared.fault.Why.{Why}
-use Rattle.epx_types.specs.declared.fault.Why.TheVariants.{TooLong, NotJson, NotObject, Replica, Number, Seq, Status, Deps, Ops}
+use Rattle.epx_types.specs.declared.fault.Why.TheVariants.{TooLong, NotJson, NotObject, Replica}
+use Rattle.epx_types.specs.declared.fault.Why.TheVariants.{Number, Seq, Status, Deps, Ops}
 use Rattle.epx_lines.specs.declared.Line.{Line}
 use Rattle.epx_lines.specs.declared.Line.TheVariants.{Blank, Entry}
 use Rattle.epx_lines.specs.Elements.{whole}
@@ -42,7 +45,8 @@ at_member name f d = option_and_then f (get name d)
 abbrev pub committed_by : List ℕ → Option Bool
 committed_by text =
     if bytes_eq text (codes "committed") || bytes_eq text (codes "executed") then Some true else
-    (if bytes_eq text (codes "accepted") || bytes_eq text (codes "pre-accepted") then Some false else None)
+    (if bytes_eq text (codes "accepted") || bytes_eq text (codes "pre-accepted") then Some false
+    else None)
 
 -- the same by the member `status` of an object; without one the instance is committed
 abbrev pub is_committed : Option Data → Option Bool
@@ -76,4 +80,5 @@ meaning_of_value d = if is_some (as_object d) then meaning_of_object d else Err 
 abbrev pub meaning_of : List ℕ → Result Line Why
 meaning_of bytes =
     if is_blank bytes then Ok Blank else
-    (if nat_lt max_line_bytes (length bytes) then Err TooLong else need NotJson (json_of bytes) meaning_of_value)
+    (if nat_lt max_line_bytes (length bytes) then Err TooLong else need NotJson (json_of bytes)
+    meaning_of_value)

@@ -1,5 +1,6 @@
 -- The operations of a line.
-use Rattle.std.specs.Prelude.{◌&&◌, nat_lt, nat_le, ℕ, ℤ, List, [], ◌∷◌, length, codes, Option, Some, None, option_map, option_and_then, if◌then◌else◌}
+use Rattle.std.specs.Prelude.{◌&&◌, nat_lt, nat_le, ℕ, ℤ, List, [], ◌∷◌, length, codes, Option}
+use Rattle.std.specs.Prelude.{Some, None, option_map, option_and_then, if◌then◌else◌}
 use Rattle.std.specs.Str.{bytes_eq}
 use Rattle.serde_json.specs.Data.{Data, null}
 use Rattle.serde_json.specs.Find.{as_str}
@@ -35,8 +36,10 @@ op_with_value name k d =
     (if bytes_eq name (codes "copy") then option_map (op.Copy k) (key_of d) else None))))
 
 abbrev pub op_of_list : List Data → Option Op
-op_of_list (n ∷ k ∷ []) = option_and_then (λ name. option_and_then (op_with_key name) (key_of k)) (as_str n)
-op_of_list (n ∷ k ∷ d ∷ []) = option_and_then (λ name. option_and_then (λ key. op_with_value name key d) (key_of k)) (as_str n)
+op_of_list (n ∷ k ∷ []) = option_and_then (λ name. option_and_then (op_with_key name) (key_of k))
+    (as_str n)
+op_of_list (n ∷ k ∷ d ∷ []) = option_and_then
+    (λ name. option_and_then (λ key. op_with_value name key d) (key_of k)) (as_str n)
 op_of_list _ = None
 
 -- one operation

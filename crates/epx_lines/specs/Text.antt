@@ -1,6 +1,7 @@
 -- How an instance is written as a line.
 use Rattle.std.specs.Prelude.{ℕ, ℤ, List, map, codes, Option, Some, None}
-use Rattle.serde_json.specs.Data.{Data, null, number, unsigned, string, array, object, item, no_items, member, no_members}
+use Rattle.serde_json.specs.Data.{Data, null, number, unsigned, string, array, object, item}
+use Rattle.serde_json.specs.Data.{no_items, member, no_members}
 use Rattle.serde_json.specs.Find.{of_integer}
 use Rattle.serde_json.specs.View.{items_of}
 use Rattle.serde_json.specs.Written.{compact_text}
@@ -11,7 +12,8 @@ use Rattle.epx_types.specs.Instances.{Instance}
 
 -- a dependency, as `[r,i]`
 abbrev pub data_of_id : Id → Data
-data_of_id x = array (item (number (unsigned x.replica)) (item (number (unsigned x.number)) no_items))
+data_of_id x =
+    array (item (number (unsigned x.replica)) (item (number (unsigned x.number)) no_items))
 
 abbrev pub data_of_value : Option ℤ → Data
 data_of_value None = null
@@ -44,7 +46,8 @@ object_with r i seq deps ops = object (
 
 -- the object of an instance
 abbrev pub object_of : Instance → Data
-object_of e = object_with e.id.replica e.id.number e.seq (array (items_of (map data_of_id e.deps))) (array (items_of (map data_of_op e.ops)))
+object_of e = object_with e.id.replica e.id.number e.seq (array (items_of (map data_of_id e.deps)))
+    (array (items_of (map data_of_op e.ops)))
 
 -- the line, without its line feed
 abbrev pub line_text : Instance → List ℕ

@@ -1,5 +1,6 @@
 -- Values at the front of a line's tokens.
-use Rattle.std.specs.Prelude.{◌≡◌, ℕ, ◌^◌, ◌≤◌, List, [], ◌∷◌, true, codes, Option, Some, IfSome, option_map}
+use Rattle.std.specs.Prelude.{◌≡◌, ℕ, ◌^◌, ◌≤◌, List, [], ◌∷◌, true, codes, Option, Some, IfSome}
+use Rattle.std.specs.Prelude.{option_map}
 use Rattle.std.specs.Str.Parse.{IsNumeral, digits_value}
 use Rattle.json.specs.Token.{Token}
 use Rattle.json.specs.Json.{value}
@@ -18,7 +19,8 @@ AreDigitsOf text n = IsNumeral 10 text × (digits_value 10 text ≡ n)
 
 -- the tokens begin with the value d, whose lists nest at most n levels deep, and `rest` follows
 abbrev pub BeginsWith : ℕ → List Token → Data → List Token → Type 0
-BeginsWith n ts d rest = (depth : ℕ) → n ≤ depth → converted of_json (value depth ts) ≡ Some (d, rest)
+BeginsWith n ts d rest = (depth : ℕ) → n ≤ depth
+    → converted of_json (value depth ts) ≡ Some (d, rest)
 
 -- the tokens begin with a value for which f returns x
 abbrev pub ParsesTo : {A : Type 0} → ℕ → (Data → Option A) → List Token → A → List Token → Type 0
@@ -27,10 +29,12 @@ ParsesTo n f ts x rest = (d : Data) × BeginsWith n ts d rest × (f d ≡ Some x
 -- the tokens begin with the values ds, one after another
 abbrev pub BeginsWithAll : ℕ → List Token → List Data → List Token → Type 0
 BeginsWithAll n ts [] rest = ts ≡ rest
-BeginsWithAll n ts (d ∷ ds) rest = (mid : List Token) × BeginsWith n ts d mid × BeginsWithAll n mid ds rest
+BeginsWithAll n ts (d ∷ ds) rest = (mid : List Token) × BeginsWith n ts d mid
+    × BeginsWithAll n mid ds rest
 
 -- the tokens begin with values for which f returns x
-abbrev pub ParsesAllTo : {A : Type 0} → ℕ → (List Data → Option A) → List Token → A → List Token → Type 0
+abbrev pub ParsesAllTo : {A : Type 0} → ℕ → (List Data → Option A) → List Token → A → List Token
+    → Type 0
 ParsesAllTo n f ts x rest = (ds : List Data) × BeginsWithAll n ts ds rest × (f ds ≡ Some x)
 
 -- if the part is known, it is f of the object's member
@@ -42,7 +46,8 @@ pub record HoldsParts (ms : Members) (p : Parts) : Type 0 where
   pub replica : IsMember (codes "r") (whole 256) ms p.replica
   pub number : IsMember (codes "i") (whole (2 ^ 64)) ms p.number
   pub seq : IsMember (codes "seq") (whole (2 ^ 64)) ms p.seq
-  pub named : IsMember (codes "deps") (each_of_at_most 256 id_of) ms (option_map (λ v. v.items) p.named)
+  pub named : IsMember (codes "deps") (each_of_at_most 256 id_of) ms
+      (option_map (λ v. v.items) p.named)
   pub ops : IsMember (codes "ops") ops_of ms (option_map (λ v. v.items) p.ops)
   pub status : is_committed (get (codes "status") (object ms)) ≡ Some true
 
@@ -50,4 +55,5 @@ pub record HoldsParts (ms : Members) (p : Parts) : Type 0 where
 -- of
 -- the object with this value under the name
 abbrev pub AddsMember : List ℕ → List Token → List Token → Parts → Parts → Type 0
-AddsMember name ts rest old new = (d : Data) × BeginsWith 2 ts d rest × ((ms : Members) → HoldsParts ms old → HoldsParts (put name d ms) new)
+AddsMember name ts rest old new = (d : Data) × BeginsWith 2 ts d rest
+    × ((ms : Members) → HoldsParts ms old → HoldsParts (put name d ms) new)

@@ -7,7 +7,8 @@ ghost use Rattle.epx_types.specs.declared.fault.Why.TheVariants.{NotJson};
 ghost use Rattle.epx_lines.specs.declared.Line.TheVariants as line;
 ghost use Rattle.epx_lines.specs.DependencyList.{id_of};
 ghost use Rattle.epx_lines.specs.Elements.{whole, each_of_at_most};
-ghost use Rattle.epx_lines.specs.Meaning.{json_of, need, is_committed, meaning_of_value, meaning_of_object};
+ghost use Rattle.epx_lines.specs.Meaning.{json_of, need, is_committed, meaning_of_value};
+ghost use Rattle.epx_lines.specs.Meaning.{meaning_of_object};
 ghost use Rattle.epx_lines.specs.OperationList.{op_with_value, op_of, ops_of};
 ghost use Rattle.epx_lines.specs.Tokens.{BeginsWith, ParsesTo, HoldsParts, AddsMember};
 
@@ -89,7 +90,8 @@ fn take_ids(alloc: Global, reader: &mut Reader<'_>, ids: &mut Vec<Id>) -> Option
 
 /// Takes the value after the name and the key of an operation. Returns the operation.
 fn take_op_with(alloc: Global, reader: &mut Reader<'_>, name: &str, key: Key) -> Option<Op>
-    ensures { IfSome result (λ op. ParsesTo 0 (op_with_value name.now key) reader.old op reader.new) }
+    ensures { IfSome result
+        (λ op. ParsesTo 0 (op_with_value name.now key) reader.old op reader.new) }
 {
     match reader.next()? {
         Token::Number(text) => op_with_number(name, key, read_signed(text)?),
@@ -195,7 +197,8 @@ fn take_parts(alloc: Global, reader: &mut Reader<'_>, lists: &mut ListBuffers) -
 
 fn entry_from_parts(alloc: Global, parts: Parts) -> Option<Entry>
     ensures { IfSome result
-        (λ e. (ms : Members) → HoldsParts ms parts → meaning_of_object (object ms) ≡ Ok (line.Entry e)) }
+        (λ e. (ms : Members) → HoldsParts ms parts
+        → meaning_of_object (object ms) ≡ Ok (line.Entry e)) }
 {
     let Parts {
         replica,

@@ -2,7 +2,8 @@
 ghost use Rattle.std.specs.Prelude.{◌≡◌, Some, IfOk, option_map};
 ghost use Rattle.serde_json.specs.Data.{Data, null};
 ghost use Rattle.serde_json.specs.View.{view};
-ghost use Rattle.epx_lines.specs.OperationList.{key_of, value_or_null, op_with_key, op_with_value, op_of, ops_of};
+ghost use Rattle.epx_lines.specs.OperationList.{key_of, value_or_null, op_with_key, op_with_value};
+ghost use Rattle.epx_lines.specs.OperationList.{op_of, ops_of};
 ghost use Rattle.epx_lines.specs.Elements.{signed};
 
 use epx_types::entry::MAX_OPS;

@@ -3,7 +3,8 @@ ghost use Rattle.std.specs.Prelude.{◌≡◌, Ok, IfOk, IfErr, codes, option_ma
 ghost use Rattle.serde_json.specs.Find.{get};
 ghost use Rattle.serde_json.specs.View.{view};
 ghost use Rattle.epx_types.specs.declared.fault.Why.TheVariants.{NotJson};
-ghost use Rattle.epx_lines.specs.Meaning.{is_blank, json_of, need, at_member, is_committed, meaning_of_object, meaning_of_value, meaning_of};
+ghost use Rattle.epx_lines.specs.Meaning.{is_blank, json_of, need, at_member, is_committed};
+ghost use Rattle.epx_lines.specs.Meaning.{meaning_of_object, meaning_of_value, meaning_of};
 ghost use Rattle.epx_lines.specs.DependencyList.{deps_of};
 ghost use Rattle.epx_lines.specs.OperationList.{ops_of};
 ghost use Rattle.epx_lines.specs.Faults.{IsFaultOf};

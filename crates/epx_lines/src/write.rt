@@ -1,10 +1,13 @@
 //! Writes an entry as a line.
-ghost use Rattle.std.specs.Prelude.{◌≡◌, ◌≤◌, length, map, All, Ok, IfOk, OnOk, IfSome, string_bytes};
+ghost use Rattle.std.specs.Prelude.{◌≡◌, ◌≤◌, length, map, All, Ok, IfOk, OnOk, IfSome};
+ghost use Rattle.std.specs.Prelude.{string_bytes};
 ghost use Rattle.serde_json.specs.Data.{number};
 ghost use Rattle.serde_json.specs.Find.{of_integer};
 ghost use Rattle.serde_json.specs.View.{view};
-ghost use Rattle.epx_lines.specs.Text.{data_of_id, data_of_value, data_of_op, object_with, object_of, line_text};
-ghost use Rattle.epx_lines.specs.inner.WrittenParts.{IsWritableId, IsWritableValue, IsWritableOp, FitNumbers, IsWritableEntry};
+ghost use Rattle.epx_lines.specs.Text.{data_of_id, data_of_value, data_of_op, object_with};
+ghost use Rattle.epx_lines.specs.Text.{object_of, line_text};
+ghost use Rattle.epx_lines.specs.inner.WrittenParts.{IsWritableId, IsWritableValue, IsWritableOp};
+ghost use Rattle.epx_lines.specs.inner.WrittenParts.{FitNumbers, IsWritableEntry};
 ghost use Rattle.epx_lines.specs.Meaning.{max_line_bytes, meaning_of};
 ghost use Rattle.epx_lines.specs.declared.Line.TheVariants as line;
 

@@ -2,14 +2,17 @@
 -- reading.
 use Rattle.std.proofs.Common.{List, Result, Ok, Err, MatchResult, ℕ}
 use Rattle.epx_types.specs.declared.fault.Fault.{Fault}
-use Rattle.epx_types.specs.declared.fault.Fault.TheVariants.{Memory, TooManyLogs, LogTooLong, BadLine, TooManyInstances, Disagree, Read, Write, BadBase}
+use Rattle.epx_types.specs.declared.fault.Fault.TheVariants.{Memory, TooManyLogs, LogTooLong}
+use Rattle.epx_types.specs.declared.fault.Fault.TheVariants.{BadLine, TooManyInstances, Disagree}
+use Rattle.epx_types.specs.declared.fault.Fault.TheVariants.{Read, Write, BadBase}
 use Rattle.epx_types.specs.Instances.{Instance}
 use Rattle.epx_merge.specs.LogLines.{placed_of, bad_lines_of}
 use Rattle.epx_merge.specs.Refusals.{FitLimits, AreWellFormed, IsRefusal}
 use Rattle.epx_merge.specs.Acceptance.{IsAccepted}
 use Rattle.epx_merge.specs.Steps.{IsMerged, IsMergeFault, IsReadFault}
 
-pub fault_refuses : (logs : List (List ℕ)) → AreWellFormed logs → (f : Fault) → IsMergeFault (placed_of logs) f → IsRefusal logs f
+pub fault_refuses : (logs : List (List ℕ)) → AreWellFormed logs → (f : Fault)
+    → IsMergeFault (placed_of logs) f → IsRefusal logs f
 fault_refuses logs whole Memory h = h
 fault_refuses logs whole TooManyLogs h = absurd h
 fault_refuses logs whole (LogTooLong log) h = absurd h
@@ -20,15 +23,21 @@ fault_refuses logs whole (Read log) h = absurd h
 fault_refuses logs whole Write h = absurd h
 fault_refuses logs whole (BadBase line) h = absurd h
 
-pub merged_accepts : (logs : List (List ℕ)) → AreWellFormed logs → (m : List Instance) → IsMerged (placed_of logs) m → IsAccepted logs m
-merged_accepts logs whole m h = record { whole = whole; small = h.small; agree = h.agree; committed = h.committed }
+pub merged_accepts : (logs : List (List ℕ)) → AreWellFormed logs → (m : List Instance)
+    → IsMerged (placed_of logs) m → IsAccepted logs m
+merged_accepts logs whole m h =
+    record { whole = whole; small = h.small; agree = h.agree; committed = h.committed }
 
-pub ledger_answers : (logs : List (List ℕ)) → AreWellFormed logs → (r : Result (List Instance) Fault) → MatchResult r (IsMerged (placed_of logs)) (IsMergeFault (placed_of logs)) → MatchResult r (IsAccepted logs) (IsRefusal logs)
+pub ledger_answers : (logs : List (List ℕ)) → AreWellFormed logs
+    → (r : Result (List Instance) Fault)
+    → MatchResult r (IsMerged (placed_of logs)) (IsMergeFault (placed_of logs))
+    → MatchResult r (IsAccepted logs) (IsRefusal logs)
 ledger_answers logs whole (Ok m) h = merged_accepts logs whole m h
 ledger_answers logs whole (Err f) h = fault_refuses logs whole f h
 
 -- a fault that stops the reading of logs that fit is their refusal
-pub read_fault_refuses : (logs : List (List ℕ)) → FitLimits logs → (f : Fault) → IsReadFault (bad_lines_of logs) f → IsRefusal logs f
+pub read_fault_refuses : (logs : List (List ℕ)) → FitLimits logs → (f : Fault)
+    → IsReadFault (bad_lines_of logs) f → IsRefusal logs f
 read_fault_refuses logs fits Memory h = h
 read_fault_refuses logs fits TooManyLogs h = absurd h
 read_fault_refuses logs fits (LogTooLong log) h = absurd h

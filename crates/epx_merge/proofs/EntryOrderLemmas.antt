@@ -7,18 +7,24 @@ use Rattle.epx_merge.specs.EntryLines.{entry_lines, entry_lines_from}
 use Rattle.epx_merge.specs.inner.LineOrder.{IsSortedByPlace}
 use Rattle.epx_merge.proofs.PlaceOrderLemmas.{earlier_line, distinct_places}
 
-from_line : (n : ℕ) (es : List Instance) (p : Placed) → Contains (entry_lines_from n es) p → (p.place.log ≡ 0) × (n ≤ p.place.line)
+from_line : (n : ℕ) (es : List Instance) (p : Placed) → Contains (entry_lines_from n es) p
+    → (p.place.log ≡ 0) × (n ≤ p.place.line)
 from_line n [] p h = absurd (Contains-nil p h)
 from_line n (e ∷ es) p h =
-    elim (Contains-cons_cases (record { place = record { log = 0; line = n }; instance = e }) (entry_lines_from (suc n) es) p h) [
-      | inl same ↦ (ap (λ (l : Placed). l.place.log) (sym same), omega (arith, ap (λ (l : Placed). l.place.line) same))
+    elim (Contains-cons_cases (record { place = record { log = 0; line = n }; instance = e })
+    (entry_lines_from (suc n) es) p h) [
+      | inl same ↦ (
+        ap (λ (l : Placed). l.place.log) (sym same),
+        omega (arith, ap (λ (l : Placed). l.place.line) same),
+      )
       | inr rest ↦ let r = from_line (suc n) es p rest in (r.0, omega (arith, r.1))
     ]
 
 in_order_from : (n : ℕ) (es : List Instance) → IsSortedByPlace (entry_lines_from n es)
 in_order_from n [] = tt
 in_order_from n (e ∷ es) = (
-  (λ p h. let later = from_line (suc n) es p h in earlier_line (record { log = 0; line = n }) p.place (sym later.0) (omega (arith, later.1))),
+  (λ p h. let later = from_line (suc n) es p h in
+      earlier_line (record { log = 0; line = n }) p.place (sym later.0) (omega (arith, later.1))),
   in_order_from (suc n) es,
 )
 

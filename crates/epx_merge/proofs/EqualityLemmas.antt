@@ -1,5 +1,6 @@
 -- The tests that compare two entries.
-use Rattle.std.proofs.Common.{◌≡◌, ◌≢◌, ◌⊎◌, inl, inr, ℕ, Bool, true, false, List, [], ◌∷◌, ap, arith, nat_cmp, is_eq, ℤ, refl, subst}
+use Rattle.std.proofs.Common.{◌≡◌, ◌≢◌, ◌⊎◌, inl, inr, ℕ, Bool, true, false, List, [], ◌∷◌, ap}
+use Rattle.std.proofs.Common.{arith, nat_cmp, is_eq, ℤ, refl, subst}
 use Rattle.std.specs.Bool.{Decides}
 use Rattle.std.specs.Cmp.Lexicographic.{slice_cmp}
 use Rattle.std.specs.Ordering.{int_eq}
@@ -18,8 +19,10 @@ tells : {P : Type 0} (r : Bool) → Decides r P → ((r ≡ true) × P) ⊎ ((r 
 tells true d = inl (refl, d.0 refl)
 tells false d = inr (refl, not_from_Decides false d refl)
 
-keys_decide : (k j : List ℕ) → ((is_eq (slice_cmp nat_cmp k j) ≡ true) × (k ≡ j)) ⊎ ((is_eq (slice_cmp nat_cmp k j) ≡ false) × (k ≢ j))
-keys_decide k j = tells (is_eq (slice_cmp nat_cmp k j)) (Decides-at (is_eq (slice_cmp nat_cmp k j)) _ (is_eq-slice_cmp k j) (bytes_eq-Decides k j))
+keys_decide : (k j : List ℕ) → ((is_eq (slice_cmp nat_cmp k j) ≡ true) × (k ≡ j))
+    ⊎ ((is_eq (slice_cmp nat_cmp k j) ≡ false) × (k ≢ j))
+keys_decide k j = tells (is_eq (slice_cmp nat_cmp k j))
+    (Decides-at (is_eq (slice_cmp nat_cmp k j)) _ (is_eq-slice_cmp k j) (bytes_eq-Decides k j))
 
 numbers_decide : (m n : ℤ) → ((int_eq m n ≡ true) × (m ≡ n)) ⊎ ((int_eq m n ≡ false) × (m ≢ n))
 numbers_decide m n = tells (int_eq m n) (Decides-int_eq m n)
@@ -32,7 +35,11 @@ op_itself a = grind (arith, keys_decide, numbers_decide)
 
 -- `==` decides the equality of operations, and of Ids
 pub ops_decide : (a b : Op) → Decides (op_eq.eq-value.it a b) (a ≡ b)
-ops_decide a b = (op_true a b, λ e. let P : Op → Type 0 = λ o. op_eq.eq-value.it a o ≡ true in subst P e (op_itself a))
+ops_decide a b = (
+  op_true a b,
+  λ e. let P : Op → Type 0 = λ o. op_eq.eq-value.it a o ≡ true in
+      subst P e (op_itself a),
+)
 
 pub ids_decide : (a b : Id) → Decides (id_eq.eq-value.it a b) (a ≡ b)
 ids_decide a b = (λ h. grind (arith, nat_tests), λ e. grind (arith, nat_tests))
@@ -42,7 +49,8 @@ ids_decide a b = (λ h. grind (arith, nat_tests), λ e. grind (arith, nat_tests)
 by_test : {X : Type 0} (r : Bool) (x y : X) → Decides r (x ≡ y) → (x ≡ y) ⊎ (x ≢ y)
 by_test r x y d = elim (tells r d) [ inl holds ↦ inl holds.1 | inr fails ↦ inr fails.1 ]
 
-list_cases : {X : Type 0} → ((x y : X) → (x ≡ y) ⊎ (x ≢ y)) → (xs ys : List X) → (xs ≡ ys) ⊎ (xs ≢ ys)
+list_cases : {X : Type 0} → ((x y : X) → (x ≡ y) ⊎ (x ≢ y)) → (xs ys : List X)
+    → (xs ≡ ys) ⊎ (xs ≢ ys)
 list_cases each [] [] = inl refl
 list_cases each [] (y ∷ ys) = inr (λ e. cc e)
 list_cases each (x ∷ xs) [] = inr (λ e. cc e)

@@ -1,5 +1,6 @@
 -- What a ledger with sorted keys says of its lines.
-use Rattle.std.proofs.Common.{◌≡◌, inl, inr, List, [], ◌∷◌, map, Contains, Some, None, slice_get, IsPermutation, refl, sym, subst, ◌∙◌}
+use Rattle.std.proofs.Common.{◌≡◌, inl, inr, List, [], ◌∷◌, map, Contains, Some, None, slice_get}
+use Rattle.std.proofs.Common.{IsPermutation, refl, sym, subst, ◌∙◌}
 use Rattle.std.specs.List.{IsDistinct}
 use Rattle.std.specs.List.Sorted.{IsSorted}
 use Rattle.std.proofs.lemmas.List.Sorted.{IsPermutation-sym, Contains-permutation}
@@ -9,13 +10,15 @@ use Rattle.epx_types.specs.Instances.{Instance}
 use Rattle.epx_types.specs.PlacedLines.{Placed}
 use Rattle.epx_types.specs.Agreement.{Agree, Differ}
 use Rattle.epx_types.specs.CommittedMap.{ids_of, IsCommittedBy}
-use Rattle.epx_types.proofs.lists.MembershipLemmas.{Contains-nil, Contains-head, Contains-cons, Contains-map, Contains-from_map}
+use Rattle.epx_types.proofs.lists.MembershipLemmas.{Contains-nil, Contains-head, Contains-cons}
+use Rattle.epx_types.proofs.lists.MembershipLemmas.{Contains-map, Contains-from_map}
 use Rattle.epx_types.proofs.graph.WaitingLemmas.{Contains-Id_cases}
 use Rattle.epx_merge.specs.declared.ledger.Disagreement.{Disagreement}
 use Rattle.epx_merge.specs.Refusals.{AreNamedBy, IsDisagreementAt}
 use Rattle.epx_merge.specs.inner.Ledgers.{LedgerView, IsLineOf, IsLedgerOf}
 use Rattle.epx_merge.specs.inner.LineOrder.{IsSortedByPlace}
-use Rattle.epx_merge.proofs.FirstWhereLemmas.{IsFirstWhere-contains, IsFirstWhere-holds, IsFirstWhere-earliest}
+use Rattle.epx_merge.proofs.FirstWhereLemmas.{IsFirstWhere-contains, IsFirstWhere-holds}
+use Rattle.epx_merge.proofs.FirstWhereLemmas.{IsFirstWhere-earliest}
 use Rattle.epx_merge.proofs.LedgerLemmas.{keys, key_of_entry}
 use Rattle.epx_merge.proofs.LedgerMapLemmas.{same_id}
 use Rattle.epx_merge.proofs.SortedKeyLemmas.{rising_from_sorted, first_is_least}
@@ -24,7 +27,9 @@ abbrev pub instances_of : List (Id × Placed) → List Instance
 instances_of es = map (λ e. e.1.instance) es
 
 -- the Ids of the lines, where each line has the Id of its instance
-keys-named : (firsts : List (Id × Placed)) → ((x : Id) (p : Placed) → Contains firsts (x, p) → p.instance.id ≡ x) → keys firsts ≡ ids_of (instances_of firsts)
+keys-named : (firsts : List (Id × Placed))
+    → ((x : Id) (p : Placed) → Contains firsts (x, p) → p.instance.id ≡ x)
+    → keys firsts ≡ ids_of (instances_of firsts)
 keys-named [] named = refl
 keys-named (e ∷ es) named =
     let first : e.0 ≡ e.1.instance.id = sym (named e.0 e.1 (Contains-head e es)) in
@@ -39,30 +44,37 @@ module _ (lines : List Placed) (noted : LedgerView) (ledger : IsLedgerOf lines n
   first_line : (x : Id) (p : Placed) → Contains noted.firsts (x, p) → Contains lines p
   first_line x p h = IsFirstWhere-contains (IsLineOf x) lines p (ledger.firsts x p h)
 
-  first_of : (p : Placed) → Contains lines p → (f : Placed) × Contains noted.firsts (p.instance.id, f)
+  first_of : (p : Placed) → Contains lines p
+      → (f : Placed) × Contains noted.firsts (p.instance.id, f)
   first_of p h =
-      let at = Contains-from_map (λ (e : Id × Placed). e.0) noted.firsts p.instance.id (ledger.whole p h) in
+      let at = Contains-from_map (λ (e : Id × Placed). e.0) noted.firsts p.instance.id
+      (ledger.whole p h) in
       (at.0.1, subst (λ (x : Id). Contains noted.firsts (x, at.0.1)) at.2 at.1)
 
   -- without disagreements the lines agree
   pub Agree-from_ledger : ((x : Id) → ¬ Contains (keys noted.disagreements) x) → Agree lines
   Agree-from_ledger none p q in_p in_q same =
       let f = first_of p in_p in
-      sym (ledger.alike p.instance.id f.0 f.1 (none p.instance.id) p in_p refl) ∙ ledger.alike p.instance.id f.0 f.1 (none p.instance.id) q in_q (sym same)
+      sym (ledger.alike p.instance.id f.0 f.1 (none p.instance.id) p in_p refl)
+      ∙ ledger.alike p.instance.id f.0 f.1 (none p.instance.id) q in_q (sym same)
 
   -- two lines that differ belong to an instance with a disagreement
-  disagreement_of : (p q : Placed) → Contains lines p → Contains lines q → Differ p q → Contains (keys noted.disagreements) p.instance.id
+  disagreement_of : (p q : Placed) → Contains lines p → Contains lines q → Differ p q
+      → Contains (keys noted.disagreements) p.instance.id
   disagreement_of p q in_p in_q differ =
       elim (Contains-Id_cases (keys noted.disagreements) p.instance.id) [
         | inl has ↦ has
         | inr none ↦
             let f = first_of p in_p in
-            absurd (differ.1 (sym (ledger.alike p.instance.id f.0 f.1 none p in_p refl) ∙ ledger.alike p.instance.id f.0 f.1 none q in_q (sym differ.0)))
+            absurd (differ.1 (sym (ledger.alike p.instance.id f.0 f.1 none p in_p refl)
+            ∙ ledger.alike p.instance.id f.0 f.1 none q in_q (sym differ.0)))
       ]
 
-  module _ (firsts : List (Id × Placed)) (moved : IsPermutation noted.firsts firsts) (sorted : IsSorted id_cmp (keys firsts)) (distinct : IsDistinct same_id (keys firsts)) where
+  module _ (firsts : List (Id × Placed)) (moved : IsPermutation noted.firsts firsts)
+      (sorted : IsSorted id_cmp (keys firsts)) (distinct : IsDistinct same_id (keys firsts)) where
     back : (x : Id) (p : Placed) → Contains firsts (x, p) → Contains noted.firsts (x, p)
-    back x p h = Contains-permutation firsts noted.firsts (x, p) (IsPermutation-sym noted.firsts firsts moved) h
+    back x p h = Contains-permutation firsts noted.firsts (x, p)
+        (IsPermutation-sym noted.firsts firsts moved) h
 
     there : (x : Id) (p : Placed) → Contains noted.firsts (x, p) → Contains firsts (x, p)
     there x p h = Contains-permutation noted.firsts firsts (x, p) moved h
@@ -71,7 +83,8 @@ module _ (lines : List Placed) (noted : LedgerView) (ledger : IsLedgerOf lines n
     pub AreNamedBy-sorted : AreNamedBy lines (keys firsts)
     AreNamedBy-sorted = record {
       rising = rising_from_sorted (keys firsts) sorted distinct;
-      whole = λ p h. let f = first_of p h in key_of_entry firsts p.instance.id f.0 (there p.instance.id f.0 f.1);
+      whole = λ p h. let f = first_of p h in
+          key_of_entry firsts p.instance.id f.0 (there p.instance.id f.0 f.1);
       named = λ x h.
           let e = Contains-from_map (λ (d : Id × Placed). d.0) firsts x h in
           let old = back e.0.0 e.0.1 e.1 in
@@ -81,18 +94,25 @@ module _ (lines : List Placed) (noted : LedgerView) (ledger : IsLedgerOf lines n
     -- if the lines agree, they commit the instances of their first lines
     pub IsCommittedBy-sorted : Agree lines → IsCommittedBy lines (instances_of firsts)
     IsCommittedBy-sorted agree = record {
-      rising = subst IsRising (keys-named firsts (λ x p h. first_named x p (back x p h))) (rising_from_sorted (keys firsts) sorted distinct);
+      rising = subst IsRising (keys-named firsts (λ x p h. first_named x p (back x p h)))
+          (rising_from_sorted (keys firsts) sorted distinct);
       given = λ e h.
           let d = Contains-from_map (λ (f : Id × Placed). f.1.instance) firsts e h in
           (d.0.1, first_line d.0.0 d.0.1 (back d.0.0 d.0.1 d.1), d.2);
       whole = λ p h.
           let f = first_of p h in
-          let same = agree f.0 p (first_line p.instance.id f.0 f.1) h (first_named p.instance.id f.0 f.1) in
-          subst (Contains (instances_of firsts)) same (Contains-map (λ (d : Id × Placed). d.1.instance) firsts (p.instance.id, f.0) (there p.instance.id f.0 f.1));
+          let same = agree f.0 p (first_line p.instance.id f.0 f.1) h
+          (first_named p.instance.id f.0 f.1) in
+          subst (Contains (instances_of firsts)) same
+          (Contains-map (λ (d : Id × Placed). d.1.instance) firsts (p.instance.id, f.0)
+          (there p.instance.id f.0 f.1));
     }
 
   -- the least of the disagreements is the first one
-  pub IsDisagreementAt-least : IsSortedByPlace lines → (x : Id) (disagreement : Disagreement) → Contains noted.disagreements (x, disagreement) → ((y : Id) → Contains (keys noted.disagreements) y → UpTo x y) → IsDisagreementAt lines x disagreement.first disagreement.second
+  pub IsDisagreementAt-least : IsSortedByPlace lines → (x : Id) (disagreement : Disagreement)
+      → Contains noted.disagreements (x, disagreement)
+      → ((y : Id) → Contains (keys noted.disagreements) y → UpTo x y)
+      → IsDisagreementAt lines x disagreement.first disagreement.second
   IsDisagreementAt-least order x disagreement has least =
       let h = ledger.disagreements x disagreement has in (
         h.first,
@@ -103,32 +123,50 @@ module _ (lines : List Placed) (noted : LedgerView) (ledger : IsLedgerOf lines n
           named = IsFirstWhere-holds (IsLineOf x) lines h.first h.opens;
           differ = IsFirstWhere-holds (Differ h.first) lines h.second h.differs;
           least = λ p q in_p in_q other. least p.instance.id (disagreement_of p q in_p in_q other);
-          opens = λ p in_p named. IsFirstWhere-earliest (IsLineOf x) lines order h.first h.opens p in_p named;
-          follows = λ q in_q other. IsFirstWhere-earliest (Differ h.first) lines order h.second h.differs q in_q other;
+          opens = λ p in_p named. IsFirstWhere-earliest (IsLineOf x) lines order h.first h.opens p
+              in_p named;
+          follows = λ q in_q other. IsFirstWhere-earliest (Differ h.first) lines order h.second
+              h.differs q in_q other;
         },
         h.first_place,
         h.second_place,
       )
 
   -- the same, after a sort
-  IsDisagreementAt-sorted : IsSortedByPlace lines → (x : Id) (disagreement : Disagreement) (rest : List (Id × Disagreement)) → IsPermutation noted.disagreements ((x, disagreement) ∷ rest) → IsSorted id_cmp (keys ((x, disagreement) ∷ rest)) → IsDisagreementAt lines x disagreement.first disagreement.second
+  IsDisagreementAt-sorted : IsSortedByPlace lines
+      → (x : Id) (disagreement : Disagreement) (rest : List (Id × Disagreement))
+      → IsPermutation noted.disagreements ((x, disagreement) ∷ rest)
+      → IsSorted id_cmp (keys ((x, disagreement) ∷ rest))
+      → IsDisagreementAt lines x disagreement.first disagreement.second
   IsDisagreementAt-sorted order x disagreement rest moved sorted =
       let disagreements : List (Id × Disagreement) = (x, disagreement) ∷ rest in
-      IsDisagreementAt-least order x disagreement (Contains-permutation disagreements noted.disagreements (x, disagreement) (IsPermutation-sym noted.disagreements disagreements moved) (Contains-head (x, disagreement) rest)) (λ y h.
+      IsDisagreementAt-least order x disagreement
+      (Contains-permutation disagreements noted.disagreements (x, disagreement)
+      (IsPermutation-sym noted.disagreements disagreements moved)
+      (Contains-head (x, disagreement) rest)) (λ y h.
       let at = Contains-from_map (λ (d : Id × Disagreement). d.0) noted.disagreements y h in
-      let among = Contains-map (λ (d : Id × Disagreement). d.0) disagreements at.0 (Contains-permutation noted.disagreements disagreements at.0 moved at.1) in
+      let among = Contains-map (λ (d : Id × Disagreement). d.0) disagreements at.0
+      (Contains-permutation noted.disagreements disagreements at.0 moved at.1) in
       first_is_least x (keys rest) sorted y (subst (Contains (keys disagreements)) at.2 among))
 
   -- the same, for the first element of the list
-  pub first_disagreement : IsSortedByPlace lines → (disagreements : List (Id × Disagreement)) (x : Id) (disagreement : Disagreement) → slice_get disagreements 0 ≡ Some (x, disagreement) → IsPermutation noted.disagreements disagreements → IsSorted id_cmp (keys disagreements) → IsDisagreementAt lines x disagreement.first disagreement.second
+  pub first_disagreement : IsSortedByPlace lines
+      → (disagreements : List (Id × Disagreement)) (x : Id) (disagreement : Disagreement)
+      → slice_get disagreements 0 ≡ Some (x, disagreement)
+      → IsPermutation noted.disagreements disagreements → IsSorted id_cmp (keys disagreements)
+      → IsDisagreementAt lines x disagreement.first disagreement.second
   first_disagreement order [] x disagreement at moved sorted = absurd (cc at)
   first_disagreement order (e ∷ rest) x disagreement at moved sorted =
       let first : ◌≡◌ {A = Id × Disagreement} e (x, disagreement) = cc at in
       IsDisagreementAt-sorted order x disagreement rest
-      (subst (λ (d : Id × Disagreement). IsPermutation noted.disagreements (d ∷ rest)) first moved) (subst (λ (d : Id × Disagreement). IsSorted id_cmp (keys (d ∷ rest))) first sorted)
+      (subst (λ (d : Id × Disagreement). IsPermutation noted.disagreements (d ∷ rest)) first moved)
+      (subst (λ (d : Id × Disagreement). IsSorted id_cmp (keys (d ∷ rest))) first sorted)
 
 -- a list without a first element has no key, nor had it before the sort
-pub no_disagreements : (before disagreements : List (Id × Disagreement)) → slice_get disagreements 0 ≡ None → IsPermutation before disagreements → (x : Id) → ¬ Contains (keys before) x
+pub no_disagreements : (before disagreements : List (Id × Disagreement))
+    → slice_get disagreements 0 ≡ None → IsPermutation before disagreements → (x : Id)
+    → ¬ Contains (keys before) x
 no_disagreements before [] none moved x h =
-    let e = Contains-from_map (λ (d : Id × Disagreement). d.0) before x h in Contains-nil e.0 (Contains-permutation before [] e.0 moved e.1)
+    let e = Contains-from_map (λ (d : Id × Disagreement). d.0) before x h in
+    Contains-nil e.0 (Contains-permutation before [] e.0 moved e.1)
 no_disagreements before (e ∷ rest) none moved x h = absurd (cc none)

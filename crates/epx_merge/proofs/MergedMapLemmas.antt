@@ -1,5 +1,6 @@
 -- The committed map, from rows that name its lines.
-use Rattle.std.proofs.Common.{◌≡◌, ◌<◌, ℕ, get_or, arith, List, map, length, MatchOption, Option, None, Some, slice_get, Contains, refl, sym, ap, subst, subst₂, ◌∙◌}
+use Rattle.std.proofs.Common.{◌≡◌, ◌<◌, ℕ, get_or, arith, List, map, length, MatchOption, Option}
+use Rattle.std.proofs.Common.{None, Some, slice_get, Contains, refl, sym, ap, subst, subst₂, ◌∙◌}
 use Rattle.std.proofs.lemmas.List.{length-map}
 use Rattle.std.proofs.lemmas.List.Elements.{All-contains}
 use Rattle.std.proofs.lemmas.Option.{slice_get_read}
@@ -27,39 +28,53 @@ module _ (lines : List Placed) (rows : List Row) (h : AreLineRows lines rows) wh
   rising_at = subst IsRising (sym ids_at) h.rising
 
   pub length_at : length (instances_at lines rows) ≡ length rows
-  length_at = sym (length-map (instances_at lines rows) (λ (e : Instance). e.id)) ∙ ap length ids_at ∙ length-map rows (λ (r : Row). r.id)
+  length_at = sym (length-map (instances_at lines rows) (λ (e : Instance). e.id))
+      ∙ ap length ids_at ∙ length-map rows (λ (r : Row). r.id)
 
-  row_stands : (k : ℕ) (r : Row) → slice_get rows k ≡ Some r → (p : Placed) × (slice_get lines r.line ≡ Some p) × (p.instance.id ≡ r.id) × (slice_get (instances_at lines rows) k ≡ Some p.instance)
+  row_stands : (k : ℕ) (r : Row) → slice_get rows k ≡ Some r
+      → (p : Placed) × (slice_get lines r.line ≡ Some p) × (p.instance.id ≡ r.id)
+      × (slice_get (instances_at lines rows) k ≡ Some p.instance)
   row_stands k r at =
       let p = named r (Contains-slice_get rows k r at) in
       (p.0, p.1, p.2, stands_under lines rows named k r p.0 at p.1)
 
   -- a row and the instance of its line have the same position
-  pub stands_at : (k : ℕ) (r : Row) → k < length (instances_at lines rows) → r ≡ get_or rows k r → (p : Placed) × (slice_get lines r.line ≡ Some p) × (p.instance.id ≡ r.id) × (slice_get (instances_at lines rows) k ≡ Some p.instance)
-  stands_at k r within is = row_stands k r (slice_get_read rows (length rows) k r refl (omega (arith, length_at, within)) is)
+  pub stands_at : (k : ℕ) (r : Row) → k < length (instances_at lines rows) → r ≡ get_or rows k r
+      → (p : Placed) × (slice_get lines r.line ≡ Some p) × (p.instance.id ≡ r.id)
+      × (slice_get (instances_at lines rows) k ≡ Some p.instance)
+  stands_at k r within is = row_stands k r
+      (slice_get_read rows (length rows) k r refl (omega (arith, length_at, within)) is)
 
-  pub found_position : (k : ℕ) (r : Row) (x : Id) → slice_get rows k ≡ Some r → r.id ≡ x → position_of (instances_at lines rows) x ≡ Some k
+  pub found_position : (k : ℕ) (r : Row) (x : Id) → slice_get rows k ≡ Some r → r.id ≡ x
+      → position_of (instances_at lines rows) x ≡ Some k
   found_position k r x at is =
       let p = row_stands k r at in
       position_of-found (instances_at lines rows) rising_at x k p.0.instance p.3 (p.2 ∙ is)
 
-  nowhere_at : (x : Id) → ¬ Contains (map (λ r. r.id) rows) x → (o : Option ℕ) → position_of (instances_at lines rows) x ≡ o → o ≡ None
+  nowhere_at : (x : Id) → ¬ Contains (map (λ r. r.id) rows) x → (o : Option ℕ)
+      → position_of (instances_at lines rows) x ≡ o → o ≡ None
   nowhere_at x none None at = refl
   nowhere_at x none (Some k) at =
       let e = position_of-instance (instances_at lines rows) x k at in
-      let has = Contains-map (λ (i : Instance). i.id) (instances_at lines rows) e.0 (Contains-slice_get (instances_at lines rows) k e.0 e.1) in
+      let has = Contains-map (λ (i : Instance). i.id) (instances_at lines rows) e.0
+      (Contains-slice_get (instances_at lines rows) k e.0 e.1) in
       absurd (none (subst₂ (λ (l : List Id) (y : Id). Contains l y) ids_at e.2 has))
 
-  no_position : (x : Id) → ¬ Contains (map (λ r. r.id) rows) x → position_of (instances_at lines rows) x ≡ None
+  no_position : (x : Id) → ¬ Contains (map (λ r. r.id) rows) x
+      → position_of (instances_at lines rows) x ≡ None
   no_position x none = nowhere_at x none (position_of (instances_at lines rows) x) refl
 
   -- the position that a search of the rows finds
-  pub position_among : (x : Id) (o : Option ℕ) → MatchOption o (¬ Contains (map (λ r. r.id) rows) x) (λ k. (r : Row) × (slice_get rows k ≡ Some r) × (r.id ≡ x)) → o ≡ position_of (instances_at lines rows) x
+  pub position_among : (x : Id) (o : Option ℕ)
+      → MatchOption o (¬ Contains (map (λ r. r.id) rows) x)
+      (λ k. (r : Row) × (slice_get rows k ≡ Some r) × (r.id ≡ x))
+      → o ≡ position_of (instances_at lines rows) x
   position_among x None none = sym (no_position x none)
   position_among x (Some k) r = sym (found_position k r.0 x r.1 r.2)
 
 -- an Id without a position is not found
-module _ (m : List Instance) (rising : IsRising (ids_of m)) (x : Id) (none : position_of m x ≡ None) where
+module _ (m : List Instance) (rising : IsRising (ids_of m)) (x : Id)
+    (none : position_of m x ≡ None) where
   not_found : (o : Option Instance) → instance_of m x ≡ o → None ≡ o
   not_found None found = refl
   not_found (Some e) found =

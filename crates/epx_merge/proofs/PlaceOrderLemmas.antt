@@ -1,17 +1,21 @@
 -- The lines of logs are sorted by place.
-use Rattle.std.proofs.Common.{◌≡◌, ◌⊎◌, inl, inr, ℕ, suc, ◌<◌, ◌≤◌, List, [], ◌∷◌, ◌++◌, flat_map, Contains, Result, Ok, Err, sym, ap, subst, subst₂, ◌∙◌, arith}
+use Rattle.std.proofs.Common.{◌≡◌, ◌⊎◌, inl, inr, ℕ, suc, ◌<◌, ◌≤◌, List, [], ◌∷◌, ◌++◌, flat_map}
+use Rattle.std.proofs.Common.{Contains, Result, Ok, Err, sym, ap, subst, subst₂, ◌∙◌, arith}
 use Rattle.std.proofs.lemmas.Bool.Decides.{nat_tests}
 use Rattle.std.proofs.lemmas.List.Elements.{Contains-append_cases}
 use Rattle.epx_types.specs.declared.place.Place.{Place}
 use Rattle.epx_types.specs.declared.fault.Why.{Why}
 use Rattle.epx_types.specs.PlacedLines.{Placed, Earlier, HaveDistinctPlaces}
 use Rattle.epx_types.proofs.lists.ComparisonLemmas.{place_cmp_total}
-use Rattle.epx_types.proofs.lists.MembershipLemmas.{Contains-nil, Contains-head, Contains-cons, Contains-cons_cases}
+use Rattle.epx_types.proofs.lists.MembershipLemmas.{Contains-nil, Contains-head, Contains-cons}
+use Rattle.epx_types.proofs.lists.MembershipLemmas.{Contains-cons_cases}
 use Rattle.epx_types.proofs.lists.TotalOrderLemmas.{below_irrefl}
 use Rattle.epx_lines.specs.Lines.{lines_of}
 use Rattle.epx_lines.specs.declared.Line.{Line}
 use Rattle.epx_lines.specs.declared.Line.TheVariants.{Blank, Entry}
-use Rattle.epx_merge.specs.LogLines.{MeaningAt, meaning_at, meanings_in, meanings_from, meanings_of, placed_at, placed_of, BadLineAt, bad_lines_at, bad_lines_of}
+use Rattle.epx_merge.specs.LogLines.{MeaningAt, meaning_at, meanings_in, meanings_from}
+use Rattle.epx_merge.specs.LogLines.{meanings_of, placed_at, placed_of, BadLineAt, bad_lines_at}
+use Rattle.epx_merge.specs.LogLines.{bad_lines_of}
 use Rattle.epx_merge.specs.inner.LineOrder.{AreSortedBy, IsSortedByPlace}
 use Rattle.epx_merge.specs.Refusals.{IsFirstBadLine}
 
@@ -23,7 +27,9 @@ earlier_line p q e h = grind (arith, nat_tests)
 
 -- ---- two sorted lists, where all of the first is before all of the second
 
-AreSortedBy-append : {X : Type 0} (at : X → Place) (xs ys : List X) → AreSortedBy at xs → AreSortedBy at ys → ((x y : X) → Contains xs x → Contains ys y → Earlier (at x) (at y)) → AreSortedBy at (xs ++ ys)
+AreSortedBy-append : {X : Type 0} (at : X → Place) (xs ys : List X) → AreSortedBy at xs
+    → AreSortedBy at ys → ((x y : X) → Contains xs x → Contains ys y → Earlier (at x) (at y))
+    → AreSortedBy at (xs ++ ys)
 AreSortedBy-append at [] ys a b before = b
 AreSortedBy-append at (x ∷ xs) ys a b before = (
   (λ y h. elim (Contains-append_cases xs ys y h) [
@@ -35,8 +41,11 @@ AreSortedBy-append at (x ∷ xs) ys a b before = (
 
 -- ---- the items of each line, at its own place
 
-module _ {Y : Type 0} (place : Y → Place) (given : MeaningAt → List Y) (at_line : (l : MeaningAt) (y : Y) → Contains (given l) y → place y ≡ l.place) (one : (l : MeaningAt) → AreSortedBy place (given l)) where
-  given_by : (lines : List MeaningAt) (y : Y) → Contains (flat_map given lines) y → (l : MeaningAt) × Contains lines l × (place y ≡ l.place)
+module _ {Y : Type 0} (place : Y → Place) (given : MeaningAt → List Y)
+    (at_line : (l : MeaningAt) (y : Y) → Contains (given l) y → place y ≡ l.place)
+    (one : (l : MeaningAt) → AreSortedBy place (given l)) where
+  given_by : (lines : List MeaningAt) (y : Y) → Contains (flat_map given lines) y
+      → (l : MeaningAt) × Contains lines l × (place y ≡ l.place)
   given_by [] y h = absurd (Contains-nil y h)
   given_by (l ∷ lines) y h =
       elim (Contains-append_cases (given l) (flat_map given lines) y h) [
@@ -44,31 +53,42 @@ module _ {Y : Type 0} (place : Y → Place) (given : MeaningAt → List Y) (at_l
         | inr later ↦ let r = given_by lines y later in (r.0, Contains-cons l lines r.0 r.1, r.2)
       ]
 
-  AreSortedBy-flat_map : (lines : List MeaningAt) → AreSortedBy (λ l. l.place) lines → AreSortedBy place (flat_map given lines)
+  AreSortedBy-flat_map : (lines : List MeaningAt) → AreSortedBy (λ l. l.place) lines
+      → AreSortedBy place (flat_map given lines)
   AreSortedBy-flat_map [] h = tt
   AreSortedBy-flat_map (l ∷ lines) h =
-      AreSortedBy-append place (given l) (flat_map given lines) (one l) (AreSortedBy-flat_map lines h.1) (λ x y hx hy.
+      AreSortedBy-append place (given l) (flat_map given lines) (one l)
+      (AreSortedBy-flat_map lines h.1) (λ x y hx hy.
       let later = given_by lines y hy in
       subst₂ Earlier (sym (at_line l x hx)) (sym later.2) (h.0 later.0 later.1))
 
 -- ---- all lines
 
-in_log : (log n : ℕ) (ls : List (List ℕ)) (x : MeaningAt) → Contains (meanings_in log n ls) x → (x.place.log ≡ log) × (n ≤ x.place.line)
+in_log : (log n : ℕ) (ls : List (List ℕ)) (x : MeaningAt) → Contains (meanings_in log n ls) x
+    → (x.place.log ≡ log) × (n ≤ x.place.line)
 in_log log n [] x h = absurd (Contains-nil x h)
 in_log log n (l ∷ ls) x h =
-    elim (Contains-cons_cases (meaning_at (record { log = log; line = n }) l) (meanings_in log (suc n) ls) x h) [
-      | inl e ↦ (ap (λ (m : MeaningAt). m.place.log) (sym e), omega (arith, ap (λ (m : MeaningAt). m.place.line) e))
+    elim (Contains-cons_cases (meaning_at (record { log = log; line = n }) l)
+    (meanings_in log (suc n) ls) x h) [
+      | inl e ↦ (
+        ap (λ (m : MeaningAt). m.place.log) (sym e),
+        omega (arith, ap (λ (m : MeaningAt). m.place.line) e),
+      )
       | inr rest ↦ let r = in_log log (suc n) ls x rest in (r.0, omega (arith, r.1))
     ]
 
-lines_in_order : (log n : ℕ) (ls : List (List ℕ)) → AreSortedBy (λ l. l.place) (meanings_in log n ls)
+lines_in_order : (log n : ℕ) (ls : List (List ℕ))
+    → AreSortedBy (λ l. l.place) (meanings_in log n ls)
 lines_in_order log n [] = tt
 lines_in_order log n (l ∷ ls) = (
-  (λ y h. let later = in_log log (suc n) ls y h in earlier_line (record { log = log; line = n }) y.place (sym later.0) (omega (arith, later.1))),
+  (λ y h. let later = in_log log (suc n) ls y h in
+      earlier_line (record { log = log; line = n }) y.place (sym later.0)
+      (omega (arith, later.1))),
   lines_in_order log (suc n) ls,
 )
 
-from_log : (n : ℕ) (logs : List (List ℕ)) (x : MeaningAt) → Contains (meanings_from n logs) x → n ≤ x.place.log
+from_log : (n : ℕ) (logs : List (List ℕ)) (x : MeaningAt) → Contains (meanings_from n logs) x
+    → n ≤ x.place.log
 from_log n [] x h = absurd (Contains-nil x h)
 from_log n (log ∷ logs) x h =
     elim (Contains-append_cases (meanings_in n 1 (lines_of log)) (meanings_from (suc n) logs) x h) [
@@ -79,12 +99,16 @@ from_log n (log ∷ logs) x h =
 logs_in_order : (n : ℕ) (logs : List (List ℕ)) → AreSortedBy (λ l. l.place) (meanings_from n logs)
 logs_in_order n [] = tt
 logs_in_order n (log ∷ logs) =
-    AreSortedBy-append (λ (l : MeaningAt). l.place) (meanings_in n 1 (lines_of log)) (meanings_from (suc n) logs) (lines_in_order n 1 (lines_of log)) (logs_in_order (suc n) logs)
-    (λ x y hx hy. earlier_log x.place y.place (omega (arith, (in_log n 1 (lines_of log) x hx).0, from_log (suc n) logs y hy)))
+    AreSortedBy-append (λ (l : MeaningAt). l.place) (meanings_in n 1 (lines_of log))
+    (meanings_from (suc n) logs) (lines_in_order n 1 (lines_of log))
+    (logs_in_order (suc n) logs)
+    (λ x y hx hy. earlier_log x.place y.place
+    (omega (arith, (in_log n 1 (lines_of log) x hx).0, from_log (suc n) logs y hy)))
 
 -- ---- the lines that have an instance
 
-placed_there : (place : Place) (r : Result Line Why) (p : Placed) → Contains (placed_at place r) p → p.place ≡ place
+placed_there : (place : Place) (r : Result Line Why) (p : Placed) → Contains (placed_at place r) p
+    → p.place ≡ place
 placed_there place (Ok Blank) p h = absurd (Contains-nil p h)
 placed_there place (Ok (Entry e)) p h =
     elim (Contains-cons_cases (record { place = place; instance = e }) [] p h) [
@@ -93,14 +117,17 @@ placed_there place (Ok (Entry e)) p h =
     ]
 placed_there place (Err why) p h = absurd (Contains-nil p h)
 
-placed_one : (place : Place) (r : Result Line Why) → AreSortedBy (λ (p : Placed). p.place) (placed_at place r)
+placed_one : (place : Place) (r : Result Line Why)
+    → AreSortedBy (λ (p : Placed). p.place) (placed_at place r)
 placed_one place (Ok Blank) = tt
 placed_one place (Ok (Entry e)) = ((λ y h. absurd (Contains-nil y h)), tt)
 placed_one place (Err why) = tt
 
 pub placed_in_order : (logs : List (List ℕ)) → IsSortedByPlace (placed_of logs)
 placed_in_order logs =
-    AreSortedBy-flat_map (λ (p : Placed). p.place) (λ l. placed_at l.place l.meaning) (λ l. placed_there l.place l.meaning) (λ l. placed_one l.place l.meaning) (meanings_of logs) (logs_in_order 0 logs)
+    AreSortedBy-flat_map (λ (p : Placed). p.place) (λ l. placed_at l.place l.meaning)
+    (λ l. placed_there l.place l.meaning) (λ l. placed_one l.place l.meaning)
+    (meanings_of logs) (logs_in_order 0 logs)
 
 pub distinct_places : (lines : List Placed) → IsSortedByPlace lines → HaveDistinctPlaces lines
 distinct_places [] order p q in_p in_q same = absurd (Contains-nil p in_p)
@@ -108,10 +135,16 @@ distinct_places (x ∷ lines) order p q in_p in_q same =
     elim (Contains-cons_cases x lines p in_p) [
       | inl is_p ↦ elim (Contains-cons_cases x lines q in_q) [
         | inl is_q ↦ sym is_p ∙ is_q
-        | inr rest ↦ absurd (below_irrefl place_cmp_total q.place (subst (λ (at : Place). Earlier at q.place) (ap (λ (l : Placed). l.place) is_p ∙ same) (order.0 q rest)))
+        | inr rest ↦ absurd
+            (below_irrefl place_cmp_total q.place
+            (subst (λ (at : Place). Earlier at q.place) (ap (λ (l : Placed). l.place) is_p ∙ same)
+            (order.0 q rest)))
       ]
       | inr rest_p ↦ elim (Contains-cons_cases x lines q in_q) [
-        | inl is_q ↦ absurd (below_irrefl place_cmp_total p.place (subst (λ (at : Place). Earlier at p.place) (ap (λ (l : Placed). l.place) is_q ∙ sym same) (order.0 p rest_p)))
+        | inl is_q ↦ absurd
+            (below_irrefl place_cmp_total p.place
+            (subst (λ (at : Place). Earlier at p.place)
+            (ap (λ (l : Placed). l.place) is_q ∙ sym same) (order.0 p rest_p)))
         | inr rest_q ↦ distinct_places lines order.1 p q rest_p rest_q same
       ]
     ]
@@ -122,7 +155,8 @@ placed_apart logs = distinct_places (placed_of logs) (placed_in_order logs)
 
 -- ---- the lines that have a fault
 
-bad_line_there : (place : Place) (r : Result Line Why) (x : BadLineAt) → Contains (bad_lines_at place r) x → x.place ≡ place
+bad_line_there : (place : Place) (r : Result Line Why) (x : BadLineAt)
+    → Contains (bad_lines_at place r) x → x.place ≡ place
 bad_line_there place (Ok l) x h = absurd (Contains-nil x h)
 bad_line_there place (Err why) x h =
     elim (Contains-cons_cases (record { place = place; why = why }) [] x h) [
@@ -130,16 +164,22 @@ bad_line_there place (Err why) x h =
       | inr none ↦ absurd (Contains-nil x none)
     ]
 
-one_bad_line : (place : Place) (r : Result Line Why) → AreSortedBy (λ (x : BadLineAt). x.place) (bad_lines_at place r)
+one_bad_line : (place : Place) (r : Result Line Why)
+    → AreSortedBy (λ (x : BadLineAt). x.place) (bad_lines_at place r)
 one_bad_line place (Ok l) = tt
 one_bad_line place (Err why) = ((λ y h. absurd (Contains-nil y h)), tt)
 
 -- the first of them is before all others
-pub first_bad_line_least : (logs : List (List ℕ)) (place : Place) (why : Why) → IsFirstBadLine (bad_lines_of logs) place why → (x : BadLineAt) → Contains (bad_lines_of logs) x → (place ≡ x.place) ⊎ Earlier place x.place
+pub first_bad_line_least : (logs : List (List ℕ)) (place : Place) (why : Why)
+    → IsFirstBadLine (bad_lines_of logs) place why → (x : BadLineAt)
+    → Contains (bad_lines_of logs) x → (place ≡ x.place) ⊎ Earlier place x.place
 first_bad_line_least logs place why f x h =
     let first : BadLineAt = record { place = place; why = why } in
-    let all = AreSortedBy-flat_map (λ (s : BadLineAt). s.place) (λ l. bad_lines_at l.place l.meaning) (λ l. bad_line_there l.place l.meaning) (λ l. one_bad_line l.place l.meaning) (meanings_of logs) (logs_in_order 0 logs) in
-    let order : AreSortedBy (λ (s : BadLineAt). s.place) (first ∷ f.0) = subst (AreSortedBy (λ (s : BadLineAt). s.place)) f.1 all in
+    let all = AreSortedBy-flat_map (λ (s : BadLineAt). s.place)
+    (λ l. bad_lines_at l.place l.meaning) (λ l. bad_line_there l.place l.meaning)
+    (λ l. one_bad_line l.place l.meaning) (meanings_of logs) (logs_in_order 0 logs) in
+    let order : AreSortedBy (λ (s : BadLineAt). s.place) (first ∷ f.0) =
+    subst (AreSortedBy (λ (s : BadLineAt). s.place)) f.1 all in
     elim (Contains-cons_cases first f.0 x (subst (λ (l : List BadLineAt). Contains l x) f.1 h)) [
       | inl e ↦ inl (ap (λ (s : BadLineAt). s.place) e)
       | inr rest ↦ inr (order.0 x rest)

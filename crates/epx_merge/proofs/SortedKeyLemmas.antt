@@ -1,5 +1,6 @@
 -- Sorted keys: they rise, and the first is the least.
-use Rattle.std.proofs.Common.{◌≡◌, inl, inr, ◌+◌, ◌<◌, List, ◌∷◌, length, get_or, Contains, true≢false, sym, subst, ◌∙◌, arith}
+use Rattle.std.proofs.Common.{◌≡◌, inl, inr, ◌+◌, ◌<◌, List, ◌∷◌, length, get_or, Contains}
+use Rattle.std.proofs.Common.{true≢false, sym, subst, ◌∙◌, arith}
 use Rattle.std.specs.List.{IsDistinct}
 use Rattle.std.specs.List.Sorted.{IsSorted}
 use Rattle.std.specs.Ordering.{is_lt}
@@ -13,9 +14,11 @@ use Rattle.epx_types.proofs.lists.TotalOrderLemmas.{below_cases}
 use Rattle.epx_merge.proofs.EqualityLemmas.{ids_decide}
 use Rattle.epx_merge.proofs.LedgerMapLemmas.{same_id}
 
-not_below : (xs : List Id) → IsSorted id_cmp xs → (i j : _) (d : Id) → i < j → j < length xs → ¬ Below (get_or xs j d) (get_or xs i d)
+not_below : (xs : List Id) → IsSorted id_cmp xs → (i j : _) (d : Id) → i < j → j < length xs
+    → ¬ Below (get_or xs j d) (get_or xs i d)
 not_below xs sorted i j d l within below =
-    true≢false (sym below ∙ sorted_far (λ x y. is_lt (id_cmp x y)) (ranks_by id_cmp_total (λ (x : Id). x)) xs sorted i j d (omega arith) within)
+    true≢false (sym below ∙ sorted_far (λ x y. is_lt (id_cmp x y))
+    (ranks_by id_cmp_total (λ (x : Id). x)) xs sorted i j d (omega arith) within)
 
 -- sorted keys rise if no two are equal
 pub rising_from_sorted : (xs : List Id) → IsSorted id_cmp xs → IsDistinct same_id xs → IsRising xs
@@ -23,12 +26,15 @@ rising_from_sorted xs sorted distinct =
     IsRising-from_neighbours xs (λ k d within.
     elim (below_cases id_cmp_total id_cmp-IsAntisymmetric (get_or xs k d) (get_or xs (k + 1) d)) [
       | inl below ↦ below
-      | inr (inl same) ↦ absurd (AllPairs-from_IsDistinct {eq = same_id} ids_decide xs distinct k (k + 1) d (omega arith) within same)
+      | inr (inl same) ↦ absurd
+          (AllPairs-from_IsDistinct {eq = same_id} ids_decide xs distinct k (k + 1) d (omega arith)
+          within same)
       | inr (inr above) ↦ absurd (not_below xs sorted k (k + 1) d (omega arith) within above)
     ])
 
 -- the first of sorted keys is at most each key
-pub first_is_least : (x : Id) (xs : List Id) → IsSorted id_cmp (x ∷ xs) → (y : Id) → Contains (x ∷ xs) y → UpTo x y
+pub first_is_least : (x : Id) (xs : List Id) → IsSorted id_cmp (x ∷ xs) → (y : Id)
+    → Contains (x ∷ xs) y → UpTo x y
 first_is_least x xs sorted y h =
     elim (below_cases id_cmp_total id_cmp-IsAntisymmetric x y) [
       | inl below ↦ inr below
@@ -38,4 +44,6 @@ first_is_least x xs sorted y h =
   where
     after : (k : _) → k < length (x ∷ xs) → get_or (x ∷ xs) k y ≡ y → ¬ Below y x
     after k within is above =
-        true≢false (sym (subst (λ (z : Id). Below z x) (sym is) above) ∙ sorted_far (λ v w. is_lt (id_cmp v w)) (ranks_by id_cmp_total (λ (v : Id). v)) (x ∷ xs) sorted 0 k y (omega arith) within)
+        true≢false (sym (subst (λ (z : Id). Below z x) (sym is) above)
+        ∙ sorted_far (λ v w. is_lt (id_cmp v w)) (ranks_by id_cmp_total (λ (v : Id). v))
+        (x ∷ xs) sorted 0 k y (omega arith) within)

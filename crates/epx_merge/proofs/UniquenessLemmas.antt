@@ -1,78 +1,104 @@
 -- Logs are never both accepted and refused. They have at most one refusal except out of memory,
 -- and commit at most one map.
-use Rattle.std.proofs.Common.{◌≡◌, ◌≢◌, ℕ, ◌<◌, List, ◌∷◌, length, Contains, refl, sym, ap, subst, ◌∙◌, arith}
+use Rattle.std.proofs.Common.{◌≡◌, ◌≢◌, ℕ, ◌<◌, List, ◌∷◌, length, Contains, refl, sym, ap, subst}
+use Rattle.std.proofs.Common.{◌∙◌, arith}
 use Rattle.epx_types.specs.declared.id.Id.{Id}
 use Rattle.epx_types.specs.declared.place.Place.{Place}
 use Rattle.epx_types.specs.declared.fault.Fault.{Fault}
-use Rattle.epx_types.specs.declared.fault.Fault.TheVariants.{Memory, TooManyLogs, LogTooLong, BadLine, TooManyInstances, Disagree, Read, Write, BadBase}
+use Rattle.epx_types.specs.declared.fault.Fault.TheVariants.{Memory, TooManyLogs, LogTooLong}
+use Rattle.epx_types.specs.declared.fault.Fault.TheVariants.{BadLine, TooManyInstances, Disagree}
+use Rattle.epx_types.specs.declared.fault.Fault.TheVariants.{Read, Write, BadBase}
 use Rattle.epx_types.specs.declared.fault.Why.{Why}
 use Rattle.epx_types.specs.Ids.{Below}
 use Rattle.epx_types.specs.Instances.{Instance}
 use Rattle.epx_types.specs.PlacedLines.{Placed}
-use Rattle.epx_types.proofs.committed.AgreementLemmas.{IsCommittedBy-unique, IsFirstDisagreement-unique}
+use Rattle.epx_types.proofs.committed.AgreementLemmas.{IsCommittedBy-unique}
+use Rattle.epx_types.proofs.committed.AgreementLemmas.{IsFirstDisagreement-unique}
 use Rattle.epx_types.proofs.lists.ComparisonLemmas.{id_cmp_total}
 use Rattle.epx_types.proofs.lists.RisingIdLemmas.{AllPairs-from_IsRising}
 use Rattle.epx_types.proofs.lists.TotalOrderLemmas.{below_irrefl, below_trans, same_rising}
 use Rattle.epx_merge.specs.LogLines.{placed_of, BadLineAt, bad_lines_of}
-use Rattle.epx_merge.specs.Refusals.{IsFirstTooLong, NoneTooLong, IsFirstBadLine, AreNamedBy, FewInstances, ManyInstances, IsDisagreementAt, IsRefusal}
+use Rattle.epx_merge.specs.Refusals.{IsFirstTooLong, NoneTooLong, IsFirstBadLine, AreNamedBy}
+use Rattle.epx_merge.specs.Refusals.{FewInstances, ManyInstances, IsDisagreementAt, IsRefusal}
 use Rattle.epx_merge.specs.Acceptance.{IsAccepted}
 use Rattle.epx_merge.proofs.PlaceOrderLemmas.{placed_apart}
 
-named_within : (lines : List Placed) (xs ys : List Id) → AreNamedBy lines xs → AreNamedBy lines ys → (z : Id) → Contains xs z → Contains ys z
+named_within : (lines : List Placed) (xs ys : List Id) → AreNamedBy lines xs → AreNamedBy lines ys
+    → (z : Id) → Contains xs z → Contains ys z
 named_within lines xs ys a b z h = let p = a.named z h in subst (Contains ys) p.2 (b.whole p.0 p.1)
 
 -- lines have one list of distinct Ids
-named_unique : (lines : List Placed) (xs ys : List Id) → AreNamedBy lines xs → AreNamedBy lines ys → xs ≡ ys
+named_unique : (lines : List Placed) (xs ys : List Id) → AreNamedBy lines xs → AreNamedBy lines ys
+    → xs ≡ ys
 named_unique lines xs ys a b =
-    same_rising Below (below_irrefl id_cmp_total) (below_trans id_cmp_total) xs ys (AllPairs-from_IsRising xs a.rising) (AllPairs-from_IsRising ys b.rising)
+    same_rising Below (below_irrefl id_cmp_total) (below_trans id_cmp_total) xs ys
+    (AllPairs-from_IsRising xs a.rising) (AllPairs-from_IsRising ys b.rising)
     (named_within lines xs ys a b) (named_within lines ys xs b a)
 
 not_small_and_large : (lines : List Placed) → FewInstances lines → ¬ ManyInstances lines
-not_small_and_large lines few many = omega (arith, few.2, many.2, ap length (named_unique lines few.0 many.0 few.1 many.1))
+not_small_and_large lines few many =
+    omega (arith, few.2, many.2, ap length (named_unique lines few.0 many.0 few.1 many.1))
 
-none_and_first_too_long : (logs : List (List ℕ)) (log : ℕ) → NoneTooLong logs → ¬ IsFirstTooLong logs log
-none_and_first_too_long logs log none first = omega (arith, none log first.long.0 first.long.1, first.long.2)
+none_and_first_too_long : (logs : List (List ℕ)) (log : ℕ) → NoneTooLong logs
+    → ¬ IsFirstTooLong logs log
+none_and_first_too_long logs log none first =
+    omega (arith, none log first.long.0 first.long.1, first.long.2)
 
 -- accepted logs commit one map
-pub accepted_unique : (logs : List (List ℕ)) (m n : List Instance) → IsAccepted logs m → IsAccepted logs n → m ≡ n
+pub accepted_unique : (logs : List (List ℕ)) (m n : List Instance) → IsAccepted logs m
+    → IsAccepted logs n → m ≡ n
 accepted_unique logs m n a b = IsCommittedBy-unique (placed_of logs) m n a.committed b.committed
 
 -- accepted logs are refused only by out of memory
-pub accepted_not_refused : (logs : List (List ℕ)) (m : List Instance) (f : Fault) → IsAccepted logs m → IsRefusal logs f → f ≡ Memory
+pub accepted_not_refused : (logs : List (List ℕ)) (m : List Instance) (f : Fault)
+    → IsAccepted logs m → IsRefusal logs f → f ≡ Memory
 accepted_not_refused logs m Memory a r = refl
 accepted_not_refused logs m TooManyLogs a r = absurd (omega (arith, r, a.whole.0.0))
-accepted_not_refused logs m (LogTooLong log) a r = absurd (none_and_first_too_long logs log a.whole.0.1 r.1)
-accepted_not_refused logs m (BadLine place why) a r = let none = a.whole.1 in let some = r.1.1 in cc
-accepted_not_refused logs m TooManyInstances a r = absurd (not_small_and_large (placed_of logs) a.small r.1)
-accepted_not_refused logs m (Disagree id first second) a r = let d = r.2.2 in absurd (d.differ.1 (a.agree r.2.0 r.2.1 d.has_first d.has_second d.differ.0))
+accepted_not_refused logs m (LogTooLong log) a r =
+    absurd (none_and_first_too_long logs log a.whole.0.1 r.1)
+accepted_not_refused logs m (BadLine place why) a r = let none = a.whole.1 in let some = r.1.1 in
+    cc
+accepted_not_refused logs m TooManyInstances a r =
+    absurd (not_small_and_large (placed_of logs) a.small r.1)
+accepted_not_refused logs m (Disagree id first second) a r = let d = r.2.2 in
+    absurd (d.differ.1 (a.agree r.2.0 r.2.1 d.has_first d.has_second d.differ.0))
 accepted_not_refused logs m (Read log) a r = absurd r
 accepted_not_refused logs m Write a r = absurd r
 accepted_not_refused logs m (BadBase line) a r = absurd r
 
 -- ---- one refusal
 
-same_disagreement : (logs : List (List ℕ)) (x y : Id) (p q r s : Place) → IsDisagreementAt (placed_of logs) x p q → IsDisagreementAt (placed_of logs) y r s → Disagree x p q ≡ Disagree y r s
+same_disagreement : (logs : List (List ℕ)) (x y : Id) (p q r s : Place)
+    → IsDisagreementAt (placed_of logs) x p q → IsDisagreementAt (placed_of logs) y r s
+    → Disagree x p q ≡ Disagree y r s
 same_disagreement logs x y p q r s a b =
-    let one = IsFirstDisagreement-unique (placed_of logs) (placed_apart logs) x y a.0 a.1 b.0 b.1 a.2 b.2 in
+    let one = IsFirstDisagreement-unique (placed_of logs) (placed_apart logs) x y a.0 a.1 b.0 b.1
+    a.2 b.2 in
     let id : x ≡ y = one.0 in
     let opens : p ≡ r = sym a.3 ∙ ap (λ (l : Placed). l.place) one.1 ∙ b.3 in
     let follows : q ≡ s = sym a.4 ∙ ap (λ (l : Placed). l.place) one.2 ∙ b.4 in
     cc
 
-not_shorter : (logs : List (List ℕ)) (j k : ℕ) → IsFirstTooLong logs j → IsFirstTooLong logs k → ¬ j < k
+not_shorter : (logs : List (List ℕ)) (j k : ℕ) → IsFirstTooLong logs j → IsFirstTooLong logs k
+    → ¬ j < k
 not_shorter logs j k a b lt = omega (arith, b.first j a.long.0 lt a.long.1, a.long.2)
 
-pub same_long : (logs : List (List ℕ)) (j k : ℕ) → IsFirstTooLong logs j → IsFirstTooLong logs k → j ≡ k
+pub same_long : (logs : List (List ℕ)) (j k : ℕ) → IsFirstTooLong logs j → IsFirstTooLong logs k
+    → j ≡ k
 same_long logs j k a b = omega (arith, not_shorter logs j k a b, not_shorter logs k j b a)
 
 first_is : (x y : BadLineAt) (xs ys : List BadLineAt) → x ∷ xs ≡ y ∷ ys → x ≡ y
 first_is x y xs ys e = cc
 
-same_bad_lines : (lines : List BadLineAt) (m n : Place) (why how : Why) → IsFirstBadLine lines m why → IsFirstBadLine lines n how → BadLine m why ≡ BadLine n how
+same_bad_lines : (lines : List BadLineAt) (m n : Place) (why how : Why)
+    → IsFirstBadLine lines m why → IsFirstBadLine lines n how → BadLine m why ≡ BadLine n how
 same_bad_lines lines m n why how a b =
-    ap (λ (s : BadLineAt). BadLine s.place s.why) (first_is (record { place = m; why = why }) (record { place = n; why = how }) a.0 b.0 (sym a.1 ∙ b.1))
+    ap (λ (s : BadLineAt). BadLine s.place s.why)
+    (first_is (record { place = m; why = why }) (record { place = n; why = how }) a.0 b.0
+    (sym a.1 ∙ b.1))
 
-pub refusal_unique : (logs : List (List ℕ)) (f g : Fault) → f ≢ Memory → g ≢ Memory → IsRefusal logs f → IsRefusal logs g → f ≡ g
+pub refusal_unique : (logs : List (List ℕ)) (f g : Fault) → f ≢ Memory → g ≢ Memory
+    → IsRefusal logs f → IsRefusal logs g → f ≡ g
 refusal_unique logs Memory g nf ng a b = absurd (nf refl)
 refusal_unique logs (Read log) g nf ng a b = absurd a
 refusal_unique logs Write g nf ng a b = absurd a
@@ -91,34 +117,49 @@ refusal_unique logs (LogTooLong j) (Read log) nf ng a b = absurd b
 refusal_unique logs (LogTooLong j) Write nf ng a b = absurd b
 refusal_unique logs (LogTooLong j) (BadBase line) nf ng a b = absurd b
 refusal_unique logs (LogTooLong j) TooManyLogs nf ng a b = absurd (omega (arith, b, a.0))
-refusal_unique logs (LogTooLong j) (LogTooLong k) nf ng a b = ap LogTooLong (same_long logs j k a.1 b.1)
-refusal_unique logs (LogTooLong j) (BadLine n how) nf ng a b = absurd (none_and_first_too_long logs j (b.0.1) a.1)
-refusal_unique logs (LogTooLong j) TooManyInstances nf ng a b = absurd (none_and_first_too_long logs j (b.0.0.1) a.1)
-refusal_unique logs (LogTooLong j) (Disagree y r s) nf ng a b = absurd (none_and_first_too_long logs j (b.0.0.1) a.1)
+refusal_unique logs (LogTooLong j) (LogTooLong k) nf ng a b =
+    ap LogTooLong (same_long logs j k a.1 b.1)
+refusal_unique logs (LogTooLong j) (BadLine n how) nf ng a b =
+    absurd (none_and_first_too_long logs j (b.0.1) a.1)
+refusal_unique logs (LogTooLong j) TooManyInstances nf ng a b =
+    absurd (none_and_first_too_long logs j (b.0.0.1) a.1)
+refusal_unique logs (LogTooLong j) (Disagree y r s) nf ng a b =
+    absurd (none_and_first_too_long logs j (b.0.0.1) a.1)
 refusal_unique logs (BadLine m why) Memory nf ng a b = absurd (ng refl)
 refusal_unique logs (BadLine m why) (Read log) nf ng a b = absurd b
 refusal_unique logs (BadLine m why) Write nf ng a b = absurd b
 refusal_unique logs (BadLine m why) (BadBase line) nf ng a b = absurd b
 refusal_unique logs (BadLine m why) TooManyLogs nf ng a b = absurd (omega (arith, b, a.0.0))
-refusal_unique logs (BadLine m why) (LogTooLong k) nf ng a b = absurd (none_and_first_too_long logs k (a.0.1) b.1)
-refusal_unique logs (BadLine m why) (BadLine n how) nf ng a b = same_bad_lines (bad_lines_of logs) m n why how a.1 b.1
-refusal_unique logs (BadLine m why) TooManyInstances nf ng a b = let some = a.1.1 in let none = b.0.1 in cc
-refusal_unique logs (BadLine m why) (Disagree y r s) nf ng a b = let some = a.1.1 in let none = b.0.1 in cc
+refusal_unique logs (BadLine m why) (LogTooLong k) nf ng a b =
+    absurd (none_and_first_too_long logs k (a.0.1) b.1)
+refusal_unique logs (BadLine m why) (BadLine n how) nf ng a b =
+    same_bad_lines (bad_lines_of logs) m n why how a.1 b.1
+refusal_unique logs (BadLine m why) TooManyInstances nf ng a b = let some = a.1.1 in
+    let none = b.0.1 in cc
+refusal_unique logs (BadLine m why) (Disagree y r s) nf ng a b = let some = a.1.1 in
+    let none = b.0.1 in cc
 refusal_unique logs TooManyInstances Memory nf ng a b = absurd (ng refl)
 refusal_unique logs TooManyInstances (Read log) nf ng a b = absurd b
 refusal_unique logs TooManyInstances Write nf ng a b = absurd b
 refusal_unique logs TooManyInstances (BadBase line) nf ng a b = absurd b
 refusal_unique logs TooManyInstances TooManyLogs nf ng a b = absurd (omega (arith, b, a.0.0.0))
-refusal_unique logs TooManyInstances (LogTooLong k) nf ng a b = absurd (none_and_first_too_long logs k (a.0.0.1) b.1)
-refusal_unique logs TooManyInstances (BadLine n how) nf ng a b = let some = b.1.1 in let none = a.0.1 in cc
+refusal_unique logs TooManyInstances (LogTooLong k) nf ng a b =
+    absurd (none_and_first_too_long logs k (a.0.0.1) b.1)
+refusal_unique logs TooManyInstances (BadLine n how) nf ng a b = let some = b.1.1 in
+    let none = a.0.1 in cc
 refusal_unique logs TooManyInstances TooManyInstances nf ng a b = refl
-refusal_unique logs TooManyInstances (Disagree y r s) nf ng a b = absurd (not_small_and_large (placed_of logs) b.1 a.1)
+refusal_unique logs TooManyInstances (Disagree y r s) nf ng a b =
+    absurd (not_small_and_large (placed_of logs) b.1 a.1)
 refusal_unique logs (Disagree x p q) Memory nf ng a b = absurd (ng refl)
 refusal_unique logs (Disagree x p q) (Read log) nf ng a b = absurd b
 refusal_unique logs (Disagree x p q) Write nf ng a b = absurd b
 refusal_unique logs (Disagree x p q) (BadBase line) nf ng a b = absurd b
 refusal_unique logs (Disagree x p q) TooManyLogs nf ng a b = absurd (omega (arith, b, a.0.0.0))
-refusal_unique logs (Disagree x p q) (LogTooLong k) nf ng a b = absurd (none_and_first_too_long logs k (a.0.0.1) b.1)
-refusal_unique logs (Disagree x p q) (BadLine n how) nf ng a b = let some = b.1.1 in let none = a.0.1 in cc
-refusal_unique logs (Disagree x p q) TooManyInstances nf ng a b = absurd (not_small_and_large (placed_of logs) a.1 b.1)
-refusal_unique logs (Disagree x p q) (Disagree y r s) nf ng a b = same_disagreement logs x y p q r s a.2 b.2
+refusal_unique logs (Disagree x p q) (LogTooLong k) nf ng a b =
+    absurd (none_and_first_too_long logs k (a.0.0.1) b.1)
+refusal_unique logs (Disagree x p q) (BadLine n how) nf ng a b = let some = b.1.1 in
+    let none = a.0.1 in cc
+refusal_unique logs (Disagree x p q) TooManyInstances nf ng a b =
+    absurd (not_small_and_large (placed_of logs) a.1 b.1)
+refusal_unique logs (Disagree x p q) (Disagree y r s) nf ng a b =
+    same_disagreement logs x y p q r s a.2 b.2

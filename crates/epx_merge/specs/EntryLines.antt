@@ -6,7 +6,8 @@ use Rattle.epx_types.specs.PlacedLines.{Placed}
 -- the entries are on consecutive lines of log 0, the first on this line
 abbrev pub entry_lines_from : ℕ → List Instance → List Placed
 entry_lines_from n [] = []
-entry_lines_from n (e ∷ es) = record { place = record { log = 0; line = n }; instance = e } ∷ entry_lines_from (suc n) es
+entry_lines_from n (e ∷ es) = record { place = record { log = 0; line = n }; instance = e }
+    ∷ entry_lines_from (suc n) es
 
 -- lines are numbered from 1
 abbrev pub entry_lines : List Instance → List Placed

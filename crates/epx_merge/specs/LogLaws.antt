@@ -12,19 +12,23 @@ use Rattle.epx_merge.specs.Acceptance.{IsAccepted}
 
 -- accepted logs are not refused, except by running out of memory
 abbrev pub AcceptedIsNotRefused : Type 0
-AcceptedIsNotRefused = (logs : List (List ℕ)) (m : List Instance) (f : Fault) → IsAccepted logs m → f ≢ Memory → ¬ IsRefusal logs f
+AcceptedIsNotRefused = (logs : List (List ℕ)) (m : List Instance) (f : Fault) → IsAccepted logs m
+    → f ≢ Memory → ¬ IsRefusal logs f
 
 -- logs have at most one refusal, except running out of memory
 abbrev pub RefusalIsOne : Type 0
-RefusalIsOne = (logs : List (List ℕ)) (f g : Fault) → f ≢ Memory → g ≢ Memory → IsRefusal logs f → IsRefusal logs g → f ≡ g
+RefusalIsOne = (logs : List (List ℕ)) (f g : Fault) → f ≢ Memory → g ≢ Memory → IsRefusal logs f
+    → IsRefusal logs g → f ≡ g
 
 -- accepted logs commit one map
 abbrev pub AcceptedMapIsOne : Type 0
-AcceptedMapIsOne = (logs : List (List ℕ)) (m n : List Instance) → IsAccepted logs m → IsAccepted logs n → m ≡ n
+AcceptedMapIsOne = (logs : List (List ℕ)) (m n : List Instance) → IsAccepted logs m
+    → IsAccepted logs n → m ≡ n
 
 -- every list of logs is accepted or refused
 abbrev pub LogsHaveAnAnswer : Type 0
-LogsHaveAnAnswer = (logs : List (List ℕ)) → ((m : List Instance) × IsAccepted logs m) ⊎ ((f : Fault) × (f ≢ Memory) × IsRefusal logs f)
+LogsHaveAnAnswer = (logs : List (List ℕ)) → ((m : List Instance) × IsAccepted logs m)
+    ⊎ ((f : Fault) × (f ≢ Memory) × IsRefusal logs f)
 
 -- no two lines of logs have the same place
 abbrev pub LinesHaveDistinctPlaces : Type 0
@@ -32,4 +36,6 @@ LinesHaveDistinctPlaces = (logs : List (List ℕ)) → HaveDistinctPlaces (place
 
 -- the bad line in a refusal comes before all other bad lines
 abbrev pub NamedBadLineIsLeast : Type 0
-NamedBadLineIsLeast = (logs : List (List ℕ)) (place : Place) (why : Why) → IsFirstBadLine (bad_lines_of logs) place why → (x : BadLineAt) → Contains (bad_lines_of logs) x → (place ≡ x.place) ⊎ Earlier place x.place
+NamedBadLineIsLeast = (logs : List (List ℕ)) (place : Place) (why : Why)
+    → IsFirstBadLine (bad_lines_of logs) place why → (x : BadLineAt)
+    → Contains (bad_lines_of logs) x → (place ≡ x.place) ⊎ Earlier place x.place

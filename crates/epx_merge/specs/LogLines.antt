@@ -20,7 +20,8 @@ meaning_at place bytes = record { place = place; meaning = meaning_of bytes }
 -- the lines of one log. The first has this line number
 abbrev pub meanings_in : ℕ → ℕ → List (List ℕ) → List MeaningAt
 meanings_in log n [] = []
-meanings_in log n (l ∷ ls) = meaning_at (record { log = log; line = n }) l ∷ meanings_in log (suc n) ls
+meanings_in log n (l ∷ ls) = meaning_at (record { log = log; line = n }) l
+    ∷ meanings_in log (suc n) ls
 
 -- the lines of logs. The first log has this number, and the lines of each log are numbered from 1
 abbrev pub meanings_from : ℕ → List (List ℕ) → List MeaningAt
@@ -30,7 +31,8 @@ meanings_from n (log ∷ logs) = meanings_in n 1 (lines_of log) ++ meanings_from
 -- the lines that are left of logs: the rest of this log, from these bytes after this line, and
 -- then the later logs
 abbrev pub meanings_left : ℕ → ℕ → List ℕ → List (List ℕ) → List MeaningAt
-meanings_left log line rest others = meanings_in log (suc line) (lines_of rest) ++ meanings_from (suc log) others
+meanings_left log line rest others =
+    meanings_in log (suc line) (lines_of rest) ++ meanings_from (suc log) others
 
 -- the lines of all logs, by rising place
 abbrev pub meanings_of : List (List ℕ) → List MeaningAt

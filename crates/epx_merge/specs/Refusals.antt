@@ -3,7 +3,9 @@ use Rattle.std.specs.Prelude.{◌≡◌, ℕ, ◌<◌, ◌≤◌, List, [], ◌�
 use Rattle.epx_types.specs.declared.id.Id.{Id}
 use Rattle.epx_types.specs.declared.place.Place.{Place}
 use Rattle.epx_types.specs.declared.fault.Fault.{Fault}
-use Rattle.epx_types.specs.declared.fault.Fault.TheVariants.{Memory, TooManyLogs, LogTooLong, BadLine, TooManyInstances, Disagree, Read, Write, BadBase}
+use Rattle.epx_types.specs.declared.fault.Fault.TheVariants.{Memory, TooManyLogs, LogTooLong}
+use Rattle.epx_types.specs.declared.fault.Fault.TheVariants.{BadLine, TooManyInstances, Disagree}
+use Rattle.epx_types.specs.declared.fault.Fault.TheVariants.{Read, Write, BadBase}
 use Rattle.epx_types.specs.declared.fault.Why.{Why}
 use Rattle.epx_types.specs.Ids.{IsRising}
 use Rattle.epx_types.specs.PlacedLines.{Placed}
@@ -15,10 +17,12 @@ use Rattle.epx_merge.specs.LogLines.{placed_of, BadLineAt, bad_lines_of}
 
 pub record IsFirstTooLong (logs : List (List ℕ)) (log : ℕ) : Type 0 where
   pub long : (bytes : List ℕ) × (slice_get logs log ≡ Some bytes) × (max_log_bytes < length bytes)
-  pub first : (k : ℕ) (bytes : List ℕ) → k < log → slice_get logs k ≡ Some bytes → length bytes ≤ max_log_bytes
+  pub first : (k : ℕ) (bytes : List ℕ) → k < log → slice_get logs k ≡ Some bytes
+      → length bytes ≤ max_log_bytes
 
 abbrev pub NoneTooLong : List (List ℕ) → Type 0
-NoneTooLong logs = (k : ℕ) (bytes : List ℕ) → slice_get logs k ≡ Some bytes → length bytes ≤ max_log_bytes
+NoneTooLong logs = (k : ℕ) (bytes : List ℕ) → slice_get logs k ≡ Some bytes
+    → length bytes ≤ max_log_bytes
 
 -- not too many logs, and none is too long
 abbrev pub FitLimits : List (List ℕ) → Type 0
@@ -28,7 +32,8 @@ FitLimits logs = (length logs ≤ max_logs) × NoneTooLong logs
 
 -- bad lines come by rising place, so the first of them is the least
 abbrev pub IsFirstBadLine : List BadLineAt → Place → Why → Type 0
-IsFirstBadLine lines place why = (rest : List BadLineAt) × (lines ≡ record { place = place; why = why } ∷ rest)
+IsFirstBadLine lines place why = (rest : List BadLineAt)
+    × (lines ≡ record { place = place; why = why } ∷ rest)
 
 -- the logs fit, and no line is bad
 abbrev pub AreWellFormed : List (List ℕ) → Type 0
@@ -53,7 +58,8 @@ ManyInstances lines = (ids : List Id) × AreNamedBy lines ids × (max_instances 
 -- the least instance with two lines that differ, the place of its first line, and of the first
 -- later line that differs from that one
 abbrev pub IsDisagreementAt : List Placed → Id → Place → Place → Type 0
-IsDisagreementAt lines id first second = (p q : Placed) × IsFirstDisagreement lines id p q × (p.place ≡ first) × (q.place ≡ second)
+IsDisagreementAt lines id first second = (p q : Placed) × IsFirstDisagreement lines id p q
+    × (p.place ≡ first) × (q.place ≡ second)
 
 -- ---- all of them
 
@@ -65,7 +71,8 @@ IsRefusal logs TooManyLogs = max_logs < length logs
 IsRefusal logs (LogTooLong log) = (length logs ≤ max_logs) × IsFirstTooLong logs log
 IsRefusal logs (BadLine place why) = FitLimits logs × IsFirstBadLine (bad_lines_of logs) place why
 IsRefusal logs TooManyInstances = AreWellFormed logs × ManyInstances (placed_of logs)
-IsRefusal logs (Disagree id first second) = AreWellFormed logs × FewInstances (placed_of logs) × IsDisagreementAt (placed_of logs) id first second
+IsRefusal logs (Disagree id first second) = AreWellFormed logs × FewInstances (placed_of logs)
+    × IsDisagreementAt (placed_of logs) id first second
 IsRefusal logs (Read log) = ⊥
 IsRefusal logs Write = ⊥
 IsRefusal logs (BadBase line) = ⊥

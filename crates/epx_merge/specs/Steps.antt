@@ -1,7 +1,9 @@
 -- The result of each step of reading logs, or the fault that stops it.
 use Rattle.std.specs.Prelude.{List}
 use Rattle.epx_types.specs.declared.fault.Fault.{Fault}
-use Rattle.epx_types.specs.declared.fault.Fault.TheVariants.{Memory, TooManyLogs, LogTooLong, BadLine, TooManyInstances, Disagree, Read, Write, BadBase}
+use Rattle.epx_types.specs.declared.fault.Fault.TheVariants.{Memory, TooManyLogs, LogTooLong}
+use Rattle.epx_types.specs.declared.fault.Fault.TheVariants.{BadLine, TooManyInstances, Disagree}
+use Rattle.epx_types.specs.declared.fault.Fault.TheVariants.{Read, Write, BadBase}
 use Rattle.epx_types.specs.Instances.{Instance}
 use Rattle.epx_types.specs.PlacedLines.{Placed}
 use Rattle.epx_types.specs.Agreement.{Agree}
@@ -30,7 +32,8 @@ pub record IsMerged (lines : List Placed) (m : List Instance) : Type 0 where
 abbrev pub IsMergeFault : List Placed → Fault → Type 0
 IsMergeFault lines Memory = Unit {0}
 IsMergeFault lines TooManyInstances = ManyInstances lines
-IsMergeFault lines (Disagree id first second) = FewInstances lines × IsDisagreementAt lines id first second
+IsMergeFault lines (Disagree id first second) =
+    FewInstances lines × IsDisagreementAt lines id first second
 IsMergeFault lines TooManyLogs = ⊥
 IsMergeFault lines (LogTooLong log) = ⊥
 IsMergeFault lines (BadLine place why) = ⊥

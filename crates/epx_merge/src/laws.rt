@@ -1,5 +1,7 @@
 //! Laws of refusals and accepted logs: each function's contract is a law.
-ghost use Rattle.epx_merge.specs.LogLaws.{AcceptedIsNotRefused, RefusalIsOne, AcceptedMapIsOne, LogsHaveAnAnswer, LinesHaveDistinctPlaces, NamedBadLineIsLeast};
+ghost use Rattle.epx_merge.specs.LogLaws.{AcceptedIsNotRefused, RefusalIsOne, AcceptedMapIsOne};
+ghost use Rattle.epx_merge.specs.LogLaws.{LogsHaveAnAnswer, LinesHaveDistinctPlaces};
+ghost use Rattle.epx_merge.specs.LogLaws.{NamedBadLineIsLeast};
 
 /// Accepted logs are not refused, except by running out of memory.
 pub fn accepted_is_not_refused()

@@ -75,7 +75,8 @@ impl Ledger {
 
     /// Records a line of an instance whose first line is at this index.
     fn compare(&mut self, place: usize, line: &PlacedEntry) -> Result<(), Memory>
-        requires { (first : Placed) × (slice_get self.now.firsts place ≡ Some (line.now.instance.id, first)) }
+        requires { (first : Placed)
+            × (slice_get self.now.firsts place ≡ Some (line.now.instance.id, first)) }
         ensures { OnOk result (NotesLines (line.now ∷ []) self.old self.new) }
     {
         let id = line.id();

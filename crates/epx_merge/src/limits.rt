@@ -13,7 +13,8 @@ pub const MAX_INSTANCES: usize = 1_048_576;
 
 /// The first log that is longer than `MAX_LOG_BYTES`, if any is.
 pub fn first_too_long(logs: &[Vec<u8>]) -> Option<usize>
-    ensures { let bytes = map (λ log. log.items) logs.now in MatchOption result (NoneTooLong bytes) (IsFirstTooLong bytes) }
+    ensures { let bytes = map (λ log. log.items) logs.now in
+        MatchOption result (NoneTooLong bytes) (IsFirstTooLong bytes) }
 {
     for (number, log) in logs.iter().enumerate() {
         if log.len() > MAX_LOG_BYTES {

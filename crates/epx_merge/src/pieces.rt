@@ -1,7 +1,9 @@
 //! Pieces of a batch, which workers read.
-ghost use Rattle.std.specs.Prelude.{◌≡◌, ◌<◌, ◌++◌, ◌∷◌, List, [], IfOk, OnOk, MatchOption, MatchResult, length};
+ghost use Rattle.std.specs.Prelude.{◌≡◌, ◌<◌, ◌++◌, ◌∷◌, List, [], IfOk, OnOk, MatchOption};
+ghost use Rattle.std.specs.Prelude.{MatchResult, length};
 ghost use Rattle.epx_types.specs.Pieces.{piece_count};
-ghost use Rattle.epx_merge.specs.LogLines.{MeaningAt, placed_at, placed_among, bad_lines_at, bad_lines_among};
+ghost use Rattle.epx_merge.specs.LogLines.{MeaningAt, placed_at, placed_among, bad_lines_at};
+ghost use Rattle.epx_merge.specs.LogLines.{bad_lines_among};
 ghost use Rattle.epx_merge.specs.inner.ReadPieces.{IsRead, AreRead, lines_of_piece};
 ghost use Rattle.epx_merge.specs.inner.Ledgers.{NotesLines};
 ghost use Rattle.epx_merge.specs.Steps.{IsReadFault};
@@ -30,8 +32,10 @@ fn read_next(
     line: &PlacedLine<'_>,
     entries: &mut Vec<PlacedEntry>,
 ) -> Result<Option<BadLine>, Memory>
-    ensures { let at = line.now.place in let meaning = line.now.meaning in IfOk result (λ o. MatchOption o
-        ((bad_lines_at at meaning ≡ []) × (entries.new.items ≡ entries.old.items ++ placed_at at meaning))
+    ensures { let at = line.now.place in let meaning = line.now.meaning in
+        IfOk result (λ o. MatchOption o
+        ((bad_lines_at at meaning ≡ [])
+        × (entries.new.items ≡ entries.old.items ++ placed_at at meaning))
         (λ bad. bad_lines_at at meaning ≡ record { place = bad.place; why = bad.why } ∷ [])) }
 {
     let place = line.place();
@@ -71,7 +75,8 @@ pub(crate) fn read_piece(
     piece: usize,
 ) -> Result<Result<Vec<PlacedEntry>, BadLine>, Memory>
     requires { piece < piece_count plan.cut (length lines.now) }
-    ensures { IfOk result (IsRead (λ given entries. entries.items ≡ given) (lines_of_piece plan.cut piece lines.now)) }
+    ensures { IfOk result (IsRead (λ given entries. entries.items ≡ given)
+        (lines_of_piece plan.cut piece lines.now)) }
 {
     let (start, end) = plan.range(piece, lines.len());
     read_lines(alloc, &lines[start..end])
@@ -79,7 +84,8 @@ pub(crate) fn read_piece(
 
 /// Records the entries of pieces in order, up to the first bad line.
 pub(crate) fn note_pieces(pieces: Pieces, ledger: &mut Ledger) -> Result<(), Fault>
-    ensures { (lines : List MeaningAt) → AreRead (λ given entries. entries.items ≡ given) lines pieces.items → MatchResult result
+    ensures { (lines : List MeaningAt)
+        → AreRead (λ given entries. entries.items ≡ given) lines pieces.items → MatchResult result
         (λ _. (bad_lines_among lines ≡ []) × NotesLines (placed_among lines) ledger.old ledger.new)
         (IsReadFault (bad_lines_among lines)) }
 {

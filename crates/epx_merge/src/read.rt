@@ -31,7 +31,8 @@ fn read_pieces<R: Threads + Sync, G: Gate + Sync>(
     lines: Vec<PlacedLine<'_>>,
 ) -> Result<Pieces, Memory>
     requires { length lines.items ≤ 2 ^ 40 }
-    ensures { IfOk result (λ v. AreRead (λ given entries. entries.items ≡ given) lines.entry.items v.items) }
+    ensures { IfOk result
+        (λ v. AreRead (λ given entries. entries.items ≡ given) lines.entry.items v.items) }
 {
     let pieces = plan.pieces(lines.len());
     claimed_map(rt, alloc, pieces, plan, gate, |piece| {
@@ -52,8 +53,10 @@ fn read_and_step<'a, R: Threads + Sync, G: Gate + Sync>(
     lines: Vec<PlacedLine<'a>>,
 ) -> Result<(ReadState<'a>, Vec<PlacedLine<'a>>, Pieces), Fault>
     requires { length lines.items ≤ 2 ^ 40 }
-    ensures { (done : List MeaningAt) → AreRead (λ given entries. entries.items ≡ given) done read.items → MatchResult result
-        (λ next. IsReadStep done state.entry.ledger next.0.ledger state.entry.walk next.0.walk state.entry.table next.0.table next.1.items
+    ensures { (done : List MeaningAt)
+        → AreRead (λ given entries. entries.items ≡ given) done read.items → MatchResult result
+        (λ next. IsReadStep done state.entry.ledger next.0.ledger state.entry.walk next.0.walk
+        state.entry.table next.0.table next.1.items
         × AreRead (λ given entries. entries.items ≡ given) lines.entry.items next.2.items)
         (IsReadFault (bad_lines_among done)) }
 {
@@ -65,13 +68,17 @@ fn read_and_step<'a, R: Threads + Sync, G: Gate + Sync>(
     let (stepped, read) = join(
         rt,
         move || -> Result<(ReadState, Vec<PlacedLine>), Fault>
-            ensures { (done : List MeaningAt) → AreRead (λ given entries. entries.items ≡ given) done read.items → MatchResult result
-                (λ next. IsReadStep done state.entry.ledger next.0.ledger state.entry.walk next.0.walk state.entry.table next.0.table next.1.items)
+            ensures { (done : List MeaningAt)
+                → AreRead (λ given entries. entries.items ≡ given) done read.items
+                → MatchResult result
+                (λ next. IsReadStep done state.entry.ledger next.0.ledger state.entry.walk
+                next.0.walk state.entry.table next.0.table next.1.items)
                 (IsReadFault (bad_lines_among done)) }
         { next_step(alloc, plan, state, read) },
         move || -> Result<Pieces, Memory>
             requires { IsSync R.row × IsSync G.row × (length lines.items ≤ 2 ^ 40) }
-            ensures { IfOk result (λ v. AreRead (λ given entries. entries.items ≡ given) lines.entry.items v.items) }
+            ensures { IfOk result
+                (λ v. AreRead (λ given entries. entries.items ≡ given) lines.entry.items v.items) }
         { read_pieces(rt, alloc, plan, gate, lines) },
     );
     let (state, next) = stepped?;

@@ -44,7 +44,8 @@ impl<'a> ReadState<'a> {
         seed: Seed,
     ) -> Result<ReadState<'a>, Memory>
         ensures ledger { IfOk result (λ state. IsLedgerOf [] state.ledger) }
-        ensures walk { IfOk result (λ state. state.walk ≡ meanings_of (map (λ log. log.items) logs.now)) }
+        ensures walk { IfOk result
+            (λ state. state.walk ≡ meanings_of (map (λ log. log.items) logs.now)) }
         ensures table { IfOk result (λ state. state.table ≡ []) }
     {
         Ok(ReadState {
@@ -62,8 +63,10 @@ pub(crate) fn next_step<'a>(
     state: ReadState<'a>,
     read: Pieces,
 ) -> Result<(ReadState<'a>, Vec<PlacedLine<'a>>), Fault>
-    ensures { (done : List MeaningAt) → AreRead (λ given entries. entries.items ≡ given) done read.items → MatchResult result
-        (λ next. IsReadStep done state.entry.ledger next.0.ledger state.entry.walk next.0.walk state.entry.table next.0.table next.1.items)
+    ensures { (done : List MeaningAt)
+        → AreRead (λ given entries. entries.items ≡ given) done read.items → MatchResult result
+        (λ next. IsReadStep done state.entry.ledger next.0.ledger state.entry.walk next.0.walk
+        state.entry.table next.0.table next.1.items)
         (IsReadFault (bad_lines_among done)) }
 {
     let ReadState {

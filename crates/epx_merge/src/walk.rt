@@ -49,7 +49,8 @@ impl<'a> LineWalk<'a> {
 
     /// The next line, if one is left.
     pub(crate) fn next_line(&mut self) -> Option<PlacedLine<'a>>
-        ensures { MatchOption result ((self.old ≡ []) × (self.new ≡ [])) (λ line. self.old ≡ line ∷ self.new) }
+        ensures { MatchOption result ((self.old ≡ []) × (self.new ≡ []))
+            (λ line. self.old ≡ line ∷ self.new) }
     {
         let LineWalk {
             mut log,

@@ -1,10 +1,13 @@
 -- Strictly increasing lists of numbers.
-use Rattle.std.proofs.Common.{◌≡◌, ◌⊎◌, inl, inr, ℕ, zero, suc, ◌+◌, ◌-◌, ◌<◌, ◌≤◌, List, [], ◌∷◌, Option, Some, None, true, length, get_or, Contains, MatchOption, is_some, subst, ap, ◌∙◌, arith}
+use Rattle.std.proofs.Common.{◌≡◌, ◌⊎◌, inl, inr, ℕ, zero, suc, ◌+◌, ◌-◌, ◌<◌, ◌≤◌, List, [], ◌∷◌}
+use Rattle.std.proofs.Common.{Option, Some, None, true, length, get_or, Contains, MatchOption}
+use Rattle.std.proofs.Common.{is_some, subst, ap, ◌∙◌, arith}
 use Rattle.std.specs.List.Sorted.{IsStrictlyIncreasing}
 use Rattle.std.proofs.lemmas.Bool.{cases_eq, cases_lt, false≢true}
 use Rattle.std.proofs.lemmas.List.{get_or_default}
 use Rattle.std.proofs.lemmas.List.Elements.{Contains-get_or}
-use Rattle.epx_types.proofs.lists.MembershipLemmas.{Contains-nil, Contains-head, Contains-cons_cases, Contains-cons}
+use Rattle.epx_types.proofs.lists.MembershipLemmas.{Contains-nil, Contains-head}
+use Rattle.epx_types.proofs.lists.MembershipLemmas.{Contains-cons_cases, Contains-cons}
 
 pub contains_or_not : (xs : List ℕ) (x : ℕ) → Contains xs x ⊎ (¬ Contains xs x)
 contains_or_not [] x = inr (λ h. Contains-nil x h)
@@ -12,7 +15,8 @@ contains_or_not (y ∷ ys) x = elim (cases_eq y x) [
   | inl same ↦ inl (subst (Contains (y ∷ ys)) same (Contains-head y ys))
   | inr differ ↦ elim (contains_or_not ys x) [
     | inl there ↦ inl (Contains-cons y ys x there)
-    | inr none ↦ inr (λ h. elim (Contains-cons_cases y ys x h) [ inl same ↦ differ same | inr later ↦ none later ])
+    | inr none ↦ inr (λ h. elim (Contains-cons_cases y ys x h)
+        [ inl same ↦ differ same | inr later ↦ none later ])
   ]
 ]
 
@@ -48,12 +52,15 @@ module _ (xs : List ℕ) (rising : IsStrictlyIncreasing xs) where
   ]
 
 -- what a binary search finds of a number
-pub present : (xs : List ℕ) (x : ℕ) (found : Option ℕ) → is_some found ≡ true → MatchOption found (¬ Contains xs x) (λ i. (i < length xs) × (get_or xs i 0 ≡ x)) → Contains xs x
+pub present : (xs : List ℕ) (x : ℕ) (found : Option ℕ) → is_some found ≡ true
+    → MatchOption found (¬ Contains xs x) (λ i. (i < length xs) × (get_or xs i 0 ≡ x))
+    → Contains xs x
 present xs x (Some i) some at = subst (Contains xs) at.1 (Contains-get_or xs i 0 at.0)
 present xs x None some at = absurd (false≢true some)
 
 -- if all elements before an index are less and all from it on are greater
-pub absent : (xs : List ℕ) (x i : ℕ) → ((k : ℕ) → k < i → get_or xs k 0 < x) → ((k : ℕ) → i ≤ k → k < length xs → x < get_or xs k 0) → ¬ Contains xs x
+pub absent : (xs : List ℕ) (x i : ℕ) → ((k : ℕ) → k < i → get_or xs k 0 < x)
+    → ((k : ℕ) → i ≤ k → k < length xs → x < get_or xs k 0) → ¬ Contains xs x
 absent xs x i before after h =
     let at : get_or xs h.0 0 ≡ x = get_or_default xs h.0 0 x h.1 ∙ h.2 in
     elim (cases_lt h.0 i) [

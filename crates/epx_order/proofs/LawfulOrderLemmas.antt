@@ -1,6 +1,7 @@
 -- A list is a lawful order exactly if it has each ready instance once, and none is early or
 -- overtaken.
-use Rattle.std.proofs.Common.{◌≡◌, ◌≢◌, ℕ, inl, inr, List, true, length, slice_get, Some, sym, subst, ◌∙◌, ap, arith, is_lt, nat_cmp, Contains}
+use Rattle.std.proofs.Common.{◌≡◌, ◌≢◌, ℕ, inl, inr, List, true, length, slice_get, Some, sym}
+use Rattle.std.proofs.Common.{subst, ◌∙◌, ap, arith, is_lt, nat_cmp, Contains}
 use Rattle.std.specs.Ordering.{ordering_then}
 use Rattle.std.specs.Cmp.{nat_cmp_total, on_total, then_total}
 use Rattle.std.proofs.lemmas.Bool.{cases_lt}
@@ -13,7 +14,8 @@ use Rattle.epx_types.specs.LawfulOrders.{SequenceBefore, IsLawful}
 use Rattle.epx_types.specs.Readiness.{IsReady}
 use Rattle.epx_types.proofs.committed.AgreementLemmas.{IsRising-same}
 use Rattle.epx_types.proofs.lists.ComparisonLemmas.{id_cmp_total}
-use Rattle.epx_types.proofs.lists.ListPositionLemmas.{slice_get-from_Contains, AllPairs-from_slice_get}
+use Rattle.epx_types.proofs.lists.ListPositionLemmas.{slice_get-from_Contains}
+use Rattle.epx_types.proofs.lists.ListPositionLemmas.{AllPairs-from_slice_get}
 use Rattle.epx_types.proofs.graph.ReachingLemmas.{IsReady-reached}
 use Rattle.epx_types.proofs.lists.TotalOrderLemmas.{below_irrefl}
 use Rattle.epx_order.specs.OrderFaults.{IsListOfReady, InOrder}
@@ -23,8 +25,10 @@ module _ (m : List Instance) (rising : IsRising (ids_of m)) (ids : List Id) wher
   not_before_itself : (x : Id) → ¬ SequenceBefore m x x
   not_before_itself x (d, e, in_d, is_d, in_e, is_e, lower) =
       let one = IsRising-same m rising d e in_d in_e (is_d ∙ sym is_e) in
-      let same = subst (λ (d : Instance). is_lt (ordering_then (nat_cmp d.seq e.seq) (id_cmp x x)) ≡ true) one lower in
-      below_irrefl (then_total (on_total (λ (a : ℕ × Id). a.0) nat_cmp_total) (on_total (λ (a : ℕ × Id). a.1) id_cmp_total)) (e.seq, x) same
+      let same = subst (λ (d : Instance). is_lt (ordering_then (nat_cmp d.seq e.seq) (id_cmp x x))
+      ≡ true) one lower in
+      below_irrefl (then_total (on_total (λ (a : ℕ × Id). a.0) nat_cmp_total)
+      (on_total (λ (a : ℕ × Id). a.1) id_cmp_total)) (e.seq, x) same
 
   module _ (ready : IsListOfReady m ids) (order : InOrder m ids (length ids)) where
     member : (x : Id) → Contains ids x → IsReady m x
@@ -34,16 +38,20 @@ module _ (m : List Instance) (rising : IsRising (ids_of m)) (ids : List Id) wher
 
     pub lawful_from_order : IsLawful m ids
     lawful_from_order = record {
-      once = AllPairs-from_slice_get (λ x y. x ≢ y) ids (λ i j x y l at to same. (ready.0 j y (slice_get_within ids j y to) to).1 i l (at ∙ ap Some same));
+      once = AllPairs-from_slice_get (λ x y. x ≢ y) ids
+          (λ i j x y l at to same. (ready.0 j y (slice_get_within ids j y to) to).1 i l
+          (at ∙ ap Some same));
       only = member;
       whole = ready.1;
       after_reached = λ x y h there back.
           let i = slice_get-from_Contains ids x h in
-          let j = slice_get-from_Contains ids y (ready.1 y (IsReady-reached m x y there (member x h))) in
+          let j = slice_get-from_Contains ids y
+          (ready.1 y (IsReady-reached m x y there (member x h))) in
           elim (cases_lt j.0 i.0) [
             | inl before ↦ (j.0, i.0, before, j.1, i.1)
             | inr upto ↦ elim (cases_lt i.0 j.0) [
-              | inl later ↦ absurd ((order i.0 (slice_get_within ids i.0 x i.1)).0 (x, y, i.1, there, back, j.0, later, j.1))
+              | inl later ↦ absurd ((order i.0 (slice_get_within ids i.0 x i.1)).0
+                  (x, y, i.1, there, back, j.0, later, j.1))
               | inr other ↦
                   let one : i.0 ≡ j.0 = omega arith in
                   let same : Some x ≡ Some y = sym i.1 ∙ ap (slice_get ids) one ∙ j.1 in
@@ -56,7 +64,9 @@ module _ (m : List Instance) (rising : IsRising (ids_of m)) (ids : List Id) wher
           elim (cases_lt i.0 j.0) [
             | inl before ↦ (i.0, j.0, before, i.1, j.1)
             | inr upto ↦ elim (cases_lt j.0 i.0) [
-              | inl earlier ↦ absurd ((order i.0 (slice_get_within ids i.0 x i.1)).1 (x, y, i.1, one, lower, j.0, earlier, j.1))
+              | inl earlier ↦ absurd
+                  ((order i.0 (slice_get_within ids i.0 x i.1)).1
+                  (x, y, i.1, one, lower, j.0, earlier, j.1))
               | inr other ↦
                   let place : j.0 ≡ i.0 = omega arith in
                   let same : Some y ≡ Some x = sym j.1 ∙ ap (slice_get ids) place ∙ i.1 in

@@ -20,7 +20,9 @@ use Rattle.epx_order.specs.Uncovered.{IsUncovered, IsLeastUncovered}
 Below-cases : (x y : Id) → Below x y ⊎ (¬ Below x y)
 Below-cases x y = elim (below_cases id_cmp_total id_cmp-IsAntisymmetric x y) [
   | inl lower ↦ inl lower
-  | inr (inl same) ↦ inr (λ lower. below_asymm id_cmp_total x y lower (subst (λ z. Below z x) same (subst (Below x) (sym same) lower)))
+  | inr (inl same) ↦ inr
+      (λ lower. below_asymm id_cmp_total x y lower
+      (subst (λ z. Below z x) same (subst (Below x) (sym same) lower)))
   | inr (inr higher) ↦ inr (λ lower. below_asymm id_cmp_total x y lower higher)
 ]
 
@@ -37,24 +39,32 @@ module _ (m : List Instance) where
   ]
 
   -- the instance of an Id, if a decidable fact holds of it
-  of_name : (P : Instance → Type 0) → ((d : Instance) → P d ⊎ (¬ P d)) → (x : Id) → ((d : Instance) × Contains m d × (d.id ≡ x) × P d) ⊎ (¬ ((d : Instance) × Contains m d × (d.id ≡ x) × P d))
-  of_name P tell x = elim (some_or_none (λ d. (d.id ≡ x) × P d) (λ d. both_cases (Id-cases d.id x) (tell d)) m) [
-    | inl found ↦ inl (found.0, found.1, found.2.0, found.2.1)
-    | inr none ↦ inr (λ h. none h.0 h.1 (h.2, h.3))
-  ]
+  of_name : (P : Instance → Type 0) → ((d : Instance) → P d ⊎ (¬ P d)) → (x : Id)
+      → ((d : Instance) × Contains m d × (d.id ≡ x) × P d)
+      ⊎ (¬ ((d : Instance) × Contains m d × (d.id ≡ x) × P d))
+  of_name P tell x =
+      elim (some_or_none (λ d. (d.id ≡ x) × P d) (λ d. both_cases (Id-cases d.id x) (tell d)) m) [
+        | inl found ↦ inl (found.0, found.1, found.2.0, found.2.1)
+        | inr none ↦ inr (λ h. none h.0 h.1 (h.2, h.3))
+      ]
 
   abbrev Conflicting : Id → Id → Type 0
-  Conflicting x y = (d e : Instance) × Contains m d × Contains m e × (d.id ≡ x) × (e.id ≡ y) × Conflict d.ops e.ops
+  Conflicting x y = (d e : Instance) × Contains m d × Contains m e × (d.id ≡ x) × (e.id ≡ y)
+      × Conflict d.ops e.ops
 
   Conflicting-cases : (x y : Id) → Conflicting x y ⊎ (¬ Conflicting x y)
-  Conflicting-cases x y = elim (of_name (λ d. (e : Instance) × Contains m e × (e.id ≡ y) × Conflict d.ops e.ops) (λ d. of_name (λ e. Conflict d.ops e.ops) (λ e. Conflict-cases d.ops e.ops) y) x) [
-    | inl found ↦ inl (found.0, found.3.0, found.1, found.3.1, found.2, found.3.2, found.3.3)
-    | inr none ↦ inr (λ h. none (h.0, h.2, h.4, (h.1, h.3, h.5, h.6)))
-  ]
+  Conflicting-cases x y =
+      elim (of_name (λ d. (e : Instance) × Contains m e × (e.id ≡ y) × Conflict d.ops e.ops)
+      (λ d. of_name (λ e. Conflict d.ops e.ops) (λ e. Conflict-cases d.ops e.ops) y) x) [
+        | inl found ↦ inl (found.0, found.3.0, found.1, found.3.1, found.2, found.3.2, found.3.3)
+        | inr none ↦ inr (λ h. none (h.0, h.2, h.4, (h.1, h.3, h.5, h.6)))
+      ]
 
   IsUncovered-cases : (x y : Id) → IsUncovered m x y ⊎ (¬ IsUncovered m x y)
   IsUncovered-cases x y =
-      elim (both_cases (both_cases (IsReady-cases x) (IsReady-cases y)) (both_cases (Conflicting-cases x y) (both_cases (not_cases (Reaches-cases m x y)) (not_cases (Reaches-cases m y x))))) [
+      elim (both_cases (both_cases (IsReady-cases x) (IsReady-cases y))
+      (both_cases (Conflicting-cases x y)
+      (both_cases (not_cases (Reaches-cases m x y)) (not_cases (Reaches-cases m y x))))) [
         | inl found ↦ inl (record { ready = found.0; conflict = found.1.0; apart = found.1.1 })
         | inr none ↦ inr (λ h. none (h.ready, (h.conflict, h.apart)))
       ]
@@ -107,17 +117,24 @@ module _ (m : List Instance) where
         ]
       ]
 
-  least_pair : (x : Id) → BeginsPair x → ((v : Id) → Contains (ids_of m) v → BeginsPair v → UpTo x v) → (y : Id) × IsLeastUncovered m x y
+  least_pair : (x : Id) → BeginsPair x
+      → ((v : Id) → Contains (ids_of m) v → BeginsPair v → UpTo x v)
+      → (y : Id) × IsLeastUncovered m x y
   least_pair x begun lowest = elim (least_or_none (IsPairOf x) (IsPairOf-cases x) (ids_of m)) [
     | inl found ↦ (
       found.0,
       record {
         rises = found.1.0.0;
         uncovered = found.1.0.1;
-        least = λ v w rises other. elim (lowest v other.ready.0.committed (begins v w (rises, other))) [
-          | inl same ↦ inr (same, found.1.1 w other.ready.1.committed (subst (λ (u : Id). IsPairOf u w) (sym same) (rises, other)))
-          | inr lower ↦ inl lower
-        ];
+        least = λ v w rises other.
+            elim (lowest v other.ready.0.committed (begins v w (rises, other))) [
+              | inl same ↦ inr (
+                same,
+                found.1.1 w other.ready.1.committed
+                    (subst (λ (u : Id). IsPairOf u w) (sym same) (rises, other)),
+              )
+              | inr lower ↦ inl lower
+            ];
       },
     )
     | inr none ↦ absurd (none begun.0 begun.1 begun.2)
@@ -125,6 +142,7 @@ module _ (m : List Instance) where
 
   pub covered_or_not : IsCovered m ⊎ ((x y : Id) × IsLeastUncovered m x y)
   covered_or_not = elim (least_or_none BeginsPair BeginsPair-cases (ids_of m)) [
-    | inl found ↦ let second = least_pair found.0 found.1.0 found.1.1 in inr (found.0, second.0, second.1)
+    | inl found ↦ let second = least_pair found.0 found.1.0 found.1.1 in
+        inr (found.0, second.0, second.1)
     | inr none ↦ inl (covered_without_pairs none)
   ]

@@ -1,5 +1,6 @@
 -- What the nodes of a list say about its instances.
-use Rattle.std.proofs.Common.{◌≡◌, ℕ, ◌<◌, inl, inr, List, Bool, length, get_or, slice_get, Some, sym, ◌∙◌, ap, arith, IsTrue, Contains, All}
+use Rattle.std.proofs.Common.{◌≡◌, ℕ, ◌<◌, inl, inr, List, Bool, length, get_or, slice_get, Some}
+use Rattle.std.proofs.Common.{sym, ◌∙◌, ap, arith, IsTrue, Contains, All}
 use Rattle.std.proofs.lemmas.Bool.{cases_lt}
 use Rattle.std.proofs.lemmas.List.Elements.{All-from_get_or}
 use Rattle.std.proofs.lemmas.Option.{slice_get_within, slice_get-get_or}
@@ -9,16 +10,19 @@ use Rattle.epx_types.proofs.lists.ListPositionLemmas.{Contains-slice_get, slice_
 use Rattle.epx_graph.specs.Graphs.{DependencyGraph}
 use Rattle.epx_graph.specs.GraphOf.{IsGraphOf}
 use Rattle.epx_graph.proofs.GraphNodeLemmas.{node_is_one}
-use Rattle.epx_graph.proofs.MapPathLemmas.{committed_count, node_committed, node_of_committed, node_order}
+use Rattle.epx_graph.proofs.MapPathLemmas.{committed_count, node_committed, node_of_committed}
+use Rattle.epx_graph.proofs.MapPathLemmas.{node_order}
 use Rattle.epx_order.specs.inner.NodeLists.{AreListed, IsListedIfReady}
 use Rattle.epx_order.specs.OrderFaults.{HasAllReady, IsOrderFault, ReadyOnce}
 use Rattle.epx_order.specs.inner.ReadyMarks.{is_marked, AreReadyMarks}
 use Rattle.epx_order.specs.declared.order_fault.OrderFault.TheVariants.{Missing}
 use Rattle.epx_order.proofs.ReadyMarkLemmas.{ready_from_mark, mark_from_ready}
 
-module _ (m : List Instance) (g : DependencyGraph) (is : IsGraphOf m g) (ids : List Id) (nodes : List ℕ) (marks : List Bool) (listed : AreListed g ids (length ids) nodes marks) where
+module _ (m : List Instance) (g : DependencyGraph) (is : IsGraphOf m g) (ids : List Id)
+    (nodes : List ℕ) (marks : List Bool) (listed : AreListed g ids (length ids) nodes marks) where
   -- an instance is in the list exactly if its node is marked
-  pub listed_from_mark : (k : ℕ) (x : Id) → slice_get g.ids k ≡ Some x → IsTrue (is_marked marks k) → Contains ids x
+  pub listed_from_mark : (k : ℕ) (x : Id) → slice_get g.ids k ≡ Some x → IsTrue (is_marked marks k)
+      → Contains ids x
   listed_from_mark k x at h =
       let i = (listed.marked k).0 h in
       let there = slice_get-get_or ids i.0 x i.1 in
@@ -26,11 +30,13 @@ module _ (m : List Instance) (g : DependencyGraph) (is : IsGraphOf m g) (ids : L
       let same : Some (get_or ids i.0 x) ≡ Some x = sym node ∙ ap (slice_get g.ids) i.2 ∙ at in
       Contains-slice_get ids i.0 x (there ∙ same)
 
-  pub mark_from_listed : (k : ℕ) (x : Id) → slice_get g.ids k ≡ Some x → Contains ids x → IsTrue (is_marked marks k)
+  pub mark_from_listed : (k : ℕ) (x : Id) → slice_get g.ids k ≡ Some x → Contains ids x
+      → IsTrue (is_marked marks k)
   mark_from_listed k x at h =
       let i = slice_get-from_Contains ids x h in
       let l = slice_get_within ids i.0 x i.1 in
-      (listed.marked k).1 (i.0, l, node_is_one g is.graph (get_or nodes i.0 0) k x (listed.each i.0 x l i.1) at)
+      (listed.marked k).1
+      (i.0, l, node_is_one g is.graph (get_or nodes i.0 0) k x (listed.each i.0 x l i.1) at)
 
   module _ (ready : List Bool) (marked : AreReadyMarks g ready) where
     pub ready_is_listed : ((k : ℕ) → IsListedIfReady ready marks k) → HasAllReady m ids
@@ -38,7 +44,9 @@ module _ (m : List Instance) (g : DependencyGraph) (is : IsGraphOf m g) (ids : L
         let k = node_of_committed m g is x h.committed in
         listed_from_mark k.0 x k.2 (all k.0 (mark_from_ready m g is ready marked k.0 x k.2 h))
 
-    pub missing_found : (k : ℕ) (x : Id) → slice_get g.ids k ≡ Some x → IsTrue (is_marked ready k) → ¬ IsTrue (is_marked marks k) → ((j : ℕ) → j < k → IsListedIfReady ready marks j) → ReadyOnce m ids (length ids) → IsOrderFault m ids (Missing x)
+    pub missing_found : (k : ℕ) (x : Id) → slice_get g.ids k ≡ Some x → IsTrue (is_marked ready k)
+        → ¬ IsTrue (is_marked marks k) → ((j : ℕ) → j < k → IsListedIfReady ready marks j)
+        → ReadyOnce m ids (length ids) → IsOrderFault m ids (Missing x)
     missing_found k x at h out before once =
         let is_ready = ready_from_mark m g is ready marked k x at h in
         let in' = (node_committed m g is k x at).1 is_ready.committed in (
@@ -48,7 +56,9 @@ module _ (m : List Instance) (g : DependencyGraph) (is : IsGraphOf m g) (ids : L
           λ y y_ready y_out.
               let j = node_of_committed m g is y y_ready.committed in
               elim (cases_lt j.0 k) [
-                | inl lower ↦ absurd (y_out (listed_from_mark j.0 y j.2 (before j.0 lower (mark_from_ready m g is ready marked j.0 y j.2 y_ready))))
+                | inl lower ↦ absurd
+                    (y_out (listed_from_mark j.0 y j.2
+                    (before j.0 lower (mark_from_ready m g is ready marked j.0 y j.2 y_ready))))
                 | inr not_lower ↦ elim (cases_lt k j.0) [
                   | inl higher ↦ inr ((node_order m g is k j.0 x y at j.2 in' j.1).0 higher)
                   | inr not_higher ↦
@@ -67,11 +77,21 @@ module _ (m : List Instance) (g : DependencyGraph) (is : IsGraphOf m g) (ids : L
       let x = get_or ids i none in
       let at = slice_get-get_or ids i none in' in
       let node = listed.each i x in' at in
-      omega (arith, (node_committed m g is (get_or nodes i 0) x node).1 (once i x in' at).0.committed, committed_count m g is))
+      omega (
+        arith,
+        (node_committed m g is (get_or nodes i 0) x node).1
+            (once i x in' at).0.committed,
+        committed_count m g is,
+      ))
 
   pub nodes_within : (n : ℕ) → n ≡ length g.ids → All (λ k. k < n) nodes
   nodes_within n e = All-from_get_or (λ k. k < n) nodes 0 (λ i l.
       let in' : i < length ids = omega (arith, l, listed.whole) in
       let none : Id = record { replica = 0; number = 0 } in
       let x = get_or ids i none in
-      omega (arith, e, slice_get_within g.ids (get_or nodes i 0) x (listed.each i x in' (slice_get-get_or ids i none in'))))
+      omega (
+        arith,
+        e,
+        slice_get_within g.ids (get_or nodes i 0) x
+            (listed.each i x in' (slice_get-get_or ids i none in')),
+      ))

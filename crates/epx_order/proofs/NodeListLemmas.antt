@@ -1,7 +1,9 @@
 -- One more instance of a list.
-use Rattle.std.proofs.Common.{◌≡◌, ℕ, ◌+◌, ◌<◌, inl, inr, List, [], ◌∷◌, ◌++◌, Bool, true, false, get_or, set, slice_get, Some, sym, subst, ◌∙◌, ap, arith, IsTrue}
+use Rattle.std.proofs.Common.{◌≡◌, ℕ, ◌+◌, ◌<◌, inl, inr, List, [], ◌∷◌, ◌++◌, Bool, true, false}
+use Rattle.std.proofs.Common.{get_or, set, slice_get, Some, sym, subst, ◌∙◌, ap, arith, IsTrue}
 use Rattle.std.proofs.lemmas.Bool.{cases_eq, cases_lt}
-use Rattle.std.proofs.lemmas.List.{length_push, length-set, get_or_push, get_or_append_left, get_or-set_same, get_or-set_other}
+use Rattle.std.proofs.lemmas.List.{length_push, length-set, get_or_push, get_or_append_left}
+use Rattle.std.proofs.lemmas.List.{get_or-set_same, get_or-set_other}
 use Rattle.std.proofs.lemmas.Option.{slice_get_within, slice_get-get_or}
 use Rattle.epx_types.specs.declared.id.Id.{Id}
 use Rattle.epx_types.specs.Instances.{Instance}
@@ -12,19 +14,24 @@ use Rattle.epx_order.specs.inner.NodeLists.{AreListed}
 use Rattle.epx_order.specs.OrderFaults.{ReadyOnce}
 use Rattle.epx_order.specs.inner.ReadyMarks.{is_marked}
 
-module _ (g : DependencyGraph) (is : IsGraph g) (ids : List Id) (n : ℕ) (nodes : List ℕ) (marks : List Bool) (old : AreListed g ids n nodes marks) (x : Id) (at : slice_get ids n ≡ Some x) (k : ℕ) (to : slice_get g.ids k ≡ Some x) where
+module _ (g : DependencyGraph) (is : IsGraph g) (ids : List Id) (n : ℕ) (nodes : List ℕ)
+    (marks : List Bool) (old : AreListed g ids n nodes marks) (x : Id)
+    (at : slice_get ids n ≡ Some x) (k : ℕ) (to : slice_get g.ids k ≡ Some x) where
   -- its node is marked exactly if it is listed at an earlier position
-  pub earlier_from_mark : IsTrue (is_marked marks k) → (i : ℕ) × (i < n) × (slice_get ids i ≡ Some x)
+  pub earlier_from_mark : IsTrue (is_marked marks k)
+      → (i : ℕ) × (i < n) × (slice_get ids i ≡ Some x)
   earlier_from_mark h =
       let i = (old.marked k).0 h in
       let l = slice_get_within ids n x at in
       let there = slice_get-get_or ids i.0 x (omega (arith, i.1)) in
       let node = old.each i.0 (get_or ids i.0 x) i.1 there in
-      let same : Some x ≡ Some (get_or ids i.0 x) = sym to ∙ ap (slice_get g.ids) (sym i.2) ∙ node in
+      let same : Some x ≡ Some (get_or ids i.0 x) =
+      sym to ∙ ap (slice_get g.ids) (sym i.2) ∙ node in
       (i.0, i.1, there ∙ sym same)
 
   pub mark_from_earlier : (i : ℕ) → i < n → slice_get ids i ≡ Some x → IsTrue (is_marked marks k)
-  mark_from_earlier i l there = (old.marked k).1 (i, l, node_is_one g is (get_or nodes i 0) k x (old.each i x l there) to)
+  mark_from_earlier i l there =
+      (old.marked k).1 (i, l, node_is_one g is (get_or nodes i 0) k x (old.each i x l there) to)
 
   pub listed_step : AreListed g ids (n + 1) (nodes ++ k ∷ []) (set marks k true)
   listed_step = record {
@@ -46,9 +53,11 @@ module _ (g : DependencyGraph) (is : IsGraph g) (ids : List Id) (n : ℕ) (nodes
     last = get_or_push nodes k 0 n old.whole
 
     here : is_marked (set marks k true) k ≡ true
-    here = get_or-set_same marks k true false (omega (arith, old.marks_whole, slice_get_within g.ids k x to))
+    here = get_or-set_same marks k true false
+        (omega (arith, old.marks_whole, slice_get_within g.ids k x to))
 
-    forth : (j : ℕ) → IsTrue (is_marked (set marks k true) j) → (i : ℕ) × (i < n + 1) × (get_or (nodes ++ k ∷ []) i 0 ≡ j)
+    forth : (j : ℕ) → IsTrue (is_marked (set marks k true) j)
+        → (i : ℕ) × (i < n + 1) × (get_or (nodes ++ k ∷ []) i 0 ≡ j)
     forth j h = elim (cases_eq j k) [
       | inl same ↦ (n, omega arith, last ∙ sym same)
       | inr other ↦
@@ -56,23 +65,29 @@ module _ (g : DependencyGraph) (is : IsGraph g) (ids : List Id) (n : ℕ) (nodes
           (was.0, omega (arith, was.1), kept was.0 was.1 ∙ was.2)
     ]
 
-    back : (j : ℕ) → (i : ℕ) × (i < n + 1) × (get_or (nodes ++ k ∷ []) i 0 ≡ j) → IsTrue (is_marked (set marks k true) j)
+    back : (j : ℕ) → (i : ℕ) × (i < n + 1) × (get_or (nodes ++ k ∷ []) i 0 ≡ j)
+        → IsTrue (is_marked (set marks k true) j)
     back j (i, l, e) = elim (cases_eq j k) [
       | inl same ↦ ap (is_marked (set marks k true)) same ∙ here
       | inr other ↦ elim (cases_lt i n) [
-        | inl past ↦ get_or-set_other marks k j true false other ∙ (old.marked j).1 (i, past, sym (kept i past) ∙ e)
+        | inl past ↦ get_or-set_other marks k j true false other
+            ∙ (old.marked j).1 (i, past, sym (kept i past) ∙ e)
         | inr now ↦
             let same : i ≡ n = omega arith in
             absurd (other (sym e ∙ ap (λ i. get_or (nodes ++ k ∷ []) i 0) same ∙ last))
       ]
     ]
 
-  pub ready_once_step : (m : List Instance) → IsReady m x → ¬ IsTrue (is_marked marks k) → ReadyOnce m ids n → ReadyOnce m ids (n + 1)
+  pub ready_once_step : (m : List Instance) → IsReady m x → ¬ IsTrue (is_marked marks k)
+      → ReadyOnce m ids n → ReadyOnce m ids (n + 1)
   ready_once_step m ready unmarked sound i y l there = elim (cases_lt i n) [
     | inl past ↦ sound i y past there
     | inr now ↦
         let same : i ≡ n = omega arith in
         let one : Some x ≡ Some y = sym at ∙ ap (slice_get ids) (sym same) ∙ there in
-        let is_x : x ≡ y = cc one in
-        (subst (IsReady m) is_x ready, λ j before earlier. unmarked (mark_from_earlier j (omega (arith, before)) (earlier ∙ sym one)))
+        let is_x : x ≡ y = cc one in (
+          subst (IsReady m) is_x ready,
+          λ j before earlier.
+              unmarked (mark_from_earlier j (omega (arith, before)) (earlier ∙ sym one)),
+        )
   ]

@@ -1,5 +1,7 @@
 -- A list of instances is a lawful order, or has a fault.
-use Rattle.std.proofs.Common.{◌≡◌, ◌≢◌, ◌⊎◌, ◌<◌, ℕ, zero, suc, Bool, true, List, length, slice_get, Option, Some, None, Contains, refl, sym, ap, ◌∙◌, subst, inl, inr, is_lt, nat_cmp, arith}
+use Rattle.std.proofs.Common.{◌≡◌, ◌≢◌, ◌⊎◌, ◌<◌, ℕ, zero, suc, Bool, true, List, length}
+use Rattle.std.proofs.Common.{slice_get, Option, Some, None, Contains, refl, sym, ap, ◌∙◌, subst}
+use Rattle.std.proofs.Common.{inl, inr, is_lt, nat_cmp, arith}
 use Rattle.std.specs.Ordering.{ordering_then}
 use Rattle.std.proofs.lemmas.Bool.{cases_lt, cases_Bool}
 use Rattle.std.proofs.lemmas.Option.{slice_get_within}
@@ -13,11 +15,15 @@ use Rattle.epx_types.specs.Readiness.{IsReady}
 use Rattle.epx_types.specs.Components.{InOneComponent}
 use Rattle.epx_types.proofs.lists.SearchLemmas.{some_or_none, least_or_none}
 use Rattle.epx_types.proofs.orders.RankExistenceLemmas.{ready_or_waits}
-use Rattle.epx_types.proofs.graph.ReachingDecisionLemmas.{both_cases, not_cases, Reaches-cases, InOneComponent-cases}
+use Rattle.epx_types.proofs.graph.ReachingDecisionLemmas.{both_cases, not_cases, Reaches-cases}
+use Rattle.epx_types.proofs.graph.ReachingDecisionLemmas.{InOneComponent-cases}
 use Rattle.epx_types.proofs.graph.WaitingLemmas.{Id-cases, Contains-Id_cases}
-use Rattle.epx_order.specs.OrderFaults.{IsStrangerAt, IsRepeatAt, IsEarlyAt, IsOvertakenAt, ReadyOnce, HasAllReady, InOrder, IsListOfReady, IsOrderFault}
+use Rattle.epx_order.specs.OrderFaults.{IsStrangerAt, IsRepeatAt, IsEarlyAt, IsOvertakenAt}
+use Rattle.epx_order.specs.OrderFaults.{ReadyOnce, HasAllReady, InOrder, IsListOfReady}
+use Rattle.epx_order.specs.OrderFaults.{IsOrderFault}
 use Rattle.epx_order.specs.declared.order_fault.OrderFault.{OrderFault}
-use Rattle.epx_order.specs.declared.order_fault.OrderFault.TheVariants.{Memory, Stranger, Repeat, Missing, Early, Sequence}
+use Rattle.epx_order.specs.declared.order_fault.OrderFault.TheVariants.{Memory, Stranger, Repeat}
+use Rattle.epx_order.specs.declared.order_fault.OrderFault.TheVariants.{Missing, Early, Sequence}
 use Rattle.epx_order.proofs.LawfulOrderLemmas.{lawful_from_order}
 
 -- ---- decidable facts
@@ -40,8 +46,10 @@ decided_as : {A B : Type 0} → Decided A → (A → B) → (B → A) → Decide
 decided_as (inl a) there back = inl (there a)
 decided_as (inr none) there back = inr (λ b. none (back b))
 
-element_cases : {X : Type 0} (P : X → Type 0) → ((x : X) → Decided (P x)) → (xs : List X) → Decided ((x : X) × Contains xs x × P x)
-element_cases P tell xs = elim (some_or_none P tell xs) [ inl found ↦ inl found | inr none ↦ inr (λ h. none h.0 h.1 h.2) ]
+element_cases : {X : Type 0} (P : X → Type 0) → ((x : X) → Decided (P x)) → (xs : List X)
+    → Decided ((x : X) × Contains xs x × P x)
+element_cases P tell xs = elim (some_or_none P tell xs)
+    [ inl found ↦ inl found | inr none ↦ inr (λ h. none h.0 h.1 h.2) ]
 
 -- the least number below n that has the fact, or none has it
 abbrev LeastOrNone : (ℕ → Type 0) → ℕ → Type 0
@@ -54,7 +62,11 @@ least_place P tell (suc n) =
       | inl least ↦ inl (least.0, omega (arith, least.1), least.2, least.3)
       | inr none ↦ elim (tell n) [
         | inl here ↦ inl (n, omega arith, here, none)
-        | inr not_here ↦ inr (λ j l p. elim (cases_lt j n) [ inl lower ↦ none j lower p | inr last ↦ let same : j ≡ n = omega (arith, l, last) in not_here (subst P same p) ])
+        | inr not_here ↦ inr
+            (λ j l p. elim (cases_lt j n) [
+              | inl lower ↦ none j lower p
+              | inr last ↦ let same : j ≡ n = omega (arith, l, last) in not_here (subst P same p)
+            ])
       ]
     ]
 
@@ -67,12 +79,15 @@ module _ (ids : List Id) where
   at_cases P tell k = by (slice_get ids k) refl where
     by : (o : Option Id) → slice_get ids k ≡ o → Decided (HasAt P k)
     by None e = inr (λ h. let at = h.1 in cc (e, at))
-    by (Some x) e = decided_as (tell x) (λ p. (x, e, p)) (λ h. let at = h.1 in let same : h.0 ≡ x = cc (e, at) in subst P same h.2)
+    by (Some x) e = decided_as (tell x) (λ p. (x, e, p))
+        (λ h. let at = h.1 in let same : h.0 ≡ x = cc (e, at) in subst P same h.2)
 
   -- so does the Id at some place for which R holds
-  place_cases : (R : ℕ → Type 0) (P : Id → Type 0) → ((k : ℕ) → Decided (R k)) → ((x : Id) → Decided (P x)) → Decided ((k : ℕ) × R k × HasAt P k)
+  place_cases : (R : ℕ → Type 0) (P : Id → Type 0) → ((k : ℕ) → Decided (R k))
+      → ((x : Id) → Decided (P x)) → Decided ((k : ℕ) × R k × HasAt P k)
   place_cases R P among tell =
-      elim (least_place (λ k. R k × HasAt P k) (λ k. both_cases (among k) (at_cases P tell k)) (length ids)) [
+      elim (least_place (λ k. R k × HasAt P k) (λ k. both_cases (among k) (at_cases P tell k))
+      (length ids)) [
         | inl found ↦ inl (found.0, found.2.0, found.2.1)
         | inr none ↦ inr (λ h. none h.0 (slice_get_within ids h.0 h.2.0 h.2.1) (h.1, h.2))
       ]
@@ -81,7 +96,10 @@ module _ (m : List Instance) (ids : List Id) where
   ready_cases : (x : Id) → Decided (IsReady m x)
   ready_cases x =
       elim (Contains-Id_cases (ids_of m) x) [
-        | inl committed ↦ elim (ready_or_waits m x committed) [ inl ready ↦ inl ready | inr waits ↦ inr (λ ready. waits.1.missing (ready.complete waits.0 waits.1.reached)) ]
+        | inl committed ↦ elim (ready_or_waits m x committed) [
+          | inl ready ↦ inl ready
+          | inr waits ↦ inr (λ ready. waits.1.missing (ready.complete waits.0 waits.1.reached))
+        ]
         | inr none ↦ inr (λ ready. none ready.committed)
       ]
 
@@ -91,9 +109,13 @@ module _ (m : List Instance) (ids : List Id) where
 
   sequence_cases : (x y : Id) → Decided (SequenceBefore m x y)
   sequence_cases x y =
-      decided_as (element_cases (λ (d : Instance). (d.id ≡ x) × ((e : Instance) × Contains m e × Follows x y d e))
-      (λ d. both_cases (Id-cases d.id x) (element_cases (Follows x y d) (λ e. both_cases (Id-cases e.id y) (true_cases _)) m)) m)
-      (λ h. (h.0, h.2.1.0, h.1, h.2.0, h.2.1.1, h.2.1.2.0, h.2.1.2.1)) (λ h. (h.0, h.2, (h.3, (h.1, h.4, (h.5, h.6)))))
+      decided_as
+      (element_cases (λ (d : Instance). (d.id ≡ x)
+      × ((e : Instance) × Contains m e × Follows x y d e))
+      (λ d. both_cases (Id-cases d.id x)
+      (element_cases (Follows x y d) (λ e. both_cases (Id-cases e.id y) (true_cases _)) m)) m)
+      (λ h. (h.0, h.2.1.0, h.1, h.2.0, h.2.1.1, h.2.1.2.0, h.2.1.2.1))
+      (λ h. (h.0, h.2, (h.3, (h.1, h.4, (h.5, h.6)))))
 
   stranger_cases : (k : ℕ) → Decided (IsStrangerAt m ids k)
   stranger_cases k = at_cases ids (λ x. ¬ IsReady m x) (λ x. not_cases (ready_cases x)) k
@@ -101,27 +123,39 @@ module _ (m : List Instance) (ids : List Id) where
   repeat_cases : (k : ℕ) → Decided (IsRepeatAt m ids k)
   repeat_cases k =
       decided_as (at_cases ids (λ x. IsReady m x × ((i : ℕ) × (i < k) × HasAt ids (λ y. x ≡ y) i))
-      (λ x. both_cases (ready_cases x) (place_cases ids (λ i. i < k) (λ y. x ≡ y) (λ i. less_cases i k) (Id-cases x))) k)
-      (λ h. (h.0, h.1, h.2.0, h.2.1.0, h.2.1.1, h.2.1.2.1 ∙ ap Some (sym h.2.1.2.2))) (λ h. (h.0, h.1, (h.2, (h.3, h.4, (h.0, h.5, refl)))))
+      (λ x. both_cases (ready_cases x)
+      (place_cases ids (λ i. i < k) (λ y. x ≡ y) (λ i. less_cases i k) (Id-cases x))) k)
+      (λ h. (h.0, h.1, h.2.0, h.2.1.0, h.2.1.1, h.2.1.2.1 ∙ ap Some (sym h.2.1.2.2)))
+      (λ h. (h.0, h.1, (h.2, (h.3, h.4, (h.0, h.5, refl)))))
 
   early_cases : (k : ℕ) → Decided (IsEarlyAt m ids k)
   early_cases k =
-      decided_as (at_cases ids (λ x. (j : ℕ) × (k < j) × HasAt ids (λ y. Reaches m x y × ¬ Reaches m y x) j)
-      (λ x. place_cases ids (λ j. k < j) (λ y. Reaches m x y × ¬ Reaches m y x) (less_cases k) (λ y. both_cases (Reaches-cases m x y) (not_cases (Reaches-cases m y x)))) k)
-      (λ h. (h.0, h.2.2.0, h.1, h.2.2.2.0, h.2.2.2.1, h.2.0, h.2.1, h.2.2.1)) (λ h. (h.0, h.2, (h.5, h.6, (h.1, h.7, (h.3, h.4)))))
+      decided_as
+      (at_cases ids (λ x. (j : ℕ) × (k < j)
+      × HasAt ids (λ y. Reaches m x y × ¬ Reaches m y x) j)
+      (λ x. place_cases ids (λ j. k < j) (λ y. Reaches m x y × ¬ Reaches m y x) (less_cases k)
+      (λ y. both_cases (Reaches-cases m x y) (not_cases (Reaches-cases m y x)))) k)
+      (λ h. (h.0, h.2.2.0, h.1, h.2.2.2.0, h.2.2.2.1, h.2.0, h.2.1, h.2.2.1))
+      (λ h. (h.0, h.2, (h.5, h.6, (h.1, h.7, (h.3, h.4)))))
 
   overtaken_cases : (k : ℕ) → Decided (IsOvertakenAt m ids k)
   overtaken_cases k =
-      decided_as (at_cases ids (λ x. (j : ℕ) × (j < k) × HasAt ids (λ y. InOneComponent m x y × SequenceBefore m x y) j)
-      (λ x. place_cases ids (λ j. j < k) (λ y. InOneComponent m x y × SequenceBefore m x y) (λ j. less_cases j k) (λ y. both_cases (InOneComponent-cases m x y) (sequence_cases x y))) k)
-      (λ h. (h.0, h.2.2.0, h.1, h.2.2.2.0, h.2.2.2.1, h.2.0, h.2.1, h.2.2.1)) (λ h. (h.0, h.2, (h.5, h.6, (h.1, h.7, (h.3, h.4)))))
+      decided_as
+      (at_cases ids (λ x. (j : ℕ) × (j < k)
+      × HasAt ids (λ y. InOneComponent m x y × SequenceBefore m x y) j)
+      (λ x. place_cases ids (λ j. j < k) (λ y. InOneComponent m x y × SequenceBefore m x y)
+      (λ j. less_cases j k)
+      (λ y. both_cases (InOneComponent-cases m x y) (sequence_cases x y))) k)
+      (λ h. (h.0, h.2.2.0, h.1, h.2.2.2.0, h.2.2.2.1, h.2.0, h.2.1, h.2.2.1))
+      (λ h. (h.0, h.2, (h.5, h.6, (h.1, h.7, (h.3, h.4)))))
 
   -- ---- the first fault
 
   abbrev HasFault : Type 0
   HasFault = (fault : OrderFault) × (fault ≢ Memory) × IsOrderFault m ids fault
 
-  once_below : (n : ℕ) → ((k : ℕ) → k < n → ¬ (IsStrangerAt m ids k ⊎ IsRepeatAt m ids k)) → ReadyOnce m ids n
+  once_below : (n : ℕ) → ((k : ℕ) → k < n → ¬ (IsStrangerAt m ids k ⊎ IsRepeatAt m ids k))
+      → ReadyOnce m ids n
   once_below n none i x l at =
       elim (ready_cases x) [
         | inl ready ↦ (ready, λ j lower there. none i l (inr (x, at, ready, j, lower, there)))
@@ -130,32 +164,63 @@ module _ (m : List Instance) (ids : List Id) where
 
   missing_or_whole : ReadyOnce m ids (length ids) → HasFault ⊎ HasAllReady m ids
   missing_or_whole once =
-      elim (least_or_none (λ x. IsReady m x × ¬ Contains ids x) (λ x. both_cases (ready_cases x) (not_cases (Contains-Id_cases ids x))) (ids_of m)) [
-        | inl least ↦ inl (Missing least.0, (λ same. cc same), (once, least.1.0.0, least.1.0.1, λ y ready out. least.1.1 y ready.committed (ready, out)))
-        | inr none ↦ inr (λ x ready. elim (Contains-Id_cases ids x) [ inl there ↦ there | inr out ↦ absurd (none x ready.committed (ready, out)) ])
+      elim (least_or_none (λ x. IsReady m x × ¬ Contains ids x)
+      (λ x. both_cases (ready_cases x) (not_cases (Contains-Id_cases ids x))) (ids_of m)) [
+        | inl least ↦ inl (
+          Missing least.0,
+          (λ same. cc same),
+          (
+            once,
+            least.1.0.0,
+            least.1.0.1,
+            λ y ready out.
+                least.1.1 y ready.committed (ready, out),
+          ),
+        )
+        | inr none ↦ inr (λ x ready. elim (Contains-Id_cases ids x)
+            [ inl there ↦ there | inr out ↦ absurd (none x ready.committed (ready, out)) ])
       ]
 
   fault_or_order : IsListOfReady m ids → HasFault ⊎ InOrder m ids (length ids)
   fault_or_order listed =
-      elim (least_place (λ k. IsEarlyAt m ids k ⊎ IsOvertakenAt m ids k) (λ k. either_cases (early_cases k) (overtaken_cases k)) (length ids)) [
+      elim (least_place (λ k. IsEarlyAt m ids k ⊎ IsOvertakenAt m ids k)
+      (λ k. either_cases (early_cases k) (overtaken_cases k)) (length ids)) [
         | inl least ↦
-            let before : InOrder m ids least.0 = λ i l. ((λ early. least.3 i l (inl early)), (λ overtaken. least.3 i l (inr overtaken))) in
+            let before : InOrder m ids least.0 =
+            λ i l. (
+              (λ early. least.3 i l (inl early)),
+              (λ overtaken. least.3 i l (inr overtaken)),
+            ) in
             elim (early_cases least.0) [
               | inl early ↦ inl (Early least.0, (λ same. cc same), (listed, early, before))
               | inr not_early ↦ elim least.2 [
                 | inl early ↦ absurd (not_early early)
-                | inr overtaken ↦ inl (Sequence least.0, (λ same. cc same), (listed, overtaken, not_early, before))
+                | inr overtaken ↦ inl (
+                  Sequence least.0,
+                  (λ same. cc same),
+                  (listed, overtaken, not_early, before),
+                )
               ]
             ]
-        | inr none ↦ inr (λ i l. ((λ early. none i l (inl early)), (λ overtaken. none i l (inr overtaken))))
+        | inr none ↦ inr
+            (λ i l. ((λ early. none i l (inl early)), (λ overtaken. none i l (inr overtaken))))
       ]
 
   fault_or_once : HasFault ⊎ ReadyOnce m ids (length ids)
   fault_or_once =
-      elim (least_place (λ k. IsStrangerAt m ids k ⊎ IsRepeatAt m ids k) (λ k. either_cases (stranger_cases k) (repeat_cases k)) (length ids)) [
+      elim (least_place (λ k. IsStrangerAt m ids k ⊎ IsRepeatAt m ids k)
+      (λ k. either_cases (stranger_cases k) (repeat_cases k)) (length ids)) [
         | inl least ↦ elim least.2 [
-          | inl stranger ↦ inl (Stranger least.0, (λ same. cc same), (stranger, once_below least.0 least.3))
-          | inr again ↦ inl (Repeat least.0, (λ same. cc same), (again, once_below least.0 least.3))
+          | inl stranger ↦ inl (
+            Stranger least.0,
+            (λ same. cc same),
+            (stranger, once_below least.0 least.3),
+          )
+          | inr again ↦ inl (
+            Repeat least.0,
+            (λ same. cc same),
+            (again, once_below least.0 least.3),
+          )
         ]
         | inr none ↦ inr (once_below (length ids) none)
       ]

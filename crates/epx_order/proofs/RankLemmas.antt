@@ -1,5 +1,6 @@
 -- Lists of ranks: the element at a position, and one more rank.
-use Rattle.std.proofs.Common.{◌≡◌, ◌&&◌, ℕ, ◌+◌, ◌<◌, List, [], ◌∷◌, ◌++◌, length, take, get_or, slice_get, Some, Bool, true, false, eqb, is_eq, sym, ap, ◌∙◌, arith}
+use Rattle.std.proofs.Common.{◌≡◌, ◌&&◌, ℕ, ◌+◌, ◌<◌, List, [], ◌∷◌, ◌++◌, length, take, get_or}
+use Rattle.std.proofs.Common.{slice_get, Some, Bool, true, false, eqb, is_eq, sym, ap, ◌∙◌, arith}
 use Rattle.std.proofs.lemmas.Bool.Decides.{nat_tests}
 use Rattle.std.proofs.lemmas.List.{get_or-map, length-map, map_more}
 use Rattle.std.proofs.lemmas.List.Sums.{count_by_more_no, count_by_more_yes}
@@ -11,8 +12,10 @@ use Rattle.epx_types.proofs.lists.ListPositionLemmas.{slice_get-map}
 use Rattle.epx_order.specs.inner.Ranks.{ranked, ranked_all}
 use Rattle.epx_order.specs.declared.rank.Rank.{Rank}
 
-pub rank_at : (ranks : List Rank) (i : ℕ) (r : Rank) → i < length (ranked_all ranks) → r ≡ get_or ranks i r → slice_get (ranked_all ranks) i ≡ Some (ranked r)
-rank_at ranks i r l at = slice_get-map ranked ranks i r (slice_get-get_or ranks i r (omega (arith, length-map ranks ranked)) ∙ ap Some (sym at))
+pub rank_at : (ranks : List Rank) (i : ℕ) (r : Rank) → i < length (ranked_all ranks)
+    → r ≡ get_or ranks i r → slice_get (ranked_all ranks) i ≡ Some (ranked r)
+rank_at ranks i r l at = slice_get-map ranked ranks i r
+    (slice_get-get_or ranks i r (omega (arith, length-map ranks ranked)) ∙ ap Some (sym at))
 
 -- whether two Ids are equal
 abbrev pub same_id : Id → Id → Bool
@@ -31,19 +34,26 @@ module _ (ranks : List Rank) (i : ℕ) (d : Rank) (l : i < length ranks) where
   here : get_or (ranked_all ranks) i (ranked d) ≡ ranked (get_or ranks i d)
   here = get_or-map ranked ranks i d (ranked d) l
 
-  test : leads (get_or (ranked_all ranks) i (ranked d)) ≡ same_id (get_or ranks i d).id (get_or ranks i d).leader
+  test : leads (get_or (ranked_all ranks) i (ranked d))
+      ≡ same_id (get_or ranks i d).id (get_or ranks i d).leader
   test = ap leads here ∙ same_id-is_eq (get_or ranks i d).id (get_or ranks i d).leader
 
-  pub ids_push : (ids : List Id) → ids ≡ ranked_ids (take i (ranked_all ranks)) → ids ++ (get_or ranks i d).id ∷ [] ≡ ranked_ids (take (i + 1) (ranked_all ranks))
+  pub ids_push : (ids : List Id) → ids ≡ ranked_ids (take i (ranked_all ranks))
+      → ids ++ (get_or ranks i d).id ∷ [] ≡ ranked_ids (take (i + 1) (ranked_all ranks))
   ids_push ids old =
       ap (λ xs. xs ++ (get_or ranks i d).id ∷ []) old
       ∙ ap (λ (r : Ranked). ranked_ids (take i (ranked_all ranks)) ++ r.id ∷ []) (sym here)
       ∙ sym (map_more (λ (r : Ranked). r.id) (ranked_all ranks) i (ranked d) within)
 
   -- one more leader
-  pub leader_more : same_id (get_or ranks i d).id (get_or ranks i d).leader ≡ true → component_count (take (i + 1) (ranked_all ranks)) ≡ component_count (take i (ranked_all ranks)) + 1
+  pub leader_more : same_id (get_or ranks i d).id (get_or ranks i d).leader ≡ true
+      → component_count (take (i + 1) (ranked_all ranks))
+      ≡ component_count (take i (ranked_all ranks)) + 1
   leader_more same = count_by_more_yes leads (ranked_all ranks) i (ranked d) within (test ∙ same)
 
   -- or no leader
-  pub leader_no_more : same_id (get_or ranks i d).id (get_or ranks i d).leader ≡ false → component_count (take (i + 1) (ranked_all ranks)) ≡ component_count (take i (ranked_all ranks))
-  leader_no_more other = count_by_more_no leads (ranked_all ranks) i (ranked d) within (test ∙ other)
+  pub leader_no_more : same_id (get_or ranks i d).id (get_or ranks i d).leader ≡ false
+      → component_count (take (i + 1) (ranked_all ranks))
+      ≡ component_count (take i (ranked_all ranks))
+  leader_no_more other = count_by_more_no leads (ranked_all ranks) i (ranked d) within
+      (test ∙ other)

@@ -11,8 +11,10 @@ use Rattle.epx_components.proofs.NodePathLemmas.{reaches_itself}
 use Rattle.epx_components.proofs.ReadyNodeLemmas.{ready_from_node, node_from_ready}
 use Rattle.epx_order.specs.inner.ReadyMarks.{is_marked, AreReadyMarks}
 
-module _ (m : List Instance) (g : DependencyGraph) (is : IsGraphOf m g) (ready : List Bool) (marks : AreReadyMarks g ready) where
-  pub ready_from_mark : (k : ℕ) (x : Id) → slice_get g.ids k ≡ Some x → IsTrue (is_marked ready k) → IsReady m x
+module _ (m : List Instance) (g : DependencyGraph) (is : IsGraphOf m g) (ready : List Bool)
+    (marks : AreReadyMarks g ready) where
+  pub ready_from_mark : (k : ℕ) (x : Id) → slice_get g.ids k ≡ Some x → IsTrue (is_marked ready k)
+      → IsReady m x
   ready_from_mark k x at h =
       let none = (marks.exact k (slice_get_within g.ids k x at)).0 h in
       elim (cases_lt k g.committed) [
@@ -20,5 +22,7 @@ module _ (m : List Instance) (g : DependencyGraph) (is : IsGraphOf m g) (ready :
         | inr past ↦ absurd (none (k, past, reaches_itself (edges_of g) k k refl))
       ]
 
-  pub mark_from_ready : (k : ℕ) (x : Id) → slice_get g.ids k ≡ Some x → IsReady m x → IsTrue (is_marked ready k)
-  mark_from_ready k x at h = (marks.exact k (slice_get_within g.ids k x at)).1 (node_from_ready m g is k x at h)
+  pub mark_from_ready : (k : ℕ) (x : Id) → slice_get g.ids k ≡ Some x → IsReady m x
+      → IsTrue (is_marked ready k)
+  mark_from_ready k x at h = (marks.exact k (slice_get_within g.ids k x at)).1
+      (node_from_ready m g is k x at h)

@@ -1,28 +1,38 @@
 -- The greatest sequence key of each component, among the nodes of a list.
-use Rattle.std.proofs.Common.{◌≡◌, ◌≢◌, ℕ, ◌+◌, ◌<◌, ◌⊎◌, inl, inr, List, length, get_or, set, replicate, slice_get, Option, Some, None, true, refl, sym, subst, ◌∙◌, ap, arith, is_lt}
+use Rattle.std.proofs.Common.{◌≡◌, ◌≢◌, ℕ, ◌+◌, ◌<◌, ◌⊎◌, inl, inr, List, length, get_or, set}
+use Rattle.std.proofs.Common.{replicate, slice_get, Option, Some, None, true, refl, sym, subst}
+use Rattle.std.proofs.Common.{◌∙◌, ap, arith, is_lt}
 use Rattle.std.specs.Cmp.{IsTotalOrder, nat_cmp_total, on_total, then_total}
 use Rattle.std.specs.FinMap.{IsAntisymmetric, nat_cmp-IsAntisymmetric}
 use Rattle.std.proofs.lemmas.Bool.{cases_lt}
 use Rattle.std.proofs.lemmas.List.{length-set, length-replicate, get_or-replicate, get_or_past}
 use Rattle.epx_types.specs.Instances.{Instance}
 use Rattle.epx_types.proofs.lists.TotalOrderLemmas.{below_irrefl, below_trans, below_cases}
-use Rattle.epx_types.proofs.lists.ComparisonLemmas.{id_cmp_total, id_cmp-IsAntisymmetric, first_is_equal, second_is_equal}
+use Rattle.epx_types.proofs.lists.ComparisonLemmas.{id_cmp_total, id_cmp-IsAntisymmetric}
+use Rattle.epx_types.proofs.lists.ComparisonLemmas.{first_is_equal, second_is_equal}
 use Rattle.epx_order.specs.declared.sequence_key.SequenceKey.{SequenceKey}
 use Rattle.epx_components.specs.Partitions.{Parts, component_of}
-use Rattle.epx_order.specs.inner.SequenceKeys.{sequence_key_of, sequence_key_cmp, ComesBefore, IsNodeEarlyAt, IsNodeOvertakenAt, AreNodesInOrder}
+use Rattle.epx_order.specs.inner.SequenceKeys.{sequence_key_of, sequence_key_cmp, ComesBefore}
+use Rattle.epx_order.specs.inner.SequenceKeys.{IsNodeEarlyAt, IsNodeOvertakenAt, AreNodesInOrder}
 use Rattle.epx_components.proofs.PartitionLemmas.{value_after_set}
 
 abbrev pub latest_in : Parts → List (Option SequenceKey) → ℕ → Option SequenceKey
 latest_in p latest k = get_or latest (component_of p k) None
 
 -- for each component, the greatest sequence key of its nodes among the first n of the list
-pub record AreLatest (m : List Instance) (p : Parts) (nodes : List ℕ) (n : ℕ) (latest : List (Option SequenceKey)) : Type 0 where
+pub record AreLatest (m : List Instance) (p : Parts) (nodes : List ℕ) (n : ℕ)
+    (latest : List (Option SequenceKey)) : Type 0 where
   pub whole : length latest ≡ p.count
-  pub from : (k : ℕ) (t : SequenceKey) → latest_in p latest k ≡ Some t → (j : ℕ) × (e : Instance) × (j < n) × (component_of p (get_or nodes j 0) ≡ component_of p k) × (slice_get m (get_or nodes j 0) ≡ Some e) × (sequence_key_of e ≡ t)
-  pub over : (j : ℕ) (e : Instance) → j < n → slice_get m (get_or nodes j 0) ≡ Some e → (t : SequenceKey) × (latest_in p latest (get_or nodes j 0) ≡ Some t) × ¬ (is_lt (sequence_key_cmp t (sequence_key_of e)) ≡ true)
+  pub from : (k : ℕ) (t : SequenceKey) → latest_in p latest k ≡ Some t
+      → (j : ℕ) × (e : Instance) × (j < n) × (component_of p (get_or nodes j 0) ≡ component_of p k)
+      × (slice_get m (get_or nodes j 0) ≡ Some e) × (sequence_key_of e ≡ t)
+  pub over : (j : ℕ) (e : Instance) → j < n → slice_get m (get_or nodes j 0) ≡ Some e
+      → (t : SequenceKey) × (latest_in p latest (get_or nodes j 0) ≡ Some t)
+      × ¬ (is_lt (sequence_key_cmp t (sequence_key_of e)) ≡ true)
 
 pub sequence_key_cmp_total : IsTotalOrder sequence_key_cmp
-sequence_key_cmp_total = then_total (on_total (λ (t : SequenceKey). t.seq) nat_cmp_total) (on_total (λ (t : SequenceKey). t.id) id_cmp_total)
+sequence_key_cmp_total = then_total (on_total (λ (t : SequenceKey). t.seq) nat_cmp_total)
+    (on_total (λ (t : SequenceKey). t.id) id_cmp_total)
 
 sequence_key_cmp-IsAntisymmetric : IsAntisymmetric sequence_key_cmp
 sequence_key_cmp-IsAntisymmetric a b e =
@@ -31,45 +41,71 @@ sequence_key_cmp-IsAntisymmetric a b e =
     λ i. record { seq = seq i; id = id i }
 
 -- a key less than another is less than each that is not less than the other
-before_later : (a b c : SequenceKey) → is_lt (sequence_key_cmp a b) ≡ true → ¬ (is_lt (sequence_key_cmp c b) ≡ true) → is_lt (sequence_key_cmp a c) ≡ true
-before_later a b c lower not = elim (below_cases sequence_key_cmp_total sequence_key_cmp-IsAntisymmetric c b) [
-  | inl l ↦ absurd (not l)
-  | inr (inl same) ↦ subst (λ t. is_lt (sequence_key_cmp a t) ≡ true) (sym same) lower
-  | inr (inr l) ↦ below_trans sequence_key_cmp_total a b c lower l
-]
+before_later : (a b c : SequenceKey) → is_lt (sequence_key_cmp a b) ≡ true
+    → ¬ (is_lt (sequence_key_cmp c b) ≡ true) → is_lt (sequence_key_cmp a c) ≡ true
+before_later a b c lower not =
+    elim (below_cases sequence_key_cmp_total sequence_key_cmp-IsAntisymmetric c b) [
+      | inl l ↦ absurd (not l)
+      | inr (inl same) ↦ subst (λ t. is_lt (sequence_key_cmp a t) ≡ true) (sym same) lower
+      | inr (inr l) ↦ below_trans sequence_key_cmp_total a b c lower l
+    ]
 
-pub latest_none : (m : List Instance) (p : Parts) (nodes : List ℕ) → AreLatest m p nodes 0 (replicate p.count None)
+pub latest_none : (m : List Instance) (p : Parts) (nodes : List ℕ)
+    → AreLatest m p nodes 0 (replicate p.count None)
 latest_none m p nodes = record {
   whole = length-replicate {A = Option SequenceKey} p.count None;
   from = λ k t h. let none = none_everywhere (component_of p k) in absurd (cc (h, none));
   over = λ j e l. absurd (omega arith);
 } where
-  none_everywhere : (c : ℕ) → ◌≡◌ {A = Option SequenceKey} (get_or (replicate p.count None) c None) None
+  none_everywhere : (c : ℕ) → ◌≡◌ {A = Option SequenceKey} (get_or (replicate p.count None) c None)
+      None
   none_everywhere c = elim (cases_lt c p.count) [
     | inl l ↦ get_or-replicate p.count c None None l
-    | inr past ↦ get_or_past (replicate p.count None) c None (omega (arith, length-replicate {A = Option SequenceKey} p.count None))
+    | inr past ↦ get_or_past (replicate p.count None) c None
+        (omega (arith, length-replicate {A = Option SequenceKey} p.count None))
   ]
 
-module _ (m : List Instance) (p : Parts) (nodes : List ℕ) (n : ℕ) (latest : List (Option SequenceKey)) (old : AreLatest m p nodes n latest) (e : Instance) (at : slice_get m (get_or nodes n 0) ≡ Some e) where
+module _ (m : List Instance) (p : Parts) (nodes : List ℕ) (n : ℕ)
+    (latest : List (Option SequenceKey)) (old : AreLatest m p nodes n latest) (e : Instance)
+    (at : slice_get m (get_or nodes n 0) ≡ Some e) where
   same_instance : (f : Instance) → slice_get m (get_or nodes n 0) ≡ Some f → f ≡ e
   same_instance f to = let same : Some f ≡ Some e = sym to ∙ at in cc same
 
-  pub overtaken_from_latest : ComesBefore (sequence_key_of e) (latest_in p latest (get_or nodes n 0)) → IsNodeOvertakenAt m p nodes n
+  pub overtaken_from_latest : ComesBefore (sequence_key_of e)
+      (latest_in p latest (get_or nodes n 0)) → IsNodeOvertakenAt m p nodes n
   overtaken_from_latest h = by (latest_in p latest (get_or nodes n 0)) refl h where
-    by : (o : Option SequenceKey) → latest_in p latest (get_or nodes n 0) ≡ o → ComesBefore (sequence_key_of e) o → IsNodeOvertakenAt m p nodes n
+    by : (o : Option SequenceKey) → latest_in p latest (get_or nodes n 0) ≡ o
+        → ComesBefore (sequence_key_of e) o → IsNodeOvertakenAt m p nodes n
     by None is h = absurd h
     by (Some t) is h =
-        let found = old.from (get_or nodes n 0) t is in
-        (found.0, found.2, found.3, (e, found.1, at, found.4, subst (λ t. is_lt (sequence_key_cmp (sequence_key_of e) t) ≡ true) (sym found.5) h))
+        let found = old.from (get_or nodes n 0) t is in (
+          found.0,
+          found.2,
+          found.3,
+          (
+            e,
+            found.1,
+            at,
+            found.4,
+            subst (λ t. is_lt (sequence_key_cmp (sequence_key_of e) t) ≡ true) (sym found.5) h,
+          ),
+        )
 
-  pub overtaken_to_latest : IsNodeOvertakenAt m p nodes n → ComesBefore (sequence_key_of e) (latest_in p latest (get_or nodes n 0))
+  pub overtaken_to_latest : IsNodeOvertakenAt m p nodes n
+      → ComesBefore (sequence_key_of e) (latest_in p latest (get_or nodes n 0))
   overtaken_to_latest (j, l, same, (d, f, at_d, at_f, lower)) =
       let found = old.over j f l at_f in
-      let here : latest_in p latest (get_or nodes n 0) ≡ Some found.0 = ap (λ c. get_or latest c None) (sym same) ∙ found.1 in
-      let own = subst (λ d. is_lt (sequence_key_cmp (sequence_key_of d) (sequence_key_of f)) ≡ true) (same_instance d at_d) lower in
-      subst (ComesBefore (sequence_key_of e)) (sym here) (before_later (sequence_key_of e) (sequence_key_of f) found.0 own found.2)
+      let here : latest_in p latest (get_or nodes n 0) ≡ Some found.0 =
+      ap (λ c. get_or latest c None) (sym same) ∙ found.1 in
+      let own = subst (λ d. is_lt (sequence_key_cmp (sequence_key_of d) (sequence_key_of f))
+      ≡ true) (same_instance d at_d) lower in
+      subst (ComesBefore (sequence_key_of e)) (sym here)
+      (before_later (sequence_key_of e) (sequence_key_of f) found.0 own found.2)
 
-  pub latest_step : component_of p (get_or nodes n 0) < length latest → ¬ ComesBefore (sequence_key_of e) (latest_in p latest (get_or nodes n 0)) → AreLatest m p nodes (n + 1) (set latest (component_of p (get_or nodes n 0)) (Some (sequence_key_of e)))
+  pub latest_step : component_of p (get_or nodes n 0) < length latest
+      → ¬ ComesBefore (sequence_key_of e) (latest_in p latest (get_or nodes n 0))
+      → AreLatest m p nodes (n + 1)
+      (set latest (component_of p (get_or nodes n 0)) (Some (sequence_key_of e)))
   latest_step in' none = record {
     whole = length-set latest own (Some (sequence_key_of e)) ∙ old.whole;
     from = λ k t h. elim (cases k) [
@@ -88,8 +124,10 @@ module _ (m : List Instance) (p : Parts) (nodes : List ℕ) (n : ℕ) (latest : 
               sequence_key_of e,
               here.1,
               λ lower.
-                  let stands : latest_in p latest (get_or nodes n 0) ≡ Some was.0 = ap (λ c. get_or latest c None) (sym here.0) ∙ was.1 in
-                  none (subst (ComesBefore (sequence_key_of e)) (sym stands) (before_later (sequence_key_of e) (sequence_key_of f) was.0 lower was.2)),
+                  let stands : latest_in p latest (get_or nodes n 0) ≡ Some was.0 =
+                  ap (λ c. get_or latest c None) (sym here.0) ∙ was.1 in
+                  none (subst (ComesBefore (sequence_key_of e)) (sym stands)
+                  (before_later (sequence_key_of e) (sequence_key_of f) was.0 lower was.2)),
             )
             | inr there ↦ (was.0, there.1 ∙ was.1, was.2)
           ]
@@ -98,7 +136,13 @@ module _ (m : List Instance) (p : Parts) (nodes : List ℕ) (n : ℕ) (latest : 
           let place : get_or nodes j 0 ≡ get_or nodes n 0 = ap (λ x. get_or nodes x 0) same in
           let one = same_instance f (ap (slice_get m) (sym place) ∙ at_f) in
           elim (cases (get_or nodes j 0)) [
-            | inl here ↦ (sequence_key_of e, here.1, λ lower. below_irrefl sequence_key_cmp_total (sequence_key_of e) (subst (λ f. is_lt (sequence_key_cmp (sequence_key_of e) (sequence_key_of f)) ≡ true) one lower))
+            | inl here ↦ (
+              sequence_key_of e,
+              here.1,
+              λ lower. below_irrefl sequence_key_cmp_total (sequence_key_of e)
+                  (subst (λ f. is_lt (sequence_key_cmp (sequence_key_of e) (sequence_key_of f))
+                  ≡ true) one lower),
+            )
             | inr there ↦ absurd (there.0 (ap (component_of p) place))
           ]
     ];
@@ -106,14 +150,21 @@ module _ (m : List Instance) (p : Parts) (nodes : List ℕ) (n : ℕ) (latest : 
     own : ℕ
     own = component_of p (get_or nodes n 0)
 
-    cases : (k : ℕ) → ((component_of p k ≡ own) × (latest_in p (set latest own (Some (sequence_key_of e))) k ≡ Some (sequence_key_of e))) ⊎ ((component_of p k ≢ own) × (latest_in p (set latest own (Some (sequence_key_of e))) k ≡ latest_in p latest k))
+    cases : (k : ℕ)
+        → ((component_of p k ≡ own)
+        × (latest_in p (set latest own (Some (sequence_key_of e))) k ≡ Some (sequence_key_of e)))
+        ⊎ ((component_of p k ≢ own)
+        × (latest_in p (set latest own (Some (sequence_key_of e))) k ≡ latest_in p latest k))
     cases = value_after_set None p latest (get_or nodes n 0) (Some (sequence_key_of e)) in'
 
 -- one more position
-pub nodes_in_order_step : (m : List Instance) (p : Parts) (below nodes : List ℕ) (n : ℕ) → ¬ IsNodeEarlyAt p below nodes n → ¬ IsNodeOvertakenAt m p nodes n → AreNodesInOrder m p below nodes n → AreNodesInOrder m p below nodes (n + 1)
+pub nodes_in_order_step : (m : List Instance) (p : Parts) (below nodes : List ℕ) (n : ℕ)
+    → ¬ IsNodeEarlyAt p below nodes n → ¬ IsNodeOvertakenAt m p nodes n
+    → AreNodesInOrder m p below nodes n → AreNodesInOrder m p below nodes (n + 1)
 nodes_in_order_step m p below nodes n ahead passed old i l = elim (cases_lt i n) [
   | inl past ↦ old i past
   | inr now ↦
       let same : n ≡ i = omega arith in
-      subst (λ i. (¬ IsNodeEarlyAt p below nodes i) × (¬ IsNodeOvertakenAt m p nodes i)) same (ahead, passed)
+      subst (λ i. (¬ IsNodeEarlyAt p below nodes i) × (¬ IsNodeOvertakenAt m p nodes i)) same
+      (ahead, passed)
 ]

@@ -1,35 +1,50 @@
 -- A stable sort of the ranks of the ready instances has the execution order as its result.
-use Rattle.std.proofs.Common.{◌≡◌, ◌≢◌, ◌&&◌, ℕ, zero, suc, ◌<◌, List, [], ◌∷◌, Bool, true, false, not, cond, map, filter, slice_get, Some, Contains, AllPairs, Less, Equal, Greater, is_lt, nat_cmp, refl, sym, ap, ap₂, ◌∙◌, subst, subst₂, arith, IsPermutation}
+use Rattle.std.proofs.Common.{◌≡◌, ◌≢◌, ◌&&◌, ℕ, zero, suc, ◌<◌, List, [], ◌∷◌, Bool, true, false}
+use Rattle.std.proofs.Common.{not, cond, map, filter, slice_get, Some, Contains, AllPairs, Less}
+use Rattle.std.proofs.Common.{Equal, Greater, is_lt, nat_cmp, refl, sym, ap, ap₂, ◌∙◌, subst}
+use Rattle.std.proofs.Common.{subst₂, arith, IsPermutation}
 use Rattle.std.specs.Ordering.{ordering_reverse, ordering_then}
 use Rattle.std.specs.Cmp.{tied_itself}
 use Rattle.std.specs.List.Sorted.{IsSortedBy, IsStableBy, ties}
 use Rattle.std.proofs.lemmas.Bool.{false≢true}
 use Rattle.std.proofs.lemmas.List.Kept.{AllPairs-filter}
-use Rattle.std.proofs.lemmas.List.Sorted.{ranks_by, sorted_far, Contains-permutation, IsPermutation-sym}
+use Rattle.std.proofs.lemmas.List.Sorted.{ranks_by, sorted_far, Contains-permutation}
+use Rattle.std.proofs.lemmas.List.Sorted.{IsPermutation-sym}
 use Rattle.std.proofs.lemmas.Option.{slice_get_within, get_or_from_slice_get}
-use Rattle.epx_types.specs.ExecutionOrder.{Ranked, rank_cmp, RanksBelow, IsRanked, IsExecutionOrder}
+use Rattle.epx_types.specs.ExecutionOrder.{Ranked, rank_cmp, RanksBelow, IsRanked}
+use Rattle.epx_types.specs.ExecutionOrder.{IsExecutionOrder}
 use Rattle.epx_types.specs.Ids.{id_cmp}
 use Rattle.epx_types.specs.Instances.{Instance}
-use Rattle.epx_types.proofs.lists.ComparisonLemmas.{second_is_equal, id_cmp-IsAntisymmetric, rank_cmp_total}
-use Rattle.epx_types.proofs.lists.MembershipLemmas.{Contains-map, Contains-from_map, Contains-filter}
-use Rattle.epx_types.proofs.lists.ListPositionLemmas.{slice_get-from_map, Contains-slice_get, AllPairs-head, AllPairs-tail, AllPairs-from_slice_get}
+use Rattle.epx_types.proofs.lists.ComparisonLemmas.{second_is_equal, id_cmp-IsAntisymmetric}
+use Rattle.epx_types.proofs.lists.ComparisonLemmas.{rank_cmp_total}
+use Rattle.epx_types.proofs.lists.MembershipLemmas.{Contains-map, Contains-from_map}
+use Rattle.epx_types.proofs.lists.MembershipLemmas.{Contains-filter}
+use Rattle.epx_types.proofs.lists.ListPositionLemmas.{slice_get-from_map, Contains-slice_get}
+use Rattle.epx_types.proofs.lists.ListPositionLemmas.{AllPairs-head, AllPairs-tail}
+use Rattle.epx_types.proofs.lists.ListPositionLemmas.{AllPairs-from_slice_get}
 use Rattle.epx_order.specs.inner.Ranks.{ranked, ranked_all, AreReadyRanks}
 use Rattle.epx_order.specs.declared.rank.Rank.{Rank}
 
 -- if R holds of any two filtered elements in order, it holds of two elements that pass the test
-pair_passes : {X : Type 0} (R : X → X → Type 0) (p : X → Bool) (xs : List X) → AllPairs R (filter p xs) → (i j : ℕ) (x y : X) → i < j → slice_get xs i ≡ Some x → slice_get xs j ≡ Some y → p x ≡ true → p y ≡ true → R x y
+pair_passes : {X : Type 0} (R : X → X → Type 0) (p : X → Bool) (xs : List X)
+    → AllPairs R (filter p xs) → (i j : ℕ) (x y : X) → i < j → slice_get xs i ≡ Some x
+    → slice_get xs j ≡ Some y → p x ≡ true → p y ≡ true → R x y
 pair_passes R p [] h i j x y l at to px py = absurd (cc at)
 pair_passes R p (z ∷ zs) h i zero x y l at to px py = absurd (omega arith)
 pair_passes {X} R p (z ∷ zs) h zero (suc j) x y l at to px py =
     let same : z ≡ x = cc at in
     let passes : p z ≡ true = ap p same ∙ px in
-    let all : AllPairs R (z ∷ filter p zs) = subst (λ b. AllPairs R (cond b (z ∷ filter p zs) (filter p zs))) passes h in
+    let all : AllPairs R (z ∷ filter p zs) =
+    subst (λ b. AllPairs R (cond b (z ∷ filter p zs) (filter p zs))) passes h in
     let P : X → Type 0 = λ w. R w y in
-    subst P same (AllPairs-head R z (filter p zs) y all (Contains-filter p zs y (Contains-slice_get zs j y to) py))
-pair_passes {X} R p (z ∷ zs) h (suc i) (suc j) x y l at to px py = pair_passes R p zs (rest (p z) h) i j x y (omega arith) at to px py where
-  rest : (b : Bool) → AllPairs R (cond b (z ∷ filter p zs) (filter p zs)) → AllPairs R (filter p zs)
-  rest true all = AllPairs-tail R z (filter p zs) all
-  rest false all = all
+    subst P same (AllPairs-head R z (filter p zs) y all
+    (Contains-filter p zs y (Contains-slice_get zs j y to) py))
+pair_passes {X} R p (z ∷ zs) h (suc i) (suc j) x y l at to px py =
+    pair_passes R p zs (rest (p z) h) i j x y (omega arith) at to px py where
+      rest : (b : Bool) → AllPairs R (cond b (z ∷ filter p zs) (filter p zs))
+          → AllPairs R (filter p zs)
+      rest true all = AllPairs-tail R z (filter p zs) all
+      rest false all = all
 
 abbrev lower : Rank → Rank → Bool
 lower a b = is_lt (rank_cmp (ranked a) (ranked b))
@@ -40,25 +55,37 @@ tied_ids a b e =
     let by_id = id_cmp a.id b.id in
     let by_seq = ordering_then (nat_cmp a.seq b.seq) by_id in
     let by_leader = ordering_then (id_cmp a.leader b.leader) by_seq in
-    id_cmp-IsAntisymmetric a.id b.id (second_is_equal (nat_cmp a.seq b.seq) by_id (second_is_equal (id_cmp a.leader b.leader) by_seq (second_is_equal (nat_cmp a.depth b.depth) by_leader e)))
+    id_cmp-IsAntisymmetric a.id b.id
+    (second_is_equal (nat_cmp a.seq b.seq) by_id
+    (second_is_equal (id_cmp a.leader b.leader) by_seq
+    (second_is_equal (nat_cmp a.depth b.depth) by_leader e)))
 
 tied : (a b : Rank) → rank_cmp (ranked a) (ranked b) ≡ Equal → ties lower a b ≡ true
 tied a b e =
-    let back : rank_cmp (ranked b) (ranked a) ≡ Equal = rank_cmp_total.antisymm (ranked b) (ranked a) ∙ ap ordering_reverse e in
+    let back : rank_cmp (ranked b) (ranked a) ≡ Equal =
+    rank_cmp_total.antisymm (ranked b) (ranked a) ∙ ap ordering_reverse e in
     ap₂ (λ r s. not (is_lt r) && not (is_lt s)) e back
 
-module _ (old new : List Rank) (once : AllPairs (λ a b. a.id ≢ b.id) old) (sorted : IsSortedBy lower new) (stable : IsStableBy lower old new) where
-  later : (i j : ℕ) (a b : Rank) → i < j → slice_get new i ≡ Some a → slice_get new j ≡ Some b → RanksBelow (ranked a) (ranked b)
+module _ (old new : List Rank) (once : AllPairs (λ a b. a.id ≢ b.id) old)
+    (sorted : IsSortedBy lower new) (stable : IsStableBy lower old new) where
+  later : (i j : ℕ) (a b : Rank) → i < j → slice_get new i ≡ Some a → slice_get new j ≡ Some b
+      → RanksBelow (ranked a) (ranked b)
   later i j a b l at to =
-      elim (rank_cmp (ranked a) (ranked b)) as (λ r. rank_cmp (ranked a) (ranked b) ≡ r → RanksBelow (ranked a) (ranked b)) [
+      elim (rank_cmp (ranked a) (ranked b)) as (λ r. rank_cmp (ranked a) (ranked b) ≡ r
+      → RanksBelow (ranked a) (ranked b)) [
         | Less ↦ λ e. ap is_lt e
         | Equal ↦ λ e.
-            let apart = subst (AllPairs (λ a b. a.id ≢ b.id)) (sym (stable a)) (AllPairs-filter (λ a b. a.id ≢ b.id) (ties lower a) old once) in
-            absurd (pair_passes (λ a b. a.id ≢ b.id) (ties lower a) new apart i j a b l at to (tied a a (tied_itself rank_cmp_total (ranked a))) (tied a b e) (tied_ids a b e))
+            let apart = subst (AllPairs (λ a b. a.id ≢ b.id)) (sym (stable a))
+            (AllPairs-filter (λ a b. a.id ≢ b.id) (ties lower a) old once) in
+            absurd (pair_passes (λ a b. a.id ≢ b.id) (ties lower a) new apart i j a b l at to
+            (tied a a (tied_itself rank_cmp_total (ranked a))) (tied a b e) (tied_ids a b e))
         | Greater ↦ λ e.
-            let back : lower b a ≡ true = ap is_lt (rank_cmp_total.antisymm (ranked b) (ranked a) ∙ ap ordering_reverse e) in
-            let far = sorted_far lower (ranks_by rank_cmp_total ranked) new sorted i j a (omega arith) (slice_get_within new j b to) in
-            absurd (false≢true (sym far ∙ ap₂ lower (get_or_from_slice_get new j b a to) (get_or_from_slice_get new i a a at) ∙ back))
+            let back : lower b a ≡ true =
+            ap is_lt (rank_cmp_total.antisymm (ranked b) (ranked a) ∙ ap ordering_reverse e) in
+            let far = sorted_far lower (ranks_by rank_cmp_total ranked) new sorted i j a
+            (omega arith) (slice_get_within new j b to) in
+            absurd (false≢true (sym far ∙ ap₂ lower (get_or_from_slice_get new j b a to)
+            (get_or_from_slice_get new i a a at) ∙ back))
       ] refl
 
   rising : AllPairs RanksBelow (ranked_all new)
@@ -67,14 +94,19 @@ module _ (old new : List Rank) (once : AllPairs (λ a b. a.id ≢ b.id) old) (so
       let b = slice_get-from_map ranked new j y to in
       subst₂ RanksBelow a.2 b.2 (later i j a.0 b.0 l a.1 b.1))
 
-pub order_from_sort : (m : List Instance) (old new : List Rank) → AreReadyRanks m old → IsPermutation old new → IsSortedBy lower new → IsStableBy lower old new → IsExecutionOrder m (ranked_all new)
+pub order_from_sort : (m : List Instance) (old new : List Rank) → AreReadyRanks m old
+    → IsPermutation old new → IsSortedBy lower new → IsStableBy lower old new
+    → IsExecutionOrder m (ranked_all new)
 order_from_sort m old new ready moved sorted stable = record {
   ranked = λ r h.
       let a = Contains-from_map ranked new r h in
-      subst (IsRanked m) a.2 (ready.is_rank a.0 (Contains-permutation new old a.0 (IsPermutation-sym old new moved) a.1));
+      subst (IsRanked m) a.2
+      (ready.is_rank a.0 (Contains-permutation new old a.0 (IsPermutation-sym old new moved)
+      a.1));
   whole = λ x is_ready.
       let a = ready.whole x is_ready in
-      let there = Contains-map (λ (r : Ranked). r.id) (ranked_all new) (ranked a.0) (Contains-map ranked new a.0 (Contains-permutation old new a.0 moved a.1)) in
+      let there = Contains-map (λ (r : Ranked). r.id) (ranked_all new) (ranked a.0)
+      (Contains-map ranked new a.0 (Contains-permutation old new a.0 moved a.1)) in
       subst (Contains (map (λ (r : Ranked). r.id) (ranked_all new))) a.2 there;
   rising = rising old new ready.once sorted stable;
 }

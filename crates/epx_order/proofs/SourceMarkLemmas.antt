@@ -1,5 +1,6 @@
 -- Words to which the sources are added one by one.
-use Rattle.std.proofs.Common.{◌≡◌, ◌↔◌, inl, inr, ℕ, ◌+◌, ◌^◌, ◌<◌, List, length, get_or, set, bit_or, IsTrue, sym, ap, ◌∙◌, arith}
+use Rattle.std.proofs.Common.{◌≡◌, ◌↔◌, inl, inr, ℕ, ◌+◌, ◌^◌, ◌<◌, List, length, get_or, set}
+use Rattle.std.proofs.Common.{bit_or, IsTrue, sym, ap, ◌∙◌, arith}
 use Rattle.std.proofs.lemmas.Bool.{cases_eq, cases_lt}
 use Rattle.std.proofs.lemmas.Nat.Bits.{bit_at-pow_same, bit_at-pow_other}
 use Rattle.std.specs.Int.{bit_at}
@@ -8,15 +9,25 @@ use Rattle.epx_order.proofs.BitLemmas.{bit_one, or_at}
 
 -- the bits of the first n sources
 abbrev pub AreMarked : List ℕ → List ℕ → ℕ → Type 0
-AreMarked slots words n = (b s : ℕ) → IsTrue (has_bit b (get_or words s 0)) ↔ ((b < n) × (get_or slots b 0 ≡ s))
+AreMarked slots words n = (b s : ℕ) → IsTrue (has_bit b (get_or words s 0))
+    ↔ ((b < n) × (get_or slots b 0 ≡ s))
 
 pow_bit : (n b : ℕ) → IsTrue (has_bit b (2 ^ n)) ↔ (b ≡ n)
 pow_bit n b = elim (cases_eq b n) [
-  | inl same ↦ ((λ _. same), λ _. (bit_one b (2 ^ n)).1 (ap (λ b. bit_at (2 ^ n) b) same ∙ bit_at-pow_same n))
-  | inr differ ↦ ((λ h. absurd (omega (arith, (bit_one b (2 ^ n)).0 h, bit_at-pow_other n b differ))), λ same. absurd (differ same))
+  | inl same ↦ (
+    (λ _. same),
+    λ _. (bit_one b (2 ^ n)).1
+        (ap (λ b. bit_at (2 ^ n) b) same ∙ bit_at-pow_same n),
+  )
+  | inr differ ↦ (
+    (λ h. absurd (omega (arith, (bit_one b (2 ^ n)).0 h, bit_at-pow_other n b differ))),
+    λ same. absurd (differ same),
+  )
 ]
 
-pub marked_more : (slots words : List ℕ) (n : ℕ) → get_or slots n 0 < length words → AreMarked slots words n → AreMarked slots (set words (get_or slots n 0) (bit_or (get_or words (get_or slots n 0) 0) (2 ^ n))) (n + 1)
+pub marked_more : (slots words : List ℕ) (n : ℕ) → get_or slots n 0 < length words
+    → AreMarked slots words n → AreMarked slots
+    (set words (get_or slots n 0) (bit_or (get_or words (get_or slots n 0) 0) (2 ^ n))) (n + 1)
 marked_more slots words n within old b s =
     let changed = or_at words (get_or slots n 0) (2 ^ n) within b s in (
       λ h. elim (changed.0 h) [

@@ -1,5 +1,6 @@
 -- A list has at most one fault, and a lawful order has none.
-use Rattle.std.proofs.Common.{◌≡◌, ◌≢◌, ◌⊎◌, inl, inr, ℕ, ◌<◌, List, length, Some, refl, sym, ap, ◌∙◌, subst, arith}
+use Rattle.std.proofs.Common.{◌≡◌, ◌≢◌, ◌⊎◌, inl, inr, ℕ, ◌<◌, List, length, Some, refl, sym, ap}
+use Rattle.std.proofs.Common.{◌∙◌, subst, arith}
 use Rattle.std.proofs.lemmas.Bool.{cases_lt}
 use Rattle.std.proofs.lemmas.Option.{slice_get_within}
 use Rattle.epx_types.specs.declared.id.Id.{Id}
@@ -9,9 +10,11 @@ use Rattle.epx_types.specs.Readiness.{IsReady}
 use Rattle.epx_types.proofs.orders.LawfulOrderLemmas.{Before-not_both}
 use Rattle.epx_types.proofs.lists.ListPositionLemmas.{Contains-slice_get, AllPairs-slice_get}
 use Rattle.epx_types.proofs.graph.ReachingLemmas.{UpTo-antisymm}
-use Rattle.epx_order.specs.OrderFaults.{IsStrangerAt, IsRepeatAt, IsEarlyAt, IsOvertakenAt, ReadyOnce, InOrder, IsOrderFault}
+use Rattle.epx_order.specs.OrderFaults.{IsStrangerAt, IsRepeatAt, IsEarlyAt, IsOvertakenAt}
+use Rattle.epx_order.specs.OrderFaults.{ReadyOnce, InOrder, IsOrderFault}
 use Rattle.epx_order.specs.declared.order_fault.OrderFault.{OrderFault}
-use Rattle.epx_order.specs.declared.order_fault.OrderFault.TheVariants.{Memory, Stranger, Repeat, Missing, Early, Sequence}
+use Rattle.epx_order.specs.declared.order_fault.OrderFault.TheVariants.{Memory, Stranger, Repeat}
+use Rattle.epx_order.specs.declared.order_fault.OrderFault.TheVariants.{Missing, Early, Sequence}
 
 module _ (m : List Instance) (ids : List Id) where
   abbrev IsStrangerOrRepeatAt : ℕ → Type 0
@@ -21,7 +24,8 @@ module _ (m : List Instance) (ids : List Id) where
   -- stranger or a repeat
   not_below : (n place : ℕ) → ReadyOnce m ids n → IsStrangerOrRepeatAt place → ¬ (place < n)
   not_below n place once (inl (x, at, waits)) l = waits (once place x l at).0
-  not_below n place once (inr (x, at, ready, i, before, earlier)) l = (once place x l at).1 i before earlier
+  not_below n place once (inr (x, at, ready, i, before, earlier)) l =
+      (once place x l at).1 i before earlier
 
   within : (place : ℕ) → IsStrangerOrRepeatAt place → place < length ids
   within place (inl (x, at, waits)) = slice_get_within ids place x at
@@ -30,7 +34,8 @@ module _ (m : List Instance) (ids : List Id) where
   not_whole : (place : ℕ) → IsStrangerOrRepeatAt place → ¬ ReadyOnce m ids (length ids)
   not_whole place wrong once = not_below (length ids) place once wrong (within place wrong)
 
-  one_place : (i j : ℕ) → IsStrangerOrRepeatAt i → ReadyOnce m ids i → IsStrangerOrRepeatAt j → ReadyOnce m ids j → i ≡ j
+  one_place : (i j : ℕ) → IsStrangerOrRepeatAt i → ReadyOnce m ids i → IsStrangerOrRepeatAt j
+      → ReadyOnce m ids j → i ≡ j
   one_place i j wrong once wrong' once' = elim (cases_lt i j) [
     | inl l ↦ absurd (not_below j i once' wrong l)
     | inr k ↦ elim (cases_lt j i) [
@@ -45,7 +50,8 @@ module _ (m : List Instance) (ids : List Id) where
       waits (subst (IsReady m) (cc same) ready)
 
   -- two places where the order is wrong, each the least one, are equal
-  one_order_place : (i j : ℕ) → IsEarlyAt m ids i ⊎ IsOvertakenAt m ids i → InOrder m ids i → IsEarlyAt m ids j ⊎ IsOvertakenAt m ids j → InOrder m ids j → i ≡ j
+  one_order_place : (i j : ℕ) → IsEarlyAt m ids i ⊎ IsOvertakenAt m ids i → InOrder m ids i
+      → IsEarlyAt m ids j ⊎ IsOvertakenAt m ids j → InOrder m ids j → i ≡ j
   one_order_place i j wrong order wrong' order' = elim (cases_lt i j) [
     | inl l ↦ absurd (not_in_order i j l wrong order')
     | inr k ↦ elim (cases_lt j i) [
@@ -53,47 +59,69 @@ module _ (m : List Instance) (ids : List Id) where
       | inr l ↦ omega arith
     ]
   ] where
-    not_in_order : (p q : ℕ) → p < q → IsEarlyAt m ids p ⊎ IsOvertakenAt m ids p → ¬ InOrder m ids q
+    not_in_order : (p q : ℕ) → p < q → IsEarlyAt m ids p ⊎ IsOvertakenAt m ids p
+        → ¬ InOrder m ids q
     not_in_order p q l (inl early) order = (order p l).0 early
     not_in_order p q l (inr overtaken) order = (order p l).1 overtaken
 
-  pub fault_is_one : (f g : OrderFault) → f ≢ Memory → g ≢ Memory → IsOrderFault m ids f → IsOrderFault m ids g → f ≡ g
+  pub fault_is_one : (f g : OrderFault) → f ≢ Memory → g ≢ Memory → IsOrderFault m ids f
+      → IsOrderFault m ids g → f ≡ g
   fault_is_one Memory g nf ng a b = absurd (nf refl)
   fault_is_one (Stranger i) Memory nf ng a b = absurd (ng refl)
-  fault_is_one (Stranger i) (Stranger j) nf ng a b = ap Stranger (one_place i j (inl a.0) a.1 (inl b.0) b.1)
-  fault_is_one (Stranger i) (Repeat j) nf ng a b = absurd (not_both j (subst (IsStrangerAt m ids) (one_place i j (inl a.0) a.1 (inr b.0) b.1) a.0) b.0)
+  fault_is_one (Stranger i) (Stranger j) nf ng a b =
+      ap Stranger (one_place i j (inl a.0) a.1 (inl b.0) b.1)
+  fault_is_one (Stranger i) (Repeat j) nf ng a b =
+      absurd (not_both j (subst (IsStrangerAt m ids) (one_place i j (inl a.0) a.1 (inr b.0) b.1)
+      a.0) b.0)
   fault_is_one (Stranger i) (Missing y) nf ng a b = absurd (not_whole i (inl a.0) b.0)
   fault_is_one (Stranger i) (Early j) nf ng a b = absurd (not_whole i (inl a.0) b.0.0)
   fault_is_one (Stranger i) (Sequence j) nf ng a b = absurd (not_whole i (inl a.0) b.0.0)
   fault_is_one (Repeat i) Memory nf ng a b = absurd (ng refl)
-  fault_is_one (Repeat i) (Stranger j) nf ng a b = absurd (not_both i (subst (IsStrangerAt m ids) (one_place j i (inl b.0) b.1 (inr a.0) a.1) b.0) a.0)
-  fault_is_one (Repeat i) (Repeat j) nf ng a b = ap Repeat (one_place i j (inr a.0) a.1 (inr b.0) b.1)
+  fault_is_one (Repeat i) (Stranger j) nf ng a b =
+      absurd (not_both i (subst (IsStrangerAt m ids) (one_place j i (inl b.0) b.1 (inr a.0) a.1)
+      b.0) a.0)
+  fault_is_one (Repeat i) (Repeat j) nf ng a b =
+      ap Repeat (one_place i j (inr a.0) a.1 (inr b.0) b.1)
   fault_is_one (Repeat i) (Missing y) nf ng a b = absurd (not_whole i (inr a.0) b.0)
   fault_is_one (Repeat i) (Early j) nf ng a b = absurd (not_whole i (inr a.0) b.0.0)
   fault_is_one (Repeat i) (Sequence j) nf ng a b = absurd (not_whole i (inr a.0) b.0.0)
   fault_is_one (Missing x) Memory nf ng a b = absurd (ng refl)
   fault_is_one (Missing x) (Stranger j) nf ng a b = absurd (not_whole j (inl b.0) a.0)
   fault_is_one (Missing x) (Repeat j) nf ng a b = absurd (not_whole j (inr b.0) a.0)
-  fault_is_one (Missing x) (Missing y) nf ng a b = ap Missing (UpTo-antisymm x y (a.3 y b.1 b.2) (b.3 x a.1 a.2))
+  fault_is_one (Missing x) (Missing y) nf ng a b =
+      ap Missing (UpTo-antisymm x y (a.3 y b.1 b.2) (b.3 x a.1 a.2))
   fault_is_one (Missing x) (Early j) nf ng a b = absurd (a.2 (b.0.1 x a.1))
   fault_is_one (Missing x) (Sequence j) nf ng a b = absurd (a.2 (b.0.1 x a.1))
   fault_is_one (Early i) Memory nf ng a b = absurd (ng refl)
   fault_is_one (Early i) (Stranger j) nf ng a b = absurd (not_whole j (inl b.0) a.0.0)
   fault_is_one (Early i) (Repeat j) nf ng a b = absurd (not_whole j (inr b.0) a.0.0)
   fault_is_one (Early i) (Missing y) nf ng a b = absurd (b.2 (a.0.1 y b.1))
-  fault_is_one (Early i) (Early j) nf ng a b = ap Early (one_order_place i j (inl a.1) a.2 (inl b.1) b.2)
-  fault_is_one (Early i) (Sequence j) nf ng a b = absurd (b.2 (subst (IsEarlyAt m ids) (one_order_place i j (inl a.1) a.2 (inr b.1) b.3) a.1))
+  fault_is_one (Early i) (Early j) nf ng a b =
+      ap Early (one_order_place i j (inl a.1) a.2 (inl b.1) b.2)
+  fault_is_one (Early i) (Sequence j) nf ng a b =
+      absurd (b.2 (subst (IsEarlyAt m ids) (one_order_place i j (inl a.1) a.2 (inr b.1) b.3) a.1))
   fault_is_one (Sequence i) Memory nf ng a b = absurd (ng refl)
   fault_is_one (Sequence i) (Stranger j) nf ng a b = absurd (not_whole j (inl b.0) a.0.0)
   fault_is_one (Sequence i) (Repeat j) nf ng a b = absurd (not_whole j (inr b.0) a.0.0)
   fault_is_one (Sequence i) (Missing y) nf ng a b = absurd (b.2 (a.0.1 y b.1))
-  fault_is_one (Sequence i) (Early j) nf ng a b = absurd (a.2 (subst (IsEarlyAt m ids) (one_order_place j i (inl b.1) b.2 (inr a.1) a.3) b.1))
-  fault_is_one (Sequence i) (Sequence j) nf ng a b = ap Sequence (one_order_place i j (inr a.1) a.3 (inr b.1) b.3)
+  fault_is_one (Sequence i) (Early j) nf ng a b =
+      absurd (a.2 (subst (IsEarlyAt m ids) (one_order_place j i (inl b.1) b.2 (inr a.1) a.3) b.1))
+  fault_is_one (Sequence i) (Sequence j) nf ng a b =
+      ap Sequence (one_order_place i j (inr a.1) a.3 (inr b.1) b.3)
 
   pub lawful_has_no_fault : (f : OrderFault) → f ≢ Memory → IsLawful m ids → ¬ IsOrderFault m ids f
   lawful_has_no_fault Memory nf lawful h = nf refl
-  lawful_has_no_fault (Stranger i) nf lawful ((x, at, waits), once) = waits (lawful.only x (Contains-slice_get ids i x at))
-  lawful_has_no_fault (Repeat i) nf lawful ((x, at, ready, j, before, earlier), once) = AllPairs-slice_get (λ x y. x ≢ y) ids lawful.once j i x x before earlier at refl
+  lawful_has_no_fault (Stranger i) nf lawful ((x, at, waits), once) =
+      waits (lawful.only x (Contains-slice_get ids i x at))
+  lawful_has_no_fault (Repeat i) nf lawful ((x, at, ready, j, before, earlier), once) =
+      AllPairs-slice_get (λ x y. x ≢ y) ids lawful.once j i x x before earlier at refl
   lawful_has_no_fault (Missing x) nf lawful h = h.2 (lawful.whole x h.1)
-  lawful_has_no_fault (Early i) nf lawful (whole, (x, y, at, there, none_back, j, later, to), order) = Before-not_both ids lawful.once x y (i, j, later, at, to) (lawful.after_reached x y (Contains-slice_get ids i x at) there none_back)
-  lawful_has_no_fault (Sequence i) nf lawful (whole, (x, y, at, one, lower, j, earlier, to), not_early, order) = Before-not_both ids lawful.once y x (j, i, earlier, to, at) (lawful.by_sequence x y (Contains-slice_get ids i x at) (Contains-slice_get ids j y to) one lower)
+  lawful_has_no_fault (Early i) nf lawful
+      (whole, (x, y, at, there, none_back, j, later, to), order) =
+      Before-not_both ids lawful.once x y (i, j, later, at, to)
+      (lawful.after_reached x y (Contains-slice_get ids i x at) there none_back)
+  lawful_has_no_fault (Sequence i) nf lawful
+      (whole, (x, y, at, one, lower, j, earlier, to), not_early, order) =
+      Before-not_both ids lawful.once y x (j, i, earlier, to, at)
+      (lawful.by_sequence x y (Contains-slice_get ids i x at) (Contains-slice_get ids j y to) one
+      lower)

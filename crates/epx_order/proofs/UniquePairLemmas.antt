@@ -14,12 +14,14 @@ pub uncovered_not_covered : (m : List Instance) (x y : Id) → IsUncovered m x y
 uncovered_not_covered m x y bad covered =
     let (d, e, in_d, in_e, is_x, is_y, conflict) = bad.conflict in
     let differ : d.id ≢ e.id = λ same. bad.apart.0 (inl (sym is_x ∙ same ∙ is_y)) in
-    elim (covered d e in_d in_e differ (subst (IsReady m) (sym is_x) bad.ready.0) (subst (IsReady m) (sym is_y) bad.ready.1) conflict) [
+    elim (covered d e in_d in_e differ (subst (IsReady m) (sym is_x) bad.ready.0)
+    (subst (IsReady m) (sym is_y) bad.ready.1) conflict) [
       | inl there ↦ bad.apart.0 (rw (is_x, is_y) at there)
       | inr back ↦ bad.apart.1 (rw (is_x, is_y) at back)
     ]
 
-pub least_uncovered_is_one : (m : List Instance) (x y v w : Id) → IsLeastUncovered m x y → IsLeastUncovered m v w → (x ≡ v) × (y ≡ w)
+pub least_uncovered_is_one : (m : List Instance) (x y v w : Id) → IsLeastUncovered m x y
+    → IsLeastUncovered m v w → (x ≡ v) × (y ≡ w)
 least_uncovered_is_one m x y v w a b = elim (a.least v w b.rises b.uncovered) [
   | inl lower ↦ elim (b.least x y a.rises a.uncovered) [
     | inl higher ↦ absurd (below_asymm id_cmp_total x v lower higher)

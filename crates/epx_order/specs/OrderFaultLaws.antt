@@ -9,8 +9,10 @@ use Rattle.epx_order.specs.OrderFaults.{IsOrderFault}
 
 -- a list has at most one fault, except for out of memory
 abbrev pub OrderFaultIsOne : Type 0
-OrderFaultIsOne = (m : List Instance) (ids : List Id) (f g : OrderFault) → f ≢ Memory → g ≢ Memory → IsOrderFault m ids f → IsOrderFault m ids g → f ≡ g
+OrderFaultIsOne = (m : List Instance) (ids : List Id) (f g : OrderFault) → f ≢ Memory → g ≢ Memory
+    → IsOrderFault m ids f → IsOrderFault m ids g → f ≡ g
 
 -- a lawful order has none
 abbrev pub LawfulOrderHasNoFault : Type 0
-LawfulOrderHasNoFault = (m : List Instance) (ids : List Id) (f : OrderFault) → f ≢ Memory → IsLawful m ids → ¬ IsOrderFault m ids f
+LawfulOrderHasNoFault = (m : List Instance) (ids : List Id) (f : OrderFault) → f ≢ Memory
+    → IsLawful m ids → ¬ IsOrderFault m ids f

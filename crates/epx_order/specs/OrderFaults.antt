@@ -8,7 +8,8 @@ use Rattle.epx_types.specs.LawfulOrders.{SequenceBefore}
 use Rattle.epx_types.specs.Reaching.{Reaches}
 use Rattle.epx_types.specs.Readiness.{IsReady}
 use Rattle.epx_order.specs.declared.order_fault.OrderFault.{OrderFault}
-use Rattle.epx_order.specs.declared.order_fault.OrderFault.TheVariants.{Memory, Stranger, Repeat, Missing, Early, Sequence}
+use Rattle.epx_order.specs.declared.order_fault.OrderFault.TheVariants.{Memory, Stranger, Repeat}
+use Rattle.epx_order.specs.declared.order_fault.OrderFault.TheVariants.{Missing, Early, Sequence}
 
 -- the instance at a place is not ready
 abbrev pub IsStrangerAt : List Instance → List Id → ℕ → Type 0
@@ -16,20 +17,24 @@ IsStrangerAt m ids place = (x : Id) × (slice_get ids place ≡ Some x) × ¬ Is
 
 -- the instance at a place is ready, and is at an earlier place too
 abbrev pub IsRepeatAt : List Instance → List Id → ℕ → Type 0
-IsRepeatAt m ids place = (x : Id) × (slice_get ids place ≡ Some x) × IsReady m x × (i : ℕ) × (i < place) × (slice_get ids i ≡ Some x)
+IsRepeatAt m ids place = (x : Id) × (slice_get ids place ≡ Some x) × IsReady m x × (i : ℕ)
+    × (i < place) × (slice_get ids i ≡ Some x)
 
 -- the instance at a place reaches another one, outside its component, that is at a later place
 abbrev pub IsEarlyAt : List Instance → List Id → ℕ → Type 0
-IsEarlyAt m ids place = (x y : Id) × (slice_get ids place ≡ Some x) × Reaches m x y × ¬ Reaches m y x × (j : ℕ) × (place < j) × (slice_get ids j ≡ Some y)
+IsEarlyAt m ids place = (x y : Id) × (slice_get ids place ≡ Some x) × Reaches m x y
+    × ¬ Reaches m y x × (j : ℕ) × (place < j) × (slice_get ids j ≡ Some y)
 
 -- an earlier place has a member of the same component that belongs after the instance at this
 -- place
 abbrev pub IsOvertakenAt : List Instance → List Id → ℕ → Type 0
-IsOvertakenAt m ids place = (x y : Id) × (slice_get ids place ≡ Some x) × InOneComponent m x y × SequenceBefore m x y × (j : ℕ) × (j < place) × (slice_get ids j ≡ Some y)
+IsOvertakenAt m ids place = (x y : Id) × (slice_get ids place ≡ Some x) × InOneComponent m x y
+    × SequenceBefore m x y × (j : ℕ) × (j < place) × (slice_get ids j ≡ Some y)
 
 -- below place n, each instance is ready and is at no earlier place
 abbrev pub ReadyOnce : List Instance → List Id → ℕ → Type 0
-ReadyOnce m ids n = (i : ℕ) (x : Id) → i < n → slice_get ids i ≡ Some x → IsReady m x × ((j : ℕ) → j < i → slice_get ids j ≢ Some x)
+ReadyOnce m ids n = (i : ℕ) (x : Id) → i < n → slice_get ids i ≡ Some x
+    → IsReady m x × ((j : ℕ) → j < i → slice_get ids j ≢ Some x)
 
 -- each ready instance is in the list
 abbrev pub HasAllReady : List Instance → List Id → Type 0
@@ -49,6 +54,9 @@ abbrev pub IsOrderFault : List Instance → List Id → OrderFault → Type 0
 IsOrderFault m ids Memory = Unit {0}
 IsOrderFault m ids (Stranger place) = IsStrangerAt m ids place × ReadyOnce m ids place
 IsOrderFault m ids (Repeat place) = IsRepeatAt m ids place × ReadyOnce m ids place
-IsOrderFault m ids (Missing x) = ReadyOnce m ids (length ids) × IsReady m x × ¬ Contains ids x × ((y : Id) → IsReady m y → ¬ Contains ids y → UpTo x y)
-IsOrderFault m ids (Early place) = IsListOfReady m ids × IsEarlyAt m ids place × InOrder m ids place
-IsOrderFault m ids (Sequence place) = IsListOfReady m ids × IsOvertakenAt m ids place × ¬ IsEarlyAt m ids place × InOrder m ids place
+IsOrderFault m ids (Missing x) = ReadyOnce m ids (length ids) × IsReady m x × ¬ Contains ids x
+    × ((y : Id) → IsReady m y → ¬ Contains ids y → UpTo x y)
+IsOrderFault m ids (Early place) = IsListOfReady m ids × IsEarlyAt m ids place
+    × InOrder m ids place
+IsOrderFault m ids (Sequence place) = IsListOfReady m ids × IsOvertakenAt m ids place
+    × ¬ IsEarlyAt m ids place × InOrder m ids place

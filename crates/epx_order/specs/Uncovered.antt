@@ -10,7 +10,8 @@ use Rattle.epx_types.specs.Readiness.{IsReady}
 -- ready instances whose commands conflict, of which neither reaches the other
 pub record IsUncovered (m : List Instance) (x y : Id) : Type 0 where
   pub ready : IsReady m x × IsReady m y
-  pub conflict : (d e : Instance) × Contains m d × Contains m e × (d.id ≡ x) × (e.id ≡ y) × Conflict d.ops e.ops
+  pub conflict : (d e : Instance) × Contains m d × Contains m e × (d.id ≡ x) × (e.id ≡ y)
+      × Conflict d.ops e.ops
   pub apart : (¬ Reaches m x y) × (¬ Reaches m y x)
 
 -- the least such pair: the lower Id first, compared by the first Id and then by the second

@@ -11,7 +11,8 @@ UncoveredPairShowsNotCovered = (m : List Instance) (x y : Id) → IsUncovered m 
 
 -- a map has at most one least uncovered pair
 abbrev pub LeastUncoveredPairIsOne : Type 0
-LeastUncoveredPairIsOne = (m : List Instance) (x y v w : Id) → IsLeastUncovered m x y → IsLeastUncovered m v w → (x ≡ v) × (y ≡ w)
+LeastUncoveredPairIsOne = (m : List Instance) (x y v w : Id) → IsLeastUncovered m x y
+    → IsLeastUncovered m v w → (x ≡ v) × (y ≡ w)
 
 -- a map is covered, or has a least uncovered pair
 abbrev pub CoveredOrLeastUncovered : Type 0

@@ -1,5 +1,6 @@
 //! Lists of instances, checked against the orders that the protocol allows.
-ghost use Rattle.std.specs.Prelude.{◌≡◌, ◌<◌, ◌↔◌, length, replicate, None, All, IfOk, IsTrue, MatchResult};
+ghost use Rattle.std.specs.Prelude.{◌≡◌, ◌<◌, ◌↔◌, length, replicate, None, All, IfOk, IsTrue};
+ghost use Rattle.std.specs.Prelude.{MatchResult};
 ghost use Rattle.epx_types.specs.LawfulOrders.{IsLawful};
 ghost use Rattle.epx_graph.specs.GraphOf.{IsGraphOf};
 ghost use Rattle.epx_order.specs.OrderFaults.{IsOrderFault};
@@ -32,7 +33,8 @@ pub fn check_order(
     ids: &[Id],
 ) -> Result<(), OrderFault>
     requires { IsGraphOf merged.now graph.now }
-    ensures { MatchResult result (λ _. IsLawful merged.now ids.now) (IsOrderFault merged.now ids.now) }
+    ensures { MatchResult result (λ _. IsLawful merged.now ids.now)
+        (IsOrderFault merged.now ids.now) }
 {
     let partition = find_components(alloc, graph)?;
     let ready = ready_nodes(alloc, graph, &partition)?;
@@ -59,7 +61,8 @@ fn check_positions(
     requires committed { All (λ k. k < length merged.now) nodes.now }
     requires below { length below.now ≡ (parts partition.now).count }
     ensures { MatchResult result
-        (λ _. AreNodesInOrder merged.now (parts partition.now) below.now nodes.now (length nodes.now))
+        (λ _. AreNodesInOrder merged.now (parts partition.now) below.now nodes.now
+        (length nodes.now))
         (IsNodeFault merged.now (parts partition.now) below.now nodes.now) }
 {
     let mut latest = no_sequence_keys(alloc, partition.count)?;

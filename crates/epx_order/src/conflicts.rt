@@ -30,7 +30,11 @@ impl<'a> Model for CommandKeys<'a> {
 
 impl<'a> CommandKeys<'a> {
     fn of(alloc: Global, ops: &'a [Op]) -> Result<CommandKeys<'a>, Memory>
-        ensures { IfOk result (λ keys. keys ≡ record { touched = touched_keys ops.now; written = written_keys ops.now }) }
+        ensures { IfOk result
+            (λ keys. keys ≡ record {
+              touched = touched_keys ops.now;
+              written = written_keys ops.now;
+            }) }
     {
         let touched = touched(alloc, ops)?;
         let written = written(alloc, ops)?;
@@ -62,7 +66,9 @@ pub(crate) fn all_keys<'a>(
 
 /// Whether two lists have a key in common.
 fn have_common_key(keys: &[&Key], others: &[&Key]) -> bool
-    ensures { IsTrue result ↔ ((k : List ℕ) × Contains (map (λ k. k.now) keys.now) k × Contains (map (λ k. k.now) others.now) k) }
+    ensures { IsTrue result
+        ↔ ((k : List ℕ) × Contains (map (λ k. k.now) keys.now) k
+        × Contains (map (λ k. k.now) others.now) k) }
 {
     for key in keys {
         if has_key(others, key) {

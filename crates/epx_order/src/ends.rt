@@ -18,7 +18,8 @@ pub(crate) fn find_ends(
 ) -> Result<Vec<usize>, Memory>
     requires counted { All (λ c. c < (parts partition.now).count) (parts partition.now).component }
     requires nodes { All (λ k. k < length (parts partition.now).component) nodes.now }
-    ensures { IfOk result (λ ends. AreEnds (parts partition.now) nodes.now (length nodes.now) ends.items) }
+    ensures { IfOk result
+        (λ ends. AreEnds (parts partition.now) nodes.now (length nodes.now) ends.items) }
 {
     let mut ends = vec![in alloc; 0; partition.count]?;
     for (place, node) in nodes.iter().enumerate() {
@@ -37,7 +38,9 @@ pub(crate) fn find_ends_below(
     requires partition { IsPartitionOf graph.now (parts partition.now) }
     requires ends { length ends.now ≡ (parts partition.now).count }
     ensures len { IfOk result (λ below. length below.items ≡ (parts partition.now).count) }
-    ensures each { IfOk result (λ below. (k : ℕ) → k < length graph.now.ids → IsEndBelow (edges_of graph.now) (parts partition.now) ends.now k (number_for (parts partition.now) below.items k)) }
+    ensures each { IfOk result (λ below. (k : ℕ) → k < length graph.now.ids
+        → IsEndBelow (edges_of graph.now) (parts partition.now) ends.now k
+        (number_for (parts partition.now) below.items k)) }
 {
     let mut below = vec![in alloc; 0; partition.count]?;
     for node in &partition.order {
@@ -59,7 +62,8 @@ fn greatest_end(
     requires targets { All (λ j. j < length component.now) targets.now }
     requires ends { All (λ c. c < length ends.now) component.now }
     requires below { length below.now ≡ length ends.now }
-    ensures { IsGreatestEnd component.now ends.now below.now own targets.now (length targets.now) result }
+    ensures { IsGreatestEnd component.now ends.now below.now own targets.now (length targets.now)
+        result }
 {
     let mut greatest: usize = 0;
     for target in targets {

@@ -31,11 +31,17 @@ pub fn order<R: Threads + Sync>(
     graph: &Graph,
 ) -> Result<OrderList, Memory>
     requires { IsGraphOfRest merged.now graph.now }
-    ensures order { IfOk result (λ order. (done : List Id) → IsGraphOf (remaining done merged.now) graph.now → IsExecutionOrder (remaining done merged.now) order) }
-    ensures lawful { IfOk result (λ order. (done : List Id) → IsGraphOf (remaining done merged.now) graph.now → IsLawful (remaining done merged.now) (ranked_ids order)) }
+    ensures order { IfOk result (λ order. (done : List Id)
+        → IsGraphOf (remaining done merged.now) graph.now
+        → IsExecutionOrder (remaining done merged.now) order) }
+    ensures lawful { IfOk result (λ order. (done : List Id)
+        → IsGraphOf (remaining done merged.now) graph.now
+        → IsLawful (remaining done merged.now) (ranked_ids order)) }
     // If nothing is done, this is the order of the whole map.
-    ensures whole { IfOk result (λ order. IsGraphOf merged.now graph.now → IsExecutionOrder merged.now order) }
-    ensures whole_lawful { IfOk result (λ order. IsGraphOf merged.now graph.now → IsLawful merged.now (ranked_ids order)) }
+    ensures whole { IfOk result (λ order. IsGraphOf merged.now graph.now
+        → IsExecutionOrder merged.now order) }
+    ensures whole_lawful { IfOk result (λ order. IsGraphOf merged.now graph.now
+        → IsLawful merged.now (ranked_ids order)) }
 {
     let mut ranks = ready_ranks(alloc, merged, graph)?;
     par_sort(rt, alloc, &mut ranks)?;

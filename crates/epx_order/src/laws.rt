@@ -1,7 +1,8 @@
 //! Laws of order faults and of uncovered pairs: these definitions mean what they should. Each
 //! function has an empty body, and its contract is the law.
 ghost use Rattle.epx_order.specs.OrderFaultLaws.{LawfulOrderHasNoFault, OrderFaultIsOne};
-ghost use Rattle.epx_order.specs.UncoveredLaws.{CoveredOrLeastUncovered, LeastUncoveredPairIsOne, UncoveredPairShowsNotCovered};
+ghost use Rattle.epx_order.specs.UncoveredLaws.{CoveredOrLeastUncovered, LeastUncoveredPairIsOne};
+ghost use Rattle.epx_order.specs.UncoveredLaws.{UncoveredPairShowsNotCovered};
 
 /// A list has at most one fault, except for out of memory.
 pub fn order_fault_is_one()

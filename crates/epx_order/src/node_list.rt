@@ -1,5 +1,7 @@
 //! A list of instances, as a list of nodes.
-ghost use Rattle.std.specs.Prelude.{◌≡◌, ℕ, ◌<◌, List, [], ◌∷◌, ◌++◌, length, replicate, slice_get, slice_set, Some, true, false, IsTrue, IfOk, OnOk, MatchOption, MatchResult};
+ghost use Rattle.std.specs.Prelude.{◌≡◌, ℕ, ◌<◌, List, [], ◌∷◌, ◌++◌, length, replicate};
+ghost use Rattle.std.specs.Prelude.{slice_get, slice_set, Some, true, false, IsTrue, IfOk, OnOk};
+ghost use Rattle.std.specs.Prelude.{MatchOption, MatchResult};
 ghost use Rattle.epx_types.specs.Instances.{Instance};
 ghost use Rattle.epx_types.specs.Readiness.{IsReady};
 ghost use Rattle.epx_graph.specs.GraphOf.{IsGraphOf};
@@ -39,7 +41,8 @@ impl NodeList {
     fn add(&mut self, node: usize) -> Result<(), Memory>
         requires { node < length self.old.marks.items }
         ensures nodes { OnOk result (self.new.nodes.items ≡ self.old.nodes.items ++ node ∷ []) }
-        ensures marks { OnOk result (self.new.marks.items ≡ slice_set self.old.marks.items node true) }
+        ensures marks { OnOk result
+            (self.new.marks.items ≡ slice_set self.old.marks.items node true) }
     {
         self.marks[node] = true;
         self.nodes.push(node)?;
@@ -73,7 +76,9 @@ pub(crate) fn list_nodes(
     ids: &[Id],
 ) -> Result<NodeList, OrderFault>
     requires { AreReadyMarks graph.now ready.now }
-    ensures listed { IfOk result (λ node_list. AreListed graph.now ids.now (length ids.now) node_list.nodes.items node_list.marks.items) }
+    ensures listed { IfOk result
+        (λ node_list. AreListed graph.now ids.now (length ids.now) node_list.nodes.items
+        node_list.marks.items) }
     ensures sound { (m : List Instance) → IsGraphOf m graph.now → MatchResult result
         (λ _. ReadyOnce m ids.now (length ids.now))
         (IsOrderFault m ids.now) }
@@ -95,7 +100,8 @@ pub(crate) fn list_nodes(
 fn ready_node(graph: &Graph, ready: &[bool], id: Id) -> Option<usize>
     requires { AreReadyMarks graph.now ready.now }
     ensures node { MatchOption result (Unit {0}) (λ node. slice_get graph.now.ids node ≡ Some id) }
-    ensures ready { (m : List Instance) → IsGraphOf m graph.now → MatchOption result (¬ IsReady m id) (λ _. IsReady m id) }
+    ensures ready { (m : List Instance) → IsGraphOf m graph.now
+        → MatchOption result (¬ IsReady m id) (λ _. IsReady m id) }
 {
     let node = graph.node(id)?;
     if ready[node] { Some(node) } else { None }
@@ -106,7 +112,8 @@ pub(crate) fn first_unlisted(ready: &[bool], marks: &[bool]) -> Option<usize>
     requires { length marks.now ≡ length ready.now }
     ensures { MatchOption result
         ((k : ℕ) → IsListedIfReady ready.now marks.now k)
-        (λ node. IsTrue (is_marked ready.now node) × ¬ IsTrue (is_marked marks.now node) × ((k : ℕ) → k < node → IsListedIfReady ready.now marks.now k)) }
+        (λ node. IsTrue (is_marked ready.now node) × ¬ IsTrue (is_marked marks.now node)
+        × ((k : ℕ) → k < node → IsListedIfReady ready.now marks.now k)) }
 {
     for node in 0..ready.len() {
         if ready[node] && !marks[node] {

@@ -6,7 +6,8 @@ ghost use Rattle.epx_types.specs.Ids.{IsRising};
 ghost use Rattle.epx_types.specs.ExecutionOrder.{IsExecutionOrder};
 ghost use Rattle.epx_graph.specs.Graphs.{edges_of};
 ghost use Rattle.epx_graph.specs.GraphOf.{IsGraphOf};
-ghost use Rattle.epx_order.specs.inner.RelatedTouches.{touch_at, AreAllRelated, IsRelatedBack, IsNextWriter};
+ghost use Rattle.epx_order.specs.inner.RelatedTouches.{touch_at, AreAllRelated, IsRelatedBack};
+ghost use Rattle.epx_order.specs.inner.RelatedTouches.{IsNextWriter};
 ghost use Rattle.epx_order.specs.inner.Touches.{ArePlaced};
 ghost use Rattle.epx_order.specs.inner.ReachIndexes.{AreNodesOf, IsReachIndex};
 

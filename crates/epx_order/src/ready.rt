@@ -1,5 +1,6 @@
 //! The ranks of the ready instances.
-ghost use Rattle.std.specs.Prelude.{◌≡◌, ◌<◌, List, Contains, Some, slice_get, IfNone, IfOk, IfSome};
+ghost use Rattle.std.specs.Prelude.{◌≡◌, ◌<◌, List, Contains, Some, slice_get, IfNone, IfOk};
+ghost use Rattle.std.specs.Prelude.{IfSome};
 ghost use Rattle.epx_types.specs.declared.id.Id.{Id};
 ghost use Rattle.epx_types.specs.CommittedMap.{IsCommitted};
 ghost use Rattle.epx_types.specs.Done.{remaining};
@@ -24,7 +25,9 @@ pub(crate) fn ready_ranks(
     graph: &Graph,
 ) -> Result<Vec<Rank>, Memory>
     requires { IsGraphOfRest merged.now graph.now }
-    ensures { IfOk result (λ ranks. (done : List Id) → IsGraphOf (remaining done merged.now) graph.now → AreReadyRanks (remaining done merged.now) ranks.items) }
+    ensures { IfOk result (λ ranks. (done : List Id)
+        → IsGraphOf (remaining done merged.now) graph.now
+        → AreReadyRanks (remaining done merged.now) ranks.items) }
 {
     let node_ranks = NodeRanks::of(alloc, graph)?;
     let mut ranks = Vec::new(alloc);
@@ -42,8 +45,12 @@ fn rank_of(merged: &Merged, graph: &Graph, node: usize, node_rank: NodeRank) -> 
     requires committed { node < graph.now.committed }
     requires node_rank { IsNodeRank graph.now node node_rank }
     ensures id { IfSome result (λ rank. slice_get graph.now.ids node ≡ Some rank.id) }
-    ensures rank { IfSome result (λ rank. (done : List Id) → IsGraphOf (remaining done merged.now) graph.now → IsRanked (remaining done merged.now) (ranked rank)) }
-    ensures none { IfNone result ((done : List Id) (x : Id) → IsGraphOf (remaining done merged.now) graph.now → slice_get graph.now.ids node ≡ Some x → ¬ IsReady (remaining done merged.now) x) }
+    ensures rank { IfSome result (λ rank. (done : List Id)
+        → IsGraphOf (remaining done merged.now) graph.now
+        → IsRanked (remaining done merged.now) (ranked rank)) }
+    ensures none { IfNone result ((done : List Id) (x : Id)
+        → IsGraphOf (remaining done merged.now) graph.now → slice_get graph.now.ids node ≡ Some x
+        → ¬ IsReady (remaining done merged.now) x) }
 {
     if node_rank.reaches_missing {
         return None;

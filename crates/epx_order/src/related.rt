@@ -1,5 +1,6 @@
 //! Which components the sources reach, and which components reach the sources.
-ghost use Rattle.std.specs.Prelude.{◌≡◌, ◌↔◌, ◌⊎◌, ℕ, ◌<◌, ◌≤◌, length, map, slice_index, All, IsTrue, IfOk};
+ghost use Rattle.std.specs.Prelude.{◌≡◌, ◌↔◌, ◌⊎◌, ℕ, ◌<◌, ◌≤◌, length, map, slice_index, All};
+ghost use Rattle.std.specs.Prelude.{IsTrue, IfOk};
 ghost use Rattle.epx_graph.specs.Graphs.{edges_of};
 ghost use Rattle.epx_components.specs.Partitions.{parts, IsPartitionOf};
 ghost use Rattle.epx_order.specs.inner.Batches.{AreReachedBy, AreReaching};
@@ -41,7 +42,8 @@ pub(crate) fn find_reached(
 fn components_of(alloc: Global, component: &[usize], nodes: &[usize]) -> Result<Vec<usize>, Memory>
     requires { All (λ k. k < length component.now) nodes.now }
     ensures { IfOk result
-        (λ source_components. source_components.items ≡ map (λ k. slice_index component.now k) nodes.now) }
+        (λ source_components. source_components.items
+        ≡ map (λ k. slice_index component.now k) nodes.now) }
 {
     let mut source_components = Vec::with_capacity(alloc, nodes.len())?;
     for node in nodes {

@@ -1,5 +1,6 @@
 //! The sources that share doubtful keys with each node.
-ghost use Rattle.std.specs.Prelude.{◌≡◌, ◌⊎◌, ℕ, ◌<◌, length, slice_index, Contains, IsTrue, IsFalse, IfOk};
+ghost use Rattle.std.specs.Prelude.{◌≡◌, ◌⊎◌, ℕ, ◌<◌, length, slice_index, Contains, IsTrue};
+ghost use Rattle.std.specs.Prelude.{IsFalse, IfOk};
 ghost use Rattle.epx_order.specs.declared.doubtful_touches.DoubtfulTouch.{DoubtfulTouch};
 ghost use Rattle.epx_order.specs.inner.Batches.{AreSharing};
 ghost use Rattle.epx_order.specs.inner.DoubtfulKeys.{AreInRange};

@@ -1,6 +1,7 @@
 //! Which keys the commands of an order touch.
 ghost use Rattle.std.specs.Prelude.{◌≡◌, ◌<◌, [], ◌∷◌, ◌++◌, length, All, IfOk, OnOk};
-ghost use Rattle.epx_order.specs.inner.Touches.{hash_of, touch, touches_by, touches_of, ArePlaced, HoldTouches};
+ghost use Rattle.epx_order.specs.inner.Touches.{hash_of, touch, touches_by, touches_of, ArePlaced};
+ghost use Rattle.epx_order.specs.inner.Touches.{HoldTouches};
 
 use epx_merge::Merged;
 use epx_seed::Seed;
@@ -34,7 +35,8 @@ fn add_key(
     key: &Key,
     writes: bool,
 ) -> Result<(), Memory>
-    ensures { OnOk result (touches.new.items ≡ touches.old.items ++ touch start position key.now writes ∷ []) }
+    ensures { OnOk result (touches.new.items ≡ touches.old.items
+        ++ touch start position key.now writes ∷ []) }
 {
     let hash = hash_of(start, key);
     touches.push(Touch {
@@ -52,7 +54,8 @@ fn add_operation(
     position: usize,
     op: &Op,
 ) -> Result<(), Memory>
-    ensures { OnOk result (touches.new.items ≡ touches.old.items ++ touches_by start position op.now) }
+    ensures { OnOk result (touches.new.items ≡ touches.old.items
+        ++ touches_by start position op.now) }
 {
     match op {
         Op::Get { key } | Op::Is { key, .. } | Op::Floor { key, .. } => {
@@ -75,7 +78,8 @@ fn add_command(
     position: usize,
     ops: &[Op],
 ) -> Result<(), Memory>
-    ensures { OnOk result (touches.new.items ≡ touches.old.items ++ touches_of start position ops.now) }
+    ensures { OnOk result (touches.new.items ≡ touches.old.items
+        ++ touches_of start position ops.now) }
 {
     for op in ops {
         add_operation(touches, start, position, op)?;
@@ -108,7 +112,8 @@ pub(crate) fn find_touches(
 ) -> Result<Vec<Touch>, Memory>
     requires { All (λ k. k < length merged.now) nodes.now }
     ensures placed { IfOk result (λ touches. ArePlaced (length nodes.now) touches.items) }
-    ensures whole { IfOk result (λ touches. HoldTouches start merged.now nodes.now (length nodes.now) touches.items) }
+    ensures whole { IfOk result
+        (λ touches. HoldTouches start merged.now nodes.now (length nodes.now) touches.items) }
 {
     let mut touches = Vec::new(alloc);
     for (position, node) in nodes.iter().enumerate() {

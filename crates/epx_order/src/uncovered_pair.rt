@@ -1,5 +1,6 @@
 //! Whether any two ready instances that conflict are related.
-ghost use Rattle.std.specs.Prelude.{◌≡◌, ℕ, ◌<◌, ◌≤◌, List, length, map, slice_index, All, Contains, IsTrue, IfOk, MatchOption};
+ghost use Rattle.std.specs.Prelude.{◌≡◌, ℕ, ◌<◌, ◌≤◌, List, length, map, slice_index, All};
+ghost use Rattle.std.specs.Prelude.{Contains, IsTrue, IfOk, MatchOption};
 ghost use Rattle.epx_types.specs.Conflicts.{IsCovered};
 ghost use Rattle.epx_types.specs.Instances.{Instance};
 ghost use Rattle.epx_types.specs.ExecutionOrder.{IsExecutionOrder};
@@ -39,7 +40,8 @@ pub fn audit(
 ) -> Result<Option<(Id, Id)>, Memory>
     requires graph { IsGraphOf merged.now graph.now }
     requires order { IsExecutionOrder merged.now order.now }
-    ensures { IfOk result (λ found. MatchOption found (IsCovered merged.now) (λ pair. IsLeastUncovered merged.now pair.0 pair.1)) }
+    ensures { IfOk result (λ found. MatchOption found (IsCovered merged.now)
+        (λ pair. IsLeastUncovered merged.now pair.0 pair.1)) }
 {
     // `map_hasher` takes as long as the whole quick audit. It is needed only for keys that were
     // chosen to collide, so the first quick audit does without it.

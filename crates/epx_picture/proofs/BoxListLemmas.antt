@@ -1,5 +1,6 @@
 -- Adding the box of one more instance.
-use Rattle.std.proofs.Common.{◌≡◌, ℕ, ◌+◌, List, [], ◌∷◌, ◌++◌, map, take, get_or, slice_get, Some, Contains, sym, ap, ◌∙◌, subst, inl, inr}
+use Rattle.std.proofs.Common.{◌≡◌, ℕ, ◌+◌, List, [], ◌∷◌, ◌++◌, map, take, get_or, slice_get, Some}
+use Rattle.std.proofs.Common.{Contains, sym, ap, ◌∙◌, subst, inl, inr}
 use Rattle.std.proofs.lemmas.List.{map-append, take_more}
 use Rattle.std.proofs.lemmas.List.Elements.{Contains-push_cases}
 use Rattle.std.proofs.lemmas.Option.{slice_get_within, get_or_from_slice_get}
@@ -13,12 +14,16 @@ pub record AreBoxesOf (m : List Instance) (n : ℕ) (node_boxes : List NodeBox) 
   pub named : map (λ d. d.id) node_boxes ≡ take n (ids_of m)
   pub shown : (d : NodeBox) → Contains node_boxes d → IsBoxOf m d
 
-pub boxes_push : (m : List Instance) (n : ℕ) (node_boxes : List NodeBox) (d : NodeBox) → AreBoxesOf m n node_boxes → slice_get (ids_of m) n ≡ Some d.id → IsBoxOf m d → AreBoxesOf m (n + 1) (node_boxes ++ d ∷ [])
+pub boxes_push : (m : List Instance) (n : ℕ) (node_boxes : List NodeBox) (d : NodeBox)
+    → AreBoxesOf m n node_boxes → slice_get (ids_of m) n ≡ Some d.id → IsBoxOf m d
+    → AreBoxesOf m (n + 1) (node_boxes ++ d ∷ [])
 boxes_push m n node_boxes d old at is = record {
   named =
       let ids = ids_of m in
       let next = take_more ids n d.id (slice_get_within ids n d.id at) in
       let last : get_or ids n d.id ≡ d.id = get_or_from_slice_get ids n d.id d.id at in
-      map-append (λ (d : NodeBox). d.id) node_boxes (d ∷ []) ∙ ap (λ xs. xs ++ d.id ∷ []) old.named ∙ ap (λ x. take n ids ++ x ∷ []) (sym last) ∙ sym next;
-  shown = λ f h. elim (Contains-push_cases node_boxes d f h) [ inl was ↦ old.shown f was | inr same ↦ subst (IsBoxOf m) same is ];
+      map-append (λ (d : NodeBox). d.id) node_boxes (d ∷ []) ∙ ap (λ xs. xs ++ d.id ∷ []) old.named
+      ∙ ap (λ x. take n ids ++ x ∷ []) (sym last) ∙ sym next;
+  shown = λ f h. elim (Contains-push_cases node_boxes d f h)
+      [ inl was ↦ old.shown f was | inr same ↦ subst (IsBoxOf m) same is ];
 }

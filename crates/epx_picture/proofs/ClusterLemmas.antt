@@ -1,6 +1,7 @@
 -- The cluster of an instance, from the leader of its node and the marks of the nodes that are the
 -- leader of another one.
-use Rattle.std.proofs.Common.{◌≡◌, ℕ, inl, inr, List, Bool, false, length, get_or, slice_get, Some, None, sym, ap, ◌∙◌, subst, arith, IsTrue}
+use Rattle.std.proofs.Common.{◌≡◌, ℕ, inl, inr, List, Bool, false, length, get_or, slice_get, Some}
+use Rattle.std.proofs.Common.{None, sym, ap, ◌∙◌, subst, arith, IsTrue}
 use Rattle.std.proofs.lemmas.Bool.{cases_eq}
 use Rattle.std.proofs.lemmas.Option.{slice_get_within, slice_get-get_or}
 use Rattle.epx_types.specs.declared.id.Id.{Id}
@@ -20,24 +21,40 @@ use Rattle.epx_picture.specs.inner.Clusters.{AreNodeRanks, AreLeaderMarks}
 use Rattle.epx_picture.specs.NodeBoxes.{IsCluster}
 
 -- nodes of one component have the same leader
-one_leader : (edges : ℕ → List ℕ) (k j l i : ℕ) → InOneNodeComponent edges k j → IsNodeLeader edges k l → IsNodeLeader edges j i → l ≡ i
+one_leader : (edges : ℕ → List ℕ) (k j l i : ℕ) → InOneNodeComponent edges k j
+    → IsNodeLeader edges k l → IsNodeLeader edges j i → l ≡ i
 one_leader edges k j l i one p q =
-    let low = p.least i (reaches_on edges k j i one.0 q.member.0, reaches_on edges i j k q.member.1 one.1) in
-    let high = q.least l (reaches_on edges j k l one.1 p.member.0, reaches_on edges l k j p.member.1 one.0) in
+    let low = p.least i (
+      reaches_on edges k j i one.0 q.member.0,
+      reaches_on edges i j k q.member.1 one.1,
+    ) in
+    let high = q.least l (
+      reaches_on edges j k l one.1 p.member.0,
+      reaches_on edges l k j p.member.1 one.0,
+    ) in
     omega arith
 
-module _ (m : List Instance) (g : DependencyGraph) (is : IsGraphOf m g) (k : ℕ) (x : Id) (s : NodeRank) (at : slice_get g.ids k ≡ Some x) (stands : IsNodeRank g k s) where
-  in_component : (j : ℕ) (y : Id) → slice_get g.ids j ≡ Some y → InOneNodeComponent (edges_of g) k j → InOneComponent m x y
-  in_component j y to one = ((node_reaches m g is k j x y at to).0 one.0, (node_reaches m g is j k y x to at).0 one.1)
+module _ (m : List Instance) (g : DependencyGraph) (is : IsGraphOf m g) (k : ℕ) (x : Id)
+    (s : NodeRank) (at : slice_get g.ids k ≡ Some x) (stands : IsNodeRank g k s) where
+  in_component : (j : ℕ) (y : Id) → slice_get g.ids j ≡ Some y
+      → InOneNodeComponent (edges_of g) k j → InOneComponent m x y
+  in_component j y to one =
+      ((node_reaches m g is k j x y at to).0 one.0, (node_reaches m g is j k y x to at).0 one.1)
 
   -- its node has another leader
-  pub cluster_of_member : (leader : Id) → slice_get g.ids s.leader ≡ Some leader → ¬ (s.leader ≡ k) → IsCluster m x (Some leader)
+  pub cluster_of_member : (leader : Id) → slice_get g.ids s.leader ≡ Some leader → ¬ (s.leader ≡ k)
+      → IsCluster m x (Some leader)
   cluster_of_member leader to other = (
     leader_from_node m g is k s.leader x leader at to stands.leader,
-    (leader, in_component s.leader leader to stands.leader.member, λ same. other (node_is_one g is.graph s.leader k x (to ∙ ap Some same) at)),
+    (
+      leader,
+      in_component s.leader leader to stands.leader.member,
+      λ same. other (node_is_one g is.graph s.leader k x (to ∙ ap Some same) at),
+    ),
   )
 
-  module _ (own : s.leader ≡ k) (node_ranks : List NodeRank) (all : AreNodeRanks g node_ranks) (marks : List Bool) (marked : AreLeaderMarks node_ranks (length g.ids) marks) where
+  module _ (own : s.leader ≡ k) (node_ranks : List NodeRank) (all : AreNodeRanks g node_ranks)
+      (marks : List Bool) (marked : AreLeaderMarks node_ranks (length g.ids) marks) where
     -- its node is the leader of another node
     pub cluster_of_leader : IsTrue (get_or marks k false) → IsCluster m x (Some x)
     cluster_of_leader h =
@@ -45,20 +62,35 @@ module _ (m : List Instance) (g : DependencyGraph) (is : IsGraphOf m g) (k : ℕ
         let y = node_id g is.graph led.0 led.2 in
         let t = all.each led.0 led.1 led.3 in
         let member = subst (λ l. InOneNodeComponent (edges_of g) led.0 l) led.4 t.leader.member in (
-          leader_from_node m g is k k x x at at (subst (IsNodeLeader (edges_of g) k) own stands.leader),
-          (y.0, in_component led.0 y.0 y.1 (member.1, member.0), λ same. led.5 (node_is_one g is.graph led.0 k x (y.1 ∙ ap Some same) at)),
+          leader_from_node m g is k k x x at at
+              (subst (IsNodeLeader (edges_of g) k) own stands.leader),
+          (
+            y.0,
+            in_component led.0 y.0 y.1 (member.1, member.0),
+            λ same. led.5 (node_is_one g is.graph led.0 k x (y.1 ∙ ap Some same) at),
+          ),
         )
 
     -- its node is the leader of no other node
     pub cluster_alone : ¬ IsTrue (get_or marks k false) → IsCluster m x None
     cluster_alone none y one =
         let j = reached_node m g is k x y at one.0 in
-        let back : NodeReaches (edges_of g) j.0 k = (node_reaches m g is j.0 k y x j.1 at).1 one.1 in
+        let back : NodeReaches (edges_of g) j.0 k =
+        (node_reaches m g is j.0 k y x j.1 at).1 one.1 in
         let within = slice_get_within g.ids j.0 y j.1 in
         let there = slice_get-get_or node_ranks j.0 s (omega (arith, all.nodes)) in
         let t = all.each j.0 (get_or node_ranks j.0 s) there in
         let leads = one_leader (edges_of g) k j.0 s.leader _ (j.2, back) stands.leader t.leader in
         elim (cases_eq j.0 k) [
-          | inl same ↦ (let found : Some y ≡ Some x = sym j.1 ∙ ap (slice_get g.ids) same ∙ at in cc found)
-          | inr other ↦ absurd (none ((marked.exact k).1 (j.0, get_or node_ranks j.0 s, within, there, sym leads ∙ own, other)))
+          | inl same ↦ (let found : Some y ≡ Some x = sym j.1 ∙ ap (slice_get g.ids) same ∙ at in
+              cc found)
+          | inr other ↦ absurd
+              (none ((marked.exact k).1 (
+                j.0,
+                get_or node_ranks j.0 s,
+                within,
+                there,
+                sym leads ∙ own,
+                other,
+              )))
         ]

@@ -1,26 +1,39 @@
 -- Marks of the nodes that are the leader of another node, with one more rank.
-use Rattle.std.proofs.Common.{◌≡◌, ◌⊎◌, ℕ, ◌+◌, ◌<◌, inl, inr, List, Bool, true, false, length, get_or, set, slice_get, Some, replicate, sym, ◌∙◌, ap, arith}
+use Rattle.std.proofs.Common.{◌≡◌, ◌⊎◌, ℕ, ◌+◌, ◌<◌, inl, inr, List, Bool, true, false, length}
+use Rattle.std.proofs.Common.{get_or, set, slice_get, Some, replicate, sym, ◌∙◌, ap, arith}
 use Rattle.std.proofs.lemmas.Bool.{cases_eq, cases_lt, false≢true}
-use Rattle.std.proofs.lemmas.List.{length-set, length-replicate, get_or-replicate, get_or_past, get_or-set_same, get_or-set_other}
+use Rattle.std.proofs.lemmas.List.{length-set, length-replicate, get_or-replicate, get_or_past}
+use Rattle.std.proofs.lemmas.List.{get_or-set_same, get_or-set_other}
 use Rattle.epx_components.specs.declared.node_ranks.NodeRank.{NodeRank}
 use Rattle.epx_picture.specs.inner.Clusters.{LeadsAmong, AreLeaderMarks}
 
 no_leader_mark : (n l : ℕ) → get_or (replicate n false) l false ≡ false
-no_leader_mark n l = elim (cases_lt l n) [ inl below ↦ get_or-replicate n l false false below | inr past ↦ get_or_past (replicate n false) l false (omega (arith, length-replicate n false, past)) ]
+no_leader_mark n l = elim (cases_lt l n) [
+  | inl below ↦ get_or-replicate n l false false below
+  | inr past ↦ get_or_past (replicate n false) l false
+      (omega (arith, length-replicate n false, past))
+]
 
-pub leader_marks_none : (node_ranks : List NodeRank) (n : ℕ) → length node_ranks ≡ n → AreLeaderMarks node_ranks 0 (replicate n false)
+pub leader_marks_none : (node_ranks : List NodeRank) (n : ℕ) → length node_ranks ≡ n
+    → AreLeaderMarks node_ranks 0 (replicate n false)
 leader_marks_none node_ranks n long = record {
   nodes = length-replicate n false ∙ sym long;
-  exact = λ l. (λ h. absurd (false≢true (sym (no_leader_mark n l) ∙ h)), λ w. absurd (let l = w.2 in omega arith));
+  exact = λ l. (
+    λ h. absurd (false≢true (sym (no_leader_mark n l) ∙ h)),
+    λ w. absurd (let l = w.2 in omega arith),
+  );
 }
 
-module _ (node_ranks : List NodeRank) (n : ℕ) (marks : List Bool) (old : AreLeaderMarks node_ranks n marks) (s : NodeRank) (at : slice_get node_ranks n ≡ Some s) where
+module _ (node_ranks : List NodeRank) (n : ℕ) (marks : List Bool)
+    (old : AreLeaderMarks node_ranks n marks) (s : NodeRank)
+    (at : slice_get node_ranks n ≡ Some s) where
   -- a node that is a leader among the first is one among more
   more : (l : ℕ) → LeadsAmong node_ranks n l → LeadsAmong node_ranks (n + 1) l
   more l (k, t, below, there, leads, other) = (k, t, omega arith, there, leads, other)
 
   -- a node that is a leader only among one more is the leader of the last one
-  fewer : (l : ℕ) → LeadsAmong node_ranks (n + 1) l → LeadsAmong node_ranks n l ⊎ ((s.leader ≡ l) × ¬ (n ≡ l))
+  fewer : (l : ℕ) → LeadsAmong node_ranks (n + 1) l
+      → LeadsAmong node_ranks n l ⊎ ((s.leader ≡ l) × ¬ (n ≡ l))
   fewer l (k, t, below, there, leads, other) = elim (cases_lt k n) [
     | inl past ↦ inl (k, t, past, there, leads, other)
     | inr now ↦
@@ -36,21 +49,27 @@ module _ (node_ranks : List NodeRank) (n : ℕ) (marks : List Bool) (old : AreLe
     nodes = old.nodes;
     exact = λ l. (
       λ h. more l ((old.exact l).0 h),
-      λ w. elim (fewer l w) [ inl was ↦ (old.exact l).1 was | inr now ↦ absurd (now.1 (sym own ∙ now.0)) ],
+      λ w. elim (fewer l w) [
+        | inl was ↦ (old.exact l).1 was
+        | inr now ↦ absurd (now.1 (sym own ∙ now.0))
+      ],
     );
   }
 
   -- the next node has another leader
-  pub leader_marks_more : ¬ (s.leader ≡ n) → s.leader < length marks → AreLeaderMarks node_ranks (n + 1) (set marks s.leader true)
+  pub leader_marks_more : ¬ (s.leader ≡ n) → s.leader < length marks
+      → AreLeaderMarks node_ranks (n + 1) (set marks s.leader true)
   leader_marks_more other within = record {
     nodes = length-set marks s.leader true ∙ old.nodes;
     exact = λ l. (
       λ h. elim (cases_eq l s.leader) [
         | inl same ↦ (n, s, omega arith, at, sym same, λ e. other (sym same ∙ sym e))
-        | inr apart ↦ more l ((old.exact l).0 (sym (get_or-set_other marks s.leader l true false apart) ∙ h))
+        | inr apart ↦ more l
+            ((old.exact l).0 (sym (get_or-set_other marks s.leader l true false apart) ∙ h))
       ],
       λ w. elim (cases_eq l s.leader) [
-        | inl same ↦ ap (λ i. get_or (set marks s.leader true) i false) same ∙ get_or-set_same marks s.leader true false within
+        | inl same ↦ ap (λ i. get_or (set marks s.leader true) i false) same
+            ∙ get_or-set_same marks s.leader true false within
         | inr apart ↦ elim (fewer l w) [
           | inl was ↦ get_or-set_other marks s.leader l true false apart ∙ (old.exact l).1 was
           | inr now ↦ absurd (apart (sym now.0))

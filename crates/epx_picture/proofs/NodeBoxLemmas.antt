@@ -1,5 +1,6 @@
 -- What the box of an instance shows, from the rank of its node.
-use Rattle.std.proofs.Common.{◌≡◌, ℕ, ◌<◌, List, Bool, true, false, Option, slice_get, Some, sym, ap, ◌∙◌, subst, arith, refl, IsTrue}
+use Rattle.std.proofs.Common.{◌≡◌, ℕ, ◌<◌, List, Bool, true, false, Option, slice_get, Some, sym}
+use Rattle.std.proofs.Common.{ap, ◌∙◌, subst, arith, refl, IsTrue}
 use Rattle.std.proofs.lemmas.Bool.{false≢true}
 use Rattle.std.proofs.lemmas.Option.{slice_get_within}
 use Rattle.epx_types.specs.declared.id.Id.{Id}
@@ -21,7 +22,8 @@ from_not_false : (b : Bool) → ¬ (b ≡ false) → IsTrue b
 from_not_false true h = refl
 from_not_false false h = absurd (h refl)
 
-module _ (m : List Instance) (g : DependencyGraph) (is : IsGraphOf m g) (k : ℕ) (e : Instance) (at : slice_get m k ≡ Some e) where
+module _ (m : List Instance) (g : DependencyGraph) (is : IsGraphOf m g) (k : ℕ) (e : Instance)
+    (at : slice_get m k ≡ Some e) where
   below : k < g.committed
   below = omega (arith, slice_get_within m k e at, committed_count m g is)
 
@@ -29,13 +31,25 @@ module _ (m : List Instance) (g : DependencyGraph) (is : IsGraphOf m g) (k : ℕ
   pub own_node : slice_get g.ids k ≡ Some e.id
   own_node = node_of_place m g is k e at below
 
-  pub box_from_node : (s : NodeRank) (cluster : Option Id) → IsNodeRank g k s → IsCluster m e.id cluster → IsBoxOf m (record { id = e.id; seq = e.seq; depth = s.depth; cluster = cluster; waits = s.reaches_missing })
+  pub box_from_node : (s : NodeRank) (cluster : Option Id) → IsNodeRank g k s
+      → IsCluster m e.id cluster
+      → IsBoxOf m (record {
+        id = e.id;
+        seq = e.seq;
+        depth = s.depth;
+        cluster = cluster;
+        waits = s.reaches_missing;
+      })
   box_from_node s cluster stands clustered = record {
-    seq = λ d in_d same. ap (λ (i : Instance). i.seq) (IsRising-same m (subst IsRising is.committed is.graph.committed_rise) d e in_d (Contains-slice_get m k e at) same);
+    seq = λ d in_d same. ap (λ (i : Instance). i.seq)
+        (IsRising-same m (subst IsRising is.committed is.graph.committed_rise) d e in_d
+        (Contains-slice_get m k e at) same);
     depth = depth_from_node m g is k e.id s.depth own_node stands.depth;
     cluster = clustered;
     waits = (
       λ h ready. node_from_ready m g is k e.id own_node ready (stands.missing.0 h),
-      λ waits. from_not_false s.reaches_missing (λ none. waits (ready_from_node m g is k e.id own_node below (λ missing. false≢true (sym none ∙ stands.missing.1 missing)))),
+      λ waits. from_not_false s.reaches_missing
+          (λ none. waits (ready_from_node m g is k e.id own_node below
+          (λ missing. false≢true (sym none ∙ stands.missing.1 missing)))),
     );
   }

@@ -1,5 +1,6 @@
 -- Every committed map has a picture.
-use Rattle.std.proofs.Common.{◌≡◌, ℕ, List, [], ◌∷◌, map, Bool, true, false, Option, Some, None, Contains, refl, ap, ap₂, subst, inl, inr}
+use Rattle.std.proofs.Common.{◌≡◌, ℕ, List, [], ◌∷◌, map, Bool, true, false, Option, Some, None}
+use Rattle.std.proofs.Common.{Contains, refl, ap, ap₂, subst, inl, inr}
 use Rattle.std.proofs.lemmas.Bool.{false≢true}
 use Rattle.epx_types.specs.declared.id.Id.{Id}
 use Rattle.epx_types.specs.Ids.{IsRising}
@@ -10,10 +11,14 @@ use Rattle.epx_types.specs.Readiness.{IsReady}
 use Rattle.epx_types.proofs.committed.AgreementLemmas.{IsRising-same}
 use Rattle.epx_types.proofs.graph.DependencyLemmas.{IsCommitted-from_Contains}
 use Rattle.epx_types.proofs.lists.SearchLemmas.{some_or_none}
-use Rattle.epx_types.proofs.lists.MembershipLemmas.{Contains-nil, Contains-head, Contains-cons, Contains-cons_cases}
-use Rattle.epx_types.proofs.orders.RankExistenceLemmas.{leader_exists, depth_exists, ready_or_waits}
+use Rattle.epx_types.proofs.lists.MembershipLemmas.{Contains-nil, Contains-head, Contains-cons}
+use Rattle.epx_types.proofs.lists.MembershipLemmas.{Contains-cons_cases}
+use Rattle.epx_types.proofs.orders.RankExistenceLemmas.{leader_exists, depth_exists}
+use Rattle.epx_types.proofs.orders.RankExistenceLemmas.{ready_or_waits}
 use Rattle.epx_types.proofs.graph.ReachingLemmas.{IsReady-not_waiting}
-use Rattle.epx_types.proofs.graph.ReachingDecisionLemmas.{both_cases, not_cases, InOneComponent-cases, within_reach, Contains-within_reach}
+use Rattle.epx_types.proofs.graph.ReachingDecisionLemmas.{both_cases, not_cases}
+use Rattle.epx_types.proofs.graph.ReachingDecisionLemmas.{InOneComponent-cases, within_reach}
+use Rattle.epx_types.proofs.graph.ReachingDecisionLemmas.{Contains-within_reach}
 use Rattle.epx_types.proofs.graph.WaitingLemmas.{Id-cases}
 use Rattle.epx_graph.specs.Graphs.{missing_ids}
 use Rattle.epx_graph.proofs.GraphExistenceLemmas.{graph_exists}
@@ -25,12 +30,22 @@ use Rattle.epx_picture.specs.Pictures.{IsPicture}
 module _ (m : List Instance) (rising : IsRising (ids_of m)) where
   cluster_exists : (x : Id) → (cluster : Option Id) × IsCluster m x cluster
   cluster_exists x =
-      elim (some_or_none (λ y. InOneComponent m x y × (¬ (y ≡ x))) (λ y. both_cases (InOneComponent-cases m x y) (not_cases (Id-cases y x))) (within_reach m x)) [
-        | inl other ↦ let leader = leader_exists m x in (Some leader.0, (leader.1, (other.0, other.2.0, other.2.1)))
-        | inr none ↦ (None, λ y one. elim (Id-cases y x) [ inl same ↦ same | inr apart ↦ absurd (none y (Contains-within_reach m x y one.0) (one, apart)) ])
+      elim (some_or_none (λ y. InOneComponent m x y × (¬ (y ≡ x)))
+      (λ y. both_cases (InOneComponent-cases m x y) (not_cases (Id-cases y x)))
+      (within_reach m x)) [
+        | inl other ↦ let leader = leader_exists m x in
+            (Some leader.0, (leader.1, (other.0, other.2.0, other.2.1)))
+        | inr none ↦ (
+          None,
+          λ y one. elim (Id-cases y x) [
+            | inl same ↦ same
+            | inr apart ↦ absurd (none y (Contains-within_reach m x y one.0) (one, apart))
+          ],
+        )
       ]
 
-  waits_exists : (x : Id) → IsCommitted m x → (waits : Bool) × ((waits ≡ true → ¬ IsReady m x) × (¬ IsReady m x → waits ≡ true))
+  waits_exists : (x : Id) → IsCommitted m x
+      → (waits : Bool) × ((waits ≡ true → ¬ IsReady m x) × (¬ IsReady m x → waits ≡ true))
   waits_exists x committed = elim (ready_or_waits m x committed) [
     | inl ready ↦ (false, (λ h. absurd (false≢true h), λ not. absurd (not ready)))
     | inr waits ↦ (true, (λ h ready. IsReady-not_waiting m x waits.0 ready waits.1, λ not. refl))
@@ -43,7 +58,8 @@ module _ (m : List Instance) (rising : IsRising (ids_of m)) where
       let waits = waits_exists e.id (IsCommitted-from_Contains m e in_e) in (
         record { id = e.id; seq = e.seq; depth = depth.0; cluster = cluster.0; waits = waits.0 },
         record {
-          seq = λ d in_d same. ap (λ (i : Instance). i.seq) (IsRising-same m rising d e in_d in_e same);
+          seq = λ d in_d same. ap (λ (i : Instance). i.seq)
+              (IsRising-same m rising d e in_d in_e same);
           depth = depth.1;
           cluster = cluster.1;
           waits = waits.1;
@@ -51,14 +67,17 @@ module _ (m : List Instance) (rising : IsRising (ids_of m)) where
         refl,
       )
 
-  all_boxes_exist : (es : List Instance) → ((e : Instance) → Contains es e → Contains m e) → (ds : List NodeBox) × (map (λ d. d.id) ds ≡ ids_of es) × ((d : NodeBox) → Contains ds d → IsBoxOf m d)
+  all_boxes_exist : (es : List Instance) → ((e : Instance) → Contains es e → Contains m e)
+      → (ds : List NodeBox) × (map (λ d. d.id) ds ≡ ids_of es)
+      × ((d : NodeBox) → Contains ds d → IsBoxOf m d)
   all_boxes_exist [] within = ([], refl, λ d h. absurd (Contains-nil d h))
   all_boxes_exist (e ∷ es) within =
       let first = box_exists e (within e (Contains-head e es)) in
       let rest = all_boxes_exist es (λ d h. within d (Contains-cons e es d h)) in (
         first.0 ∷ rest.0,
         ap₂ (λ x xs. x ∷ xs) first.2 rest.1,
-        λ d h. elim (Contains-cons_cases first.0 rest.0 d h) [ inl same ↦ subst (IsBoxOf m) same first.1 | inr later ↦ rest.2 d later ],
+        λ d h. elim (Contains-cons_cases first.0 rest.0 d h)
+            [ inl same ↦ subst (IsBoxOf m) same first.1 | inr later ↦ rest.2 d later ],
       )
 
   pub picture_exists : (text : List ℕ) × IsPicture m text

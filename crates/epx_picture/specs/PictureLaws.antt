@@ -11,4 +11,5 @@ PictureExists = (m : List Instance) → IsRising (ids_of m) → (text : List ℕ
 
 -- a committed map has at most one picture
 abbrev pub PictureIsOne : Type 0
-PictureIsOne = (m : List Instance) (text other : List ℕ) → IsPicture m text → IsPicture m other → text ≡ other
+PictureIsOne = (m : List Instance) (text other : List ℕ) → IsPicture m text → IsPicture m other
+    → text ≡ other

@@ -1,5 +1,6 @@
 -- The text of a picture, in DOT, the language of Graphviz.
-use Rattle.std.specs.Prelude.{ℕ, Bool, true, false, List, [], ◌++◌, flat_map, Option, Some, None, codes, decimal}
+use Rattle.std.specs.Prelude.{ℕ, Bool, true, false, List, [], ◌++◌, flat_map, Option, Some, None}
+use Rattle.std.specs.Prelude.{codes, decimal}
 use Rattle.epx_types.specs.declared.id.Id.{Id}
 use Rattle.epx_types.specs.Faults.{id_text}
 use Rattle.epx_types.specs.Instances.{Instance}
@@ -19,12 +20,20 @@ style_text false = []
 -- the box of an instance, with its depth and sequence number
 abbrev pub box_text : NodeBox → List ℕ
 box_text d =
-    codes "\"" ++ (id_text d.id ++ (codes "\" [label=\"" ++ (id_text d.id ++ (codes "\\ndepth " ++ (decimal d.depth ++ (codes ", seq " ++ (decimal d.seq ++ (codes "\"" ++ (style_text d.waits ++ codes "];")))))))))
+    codes "\""
+    ++ (id_text d.id
+    ++ (codes "\" [label=\""
+    ++ (id_text d.id
+    ++ (codes "\\ndepth "
+    ++ (decimal d.depth
+    ++ (codes ", seq "
+    ++ (decimal d.seq ++ (codes "\"" ++ (style_text d.waits ++ codes "];")))))))))
 
 -- a box by itself, or in a cluster
 abbrev pub in_cluster : Option Id → List ℕ → List ℕ
 in_cluster None box = codes "  " ++ (box ++ codes "\n")
-in_cluster (Some leader) box = codes "  subgraph \"cluster " ++ (id_text leader ++ (codes "\" { " ++ (box ++ codes " }\n")))
+in_cluster (Some leader) box = codes "  subgraph \"cluster "
+    ++ (id_text leader ++ (codes "\" { " ++ (box ++ codes " }\n")))
 
 abbrev pub box_line : NodeBox → List ℕ
 box_line d = in_cluster d.cluster (box_text d)
@@ -42,4 +51,6 @@ arrow_lines e = flat_map (arrow_line e.id) e.deps
 
 -- the boxes of the committed instances, those of the missing instances, and the arrows
 abbrev pub picture_text : List Instance → List NodeBox → List Id → List ℕ
-picture_text m node_boxes missing = head_text ++ (flat_map box_line node_boxes ++ (flat_map missing_line missing ++ (flat_map arrow_lines m ++ foot_text)))
+picture_text m node_boxes missing =
+    head_text ++ (flat_map box_line node_boxes
+    ++ (flat_map missing_line missing ++ (flat_map arrow_lines m ++ foot_text)))

@@ -20,7 +20,8 @@ pub(crate) fn mark_leaders(
     node_ranks: &NodeRanks,
 ) -> Result<Vec<bool>, Memory>
     requires { AreNodeRanks graph.now node_ranks.now }
-    ensures { IfOk result (λ marks. AreLeaderMarks node_ranks.now (length graph.now.ids) marks.items) }
+    ensures { IfOk result
+        (λ marks. AreLeaderMarks node_ranks.now (length graph.now.ids) marks.items) }
 {
     let mut marks = vec![in alloc; false; graph.len()]?;
     for node in 0..graph.len() {
@@ -42,8 +43,10 @@ pub(crate) fn cluster_of(
     requires graph { IsGraph graph.now }
     requires node { node < length graph.now.ids }
     requires node_rank { IsNodeRank graph.now node node_rank }
-    requires leader_marks { (node_ranks : _) × AreNodeRanks graph.now node_ranks × AreLeaderMarks node_ranks (length graph.now.ids) leader_marks.now }
-    ensures { (m : List Instance) (x : Id) → IsGraphOf m graph.now → slice_get graph.now.ids node ≡ Some x → IsCluster m x result }
+    requires leader_marks { (node_ranks : _) × AreNodeRanks graph.now node_ranks
+        × AreLeaderMarks node_ranks (length graph.now.ids) leader_marks.now }
+    ensures { (m : List Instance) (x : Id) → IsGraphOf m graph.now
+        → slice_get graph.now.ids node ≡ Some x → IsCluster m x result }
 {
     if node_rank.leader == node && !leader_marks[node] {
         return None;

@@ -28,7 +28,8 @@ fn box_of_node(
     requires graph { IsGraphOf merged.now graph.now }
     requires position { position < length merged.now }
     requires node_rank { IsNodeRank graph.now position node_rank }
-    requires leader_marks { (node_ranks : _) × AreNodeRanks graph.now node_ranks × AreLeaderMarks node_ranks (length graph.now.ids) leader_marks.now }
+    requires leader_marks { (node_ranks : _) × AreNodeRanks graph.now node_ranks
+        × AreLeaderMarks node_ranks (length graph.now.ids) leader_marks.now }
     ensures id { slice_get (ids_of merged.now) position ≡ Some result.id }
     ensures node_boxes { IsBoxOf merged.now result }
 {
@@ -45,8 +46,10 @@ fn box_of_node(
 /// The box of each committed instance.
 fn all_boxes(alloc: Global, merged: &Merged, graph: &Graph) -> Result<Vec<NodeBox>, Memory>
     requires { IsGraphOf merged.now graph.now }
-    ensures named { IfOk result (λ node_boxes. map (λ d. d.id) node_boxes.items ≡ ids_of merged.now) }
-    ensures shown { IfOk result (λ node_boxes. (d : NodeBox) → Contains node_boxes.items d → IsBoxOf merged.now d) }
+    ensures named { IfOk result
+        (λ node_boxes. map (λ d. d.id) node_boxes.items ≡ ids_of merged.now) }
+    ensures shown { IfOk result (λ node_boxes. (d : NodeBox) → Contains node_boxes.items d
+        → IsBoxOf merged.now d) }
 {
     let node_ranks = NodeRanks::of(alloc, graph)?;
     let leader_marks = mark_leaders(alloc, graph, &node_ranks)?;

@@ -1,6 +1,7 @@
 //! The text of pictures.
 ghost use Rattle.std.specs.Prelude.{◌≡◌, ◌++◌, OnOk, IfOk, flat_map, string_bytes};
-ghost use Rattle.epx_picture.specs.PictureText.{arrow_line, arrow_lines, box_line, missing_line, picture_text};
+ghost use Rattle.epx_picture.specs.PictureText.{arrow_line, arrow_lines, box_line, missing_line};
+ghost use Rattle.epx_picture.specs.PictureText.{picture_text};
 
 use crate::node_boxes::NodeBox;
 use epx_merge::Merged;
@@ -23,7 +24,8 @@ fn write_missing(text: &mut String, id: Id) -> Result<(), AllocError>
 }
 
 fn write_arrow(text: &mut String, id: Id, dependency: Id) -> Result<(), AllocError>
-    ensures { OnOk result (string_bytes text.new ≡ string_bytes text.old ++ arrow_line id dependency) }
+    ensures { OnOk result (string_bytes text.new
+        ≡ string_bytes text.old ++ arrow_line id dependency) }
 {
     write!(text, "  \"{id}\" -> \"{dependency}\";\n")
 }
@@ -39,7 +41,8 @@ fn write_arrows(text: &mut String, entry: &Entry) -> Result<(), AllocError>
 }
 
 fn write_boxes(text: &mut String, node_boxes: &[NodeBox]) -> Result<(), AllocError>
-    ensures { OnOk result (string_bytes text.new ≡ string_bytes text.old ++ flat_map box_line node_boxes.now) }
+    ensures { OnOk result (string_bytes text.new
+        ≡ string_bytes text.old ++ flat_map box_line node_boxes.now) }
 {
     for one in node_boxes {
         write_box(text, *one)?;
@@ -48,7 +51,8 @@ fn write_boxes(text: &mut String, node_boxes: &[NodeBox]) -> Result<(), AllocErr
 }
 
 fn write_all_missing(text: &mut String, missing: &[Id]) -> Result<(), AllocError>
-    ensures { OnOk result (string_bytes text.new ≡ string_bytes text.old ++ flat_map missing_line missing.now) }
+    ensures { OnOk result (string_bytes text.new
+        ≡ string_bytes text.old ++ flat_map missing_line missing.now) }
 {
     for id in missing {
         write_missing(text, *id)?;
@@ -57,7 +61,8 @@ fn write_all_missing(text: &mut String, missing: &[Id]) -> Result<(), AllocError
 }
 
 fn write_all_arrows(text: &mut String, merged: &Merged) -> Result<(), AllocError>
-    ensures { OnOk result (string_bytes text.new ≡ string_bytes text.old ++ flat_map arrow_lines merged.now) }
+    ensures { OnOk result (string_bytes text.new
+        ≡ string_bytes text.old ++ flat_map arrow_lines merged.now) }
 {
     for position in 0..merged.len() {
         write_arrows(text, merged.entry_at(position))?;

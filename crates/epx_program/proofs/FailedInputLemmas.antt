@@ -1,5 +1,6 @@
 -- Which source failed, if a run returns that a source cannot be read.
-use Rattle.std.proofs.Common.{◌≡◌, ◌⊎◌, ℕ, zero, suc, List, [], ◌∷◌, Some, slice_get, Result, Err, IsErrOf, inl, inr, subst}
+use Rattle.std.proofs.Common.{◌≡◌, ◌⊎◌, ℕ, zero, suc, List, [], ◌∷◌, Some, slice_get, Result, Err}
+use Rattle.std.proofs.Common.{IsErrOf, inl, inr, subst}
 use Rattle.std.specs.Prelude.{IfErr, ◌≢◌}
 use Rattle.epx_types.specs.declared.fault.Fault.{Fault}
 use Rattle.epx_types.specs.declared.fault.Fault.TheVariants.{Read, Write}

@@ -1,5 +1,6 @@
 -- A task over a first text and logs, as a task over the texts of all sources.
-use Rattle.std.proofs.Common.{◌≡◌, ◌≢◌, ◌⊎◌, ◌+◌, ℕ, suc, List, [], ◌∷◌, length, map, Option, Some, Result, Ok, Err, IsErrOf, inl, inr, refl, sym, ap, ◌∙◌, subst, arith}
+use Rattle.std.proofs.Common.{◌≡◌, ◌≢◌, ◌⊎◌, ◌+◌, ℕ, suc, List, [], ◌∷◌, length, map, Option, Some}
+use Rattle.std.proofs.Common.{Result, Ok, Err, IsErrOf, inl, inr, refl, sym, ap, ◌∙◌, subst, arith}
 use Rattle.std.specs.Prelude.{OnOk, IfErr}
 use Rattle.std.specs.Io.KnownBytes.{Appends, Keeps}
 use Rattle.epx_types.specs.declared.fault.Fault.{Fault}
@@ -14,14 +15,16 @@ use Rattle.epx_tool.specs.DeliveredWithInput.{AnswersBoth}
 use Rattle.epx_tool.specs.Runs.{AreBytesOf}
 use Rattle.epx_program.specs.declared.do_task.FirstText.{FirstText}
 use Rattle.epx_program.specs.declared.do_task.FirstText.TheVariants as first
-use Rattle.epx_program.specs.Endings.{AddsAnswer, AddsPart, IsTaskResult, HasFault, IsTaskAnswer, IsTaskFault, task_over}
+use Rattle.epx_program.specs.Endings.{AddsAnswer, AddsPart, IsTaskResult, HasFault, IsTaskAnswer}
+use Rattle.epx_program.specs.Endings.{IsTaskFault, task_over}
 use Rattle.epx_program.specs.Inputs.{HasFailedRead, OneHasFailedRead}
 
 -- a run over an extra input and logs is the task over the texts of all sources
 module _ (task : Task) (IsBad : List ℕ → ℕ → Type 0)
     (Is : List ℕ → List Instance → List ℕ → Type 0)
     (answers : (text : List ℕ) (logs : List (List ℕ)) (answer : List ℕ)
-    → AnswersWithInput IsBad Is text logs (Ok answer) → IsTaskAnswer task (text ∷ logs) (Ok answer))
+    → AnswersWithInput IsBad Is text logs (Ok answer)
+    → IsTaskAnswer task (text ∷ logs) (Ok answer))
     (faults : (text : List ℕ) (logs : List (List ℕ)) (fault : Fault)
     → IsRunFaultWithInput IsBad Is text logs fault → IsTaskFault task (text ∷ logs) fault)
     (old new : Option (List ℕ)) where
@@ -79,16 +82,22 @@ module _ (task : Task) (IsBad : List ℕ → ℕ → Type 0)
     adds_part h = adds (AppendsPrefix old new) h
 
 -- the texts of a first source and others begin with the text of the first
-pub from_first : {S : Type 0} (remaining : S → Option (List ℕ)) (P : List (List ℕ) → Type 0) (sources rest : List S) (source : S) → sources ≡ source ∷ rest
-    → ((text : List ℕ) (logs : List (List ℕ)) → remaining source ≡ Some text → AreBytesOf remaining rest logs → P (text ∷ logs))
+pub from_first : {S : Type 0} (remaining : S → Option (List ℕ)) (P : List (List ℕ) → Type 0)
+    (sources rest : List S) (source : S) → sources ≡ source ∷ rest
+    → ((text : List ℕ) (logs : List (List ℕ)) → remaining source ≡ Some text
+    → AreBytesOf remaining rest logs → P (text ∷ logs))
     → (texts : List (List ℕ)) → AreBytesOf remaining sources texts → P texts
-from_first remaining P sources rest source e holds [] are = let none : map remaining (source ∷ rest) ≡ [] = ap (map remaining) (sym e) ∙ are in absurd (cc none)
+from_first remaining P sources rest source e holds [] are =
+    let none : map remaining (source ∷ rest) ≡ [] = ap (map remaining) (sym e) ∙ are in
+    absurd (cc none)
 from_first remaining P sources rest source e holds (text ∷ logs) are =
-    let both : map remaining (source ∷ rest) ≡ Some text ∷ map Some logs = ap (map remaining) (sym e) ∙ are in
+    let both : map remaining (source ∷ rest) ≡ Some text ∷ map Some logs =
+    ap (map remaining) (sym e) ∙ are in
     holds text logs (cc both) (cc both)
 
 -- no sources have no texts
-pub from_nothing : {S : Type 0} (remaining : S → Option (List ℕ)) (P : List (List ℕ) → Type 0) (sources : List S) → length sources ≡ 0 → P []
+pub from_nothing : {S : Type 0} (remaining : S → Option (List ℕ)) (P : List (List ℕ) → Type 0)
+    (sources : List S) → length sources ≡ 0 → P []
     → (texts : List (List ℕ)) → AreBytesOf remaining sources texts → P texts
 from_nothing remaining P [] none holds [] are = holds
 from_nothing remaining P [] none holds (text ∷ logs) are = absurd (cc are)
@@ -105,7 +114,8 @@ without_text old new first.List fault h =
 module _ {A : Type 0} (old new : Option (List ℕ)) where
   -- if there is no text, the first text is empty
   pub result_of_no_text : (kind : FirstText) (done : Result A Fault)
-      → IsTaskResult (task_over kind) ([] ∷ []) done old new → IsTaskResult (task_over kind) [] done old new
+      → IsTaskResult (task_over kind) ([] ∷ []) done old new
+      → IsTaskResult (task_over kind) [] done old new
   result_of_no_text first.Base (Ok x) h = h
   result_of_no_text first.List (Ok x) h = h
   result_of_no_text kind (Err fault) h = without_text old new kind fault h
@@ -116,7 +126,8 @@ module _ {A : Type 0} (old new : Option (List ℕ)) where
   adds_to_nothing task (Ok x) h = ([], refl, h)
   adds_to_nothing task (Err fault) h = tt
 
-  pub adds_part_to_nothing : (task : Task) (done : Result A Fault) → IsTaskResult task [] done old new
+  pub adds_part_to_nothing : (task : Task) (done : Result A Fault)
+      → IsTaskResult task [] done old new
       → IsErrOf done Write → AddsPart task 0 old new
   adds_part_to_nothing task (Ok x) h is = absurd (cc is)
   adds_part_to_nothing task (Err fault) h is =

@@ -1,5 +1,6 @@
 -- What a run over logs comes to, as the outcome of its task.
-use Rattle.std.proofs.Common.{◌≡◌, ◌≢◌, ◌↔◌, ℕ, Bool, true, List, Option, Result, Ok, Err, IsErrOf, ap}
+use Rattle.std.proofs.Common.{◌≡◌, ◌≢◌, ◌↔◌, ℕ, Bool, true, List, Option, Result, Ok, Err, IsErrOf}
+use Rattle.std.proofs.Common.{ap}
 use Rattle.std.specs.Prelude.{OnOk, IfErr}
 use Rattle.std.specs.Io.KnownBytes.{Appends, Keeps}
 use Rattle.epx_types.specs.Instances.{Instance}
@@ -47,7 +48,8 @@ module _ (task : Task) (Is : List Instance → List ℕ → Type 0)
   abbrev IsWritten : (List ℕ → Type 0) → List (List ℕ) → Type 0
   IsWritten Written logs = (text : List ℕ) × Answers Is logs (Ok text) × Written text
 
-  task_result : {A : Type 0} (done : Result A Fault) → OnOk done (OfKnown (IsWritten (Appends old new)))
+  task_result : {A : Type 0} (done : Result A Fault)
+      → OnOk done (OfKnown (IsWritten (Appends old new)))
       → IfErr done (λ fault. OfKnown (λ logs. IsRunFault Is logs fault))
       → (IsErrOf done Write → OfKnown (IsWritten (AppendsPrefix old new)))
       → IfErr done (λ fault. fault ≢ Write → Keeps old new)

@@ -7,7 +7,9 @@ unchanged_output None = tt
 unchanged_output (Some bytes) = refl
 
 -- an unchanged output has the contents that it had
-pub contents_unchanged : {S : Type 0} (contents : S → Option (List ℕ)) (before after : S) → after ≡ before
+pub contents_unchanged : {S : Type 0} (contents : S → Option (List ℕ)) (before after : S)
+    → after ≡ before
     → Keeps (contents before) (contents after)
 contents_unchanged contents before after same =
-    subst (λ output. Keeps (contents output) (contents after)) same (unchanged_output (contents after))
+    subst (λ output. Keeps (contents output) (contents after)) same
+    (unchanged_output (contents after))

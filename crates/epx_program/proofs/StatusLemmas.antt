@@ -1,11 +1,15 @@
 -- The exit status of the program.
-use Rattle.std.proofs.Common.{◌≡◌, ◌≢◌, ◌⊎◌, ◌↔◌, ◌∙◌, ℕ, zero, suc, Bool, true, false, List, length, Option, Result, Ok, Err, IsErrOf, inl, inr, refl, arith, ap, sym}
+use Rattle.std.proofs.Common.{◌≡◌, ◌≢◌, ◌⊎◌, ◌↔◌, ◌∙◌, ℕ, zero, suc, Bool, true, false, List}
+use Rattle.std.proofs.Common.{length, Option, Result, Ok, Err, IsErrOf, inl, inr, refl, arith, ap}
+use Rattle.std.proofs.Common.{sym}
 use Rattle.std.specs.Prelude.{OnOk, IfErr}
 use Rattle.std.specs.Io.KnownBytes.{Appends, Keeps}
 use Rattle.epx_types.specs.Faults.{fault_status}
 use Rattle.epx_types.specs.Instances.{Instance}
 use Rattle.epx_types.specs.declared.fault.Fault.{Fault}
-use Rattle.epx_types.specs.declared.fault.Fault.TheVariants.{Memory, TooManyLogs, LogTooLong, BadLine, TooManyInstances, Disagree, Read, Write, BadBase}
+use Rattle.epx_types.specs.declared.fault.Fault.TheVariants.{Memory, TooManyLogs, LogTooLong}
+use Rattle.epx_types.specs.declared.fault.Fault.TheVariants.{BadLine, TooManyInstances, Disagree}
+use Rattle.epx_types.specs.declared.fault.Fault.TheVariants.{Read, Write, BadBase}
 use Rattle.epx_words.specs.Requests.{IfText, IfWork}
 use Rattle.epx_words.specs.declared.asked.Task.{Task}
 use Rattle.epx_words.specs.declared.asked.Words.{Words}
@@ -15,11 +19,13 @@ use Rattle.epx_devices.specs.Transfers.{AppendsPrefix}
 use Rattle.epx_tool.specs.Answer.{Answers}
 use Rattle.epx_tool.specs.Delivered.{AnswersDelivered}
 use Rattle.epx_program.specs.Calls.{EndsTask}
-use Rattle.epx_program.specs.Endings.{AddsAnswer, AddsPart, IsTaskResult, EndsWith, IsStatus, IsTaskAnswer, status_of}
+use Rattle.epx_program.specs.Endings.{AddsAnswer, AddsPart, IsTaskResult, EndsWith, IsStatus}
+use Rattle.epx_program.specs.Endings.{IsTaskAnswer, status_of}
 use Rattle.epx_program.proofs.OutputLemmas.{contents_unchanged}
 
 -- the status of a task that succeeded or failed
-pub ends-as-done : {A : Type 0} (task : Task) (logs : List (List ℕ)) (done : Result A Fault) (old new : Option (List ℕ))
+pub ends-as-done : {A : Type 0} (task : Task) (logs : List (List ℕ)) (done : Result A Fault)
+    (old new : Option (List ℕ))
     → IsTaskResult task logs done old new → EndsWith task logs (status_of done) old new
 ends-as-done task logs (Ok x) old new written = inl (refl, written)
 ends-as-done task logs (Err fault) old new why = inr (fault, why, refl)
@@ -109,7 +115,8 @@ unchanged_by_text contents before after (suc n) result failed told bad well some
     contents_unchanged contents before after (told (λ none. omega (arith, none))).1
 
 -- a text with status 0 is written, or the output failed
-pub of-text : {P : Type 0} (result : ℕ) → (result ≢ 0 → (result ≡ 4) × P) → (result ≡ 0) ⊎ ((result ≡ 4) × P)
+pub of-text : {P : Type 0} (result : ℕ) → (result ≢ 0 → (result ≡ 4) × P)
+    → (result ≡ 0) ⊎ ((result ≡ 4) × P)
 of-text zero failed = inl refl
 of-text (suc n) failed = inr (failed (λ none. omega (arith, none)))
 
@@ -125,9 +132,12 @@ work_status input Unread status failed old new (Work task plan paths) h = h.ends
 work_status input Unread status failed old new (Text text said) h = tt
 
 -- the program ends as the words ask, for every kind of words
-pub of-words : (P Q : Type 0) (words : Words) (result : ℕ) → IfText (λ status. (status ≡ 0) ⊎ (status ≡ 2)) words
-    → IfWork (λ task plan paths. IsStatus result) words → IfText (λ status. status ≡ 0 → (result ≡ 0) ⊎ ((result ≡ 4) × Q)) words
+pub of-words : (P Q : Type 0) (words : Words) (result : ℕ)
+    → IfText (λ status. (status ≡ 0) ⊎ (status ≡ 2)) words
+    → IfWork (λ task plan paths. IsStatus result) words
+    → IfText (λ status. status ≡ 0 → (result ≡ 0) ⊎ ((result ≡ 4) × Q)) words
     → IfText (λ status. status ≢ 0 → (result ≡ status) × P) words → IsStatus result ⊎ (result ≡ 2)
 of-words P Q (Work task plan paths) result said work text told = inl work
 of-words P Q (Text text status) result (inl good) work asked told = inl (shown result (asked good))
-of-words P Q (Text text status) result (inr two) work asked told = inr ((told (λ none. omega (arith, none, two))).0 ∙ two)
+of-words P Q (Text text status) result (inr two) work asked told =
+    inr ((told (λ none. omega (arith, none, two))).0 ∙ two)

@@ -1,5 +1,7 @@
 -- What the words ask for, from the words of the operating system.
-use Rattle.std.proofs.Common.{◌≡◌, ◌≢◌, ◌≤◌, ◌↔◌, ◌⊎◌, ◌++◌, ◌∙◌, ℕ, Bool, true, false, inl, inr, zero, suc, List, [], ◌∷◌, length, map, Option, Some, None, Result, Ok, Err, IfOk, sym, ap, refl, append-nil, arith}
+use Rattle.std.proofs.Common.{◌≡◌, ◌≢◌, ◌≤◌, ◌↔◌, ◌⊎◌, ◌++◌, ◌∙◌, ℕ, Bool, true, false, inl, inr}
+use Rattle.std.proofs.Common.{zero, suc, List, [], ◌∷◌, length, map, Option, Some, None, Result}
+use Rattle.std.proofs.Common.{Ok, Err, IfOk, sym, ap, refl, append-nil, arith}
 use Rattle.std.specs.Prelude.{string_bytes}
 use Rattle.std.specs.Io.KnownBytes.{Appends}
 use Rattle.std.specs.declared.alloc.Global.{Global}
@@ -20,7 +22,9 @@ use Rattle.epx_program.specs.Calls.{AreTakenFor, Asks, EndsAsAsked, EndsTask, En
 use Rattle.epx_program.proofs.OutputLemmas.{contents_unchanged}
 
 -- words are taken for only one list of texts
-pub one_list_taken : (words : Result (IntoIter (String Global) Global) Error) (texts others : List Text) → AreTakenFor words texts → AreTakenFor words others → texts ≡ others
+pub one_list_taken : (words : Result (IntoIter (String Global) Global) Error)
+    (texts others : List Text) → AreTakenFor words texts → AreTakenFor words others
+    → texts ≡ others
 one_list_taken (Ok given) texts others these those = sym these ∙ those
 one_list_taken (Err why) texts others these those = absurd these
 
@@ -29,37 +33,56 @@ no_items [] none = refl
 no_items (x ∷ xs) none = absurd (omega arith)
 
 -- if no word is left to read, the words read so far are all words
-pub all_taken : {A B : Type 0} (f : A → B) (came : List B) (rest : List A) → length rest ≡ 0 → came ++ map f rest ≡ came
+pub all_taken : {A B : Type 0} (f : A → B) (came : List B) (rest : List A) → length rest ≡ 0
+    → came ++ map f rest ≡ came
 all_taken f came rest none = ap (λ xs. came ++ map f xs) (no_items rest none) ∙ append-nil came
 
 module _ (words : List Text) (n : ℕ) (as_many : n ≡ length words) where
-  work_fits : (asked : Words) → IfWork (λ task plan paths. name_in (subcommand_of epx_app words) ≡ Some (task_name task)) asked
-      → IfWork (λ task plan paths. IsWorkersOf (rows_in (subcommand_of epx_app words)) plan.workers) asked
+  work_fits : (asked : Words)
+      → IfWork (λ task plan paths. name_in (subcommand_of epx_app words) ≡ Some (task_name task))
+      asked
+      → IfWork (λ task plan paths. IsWorkersOf (rows_in (subcommand_of epx_app words))
+      plan.workers) asked
       → IfWork (λ task plan paths. IsCutOf (rows_in (subcommand_of epx_app words)) plan.cut) asked
-      → IfWork (λ task plan paths. ArePathsOf task (rows_in (subcommand_of epx_app words)) paths) asked
+      → IfWork (λ task plan paths. ArePathsOf task (rows_in (subcommand_of epx_app words)) paths)
+      asked
       → IfWork (AsksFor (subcommand_of epx_app words)) asked
-  work_fits (Work task plan paths) is_task is_workers is_cut are_paths = record { task = is_task; workers = is_workers; cut = is_cut; paths = are_paths }
+  work_fits (Work task plan paths) is_task is_workers is_cut are_paths =
+      record { task = is_task; workers = is_workers; cut = is_cut; paths = are_paths }
   work_fits (text said status) is_task is_workers is_cut are_paths = tt
 
-  text_ends : (asked : Words) → IfText (λ status. takes epx_app words ≡ false) asked → IfText (IsExitStatus (fault_of epx_app words)) asked
-      → IfText (λ status. (takes epx_app words ≡ false) × IsExitStatus (fault_of epx_app words) status) asked
+  text_ends : (asked : Words) → IfText (λ status. takes epx_app words ≡ false) asked
+      → IfText (IsExitStatus (fault_of epx_app words)) asked
+      → IfText (λ status. (takes epx_app words ≡ false)
+      × IsExitStatus (fault_of epx_app words) status) asked
   text_ends (Work task plan paths) refused ends = tt
   text_ends (text said status) refused ends = (refused, ends)
 
   -- what is read of the words is what they ask for
-  pub asks : (read : Result Words Memory) → (n ≤ 1 → IfOk read (λ asked. asked ≡ Work Run (record { workers = 4; cut = 256 }) None))
-      → (2 ≤ n → IfOk read (IfWork (λ task plan paths. name_in (subcommand_of epx_app words) ≡ Some (task_name task))))
-      → (2 ≤ n → IfOk read (IfWork (λ task plan paths. IsWorkersOf (rows_in (subcommand_of epx_app words)) plan.workers)))
-      → (2 ≤ n → IfOk read (IfWork (λ task plan paths. IsCutOf (rows_in (subcommand_of epx_app words)) plan.cut)))
-      → (2 ≤ n → IfOk read (IfWork (λ task plan paths. ArePathsOf task (rows_in (subcommand_of epx_app words)) paths)))
+  pub asks : (read : Result Words Memory)
+      → (n ≤ 1 → IfOk read (λ asked. asked ≡ Work Run (record { workers = 4; cut = 256 }) None))
+      → (2 ≤ n → IfOk read
+      (IfWork (λ task plan paths. name_in (subcommand_of epx_app words)
+      ≡ Some (task_name task))))
+      → (2 ≤ n → IfOk read
+      (IfWork (λ task plan paths. IsWorkersOf (rows_in (subcommand_of epx_app words))
+      plan.workers)))
+      → (2 ≤ n → IfOk read
+      (IfWork (λ task plan paths. IsCutOf (rows_in (subcommand_of epx_app words)) plan.cut)))
+      → (2 ≤ n → IfOk read
+      (IfWork (λ task plan paths. ArePathsOf task (rows_in (subcommand_of epx_app words))
+      paths)))
       → (2 ≤ n → IfOk read (λ asked. IsWork asked ↔ (fault_of epx_app words ≡ [])))
       → (2 ≤ n → IfOk read (IfText (λ status. takes epx_app words ≡ false)))
-      → (2 ≤ n → IfOk read (IfText (IsExitStatus (fault_of epx_app words)))) → IfOk read (Asks words)
+      → (2 ≤ n → IfOk read (IfText (IsExitStatus (fault_of epx_app words))))
+      → IfOk read (Asks words)
   asks (Ok asked) bare is_task is_workers is_cut are_paths taken refused ends = record {
     bare = λ few. bare (omega (arith, as_many, few));
-    work = λ many. let two : 2 ≤ n = omega (arith, as_many, many) in work_fits asked (is_task two) (is_workers two) (is_cut two) (are_paths two);
+    work = λ many. let two : 2 ≤ n = omega (arith, as_many, many) in
+        work_fits asked (is_task two) (is_workers two) (is_cut two) (are_paths two);
     taken = λ many. taken (omega (arith, as_many, many));
-    text = λ many. let two : 2 ≤ n = omega (arith, as_many, many) in text_ends asked (refused two) (ends two);
+    text = λ many. let two : 2 ≤ n = omega (arith, as_many, many) in
+        text_ends asked (refused two) (ends two);
   }
   asks (Err memory) bare is_task is_workers is_cut are_paths taken refused ends = tt
 

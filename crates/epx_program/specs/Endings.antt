@@ -1,12 +1,14 @@
 -- What a task writes, and the exit status of the program.
-use Rattle.std.specs.Prelude.{◌≡◌, ◌≢◌, ◌⊎◌, ℕ, List, [], ◌∷◌, length, Option, Result, Ok, Err, MatchResult}
+use Rattle.std.specs.Prelude.{◌≡◌, ◌≢◌, ◌⊎◌, ℕ, List, [], ◌∷◌, length, Option, Result, Ok, Err}
+use Rattle.std.specs.Prelude.{MatchResult}
 use Rattle.std.specs.Io.KnownBytes.{Appends, Keeps}
 use Rattle.epx_types.specs.declared.fault.Fault.{Fault}
 use Rattle.epx_types.specs.declared.fault.Fault.TheVariants.{Write}
 use Rattle.epx_types.specs.Faults.{fault_status}
 use Rattle.epx_devices.specs.Transfers.{AppendsPrefix}
 use Rattle.epx_words.specs.declared.asked.Task.{Task}
-use Rattle.epx_words.specs.declared.asked.Task.TheVariants.{Run, Order, Levels, Graph, Resume, Audit, Check}
+use Rattle.epx_words.specs.declared.asked.Task.TheVariants.{Run, Order, Levels, Graph, Resume}
+use Rattle.epx_words.specs.declared.asked.Task.TheVariants.{Audit, Check}
 use Rattle.epx_base.specs.Bases.{IsBadBase}
 use Rattle.epx_base.specs.Lists.{IsBadList}
 use Rattle.epx_tool.specs.Answer.{Answers}

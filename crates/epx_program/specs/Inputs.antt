@@ -1,5 +1,6 @@
 -- The program's input among the paths of its words.
-use Rattle.std.specs.Prelude.{◌≡◌, ⊤, ℕ, List, [], ◌∷◌, Option, Some, None, codes, length, slice_get}
+use Rattle.std.specs.Prelude.{◌≡◌, ⊤, ℕ, List, [], ◌∷◌, Option, Some, None, codes, length}
+use Rattle.std.specs.Prelude.{slice_get}
 use Rattle.epx_devices.specs.Deliveries.{FailRelation, ReadRelation, DeliversThenFails}
 use Rattle.epx_devices.specs.EitherSources.{value_by}
 use Rattle.epx_devices.specs.inner.DeviceStates.{PathState}

@@ -1,9 +1,11 @@
 //! Tasks: opens the sources at the paths and writes the answer.
-ghost use Rattle.std.specs.Prelude.{◌≡◌, ◌≢◌, ◌↔◌, ◌⊎◌, ◌+◌, true, false, [], ◌∷◌, All, Some, IfErr, IsErrOf, OnOk, length};
+ghost use Rattle.std.specs.Prelude.{◌≡◌, ◌≢◌, ◌↔◌, ◌⊎◌, ◌+◌, true, false, [], ◌∷◌, All, Some};
+ghost use Rattle.std.specs.Prelude.{IfErr, IsErrOf, OnOk, length};
 ghost use Rattle.std.specs.Io.KnownBytes.{Keeps};
 ghost use Rattle.epx_program.specs.Calls.{paths_of};
 ghost use Rattle.epx_program.specs.Endings.{AddsAnswer, AddsPart, IsTaskResult, task_over};
-ghost use Rattle.epx_program.specs.Inputs.{HasFailedRead, IsInputAlone, OneHasFailedRead, text_count};
+ghost use Rattle.epx_program.specs.Inputs.{HasFailedRead, IsInputAlone, OneHasFailedRead};
+ghost use Rattle.epx_program.specs.Inputs.{text_count};
 ghost use Rattle.epx_program.specs.inner.Outcomes.{Outcome, task_showing};
 ghost use Rattle.epx_tool.specs.Runs.{AreBytesOf};
 
@@ -40,7 +42,8 @@ fn answer_with_input<R: Threads + RandomSource + Sync, F: Source, S: Source, W: 
 
     ensures answer { (text : _) (texts : _) → F.remaining first.old ≡ Some text
         → AreBytesOf S.remaining logs.old texts →
-        IsTaskResult (task_over kind) (text ∷ texts) result (W.contents output.old) (W.contents output.new) }
+        IsTaskResult (task_over kind) (text ∷ texts) result (W.contents output.old)
+        (W.contents output.new) }
     ensures answered { OnOk result (AddsAnswer (task_over kind) (length logs.old + 1)
         (W.contents output.old) (W.contents output.new)) }
     ensures part { IsErrOf result Fault.Write → AddsPart (task_over kind) (length logs.old + 1)

@@ -1,5 +1,6 @@
 //! The sources that the paths name: files, and the program's input.
-ghost use Rattle.std.specs.Prelude.{◌≡◌, ◌∷◌, [], All, IfOk, IfSome, None, Some, codes, false, map, string_bytes};
+ghost use Rattle.std.specs.Prelude.{◌≡◌, ◌∷◌, [], All, IfOk, IfSome, None, Some, codes, false};
+ghost use Rattle.std.specs.Prelude.{map, string_bytes};
 ghost use Rattle.epx_devices.specs.EitherSources.{value_by};
 ghost use Rattle.epx_devices.specs.declared.either_source.EitherSource.TheVariants as either;
 ghost use Rattle.epx_program.specs.Inputs.{path_of};

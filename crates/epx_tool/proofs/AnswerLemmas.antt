@@ -7,7 +7,8 @@ use Rattle.epx_types.specs.Ids.{IsRising}
 use Rattle.epx_types.specs.Instances.{Instance}
 use Rattle.epx_types.specs.CommittedMap.{ids_of}
 use Rattle.epx_types.specs.Execution.{execute}
-use Rattle.epx_types.proofs.orders.OrderExistenceLemmas.{execution_order_exists, waiting_list_exists}
+use Rattle.epx_types.proofs.orders.OrderExistenceLemmas.{execution_order_exists}
+use Rattle.epx_types.proofs.orders.OrderExistenceLemmas.{waiting_list_exists}
 use Rattle.epx_types.proofs.levels.LevelExistenceLemmas.{levels_exist}
 use Rattle.epx_merge.proofs.ExistenceLemmas.{answered_always}
 use Rattle.epx_order.proofs.LeastUncoveredLemmas.{covered_or_not}
@@ -27,14 +28,28 @@ module _ (m : List Instance) (rising : IsRising (ids_of m)) where
       let order = execution_order_exists m rising in
       let waiting = waiting_list_exists m rising in (
         report_text order.0 waiting.0 (execute (commands_of m order.0) contents.empty),
-        record { order = order.0; waiting = waiting.0; ordered = order.1; listed = waiting.1; printed = refl },
+        record {
+          order = order.0;
+          waiting = waiting.0;
+          ordered = order.1;
+          listed = waiting.1;
+          printed = refl;
+        },
       )
 
   pub order_text_exists : (text : List ℕ) × IsOrderText m text
   order_text_exists =
       let order = execution_order_exists m rising in
-      let waiting = waiting_list_exists m rising in
-      (order_text order.0 waiting.0, record { order = order.0; waiting = waiting.0; ordered = order.1; listed = waiting.1; printed = refl })
+      let waiting = waiting_list_exists m rising in (
+        order_text order.0 waiting.0,
+        record {
+          order = order.0;
+          waiting = waiting.0;
+          ordered = order.1;
+          listed = waiting.1;
+          printed = refl;
+        },
+      )
 
   pub level_text_exists : (text : List ℕ) × IsLevelText m text
   level_text_exists =
@@ -42,7 +57,15 @@ module _ (m : List Instance) (rising : IsRising (ids_of m)) where
       let waiting = waiting_list_exists m rising in
       let levels = levels_exist (commands_of m order.0) in (
         level_text order.0 levels.0 waiting.0,
-        record { order = order.0; levels = levels.0; waiting = waiting.0; ordered = order.1; levelled = levels.1; listed = waiting.1; printed = refl },
+        record {
+          order = order.0;
+          levels = levels.0;
+          waiting = waiting.0;
+          ordered = order.1;
+          levelled = levels.1;
+          listed = waiting.1;
+          printed = refl;
+        },
       )
 
   pub audit_text_exists : (text : List ℕ) × IsAuditText m text
@@ -58,9 +81,12 @@ module _ (m : List Instance) (rising : IsRising (ids_of m)) where
   view_text_exists Graph = picture_exists m rising
 
 -- if every committed map has a text, every list of logs has an answer
-pub answer_exists : (Is : List Instance → List ℕ → Type 0) → ((m : List Instance) → IsRising (ids_of m) → (text : List ℕ) × Is m text) → (logs : List (List ℕ)) → (a : Result (List ℕ) Fault) × (a ≢ Err Memory) × Answers Is logs a
+pub answer_exists : (Is : List Instance → List ℕ → Type 0)
+    → ((m : List Instance) → IsRising (ids_of m) → (text : List ℕ) × Is m text)
+    → (logs : List (List ℕ)) → (a : Result (List ℕ) Fault) × (a ≢ Err Memory) × Answers Is logs a
 answer_exists Is text_of_map logs =
     elim (answered_always logs) [
-      | inl accepted ↦ let text = text_of_map accepted.0 accepted.1.committed.rising in (Ok text.0, (λ same. cc same), (accepted.0, accepted.1, text.1))
+      | inl accepted ↦ let text = text_of_map accepted.0 accepted.1.committed.rising in
+          (Ok text.0, (λ same. cc same), (accepted.0, accepted.1, text.1))
       | inr refused ↦ (Err refused.0, (λ same. refused.1 (cc same)), refused.2)
     ]

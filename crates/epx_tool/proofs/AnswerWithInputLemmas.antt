@@ -3,38 +3,62 @@
 use Rattle.std.proofs.Common.{◌≢◌, ◌⊎◌, ◌<◌, ℕ, List, length, Result, Ok, Err, inl, inr, arith}
 use Rattle.std.proofs.lemmas.Bool.{cases_lt}
 use Rattle.epx_types.specs.declared.fault.Fault.{Fault}
-use Rattle.epx_types.specs.declared.fault.Fault.TheVariants.{Memory, TooManyLogs, LogTooLong, BadBase}
+use Rattle.epx_types.specs.declared.fault.Fault.TheVariants.{Memory, TooManyLogs, LogTooLong}
+use Rattle.epx_types.specs.declared.fault.Fault.TheVariants.{BadBase}
 use Rattle.epx_types.specs.Ids.{IsRising}
 use Rattle.epx_types.specs.Instances.{Instance}
 use Rattle.epx_types.specs.CommittedMap.{ids_of}
 use Rattle.epx_merge.specs.Limits.{max_logs, max_log_bytes}
 use Rattle.epx_merge.proofs.ExistenceLemmas.{answered_always, long_cases}
 use Rattle.epx_tool.specs.WithInput.{IsShort, AnswersWithInput}
-use Rattle.epx_tool.proofs.LogsWithInputLemmas.{last_too_long, first_too_long_with_input, refusal_of_logs}
+use Rattle.epx_tool.proofs.LogsWithInputLemmas.{last_too_long, first_too_long_with_input}
+use Rattle.epx_tool.proofs.LogsWithInputLemmas.{refusal_of_logs}
 
-module _ (IsBad : List ℕ → ℕ → Type 0) (Is : List ℕ → List Instance → List ℕ → Type 0) (input : List ℕ)
-    (text_of_map : ((m : List Instance) → IsRising (ids_of m) → (text : List ℕ) × Is input m text) ⊎ ((line : ℕ) × IsBad input line)) (logs : List (List ℕ)) where
-  refusal_if_long : max_log_bytes < length input → (a : Result (List ℕ) Fault) × (a ≢ Err Memory) × AnswersWithInput IsBad Is input logs a
+module _ (IsBad : List ℕ → ℕ → Type 0) (Is : List ℕ → List Instance → List ℕ → Type 0)
+    (input : List ℕ)
+    (text_of_map : ((m : List Instance) → IsRising (ids_of m) → (text : List ℕ) × Is input m text)
+    ⊎ ((line : ℕ) × IsBad input line)) (logs : List (List ℕ)) where
+  refusal_if_long : max_log_bytes < length input
+      → (a : Result (List ℕ) Fault) × (a ≢ Err Memory) × AnswersWithInput IsBad Is input logs a
   refusal_if_long long =
       elim (cases_lt max_logs (length logs)) [
         | inl many ↦ (Err TooManyLogs, (λ same. cc same), many)
         | inr few ↦ elim (long_cases logs) [
-          | inl none ↦ (Err (LogTooLong (length logs)), (λ same. cc same), (omega (arith, few), last_too_long logs input none long))
-          | inr first ↦ (Err (LogTooLong first.0), (λ same. cc same), (omega (arith, few), first_too_long_with_input logs input first.0 first.1))
+          | inl none ↦ (
+            Err (LogTooLong (length logs)),
+            (λ same. cc same),
+            (omega (arith, few), last_too_long logs input none long),
+          )
+          | inr first ↦ (
+            Err (LogTooLong first.0),
+            (λ same. cc same),
+            (omega (arith, few), first_too_long_with_input logs input first.0 first.1),
+          )
         ]
       ]
 
-  answer_if_short : IsShort input → (a : Result (List ℕ) Fault) × (a ≢ Err Memory) × AnswersWithInput IsBad Is input logs a
+  answer_if_short : IsShort input → (a : Result (List ℕ) Fault) × (a ≢ Err Memory)
+      × AnswersWithInput IsBad Is input logs a
   answer_if_short short =
       elim (answered_always logs) [
         | inl accepted ↦ elim text_of_map [
-          | inl each ↦ let text = each accepted.0 accepted.1.committed.rising in (Ok text.0, (λ same. cc same), (short, (accepted.0, accepted.1, text.1)))
-          | inr bad ↦ (Err (BadBase bad.0), (λ same. cc same), (short, (accepted.0, accepted.1), bad.1))
+          | inl each ↦ let text = each accepted.0 accepted.1.committed.rising in
+              (Ok text.0, (λ same. cc same), (short, (accepted.0, accepted.1, text.1)))
+          | inr bad ↦ (
+            Err (BadBase bad.0),
+            (λ same. cc same),
+            (short, (accepted.0, accepted.1), bad.1),
+          )
         ]
-        | inr refused ↦ (Err refused.0, (λ same. refused.1 (cc same)), refusal_of_logs logs input IsBad refused.0 short refused.2)
+        | inr refused ↦ (
+          Err refused.0,
+          (λ same. refused.1 (cc same)),
+          refusal_of_logs logs input IsBad refused.0 short refused.2,
+        )
       ]
 
-  pub answer_with_input_exists : (a : Result (List ℕ) Fault) × (a ≢ Err Memory) × AnswersWithInput IsBad Is input logs a
+  pub answer_with_input_exists : (a : Result (List ℕ) Fault) × (a ≢ Err Memory)
+      × AnswersWithInput IsBad Is input logs a
   answer_with_input_exists =
       elim (cases_lt max_log_bytes (length input)) [
         | inl long ↦ refusal_if_long long

@@ -14,7 +14,8 @@ use Rattle.epx_order.proofs.OrderFaultLemmas.{lawful_or_fault}
 use Rattle.epx_tool.proofs.UniqueAnswerWithInputLemmas.{AnswersWithInput-unique}
 use Rattle.epx_tool.proofs.VerdictLemmas.{IsVerdict-unique}
 
-verdict_exists : (m : List Instance) (ids : List Id) → IsRising (ids_of m) → (text : List ℕ) × IsVerdict m ids text
+verdict_exists : (m : List Instance) (ids : List Id) → IsRising (ids_of m)
+    → (text : List ℕ) × IsVerdict m ids text
 verdict_exists m ids rising =
     elim (lawful_or_fault m ids rising) [
       | inl lawful ↦ (lawful_text, inl (lawful, refl))
@@ -25,25 +26,32 @@ module _ (list : List ℕ) where
   one_bad_line : (line other : ℕ) → IsBadList list line → IsBadList list other → line ≡ other
   one_bad_line line other p q = cc (p, q)
 
-  no_bad_list : (m : List Instance) (text : List ℕ) (line : ℕ) → IsCheckText list m text → ¬ IsBadList list line
+  no_bad_list : (m : List Instance) (text : List ℕ) (line : ℕ) → IsCheckText list m text
+      → ¬ IsBadList list line
   no_bad_list m text line p bad = let read = p.1 in cc (read, bad)
 
-  checked_one : (m : List Instance) (text other : List ℕ) → IsCheckText list m text → IsCheckText list m other → text ≡ other
+  checked_one : (m : List Instance) (text other : List ℕ) → IsCheckText list m text
+      → IsCheckText list m other → text ≡ other
   checked_one m text other p q =
       let a = p.1 in
       let b = q.1 in
       let same : p.0 ≡ q.0 = cc (a, b) in
-      IsVerdict-unique m q.0 text other (subst (λ (ids : List Id). IsVerdict m ids text) same p.2) q.2
+      IsVerdict-unique m q.0 text other (subst (λ (ids : List Id). IsVerdict m ids text) same p.2)
+      q.2
 
-  checked_or_bad : ((m : List Instance) → IsRising (ids_of m) → (text : List ℕ) × IsCheckText list m text) ⊎ ((line : ℕ) × IsBadList list line)
+  checked_or_bad : ((m : List Instance) → IsRising (ids_of m)
+      → (text : List ℕ) × IsCheckText list m text) ⊎ ((line : ℕ) × IsBadList list line)
   checked_or_bad =
       elim (list_or_bad_list list) [
-        | inl is ↦ inl (λ m rising. let text = verdict_exists m is.0 rising in (text.0, (is.0, is.1, text.1)))
+        | inl is ↦ inl (λ m rising. let text = verdict_exists m is.0 rising in
+            (text.0, (is.0, is.1, text.1)))
         | inr bad ↦ inr bad
       ]
 
 pub check_is_one : CheckIsOne
-check_is_one list logs = AnswersWithInput-unique IsBadList list logs (one_bad_line list) IsCheckText (checked_one list) (no_bad_list list)
+check_is_one list logs = AnswersWithInput-unique IsBadList list logs (one_bad_line list)
+    IsCheckText (checked_one list) (no_bad_list list)
 
 pub check_exists : CheckExists
-check_exists list logs = answer_with_input_exists IsBadList IsCheckText list (checked_or_bad list) logs
+check_exists list logs = answer_with_input_exists IsBadList IsCheckText list (checked_or_bad list)
+    logs

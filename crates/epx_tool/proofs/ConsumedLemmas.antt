@@ -1,5 +1,6 @@
 -- How many bytes are taken from each source.
-use Rattle.std.proofs.Common.{ℕ, zero, suc, List, [], ◌∷◌, get_or, set, Option, None, Some, refl, arith}
+use Rattle.std.proofs.Common.{ℕ, zero, suc, List, [], ◌∷◌, get_or, set, Option, None, Some, refl}
+use Rattle.std.proofs.Common.{arith}
 use Rattle.epx_devices.specs.Transfers.{ConsumesUpTo}
 use Rattle.epx_tool.specs.Sources.{EachConsumesUpTo}
 
@@ -12,9 +13,13 @@ module _ {S : Type 0} (remaining : S → Option (List ℕ)) (n : ℕ) where
   none_consumed [] = tt
   none_consumed (source ∷ first) = (nothing (remaining source), none_consumed first)
 
-  pub one_consumed : (first now : List S) (log : ℕ) (d later : S) → EachConsumesUpTo remaining first now n → ConsumesUpTo (remaining (get_or first log d)) (remaining later) n → EachConsumesUpTo remaining first (set now log later) n
+  pub one_consumed : (first now : List S) (log : ℕ) (d later : S)
+      → EachConsumesUpTo remaining first now n
+      → ConsumesUpTo (remaining (get_or first log d)) (remaining later) n
+      → EachConsumesUpTo remaining first (set now log later) n
   one_consumed [] [] log d later h c = tt
   one_consumed [] (x ∷ now) log d later h c = absurd h
   one_consumed (x ∷ first) [] log d later h c = absurd h
   one_consumed (x ∷ first) (y ∷ now) zero d later h c = (c, h.1)
-  one_consumed (x ∷ first) (y ∷ now) (suc log) d later h c = (h.0, one_consumed first now log d later h.1 c)
+  one_consumed (x ∷ first) (y ∷ now) (suc log) d later h c =
+      (h.0, one_consumed first now log d later h.1 c)

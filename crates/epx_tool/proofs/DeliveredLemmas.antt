@@ -1,5 +1,6 @@
 -- What the sources delivered that are read one after another.
-use Rattle.std.proofs.Common.{◌≡◌, ◌++◌, ◌<◌, ◌≤◌, ℕ, zero, suc, Bool, List, [], ◌∷◌, length, get_or, set, All, Option, Some, ap, ◌∙◌, subst, inr, arith}
+use Rattle.std.proofs.Common.{◌≡◌, ◌++◌, ◌<◌, ◌≤◌, ℕ, zero, suc, Bool, List, [], ◌∷◌, length}
+use Rattle.std.proofs.Common.{get_or, set, All, Option, Some, ap, ◌∙◌, subst, inr, arith}
 use Rattle.std.proofs.lemmas.List.{length-set, get_or-set_same}
 use Rattle.std.proofs.lemmas.Option.{slice_get_within, slice_get-get_or, get_or_from_slice_get}
 use Rattle.epx_types.specs.declared.fault.Fault.{Fault}
@@ -53,7 +54,8 @@ none_too_long read h k bytes there =
 module _ {S : Type 0} (remaining : S → Option (List ℕ)) (reads : ReadRelation S)
     (fails : FailRelation S) (has_failed : S → Bool) (first now : List S) (n : ℕ)
     (logs : List (List ℕ)) where
-  pub stops_reading : AreDeliveredUpTo remaining reads has_failed first now n logs → n < length first
+  pub stops_reading : AreDeliveredUpTo remaining reads has_failed first now n logs
+      → n < length first
       → (d later : S) (fault : Fault) → get_or now n d ≡ get_or first n d
       → IsLogStop reads fails n (get_or now n d) later fault
       → StopsReading reads fails first (set now n later) fault
@@ -69,7 +71,8 @@ module _ {S : Type 0} (remaining : S → Option (List ℕ)) (reads : ReadRelatio
           logs = logs;
           as_many = h.read.count;
           whole =
-              delivered_unchanged reads first now logs n later (omega (arith, h.read.count)) h.delivered;
+              delivered_unchanged reads first now logs n later (omega (arith, h.read.count))
+              h.delivered;
           short = none_too_long logs h.read.short;
         };
         first = get_or first n d;

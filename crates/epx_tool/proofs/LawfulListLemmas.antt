@@ -21,12 +21,15 @@ use Rattle.epx_tool.proofs.VerdictLemmas.{lawful-from_verdict}
 
 -- ---- reported as lawful
 
-lawful_if_reported : (list : List ℕ) (logs : List (List ℕ)) (ids : List Id) (m : List Instance) → IsList list ids → IsAccepted logs m → Checks list logs (Ok lawful_text) → IsLawful m ids
+lawful_if_reported : (list : List ℕ) (logs : List (List ℕ)) (ids : List Id) (m : List Instance)
+    → IsList list ids → IsAccepted logs m → Checks list logs (Ok lawful_text) → IsLawful m ids
 lawful_if_reported list logs ids m is accepted said =
     let same : said.1.0 ≡ m = accepted_unique logs said.1.0 m said.1.1 accepted in
     let read = said.1.2.1 in
     let one : said.1.2.0 ≡ ids = cc (read, is) in
-    subst (λ (m : List Instance). IsLawful m ids) same (subst (λ (ids : List Id). IsLawful said.1.0 ids) one (lawful-from_verdict said.1.0 said.1.2.0 said.1.2.2))
+    subst (λ (m : List Instance). IsLawful m ids) same
+    (subst (λ (ids : List Id). IsLawful said.1.0 ids) one
+    (lawful-from_verdict said.1.0 said.1.2.0 said.1.2.2))
 
 pub lawful_text_means_lawful : LawfulTextMeansLawful
 lawful_text_means_lawful list logs ids m short is accepted = (
@@ -40,9 +43,11 @@ same_ops : (e : Option Instance) → ops_of e ≡ lawful.ops_of e
 same_ops None = refl
 same_ops (Some e) = refl
 
-pub commands_of-in : (m : List Instance) (order : List Ranked) → commands_of m order ≡ commands_in m (ranked_ids order)
+pub commands_of-in : (m : List Instance) (order : List Ranked)
+    → commands_of m order ≡ commands_in m (ranked_ids order)
 commands_of-in m [] = refl
-commands_of-in m (r ∷ order) = ap₂ (λ (o : List Op) os. o ∷ os) (same_ops (instance_of m r.id)) (commands_of-in m order)
+commands_of-in m (r ∷ order) = ap₂ (λ (o : List Op) os. o ∷ os) (same_ops (instance_of m r.id))
+    (commands_of-in m order)
 
 pub lawful_list_executes_alike : LawfulListExecutesAlike
 lawful_list_executes_alike list logs said ids m is accepted covered order ordered =
@@ -52,5 +57,6 @@ lawful_list_executes_alike list logs said ids m is accepted covered order ordere
     let same = commands_of-in m order in
     rw same (record {
       final = final-lawful m rising covered (ranked_ids order) ids of_order of_list contents.empty;
-      replies = λ i j x at to. reply-lawful m rising covered (ranked_ids order) ids of_order of_list contents.empty j i x to at;
+      replies = λ i j x at to. reply-lawful m rising covered (ranked_ids order) ids of_order
+          of_list contents.empty j i x to at;
     })

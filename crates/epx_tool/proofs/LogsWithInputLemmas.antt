@@ -1,9 +1,13 @@
 -- Logs and an extra input: which of these texts is the first too long one, and which refusal comes
 -- first.
-use Rattle.std.proofs.Common.{◌≡◌, ◌⊎◌, ◌<◌, ◌≤◌, ◌+◌, ◌++◌, ℕ, zero, suc, List, [], ◌∷◌, length, Some, Option, Result, Ok, Err, MatchResult, IsErrOf, slice_get, refl, sym, ap, ◌∙◌, subst, inl, inr, arith}
+use Rattle.std.proofs.Common.{◌≡◌, ◌⊎◌, ◌<◌, ◌≤◌, ◌+◌, ◌++◌, ℕ, zero, suc, List, [], ◌∷◌, length}
+use Rattle.std.proofs.Common.{Some, Option, Result, Ok, Err, MatchResult, IsErrOf, slice_get, refl}
+use Rattle.std.proofs.Common.{sym, ap, ◌∙◌, subst, inl, inr, arith}
 use Rattle.std.proofs.lemmas.Option.{slice_get_within}
 use Rattle.epx_types.specs.declared.fault.Fault.{Fault}
-use Rattle.epx_types.specs.declared.fault.Fault.TheVariants.{Memory, TooManyLogs, LogTooLong, BadLine, TooManyInstances, Disagree, Read, Write, BadBase}
+use Rattle.epx_types.specs.declared.fault.Fault.TheVariants.{Memory, TooManyLogs, LogTooLong}
+use Rattle.epx_types.specs.declared.fault.Fault.TheVariants.{BadLine, TooManyInstances, Disagree}
+use Rattle.epx_types.specs.declared.fault.Fault.TheVariants.{Read, Write, BadBase}
 use Rattle.epx_types.specs.Instances.{Instance}
 use Rattle.epx_merge.specs.Limits.{max_log_bytes}
 use Rattle.epx_merge.specs.Refusals.{FitLimits, IsFirstTooLong, NoneTooLong, IsRefusal}
@@ -17,62 +21,84 @@ use Rattle.epx_tool.proofs.SourceLemmas.{longer}
 
 -- ---- positions of the texts
 
-log_of_input : (logs : List (List ℕ)) (input bytes : List ℕ) (k : ℕ) → slice_get logs k ≡ Some bytes → slice_get (logs ++ input ∷ []) k ≡ Some bytes
+log_of_input : (logs : List (List ℕ)) (input bytes : List ℕ) (k : ℕ)
+    → slice_get logs k ≡ Some bytes → slice_get (logs ++ input ∷ []) k ≡ Some bytes
 log_of_input [] input bytes k there = absurd (cc there)
 log_of_input (l ∷ logs) input bytes zero there = there
 log_of_input (l ∷ logs) input bytes (suc k) there = log_of_input logs input bytes k there
 
-text_of_input : (logs : List (List ℕ)) (input : List ℕ) → slice_get (logs ++ input ∷ []) (length logs) ≡ Some input
+text_of_input : (logs : List (List ℕ)) (input : List ℕ)
+    → slice_get (logs ++ input ∷ []) (length logs) ≡ Some input
 text_of_input [] input = refl
 text_of_input (l ∷ logs) input = text_of_input logs input
 
-input_cases : (logs : List (List ℕ)) (input bytes : List ℕ) (k : ℕ) → slice_get (logs ++ input ∷ []) k ≡ Some bytes → (slice_get logs k ≡ Some bytes) ⊎ (k ≡ length logs) × (bytes ≡ input)
+input_cases : (logs : List (List ℕ)) (input bytes : List ℕ) (k : ℕ)
+    → slice_get (logs ++ input ∷ []) k ≡ Some bytes
+    → (slice_get logs k ≡ Some bytes) ⊎ (k ≡ length logs) × (bytes ≡ input)
 input_cases [] input bytes zero there = inr (refl, cc there)
 input_cases [] input bytes (suc k) there = absurd (cc there)
 input_cases (l ∷ logs) input bytes zero there = inl there
 input_cases (l ∷ logs) input bytes (suc k) there =
-    elim (input_cases logs input bytes k there) [ inl among ↦ inl among | inr last ↦ inr (ap suc last.0, last.1) ]
+    elim (input_cases logs input bytes k there)
+    [ inl among ↦ inl among | inr last ↦ inr (ap suc last.0, last.1) ]
 
-from_input : (logs : List (List ℕ)) (input bytes : List ℕ) (k : ℕ) → k < length logs → slice_get (logs ++ input ∷ []) k ≡ Some bytes → slice_get logs k ≡ Some bytes
+from_input : (logs : List (List ℕ)) (input bytes : List ℕ) (k : ℕ) → k < length logs
+    → slice_get (logs ++ input ∷ []) k ≡ Some bytes → slice_get logs k ≡ Some bytes
 from_input logs input bytes k l there =
-    elim (input_cases logs input bytes k there) [ inl among ↦ among | inr last ↦ absurd (omega (arith, l, last.0)) ]
+    elim (input_cases logs input bytes k there)
+    [ inl among ↦ among | inr last ↦ absurd (omega (arith, l, last.0)) ]
 
 -- the extra input comes after all logs
-pub input_after_logs : (n : ℕ) (fault : Fault) (log : ℕ) → IsReadLogFault n fault → fault ≡ Read log → ¬ log < n
-input_after_logs n fault log of_text named l = let at : log ≡ n = subst (IsReadLogFault n) named of_text in omega (arith, at, l)
+pub input_after_logs : (n : ℕ) (fault : Fault) (log : ℕ) → IsReadLogFault n fault
+    → fault ≡ Read log → ¬ log < n
+input_after_logs n fault log of_text named l = let at : log ≡ n =
+    subst (IsReadLogFault n) named of_text in omega (arith, at, l)
 
 -- ---- the first text that is too long
 
 module _ (logs : List (List ℕ)) (input : List ℕ) where
-  pub first_too_long_before : (log : ℕ) → IsShort input → IsFirstTooLong (logs ++ input ∷ []) log → IsFirstTooLong logs log
+  pub first_too_long_before : (log : ℕ) → IsShort input → IsFirstTooLong (logs ++ input ∷ []) log
+      → IsFirstTooLong logs log
   first_too_long_before log short h =
       elim (input_cases logs input h.long.0 log h.long.1) [
-        | inl among ↦ record { long = (h.long.0, among, h.long.2); first = λ k bytes lower there. h.first k bytes lower (log_of_input logs input bytes k there) }
+        | inl among ↦ record {
+          long = (h.long.0, among, h.long.2);
+          first = λ k bytes lower there. h.first k bytes lower
+              (log_of_input logs input bytes k there);
+        }
         | inr last ↦ absurd (omega (arith, short, h.long.2, ap length last.1))
       ]
 
-  pub first_too_long_with_input : (log : ℕ) → IsFirstTooLong logs log → IsFirstTooLong (logs ++ input ∷ []) log
+  pub first_too_long_with_input : (log : ℕ) → IsFirstTooLong logs log
+      → IsFirstTooLong (logs ++ input ∷ []) log
   first_too_long_with_input log h = record {
     long = (h.long.0, log_of_input logs input h.long.0 log h.long.1, h.long.2);
-    first = λ k bytes lower there. h.first k bytes lower (from_input logs input bytes k (omega (arith, lower, slice_get_within logs log h.long.0 h.long.1)) there);
+    first = λ k bytes lower there. h.first k bytes lower
+        (from_input logs input bytes k
+        (omega (arith, lower, slice_get_within logs log h.long.0 h.long.1)) there);
   }
 
-  pub last_too_long : NoneTooLong logs → max_log_bytes < length input → IsFirstTooLong (logs ++ input ∷ []) (length logs)
+  pub last_too_long : NoneTooLong logs → max_log_bytes < length input
+      → IsFirstTooLong (logs ++ input ∷ []) (length logs)
   last_too_long none long = record {
     long = (input, text_of_input logs input, long);
     first = λ k bytes lower there. none k bytes (from_input logs input bytes k lower there);
   }
 
-  none_before_input : (log : ℕ) → log ≤ length logs → NoneTooLongBefore logs log → NoneTooLongBefore (logs ++ input ∷ []) log
-  none_before_input log within h = λ k bytes lower there. h k bytes lower (from_input logs input bytes k (omega (arith, lower, within)) there)
+  none_before_input : (log : ℕ) → log ≤ length logs → NoneTooLongBefore logs log
+      → NoneTooLongBefore (logs ++ input ∷ []) log
+  none_before_input log within h = λ k bytes lower there.
+      h k bytes lower (from_input logs input bytes k (omega (arith, lower, within)) there)
 
   -- ---- refusals
 
-  pub reading_refusal_with_input : (fault : Fault) → IsReadingRefusal logs fault → IsReadingRefusalWithInput input logs fault
+  pub reading_refusal_with_input : (fault : Fault) → IsReadingRefusal logs fault
+      → IsReadingRefusalWithInput input logs fault
   reading_refusal_with_input Memory h = h
   reading_refusal_with_input TooManyLogs h = h
   reading_refusal_with_input (LogTooLong log) h = (h.0, first_too_long_with_input log h.1)
-  reading_refusal_with_input (Read log) h = (h.0, omega (arith, h.1), none_before_input log (omega (arith, h.1)) h.2)
+  reading_refusal_with_input (Read log) h =
+      (h.0, omega (arith, h.1), none_before_input log (omega (arith, h.1)) h.2)
   reading_refusal_with_input (BadLine place why) h = absurd h
   reading_refusal_with_input TooManyInstances h = absurd h
   reading_refusal_with_input (Disagree id first second) h = absurd h
@@ -81,23 +107,34 @@ module _ (logs : List (List ℕ)) (input : List ℕ) where
 
   -- if all logs fit, the extra input may be the one that cannot be read or is too long
   pub unread_input : FitLimits logs → IsReadingRefusalWithInput input logs (Read (length logs))
-  unread_input fits = (fits.0, omega arith, none_before_input (length logs) (omega arith) (λ k bytes lower there. fits.1 k bytes there))
+  unread_input fits = (
+    fits.0,
+    omega arith,
+    none_before_input (length logs) (omega arith)
+        (λ k bytes lower there. fits.1 k bytes there),
+  )
 
-  pub too_long_input : FitLimits logs → max_log_bytes < length input → IsReadingRefusalWithInput input logs (LogTooLong (length logs))
+  pub too_long_input : FitLimits logs → max_log_bytes < length input
+      → IsReadingRefusalWithInput input logs (LogTooLong (length logs))
   too_long_input fits long = (fits.0, last_too_long fits.1 long)
 
   -- the faults of reading the extra input, after the logs are read
-  pub refusal_of_reading_with_input : {T : Type 0} (n : ℕ) (later : Option (List ℕ)) (fault : Fault) → n ≡ length logs → FitLimits logs → IsReadLogFault n fault
-      → (IsErrOf {T = T} (Err fault) (LogTooLong n) → ConsumesExactly (Some input) later (max_log_bytes + 1)) → IsReadingRefusalWithInput input logs fault
+  pub refusal_of_reading_with_input : {T : Type 0} (n : ℕ) (later : Option (List ℕ))
+      (fault : Fault) → n ≡ length logs → FitLimits logs → IsReadLogFault n fault
+      → (IsErrOf {T = T} (Err fault) (LogTooLong n)
+      → ConsumesExactly (Some input) later (max_log_bytes + 1))
+      → IsReadingRefusalWithInput input logs fault
   refusal_of_reading_with_input n later Memory many fits of_text long = tt
   refusal_of_reading_with_input n later TooManyLogs many fits of_text long = absurd of_text
   refusal_of_reading_with_input n later (LogTooLong log) many fits of_text long =
       let taken = long (ap (λ k. Err (LogTooLong k)) of_text) in
       let P : ℕ → Type 0 = λ k. IsReadingRefusalWithInput input logs (LogTooLong k) in
-      subst P (sym (of_text ∙ many)) (too_long_input fits (omega (arith, longer later input taken.0 taken.1, taken.2)))
+      subst P (sym (of_text ∙ many))
+      (too_long_input fits (omega (arith, longer later input taken.0 taken.1, taken.2)))
   refusal_of_reading_with_input n later (BadLine place why) many fits of_text long = absurd of_text
   refusal_of_reading_with_input n later TooManyInstances many fits of_text long = absurd of_text
-  refusal_of_reading_with_input n later (Disagree id first second) many fits of_text long = absurd of_text
+  refusal_of_reading_with_input n later (Disagree id first second) many fits of_text long =
+      absurd of_text
   refusal_of_reading_with_input n later (Read log) many fits of_text long =
       let P : ℕ → Type 0 = λ k. IsReadingRefusalWithInput input logs (Read k) in
       subst P (sym (of_text ∙ many)) (unread_input fits)
@@ -107,14 +144,16 @@ module _ (logs : List (List ℕ)) (input : List ℕ) where
   module _ (IsBad : List ℕ → ℕ → Type 0) where
     -- the faults of reading are faults of the run
     pub run_fault_of_reading : (Is : List ℕ → List Instance → List ℕ → Type 0) (fault : Fault)
-        → IsReadingRefusalWithInput input logs fault → IsRunFaultWithInput IsBad Is input logs fault
+        → IsReadingRefusalWithInput input logs fault
+        → IsRunFaultWithInput IsBad Is input logs fault
     run_fault_of_reading Is Memory h = h
     run_fault_of_reading Is TooManyLogs h = h
     run_fault_of_reading Is (LogTooLong log) h = h
     run_fault_of_reading Is (Read log) h = h
     run_fault_of_reading Is fault h = absurd h
 
-    pub refusal_of_logs : (fault : Fault) → IsShort input → IsRefusal logs fault → IsRefusalWithInput IsBad input logs fault
+    pub refusal_of_logs : (fault : Fault) → IsShort input → IsRefusal logs fault
+        → IsRefusalWithInput IsBad input logs fault
     refusal_of_logs Memory short h = h
     refusal_of_logs TooManyLogs short h = h
     refusal_of_logs (LogTooLong log) short h = (h.0, first_too_long_with_input log h.1)
@@ -126,7 +165,8 @@ module _ (logs : List (List ℕ)) (input : List ℕ) where
     refusal_of_logs (BadBase line) short h = absurd h
 
     -- the refusals before the lines of the extra input are read
-    pub refusal_before : (fault : Fault) → IsRefusalWithInput (λ _ _. ⊥) input logs fault → IsRefusalWithInput IsBad input logs fault
+    pub refusal_before : (fault : Fault) → IsRefusalWithInput (λ _ _. ⊥) input logs fault
+        → IsRefusalWithInput IsBad input logs fault
     refusal_before Memory h = h
     refusal_before TooManyLogs h = h
     refusal_before (LogTooLong log) h = h
@@ -138,16 +178,20 @@ module _ (logs : List (List ℕ)) (input : List ℕ) where
     refusal_before (BadBase line) h = absurd h.2
 
     -- if all texts fit, no refusal stops the reading
-    pub no_stop : {T : Type 0} (fault : Fault) (log : ℕ) → FitLimits logs → IsShort input → IsRefusalWithInput IsBad input logs fault → ¬ StopsAt {T = T} (Err fault) log
+    pub no_stop : {T : Type 0} (fault : Fault) (log : ℕ) → FitLimits logs → IsShort input
+        → IsRefusalWithInput IsBad input logs fault → ¬ StopsAt {T = T} (Err fault) log
     no_stop fault log fits short h (inl long) =
         let named : fault ≡ LogTooLong log = cc long in
-        let first = first_too_long_before log short (subst (IsRefusalWithInput IsBad input logs) named h).1 in
+        let first = first_too_long_before log short
+        (subst (IsRefusalWithInput IsBad input logs) named h).1 in
         omega (arith, fits.1 log first.long.0 first.long.1, first.long.2)
     no_stop fault log fits short h (inr unread) =
         let named : fault ≡ Read log = cc unread in
         (subst (IsRefusalWithInput IsBad input logs) named h).1
 
-    pub merged_with_input : (r : Result (List Instance) Fault) → IsShort input → MatchResult r (IsAccepted logs) (IsRefusal logs)
-        → MatchResult r (λ m. IsShort input × IsAccepted logs m) (IsRefusalWithInput IsBad input logs)
+    pub merged_with_input : (r : Result (List Instance) Fault) → IsShort input
+        → MatchResult r (IsAccepted logs) (IsRefusal logs)
+        → MatchResult r (λ m. IsShort input × IsAccepted logs m)
+        (IsRefusalWithInput IsBad input logs)
     merged_with_input (Ok m) short h = (short, h)
     merged_with_input (Err fault) short h = refusal_of_logs fault short h

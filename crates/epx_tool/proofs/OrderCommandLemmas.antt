@@ -11,9 +11,14 @@ use Rattle.epx_tool.specs.Report.{ops_of, commands_of}
 abbrev pub commands_by_id : List Instance → List Id → List (List Op)
 commands_by_id m ids = map (λ x. ops_of (instance_of m x)) ids
 
-commands_of-by_id : (m : List Instance) (order : List Ranked) → commands_of m order ≡ commands_by_id m (ranked_ids order)
+commands_of-by_id : (m : List Instance) (order : List Ranked)
+    → commands_of m order ≡ commands_by_id m (ranked_ids order)
 commands_of-by_id m [] = refl
-commands_of-by_id m (r ∷ order) = ap (λ rest. ops_of (instance_of m r.id) ∷ rest) (commands_of-by_id m order)
+commands_of-by_id m (r ∷ order) =
+    ap (λ rest. ops_of (instance_of m r.id) ∷ rest) (commands_of-by_id m order)
 
-pub commands_are : (m : List Instance) (order : List Ranked) (ids : List Id) (commands : List (List Op)) → ids ≡ ranked_ids order → commands ≡ commands_by_id m ids → commands ≡ commands_of m order
-commands_are m order ids commands e_ids e = e ∙ ap (commands_by_id m) e_ids ∙ sym (commands_of-by_id m order)
+pub commands_are : (m : List Instance) (order : List Ranked) (ids : List Id)
+    (commands : List (List Op)) → ids ≡ ranked_ids order → commands ≡ commands_by_id m ids
+    → commands ≡ commands_of m order
+commands_are m order ids commands e_ids e =
+    e ∙ ap (commands_by_id m) e_ids ∙ sym (commands_of-by_id m order)

@@ -5,7 +5,8 @@ use Rattle.std.specs.Ordering.{is_eq, eq_by_cmp}
 use Rattle.std.specs.Cmp.{Equal-is, tied_itself}
 use Rattle.std.proofs.lemmas.Cmp.{eq_by_cmp_equiv}
 use Rattle.std.proofs.lemmas.List.{length-map}
-use Rattle.std.proofs.lemmas.Map.Made.{length-le_from_is_member, is_member-Decides, IsDistinct-from_AllPairs}
+use Rattle.std.proofs.lemmas.Map.Made.{length-le_from_is_member, is_member-Decides}
+use Rattle.std.proofs.lemmas.Map.Made.{IsDistinct-from_AllPairs}
 use Rattle.epx_types.specs.declared.id.Id.{Id}
 use Rattle.epx_types.specs.Ids.{id_cmp}
 use Rattle.epx_types.specs.Instances.{Instance}
@@ -21,13 +22,22 @@ same_id x y = (
 )
 
 -- a list of distinct Ids that are all in another list is not longer than that list
-pub fewer : (xs ys : List Id) → AllPairs (λ x y. x ≢ y) xs → ((x : Id) → Contains xs x → Contains ys x) → length xs ≤ length ys
+pub fewer : (xs ys : List Id) → AllPairs (λ x y. x ≢ y) xs
+    → ((x : Id) → Contains xs x → Contains ys x) → length xs ≤ length ys
 fewer xs ys once within =
-    length-le_from_is_member (eq_by_cmp_equiv id_cmp_total) xs ys (IsDistinct-from_AllPairs same_id xs once)
+    length-le_from_is_member (eq_by_cmp_equiv id_cmp_total) xs ys
+    (IsDistinct-from_AllPairs same_id xs once)
     (λ q h. (is_member-Decides same_id ys q).1 (within q ((is_member-Decides same_id xs q).0 h)))
 
-pub ordered_are_few : (m : List Instance) (order : List Ranked) → IsExecutionOrder m order → length order ≤ length m
+pub ordered_are_few : (m : List Instance) (order : List Ranked) → IsExecutionOrder m order
+    → length order ≤ length m
 ordered_are_few m order h =
     let lawful = IsExecutionOrder-IsLawful m order h in
-    let few = fewer (ranked_ids order) (ids_of m) lawful.once (λ x there. (lawful.only x there).committed) in
-    omega (arith, few, length-map order (λ (r : Ranked). r.id), length-map m (λ (e : Instance). e.id))
+    let few = fewer (ranked_ids order) (ids_of m) lawful.once
+    (λ x there. (lawful.only x there).committed) in
+    omega (
+      arith,
+      few,
+      length-map order (λ (r : Ranked). r.id),
+      length-map m (λ (e : Instance). e.id),
+    )

@@ -1,5 +1,6 @@
 -- The lines of an execution order, appended one by one.
-use Rattle.std.proofs.Common.{◌≡◌, ◌+◌, ◌++◌, ℕ, suc, List, ◌∷◌, flat_map, drop, get_or, Some, slice_get, sym, ap, ◌∙◌, append_assoc, add-one}
+use Rattle.std.proofs.Common.{◌≡◌, ◌+◌, ◌++◌, ℕ, suc, List, ◌∷◌, flat_map, drop, get_or, Some}
+use Rattle.std.proofs.Common.{slice_get, sym, ap, ◌∙◌, append_assoc, add-one}
 use Rattle.std.proofs.Math.Seq.{drop-cons}
 use Rattle.std.proofs.lemmas.Option.{slice_get_within, get_or_from_slice_get}
 use Rattle.epx_types.specs.declared.id.Id.{Id}
@@ -9,19 +10,29 @@ use Rattle.epx_base.specs.ReportLines.{line_of}
 use Rattle.epx_tool.specs.OrderText.{order_data, order_line}
 
 -- the parts of a line, each looked up by its position, are those of one instance
-pub line_at : (order : List Ranked) (k : ℕ) (ids : List Id) (d : Id) (depth : ℕ) (leader : Id) → ids ≡ ranked_ids order
-    → (s : (r : Ranked) × (slice_get order k ≡ Some r) × (r.depth ≡ depth)) → (r : Ranked) × (slice_get order k ≡ Some r) × (r.leader ≡ leader)
+pub line_at : (order : List Ranked) (k : ℕ) (ids : List Id) (d : Id) (depth : ℕ) (leader : Id)
+    → ids ≡ ranked_ids order
+    → (s : (r : Ranked) × (slice_get order k ≡ Some r) × (r.depth ≡ depth))
+    → (r : Ranked) × (slice_get order k ≡ Some r) × (r.leader ≡ leader)
     → line_of (order_data (get_or ids k d) depth leader) ≡ order_line s.0
 line_at order k ids d depth leader e_ids s l =
-    let same : s.0 ≡ l.0 = sym (get_or_from_slice_get order k s.0 s.0 s.1) ∙ get_or_from_slice_get order k l.0 s.0 l.1 in
-    let id : get_or ids k d ≡ s.0.id = ap (λ xs. get_or xs k d) e_ids ∙ get_or_from_slice_get (ranked_ids order) k s.0.id d (slice_get-map (λ (r : Ranked). r.id) order k s.0 s.1) in
+    let same : s.0 ≡ l.0 = sym (get_or_from_slice_get order k s.0 s.0 s.1)
+    ∙ get_or_from_slice_get order k l.0 s.0 l.1 in
+    let id : get_or ids k d ≡ s.0.id = ap (λ xs. get_or xs k d) e_ids ∙ get_or_from_slice_get
+    (ranked_ids order) k s.0.id d (slice_get-map (λ (r : Ranked). r.id) order k s.0 s.1) in
     let leads : leader ≡ s.0.leader = sym l.2 ∙ ap (λ (r : Ranked). r.leader) (sym same) in
-    ap (λ x. line_of (order_data x depth leader)) id ∙ ap (λ n. line_of (order_data s.0.id n leader)) (sym s.2) ∙ ap (λ y. line_of (order_data s.0.id s.0.depth y)) leads
+    ap (λ x. line_of (order_data x depth leader)) id
+    ∙ ap (λ n. line_of (order_data s.0.id n leader)) (sym s.2)
+    ∙ ap (λ y. line_of (order_data s.0.id s.0.depth y)) leads
 
-pub printed_one_more : (order : List Ranked) (k : ℕ) (r : Ranked) (text new line whole : List ℕ) → slice_get order k ≡ Some r → line ≡ order_line r
-    → text ++ flat_map order_line (drop k order) ≡ whole → new ≡ text ++ line → new ++ flat_map order_line (drop (k + 1) order) ≡ whole
+pub printed_one_more : (order : List Ranked) (k : ℕ) (r : Ranked) (text new line whole : List ℕ)
+    → slice_get order k ≡ Some r → line ≡ order_line r
+    → text ++ flat_map order_line (drop k order) ≡ whole → new ≡ text ++ line
+    → new ++ flat_map order_line (drop (k + 1) order) ≡ whole
 printed_one_more order k r text new line whole there is sofar grown =
     let rest = flat_map order_line (drop (k + 1) order) in
     let next : drop k order ≡ r ∷ drop (k + 1) order =
-    drop-cons order k r (slice_get_within order k r there) ∙ ap (λ s. s ∷ drop (suc k) order) (get_or_from_slice_get order k r r there) ∙ ap (λ n. r ∷ drop n order) (sym (add-one k)) in
-    ap (λ t. t ++ rest) (grown ∙ ap (λ l. text ++ l) is) ∙ append_assoc text (order_line r) rest ∙ ap (λ o. text ++ flat_map order_line o) (sym next) ∙ sofar
+    drop-cons order k r (slice_get_within order k r there) ∙ ap (λ s. s ∷ drop (suc k) order)
+    (get_or_from_slice_get order k r r there) ∙ ap (λ n. r ∷ drop n order) (sym (add-one k)) in
+    ap (λ t. t ++ rest) (grown ∙ ap (λ l. text ++ l) is) ∙ append_assoc text (order_line r) rest
+    ∙ ap (λ o. text ++ flat_map order_line o) (sym next) ∙ sofar

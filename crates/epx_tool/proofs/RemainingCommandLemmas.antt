@@ -1,5 +1,6 @@
 -- The instances of the remaining map have the same commands as in the whole map.
-use Rattle.std.proofs.Common.{◌≡◌, ◌≤◌, List, [], ◌∷◌, length, Contains, refl, ap₂, subst, inl, inr, arith}
+use Rattle.std.proofs.Common.{◌≡◌, ◌≤◌, List, [], ◌∷◌, length, Contains, refl, ap₂, subst, inl}
+use Rattle.std.proofs.Common.{inr, arith}
 use Rattle.std.specs.Ordering.{is_eq}
 use Rattle.std.specs.Cmp.{Equal-is}
 use Rattle.std.proofs.lemmas.Bool.{cases_Bool}
@@ -24,7 +25,8 @@ module _ (done : List Id) where
         | inr other ↦ rw other.0 (omega (arith, length-remaining m))
       ]
 
-  ops_of-left : (m : List Instance) (x : Id) → ¬ Contains done x → ops_of (instance_of (remaining done m) x) ≡ ops_of (instance_of m x)
+  ops_of-left : (m : List Instance) (x : Id) → ¬ Contains done x
+      → ops_of (instance_of (remaining done m) x) ≡ ops_of (instance_of m x)
   ops_of-left [] x left = refl
   ops_of-left (e ∷ m) x left =
       elim (cases_Bool (is_eq (id_cmp e.id x))) [
@@ -40,7 +42,10 @@ module _ (done : List Id) where
         ]
       ]
 
-  pub commands-left : (m : List Instance) (ids : List Id) → ((x : Id) → Contains ids x → ¬ Contains done x) → commands_by_id (remaining done m) ids ≡ commands_by_id m ids
+  pub commands-left : (m : List Instance) (ids : List Id)
+      → ((x : Id) → Contains ids x → ¬ Contains done x)
+      → commands_by_id (remaining done m) ids ≡ commands_by_id m ids
   commands-left m [] left = refl
   commands-left m (x ∷ ids) left =
-      ap₂ (λ o os. o ∷ os) (ops_of-left m x (left x (Contains-head x ids))) (commands-left m ids (λ y h. left y (Contains-cons x ids y h)))
+      ap₂ (λ o os. o ∷ os) (ops_of-left m x (left x (Contains-head x ids)))
+      (commands-left m ids (λ y h. left y (Contains-cons x ids y h)))

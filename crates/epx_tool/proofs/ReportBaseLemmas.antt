@@ -1,5 +1,6 @@
 -- A report is a base of the instances done after it and of its final store.
-use Rattle.std.proofs.Common.{◌≡◌, ◌≢◌, ◌⊎◌, ◌↔◌, ◌++◌, ℕ, List, [], ◌∷◌, length, zip, flat_map, Contains, AllPairs, refl, sym, ap, ◌∙◌, subst, arith}
+use Rattle.std.proofs.Common.{◌≡◌, ◌≢◌, ◌⊎◌, ◌↔◌, ◌++◌, ℕ, List, [], ◌∷◌, length, zip, flat_map}
+use Rattle.std.proofs.Common.{Contains, AllPairs, refl, sym, ap, ◌∙◌, subst, arith}
 use Rattle.std.specs.FinMap as contents
 use Rattle.std.proofs.lemmas.List.{length-map}
 use Rattle.epx_types.specs.declared.id.Id.{Id}
@@ -17,7 +18,8 @@ use Rattle.epx_types.proofs.orders.ExecutionOrderLemmas.{IsExecutionOrder-IsLawf
 use Rattle.epx_types.proofs.commands.ExecutionLemmas.{length-replies}
 use Rattle.epx_types.proofs.lists.MembershipLemmas.{Contains-from_map}
 use Rattle.epx_base.specs.Bases.{IsBase}
-use Rattle.epx_base.specs.ReportLines.{header_line, done_line, reply_line, waiting_line, store_line}
+use Rattle.epx_base.specs.ReportLines.{header_line, done_line, reply_line, waiting_line}
+use Rattle.epx_base.specs.ReportLines.{store_line}
 use Rattle.epx_base.specs.ReportBases.{replied_ids, AreLinesInOrder, AreDoneAfter}
 use Rattle.epx_base.specs.ReportReadings.{ReportData, text_of_report}
 use Rattle.epx_base.proofs.ReportBaseLemmas.{report_is_a_base}
@@ -26,26 +28,32 @@ use Rattle.epx_tool.specs.ResumedReport.{IsReportAfter}
 use Rattle.epx_tool.specs.ResumptionLaws.{ReportIsAfterNothing, ReportIsBase, reported_of, run_in}
 use Rattle.epx_tool.proofs.ReportLemmas.{executed_is_left, IsReport-after_nothing}
 
-pub after_nothing : (m : List Instance) (text : List ℕ) → IsReport m text → IsReportAfter [] contents.empty m text
+pub after_nothing : (m : List Instance) (text : List ℕ) → IsReport m text
+    → IsReportAfter [] contents.empty m text
 after_nothing m text p =
     let whole = sym (remaining-nil m) in record {
       order = p.order;
       waiting = p.waiting;
       ordered = subst (λ (l : List Instance). IsExecutionOrder l p.order) whole p.ordered;
       listed = subst (λ (l : List Instance). IsWaitingList l p.waiting) whole p.listed;
-      printed = p.printed ∙ ap (λ (l : List Instance). report_text p.order p.waiting (execute (commands_of l p.order) contents.empty)) whole;
+      printed =
+          p.printed ∙ ap (λ (l : List Instance). report_text p.order p.waiting
+          (execute (commands_of l p.order) contents.empty)) whole;
     }
 
 pub report_is_after_nothing : ReportIsAfterNothing
 report_is_after_nothing m text = (after_nothing m text, IsReport-after_nothing m text)
 
 -- there are as many replies as instances
-replied_ids-zip : (ids : List Id) (replies : List Reply) → length replies ≡ length ids → replied_ids (zip ids replies) ≡ ids
+replied_ids-zip : (ids : List Id) (replies : List Reply) → length replies ≡ length ids
+    → replied_ids (zip ids replies) ≡ ids
 replied_ids-zip [] replies many = refl
 replied_ids-zip (x ∷ ids) [] many = absurd (omega (arith, many))
-replied_ids-zip (x ∷ ids) (r ∷ replies) many = ap (λ xs. x ∷ xs) (replied_ids-zip ids replies (omega (arith, many)))
+replied_ids-zip (x ∷ ids) (r ∷ replies) many =
+    ap (λ xs. x ∷ xs) (replied_ids-zip ids replies (omega (arith, many)))
 
-module _ (done : List Id) (stored : Contents) (m : List Instance) (text : List ℕ) (p : IsReportAfter done stored m text) where
+module _ (done : List Id) (stored : Contents) (m : List Instance) (text : List ℕ)
+    (p : IsReportAfter done stored m text) where
   abbrev pub run : Execution
   run = run_in done stored m text p
 
@@ -55,20 +63,26 @@ module _ (done : List Id) (stored : Contents) (m : List Instance) (text : List �
   as_many : length run.replies ≡ length (ranked_ids p.order)
   as_many =
       length-replies (commands_of (remaining done m) p.order) stored
-      ∙ length-map p.order (λ r. ops_of (instance_of (remaining done m) r.id)) ∙ sym (length-map p.order (λ (r : Ranked). r.id))
+      ∙ length-map p.order (λ r. ops_of (instance_of (remaining done m) r.id))
+      ∙ sym (length-map p.order (λ (r : Ranked). r.id))
 
   pub replied : replied_ids written.replies ≡ ranked_ids p.order
   replied = replied_ids-zip (ranked_ids p.order) run.replies as_many
 
   pub count : length written.replies ≡ length p.order
-  count = sym (length-map written.replies (λ q. q.0)) ∙ ap length replied ∙ length-map p.order (λ (r : Ranked). r.id)
+  count = sym (length-map written.replies (λ q. q.0)) ∙ ap length replied
+      ∙ length-map p.order (λ (r : Ranked). r.id)
 
   text_is : text ≡ text_of_report written
   text_is = p.printed ∙ ap (λ n. header_line n (length p.waiting) (component_count p.order)
-      ++ (flat_map done_line done ++ (flat_map reply_line written.replies ++ (flat_map waiting_line p.waiting ++ flat_map store_line (contents.entries run.final))))) (sym count)
+      ++ (flat_map done_line done
+      ++ (flat_map reply_line written.replies
+      ++ (flat_map waiting_line p.waiting ++ flat_map store_line (contents.entries run.final)))))
+      (sym count)
 
   -- an instance that waits is neither done nor executed
-  still_waits : (x : Id) → Contains (waiting_ids p.waiting) x → (¬ Contains done x) × (¬ Contains (replied_ids written.replies) x)
+  still_waits : (x : Id) → Contains (waiting_ids p.waiting) x
+      → (¬ Contains done x) × (¬ Contains (replied_ids written.replies) x)
   still_waits x h =
       let w = Contains-from_map (λ (w : Waiting). w.id) p.waiting x h in
       let waits = p.listed.waits w.0 w.1 in
@@ -76,27 +90,38 @@ module _ (done : List Id) (stored : Contents) (m : List Instance) (text : List �
         subst (λ (y : Id). ¬ Contains done y) w.2 left,
         λ executed.
             let here = subst (λ (xs : List Id). Contains xs x) replied executed in
-            let ready = (IsExecutionOrder-IsLawful (remaining done m) p.order p.ordered).only x here in
+            let ready = (IsExecutionOrder-IsLawful (remaining done m) p.order p.ordered).only x
+            here in
             let again = subst (λ (y : Id). Contains (ranked_ids p.order) y) (sym w.2) here in
-            waits.missing (((IsExecutionOrder-IsLawful (remaining done m) p.order p.ordered).only w.0.id again).complete w.0.missing waits.reached),
+            waits.missing
+            (((IsExecutionOrder-IsLawful (remaining done m) p.order p.ordered).only w.0.id
+            again).complete w.0.missing waits.reached),
       )
 
   in_order : IsRising done → AreLinesInOrder written
   in_order rising = record {
     done_rise = rising;
-    replied_once = subst (AllPairs (λ x y. x ≢ y)) (sym replied) (IsExecutionOrder-IsLawful (remaining done m) p.order p.ordered).once;
-    replied_new = λ x h. executed_is_left done m p.order p.ordered (ranked_ids p.order) refl x (subst (λ (xs : List Id). Contains xs x) replied h);
+    replied_once = subst (AllPairs (λ x y. x ≢ y)) (sym replied)
+        (IsExecutionOrder-IsLawful (remaining done m) p.order p.ordered).once;
+    replied_new = λ x h. executed_is_left done m p.order p.ordered (ranked_ids p.order) refl x
+        (subst (λ (xs : List Id). Contains xs x) replied h);
     waiting_rise = p.listed.rising;
     waiting_left = still_waits;
   }
 
-  done_after : (now : List Id) → IsRising now → ((x : Id) → Contains now x ↔ Contains done x ⊎ Contains (ranked_ids p.order) x) → AreDoneAfter written now
+  done_after : (now : List Id) → IsRising now
+      → ((x : Id) → Contains now x ↔ Contains done x ⊎ Contains (ranked_ids p.order) x)
+      → AreDoneAfter written now
   done_after now rising each = record {
     rising = rising;
-    each = λ x. subst (λ (xs : List Id). Contains now x ↔ Contains done x ⊎ Contains xs x) (sym replied) (each x);
+    each = λ x. subst (λ (xs : List Id). Contains now x ↔ Contains done x ⊎ Contains xs x)
+        (sym replied) (each x);
   }
 
 pub report_is_base : ReportIsBase
 report_is_base done stored m text p rising fits now nows each =
-    subst (λ (bytes : List ℕ). IsBase bytes now (run_in done stored m text p).final) (sym (text_is done stored m text p))
-    (report_is_a_base (written done stored m text p) now (run_in done stored m text p).final fits (in_order done stored m text p rising) (done_after done stored m text p now nows each) refl)
+    subst (λ (bytes : List ℕ). IsBase bytes now (run_in done stored m text p).final)
+    (sym (text_is done stored m text p))
+    (report_is_a_base (written done stored m text p) now (run_in done stored m text p).final fits
+    (in_order done stored m text p rising) (done_after done stored m text p now nows each)
+    refl)

@@ -1,5 +1,6 @@
 -- The report, the order and the levels of a committed map, from the results of the lower layers.
-use Rattle.std.proofs.Common.{◌≡◌, ◌≤◌, ◌^◌, ℕ, List, [], Option, Some, None, MatchOption, inl, inr, map, length, sym, ap, ap₂, ◌∙◌, subst, arith, Contains}
+use Rattle.std.proofs.Common.{◌≡◌, ◌≤◌, ◌^◌, ℕ, List, [], Option, Some, None, MatchOption, inl}
+use Rattle.std.proofs.Common.{inr, map, length, sym, ap, ap₂, ◌∙◌, subst, arith, Contains}
 use Rattle.std.specs.FinMap as contents
 use Rattle.std.proofs.lemmas.List.{length-map}
 use Rattle.epx_types.specs.declared.id.Id.{Id}
@@ -26,59 +27,88 @@ use Rattle.epx_tool.proofs.OrderLengthLemmas.{ordered_are_few}
 use Rattle.epx_tool.proofs.OrderCommandLemmas.{commands_by_id, commands_are}
 use Rattle.epx_tool.proofs.RemainingCommandLemmas.{commands-left, length-remaining}
 
-module _ (done : List Id) (m : List Instance) (order : List Ranked) (ordered : IsExecutionOrder (remaining done m) order) (ids : List Id) (are : ids ≡ ranked_ids order) where
-  pub few_commands : length m ≤ max_instances → {C : Type 0} (ops : C → List Op) (commands : List C) → map ops commands ≡ commands_by_id m ids → length commands ≤ 2 ^ 40
+module _ (done : List Id) (m : List Instance) (order : List Ranked)
+    (ordered : IsExecutionOrder (remaining done m) order) (ids : List Id)
+    (are : ids ≡ ranked_ids order) where
+  pub few_commands : length m ≤ max_instances
+      → {C : Type 0} (ops : C → List Op) (commands : List C)
+      → map ops commands ≡ commands_by_id m ids → length commands ≤ 2 ^ 40
   few_commands few ops commands e =
       let many : length commands ≡ length order =
-      sym (length-map commands ops) ∙ ap length e ∙ length-map ids (λ x. ops_of (instance_of m x)) ∙ ap length are ∙ length-map order (λ (r : Ranked). r.id) in
-      omega (arith, many, few, ordered_are_few (remaining done m) order ordered, length-remaining done m)
+      sym (length-map commands ops) ∙ ap length e ∙ length-map ids (λ x. ops_of (instance_of m x))
+      ∙ ap length are ∙ length-map order (λ (r : Ranked). r.id) in
+      omega (
+        arith,
+        many,
+        few,
+        ordered_are_few (remaining done m) order ordered,
+        length-remaining done m,
+      )
 
   -- an instance that is executed is not done
   pub executed_is_left : (x : Id) → Contains ids x → ¬ Contains done x
   executed_is_left x there =
-      let ready = (IsExecutionOrder-IsLawful (remaining done m) order ordered).only x (subst (λ (xs : List Id). Contains xs x) are there) in
+      let ready = (IsExecutionOrder-IsLawful (remaining done m) order ordered).only x
+      (subst (λ (xs : List Id). Contains xs x) are there) in
       ((Contains-remaining_iff done m x).0 ready.committed).1
 
-  pub IsReportAfter-printed : (stored : Contents) (waiting : List Waiting) (commands : List (List Op)) (replies : List Reply) (final : Contents) (text : List ℕ)
+  pub IsReportAfter-printed : (stored : Contents) (waiting : List Waiting)
+      (commands : List (List Op)) (replies : List Reply) (final : Contents) (text : List ℕ)
       → IsWaitingList (remaining done m) waiting → commands ≡ commands_by_id m ids
       → replies ≡ (execute commands stored).replies → final ≡ (execute commands stored).final
-      → text ≡ resumed_text done order waiting (record { replies = replies; final = final }) → IsReportAfter done stored m text
-  IsReportAfter-printed stored waiting commands replies final text listed e_commands e_replies e_final e_text = record {
-    order = order;
-    waiting = waiting;
-    ordered = ordered;
-    listed = listed;
-    printed = e_text ∙ ap₂ (λ rs f. resumed_text done order waiting (record { replies = rs; final = f }))
-        (e_replies ∙ ap (λ cs. (execute cs stored).replies) all) (e_final ∙ ap (λ cs. (execute cs stored).final) all);
-  } where
-    all : commands ≡ commands_of (remaining done m) order
-    all = commands_are (remaining done m) order ids commands are (e_commands ∙ sym (commands-left done m ids executed_is_left))
+      → text ≡ resumed_text done order waiting (record { replies = replies; final = final })
+      → IsReportAfter done stored m text
+  IsReportAfter-printed stored waiting commands replies final text listed e_commands e_replies
+      e_final e_text = record {
+        order = order;
+        waiting = waiting;
+        ordered = ordered;
+        listed = listed;
+        printed =
+            e_text ∙ ap₂ (λ rs f. resumed_text done order waiting
+            (record { replies = rs; final = f }))
+            (e_replies ∙ ap (λ cs. (execute cs stored).replies) all)
+            (e_final ∙ ap (λ cs. (execute cs stored).final) all);
+      } where
+        all : commands ≡ commands_of (remaining done m) order
+        all = commands_are (remaining done m) order ids commands are
+            (e_commands ∙ sym (commands-left done m ids executed_is_left))
 
 -- a report after nothing is done, from the empty store, is the report of the map
-pub IsReport-after_nothing : (m : List Instance) (text : List ℕ) → IsReportAfter [] contents.empty m text → IsReport m text
+pub IsReport-after_nothing : (m : List Instance) (text : List ℕ)
+    → IsReportAfter [] contents.empty m text → IsReport m text
 IsReport-after_nothing m text p =
     let whole = remaining-nil m in record {
       order = p.order;
       waiting = p.waiting;
       ordered = subst (λ (l : List Instance). IsExecutionOrder l p.order) whole p.ordered;
       listed = subst (λ (l : List Instance). IsWaitingList l p.waiting) whole p.listed;
-      printed = p.printed ∙ ap (λ (l : List Instance). report_text p.order p.waiting (execute (commands_of l p.order) contents.empty)) whole;
+      printed =
+          p.printed ∙ ap (λ (l : List Instance). report_text p.order p.waiting
+          (execute (commands_of l p.order) contents.empty)) whole;
     }
 
-pub IsLevelText-printed : (m : List Instance) (order : List Ranked) (waiting : List Waiting) (commands : List (List Op)) (ids : List Id) (levels : List ℕ) (text : List ℕ)
-    → IsExecutionOrder m order → IsWaitingList m waiting → ids ≡ ranked_ids order → commands ≡ commands_by_id m ids → AreLevels commands levels
+pub IsLevelText-printed : (m : List Instance) (order : List Ranked) (waiting : List Waiting)
+    (commands : List (List Op)) (ids : List Id) (levels : List ℕ) (text : List ℕ)
+    → IsExecutionOrder m order → IsWaitingList m waiting → ids ≡ ranked_ids order
+    → commands ≡ commands_by_id m ids → AreLevels commands levels
     → text ≡ level_text order levels waiting → IsLevelText m text
-IsLevelText-printed m order waiting commands ids levels text ordered listed e_ids e_commands levelled printed = record {
-  order = order;
-  levels = levels;
-  waiting = waiting;
-  ordered = ordered;
-  levelled = subst (λ cs. AreLevels cs levels) (commands_are m order ids commands e_ids e_commands) levelled;
-  listed = listed;
-  printed = printed;
-}
+IsLevelText-printed m order waiting commands ids levels text ordered listed e_ids e_commands
+    levelled printed = record {
+      order = order;
+      levels = levels;
+      waiting = waiting;
+      ordered = ordered;
+      levelled = subst (λ cs. AreLevels cs levels)
+          (commands_are m order ids commands e_ids e_commands)
+          levelled;
+      listed = listed;
+      printed = printed;
+    }
 
-pub IsAuditText-printed : (m : List Instance) (found : Option (Id × Id)) (text : List ℕ) → MatchOption found (IsCovered m) (λ p. IsLeastUncovered m p.0 p.1)
-    → MatchOption found (text ≡ covered_line) (λ p. text ≡ uncovered_line p.0 p.1) → IsAuditText m text
+pub IsAuditText-printed : (m : List Instance) (found : Option (Id × Id)) (text : List ℕ)
+    → MatchOption found (IsCovered m) (λ p. IsLeastUncovered m p.0 p.1)
+    → MatchOption found (text ≡ covered_line) (λ p. text ≡ uncovered_line p.0 p.1)
+    → IsAuditText m text
 IsAuditText-printed m None text covered printed = inl (covered, printed)
 IsAuditText-printed m (Some p) text least printed = inr (p.0, p.1, least, printed)

@@ -1,5 +1,7 @@
 -- The numbers and texts of a report of accepted logs are within their limits.
-use Rattle.std.proofs.Common.{◌≡◌, ◌≢◌, ℕ, suc, ◌≤◌, ◌++◌, cond, T, ℤ, w64, List, [], ◌∷◌, length, zip, get_or, AllPairs, Contains, IsUtf8, Option, Some, None, Result, Ok, Err, inl, inr, sym, ap, ◌∙◌, subst, arith}
+use Rattle.std.proofs.Common.{◌≡◌, ◌≢◌, ℕ, suc, ◌≤◌, ◌++◌, cond, T, ℤ, w64, List, [], ◌∷◌, length}
+use Rattle.std.proofs.Common.{zip, get_or, AllPairs, Contains, IsUtf8, Option, Some, None, Result}
+use Rattle.std.proofs.Common.{Ok, Err, inl, inr, sym, ap, ◌∙◌, subst, arith}
 use Rattle.std.specs.Prelude.{FitsSigned}
 use Rattle.std.specs.List.{AllByRecursion}
 use Rattle.std.specs.Ordering.{is_eq}
@@ -24,10 +26,13 @@ use Rattle.epx_types.specs.Done.{remaining}
 use Rattle.epx_types.specs.ExecutionOrder.{Ranked, ranked_ids}
 use Rattle.epx_types.specs.WaitingLists.{Waiting, waiting_ids}
 use Rattle.epx_types.proofs.lists.ComparisonLemmas.{id_cmp_total}
-use Rattle.epx_types.proofs.remaining.RemainingLemmas.{Contains-remaining_iff, DependsOn-remaining, from_remaining}
+use Rattle.epx_types.proofs.remaining.RemainingLemmas.{Contains-remaining_iff, DependsOn-remaining}
+use Rattle.epx_types.proofs.remaining.RemainingLemmas.{from_remaining}
 use Rattle.epx_types.proofs.orders.ExecutionOrderLemmas.{IsExecutionOrder-IsLawful}
 use Rattle.epx_types.proofs.keys.KeyListLemmas.{key_cmp_total}
-use Rattle.epx_types.proofs.lists.MembershipLemmas.{Contains-nil, Contains-head, Contains-cons, Contains-cons_cases, Contains-from_map, Contains-from_flat_map}
+use Rattle.epx_types.proofs.lists.MembershipLemmas.{Contains-nil, Contains-head, Contains-cons}
+use Rattle.epx_types.proofs.lists.MembershipLemmas.{Contains-cons_cases, Contains-from_map}
+use Rattle.epx_types.proofs.lists.MembershipLemmas.{Contains-from_flat_map}
 use Rattle.epx_types.proofs.lists.RisingIdLemmas.{AllPairs-from_IsRising}
 use Rattle.epx_types.proofs.keys.SortedEntryLemmas.{same_key, find_below, first_of, second_of}
 use Rattle.epx_types.proofs.lists.TotalOrderLemmas.{below_irrefl}
@@ -40,7 +45,8 @@ use Rattle.epx_merge.specs.LogLines.{MeaningAt, meanings_in, meanings_from, mean
 use Rattle.epx_merge.specs.Acceptance.{IsAccepted}
 use Rattle.epx_base.specs.ReportReadings.{FitsNumbers, FitsReply, FitsReportData}
 use Rattle.epx_base.proofs.JsonStringLemmas.{by_test}
-use Rattle.epx_base.proofs.LineRangeLemmas.{IsStoreKey, FitsCommand, FitsInstance, IfEntry, line_fits, of_all}
+use Rattle.epx_base.proofs.LineRangeLemmas.{IsStoreKey, FitsCommand, FitsInstance, IfEntry}
+use Rattle.epx_base.proofs.LineRangeLemmas.{line_fits, of_all}
 use Rattle.epx_base.proofs.BaseRangeLemmas.{FitsBase}
 use Rattle.epx_base.proofs.ExecutionRangeLemmas.{execute_fits}
 use Rattle.epx_tool.specs.Report.{ops_of, commands_of}
@@ -60,7 +66,8 @@ each_holds P (x ∷ xs) h =
 
 -- the instance of a line, if it has one, is within the limits
 CommitsFitting : MeaningAt → Type 0
-CommitsFitting l = (p : Placed) → Contains (placed_at l.place l.meaning) p → FitsInstance p.instance
+CommitsFitting l = (p : Placed) → Contains (placed_at l.place l.meaning) p
+    → FitsInstance p.instance
 
 placed_fits : (place : Place) (r : Result Line Why) → IfEntry r → (p : Placed)
     → Contains (placed_at place r) p → FitsInstance p.instance
@@ -242,7 +249,8 @@ module _ (done : List Id) (stored : Contents) (m : List Instance) (text : List �
         waiting_counted = omega (arith, fewer_left, waiting, few);
         few_components = omega (arith, many, components);
         done_fit = All-from_recursion FitsNumbers done (each_holds FitsNumbers done base.done);
-        replies_fit = All-from_recursion FitsReplied _ (zip_fits (ranked_ids p.order) _ ids_fit run.replies);
+        replies_fit = All-from_recursion FitsReplied _
+            (zip_fits (ranked_ids p.order) _ ids_fit run.replies);
         waiting_fit = All-from_recursion FitsWaiting p.waiting waiting_fits;
         stored_fit = All-from_recursion IsStoredPair (contents.entries final) stored_fits;
       }

@@ -1,5 +1,6 @@
 -- Each answer is a base, and resumed runs have the replies and the store of the whole.
-use Rattle.std.proofs.Common.{◌≡◌, ◌⊎◌, ◌↔◌, ℕ, zero, suc, List, [], ◌∷◌, Contains, Some, slice_get, zip, inl, inr, sym, ap, ap₂, ◌∙◌, subst}
+use Rattle.std.proofs.Common.{◌≡◌, ◌⊎◌, ◌↔◌, ℕ, zero, suc, List, [], ◌∷◌, Contains, Some}
+use Rattle.std.proofs.Common.{slice_get, zip, inl, inr, sym, ap, ap₂, ◌∙◌, subst}
 use Rattle.std.specs.FinMap as contents
 use Rattle.epx_types.specs.declared.id.Id.{Id}
 use Rattle.epx_types.specs.Ids.{IsRising}
@@ -14,8 +15,11 @@ use Rattle.epx_types.specs.Readiness.{IsReady}
 use Rattle.epx_types.specs.Sound.{IsSound, HasRemaining}
 use Rattle.epx_types.proofs.remaining.RemainingLemmas.{remaining-nil}
 use Rattle.epx_types.proofs.orders.ExecutionOrderLemmas.{IsExecutionOrder-IsLawful}
-use Rattle.epx_types.proofs.lists.MembershipLemmas.{Contains-nil, Contains-head, Contains-cons, Contains-cons_cases}
-use Rattle.epx_types.proofs.remaining.ResumedExecutionLemmas.{IsSound-nothing_done, IsSound-resumed, IsSound-final, reply-resumed}
+use Rattle.epx_types.proofs.lists.MembershipLemmas.{Contains-nil, Contains-head, Contains-cons}
+use Rattle.epx_types.proofs.lists.MembershipLemmas.{Contains-cons_cases}
+use Rattle.epx_types.proofs.remaining.ResumedExecutionLemmas.{IsSound-nothing_done}
+use Rattle.epx_types.proofs.remaining.ResumedExecutionLemmas.{IsSound-resumed, IsSound-final}
+use Rattle.epx_types.proofs.remaining.ResumedExecutionLemmas.{reply-resumed}
 use Rattle.epx_merge.specs.Acceptance.{IsAccepted}
 use Rattle.epx_merge.proofs.UniquenessLemmas.{accepted_unique}
 use Rattle.epx_base.specs.Bases.{IsBase}
@@ -26,7 +30,10 @@ use Rattle.epx_base.proofs.ReportBaseLemmas.{done_after_exists}
 use Rattle.epx_tool.specs.Report.{commands_of}
 use Rattle.epx_tool.specs.ResumedReport.{IsReportAfter}
 use Rattle.epx_tool.specs.Resumption.{IsResumedText}
-use Rattle.epx_tool.specs.ResumableAnswers.{HasBaseAfter, AnswerIsBase, ResumptionIsBase, IsSoundBase, ReportOfAPartIsSound, ResumedReportIsSound, ResumedReportRepeatsTheWhole, LastReportIsTheWhole}
+use Rattle.epx_tool.specs.ResumableAnswers.{HasBaseAfter, AnswerIsBase, ResumptionIsBase}
+use Rattle.epx_tool.specs.ResumableAnswers.{IsSoundBase, ReportOfAPartIsSound}
+use Rattle.epx_tool.specs.ResumableAnswers.{ResumedReportIsSound, ResumedReportRepeatsTheWhole}
+use Rattle.epx_tool.specs.ResumableAnswers.{LastReportIsTheWhole}
 use Rattle.epx_tool.proofs.AcceptedLogLemmas.{accepted_are_few}
 use Rattle.epx_tool.proofs.LawfulListLemmas.{commands_of-in}
 use Rattle.epx_tool.proofs.ReportBaseLemmas.{after_nothing, report_is_base, written, replied}
@@ -110,7 +117,8 @@ report_of_a_part_is_sound m rising logs part accepted within text answer =
 pub resumed_report_is_sound : ResumedReportIsSound
 resumed_report_is_sound m base logs text g resumed =
     let b = g.before in
-    let left = resumption_is_base base logs text resumed b.done b.stored b.base g.rest g.accepted in
+    let left = resumption_is_base base logs text resumed b.done b.stored b.base g.rest
+    g.accepted in
     left_is_sound m g.rising b.done b.stored b.sound g.rest g.has text left
 
 -- ---- the replies and the final store of resumed runs

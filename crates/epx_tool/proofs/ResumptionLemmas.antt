@@ -10,7 +10,8 @@ use Rattle.epx_types.specs.Execution.{execute}
 use Rattle.epx_types.proofs.remaining.RemainingLemmas.{IsRising-remaining}
 use Rattle.epx_types.proofs.orders.ExecutionOrderLemmas.{IsExecutionOrder-unique}
 use Rattle.epx_types.proofs.graph.WaitingListLemmas.{IsWaitingList-unique}
-use Rattle.epx_types.proofs.orders.OrderExistenceLemmas.{execution_order_exists, waiting_list_exists}
+use Rattle.epx_types.proofs.orders.OrderExistenceLemmas.{execution_order_exists}
+use Rattle.epx_types.proofs.orders.OrderExistenceLemmas.{waiting_list_exists}
 use Rattle.epx_base.specs.Bases.{IsBadBase}
 use Rattle.epx_base.proofs.BaseLemmas.{base_or_bad_base}
 use Rattle.epx_tool.specs.Report.{commands_of}
@@ -20,19 +21,30 @@ use Rattle.epx_tool.specs.ResumptionLaws.{ResumptionExists, ResumptionIsOne}
 use Rattle.epx_tool.proofs.AnswerWithInputLemmas.{answer_with_input_exists}
 use Rattle.epx_tool.proofs.UniqueAnswerWithInputLemmas.{AnswersWithInput-unique}
 
-IsReportAfter-unique : (done : List Id) (stored : Contents) (m : List Instance) (text other : List ℕ) → IsReportAfter done stored m text → IsReportAfter done stored m other → text ≡ other
+IsReportAfter-unique : (done : List Id) (stored : Contents) (m : List Instance)
+    (text other : List ℕ) → IsReportAfter done stored m text → IsReportAfter done stored m other
+    → text ≡ other
 IsReportAfter-unique done stored m text other p q =
     let order = IsExecutionOrder-unique (remaining done m) p.order q.order p.ordered q.ordered in
     let waiting = IsWaitingList-unique (remaining done m) p.waiting q.waiting p.listed q.listed in
-    p.printed ∙ ap₂ (λ o w. resumed_text done o w (execute (commands_of (remaining done m) o) stored)) order waiting ∙ sym q.printed
+    p.printed ∙ ap₂ (λ o w. resumed_text done o w
+    (execute (commands_of (remaining done m) o) stored)) order waiting ∙ sym q.printed
 
-report_after_exists : (done : List Id) (stored : Contents) (m : List Instance) → IsRising (ids_of m) → (text : List ℕ) × IsReportAfter done stored m text
+report_after_exists : (done : List Id) (stored : Contents) (m : List Instance)
+    → IsRising (ids_of m) → (text : List ℕ) × IsReportAfter done stored m text
 report_after_exists done stored m rising =
     let left = IsRising-remaining done m rising in
     let order = execution_order_exists (remaining done m) left in
     let waiting = waiting_list_exists (remaining done m) left in (
-      resumed_text done order.0 waiting.0 (execute (commands_of (remaining done m) order.0) stored),
-      record { order = order.0; waiting = waiting.0; ordered = order.1; listed = waiting.1; printed = refl },
+      resumed_text done order.0 waiting.0
+          (execute (commands_of (remaining done m) order.0) stored),
+      record {
+        order = order.0;
+        waiting = waiting.0;
+        ordered = order.1;
+        listed = waiting.1;
+        printed = refl;
+      },
     )
 
 -- ---- one answer
@@ -41,10 +53,12 @@ module _ (base : List ℕ) where
   bad_line_one : (line other : ℕ) → IsBadBase base line → IsBadBase base other → line ≡ other
   bad_line_one line other p q = cc (p, q)
 
-  no_bad_base : (m : List Instance) (text : List ℕ) (line : ℕ) → IsResumedText base m text → ¬ IsBadBase base line
+  no_bad_base : (m : List Instance) (text : List ℕ) (line : ℕ) → IsResumedText base m text
+      → ¬ IsBadBase base line
   no_bad_base m text line p bad = let read = p.2.read in cc (read, bad)
 
-  resumed_one : (m : List Instance) (text other : List ℕ) → IsResumedText base m text → IsResumedText base m other → text ≡ other
+  resumed_one : (m : List Instance) (text other : List ℕ) → IsResumedText base m text
+      → IsResumedText base m other → text ≡ other
   resumed_one m text other p q =
       let a = p.2.read in
       let b = q.2.read in
@@ -52,20 +66,27 @@ module _ (base : List ℕ) where
       let done : p.0 ≡ q.0 = cc (seen, p.2.done_is, q.2.done_is) in
       let stored : p.1 ≡ q.1 = cc (seen, p.2.stored_is, q.2.stored_is) in
       let P : List Id → Contents → Type 0 = λ d s. IsReportAfter d s m text in
-      IsReportAfter-unique q.0 q.1 m text other (subst (λ (s : Contents). P q.0 s) stored (subst (λ (d : List Id). P d p.1) done p.3)) q.3
+      IsReportAfter-unique q.0 q.1 m text other
+      (subst (λ (s : Contents). P q.0 s) stored (subst (λ (d : List Id). P d p.1) done p.3))
+      q.3
 
 pub resumption_is_one : ResumptionIsOne
 resumption_is_one base logs =
-    AnswersWithInput-unique IsBadBase base logs (bad_line_one base) IsResumedText (resumed_one base) (no_bad_base base)
+    AnswersWithInput-unique IsBadBase base logs (bad_line_one base) IsResumedText
+    (resumed_one base) (no_bad_base base)
 
 -- ---- an answer
 
-report_or_bad : (base : List ℕ) → ((m : List Instance) → IsRising (ids_of m) → (text : List ℕ) × IsResumedText base m text) ⊎ ((line : ℕ) × IsBadBase base line)
+report_or_bad : (base : List ℕ)
+    → ((m : List Instance) → IsRising (ids_of m) → (text : List ℕ) × IsResumedText base m text)
+    ⊎ ((line : ℕ) × IsBadBase base line)
 report_or_bad base =
     elim (base_or_bad_base base) [
-      | inl is ↦ inl (λ m rising. let text = report_after_exists is.0 is.1 m rising in (text.0, (is.0, is.1, is.2, text.1)))
+      | inl is ↦ inl (λ m rising. let text = report_after_exists is.0 is.1 m rising in
+          (text.0, (is.0, is.1, is.2, text.1)))
       | inr bad ↦ inr bad
     ]
 
 pub resumption_exists : ResumptionExists
-resumption_exists base logs = answer_with_input_exists IsBadBase IsResumedText base (report_or_bad base) logs
+resumption_exists base logs = answer_with_input_exists IsBadBase IsResumedText base
+    (report_or_bad base) logs

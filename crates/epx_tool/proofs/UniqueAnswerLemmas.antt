@@ -1,5 +1,6 @@
 -- Logs have at most one answer.
-use Rattle.std.proofs.Common.{◌≡◌, ◌≢◌, ℕ, List, Result, Ok, Err, inl, inr, sym, ap, ap₂, ◌∙◌, subst}
+use Rattle.std.proofs.Common.{◌≡◌, ◌≢◌, ℕ, List, Result, Ok, Err, inl, inr, sym, ap, ap₂, ◌∙◌}
+use Rattle.std.proofs.Common.{subst}
 use Rattle.std.specs.FinMap as contents
 use Rattle.epx_types.specs.declared.fault.Fault.{Fault}
 use Rattle.epx_types.specs.declared.fault.Fault.TheVariants.{Memory}
@@ -9,7 +10,8 @@ use Rattle.epx_types.proofs.orders.ExecutionOrderLemmas.{IsExecutionOrder-unique
 use Rattle.epx_types.specs.Levels.{AreLevels}
 use Rattle.epx_types.proofs.levels.LevelLemmas.{AreLevels-unique}
 use Rattle.epx_types.proofs.graph.WaitingListLemmas.{IsWaitingList-unique}
-use Rattle.epx_merge.proofs.UniquenessLemmas.{accepted_unique, accepted_not_refused, refusal_unique}
+use Rattle.epx_merge.proofs.UniquenessLemmas.{accepted_unique, accepted_not_refused}
+use Rattle.epx_merge.proofs.UniquenessLemmas.{refusal_unique}
 use Rattle.epx_tool.specs.Report.{IsReport, report_text, commands_of}
 use Rattle.epx_tool.specs.OrderText.{IsOrderText, order_text}
 use Rattle.epx_tool.specs.LevelText.{IsLevelText, level_text}
@@ -21,33 +23,44 @@ use Rattle.epx_tool.specs.declared.ask.Ask.TheVariants.{Order, Levels, Audit, Gr
 use Rattle.epx_tool.specs.Views.{IsViewText}
 use Rattle.epx_tool.specs.Answer.{Answers}
 
-pub IsReport-unique : (m : List Instance) (text other : List ℕ) → IsReport m text → IsReport m other → text ≡ other
+pub IsReport-unique : (m : List Instance) (text other : List ℕ) → IsReport m text
+    → IsReport m other → text ≡ other
 IsReport-unique m text other p q =
     let order = IsExecutionOrder-unique m p.order q.order p.ordered q.ordered in
     let waiting = IsWaitingList-unique m p.waiting q.waiting p.listed q.listed in
-    p.printed ∙ ap₂ (λ o w. report_text o w (execute (commands_of m o) contents.empty)) order waiting ∙ sym q.printed
+    p.printed ∙ ap₂ (λ o w. report_text o w (execute (commands_of m o) contents.empty)) order
+    waiting ∙ sym q.printed
 
-pub IsOrderText-unique : (m : List Instance) (text other : List ℕ) → IsOrderText m text → IsOrderText m other → text ≡ other
+pub IsOrderText-unique : (m : List Instance) (text other : List ℕ) → IsOrderText m text
+    → IsOrderText m other → text ≡ other
 IsOrderText-unique m text other p q =
     let order = IsExecutionOrder-unique m p.order q.order p.ordered q.ordered in
     let waiting = IsWaitingList-unique m p.waiting q.waiting p.listed q.listed in
     p.printed ∙ ap₂ order_text order waiting ∙ sym q.printed
 
-pub IsLevelText-unique : (m : List Instance) (text other : List ℕ) → IsLevelText m text → IsLevelText m other → text ≡ other
+pub IsLevelText-unique : (m : List Instance) (text other : List ℕ) → IsLevelText m text
+    → IsLevelText m other → text ≡ other
 IsLevelText-unique m text other p q =
     let order = IsExecutionOrder-unique m p.order q.order p.ordered q.ordered in
     let waiting = IsWaitingList-unique m p.waiting q.waiting p.listed q.listed in
-    let levels = AreLevels-unique (commands_of m q.order) p.levels q.levels (subst (λ o. AreLevels (commands_of m o) p.levels) order p.levelled) q.levelled in
-    p.printed ∙ ap₂ (λ o w. level_text o p.levels w) order waiting ∙ ap (λ ls. level_text q.order ls q.waiting) levels ∙ sym q.printed
+    let levels = AreLevels-unique (commands_of m q.order) p.levels q.levels
+    (subst (λ o. AreLevels (commands_of m o) p.levels) order p.levelled) q.levelled in
+    p.printed ∙ ap₂ (λ o w. level_text o p.levels w) order waiting
+    ∙ ap (λ ls. level_text q.order ls q.waiting) levels ∙ sym q.printed
 
-pub IsAuditText-unique : (m : List Instance) (text other : List ℕ) → IsAuditText m text → IsAuditText m other → text ≡ other
+pub IsAuditText-unique : (m : List Instance) (text other : List ℕ) → IsAuditText m text
+    → IsAuditText m other → text ≡ other
 IsAuditText-unique m text other (inl p) (inl q) = p.1 ∙ sym q.1
-IsAuditText-unique m text other (inl p) (inr q) = absurd (uncovered_not_covered m q.0 q.1 q.2.uncovered p.0)
-IsAuditText-unique m text other (inr p) (inl q) = absurd (uncovered_not_covered m p.0 p.1 p.2.uncovered q.0)
+IsAuditText-unique m text other (inl p) (inr q) =
+    absurd (uncovered_not_covered m q.0 q.1 q.2.uncovered p.0)
+IsAuditText-unique m text other (inr p) (inl q) =
+    absurd (uncovered_not_covered m p.0 p.1 p.2.uncovered q.0)
 IsAuditText-unique m text other (inr p) (inr q) =
-    let same = least_uncovered_is_one m p.0 p.1 q.0 q.1 p.2 q.2 in p.3 ∙ ap₂ uncovered_line same.0 same.1 ∙ sym q.3
+    let same = least_uncovered_is_one m p.0 p.1 q.0 q.1 p.2 q.2 in
+    p.3 ∙ ap₂ uncovered_line same.0 same.1 ∙ sym q.3
 
-pub IsViewText-unique : (ask : Ask) (m : List Instance) (text other : List ℕ) → IsViewText ask m text → IsViewText ask m other → text ≡ other
+pub IsViewText-unique : (ask : Ask) (m : List Instance) (text other : List ℕ)
+    → IsViewText ask m text → IsViewText ask m other → text ≡ other
 IsViewText-unique Order = IsOrderText-unique
 IsViewText-unique Levels = IsLevelText-unique
 IsViewText-unique Audit = IsAuditText-unique
@@ -55,11 +68,16 @@ IsViewText-unique Graph = picture_is_one
 
 -- if each committed map has at most one text, logs have at most one answer, except for out of
 -- memory
-module _ (Is : List Instance → List ℕ → Type 0) (one : (m : List Instance) (text other : List ℕ) → Is m text → Is m other → text ≡ other) where
-  pub Answers-unique : (logs : List (List ℕ)) (a b : Result (List ℕ) Fault) → a ≢ Err Memory → b ≢ Err Memory → Answers Is logs a → Answers Is logs b → a ≡ b
+module _ (Is : List Instance → List ℕ → Type 0)
+    (one : (m : List Instance) (text other : List ℕ) → Is m text → Is m other → text ≡ other) where
+  pub Answers-unique : (logs : List (List ℕ)) (a b : Result (List ℕ) Fault) → a ≢ Err Memory
+      → b ≢ Err Memory → Answers Is logs a → Answers Is logs b → a ≡ b
   Answers-unique logs (Ok text) (Ok other) s t p q =
       let same = accepted_unique logs p.0 q.0 p.1 q.1 in
       ap Ok (one q.0 text other (subst (λ m. Is m text) same p.2) q.2)
-  Answers-unique logs (Ok text) (Err fault) s t p q = absurd (t (ap Err (accepted_not_refused logs p.0 fault p.1 q)))
-  Answers-unique logs (Err fault) (Ok text) s t p q = absurd (s (ap Err (accepted_not_refused logs q.0 fault q.1 p)))
-  Answers-unique logs (Err fault) (Err other) s t p q = ap Err (refusal_unique logs fault other (λ e. s (ap Err e)) (λ e. t (ap Err e)) p q)
+  Answers-unique logs (Ok text) (Err fault) s t p q =
+      absurd (t (ap Err (accepted_not_refused logs p.0 fault p.1 q)))
+  Answers-unique logs (Err fault) (Ok text) s t p q =
+      absurd (s (ap Err (accepted_not_refused logs q.0 fault q.1 p)))
+  Answers-unique logs (Err fault) (Err other) s t p q =
+      ap Err (refusal_unique logs fault other (λ e. s (ap Err e)) (λ e. t (ap Err e)) p q)

@@ -9,7 +9,8 @@ use Rattle.epx_tool.specs.Delivered.{EachDelivers, StopsReading}
 
 -- the sources of all logs delivered them, none too long; reading stopped at the extra input, whose
 -- number is the number of logs
-pub record StopsAtInput {I S : Type 0} (input_reads : ReadRelation I) (input_fails : FailRelation I)
+pub record StopsAtInput {I S : Type 0} (input_reads : ReadRelation I)
+    (input_fails : FailRelation I)
     (reads : ReadRelation S) (first last : I) (old new : List S) (fault : Fault) : Type 0 where
   pub logs : List (List ℕ)
   pub delivered : EachDelivers reads old new logs
@@ -36,7 +37,8 @@ pub record AnswersBoth {I S : Type 0} (input_reads : ReadRelation I) (reads : Re
 
 -- an extra input and logs were delivered, and the fault is their refusal
 pub record RefusesBoth {I S : Type 0} (input_reads : ReadRelation I) (reads : ReadRelation S)
-    (IsBad : List ℕ → ℕ → Type 0) (first last : I) (old new : List S) (fault : Fault) : Type 0 where
+    (IsBad : List ℕ → ℕ → Type 0) (first last : I) (old new : List S) (fault : Fault) : Type
+    0 where
   pub input : List ℕ
   pub logs : List (List ℕ)
   pub delivered : DeliversBoth input_reads reads first last old new input logs

@@ -1,7 +1,8 @@
 -- A run: logs are read from sources, and the answer to them is written to a sink.
 use Rattle.std.specs.Prelude.{◌≡◌, ℕ, ◌<◌, ◌≤◌, List, map, length, slice_get, Option, Some, Ok}
 use Rattle.epx_types.specs.declared.fault.Fault.{Fault}
-use Rattle.epx_types.specs.declared.fault.Fault.TheVariants.{Memory, TooManyLogs, LogTooLong, Read, Write}
+use Rattle.epx_types.specs.declared.fault.Fault.TheVariants.{Memory, TooManyLogs, LogTooLong, Read}
+use Rattle.epx_types.specs.declared.fault.Fault.TheVariants.{Write}
 use Rattle.epx_types.specs.Instances.{Instance}
 use Rattle.epx_merge.specs.Limits.{max_logs, max_log_bytes}
 use Rattle.epx_merge.specs.Refusals.{IsFirstTooLong, IsRefusal}

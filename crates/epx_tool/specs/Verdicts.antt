@@ -6,7 +6,8 @@ use Rattle.epx_types.specs.Instances.{Instance}
 use Rattle.epx_types.specs.LawfulOrders.{IsLawful}
 use Rattle.epx_base.specs.ReportLines.{data_of_number, line_of}
 use Rattle.epx_order.specs.declared.order_fault.OrderFault.{OrderFault}
-use Rattle.epx_order.specs.declared.order_fault.OrderFault.TheVariants.{Memory, Stranger, Repeat, Missing, Early, Sequence}
+use Rattle.epx_order.specs.declared.order_fault.OrderFault.TheVariants.{Memory, Stranger, Repeat}
+use Rattle.epx_order.specs.declared.order_fault.OrderFault.TheVariants.{Missing, Early, Sequence}
 use Rattle.epx_order.specs.OrderFaults.{IsOrderFault}
 
 abbrev pub lawful_text : List ℕ

@@ -1,9 +1,16 @@
 //! Laws of answers: these definitions mean what they should. Each function has an empty body, and
 //! its contract is the law.
-ghost use Rattle.epx_tool.specs.AnswerLaws.{ReportExists, ViewTextExists, ReportIsOne, OrderTextIsOne, LevelTextIsOne, AuditTextIsOne, AnswerExists, ViewExists, AnswerIsOne, ViewIsOne};
-ghost use Rattle.epx_tool.specs.CheckLaws.{CheckExists, CheckIsOne, LawfulTextMeansLawful, LawfulListExecutesAlike};
-ghost use Rattle.epx_tool.specs.ResumableAnswers.{AnswerIsBase, ResumptionIsBase, ReportOfAPartIsSound, ResumedReportIsSound, ResumedReportRepeatsTheWhole, LastReportIsTheWhole};
-ghost use Rattle.epx_tool.specs.ResumptionLaws.{ReportIsAfterNothing, ReportIsBase, ResumptionExists, ResumptionIsOne};
+ghost use Rattle.epx_tool.specs.AnswerLaws.{ReportExists, ViewTextExists, ReportIsOne};
+ghost use Rattle.epx_tool.specs.AnswerLaws.{OrderTextIsOne, LevelTextIsOne, AuditTextIsOne};
+ghost use Rattle.epx_tool.specs.AnswerLaws.{AnswerExists, ViewExists, AnswerIsOne, ViewIsOne};
+ghost use Rattle.epx_tool.specs.CheckLaws.{CheckExists, CheckIsOne, LawfulTextMeansLawful};
+ghost use Rattle.epx_tool.specs.CheckLaws.{LawfulListExecutesAlike};
+ghost use Rattle.epx_tool.specs.ResumableAnswers.{AnswerIsBase, ResumptionIsBase};
+ghost use Rattle.epx_tool.specs.ResumableAnswers.{ReportOfAPartIsSound, ResumedReportIsSound};
+ghost use Rattle.epx_tool.specs.ResumableAnswers.{ResumedReportRepeatsTheWhole};
+ghost use Rattle.epx_tool.specs.ResumableAnswers.{LastReportIsTheWhole};
+ghost use Rattle.epx_tool.specs.ResumptionLaws.{ReportIsAfterNothing, ReportIsBase};
+ghost use Rattle.epx_tool.specs.ResumptionLaws.{ResumptionExists, ResumptionIsOne};
 
 /// A committed map has a report.
 pub fn report_exists()

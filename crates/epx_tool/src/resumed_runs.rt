@@ -1,6 +1,7 @@
 //! A run that resumes from an earlier report: it reads the logs and the base from sources, and
 //! writes the report to a sink.
-ghost use Rattle.std.specs.Prelude.{◌≡◌, ◌≢◌, ◌↔◌, ◌+◌, ◌<◌, ℕ, true, false, drop, length, All, Some, slice_get, Ok, OnOk, IfErr, IsErrOf};
+ghost use Rattle.std.specs.Prelude.{◌≡◌, ◌≢◌, ◌↔◌, ◌+◌, ◌<◌, ℕ, true, false, drop, length, All};
+ghost use Rattle.std.specs.Prelude.{Some, slice_get, Ok, OnOk, IfErr, IsErrOf};
 ghost use Rattle.std.specs.Io.KnownBytes.{Appends, Keeps, IsAtEnd};
 ghost use Rattle.epx_base.specs.Bases.{IsBadBase};
 ghost use Rattle.epx_merge.specs.Limits.{max_log_bytes};

@@ -1,5 +1,6 @@
 //! A run: it reads logs from sources, and writes the answer to a sink.
-ghost use Rattle.std.specs.Prelude.{◌≡◌, ◌≢◌, ◌↔◌, ◌+◌, ◌<◌, ℕ, true, false, map, drop, length, All, Some, slice_get, Ok, IfOk, OnOk, IfErr, IsErrOf};
+ghost use Rattle.std.specs.Prelude.{◌≡◌, ◌≢◌, ◌↔◌, ◌+◌, ◌<◌, ℕ, true, false, map, drop, length};
+ghost use Rattle.std.specs.Prelude.{All, Some, slice_get, Ok, IfOk, OnOk, IfErr, IsErrOf};
 ghost use Rattle.std.specs.Io.KnownBytes.{Appends, Keeps, IsAtEnd};
 ghost use Rattle.epx_merge.specs.Limits.{max_log_bytes};
 ghost use Rattle.epx_merge.specs.Refusals.{FitLimits};
@@ -93,7 +94,8 @@ pub fn show<T: Threads + RandomSource + Sync, S: Source, W: Sink>(
     ensures text { OnOk result ((logs : _) → AreBytesOf S.remaining sources.old logs →
         (text : _) × Answers (IsViewText ask) logs (Ok text)
         × Appends (W.contents sink.old) (W.contents sink.new) text) }
-    ensures answered { OnOk result (AnswersDelivered S.reads (IsViewText ask) sources.old sources.new
+    ensures answered { OnOk result
+        (AnswersDelivered S.reads (IsViewText ask) sources.old sources.new
         (Appends (W.contents sink.old) (W.contents sink.new))) }
     ensures flushed { OnOk result (W.is_flushed sink.new ≡ true) }
 

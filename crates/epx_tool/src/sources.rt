@@ -1,5 +1,6 @@
 //! Reads sources to their ends before anything is done with the bytes.
-ghost use Rattle.std.specs.Prelude.{◌≡◌, ◌↔◌, ◌+◌, ◌<◌, ℕ, List, true, false, map, drop, length, All, Some, slice_get, IfOk, OnOk, IfErr, IsErrOf};
+ghost use Rattle.std.specs.Prelude.{◌≡◌, ◌↔◌, ◌+◌, ◌<◌, ℕ, List, true, false, map, drop, length};
+ghost use Rattle.std.specs.Prelude.{All, Some, slice_get, IfOk, OnOk, IfErr, IsErrOf};
 ghost use Rattle.std.specs.Io.KnownBytes.{IsAtEnd};
 ghost use Rattle.epx_devices.specs.Transfers.{ConsumesUpTo};
 ghost use Rattle.epx_merge.specs.Limits.{max_log_bytes};

@@ -1,5 +1,6 @@
 -- Reading through a draft, and writing to it.
-use Rattle.std.proofs.Common.{◌≡◌, ℕ, ℤ, ◌∙◌, sym, ap, List, [], ◌∷◌, Option, Some, None, unwrap_or, map, subst, IfOk}
+use Rattle.std.proofs.Common.{◌≡◌, ℕ, ℤ, ◌∙◌, sym, ap, List, [], ◌∷◌, Option, Some, None}
+use Rattle.std.proofs.Common.{unwrap_or, map, subst, IfOk}
 use Rattle.std.specs.declared.result.Result.{Result}
 use Rattle.std.specs.declared.result.Result.TheVariants.{Ok, Err}
 use Rattle.std.specs.FinMap as contents
@@ -18,25 +19,35 @@ use Rattle.epx_txn.specs.declared.draft.Step.TheVariants.{Done}
 use Rattle.epx_txn.specs.inner.Drafts.{Draft, contents_through, IsStepOf, AddsKeys}
 
 -- where the draft has a key, the command sees its value there
-pub read_written : (d : Draft) (c : Contents) (k : List ℕ) (w : Option ℤ) → contents.get d k ≡ Some w → w ≡ contents.get (contents_through d c) k
+pub read_written : (d : Draft) (c : Contents) (k : List ℕ) (w : Option ℤ)
+    → contents.get d k ≡ Some w → w ≡ contents.get (contents_through d c) k
 read_written d c k w e = sym (get-put_entries d c k ∙ ap (λ o. unwrap_or o (contents.get c k)) e)
 
 -- where the draft does not have a key, the command sees the value in the store
-pub read_unwritten : (d : Draft) (c : Contents) (k : List ℕ) → contents.get d k ≡ None → contents.get c k ≡ contents.get (contents_through d c) k
+pub read_unwritten : (d : Draft) (c : Contents) (k : List ℕ) → contents.get d k ≡ None
+    → contents.get c k ≡ contents.get (contents_through d c) k
 read_unwritten d c k e = sym (get-put_entries d c k ∙ ap (λ o. unwrap_or o (contents.get c k)) e)
 
 -- a write adds its key
-adds_key : (op : Op) (d : Draft) (k : List ℕ) (w : Option ℤ) → written_by op ≡ k ∷ [] → AddsKeys op d (contents.insert d k w)
+adds_key : (op : Op) (d : Draft) (k : List ℕ) (w : Option ℤ) → written_by op ≡ k ∷ []
+    → AddsKeys op d (contents.insert d k w)
 adds_key op d k w one =
     ap (λ es. map (λ e. e.0) es) (entries-insert key_cmp_total d k w)
     ∙ keys_of-put k w (contents.entries d)
     ∙ ap (add_keys (contents.keys d)) (sym one)
 
 -- an operation that writes one key, after its write is in the draft
-pub written_step : (r : Result Step Memory) (op by : Op) (c : Contents) (d e : Draft) (k : List ℕ) (w v : Option ℤ) → IfOk r (λ s. (s ≡ Done) × (e ≡ contents.insert d k w)) → op ≡ by → written_by by ≡ k ∷ [] → operate by (contents_through d c) ≡ Some (assign (contents_through d c) k v, []) → w ≡ v → IfOk r (λ s. IsStepOf s op c d e)
+pub written_step : (r : Result Step Memory) (op by : Op) (c : Contents) (d e : Draft) (k : List ℕ)
+    (w v : Option ℤ) → IfOk r (λ s. (s ≡ Done) × (e ≡ contents.insert d k w)) → op ≡ by
+    → written_by by ≡ k ∷ [] → operate by (contents_through d c)
+    ≡ Some (assign (contents_through d c) k v, []) → w ≡ v → IfOk r (λ s. IsStepOf s op c d e)
 written_step (Err x) op by c d e k w v h is one goes same = h
 written_step (Ok s) op by c d e k w v h is one goes same =
     let Goal : Op → Step → Draft → Type 0 = λ o t f. IsStepOf t o c d f in
-    let step : IsStepOf Done by c d (contents.insert d k w) =
-    (goes ∙ ap (λ u. Some (assign (contents_through d c) k u, [])) (sym same) ∙ ap (λ x. Some (x, [])) (sym (put_entries-insert d k w c)), adds_key by d k w one) in
-    subst (λ o. Goal o s e) (sym is) (subst (λ t. Goal by t e) (sym h.0) (subst (λ f. Goal by Done f) (sym h.1) step))
+    let step : IsStepOf Done by c d (contents.insert d k w) = (
+      goes ∙ ap (λ u. Some (assign (contents_through d c) k u, [])) (sym same)
+          ∙ ap (λ x. Some (x, [])) (sym (put_entries-insert d k w c)),
+      adds_key by d k w one,
+    ) in
+    subst (λ o. Goal o s e) (sym is)
+    (subst (λ t. Goal by t e) (sym h.0) (subst (λ f. Goal by Done f) (sym h.1) step))

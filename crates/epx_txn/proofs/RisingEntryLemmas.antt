@@ -1,5 +1,6 @@
 -- Entries whose keys rise.
-use Rattle.std.proofs.Common.{◌≡◌, ℕ, zero, suc, sym, ap, subst, T, Bool, true, false, ◌&&◌, List, [], ◌∷◌, drop}
+use Rattle.std.proofs.Common.{◌≡◌, ℕ, zero, suc, sym, ap, subst, T, Bool, true, false, ◌&&◌, List}
+use Rattle.std.proofs.Common.{[], ◌∷◌, drop}
 use Rattle.std.specs.Ordering.{is_lt}
 use Rattle.std.specs.declared.cmp.Ordering.TheVariants.{Less}
 use Rattle.std.specs.FinMap.{is_sorted}
@@ -15,14 +16,18 @@ both_of false b g h = absurd g
 
 module _ {X : Type 0} where
   -- a key that is below a lower bound is a lower bound
-  pub below_all_trans : (j k : List ℕ) (es : List (List ℕ × X)) → key_cmp j k ≡ Less → T (below_all key_cmp k es) → T (below_all key_cmp j es)
+  pub below_all_trans : (j k : List ℕ) (es : List (List ℕ × X)) → key_cmp j k ≡ Less
+      → T (below_all key_cmp k es) → T (below_all key_cmp j es)
   below_all_trans j k [] below h = tt
   below_all_trans j k (e ∷ es) below h =
-      let next : is_lt (key_cmp j e.0) ≡ true = below_trans key_cmp_total j k e.0 (ap is_lt below) (ap is_lt (less_from_is_lt _ (first_of _ _ h))) in
+      let next : is_lt (key_cmp j e.0) ≡ true =
+      below_trans key_cmp_total j k e.0 (ap is_lt below)
+      (ap is_lt (less_from_is_lt _ (first_of _ _ h))) in
       both_of _ _ (subst T (sym next) tt) (below_all_trans j k es below (second_of _ _ h))
 
   -- the rest of rising entries rises
-  pub is_sorted-drop : (es : List (List ℕ × X)) (i : ℕ) → T (is_sorted key_cmp es) → T (is_sorted key_cmp (drop i es))
+  pub is_sorted-drop : (es : List (List ℕ × X)) (i : ℕ) → T (is_sorted key_cmp es)
+      → T (is_sorted key_cmp (drop i es))
   is_sorted-drop es zero h = h
   is_sorted-drop [] (suc i) h = h
   is_sorted-drop (e ∷ es) (suc i) h = is_sorted-drop es i (second_of _ _ h)

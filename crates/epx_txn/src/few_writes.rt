@@ -1,5 +1,6 @@
 //! The writes of a command that writes few keys.
-ghost use Rattle.std.specs.Prelude.{◌≡◌, ◌≤◌, T, false, IfOk, OnOk, MatchResult, if◌then◌else◌, map};
+ghost use Rattle.std.specs.Prelude.{◌≡◌, ◌≤◌, T, false, IfOk, OnOk, MatchResult, if◌then◌else◌};
+ghost use Rattle.std.specs.Prelude.{map};
 ghost use Rattle.std.specs.FinMap as contents;
 ghost use Rattle.std.specs.FinMap.{is_sorted};
 ghost use Rattle.epx_types.specs.Keys.{key_cmp};

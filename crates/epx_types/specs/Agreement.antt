@@ -7,7 +7,8 @@ use Rattle.epx_types.specs.PlacedLines.{Placed, Earlier}
 -- all lines of one instance commit the same sequence number, set of dependencies and list of
 -- operations
 abbrev pub Agree : List Placed → Type 0
-Agree lines = (p q : Placed) → Contains lines p → Contains lines q → p.instance.id ≡ q.instance.id → p.instance ≡ q.instance
+Agree lines = (p q : Placed) → Contains lines p → Contains lines q → p.instance.id ≡ q.instance.id
+    → p.instance ≡ q.instance
 
 -- both lines name one instance and commit it differently
 abbrev pub Differ : Placed → Placed → Type 0
@@ -15,11 +16,13 @@ Differ p q = (p.instance.id ≡ q.instance.id) × (p.instance ≢ q.instance)
 
 -- the least Id with two lines that differ, its first line, and the first later line that differs
 -- from the first
-pub record IsFirstDisagreement (lines : List Placed) (id : Id) (first second : Placed) : Type 0 where
+pub record IsFirstDisagreement (lines : List Placed) (id : Id) (first second : Placed) : Type
+    0 where
   pub has_first : Contains lines first
   pub has_second : Contains lines second
   pub named : first.instance.id ≡ id
   pub differ : Differ first second
-  pub least : (p q : Placed) → Contains lines p → Contains lines q → Differ p q → UpTo id p.instance.id
+  pub least : (p q : Placed) → Contains lines p → Contains lines q → Differ p q
+      → UpTo id p.instance.id
   pub opens : (p : Placed) → Contains lines p → p.instance.id ≡ id → ¬ Earlier p.place first.place
   pub follows : (q : Placed) → Contains lines q → Differ first q → ¬ Earlier q.place second.place

@@ -11,7 +11,8 @@ pub record Outcome : Type 0 where
   pub after : Contents
 
 -- goes on if the operation at index j did not abort
-abbrev pub unless_aborted : Contents → ℕ → Option (Contents × List (Option ℤ)) → (Contents × List (Option ℤ) → Outcome) → Outcome
+abbrev pub unless_aborted : Contents → ℕ → Option (Contents × List (Option ℤ))
+    → (Contents × List (Option ℤ) → Outcome) → Outcome
 unless_aborted before j None proceed = record { reply = Abort j; after = before }
 unless_aborted before j (Some r) proceed = proceed r
 
@@ -19,7 +20,8 @@ unless_aborted before j (Some r) proceed = proceed r
 -- `before` and has read `got`
 abbrev pub operate_all : Contents → ℕ → List Op → Contents → List (Option ℤ) → Outcome
 operate_all before j [] c got = record { reply = Values got; after = c }
-operate_all before j (op ∷ ops) c got = unless_aborted before j (operate op c) (λ r. operate_all before (suc j) ops r.0 (got ++ r.1))
+operate_all before j (op ∷ ops) c got =
+    unless_aborted before j (operate op c) (λ r. operate_all before (suc j) ops r.0 (got ++ r.1))
 
 -- a command: its operations in order, from index 0. An abort leaves the contents unchanged
 abbrev pub command_on : List Op → Contents → Outcome

@@ -18,7 +18,9 @@ pub record Ranked : Type 0 where
 
 -- by depth, leader, sequence number, replica and number
 abbrev pub rank_cmp : Ranked → Ranked → Ordering
-rank_cmp a b = ordering_then (nat_cmp a.depth b.depth) (ordering_then (id_cmp a.leader b.leader) (ordering_then (nat_cmp a.seq b.seq) (id_cmp a.id b.id)))
+rank_cmp a b = ordering_then (nat_cmp a.depth b.depth)
+    (ordering_then (id_cmp a.leader b.leader)
+    (ordering_then (nat_cmp a.seq b.seq) (id_cmp a.id b.id)))
 
 abbrev pub RanksBelow : Ranked → Ranked → Type 0
 RanksBelow a b = is_lt (rank_cmp a b) ≡ true

@@ -1,9 +1,12 @@
 -- Faults: the number, the exit status and the text of each.
 use Rattle.std.specs.Prelude.{ℕ, List, ◌++◌, codes, decimal}
 use Rattle.epx_types.specs.declared.fault.Why.{Why}
-use Rattle.epx_types.specs.declared.fault.Why.TheVariants.{TooLong, NotJson, NotObject, Replica, Number, Seq, Status, Deps, Ops}
+use Rattle.epx_types.specs.declared.fault.Why.TheVariants.{TooLong, NotJson, NotObject, Replica}
+use Rattle.epx_types.specs.declared.fault.Why.TheVariants.{Number, Seq, Status, Deps, Ops}
 use Rattle.epx_types.specs.declared.fault.Fault.{Fault}
-use Rattle.epx_types.specs.declared.fault.Fault.TheVariants.{Memory, TooManyLogs, LogTooLong, BadLine, TooManyInstances, Disagree, Read, Write, BadBase}
+use Rattle.epx_types.specs.declared.fault.Fault.TheVariants.{Memory, TooManyLogs, LogTooLong}
+use Rattle.epx_types.specs.declared.fault.Fault.TheVariants.{BadLine, TooManyInstances, Disagree}
+use Rattle.epx_types.specs.declared.fault.Fault.TheVariants.{Read, Write, BadBase}
 use Rattle.epx_types.specs.declared.id.Id.{Id}
 use Rattle.epx_types.specs.declared.place.Place.{Place}
 
@@ -53,10 +56,14 @@ place_text p = codes "log " ++ decimal p.log ++ codes " line " ++ decimal p.line
 abbrev pub fault_text : Fault → List ℕ
 fault_text Memory = codes "epx: fault 1: out of memory"
 fault_text TooManyLogs = codes "epx: fault 2: more than 64 logs"
-fault_text (LogTooLong log) = codes "epx: fault 3: log " ++ decimal log ++ codes " is longer than 67108864 bytes"
-fault_text (BadLine place why) = codes "epx: fault 4: " ++ place_text place ++ codes ": " ++ why_text why
+fault_text (LogTooLong log) = codes "epx: fault 3: log " ++ decimal log
+    ++ codes " is longer than 67108864 bytes"
+fault_text (BadLine place why) = codes "epx: fault 4: " ++ place_text place ++ codes ": "
+    ++ why_text why
 fault_text TooManyInstances = codes "epx: fault 5: more than 1048576 instances"
-fault_text (Disagree id first second) = codes "epx: fault 6: instance " ++ id_text id ++ codes " differs between " ++ place_text first ++ codes " and " ++ place_text second
+fault_text (Disagree id first second) = codes "epx: fault 6: instance " ++ id_text id
+    ++ codes " differs between " ++ place_text first ++ codes " and " ++ place_text second
 fault_text (Read log) = codes "epx: fault 7: log " ++ decimal log ++ codes " can not be read"
 fault_text Write = codes "epx: fault 8: the answer can not be written"
-fault_text (BadBase line) = codes "epx: fault 9: base line " ++ decimal line ++ codes " is not as it must be"
+fault_text (BadBase line) = codes "epx: fault 9: base line " ++ decimal line
+    ++ codes " is not as it must be"

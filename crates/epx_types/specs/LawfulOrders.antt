@@ -1,5 +1,6 @@
 -- The orders that the protocol allows.
-use Rattle.std.specs.Prelude.{◌≡◌, ◌≢◌, ℕ, ◌<◌, true, List, [], map, Contains, AllPairs, Option, Some, None, slice_get}
+use Rattle.std.specs.Prelude.{◌≡◌, ◌≢◌, ℕ, ◌<◌, true, List, [], map, Contains, AllPairs, Option}
+use Rattle.std.specs.Prelude.{Some, None, slice_get}
 use Rattle.std.specs.Ordering.{nat_cmp, ordering_then, is_lt}
 use Rattle.epx_types.specs.declared.id.Id.{Id}
 use Rattle.epx_types.specs.declared.op.Op.{Op}
@@ -16,7 +17,8 @@ Before xs x y = (i j : ℕ) × (i < j) × (slice_get xs i ≡ Some x) × (slice_
 
 -- x has the lower sequence number, or the same one and the lower Id
 abbrev pub SequenceBefore : List Instance → Id → Id → Type 0
-SequenceBefore m x y = (d e : Instance) × Contains m d × (d.id ≡ x) × Contains m e × (e.id ≡ y) × (is_lt (ordering_then (nat_cmp d.seq e.seq) (id_cmp x y)) ≡ true)
+SequenceBefore m x y = (d e : Instance) × Contains m d × (d.id ≡ x) × Contains m e × (e.id ≡ y)
+    × (is_lt (ordering_then (nat_cmp d.seq e.seq) (id_cmp x y)) ≡ true)
 
 -- Each instance of the set occurs once, and nothing else does. An instance comes after all that it
 -- reaches outside its component. Members of one component come in the order of their sequence
@@ -25,8 +27,10 @@ pub record IsLawfulFor (m : List Instance) (Member : Id → Type 0) (ids : List 
   pub once : AllPairs (λ x y. x ≢ y) ids
   pub only : (x : Id) → Contains ids x → Member x
   pub whole : (x : Id) → Member x → Contains ids x
-  pub after_reached : (x y : Id) → Contains ids x → Reaches m x y → ¬ Reaches m y x → Before ids y x
-  pub by_sequence : (x y : Id) → Contains ids x → Contains ids y → InOneComponent m x y → SequenceBefore m x y → Before ids x y
+  pub after_reached : (x y : Id) → Contains ids x → Reaches m x y → ¬ Reaches m y x
+      → Before ids y x
+  pub by_sequence : (x y : Id) → Contains ids x → Contains ids y → InOneComponent m x y
+      → SequenceBefore m x y → Before ids x y
 
 abbrev pub IsLawful : List Instance → List Id → Type 0
 IsLawful m ids = IsLawfulFor m (IsReady m) ids

@@ -1,5 +1,6 @@
 -- Conflict levels of a list of commands.
-use Rattle.std.specs.Prelude.{◌≡◌, ◌==◌, ℕ, suc, max, ◌<◌, ◌≤◌, List, [], ◌∷◌, if◌then◌else◌, length, slice_index, slice_index_or}
+use Rattle.std.specs.Prelude.{◌≡◌, ◌==◌, ℕ, suc, max, ◌<◌, ◌≤◌, List, [], ◌∷◌, if◌then◌else◌}
+use Rattle.std.specs.Prelude.{length, slice_index, slice_index_or}
 use Rattle.epx_types.specs.declared.op.Op.{Op}
 use Rattle.epx_types.specs.Conflicts.{Conflict}
 
@@ -31,7 +32,9 @@ level_count (level ∷ levels) = max (suc level) (level_count levels)
 -- the positions of a level, rising, in a list that begins at position j
 abbrev pub level_positions_from : ℕ → List ℕ → ℕ → List ℕ
 level_positions_from j [] l = []
-level_positions_from j (level ∷ levels) l = if level == l then j ∷ level_positions_from (suc j) levels l else level_positions_from (suc j) levels l
+level_positions_from j (level ∷ levels) l =
+    if level == l then j ∷ level_positions_from (suc j) levels l else level_positions_from (suc j)
+    levels l
 
 -- the positions of a level, rising
 abbrev pub level_positions : List ℕ → ℕ → List ℕ

@@ -1,5 +1,6 @@
 -- The effect of one operation on the contents of a store.
-use Rattle.std.specs.Prelude.{◌^◌, ℤ, pos, neg_ℤ, ◌+ℤ◌, ◌&&◌, Bool, true, false, not, int_lt, List, [], ◌∷◌, Option, Some, None, if◌then◌else◌}
+use Rattle.std.specs.Prelude.{◌^◌, ℤ, pos, neg_ℤ, ◌+ℤ◌, ◌&&◌, Bool, true, false, not, int_lt, List}
+use Rattle.std.specs.Prelude.{[], ◌∷◌, Option, Some, None, if◌then◌else◌}
 use Rattle.std.specs.FinMap as contents
 use Rattle.epx_types.specs.declared.op.Op.{Op}
 use Rattle.epx_types.specs.declared.op.Op.TheVariants.{Get, Put, Del, Add, Is, Floor, Copy}
@@ -20,7 +21,8 @@ abbrev pub operate : Op → Contents → Option (Contents × List (Option ℤ))
 operate (Get k) c = Some (c, contents.get c k ∷ [])
 operate (Put k v) c = Some (assign c k (Some v), [])
 operate (Del k) c = Some (assign c k None, [])
-operate (Add k n) c = if fits_i64 (amount_at c k +ℤ n) then Some (assign c k (Some (amount_at c k +ℤ n)), []) else None
+operate (Add k n) c = if fits_i64 (amount_at c k +ℤ n) then Some
+    (assign c k (Some (amount_at c k +ℤ n)), []) else None
 operate (Is k v) c = if same_value (contents.get c k) v then Some (c, []) else None
 operate (Floor k least) c = if int_lt (amount_at c k) least then None else Some (c, [])
 operate (Copy k j) c = Some (assign c j (contents.get c k), [])

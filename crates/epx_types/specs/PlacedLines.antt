@@ -19,4 +19,5 @@ pub record Placed : Type 0 where
 
 -- no two lines have the same place
 abbrev pub HaveDistinctPlaces : List Placed → Type 0
-HaveDistinctPlaces lines = (p q : Placed) → Contains lines p → Contains lines q → p.place ≡ q.place → p ≡ q
+HaveDistinctPlaces lines = (p q : Placed) → Contains lines p → Contains lines q → p.place ≡ q.place
+    → p ≡ q

@@ -1,5 +1,6 @@
 -- Rearrangements of a list of commands that keep the order of any two that conflict.
-use Rattle.std.specs.Prelude.{◌≢◌, ℕ, ◌<◌, List, [], map, length, Contains, AllPairs, slice_index_or}
+use Rattle.std.specs.Prelude.{◌≢◌, ℕ, ◌<◌, List, [], map, length, Contains, AllPairs}
+use Rattle.std.specs.Prelude.{slice_index_or}
 use Rattle.epx_types.specs.declared.op.Op.{Op}
 use Rattle.epx_types.specs.Levels.{ConflictAt}
 use Rattle.epx_types.specs.LawfulOrders.{Before}

@@ -14,7 +14,8 @@ use Rattle.epx_types.specs.LawfulOrders.{IsLawfulFor, commands_in}
 pub record IsSound (m : List Instance) (done : List Id) (c : Contents) : Type 0 where
   pub ready : (x : Id) → Contains done x → IsReady m x
   pub closed : (x y : Id) → Contains done x → Reaches m x y → Contains done y
-  pub executed : (ids : List Id) × IsLawfulFor m (Contains done) ids × ((execute (commands_in m ids) contents.empty).final ≡ c)
+  pub executed : (ids : List Id) × IsLawfulFor m (Contains done) ids
+      × ((execute (commands_in m ids) contents.empty).final ≡ c)
 
 -- each instance of the other map that is not done is an instance of m
 abbrev pub HasRemaining : List Instance → List Id → List Instance → Type 0

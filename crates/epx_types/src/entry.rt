@@ -29,7 +29,8 @@ impl Model for Entry {
 
     ghost view = { λ e. record { id = e.id; seq = e.seq; deps = e.deps.items; ops = e.ops.items } };
 
-    ghost invariant = { λ e. IsWellFormed (record { id = e.id; seq = e.seq; deps = e.deps.items; ops = e.ops.items }) };
+    ghost invariant = { λ e. IsWellFormed
+        (record { id = e.id; seq = e.seq; deps = e.deps.items; ops = e.ops.items }) };
 }
 
 impl Entry {

@@ -1,5 +1,6 @@
 //! Keys of the store.
-ghost use Rattle.std.specs.Prelude.{◌≡◌, ◌<◌, ◌≤◌, length, slice_index_or, IfOk, IfSome, IfNone, IsSome, ◌↔◌};
+ghost use Rattle.std.specs.Prelude.{◌≡◌, ◌<◌, ◌≤◌, length, slice_index_or, IfOk, IfSome, IfNone};
+ghost use Rattle.std.specs.Prelude.{IsSome, ◌↔◌};
 ghost use Rattle.epx_types.specs.Keys.{FitsKey};
 ghost use Rattle.epx_types.specs.KeyHeads.{AreBytes, head_of};
 
@@ -31,7 +32,8 @@ impl Model for Key {
 
     ghost view = { λ k. bytes_of k.text };
 
-    ghost invariant = { λ k. FitsKey (bytes_of k.text) × AreBytes (bytes_of k.text) × (k.head ≡ head_of (bytes_of k.text)) };
+    ghost invariant = { λ k. FitsKey (bytes_of k.text) × AreBytes (bytes_of k.text)
+        × (k.head ≡ head_of (bytes_of k.text)) };
 }
 
 /// The byte at an index, or 0 past the end.

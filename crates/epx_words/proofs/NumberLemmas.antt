@@ -15,8 +15,10 @@ pub record IsRead (high : ℕ) (text : Option Text) (read : Option ℕ) : Type 0
   pub most : number ≤ high
   pub means : IsNumberOf text number
 
-module _ (E : Type 0) (G : List ℕ → Result ℕ E → Type 0) (parses : (u : List ℕ) (x : Result ℕ E) → G u x → ParsesUnsigned 64 10 u x) where
-  text_read : (most : ℕ) (t : Text) (r : Option ℕ) → ReadsOne G t r → IsUnsignedIn 1 most t → IsRead most (Some t) r
+module _ (E : Type 0) (G : List ℕ → Result ℕ E → Type 0)
+    (parses : (u : List ℕ) (x : Result ℕ E) → G u x → ParsesUnsigned 64 10 u x) where
+  text_read : (most : ℕ) (t : Text) (r : Option ℕ) → ReadsOne G t r → IsUnsignedIn 1 most t
+      → IsRead most (Some t) r
   text_read most t (Some v) read passed =
       let parsed = parses t (Ok v) read in
       record {
@@ -28,7 +30,9 @@ module _ (E : Type 0) (G : List ℕ → Result ℕ E → Type 0) (parses : (u : 
       }
   text_read most t None read passed = absurd (parses t (Err read.0) read.1 (passed.0, passed.1))
 
-  pub number_read : (most : ℕ) (f : Found) (id : Text) (r : Option ℕ) → ((t : Text) → one_text f id ≡ Some t → ReadsOne G t r) → IsNumberUpTo most (one_of id (rows_of f))
+  pub number_read : (most : ℕ) (f : Found) (id : Text) (r : Option ℕ)
+      → ((t : Text) → one_text f id ≡ Some t → ReadsOne G t r)
+      → IsNumberUpTo most (one_of id (rows_of f))
       → IsRead most (one_of id (rows_of f)) r
   number_read most f id r reads passed = go (one_of id (rows_of f)) (one_text-rows f id) passed
     where

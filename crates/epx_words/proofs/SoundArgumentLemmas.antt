@@ -1,6 +1,7 @@
 -- Each argument of a subcommand keeps the rows sound. After the defaults both numbers have rows,
 -- and so has a required first argument.
-use Rattle.std.proofs.Common.{◌≡◌, ◌==◌, ◌∙◌, ◌||◌, ℕ, Bool, cond, true, false, not, codes, List, [], ◌∷◌, length, refl, sym, subst, true≢false, eqb-true, arith}
+use Rattle.std.proofs.Common.{◌≡◌, ◌==◌, ◌∙◌, ◌||◌, ℕ, Bool, cond, true, false, not, codes, List}
+use Rattle.std.proofs.Common.{[], ◌∷◌, length, refl, sym, subst, true≢false, eqb-true, arith}
 use Rattle.std.specs.List.{AllByRecursion, fold}
 use Rattle.std.specs.Option.{IsSome}
 use Rattle.clap.specs.Kinds.{range_kinds, value_kinds}
@@ -9,18 +10,24 @@ use Rattle.clap.specs.Simple.{Shape, filled, help_rule, with_index}
 use Rattle.clap.specs.Takes.{is_given}
 use Rattle.clap.specs.ValueTests.{is_unsigned_in}
 use Rattle.clap.specs.Values.{IsUnsignedIn}
-use Rattle.clap.specs.Walk.{Row, Rule, Text, nothing_held, one_of, settled, values_or_missing, used, walk, walk_from, with_default, without}
+use Rattle.clap.specs.Walk.{Row, Rule, Text, nothing_held, one_of, settled, values_or_missing}
+use Rattle.clap.specs.Walk.{used, walk, walk_from, with_default, without}
 use Rattle.clap.specs.declared.builder.action.ArgAction.TheVariants.{Set}
 use Rattle.clap.specs.declared.builder.value_parser.Reading.TheVariants.{AsWritten}
 use Rattle.clap.specs.declared.builder.value_parser.ValueParser.TheVariants.{Unsigned}
-use Rattle.clap.specs.declared.error.kind.ErrorKind.TheVariants.{InvalidValue, MissingRequiredArgument, ValueValidation, WrongNumberOfValues}
+use Rattle.clap.specs.declared.error.kind.ErrorKind.TheVariants.{InvalidValue}
+use Rattle.clap.specs.declared.error.kind.ErrorKind.TheVariants.{MissingRequiredArgument}
+use Rattle.clap.specs.declared.error.kind.ErrorKind.TheVariants.{ValueValidation}
+use Rattle.clap.specs.declared.error.kind.ErrorKind.TheVariants.{WrongNumberOfValues}
 use Rattle.clap.specs.declared.parser.matches.ValueSource.{ValueSource}
 use Rattle.clap.specs.declared.parser.matches.ValueSource.TheVariants.{CommandLine, DefaultValue}
 use Rattle.clap.proofs.ValueTestLemmas.{accepts-Accepts}
 use Rattle.epx_words.specs.App.{first_rule, logs_rule, number_rule}
 use Rattle.epx_words.specs.SubcommandRows.{IsNumberUpTo, first_in}
 use Rattle.epx_words.proofs.KindLemmas.{none_after, none_first}
-use Rattle.epx_words.proofs.SoundRowLemmas.{AreSound, IsSoundRow, first_read, default_has_row, default_keeps_row, default_sound, new_row, no_default, number_read, values_sound, without_sound}
+use Rattle.epx_words.proofs.SoundRowLemmas.{AreSound, IsSoundRow, first_read, default_has_row}
+use Rattle.epx_words.proofs.SoundRowLemmas.{default_keeps_row, default_sound, new_row, no_default}
+use Rattle.epx_words.proofs.SoundRowLemmas.{number_read, values_sound, without_sound}
 use Rattle.epx_words.proofs.SoundWalkLemmas.{KeepsSound, settled_sound, walk_sound}
 
 -- the arguments of a subcommand, as clap fills them in
@@ -59,13 +66,15 @@ one_value n none = go (n == 0) (1 == n) refl none
 passed : (most : ℕ) (v : Text) → value_kinds false (Unsigned 1 most) v ≡ [] → IsUnsignedIn 1 most v
 passed most v none = go (is_unsigned_in 1 most v) refl none
   where
-    go : (b : Bool) → is_unsigned_in 1 most v ≡ b → cond b [] (ValueValidation ∷ []) ≡ [] → IsUnsignedIn 1 most v
+    go : (b : Bool) → is_unsigned_in 1 most v ≡ b → cond b [] (ValueValidation ∷ []) ≡ []
+        → IsUnsignedIn 1 most v
     go true is e = accepts-Accepts false (Unsigned 1 most) v is
     go false is e = cc
 
 -- the number's row is sound if the number is in its range
 abbrev FitsRow : Text → ℕ → Type 0
-FitsRow name most = (s : ValueSource) (v : Text) → IsUnsignedIn 1 most v → IsSoundRow (new_row name AsWritten s (v ∷ []))
+FitsRow name most = (s : ValueSource) (v : Text) → IsUnsignedIn 1 most v
+    → IsSoundRow (new_row name AsWritten s (v ∷ []))
 
 workers_fit : FitsRow (codes "workers") 64
 workers_fit s v h = (λ e. (refl, h), λ e. absurd (true≢false (sym e)), λ e. tt)
@@ -77,57 +86,76 @@ module _ (name default : Text) (most : ℕ) (fits : FitsRow name most) (again : 
   abbrev leaf : Rule
   leaf = filled (number_rule name default most)
 
-  one_keeps : (values : List Text) (rows : List Row) → length values ≡ 1 → action_fault Set again leaf (values_or_missing leaf values) rows ≡ [] → AreSound rows
+  one_keeps : (values : List Text) (rows : List Row) → length values ≡ 1
+      → action_fault Set again leaf (values_or_missing leaf values) rows ≡ [] → AreSound rows
       → AreSound (used leaf values rows)
   one_keeps [] rows one none ok = absurd (omega arith)
   one_keeps (v ∷ w ∷ vs) rows one none ok = absurd (omega arith)
   one_keeps (v ∷ []) rows one none ok =
-      let value = none_first (value_kinds false (Unsigned 1 most) v) [] (none_after (repeat_fault again name rows) _ none) in
-      values_sound name AsWritten CommandLine (v ∷ []) (without name rows) (fits CommandLine v (passed most v value)) (without_sound name rows ok)
+      let value = none_first (value_kinds false (Unsigned 1 most) v) []
+      (none_after (repeat_fault again name rows) _ none) in
+      values_sound name AsWritten CommandLine (v ∷ []) (without name rows)
+      (fits CommandLine v (passed most v value)) (without_sound name rows ok)
 
   number_keeps : KeepsSound again leaf
   number_keeps values rows none ok =
       let range = range_kinds 1 1 (length values) in
-      one_keeps values rows (one_value (length values) (none_first range _ none)) (none_after range _ none) ok
+      one_keeps values rows (one_value (length values) (none_first range _ none))
+      (none_after range _ none) ok
 
 -- ---- the other arguments
 
 logs_keep : (again : Bool) (i : ℕ) → KeepsSound again (logs_leaf i)
 logs_keep again i values rows none ok =
-    values_sound (codes "logs") AsWritten CommandLine (values_or_missing (logs_leaf i) values) rows
-    (λ e. absurd (true≢false (sym e)), λ e. absurd (true≢false (sym e)), λ e. absurd (true≢false (sym e))) ok
+    values_sound (codes "logs") AsWritten CommandLine (values_or_missing (logs_leaf i) values) rows (
+      λ e. absurd (true≢false (sym e)),
+      λ e. absurd (true≢false (sym e)),
+      λ e. absurd (true≢false (sym e)),
+    ) ok
 
-first_kept : (values : List Text) (rows : List Row) → length values ≡ 1 → AreSound rows → AreSound (used first_leaf values rows)
+first_kept : (values : List Text) (rows : List Row) → length values ≡ 1 → AreSound rows
+    → AreSound (used first_leaf values rows)
 first_kept [] rows one ok = absurd (omega arith)
 first_kept (v ∷ w ∷ vs) rows one ok = absurd (omega arith)
 first_kept (v ∷ []) rows one ok =
-    values_sound (codes "first") AsWritten CommandLine (v ∷ []) (without (codes "first") rows) (λ e. absurd (true≢false (sym e)), λ e. absurd (true≢false (sym e)), λ e. tt)
+    values_sound (codes "first") AsWritten CommandLine (v ∷ []) (without (codes "first") rows)
+    (λ e. absurd (true≢false (sym e)), λ e. absurd (true≢false (sym e)), λ e. tt)
     (without_sound (codes "first") rows ok)
 
 first_keeps : (again : Bool) → KeepsSound again first_leaf
-first_keeps again values rows none ok = first_kept values rows (one_value (length values) (none_first (range_kinds 1 1 (length values)) _ none)) ok
+first_keeps again values rows none ok =
+    first_kept values rows
+    (one_value (length values) (none_first (range_kinds 1 1 (length values)) _ none)) ok
 
 help_keeps : (again : Bool) → KeepsSound again (filled help_rule)
 help_keeps again values rows none ok = ok
 
-numbers_and_keep : (again : Bool) (rest : List Rule) → AllByRecursion (KeepsSound again) rest → AllByRecursion (KeepsSound again) (numbers_and rest)
-numbers_and_keep again rest keep = (number_keeps (codes "workers") (codes "4") 64 workers_fit again, (number_keeps (codes "cut") (codes "256") 65536 cut_fits again, keep))
+numbers_and_keep : (again : Bool) (rest : List Rule) → AllByRecursion (KeepsSound again) rest
+    → AllByRecursion (KeepsSound again) (numbers_and rest)
+numbers_and_keep again rest keep = (
+  number_keeps (codes "workers") (codes "4") 64 workers_fit again,
+  (number_keeps (codes "cut") (codes "256") 65536 cut_fits again, keep),
+)
 
 pub leaf_keeps : (again : Bool) → AllByRecursion (KeepsSound again) (numbers_and after_numbers)
 leaf_keeps again = numbers_and_keep again after_numbers (logs_keep again 1, (help_keeps again, tt))
 
-pub leaf_with_first_keeps : (again : Bool) → AllByRecursion (KeepsSound again) (numbers_and after_numbers_and_first)
-leaf_with_first_keeps again = numbers_and_keep again after_numbers_and_first (first_keeps again, (logs_keep again 2, (help_keeps again, tt)))
+pub leaf_with_first_keeps : (again : Bool)
+    → AllByRecursion (KeepsSound again) (numbers_and after_numbers_and_first)
+leaf_with_first_keeps again = numbers_and_keep again after_numbers_and_first
+    (first_keeps again, (logs_keep again 2, (help_keeps again, tt)))
 
 -- ---- the end of a level
 
 -- what a level of the parse holds before the defaults
-pub level_sound : (s : Shape) → AllByRecursion (KeepsSound s.args_override_self) s.rules → (words : List Text) → level_fault s [] nothing_held words false [] ≡ []
+pub level_sound : (s : Shape) → AllByRecursion (KeepsSound s.args_override_self) s.rules
+    → (words : List Text) → level_fault s [] nothing_held words false [] ≡ []
     → AreSound (settled s.rules (walk s.rules [] nothing_held words).held).rows
 level_sound s keeps words none =
     let end = (walk s.rules [] nothing_held words).held in
     let walked = walk_fault s [] (walk_from nothing_held) words in
-    settled_sound s keeps end (none_first (settle_fault s.rules s.args_override_self end) _ (none_after walked _ none))
+    settled_sound s keeps end
+    (none_first (settle_fault s.rules s.args_override_self end) _ (none_after walked _ none))
     (walk_sound s keeps [] (walk_from nothing_held) words (none_first walked _ none) tt)
 
 -- the rows are sound, and both numbers have rows
@@ -136,17 +164,25 @@ pub record HasNumbers (rows : List Row) : Type 0 where
   pub cut : IsNumberUpTo 65536 (one_of (codes "cut") rows)
   pub sound : AreSound rows
 
-no_defaults : (rest : List Rule) (rows : List Row) → AllByRecursion (λ a. a.defaults ≡ []) rest → fold with_default rows rest ≡ rows
+no_defaults : (rest : List Rule) (rows : List Row) → AllByRecursion (λ a. a.defaults ≡ []) rest
+    → fold with_default rows rest ≡ rows
 no_defaults [] rows none = refl
-no_defaults (a ∷ rest) rows none = no_defaults rest (with_default rows a) none.1 ∙ no_default a rows none.0
+no_defaults (a ∷ rest) rows none = no_defaults rest (with_default rows a) none.1
+    ∙ no_default a rows none.0
 
-pub numbers_have_rows : (rest : List Rule) → AllByRecursion (λ a. a.defaults ≡ []) rest → (rows : List Row) → AreSound rows → HasNumbers (fold with_default rows (numbers_and rest))
+pub numbers_have_rows : (rest : List Rule) → AllByRecursion (λ a. a.defaults ≡ []) rest
+    → (rows : List Row) → AreSound rows → HasNumbers (fold with_default rows (numbers_and rest))
 numbers_have_rows rest none rows ok =
     let one = with_default rows workers_leaf in
     let two = with_default one cut_leaf in
-    let one_sound = default_sound workers_leaf (codes "4") [] rows refl (workers_fit DefaultValue (codes "4") (accepts-Accepts false (Unsigned 1 64) (codes "4") refl)) ok in
-    let two_sound = default_sound cut_leaf (codes "256") [] one refl (cut_fits DefaultValue (codes "256") (accepts-Accepts false (Unsigned 1 65536) (codes "256") refl)) one_sound in
-    let workers_has = default_keeps_row (codes "workers") cut_leaf one (default_has_row workers_leaf (codes "4") [] rows refl refl) in
+    let one_sound = default_sound workers_leaf (codes "4") [] rows refl
+    (workers_fit DefaultValue (codes "4")
+    (accepts-Accepts false (Unsigned 1 64) (codes "4") refl)) ok in
+    let two_sound = default_sound cut_leaf (codes "256") [] one refl
+    (cut_fits DefaultValue (codes "256")
+    (accepts-Accepts false (Unsigned 1 65536) (codes "256") refl)) one_sound in
+    let workers_has = default_keeps_row (codes "workers") cut_leaf one
+    (default_has_row workers_leaf (codes "4") [] rows refl refl) in
     let cut_has = default_has_row cut_leaf (codes "256") [] one refl refl in
     subst HasNumbers (sym (no_defaults rest two none)) (record {
       workers = number_read (codes "workers") 64 two (λ r h e. h.0 e) two_sound workers_has;
@@ -154,10 +190,14 @@ numbers_have_rows rest none rows ok =
       sound = two_sound;
     })
 
-required_given : (given : Bool) → cond (not given || false) (MissingRequiredArgument ∷ []) [] ≡ [] → given ≡ true
+required_given : (given : Bool) → cond (not given || false) (MissingRequiredArgument ∷ []) [] ≡ []
+    → given ≡ true
 required_given true none = refl
 required_given false none = cc
 
 -- if no required argument is missing, the first argument has a row
-pub first_has_row : (rows : List Row) → cond (not (is_given (codes "first") rows) || false) (MissingRequiredArgument ∷ []) [] ≡ [] → AreSound rows → IsSome (first_in rows)
-first_has_row rows none ok = first_read rows ok (required_given (is_given (codes "first") rows) none)
+pub first_has_row : (rows : List Row)
+    → cond (not (is_given (codes "first") rows) || false) (MissingRequiredArgument ∷ []) [] ≡ []
+    → AreSound rows → IsSome (first_in rows)
+first_has_row rows none ok =
+    first_read rows ok (required_given (is_given (codes "first") rows) none)

@@ -13,20 +13,29 @@ pub asks_work : (given : Given) (asked : Words) → IsWorkOf given asked → IsW
 asks_work given (words.Work task plan paths) h = tt
 asks_work given (words.Text text status) h = h
 
-is_among : (kinds : Kinds) (kind : ErrorKind) → kind ≢ OutOfMemory → (kind ≡ OutOfMemory) ⊎ IsAmong kind kinds → IsAmong kind kinds
+is_among : (kinds : Kinds) (kind : ErrorKind) → kind ≢ OutOfMemory
+    → (kind ≡ OutOfMemory) ⊎ IsAmong kind kinds → IsAmong kind kinds
 is_among kinds kind not_memory (inl memory) = absurd (not_memory memory)
 is_among kinds kind not_memory (inr among) = among
 
-module _ (kinds : Kinds) (kind : ErrorKind) (not_memory : kind ≢ OutOfMemory) (has : (kind ≡ OutOfMemory) ⊎ IsAmong kind kinds) where
-  pub is_no_work : (asked : Words) → IsText (status_of_kind kind) asked → IsWork asked ↔ (kinds ≡ [])
+module _ (kinds : Kinds) (kind : ErrorKind) (not_memory : kind ≢ OutOfMemory)
+    (has : (kind ≡ OutOfMemory) ⊎ IsAmong kind kinds) where
+  pub is_no_work : (asked : Words) → IsText (status_of_kind kind) asked
+      → IsWork asked ↔ (kinds ≡ [])
   is_no_work (words.Work task plan paths) h = absurd h
-  is_no_work (words.Text text status) h = (λ asks. absurd asks, λ none. absurd (subst (IsAmong kind) none (is_among kinds kind not_memory has)))
+  is_no_work (words.Text text status) h = (
+    λ asks. absurd asks,
+    λ none. absurd
+        (subst (IsAmong kind) none (is_among kinds kind not_memory has)),
+  )
 
-  pub has_exit_status : (asked : Words) → IsText (status_of_kind kind) asked → IfText (IsExitStatus kinds) asked
+  pub has_exit_status : (asked : Words) → IsText (status_of_kind kind) asked
+      → IfText (IsExitStatus kinds) asked
   has_exit_status (words.Work task plan paths) h = tt
   has_exit_status (words.Text text status) h = (kind, is_among kinds kind not_memory has, h)
 
-pub is_refused : (kind : ErrorKind) (takes : Bool) (asked : Words) → kind ≢ OutOfMemory → (takes ≡ true → kind ≡ OutOfMemory) → IfText (λ status. takes ≡ false) asked
+pub is_refused : (kind : ErrorKind) (takes : Bool) (asked : Words) → kind ≢ OutOfMemory
+    → (takes ≡ true → kind ≡ OutOfMemory) → IfText (λ status. takes ≡ false) asked
 is_refused kind takes (words.Work task plan paths) not_memory passes = tt
 is_refused kind true (words.Text text status) not_memory passes = absurd (not_memory (passes refl))
 is_refused kind false (words.Text text status) not_memory passes = refl

@@ -9,22 +9,35 @@ use Rattle.epx_words.specs.declared.words.Words.{Words}
 use Rattle.epx_words.specs.declared.words.Words.TheVariants as words
 use Rattle.epx_words.proofs.FaultLemmas.{epx_is_simple}
 
-module _ {Parsed : Type 0} (app : App) (is : app ≡ epx_app) (texts : List Text) (given : Given) (found : is_simple app ≡ true → Parsed × (given ≡ subcommand_of app texts)) where
+module _ {Parsed : Type 0} (app : App) (is : app ≡ epx_app) (texts : List Text) (given : Given)
+    (found : is_simple app ≡ true → Parsed × (given ≡ subcommand_of app texts)) where
   pub given_by_epx : given ≡ subcommand_of epx_app texts
   given_by_epx = (found (ap is_simple is ∙ epx_is_simple)).1 ∙ ap (λ a. subcommand_of a texts) is
 
-  pub is_task : (asked : Words) → IsWorkOf given asked → IfWork (λ task plan paths. name_in (subcommand_of epx_app texts) ≡ Some (task_name task)) asked
-  is_task (words.Work task plan paths) fits = subst (λ g. name_in g ≡ Some (task_name task)) given_by_epx fits.task
+  pub is_task : (asked : Words) → IsWorkOf given asked
+      → IfWork (λ task plan paths. name_in (subcommand_of epx_app texts) ≡ Some (task_name task))
+      asked
+  is_task (words.Work task plan paths) fits =
+      subst (λ g. name_in g ≡ Some (task_name task)) given_by_epx fits.task
   is_task (words.Text text status) fits = tt
 
-  pub is_workers : (asked : Words) → IsWorkOf given asked → IfWork (λ task plan paths. IsWorkersOf (rows_in (subcommand_of epx_app texts)) plan.workers) asked
-  is_workers (words.Work task plan paths) fits = subst (λ g. IsWorkersOf (rows_in g) plan.workers) given_by_epx fits.workers
+  pub is_workers : (asked : Words) → IsWorkOf given asked
+      → IfWork (λ task plan paths. IsWorkersOf (rows_in (subcommand_of epx_app texts))
+      plan.workers) asked
+  is_workers (words.Work task plan paths) fits =
+      subst (λ g. IsWorkersOf (rows_in g) plan.workers) given_by_epx fits.workers
   is_workers (words.Text text status) fits = tt
 
-  pub is_cut : (asked : Words) → IsWorkOf given asked → IfWork (λ task plan paths. IsCutOf (rows_in (subcommand_of epx_app texts)) plan.cut) asked
-  is_cut (words.Work task plan paths) fits = subst (λ g. IsCutOf (rows_in g) plan.cut) given_by_epx fits.cut
+  pub is_cut : (asked : Words) → IsWorkOf given asked
+      → IfWork (λ task plan paths. IsCutOf (rows_in (subcommand_of epx_app texts)) plan.cut) asked
+  is_cut (words.Work task plan paths) fits =
+      subst (λ g. IsCutOf (rows_in g) plan.cut) given_by_epx fits.cut
   is_cut (words.Text text status) fits = tt
 
-  pub are_paths : (asked : Words) → IsWorkOf given asked → IfWork (λ task plan paths. ArePathsOf task (rows_in (subcommand_of epx_app texts)) paths) asked
-  are_paths (words.Work task plan paths) fits = subst (λ g. ArePathsOf task (rows_in g) (option_map (λ list. map string_bytes list.items) paths)) given_by_epx fits.paths
+  pub are_paths : (asked : Words) → IsWorkOf given asked
+      → IfWork (λ task plan paths. ArePathsOf task (rows_in (subcommand_of epx_app texts)) paths)
+      asked
+  are_paths (words.Work task plan paths) fits =
+      subst (λ g. ArePathsOf task (rows_in g)
+      (option_map (λ list. map string_bytes list.items) paths)) given_by_epx fits.paths
   are_paths (words.Text text status) fits = tt

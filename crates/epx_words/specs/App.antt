@@ -22,12 +22,17 @@ logs_rule = record (new_rule (codes "logs")) { action = Some Append; value_names
 
 -- the required argument before the logs
 abbrev pub first_rule : Rule
-first_rule = record (new_rule (codes "first")) { action = Some Set; value_names = 1; required = true }
+first_rule = record (new_rule (codes "first")) {
+  action = Some Set;
+  value_names = 1;
+  required = true;
+}
 
 -- a subcommand with its two options
 abbrev pub numbers_app : Text → App
 numbers_app name =
-    with_rule (with_rule (new_app name) (number_rule (codes "workers") (codes "4") 64)) (number_rule (codes "cut") (codes "256") 65536)
+    with_rule (with_rule (new_app name) (number_rule (codes "workers") (codes "4") 64))
+    (number_rule (codes "cut") (codes "256") 65536)
 
 -- a subcommand over logs
 abbrev pub work_app : Text → App
@@ -39,13 +44,19 @@ first_app name = with_rule (with_rule (numbers_app name) first_rule) logs_rule
 
 -- the program without its subcommands
 abbrev pub epx_top : App
-epx_top = on_top (λ shape. record shape { has_version = true; subcommand_required = true }) (new_app (codes "epx"))
+epx_top = on_top (λ shape. record shape { has_version = true; subcommand_required = true })
+    (new_app (codes "epx"))
 
 -- the program with the subcommands `run`, `order`, `levels` and `graph`
 abbrev pub runs_app : App
 runs_app =
-    with_subcommand (with_subcommand (with_subcommand (with_subcommand epx_top (work_app (codes "run")).top) (work_app (codes "order")).top) (work_app (codes "levels")).top) (work_app (codes "graph")).top
+    with_subcommand
+    (with_subcommand (with_subcommand (with_subcommand epx_top (work_app (codes "run")).top)
+    (work_app (codes "order")).top) (work_app (codes "levels")).top)
+    (work_app (codes "graph")).top
 
 -- the program with all subcommands
 abbrev pub epx_app : App
-epx_app = with_subcommand (with_subcommand (with_subcommand runs_app (first_app (codes "resume")).top) (work_app (codes "audit")).top) (first_app (codes "check")).top
+epx_app =
+    with_subcommand (with_subcommand (with_subcommand runs_app (first_app (codes "resume")).top)
+    (work_app (codes "audit")).top) (first_app (codes "check")).top

@@ -12,4 +12,5 @@ status_of_kind _ = 2
 
 -- this is the status of one of these kinds
 abbrev pub IsExitStatus : Kinds → ℕ → Type 0
-IsExitStatus kinds status = (kind : ErrorKind) × IsAmong kind kinds × (status ≡ status_of_kind kind)
+IsExitStatus kinds status = (kind : ErrorKind) × IsAmong kind kinds
+    × (status ≡ status_of_kind kind)

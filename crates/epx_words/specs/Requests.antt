@@ -1,12 +1,14 @@
 -- What a command line asks for.
-use Rattle.std.specs.Prelude.{◌≡◌, ⊤, ℕ, List, ◌∷◌, Option, Some, codes, map, option_map, string_bytes}
+use Rattle.std.specs.Prelude.{◌≡◌, ⊤, ℕ, List, ◌∷◌, Option, Some, codes, map, option_map}
+use Rattle.std.specs.Prelude.{string_bytes}
 use Rattle.clap.specs.Words.{Row, Text}
 use Rattle.epx_types.specs.Pieces.{PlanNumbers}
 use Rattle.epx_words.specs.declared.words.Task.{Task}
 use Rattle.epx_words.specs.declared.words.Task.TheVariants as task
 use Rattle.epx_words.specs.declared.words.Words.{Words}
 use Rattle.epx_words.specs.declared.words.Words.TheVariants as words
-use Rattle.epx_words.specs.SubcommandRows.{Given, IsCutOf, IsWorkersOf, first_in, logs_in, name_in, rows_in}
+use Rattle.epx_words.specs.SubcommandRows.{Given, IsCutOf, IsWorkersOf, first_in, logs_in, name_in}
+use Rattle.epx_words.specs.SubcommandRows.{rows_in}
 
 -- the name of the subcommand of a task
 abbrev pub task_name : Task → Text
@@ -20,7 +22,8 @@ task_name task.Check = codes "check"
 
 -- the path of the first argument, and then the paths of the logs
 abbrev pub AreFirstAndLogs : List Row → Option (List Text) → Type 0
-AreFirstAndLogs rows paths = (first : Text) × (first_in rows ≡ Some first) × (paths ≡ Some (first ∷ logs_in rows))
+AreFirstAndLogs rows paths = (first : Text) × (first_in rows ≡ Some first)
+    × (paths ≡ Some (first ∷ logs_in rows))
 
 -- the paths of a task: of its base or its list, if it has one, and then of its logs
 abbrev pub ArePathsOf : Task → List Row → Option (List Text) → Type 0
@@ -30,7 +33,8 @@ ArePathsOf _ rows paths = paths ≡ Some (logs_in rows)
 
 -- if the words ask for work, P holds of the task, the plan and the paths
 abbrev pub IfWork : (Task → PlanNumbers → Option (List Text) → Type 0) → Words → Type 0
-IfWork P (words.Work task plan paths) = P task plan (option_map (λ list. map string_bytes list.items) paths)
+IfWork P (words.Work task plan paths) =
+    P task plan (option_map (λ list. map string_bytes list.items) paths)
 IfWork P (words.Text text status) = ⊤
 
 -- the words ask for work
@@ -44,7 +48,8 @@ IfText P (words.Work task plan paths) = ⊤
 IfText P (words.Text text status) = P status
 
 -- this is the work that a subcommand asks for by its rows
-pub record AsksFor (given : Given) (asked : Task) (cutting : PlanNumbers) (logs : Option (List Text)) : Type 0 where
+pub record AsksFor (given : Given) (asked : Task) (cutting : PlanNumbers)
+    (logs : Option (List Text)) : Type 0 where
   pub task : name_in given ≡ Some (task_name asked)
   pub workers : IsWorkersOf (rows_in given) cutting.workers
   pub cut : IsCutOf (rows_in given) cutting.cut
@@ -52,7 +57,8 @@ pub record AsksFor (given : Given) (asked : Task) (cutting : PlanNumbers) (logs 
 
 -- the words ask for that work
 abbrev pub IsWorkOf : Given → Words → Type 0
-IsWorkOf given (words.Work task plan paths) = AsksFor given task plan (option_map (λ list. map string_bytes list.items) paths)
+IsWorkOf given (words.Work task plan paths) =
+    AsksFor given task plan (option_map (λ list. map string_bytes list.items) paths)
 IsWorkOf given (words.Text text status) = ⊥
 
 -- the words ask for a text with this status

@@ -1,5 +1,6 @@
 -- The values in the rows of a subcommand: two numbers, the logs, and the argument before them.
-use Rattle.std.specs.Prelude.{◌≡◌, ◌⊎◌, ℕ, List, [], Option, Some, None, codes, option_map, unwrap_or}
+use Rattle.std.specs.Prelude.{◌≡◌, ◌⊎◌, ℕ, List, [], Option, Some, None, codes, option_map}
+use Rattle.std.specs.Prelude.{unwrap_or}
 use Rattle.std.specs.Option.{IsSome, option_map_or}
 use Rattle.std.specs.Str.Parse.{IsNumeral, digits_value, without_leading_plus}
 use Rattle.clap.specs.Words.{IsUnsignedIn, Row, Text, all_of, first_of, one_of}
@@ -18,7 +19,8 @@ rows_in given = option_map_or (λ p. p.1) given []
 -- the text is decimal digits, with or without a leading plus, and n is their value
 abbrev pub IsNumberOf : Option Text → ℕ → Type 0
 IsNumberOf None n = ⊥
-IsNumberOf (Some text) n = IsNumeral 10 (without_leading_plus text) × (n ≡ digits_value 10 (without_leading_plus text))
+IsNumberOf (Some text) n = IsNumeral 10 (without_leading_plus text)
+    × (n ≡ digits_value 10 (without_leading_plus text))
 
 -- the option `--workers` has the value n
 abbrev pub IsWorkersOf : List Row → ℕ → Type 0
@@ -44,7 +46,11 @@ IsNumberUpTo most (Some text) = IsUnsignedIn 1 most text
 -- the name of a subcommand that asks for work
 abbrev pub IsTaskName : Text → Type 0
 IsTaskName name =
-    (name ≡ codes "run") ⊎ ((name ≡ codes "order") ⊎ ((name ≡ codes "levels") ⊎ ((name ≡ codes "graph") ⊎ ((name ≡ codes "resume") ⊎ ((name ≡ codes "audit") ⊎ (name ≡ codes "check"))))))
+    (name ≡ codes "run")
+    ⊎ ((name ≡ codes "order")
+    ⊎ ((name ≡ codes "levels")
+    ⊎ ((name ≡ codes "graph")
+    ⊎ ((name ≡ codes "resume") ⊎ ((name ≡ codes "audit") ⊎ (name ≡ codes "check"))))))
 
 -- the name of a subcommand with an argument before the logs: a base, or a list
 abbrev pub NeedsFirst : Text → Type 0
@@ -55,4 +61,5 @@ NeedsFirst name = (name ≡ codes "resume") ⊎ (name ≡ codes "check")
 abbrev pub AsksForWork : Given → Type 0
 AsksForWork None = ⊥
 AsksForWork (Some p) =
-    IsTaskName p.0 × IsNumberUpTo 64 (one_of (codes "workers") p.1) × IsNumberUpTo 65536 (one_of (codes "cut") p.1) × (NeedsFirst p.0 → IsSome (first_in p.1))
+    IsTaskName p.0 × IsNumberUpTo 64 (one_of (codes "workers") p.1)
+    × IsNumberUpTo 65536 (one_of (codes "cut") p.1) × (NeedsFirst p.0 → IsSome (first_in p.1))

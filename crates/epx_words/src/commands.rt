@@ -1,7 +1,8 @@
 //! The program's command line, as a clap `Command`.
 ghost use Rattle.std.specs.Prelude.{◌≡◌, IfOk, codes};
 ghost use Rattle.clap.specs.Words.{app_of, new_app, rule_of};
-ghost use Rattle.epx_words.specs.App.{epx_app, epx_top, first_app, first_rule, logs_rule, number_rule, numbers_app, runs_app, work_app};
+ghost use Rattle.epx_words.specs.App.{epx_app, epx_top, first_app, first_rule, logs_rule};
+ghost use Rattle.epx_words.specs.App.{number_rule, numbers_app, runs_app, work_app};
 
 use clap::builder::ValueParser;
 use clap::{Arg, ArgAction, Command};

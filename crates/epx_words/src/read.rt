@@ -1,11 +1,16 @@
 //! The meaning of a command line.
-ghost use Rattle.std.specs.Prelude.{◌≡◌, ◌≤◌, ◌≢◌, ◌↔◌, [], None, Some, IfOk, MatchResult, codes, length, map, false, string_bytes, true};
+ghost use Rattle.std.specs.Prelude.{◌≡◌, ◌≤◌, ◌≢◌, ◌↔◌, [], None, Some, IfOk, MatchResult, codes};
+ghost use Rattle.std.specs.Prelude.{length, map, false, string_bytes, true};
 ghost use Rattle.std.specs.Option.{IsSome};
-ghost use Rattle.clap.specs.Words.{fault_of, found_of, kind_of, one_of, rows_of, subcommand_of, subcommand_rows_of, takes};
+ghost use Rattle.clap.specs.Words.{fault_of, found_of, kind_of, one_of, rows_of, subcommand_of};
+ghost use Rattle.clap.specs.Words.{subcommand_rows_of, takes};
 ghost use Rattle.epx_words.specs.App.{epx_app};
-ghost use Rattle.epx_words.specs.Requests.{AreFirstAndLogs, ArePathsOf, IsWork, IfText, IfWork, IsText, IsWorkOf, task_name};
+ghost use Rattle.epx_words.specs.Requests.{AreFirstAndLogs, ArePathsOf, IsWork, IfText, IfWork};
+ghost use Rattle.epx_words.specs.Requests.{IsText, IsWorkOf, task_name};
 ghost use Rattle.epx_words.specs.ExitStatus.{IsExitStatus, status_of_kind};
-ghost use Rattle.epx_words.specs.SubcommandRows.{IsCutOf, IsNumberUpTo, IsTaskName, IsWorkersOf, AsksForWork, NeedsFirst, first_in, logs_in, name_in, rows_in};
+ghost use Rattle.epx_words.specs.SubcommandRows.{IsCutOf, IsNumberUpTo, IsTaskName, IsWorkersOf};
+ghost use Rattle.epx_words.specs.SubcommandRows.{AsksForWork, NeedsFirst, first_in, logs_in};
+ghost use Rattle.epx_words.specs.SubcommandRows.{name_in, rows_in};
 
 use crate::commands::command;
 use crate::words::{Task, Words};
@@ -27,7 +32,8 @@ fn copies(alloc: Global, texts: &[&str]) -> Result<Vec<String>, AllocError>
 
 /// The paths of the logs, in their order.
 fn logs_of(alloc: Global, matches: &ArgMatches<'_>) -> Result<Vec<String>, AllocError>
-    ensures { IfOk result (λ logs. map string_bytes logs.items ≡ logs_in (rows_of (found_of matches.now))) }
+    ensures { IfOk result (λ logs. map string_bytes logs.items
+        ≡ logs_in (rows_of (found_of matches.now))) }
 {
     match matches.get_strs("logs") {
         Some(logs) => copies(alloc, logs),
@@ -150,15 +156,20 @@ fn text_of(alloc: Global, error: &Error) -> Result<Words, Memory>
 /// running out of memory.
 pub fn read_words(alloc: Global, words: &[&str]) -> Result<Words, Memory>
     ensures bare { length words.now ≤ 1
-        → IfOk result (λ asked. asked ≡ Words.Work Task.Run (record { workers = 4; cut = 256 }) None) }
+        → IfOk result (λ asked. asked ≡ Words.Work Task.Run (record { workers = 4; cut = 256 })
+        None) }
     ensures task { let given = subcommand_of epx_app (map (λ w. w.now) words.now) in
-        2 ≤ length words.now → IfOk result (IfWork (λ task plan paths. name_in given ≡ Some (task_name task))) }
+        2 ≤ length words.now
+        → IfOk result (IfWork (λ task plan paths. name_in given ≡ Some (task_name task))) }
     ensures workers { let given = subcommand_of epx_app (map (λ w. w.now) words.now) in
-        2 ≤ length words.now → IfOk result (IfWork (λ task plan paths. IsWorkersOf (rows_in given) plan.workers)) }
+        2 ≤ length words.now
+        → IfOk result (IfWork (λ task plan paths. IsWorkersOf (rows_in given) plan.workers)) }
     ensures cut { let given = subcommand_of epx_app (map (λ w. w.now) words.now) in
-        2 ≤ length words.now → IfOk result (IfWork (λ task plan paths. IsCutOf (rows_in given) plan.cut)) }
+        2 ≤ length words.now
+        → IfOk result (IfWork (λ task plan paths. IsCutOf (rows_in given) plan.cut)) }
     ensures paths { let given = subcommand_of epx_app (map (λ w. w.now) words.now) in
-        2 ≤ length words.now → IfOk result (IfWork (λ task plan paths. ArePathsOf task (rows_in given) paths)) }
+        2 ≤ length words.now
+        → IfOk result (IfWork (λ task plan paths. ArePathsOf task (rows_in given) paths)) }
     ensures taken { 2 ≤ length words.now → IfOk result (λ asked.
         IsWork asked ↔ (fault_of epx_app (map (λ w. w.now) words.now) ≡ [])) }
     ensures refused { 2 ≤ length words.now → IfOk result (IfText (λ status.

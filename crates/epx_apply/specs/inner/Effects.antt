@@ -32,4 +32,5 @@ put_replies (i ∷ places) (r ∷ replies) at = put_replies places replies (slic
 
 -- the items of one piece of a list
 abbrev pub items_of_piece : {X : Type 0} → ℕ → List X → ℕ → List X
-items_of_piece cut items piece = slice_range items (piece_start cut piece) (piece_end cut (length items) piece)
+items_of_piece cut items piece =
+    slice_range items (piece_start cut piece) (piece_end cut (length items) piece)

@@ -1,5 +1,7 @@
 -- Tables with the levels of the commands so far that touch each key and that write it.
-use Rattle.std.specs.Prelude.{◌≡◌, ◌⊎◌, ℕ, suc, max, ◌<◌, Bool, true, false, List, [], ◌∷◌, ◌++◌, if◌then◌else◌, length, map, flat_map, slice_index_or, slice_set, Contains}
+use Rattle.std.specs.Prelude.{◌≡◌, ◌⊎◌, ℕ, suc, max, ◌<◌, Bool, true, false, List, [], ◌∷◌, ◌++◌}
+use Rattle.std.specs.Prelude.{if◌then◌else◌, length, map, flat_map, slice_index_or, slice_set}
+use Rattle.std.specs.Prelude.{Contains}
 use Rattle.epx_types.specs.declared.op.Op.{Op}
 use Rattle.epx_types.specs.declared.op.Op.TheVariants.{Get, Put, Del, Add, Is, Floor, Copy}
 use Rattle.epx_types.specs.CommandKeys.{touched_by, written_by}
@@ -39,43 +41,57 @@ abbrev pub written_in : List Op → List (List ℕ)
 written_in ops = flat_map written_by ops
 
 -- n is one above the greatest level of the commands that have the key k, or 0 if none has it
-pub record IsLevelAbove (keys_of : List Op → List (List ℕ)) (done : List (List Op × ℕ)) (k : List ℕ) (n : ℕ) : Type 0 where
+pub record IsLevelAbove (keys_of : List Op → List (List ℕ)) (done : List (List Op × ℕ))
+    (k : List ℕ) (n : ℕ) : Type 0 where
   pub above : (ops : List Op) (l : ℕ) → Contains done (ops, l) → Contains (keys_of ops) k → l < n
-  pub reached : (n ≡ 0) ⊎ ((ops : List Op) × (l : ℕ) × Contains done (ops, l) × Contains (keys_of ops) k × (n ≡ suc l))
+  pub reached : (n ≡ 0) ⊎ ((ops : List Op) × (l : ℕ) × Contains done (ops, l)
+      × Contains (keys_of ops) k × (n ≡ suc l))
 
 -- t is the table of the done commands with their levels, and of the keys of the current command so
 -- far
-pub record IsKeyTableOf (done : List (List Op × ℕ)) (current : List (List ℕ × Bool)) (t : Table) : Type 0 where
+pub record IsKeyTableOf (done : List (List Op × ℕ)) (current : List (List ℕ × Bool))
+    (t : Table) : Type 0 where
   pub small : (ops : List Op) (l : ℕ) → Contains done (ops, l) → l < length done
-  pub known : (ops : List Op) (l : ℕ) (k : List ℕ) → Contains done (ops, l) → Contains (touched_in ops) k → Contains t.keys k
-  pub no_repeats : (x y : ℕ) → x < length t.keys → y < length t.keys → key_at t.keys x ≡ key_at t.keys y → x ≡ y
+  pub known : (ops : List Op) (l : ℕ) (k : List ℕ) → Contains done (ops, l)
+      → Contains (touched_in ops) k → Contains t.keys k
+  pub no_repeats : (x y : ℕ) → x < length t.keys → y < length t.keys
+      → key_at t.keys x ≡ key_at t.keys y → x ≡ y
   pub key_levels : length t.key_levels ≡ length t.keys
-  pub touchers : (x : ℕ) → x < length t.keys → IsLevelAbove touched_in done (key_at t.keys x) (key_levels_at t.key_levels x).touchers
-  pub writers : (x : ℕ) → x < length t.keys → IsLevelAbove written_in done (key_at t.keys x) (key_levels_at t.key_levels x).writers
+  pub touchers : (x : ℕ) → x < length t.keys
+      → IsLevelAbove touched_in done (key_at t.keys x) (key_levels_at t.key_levels x).touchers
+  pub writers : (x : ℕ) → x < length t.keys
+      → IsLevelAbove written_in done (key_at t.keys x) (key_levels_at t.key_levels x).writers
   pub current_keys : map (λ a. (key_at t.keys a.key, a.writes)) t.accesses ≡ current
   pub within : (a : Access) → Contains t.accesses a → a.key < length t.keys
 
 -- the new table has these further accesses of the current command
 abbrev pub AddsAccesses : List (List ℕ × Bool) → Table → Table → Type 0
-AddsAccesses more old new = (done : List (List Op × ℕ)) (current : List (List ℕ × Bool)) → IsKeyTableOf done current old → IsKeyTableOf done (current ++ more) new
+AddsAccesses more old new = (done : List (List Op × ℕ)) (current : List (List ℕ × Bool))
+    → IsKeyTableOf done current old → IsKeyTableOf done (current ++ more) new
 
 -- the least level that one access allows
 abbrev pub level_for : List KeyLevels → Access → ℕ
-level_for key_levels a = if a.writes then (key_levels_at key_levels a.key).touchers else (key_levels_at key_levels a.key).writers
+level_for key_levels a = if a.writes then (key_levels_at key_levels a.key).touchers else
+    (key_levels_at key_levels a.key).writers
 
 -- the levels of the key of an access, raised to at least n
 abbrev pub raise : ℕ → List KeyLevels → Access → List KeyLevels
 raise n key_levels a = slice_set key_levels a.key (record {
-  writers = if a.writes then max (key_levels_at key_levels a.key).writers n else (key_levels_at key_levels a.key).writers;
+  writers = if a.writes then max (key_levels_at key_levels a.key).writers n else
+      (key_levels_at key_levels a.key).writers;
   touchers = max (key_levels_at key_levels a.key).touchers n;
 })
 
 -- the level of the command after those done: the least one above each command that conflicts with
 -- it
 pub record IsNextLevel (done : List (List Op × ℕ)) (ops : List Op) (level : ℕ) : Type 0 where
-  pub above : (earlier : List Op) (l : ℕ) → Contains done (earlier, l) → Conflict earlier ops → l < level
-  pub reached : (level ≡ 0) ⊎ ((earlier : List Op) × (l : ℕ) × Contains done (earlier, l) × Conflict earlier ops × (level ≡ suc l))
+  pub above : (earlier : List Op) (l : ℕ) → Contains done (earlier, l) → Conflict earlier ops
+      → l < level
+  pub reached : (level ≡ 0)
+      ⊎ ((earlier : List Op) × (l : ℕ) × Contains done (earlier, l) × Conflict earlier ops
+      × (level ≡ suc l))
 
 -- one more command, with its level
 abbrev pub AddsCommand : List Op → ℕ → Table → Table → Type 0
-AddsCommand ops level old new = (done : List (List Op × ℕ)) → IsKeyTableOf done [] old → IsNextLevel done ops level × IsKeyTableOf (done ++ (ops, level) ∷ []) [] new
+AddsCommand ops level old new = (done : List (List Op × ℕ)) → IsKeyTableOf done [] old
+    → IsNextLevel done ops level × IsKeyTableOf (done ++ (ops, level) ∷ []) [] new

@@ -1,7 +1,8 @@
 -- The rule of a table of claims, and what its steps do. A view has one seat state. It has two
 -- during a split or a join, and none once its seat was joined into another: the seat is spent
 -- then.
-use Rattle.std.specs.Prelude.{◌≡◌, ℕ, ◌+◌, ◌-◌, ◌/◌, ◌<◌, ◌≤◌, ◌⊎◌, min, Bool, true, false, ◌||◌, List, [], ◌∷◌, ◌++◌, map, take, drop, length, slice_index}
+use Rattle.std.specs.Prelude.{◌≡◌, ℕ, ◌+◌, ◌-◌, ◌/◌, ◌<◌, ◌≤◌, ◌⊎◌, min, Bool, true, false, ◌||◌}
+use Rattle.std.specs.Prelude.{List, [], ◌∷◌, ◌++◌, map, take, drop, length, slice_index}
 use mathlib.Core.Option.{some}
 use lib.ListN.{get_elem?}
 use Rattle.atomic_table.specs.Table.{State, Me, Step}
@@ -30,8 +31,10 @@ HasTerms terms v = (v.seat_states ≡ []) ⊎ (v.terms ≡ terms)
 -- pieces drawn, and each view has the terms
 pub record HasClaimState (terms : Terms) (state : State (Unit {0}) View) : Type 0 where
   pub one_word : length state.words ≡ 1
-  pub deal : ClaimState terms.pieces terms.workers (slice_index state.words 0) (all_seat_states state.views)
-  pub lengths : total (λ h. length h.drawn) (all_seat_states state.views) ≡ min (slice_index state.words 0) terms.pieces
+  pub deal : ClaimState terms.pieces terms.workers (slice_index state.words 0)
+      (all_seat_states state.views)
+  pub lengths : total (λ h. length h.drawn) (all_seat_states state.views)
+      ≡ min (slice_index state.words 0) terms.pieces
   pub terms_known : (seat : ℕ) (v : View) → get_elem? state.views seat ≡ some v → HasTerms terms v
 
 -- the first seat has every share and has drawn nothing
@@ -52,13 +55,15 @@ at_end h = seat_state h.drawn h.share true
 -- other has the rest
 abbrev pub split_in_two : List SeatState → List SeatState
 split_in_two [] = []
-split_in_two (h ∷ hs) = seat_state h.drawn (h.share - h.share / 2) h.ended ∷ seat_state [] (h.share / 2) false ∷ hs
+split_in_two (h ∷ hs) = seat_state h.drawn (h.share - h.share / 2) h.ended
+    ∷ seat_state [] (h.share / 2) false ∷ hs
 
 -- the first two seat states are joined
 abbrev pub join_two : List SeatState → List SeatState
 join_two [] = []
 join_two (h ∷ []) = h ∷ []
-join_two (h ∷ k ∷ hs) = seat_state (h.drawn ++ k.drawn) (h.share + k.share) (h.ended || k.ended) ∷ hs
+join_two (h ∷ k ∷ hs) = seat_state (h.drawn ++ k.drawn) (h.share + k.share) (h.ended || k.ended)
+    ∷ hs
 
 -- a draw or a stop: the word grew by one; the number found was appended to the lists, or the seat
 -- states have ended
@@ -69,17 +74,23 @@ IsDrawOrStop terms seat_states found after =
     × (terms.pieces ≤ found → after ≡ view terms (map at_end seat_states))
 
 abbrev pub IsDrawStep : Step (Unit {0}) → TableSeat → ℕ → TableSeat → Type 0
-IsDrawStep step before found after = (after.1 ≡ before.1) × IsDrawOrStop before.0.terms before.0.seat_states found after.0
+IsDrawStep step before found after = (after.1 ≡ before.1)
+    × IsDrawOrStop before.0.terms before.0.seat_states found after.0
 
 -- a step that changes the seat states and not the word
-abbrev pub IsStateMove : (List SeatState → List SeatState) → Terms → List SeatState → ℕ → View → Type 0
-IsStateMove move terms seat_states found after = StateStep terms.pieces terms.workers found found seat_states after.seat_states × (after ≡ view terms (move seat_states))
+abbrev pub IsStateMove : (List SeatState → List SeatState) → Terms → List SeatState → ℕ → View
+    → Type 0
+IsStateMove move terms seat_states found after =
+    StateStep terms.pieces terms.workers found found seat_states after.seat_states
+    × (after ≡ view terms (move seat_states))
 
 abbrev pub IsSplitStep : Step (Unit {0}) → TableSeat → ℕ → TableSeat → Type 0
-IsSplitStep step before found after = (after.1 ≡ before.1) × IsStateMove split_in_two before.0.terms before.0.seat_states found after.0
+IsSplitStep step before found after = (after.1 ≡ before.1)
+    × IsStateMove split_in_two before.0.terms before.0.seat_states found after.0
 
 abbrev pub IsJoinStep : Step (Unit {0}) → TableSeat → ℕ → TableSeat → Type 0
-IsJoinStep step before found after = (after.1 ≡ before.1) × IsStateMove join_two before.0.terms before.0.seat_states found after.0
+IsJoinStep step before found after = (after.1 ≡ before.1)
+    × IsStateMove join_two before.0.terms before.0.seat_states found after.0
 
 -- the view with the first seat state, and the view with the others
 abbrev pub first_view : View → View

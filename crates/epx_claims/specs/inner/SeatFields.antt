@@ -12,7 +12,11 @@ drawn_of (h ∷ hs) = h.drawn
 
 abbrev pub seat_view : Inside → SeatView
 seat_view s = record {
-  claims = record { table = s.seat.table_id; pieces = s.seat.me.0.terms.pieces; workers = s.seat.me.0.terms.workers };
+  claims = record {
+    table = s.seat.table_id;
+    pieces = s.seat.me.0.terms.pieces;
+    workers = s.seat.me.0.terms.workers;
+  };
   drawn = drawn_of s.seat.me.0.seat_states;
   share = s.share;
   ended = s.ended;
@@ -20,5 +24,6 @@ seat_view s = record {
 
 -- the seat has one seat state and holds no slot; its share and mark are those of the state
 pub record IsClaimSeat (s : Inside) : Type 0 where
-  pub shown : s.seat.me.0.seat_states ≡ seat_state (drawn_of s.seat.me.0.seat_states) s.share s.ended ∷ []
+  pub shown : s.seat.me.0.seat_states ≡ seat_state (drawn_of s.seat.me.0.seat_states) s.share
+      s.ended ∷ []
   pub no_slot : s.seat.me.1 ≡ []

@@ -1,5 +1,6 @@
 -- The steps of a search for components.
-use Rattle.std.specs.Prelude.{◌≡◌, ℕ, ◌+◌, ◌-◌, ◌<◌, ◌≤◌, ◌⊎◌, List, [], ◌∷◌, ◌++◌, length, take, drop, slice_index, slice_set}
+use Rattle.std.specs.Prelude.{◌≡◌, ℕ, ◌+◌, ◌-◌, ◌<◌, ◌≤◌, ◌⊎◌, List, [], ◌∷◌, ◌++◌, length, take}
+use Rattle.std.specs.Prelude.{drop, slice_index, slice_set}
 use Rattle.epx_components.specs.declared.visit.Visit.{Visit}
 use Rattle.epx_components.specs.declared.visit.Visit.TheVariants.{Unseen, Open, Closed}
 use Rattle.epx_components.specs.inner.Starts.{IsInLastGroup, IsCutAbove}
@@ -22,7 +23,8 @@ pub record IsTopNode (s : SearchState) (k : ℕ) : Type 0 where
 
 -- no node of the path is in the last group
 abbrev pub IsPathBelow : SearchState → Type 0
-IsPathBelow s = (i : ℕ) → i < length s.path → slice_index s.path i < slice_index s.starts (length s.starts - 1)
+IsPathBelow s = (i : ℕ) → i < length s.path
+    → slice_index s.path i < slice_index s.starts (length s.starts - 1)
 
 -- after a node is opened as a group of its own
 abbrev pub after_enter : SearchState → ℕ → SearchState
@@ -40,7 +42,8 @@ looked s k = record s { looked_at = slice_set s.looked_at k (slice_index s.looke
 -- what an edge does that leads to a node in this state
 abbrev pub Arrives : Visit → ℕ → SearchState → SearchState → Type 0
 Arrives Unseen k old new = new ≡ after_enter old k
-Arrives (Open t) k old new = IsCutAbove t old.starts new.starts × (new ≡ record old { starts = new.starts })
+Arrives (Open t) k old new = IsCutAbove t old.starts new.starts
+    × (new ≡ record old { starts = new.starts })
 Arrives (Closed c) k old new = new ≡ old
 
 -- the open nodes from a position on are closed

@@ -8,7 +8,8 @@ pub record AreRisingBelow (xs : List ℕ) (n : ℕ) : Type 0 where
 
 -- position q is in the group of p or in a later one
 abbrev pub IsInGroupFrom : List ℕ → ℕ → ℕ → Type 0
-IsInGroupFrom starts p q = (i : ℕ) → i < length starts → slice_index starts i ≤ p → slice_index starts i ≤ q
+IsInGroupFrom starts p q = (i : ℕ) → i < length starts → slice_index starts i ≤ p
+    → slice_index starts i ≤ q
 
 -- position p is in the last group
 abbrev pub IsInLastGroup : List ℕ → ℕ → Type 0

@@ -20,7 +20,8 @@ pub record PathState (F : Type 0) : Type 0 where
 
 -- these are the next bytes of the file that was open, or of the one that this read opened
 abbrev pub ReadsNext : {F : Type 0} → (F → Option (List ℕ)) → Option F → Option F → List ℕ → Type 0
-ReadsNext {F} remaining old new bytes = (before : F) × (after : F) × IfSome old (λ first. first ≡ before) × (new ≡ Some after)
+ReadsNext {F} remaining old new bytes = (before : F) × (after : F)
+    × IfSome old (λ first. first ≡ before) × (new ≡ Some after)
     × Consumes (remaining before) (remaining after) bytes
 
 -- a read of the file at the path returned these bytes

@@ -1,5 +1,7 @@
 -- The nodes and edges of a committed map, while its graph is built.
-use Rattle.std.specs.Prelude.{◌≡◌, ◌↔◌, ℕ, ◌<◌, not, List, length, take, drop, map, filter, filter_map, flat_map, All, AllPairs, Contains, Some, slice_get, is_some}
+use Rattle.std.specs.Prelude.{◌≡◌, ◌↔◌, ℕ, ◌<◌, not, List, length, take, drop, map, filter}
+use Rattle.std.specs.Prelude.{filter_map, flat_map, All, AllPairs, Contains, Some, slice_get}
+use Rattle.std.specs.Prelude.{is_some}
 use Rattle.epx_types.specs.declared.id.Id.{Id}
 use Rattle.epx_types.specs.Ids.{IsRising}
 use Rattle.epx_types.specs.Instances.{Instance}
@@ -24,7 +26,8 @@ abbrev pub all_missing_of : List Instance → List Instance → List Id
 all_missing_of m es = flat_map (λ e. missing_of m e.deps) es
 
 -- the dependencies of some instances: committed ones by position, missing ones by Id
-pub record IsGatheredOf (m es : List Instance) (rows : List (List ℕ)) (ids : List Id) : Type 0 where
+pub record IsGatheredOf (m es : List Instance) (rows : List (List ℕ)) (ids : List Id) : Type
+    0 where
   pub committed : rows ≡ all_positions m es
   pub missing : ids ≡ all_missing_of m es
   pub deps_rise : All (λ e. IsRising e.deps) es
@@ -52,4 +55,6 @@ pub record ArePositionsOf (ids xs : List Id) (row : List ℕ) : Type 0 where
 
 -- a row of edges for each of the first n instances
 abbrev pub AreRowsOf : List Instance → List Id → List (List ℕ) → ℕ → Type 0
-AreRowsOf m ids rows n = (length rows ≡ n) × ((k : ℕ) (e : Instance) → k < n → slice_get m k ≡ Some e → ArePositionsOf ids e.deps (row_of rows k))
+AreRowsOf m ids rows n = (length rows ≡ n)
+    × ((k : ℕ) (e : Instance) → k < n → slice_get m k ≡ Some e
+    → ArePositionsOf ids e.deps (row_of rows k))

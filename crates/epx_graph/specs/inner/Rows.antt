@@ -1,5 +1,6 @@
 -- Lists of numbers, one after another in one list.
-use Rattle.std.specs.Prelude.{◌≡◌, ◌↔◌, ℕ, ◌≤◌, List, [], ◌∷◌, Contains, slice_range, slice_index_or}
+use Rattle.std.specs.Prelude.{◌≡◌, ◌↔◌, ℕ, ◌≤◌, List, [], ◌∷◌, Contains, slice_range}
+use Rattle.std.specs.Prelude.{slice_index_or}
 
 -- the rows of the list, from the end of each; the first begins at `start`
 abbrev pub rows_from : ℕ → List ℕ → List ℕ → List (List ℕ)
@@ -16,4 +17,5 @@ row_of rows k = slice_index_or rows k []
 
 -- each row has the numbers of the rows of the other that have its number
 abbrev pub AreTransposed : List (List ℕ) → List (List ℕ) → Type 0
-AreTransposed rows transpose = (k j : ℕ) → Contains (row_of rows k) j ↔ Contains (row_of transpose j) k
+AreTransposed rows transpose = (k j : ℕ) → Contains (row_of rows k) j
+    ↔ Contains (row_of transpose j) k

@@ -1,5 +1,6 @@
 -- The search backwards along edges from the missing nodes, one after another.
-use Rattle.std.specs.Prelude.{◌≡◌, ◌⊎◌, ℕ, ◌+◌, ◌<◌, ◌≤◌, List, [], ◌∷◌, length, All, Contains, Option, Some, None, not, is_some, count_by}
+use Rattle.std.specs.Prelude.{◌≡◌, ◌⊎◌, ℕ, ◌+◌, ◌<◌, ◌≤◌, List, [], ◌∷◌, length, All, Contains}
+use Rattle.std.specs.Prelude.{Option, Some, None, not, is_some, count_by}
 use Rattle.epx_graph.specs.Graphs.{DependencyGraph, edges_of, IsGraph}
 use Rattle.epx_graph.specs.NodePaths.{NodeReaches}
 use Rattle.epx_graph.specs.inner.Rows.{AreTransposed}
@@ -22,7 +23,8 @@ steps_left s = length s.stack + count_by (λ mark. not (is_some mark)) s.marks
 pub record IsVisit (nodes : List ℕ) (root : ℕ) (old new : SearchView) : Type 0 where
   pub len : length new.marks ≡ length old.marks
   pub kept : (k s : ℕ) → mark_of old.marks k ≡ Some s → mark_of new.marks k ≡ Some s
-  pub marked : (k s : ℕ) → mark_of new.marks k ≡ Some s → (mark_of old.marks k ≡ Some s) ⊎ ((mark_of old.marks k ≡ None) × Contains nodes k × (s ≡ root) × Contains new.stack k)
+  pub marked : (k s : ℕ) → mark_of new.marks k ≡ Some s → (mark_of old.marks k ≡ Some s)
+      ⊎ ((mark_of old.marks k ≡ None) × Contains nodes k × (s ≡ root) × Contains new.stack k)
   pub all : (k : ℕ) → Contains nodes k → IsMarked new.marks k
   pub stacked : (k : ℕ) → Contains old.stack k → Contains new.stack k
   pub from : (k : ℕ) → Contains new.stack k → Contains old.stack k ⊎ Contains nodes k
@@ -33,9 +35,11 @@ pub record IsVisit (nodes : List ℕ) (root : ℕ) (old new : SearchView) : Type
 pub record IsMissingSearch (g : DependencyGraph) (root : ℕ) (s : SearchView) : Type 0 where
   pub len : length s.marks ≡ g.committed
   pub sound : (k z : ℕ) → mark_of s.marks k ≡ Some z → IsLeastMissing g k z
-  pub clear : (k z : ℕ) → k < g.committed → mark_of s.marks k ≡ None → g.committed ≤ z → z < root → ¬ NodeReaches (edges_of g) k z
+  pub clear : (k z : ℕ) → k < g.committed → mark_of s.marks k ≡ None → g.committed ≤ z → z < root
+      → ¬ NodeReaches (edges_of g) k z
   pub leads : (k : ℕ) → Contains s.stack k → NodeReaches (edges_of g) k root
-  pub closed : (k j : ℕ) → Contains (edges_of g k) j → (j ≡ root) ⊎ IsMarked s.marks j → Contains s.stack j ⊎ IsMarked s.marks k
+  pub closed : (k j : ℕ) → Contains (edges_of g k) j → (j ≡ root) ⊎ IsMarked s.marks j
+      → Contains s.stack j ⊎ IsMarked s.marks k
 
 -- the search just before it begins with this root
 abbrev pub BeginsFrom : DependencyGraph → ℕ → List (Option ℕ) → Type 0
@@ -43,7 +47,9 @@ BeginsFrom g root marks = IsMissingSearch g root (record { marks = marks; stack 
 
 -- the search from one root, where `marks` are the marks when it began and the nodes to visit are
 -- on the stack
-pub record IsSpreadFrom (sources : List (List ℕ)) (root : ℕ) (marks : List (Option ℕ)) (s : SearchView) : Type 0 where
+pub record IsSpreadFrom (sources : List (List ℕ)) (root : ℕ) (marks : List (Option ℕ))
+    (s : SearchView) : Type 0 where
   pub within : All (λ k. k < length sources) s.stack
   pub len : length s.marks ≡ length marks
-  pub search : (g : DependencyGraph) → IsGraph g → AreTransposed g.edges sources → g.committed ≤ root → BeginsFrom g root marks → IsMissingSearch g root s
+  pub search : (g : DependencyGraph) → IsGraph g → AreTransposed g.edges sources
+      → g.committed ≤ root → BeginsFrom g root marks → IsMissingSearch g root s

@@ -19,7 +19,8 @@ abbrev pub IsLineOf : Id → Placed → Type 0
 IsLineOf x p = p.instance.id ≡ x
 
 -- the first line of x, and the first line that differs from it
-pub record IsDisagreementOf (lines : List Placed) (x : Id) (disagreement : Disagreement) : Type 0 where
+pub record IsDisagreementOf (lines : List Placed) (x : Id) (disagreement : Disagreement) : Type
+    0 where
   pub first : Placed
   pub second : Placed
   pub opens : IsFirstWhere (IsLineOf x) lines first
@@ -28,11 +29,17 @@ pub record IsDisagreementOf (lines : List Placed) (x : Id) (disagreement : Disag
   pub second_place : second.place ≡ disagreement.second
 
 pub record IsLedgerOf (lines : List Placed) (noted : LedgerView) : Type 0 where
-  pub firsts : (x : Id) (p : Placed) → Contains noted.firsts (x, p) → IsFirstWhere (IsLineOf x) lines p
-  pub whole : (p : Placed) → Contains lines p → Contains (map (λ e. e.0) noted.firsts) p.instance.id
-  pub disagreements : (x : Id) (disagreement : Disagreement) → Contains noted.disagreements (x, disagreement) → IsDisagreementOf lines x disagreement
-  pub alike : (x : Id) (p : Placed) → Contains noted.firsts (x, p) → ¬ Contains (map (λ e. e.0) noted.disagreements) x → (q : Placed) → Contains lines q → q.instance.id ≡ x → p.instance ≡ q.instance
+  pub firsts : (x : Id) (p : Placed) → Contains noted.firsts (x, p)
+      → IsFirstWhere (IsLineOf x) lines p
+  pub whole : (p : Placed) → Contains lines p
+      → Contains (map (λ e. e.0) noted.firsts) p.instance.id
+  pub disagreements : (x : Id) (disagreement : Disagreement)
+      → Contains noted.disagreements (x, disagreement) → IsDisagreementOf lines x disagreement
+  pub alike : (x : Id) (p : Placed) → Contains noted.firsts (x, p)
+      → ¬ Contains (map (λ e. e.0) noted.disagreements) x → (q : Placed) → Contains lines q
+      → q.instance.id ≡ x → p.instance ≡ q.instance
 
 -- noting the lines takes the old ledger to the new one
 abbrev pub NotesLines : List Placed → LedgerView → LedgerView → Type 0
-NotesLines lines old new = (done : List Placed) → IsLedgerOf done old → IsLedgerOf (done ++ lines) new
+NotesLines lines old new = (done : List Placed) → IsLedgerOf done old
+    → IsLedgerOf (done ++ lines) new

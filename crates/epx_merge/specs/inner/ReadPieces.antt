@@ -6,7 +6,8 @@ use Rattle.epx_merge.specs.LogLines.{MeaningAt, placed_among, bad_lines_among}
 use Rattle.epx_merge.specs.Refusals.{IsFirstBadLine}
 
 -- no line is bad, and `held` holds the instances of the lines
-pub record IsCleanRead {E : Type 0} (holds : List Placed → E → Type 0) (lines : List MeaningAt) (held : E) : Type 0 where
+pub record IsCleanRead {E : Type 0} (holds : List Placed → E → Type 0) (lines : List MeaningAt)
+    (held : E) : Type 0 where
   pub clean : bad_lines_among lines ≡ []
   pub placed : holds (placed_among lines) held
 
@@ -14,14 +15,17 @@ abbrev pub IsFirstBad : List MeaningAt → BadLine → Type 0
 IsFirstBad lines bad = IsFirstBadLine (bad_lines_among lines) bad.place bad.why
 
 -- the result of reading consecutive lines: their instances, or their first bad line
-abbrev pub IsRead : {E : Type 0} → (List Placed → E → Type 0) → List MeaningAt → Result E BadLine → Type 0
+abbrev pub IsRead : {E : Type 0} → (List Placed → E → Type 0) → List MeaningAt → Result E BadLine
+    → Type 0
 IsRead holds lines (Ok held) = IsCleanRead holds lines held
 IsRead holds lines (Err bad) = IsFirstBad lines bad
 
 -- the results of reading consecutive pieces, which together are the lines
-abbrev pub AreRead : {E : Type 0} → (List Placed → E → Type 0) → List MeaningAt → List (Result E BadLine) → Type 0
+abbrev pub AreRead : {E : Type 0} → (List Placed → E → Type 0) → List MeaningAt
+    → List (Result E BadLine) → Type 0
 AreRead holds lines [] = lines ≡ []
-AreRead holds lines (piece ∷ pieces) = (here rest : List MeaningAt) × (lines ≡ here ++ rest) × IsRead holds here piece × AreRead holds rest pieces
+AreRead holds lines (piece ∷ pieces) = (here rest : List MeaningAt) × (lines ≡ here ++ rest)
+    × IsRead holds here piece × AreRead holds rest pieces
 
 -- the lines of a piece
 abbrev pub lines_of_piece : ℕ → ℕ → List MeaningAt → List MeaningAt

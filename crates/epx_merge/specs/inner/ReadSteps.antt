@@ -8,7 +8,9 @@ use Rattle.epx_merge.specs.inner.RedundantLines.{IsNextBatch}
 
 -- the lines that were read are noted and none of them is bad; the next batch is empty only if no
 -- line is left
-pub record IsReadStep (read : List MeaningAt) (ledger ledger' : LedgerView) (walk walk' : List MeaningAt) (table table' : List (Result Line Why)) (lines : List MeaningAt) : Type 0 where
+pub record IsReadStep (read : List MeaningAt) (ledger ledger' : LedgerView)
+    (walk walk' : List MeaningAt) (table table' : List (Result Line Why))
+    (lines : List MeaningAt) : Type 0 where
   pub clean : bad_lines_among read ≡ []
   pub noted : NotesLines (placed_among read) ledger ledger'
   pub batch : IsNextBatch walk walk' table table' lines

@@ -17,7 +17,8 @@ IsRedundant kept meaning = (meaning ≡ Ok Blank) ⊎ IsRepeated kept meaning
 -- the new list is the old one with the lines appended, except for some redundant ones
 abbrev pub DropsRedundant : List MeaningAt → List MeaningAt → List MeaningAt → Type 0
 DropsRedundant [] old new = old ≡ new
-DropsRedundant (line ∷ lines) old new = DropsRedundant lines (old ++ line ∷ []) new ⊎ (IsRedundant old line.meaning × DropsRedundant lines old new)
+DropsRedundant (line ∷ lines) old new = DropsRedundant lines (old ++ line ∷ []) new
+    ⊎ (IsRedundant old line.meaning × DropsRedundant lines old new)
 
 -- ---- a cache of the meanings of kept lines
 
@@ -27,7 +28,8 @@ IsRedundantIn table meaning = (meaning ≡ Ok Blank) ⊎ Contains table meaning
 
 -- the new cache has no meanings but those of the old one and perhaps this one
 abbrev pub CachesAfter : List (Result Line Why) → Result Line Why → List (Result Line Why) → Type 0
-CachesAfter old meaning new = (m : Result Line Why) → Contains new m → Contains old m ⊎ (m ≡ meaning)
+CachesAfter old meaning new = (m : Result Line Why) → Contains new m
+    → Contains old m ⊎ (m ≡ meaning)
 
 -- each meaning in the cache is redundant after the kept lines
 abbrev pub IsCacheOf : List MeaningAt → List (Result Line Why) → Type 0
@@ -35,8 +37,10 @@ IsCacheOf kept table = (m : Result Line Why) → Contains table m → IsRedundan
 
 -- reading goes past some lines; those of them that are in the batch are kept, after all lines kept
 -- earlier
-pub record IsNextBatch (old new : List MeaningAt) (table table' : List (Result Line Why)) (batch : List MeaningAt) : Type 0 where
+pub record IsNextBatch (old new : List MeaningAt) (table table' : List (Result Line Why))
+    (batch : List MeaningAt) : Type 0 where
   pub gone : List MeaningAt
   pub whole : old ≡ gone ++ new
-  pub keeps : (kept : List MeaningAt) → IsCacheOf kept table → DropsRedundant gone kept (kept ++ batch)
+  pub keeps : (kept : List MeaningAt) → IsCacheOf kept table
+      → DropsRedundant gone kept (kept ++ batch)
   pub holds : (kept : List MeaningAt) → IsCacheOf kept table → IsCacheOf (kept ++ batch) table'

@@ -32,12 +32,15 @@ AreSharing touches sources words =
 pub record IsWhole (p : Parts) (ready : List Bool) (batch : Batch) : Type 0 where
   pub counted : All (λ c. c < p.count) p.component
   pub components : (length batch.reached.items ≡ p.count) × (length batch.reaching.items ≡ p.count)
-  pub nodes : (length batch.sharing.items ≡ length p.component) × (length ready ≡ length p.component)
+  pub nodes : (length batch.sharing.items ≡ length p.component)
+      × (length ready ≡ length p.component)
 
-pub record IsBatch (g : DependencyGraph) (p : Parts) (touches : List DoubtfulTouch) (sources : List ℕ) (batch : Batch) : Type 0 where
+pub record IsBatch (g : DependencyGraph) (p : Parts) (touches : List DoubtfulTouch)
+    (sources : List ℕ) (batch : Batch) : Type 0 where
   pub few : length sources ≤ 64
   pub nodes : length p.component ≡ length g.ids
-  pub whole : (length batch.reached.items ≡ p.count) × (length batch.reaching.items ≡ p.count) × (length batch.sharing.items ≡ length g.ids)
+  pub whole : (length batch.reached.items ≡ p.count) × (length batch.reaching.items ≡ p.count)
+      × (length batch.sharing.items ≡ length g.ids)
   pub reached : AreReachedBy g p sources batch.reached.items
   pub reaching : AreReaching g p sources batch.reaching.items
   pub sharing : AreSharing touches sources batch.sharing.items

@@ -9,15 +9,26 @@ use Rattle.epx_components.specs.Partitions.{Parts, component_of, number_for}
 pub record AreEnds (p : Parts) (nodes : List ℕ) (n : ℕ) (ends : List ℕ) : Type 0 where
   pub whole : length ends ≡ p.count
   pub all : (i : ℕ) → i < n → i + 1 ≤ number_for p ends (slice_index nodes i)
-  pub one : (k : ℕ) → k < length p.component → (number_for p ends k ≡ 0) ⊎ ((i : ℕ) × (i < n) × (component_of p (slice_index nodes i) ≡ component_of p k) × (number_for p ends k ≡ i + 1))
+  pub one : (k : ℕ) → k < length p.component
+      → (number_for p ends k ≡ 0)
+      ⊎ ((i : ℕ) × (i < n) × (component_of p (slice_index nodes i) ≡ component_of p k)
+      × (number_for p ends k ≡ i + 1))
 
 -- the greatest end of the other components that a node reaches, or 0
 pub record IsEndBelow (edges : ℕ → List ℕ) (p : Parts) (ends : List ℕ) (k found : ℕ) : Type 0 where
-  pub all : (j : ℕ) → NodeReaches edges k j → component_of p j ≢ component_of p k → number_for p ends j ≤ found
-  pub one : (found ≡ 0) ⊎ ((j : ℕ) × NodeReaches edges k j × (component_of p j ≢ component_of p k) × (found ≡ number_for p ends j))
+  pub all : (j : ℕ) → NodeReaches edges k j → component_of p j ≢ component_of p k
+      → number_for p ends j ≤ found
+  pub one : (found ≡ 0) ⊎ ((j : ℕ) × NodeReaches edges k j × (component_of p j ≢ component_of p k)
+      × (found ≡ number_for p ends j))
 
 -- the greatest end of the other components that the first n targets are in and of those below
 -- these, or 0
-pub record IsGreatestEnd (component ends below : List ℕ) (own : ℕ) (targets : List ℕ) (n found : ℕ) : Type 0 where
-  pub all : (i : ℕ) → i < n → slice_index component (slice_index targets i) ≢ own → (slice_index ends (slice_index component (slice_index targets i)) ≤ found) × (slice_index below (slice_index component (slice_index targets i)) ≤ found)
-  pub one : (found ≡ 0) ⊎ ((i : ℕ) × (i < n) × (slice_index component (slice_index targets i) ≢ own) × ((found ≡ slice_index ends (slice_index component (slice_index targets i))) ⊎ (found ≡ slice_index below (slice_index component (slice_index targets i)))))
+pub record IsGreatestEnd (component ends below : List ℕ) (own : ℕ) (targets : List ℕ)
+    (n found : ℕ) : Type 0 where
+  pub all : (i : ℕ) → i < n → slice_index component (slice_index targets i) ≢ own
+      → (slice_index ends (slice_index component (slice_index targets i)) ≤ found)
+      × (slice_index below (slice_index component (slice_index targets i)) ≤ found)
+  pub one : (found ≡ 0)
+      ⊎ ((i : ℕ) × (i < n) × (slice_index component (slice_index targets i) ≢ own)
+      × ((found ≡ slice_index ends (slice_index component (slice_index targets i)))
+      ⊎ (found ≡ slice_index below (slice_index component (slice_index targets i)))))

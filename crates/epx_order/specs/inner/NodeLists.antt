@@ -1,15 +1,19 @@
 -- A list of instances, as a list of nodes.
-use Rattle.std.specs.Prelude.{◌≡◌, ◌↔◌, ℕ, ◌<◌, List, Bool, length, slice_get, slice_index, Some, IsTrue}
+use Rattle.std.specs.Prelude.{◌≡◌, ◌↔◌, ℕ, ◌<◌, List, Bool, length, slice_get, slice_index, Some}
+use Rattle.std.specs.Prelude.{IsTrue}
 use Rattle.epx_types.specs.declared.id.Id.{Id}
 use Rattle.epx_graph.specs.Graphs.{DependencyGraph}
 use Rattle.epx_order.specs.inner.ReadyMarks.{is_marked}
 
 -- the nodes of the first n instances of a list, and for each node whether it is one of them
-pub record AreListed (g : DependencyGraph) (ids : List Id) (n : ℕ) (nodes : List ℕ) (marks : List Bool) : Type 0 where
+pub record AreListed (g : DependencyGraph) (ids : List Id) (n : ℕ) (nodes : List ℕ)
+    (marks : List Bool) : Type 0 where
   pub whole : length nodes ≡ n
-  pub each : (i : ℕ) (x : Id) → i < n → slice_get ids i ≡ Some x → slice_get g.ids (slice_index nodes i) ≡ Some x
+  pub each : (i : ℕ) (x : Id) → i < n → slice_get ids i ≡ Some x
+      → slice_get g.ids (slice_index nodes i) ≡ Some x
   pub marks_whole : length marks ≡ length g.ids
-  pub marked : (k : ℕ) → IsTrue (is_marked marks k) ↔ ((i : ℕ) × (i < n) × (slice_index nodes i ≡ k))
+  pub marked : (k : ℕ) → IsTrue (is_marked marks k)
+      ↔ ((i : ℕ) × (i < n) × (slice_index nodes i ≡ k))
 
 -- a node that is marked as ready is marked as listed
 abbrev pub IsListedIfReady : List Bool → List Bool → ℕ → Type 0

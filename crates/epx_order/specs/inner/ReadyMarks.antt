@@ -10,4 +10,5 @@ is_marked marks k = slice_index_or marks k false
 -- for each node, whether it reaches no missing node; a missing node reaches itself
 pub record AreReadyMarks (g : DependencyGraph) (marks : List Bool) : Type 0 where
   pub nodes : length marks ≡ length g.ids
-  pub exact : (k : ℕ) → k < length g.ids → IsTrue (is_marked marks k) ↔ (¬ ReachesMissing (edges_of g) g.committed k)
+  pub exact : (k : ℕ) → k < length g.ids → IsTrue (is_marked marks k)
+      ↔ (¬ ReachesMissing (edges_of g) g.committed k)

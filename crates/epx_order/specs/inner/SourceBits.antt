@@ -8,7 +8,8 @@ has_bit b word = bit_at word b == 1
 -- the word of each slot has the bits of the sources that have this slot
 abbrev pub AreSourceMarks : List ℕ → List ℕ → Type 0
 AreSourceMarks slots words =
-    (b s : ℕ) → b < length slots → IsTrue (has_bit b (slice_index words s)) ↔ (slice_index slots b ≡ s)
+    (b s : ℕ) → b < length slots → IsTrue (has_bit b (slice_index words s))
+    ↔ (slice_index slots b ≡ s)
 
 -- a target whose component has bit b
 abbrev pub LeadsToBit : List ℕ → List ℕ → List ℕ → ℕ → Type 0

@@ -1,5 +1,6 @@
 -- Which keys commands touch. Keys are distinguished by their hashes alone.
-use Rattle.std.specs.Prelude.{◌≡◌, ℕ, ◌<◌, Bool, true, false, List, [], ◌∷◌, fold, flat_map, slice_get, slice_index, Some, Contains}
+use Rattle.std.specs.Prelude.{◌≡◌, ℕ, ◌<◌, Bool, true, false, List, [], ◌∷◌, fold, flat_map}
+use Rattle.std.specs.Prelude.{slice_get, slice_index, Some, Contains}
 use Rattle.std.specs.declared.hash.DefaultHasher.{DefaultHasher}
 use Rattle.std.specs.Hash as fed
 use Rattle.std.specs.Hash.DefaultHasher as sip
@@ -14,7 +15,8 @@ hash_of start key = sip.finish (fold sip.write start (fed.str key))
 
 -- the command at a position touches a key
 abbrev pub touch : DefaultHasher → ℕ → List ℕ → Bool → Touch
-touch start position key writes = record { hash = hash_of start key; position = position; writes = writes }
+touch start position key writes =
+    record { hash = hash_of start key; position = position; writes = writes }
 
 abbrev pub touches_by : DefaultHasher → ℕ → Op → List Touch
 touches_by start position (Get k) = touch start position k false ∷ []
@@ -23,14 +25,17 @@ touches_by start position (Del k) = touch start position k true ∷ []
 touches_by start position (Add k n) = touch start position k true ∷ []
 touches_by start position (Is k v) = touch start position k false ∷ []
 touches_by start position (Floor k least) = touch start position k false ∷ []
-touches_by start position (Copy k j) = touch start position k false ∷ touch start position j true ∷ []
+touches_by start position (Copy k j) =
+    touch start position k false ∷ touch start position j true ∷ []
 
 abbrev pub touches_of : DefaultHasher → ℕ → List Op → List Touch
 touches_of start position ops = flat_map (touches_by start position) ops
 
 -- the touches of the commands at the first n positions, each of which has a node
 abbrev pub HoldTouches : DefaultHasher → List Instance → List ℕ → ℕ → List Touch → Type 0
-HoldTouches start m nodes n touches = (p : ℕ) (e : Instance) (t : Touch) → p < n → slice_get m (slice_index nodes p) ≡ Some e → Contains (touches_of start p e.ops) t → Contains touches t
+HoldTouches start m nodes n touches = (p : ℕ) (e : Instance) (t : Touch) → p < n
+    → slice_get m (slice_index nodes p) ≡ Some e → Contains (touches_of start p e.ops) t
+    → Contains touches t
 
 -- each touch is at one of the first n positions
 abbrev pub ArePlaced : ℕ → List Touch → Type 0

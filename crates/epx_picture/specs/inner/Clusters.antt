@@ -1,5 +1,6 @@
 -- Marks of the nodes that are the leader of another node.
-use Rattle.std.specs.Prelude.{◌≡◌, ◌≢◌, ◌↔◌, ℕ, ◌<◌, List, Bool, false, length, slice_get, slice_index_or, Some, IsTrue}
+use Rattle.std.specs.Prelude.{◌≡◌, ◌≢◌, ◌↔◌, ℕ, ◌<◌, List, Bool, false, length, slice_get}
+use Rattle.std.specs.Prelude.{slice_index_or, Some, IsTrue}
 use Rattle.epx_graph.specs.Graphs.{DependencyGraph}
 use Rattle.epx_components.specs.declared.node_ranks.NodeRank.{NodeRank}
 use Rattle.epx_components.specs.NodeRanks.{IsNodeRank}
@@ -11,7 +12,8 @@ pub record AreNodeRanks (g : DependencyGraph) (node_ranks : List NodeRank) : Typ
 
 -- one of the first n nodes has this leader, and is not the leader itself
 abbrev pub LeadsAmong : List NodeRank → ℕ → ℕ → Type 0
-LeadsAmong node_ranks n leader = (k : ℕ) × (s : NodeRank) × (k < n) × (slice_get node_ranks k ≡ Some s) × (s.leader ≡ leader) × (k ≢ leader)
+LeadsAmong node_ranks n leader = (k : ℕ) × (s : NodeRank) × (k < n)
+    × (slice_get node_ranks k ≡ Some s) × (s.leader ≡ leader) × (k ≢ leader)
 
 -- for each node, whether it is the leader of another of the first n nodes
 pub record AreLeaderMarks (node_ranks : List NodeRank) (n : ℕ) (marks : List Bool) : Type 0 where

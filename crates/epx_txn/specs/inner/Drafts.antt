@@ -25,6 +25,8 @@ AddsKeys op d e = contents.keys e ≡ add_keys (contents.keys d) (written_by op)
 
 -- what an operation does to a draft d over the contents c; e is the draft afterwards
 abbrev pub IsStepOf : Step → Op → Contents → Draft → Draft → Type 0
-IsStepOf (Read v) op c d e = (operate op (contents_through d c) ≡ Some (contents_through e c, v ∷ [])) × AddsKeys op d e
-IsStepOf Done op c d e = (operate op (contents_through d c) ≡ Some (contents_through e c, [])) × AddsKeys op d e
+IsStepOf (Read v) op c d e =
+    (operate op (contents_through d c) ≡ Some (contents_through e c, v ∷ [])) × AddsKeys op d e
+IsStepOf Done op c d e = (operate op (contents_through d c) ≡ Some (contents_through e c, []))
+    × AddsKeys op d e
 IsStepOf Abort op c d e = operate op (contents_through d c) ≡ None

@@ -1,5 +1,6 @@
 -- The slot of a key in a list of entries, or the slot at which to insert it.
-use Rattle.std.specs.Prelude.{◌≡◌, ◌<◌, ◌≤◌, ℕ, ℤ, List, length, get_or, slice_set, Option, Some, None}
+use Rattle.std.specs.Prelude.{◌≡◌, ◌<◌, ◌≤◌, ℕ, ℤ, List, length, get_or, slice_set, Option, Some}
+use Rattle.std.specs.Prelude.{None}
 use Rattle.std.specs.List.{insert}
 use Rattle.std.specs.FinMap.{find, put}
 use Rattle.epx_types.specs.Keys.{key_cmp}

@@ -1,5 +1,6 @@
 -- The shards of a store, as one finite map.
-use Rattle.std.specs.Prelude.{◌≡◌, ◌≢◌, ℕ, ◌%◌, ◌==◌, sum, List, length, flat_map, filter, get_or, None}
+use Rattle.std.specs.Prelude.{◌≡◌, ◌≢◌, ℕ, ◌%◌, ◌==◌, sum, List, length, flat_map, filter, get_or}
+use Rattle.std.specs.Prelude.{None}
 use Rattle.std.specs.FinMap as contents
 use Rattle.epx_types.specs.Contents.{Contents}
 use Rattle.epx_types.specs.Writes.{Write}
@@ -11,7 +12,8 @@ shard_of key = sum key % 16
 -- there are sixteen shards, and each key is only in its own shard
 pub record AreShards (shards : List Contents) : Type 0 where
   pub sixteen : length shards ≡ 16
-  pub own : (n : ℕ) (k : List ℕ) → shard_of k ≢ n → contents.get (get_or shards n contents.empty) k ≡ None
+  pub own : (n : ℕ) (k : List ℕ) → shard_of k ≢ n
+      → contents.get (get_or shards n contents.empty) k ≡ None
 
 -- the contents of all shards together
 abbrev pub all_contents : List Contents → Contents

@@ -1,6 +1,7 @@
 -- An instance that is ready in a map is ready in every map that contains it. If that map is
 -- covered, the instance has the same reply there.
-use Rattle.std.proofs.Common.{◌≡◌, ◌∙◌, ℕ, ◌<◌, List, ◌++◌, length, Contains, Some, slice_get, get_or, sym, ap, subst, arith}
+use Rattle.std.proofs.Common.{◌≡◌, ◌∙◌, ℕ, ◌<◌, List, ◌++◌, length, Contains, Some, slice_get}
+use Rattle.std.proofs.Common.{get_or, sym, ap, subst, arith}
 use Rattle.std.proofs.lemmas.List.{length-map, map-append}
 use Rattle.std.proofs.lemmas.Option.{slice_get_within, slice_get-get_or}
 use Rattle.epx_types.specs.declared.id.Id.{Id}
@@ -14,26 +15,34 @@ use Rattle.epx_types.specs.Execution.{execute}
 use Rattle.epx_types.specs.Reaching.{DependsOn, Reaches}
 use Rattle.epx_types.specs.Readiness.{IsReady}
 use Rattle.epx_types.specs.Done.{remaining_ids}
-use Rattle.epx_types.specs.LawfulOrders.{SequenceBefore, IsLawfulFor, IsLawful, ops_or_empty, commands_in}
-use Rattle.epx_types.proofs.committed.AgreementLemmas.{IsRising-same, instance_of_iff, instance_of-found, instance_of-finds}
+use Rattle.epx_types.specs.LawfulOrders.{SequenceBefore, IsLawfulFor, IsLawful, ops_or_empty}
+use Rattle.epx_types.specs.LawfulOrders.{commands_in}
+use Rattle.epx_types.proofs.committed.AgreementLemmas.{IsRising-same, instance_of_iff}
+use Rattle.epx_types.proofs.committed.AgreementLemmas.{instance_of-found, instance_of-finds}
 use Rattle.epx_types.proofs.graph.DependencyLemmas.{IsCommitted-from_Contains}
 use Rattle.epx_types.proofs.commands.ExecutionLemmas.{length-replies, execute-append}
 use Rattle.epx_types.proofs.orders.LawfulExecutionLemmas.{reply-lawful}
 use Rattle.epx_types.proofs.orders.LawfulPartLemmas.{IsLawful-part_and_rest}
 use Rattle.epx_types.proofs.lists.MembershipLemmas.{Contains-from_map, map-agree}
-use Rattle.epx_types.proofs.graph.ReachingLemmas.{Reaches-refl, Reaches-trans, Reaches-dependency, Reaches-passes, IsReady-reached}
+use Rattle.epx_types.proofs.graph.ReachingLemmas.{Reaches-refl, Reaches-trans, Reaches-dependency}
+use Rattle.epx_types.proofs.graph.ReachingLemmas.{Reaches-passes, IsReady-reached}
 use Rattle.epx_types.proofs.lists.BeforeLemmas.{slice_get-append_left}
 
-module _ (m more : List Instance) (rising : IsRising (ids_of more)) (within : (e : Instance) → Contains m e → Contains more e) where
+module _ (m more : List Instance) (rising : IsRising (ids_of more))
+    (within : (e : Instance) → Contains m e → Contains more e) where
   instance_in : (x : Id) → IsCommitted m x → (e : Instance) × Contains m e × (e.id ≡ x)
   instance_in x h = Contains-from_map (λ (e : Instance). e.id) m x h
 
   IsCommitted-in_more : (x : Id) → IsCommitted m x → IsCommitted more x
-  IsCommitted-in_more x h = let e = instance_in x h in subst (IsCommitted more) e.2 (IsCommitted-from_Contains more e.0 (within e.0 e.1))
+  IsCommitted-in_more x h = let e = instance_in x h in
+      subst (IsCommitted more) e.2 (IsCommitted-from_Contains more e.0 (within e.0 e.1))
 
   Reaches-in_more : (x y : Id) → Reaches m x y → Reaches more x y
   Reaches-in_more x y there =
-      Reaches-passes m (Reaches more x) (λ v w d on. Reaches-trans more x v w on (Reaches-dependency more v w (d.0, within d.0 d.1, d.2, d.3))) x y there (Reaches-refl more x)
+      Reaches-passes m (Reaches more x)
+      (λ v w d on. Reaches-trans more x v w on
+      (Reaches-dependency more v w (d.0, within d.0 d.1, d.2, d.3))) x y there
+      (Reaches-refl more x)
 
   DependsOn-in_less : (x y : Id) → IsCommitted m x → DependsOn more x y → DependsOn m x y
   DependsOn-in_less x y committed (e, in_e, is, listed) =
@@ -44,15 +53,20 @@ module _ (m more : List Instance) (rising : IsRising (ids_of more)) (within : (e
   -- a ready instance reaches in the greater map only what it reaches in the lesser
   Reaches-in_less : (x y : Id) → IsReady m x → Reaches more x y → Reaches m x y
   Reaches-in_less x y ready there =
-      Reaches-passes more (Reaches m x) (λ v w d on. Reaches-trans m x v w on (Reaches-dependency m v w (DependsOn-in_less v w (ready.complete v on) d))) x y there (Reaches-refl m x)
+      Reaches-passes more (Reaches m x)
+      (λ v w d on. Reaches-trans m x v w on
+      (Reaches-dependency m v w (DependsOn-in_less v w (ready.complete v on) d))) x y there
+      (Reaches-refl m x)
 
   pub IsReady-in_more : (x : Id) → IsReady m x → IsReady more x
   IsReady-in_more x ready = record {
     committed = IsCommitted-in_more x ready.committed;
-    complete = λ y there. IsCommitted-in_more y (ready.complete y (Reaches-in_less x y ready there));
+    complete = λ y there. IsCommitted-in_more y
+        (ready.complete y (Reaches-in_less x y ready there));
   }
 
-  SequenceBefore-in_less : (x y : Id) → IsCommitted m x → IsCommitted m y → SequenceBefore more x y → SequenceBefore m x y
+  SequenceBefore-in_less : (x y : Id) → IsCommitted m x → IsCommitted m y → SequenceBefore more x y
+      → SequenceBefore m x y
   SequenceBefore-in_less x y x_in y_in (d, e, in_d, d_is, in_e, e_is, lower) =
       let c = instance_in x x_in in
       let f = instance_in y y_in in
@@ -60,12 +74,16 @@ module _ (m more : List Instance) (rising : IsRising (ids_of more)) (within : (e
       let same_e = IsRising-same more rising f.0 e (within f.0 f.1) in_e (f.2 ∙ sym e_is) in
       (d, e, subst (Contains m) same_d c.1, d_is, subst (Contains m) same_e f.1, e_is, lower)
 
-  same_ops : (x : Id) → IsCommitted m x → ops_or_empty (instance_of m x) ≡ ops_or_empty (instance_of more x)
+  same_ops : (x : Id) → IsCommitted m x
+      → ops_or_empty (instance_of m x) ≡ ops_or_empty (instance_of more x)
   same_ops x committed =
       let e = instance_in x committed in
       let found = instance_of-finds m e.0 e.1 in
       let known = instance_of-found m e.0.id found.0 found.1 in
-      ap (λ y. ops_or_empty (instance_of m y)) (sym e.2) ∙ ap ops_or_empty (found.1 ∙ sym ((instance_of_iff more rising x found.0).1 (within found.0 known.0, known.1 ∙ e.2)))
+      ap (λ y. ops_or_empty (instance_of m y)) (sym e.2)
+      ∙ ap ops_or_empty
+      (found.1 ∙ sym ((instance_of_iff more rising x found.0).1
+      (within found.0 known.0, known.1 ∙ e.2)))
 
   module _ (ids : List Id) (lawful : IsLawful m ids) where
     lawful_in_more : IsLawfulFor more (IsReady m) ids
@@ -73,37 +91,59 @@ module _ (m more : List Instance) (rising : IsRising (ids_of more)) (within : (e
       once = lawful.once;
       only = lawful.only;
       whole = lawful.whole;
-      after_reached = λ x y h there not_back. lawful.after_reached x y h (Reaches-in_less x y (lawful.only x h) there) (λ back. not_back (Reaches-in_more y x back));
+      after_reached = λ x y h there not_back. lawful.after_reached x y h
+          (Reaches-in_less x y (lawful.only x h) there)
+          (λ back. not_back (Reaches-in_more y x back));
       by_sequence = λ x y h k one lower.
           let x_ready = lawful.only x h in
           let y_ready = lawful.only y k in
-          lawful.by_sequence x y h k (Reaches-in_less x y x_ready one.0, Reaches-in_less y x y_ready one.1) (SequenceBefore-in_less x y x_ready.committed y_ready.committed lower);
+          lawful.by_sequence x y h k (
+            Reaches-in_less x y x_ready one.0,
+            Reaches-in_less y x y_ready one.1,
+          )
+          (SequenceBefore-in_less x y x_ready.committed y_ready.committed lower);
     }
 
     same_commands : commands_in m ids ≡ commands_in more ids
-    same_commands = map-agree (λ x. ops_or_empty (instance_of m x)) (λ x. ops_or_empty (instance_of more x)) ids (λ x h. same_ops x (lawful.only x h).committed)
+    same_commands = map-agree (λ x. ops_or_empty (instance_of m x))
+        (λ x. ops_or_empty (instance_of more x)) ids
+        (λ x h. same_ops x (lawful.only x h).committed)
 
-    module _ (covered : IsCovered more) (other : List Id) (lawful' : IsLawful more other) (c : Contents) where
+    module _ (covered : IsCovered more) (other : List Id) (lawful' : IsLawful more other)
+        (c : Contents) where
       -- first the instances that are ready in the lesser map, and then the others
       in_turn : IsLawful more (ids ++ remaining_ids ids other)
       in_turn =
-          IsLawful-part_and_rest more (IsReady m) IsReady-in_more (λ x y ready there. IsReady-reached m x y (Reaches-in_less x y ready there) ready) ids other lawful_in_more lawful'
+          IsLawful-part_and_rest more (IsReady m) IsReady-in_more
+          (λ x y ready there. IsReady-reached m x y (Reaches-in_less x y ready there) ready)
+          ids other lawful_in_more lawful'
 
       -- in that order each of the first has the same reply
-      reply_in_turn : (i : ℕ) → i < length ids → slice_get (execute (commands_in more (ids ++ remaining_ids ids other)) c).replies i ≡ slice_get (execute (commands_in m ids) c).replies i
+      reply_in_turn : (i : ℕ) → i < length ids
+          → slice_get (execute (commands_in more (ids ++ remaining_ids ids other)) c).replies i
+          ≡ slice_get (execute (commands_in m ids) c).replies i
       reply_in_turn i l =
           let rest = commands_in more (remaining_ids ids other) in
-          let both : commands_in more (ids ++ remaining_ids ids other) ≡ commands_in m ids ++ rest = map-append (λ x. ops_or_empty (instance_of more x)) ids (remaining_ids ids other) ∙ ap (λ os. os ++ rest) (sym same_commands) in
+          let both : commands_in more (ids ++ remaining_ids ids other)
+          ≡ commands_in m ids ++ rest = map-append (λ x. ops_or_empty (instance_of more x)) ids
+          (remaining_ids ids other) ∙ ap (λ os. os ++ rest) (sym same_commands) in
           let replies = (execute (commands_in m ids) c).replies in
-          let long : length replies ≡ length ids = length-replies (commands_in m ids) c ∙ length-map ids (λ x. ops_or_empty (instance_of m x)) in
+          let long : length replies ≡ length ids =
+          length-replies (commands_in m ids) c ∙ length-map ids
+          (λ x. ops_or_empty (instance_of m x)) in
           let at = slice_get-get_or replies i (Abort 0) (omega (arith, l, long)) in
           ap (λ os. slice_get (execute os c).replies i) both
           ∙ ap (λ rs. slice_get rs i) (execute-append (commands_in m ids) rest c).0
-          ∙ slice_get-append_left replies (execute rest (execute (commands_in m ids) c).final).replies i (get_or replies i (Abort 0)) at
+          ∙ slice_get-append_left replies
+          (execute rest (execute (commands_in m ids) c).final).replies i
+          (get_or replies i (Abort 0)) at
           ∙ sym at
 
       -- and so it has in every lawful order
-      pub reply-in_more : (i j : ℕ) (x : Id) → slice_get ids i ≡ Some x → slice_get other j ≡ Some x → slice_get (execute (commands_in more other) c).replies j ≡ slice_get (execute (commands_in m ids) c).replies i
+      pub reply-in_more : (i j : ℕ) (x : Id) → slice_get ids i ≡ Some x
+          → slice_get other j ≡ Some x → slice_get (execute (commands_in more other) c).replies j
+          ≡ slice_get (execute (commands_in m ids) c).replies i
       reply-in_more i j x p q =
-          reply-lawful more rising covered (ids ++ remaining_ids ids other) other in_turn lawful' c i j x (slice_get-append_left ids (remaining_ids ids other) i x p) q
+          reply-lawful more rising covered (ids ++ remaining_ids ids other) other in_turn lawful' c
+          i j x (slice_get-append_left ids (remaining_ids ids other) i x p) q
           ∙ reply_in_turn i (slice_get_within ids i x p)

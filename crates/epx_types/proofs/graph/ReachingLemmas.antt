@@ -1,5 +1,6 @@
 -- Reaching is reflexive and transitive. What follows for components, depth, readiness and waiting.
-use Rattle.std.proofs.Common.{◌≡◌, ℕ, ◌≤◌, ◌<◌, List, [], ◌∷◌, ◌++◌, length, refl, sym, subst, inl, inr, arith}
+use Rattle.std.proofs.Common.{◌≡◌, ℕ, ◌≤◌, ◌<◌, List, [], ◌∷◌, ◌++◌, length, refl, sym, subst, inl}
+use Rattle.std.proofs.Common.{inr, arith}
 use Rattle.epx_types.specs.declared.id.Id.{Id}
 use Rattle.epx_types.specs.Instances.{Instance}
 use Rattle.epx_types.specs.Ids.{UpTo}
@@ -20,7 +21,8 @@ module _ (m : List Instance) where
   Reaches-refl x = inl refl
 
   -- two paths joined
-  pub IsPath-append : (x : Id) (via : List Id) (y : Id) (on : List Id) (z : Id) → IsPath m x via y → IsPath m y on z → IsPath m x (via ++ y ∷ on) z
+  pub IsPath-append : (x : Id) (via : List Id) (y : Id) (on : List Id) (z : Id) → IsPath m x via y
+      → IsPath m y on z → IsPath m x (via ++ y ∷ on) z
   IsPath-append x [] y on z p q = (p, q)
   IsPath-append x (v ∷ via) y on z p q = (p.0, IsPath-append v via y on z p.1 q)
 
@@ -61,7 +63,8 @@ module _ (m : List Instance) where
   InOneComponent-symm x y h = (h.1, h.0)
 
   -- being in one component is transitive
-  pub InOneComponent-trans : (x y z : Id) → InOneComponent m x y → InOneComponent m y z → InOneComponent m x z
+  pub InOneComponent-trans : (x y z : Id) → InOneComponent m x y → InOneComponent m y z
+      → InOneComponent m x z
   InOneComponent-trans x y z p q = (Reaches-trans x y z p.0 q.0, Reaches-trans z y x q.1 p.1)
 
   -- members of one component have the same leader
@@ -78,9 +81,11 @@ module _ (m : List Instance) where
   -- ---- depth
 
   -- members of one component have the same descents
-  pub Descends-along : (x y : Id) (zs : List Id) → InOneComponent m x y → Descends m x zs → Descends m y zs
+  pub Descends-along : (x y : Id) (zs : List Id) → InOneComponent m x y → Descends m x zs
+      → Descends m y zs
   Descends-along x y [] h d = tt
-  Descends-along x y (z ∷ zs) h d = (Reaches-trans y x z h.1 d.0, (λ back. d.1 (Reaches-trans z y x back h.1)), d.2)
+  Descends-along x y (z ∷ zs) h d =
+      (Reaches-trans y x z h.1 d.0, (λ back. d.1 (Reaches-trans z y x back h.1)), d.2)
 
   -- members of one component have the same depth
   pub IsDepth-along : (x y : Id) (k : ℕ) → InOneComponent m x y → IsDepth m x k → IsDepth m y k
@@ -97,14 +102,16 @@ module _ (m : List Instance) where
       omega (arith, p.descent.2, q.descent.2)
 
   -- an instance that reaches another and is not reached by it has a greater depth
-  pub IsDepth-falls : (x y : Id) (j k : ℕ) → Reaches m x y → ¬ Reaches m y x → IsDepth m x j → IsDepth m y k → k < j
+  pub IsDepth-falls : (x y : Id) (j k : ℕ) → Reaches m x y → ¬ Reaches m y x → IsDepth m x j
+      → IsDepth m y k → k < j
   IsDepth-falls x y j k there back dx dy =
       let ys = dy.descent.0 in
       let long = dx.longest (y ∷ ys) (there, back, dy.descent.1) in
       omega (arith, dy.descent.2)
 
   -- numbers that fall along one-way reaching are at least the length of each descent
-  pub Descends-length : (f : Id → ℕ) → FallsOneWay m f → (x : Id) (ys : List Id) → Descends m x ys → length ys ≤ f x
+  pub Descends-length : (f : Id → ℕ) → FallsOneWay m f → (x : Id) (ys : List Id) → Descends m x ys
+      → length ys ≤ f x
   Descends-length f falls x [] d = omega arith
   Descends-length f falls x (y ∷ ys) d =
       let rest = Descends-length f falls y ys d.2 in
@@ -128,7 +135,8 @@ module _ (m : List Instance) where
 
   -- an instance waits for at most one other
   pub WaitsFor-unique : (x y z : Id) → WaitsFor m x y → WaitsFor m x z → y ≡ z
-  WaitsFor-unique x y z p q = UpTo-antisymm y z (p.least z q.reached q.missing) (q.least y p.reached p.missing)
+  WaitsFor-unique x y z p q = UpTo-antisymm y z (p.least z q.reached q.missing)
+      (q.least y p.reached p.missing)
 
   -- a ready instance waits for nothing
   pub IsReady-not_waiting : (x y : Id) → IsReady m x → ¬ WaitsFor m x y

@@ -1,5 +1,6 @@
 -- Every list of commands has levels.
-use Rattle.std.proofs.Common.{◌≡◌, ◌⊎◌, ◌<◌, ℕ, zero, suc, List, [], ◌∷◌, length, map, slice_index_or, Contains, refl, sym, subst, inl, inr, arith}
+use Rattle.std.proofs.Common.{◌≡◌, ◌⊎◌, ◌<◌, ℕ, zero, suc, List, [], ◌∷◌, length, map}
+use Rattle.std.proofs.Common.{slice_index_or, Contains, refl, sym, subst, inl, inr, arith}
 use Rattle.std.proofs.lemmas.Bool.{cases_lt}
 use Rattle.std.proofs.lemmas.List.FromFn.{length-map-range_with_len, get_or-map-range_with_len}
 use Rattle.epx_types.specs.declared.op.Op.{Op}
@@ -15,10 +16,12 @@ use Rattle.epx_types.proofs.commands.RearrangementLemmas.{list_positions, Contai
 -- ---- conflict is decidable
 
 Contains-key_cases : (ks : List (List ℕ)) (k : List ℕ) → Contains ks k ⊎ (¬ Contains ks k)
-Contains-key_cases = Contains-cases (λ q k. elim (key_cases q k) [ inl same ↦ inl same.1 | inr other ↦ inr other.1 ])
+Contains-key_cases = Contains-cases
+    (λ q k. elim (key_cases q k) [ inl same ↦ inl same.1 | inr other ↦ inr other.1 ])
 
 -- some key is in both lists
-shared_cases : (ks qs : List (List ℕ)) → ((k : List ℕ) × Contains ks k × Contains qs k) ⊎ ((k : List ℕ) → Contains ks k → ¬ Contains qs k)
+shared_cases : (ks qs : List (List ℕ)) → ((k : List ℕ) × Contains ks k × Contains qs k)
+    ⊎ ((k : List ℕ) → Contains ks k → ¬ Contains qs k)
 shared_cases ks qs = some_or_none (Contains qs) (Contains-key_cases qs) ks
 
 pub Conflict-cases : (a b : List Op) → Conflict a b ⊎ (¬ Conflict a b)
@@ -27,7 +30,11 @@ Conflict-cases a b =
       | inl found ↦ inl (found.0, inl (found.1, found.2))
       | inr none ↦ elim (shared_cases (touched_keys a) (written_keys b)) [
         | inl found ↦ inl (found.0, inr (found.1, found.2))
-        | inr none' ↦ inr (λ h. elim h.1 [ inl first ↦ none h.0 first.0 first.1 | inr second ↦ none' h.0 second.0 second.1 ])
+        | inr none' ↦ inr
+            (λ h. elim h.1 [
+              | inl first ↦ none h.0 first.0 first.1
+              | inr second ↦ none' h.0 second.0 second.1
+            ])
       ]
     ]
 
@@ -41,19 +48,32 @@ module _ (commands : List (List Op)) where
   ClimbsVia j k i = ((i < j) × ConflictAt commands i j) × HasClimb i k
 
   below_cases : (i j : ℕ) → (i < j) ⊎ (¬ (i < j))
-  below_cases i j = elim (cases_lt i j) [ inl less ↦ inl less | inr more ↦ inr (λ less. omega (arith, more, less)) ]
+  below_cases i j = elim (cases_lt i j) [
+    | inl less ↦ inl less
+    | inr more ↦ inr (λ less. omega (arith, more, less))
+  ]
 
   HasClimb-cases : (k j : ℕ) → HasClimb j k ⊎ (¬ HasClimb j k)
   HasClimb-cases zero j = inl ([], tt, refl)
   HasClimb-cases (suc k) j =
-      elim (some_or_none (ClimbsVia j k) (λ i. both_cases (both_cases (below_cases i j) (Conflict-cases (slice_index_or commands i []) (slice_index_or commands j []))) (HasClimb-cases k i)) (list_positions j)) [
-        | inl found ↦ inl (found.0 ∷ found.2.1.0, (found.2.0.0, found.2.0.1, found.2.1.1), omega (arith, found.2.1.2))
+      elim (some_or_none (ClimbsVia j k)
+      (λ i. both_cases
+      (both_cases (below_cases i j)
+      (Conflict-cases (slice_index_or commands i []) (slice_index_or commands j [])))
+      (HasClimb-cases k i)) (list_positions j)) [
+        | inl found ↦ inl (
+          found.0 ∷ found.2.1.0,
+          (found.2.0.0, found.2.0.1, found.2.1.1),
+          omega (arith, found.2.1.2),
+        )
         | inr none ↦ inr (λ h. no_longer none h.0 h.1 h.2)
       ]
     where
-      no_longer : ((i : ℕ) → Contains (list_positions j) i → ¬ ClimbsVia j k i) → (is : List ℕ) → Climbs commands j is → length is ≡ suc k → ⊥
+      no_longer : ((i : ℕ) → Contains (list_positions j) i → ¬ ClimbsVia j k i) → (is : List ℕ)
+          → Climbs commands j is → length is ≡ suc k → ⊥
       no_longer none [] climbs e = absurd (omega (arith, e))
-      no_longer none (i ∷ is) climbs e = none i (Contains-list_positions j i climbs.0) ((climbs.0, climbs.1), (is, climbs.2, omega (arith, e)))
+      no_longer none (i ∷ is) climbs e = none i (Contains-list_positions j i climbs.0)
+          ((climbs.0, climbs.1), (is, climbs.2, omega (arith, e)))
 
   pub level_exists : (j : ℕ) → (level : ℕ) × IsLevel commands j level
   level_exists j =
@@ -61,7 +81,9 @@ module _ (commands : List (List Op)) where
         found.0,
         record {
           chain = found.1;
-          longest = λ is climbs. found.2 (length is) (Climbs-length commands (λ i. i) (λ i j less conflict. less) j is climbs) (is, climbs, refl);
+          longest = λ is climbs. found.2 (length is)
+              (Climbs-length commands (λ i. i) (λ i j less conflict. less) j is climbs)
+              (is, climbs, refl);
         },
       )
 
@@ -72,6 +94,9 @@ module _ (commands : List (List Op)) where
         record {
           whole = length-map-range_with_len level 0 (length commands);
           each = λ j low.
-              subst (IsLevel commands j) (sym (get_or-map-range_with_len level 0 (length commands) j j 0 (omega (arith, low, length-map-range_with_len level 0 (length commands))) (omega arith))) (level_exists j).1;
+              subst (IsLevel commands j)
+              (sym (get_or-map-range_with_len level 0 (length commands) j j 0
+              (omega (arith, low, length-map-range_with_len level 0 (length commands)))
+              (omega arith))) (level_exists j).1;
         },
       )

@@ -20,7 +20,8 @@ second_is_equal Greater s e = absurd (cc e)
 
 -- the order of Ids is total
 pub id_cmp_total : IsTotalOrder id_cmp
-id_cmp_total = then_total (on_total (λ x. x.replica) nat_cmp_total) (on_total (λ x. x.number) nat_cmp_total)
+id_cmp_total = then_total (on_total (λ x. x.replica) nat_cmp_total)
+    (on_total (λ x. x.number) nat_cmp_total)
 
 -- Ids that compare as equal are equal
 pub id_cmp-IsAntisymmetric : IsAntisymmetric id_cmp
@@ -31,7 +32,8 @@ id_cmp-IsAntisymmetric x y e =
 
 -- the order of places is total
 pub place_cmp_total : IsTotalOrder place_cmp
-place_cmp_total = then_total (on_total (λ p. p.log) nat_cmp_total) (on_total (λ p. p.line) nat_cmp_total)
+place_cmp_total = then_total (on_total (λ p. p.log) nat_cmp_total)
+    (on_total (λ p. p.line) nat_cmp_total)
 
 -- places that compare as equal are equal
 pub place_cmp-IsAntisymmetric : IsAntisymmetric place_cmp
@@ -42,7 +44,9 @@ place_cmp-IsAntisymmetric p q e =
 
 -- the order of ranks is total
 pub rank_cmp_total : IsTotalOrder rank_cmp
-rank_cmp_total = then_total (on_total (λ r. r.depth) nat_cmp_total) (then_total (on_total (λ r. r.leader) id_cmp_total) (then_total (on_total (λ r. r.seq) nat_cmp_total) (on_total (λ r. r.id) id_cmp_total)))
+rank_cmp_total = then_total (on_total (λ r. r.depth) nat_cmp_total)
+    (then_total (on_total (λ r. r.leader) id_cmp_total)
+    (then_total (on_total (λ r. r.seq) nat_cmp_total) (on_total (λ r. r.id) id_cmp_total)))
 
 -- ranks that compare as equal are equal
 pub rank_cmp-IsAntisymmetric : IsAntisymmetric rank_cmp

@@ -1,18 +1,22 @@
 -- Rising Ids, by neighbours and by pairs of positions.
-use Rattle.std.proofs.Common.{◌≡◌, ◌<◌, ◌+◌, ℕ, suc, List, [], ◌∷◌, length, get_or, map, All, AllPairs, Contains, subst, arith}
+use Rattle.std.proofs.Common.{◌≡◌, ◌<◌, ◌+◌, ℕ, suc, List, [], ◌∷◌, length, get_or, map, All}
+use Rattle.std.proofs.Common.{AllPairs, Contains, subst, arith}
 use Rattle.std.specs.List.{AllAdjacentBelow}
 use Rattle.std.proofs.lemmas.List.Elements.{All-nil, All-cons}
 use Rattle.std.proofs.lemmas.List.Kept.{AllPairs-cons}
 use Rattle.epx_types.specs.declared.id.Id.{Id}
 use Rattle.epx_types.specs.Ids.{Below, BelowAll, IsRising}
 use Rattle.epx_types.proofs.lists.MembershipLemmas.{Contains-head, Contains-cons}
-use Rattle.epx_types.proofs.lists.ListPositionLemmas.{slice_get-map, AllPairs-slice_get, AllPairs-from_slice_get, AllPairs-head, AllPairs-tail}
+use Rattle.epx_types.proofs.lists.ListPositionLemmas.{slice_get-map, AllPairs-slice_get}
+use Rattle.epx_types.proofs.lists.ListPositionLemmas.{AllPairs-from_slice_get, AllPairs-head}
+use Rattle.epx_types.proofs.lists.ListPositionLemmas.{AllPairs-tail}
 use Rattle.epx_types.proofs.lists.TotalOrderLemmas.{below_trans}
 use Rattle.epx_types.proofs.lists.ComparisonLemmas.{id_cmp_total}
 
 BelowAll-trans : (x y : Id) (zs : List Id) → Below x y → BelowAll y zs → BelowAll x zs
 BelowAll-trans x y [] l h = tt
-BelowAll-trans x y (z ∷ zs) l h = (below_trans id_cmp_total x y z l h.0, BelowAll-trans x y zs l h.1)
+BelowAll-trans x y (z ∷ zs) l h =
+    (below_trans id_cmp_total x y z l h.0, BelowAll-trans x y zs l h.1)
 
 All-from_BelowAll : (x : Id) (ys : List Id) → BelowAll x ys → All (Below x) ys
 All-from_BelowAll x [] h = All-nil (Below x)
@@ -21,25 +25,34 @@ All-from_BelowAll x (y ∷ ys) h = All-cons (Below x) y ys h.0 (All-from_BelowAl
 -- each Id is below all later ones, by positions
 pub AllPairs-from_IsRising : (xs : List Id) → IsRising xs → AllPairs Below xs
 AllPairs-from_IsRising [] h = λ i j d l k. absurd (omega arith)
-AllPairs-from_IsRising (x ∷ xs) h = AllPairs-cons Below x xs (All-from_BelowAll x xs h.0) (AllPairs-from_IsRising xs h.1)
+AllPairs-from_IsRising (x ∷ xs) h =
+    AllPairs-cons Below x xs (All-from_BelowAll x xs h.0) (AllPairs-from_IsRising xs h.1)
 
 -- an Id is below each of a list
-pub BelowAll-from_each : (x : Id) (ys : List Id) → ((y : Id) → Contains ys y → Below x y) → BelowAll x ys
+pub BelowAll-from_each : (x : Id) (ys : List Id) → ((y : Id) → Contains ys y → Below x y)
+    → BelowAll x ys
 BelowAll-from_each x [] h = tt
-BelowAll-from_each x (y ∷ ys) h = (h y (Contains-head y ys), BelowAll-from_each x ys (λ z c. h z (Contains-cons y ys z c)))
+BelowAll-from_each x (y ∷ ys) h =
+    (h y (Contains-head y ys), BelowAll-from_each x ys (λ z c. h z (Contains-cons y ys z c)))
 
 pub IsRising-from_AllPairs : (xs : List Id) → AllPairs Below xs → IsRising xs
 IsRising-from_AllPairs [] h = tt
-IsRising-from_AllPairs (x ∷ xs) h = (BelowAll-from_each x xs (λ y c. AllPairs-head Below x xs y h c), IsRising-from_AllPairs xs (AllPairs-tail Below x xs h))
+IsRising-from_AllPairs (x ∷ xs) h = (
+  BelowAll-from_each x xs (λ y c. AllPairs-head Below x xs y h c),
+  IsRising-from_AllPairs xs (AllPairs-tail Below x xs h),
+)
 
 -- the same for instances, by their Ids
-pub AllPairs-from_rising_ids : {X : Type 0} (id_of : X → Id) (xs : List X) → IsRising (map id_of xs) → AllPairs (λ a b. Below (id_of a) (id_of b)) xs
+pub AllPairs-from_rising_ids : {X : Type 0} (id_of : X → Id) (xs : List X)
+    → IsRising (map id_of xs) → AllPairs (λ a b. Below (id_of a) (id_of b)) xs
 AllPairs-from_rising_ids id_of xs h =
     AllPairs-from_slice_get (λ a b. Below (id_of a) (id_of b)) xs (λ i j a b l p q.
-    AllPairs-slice_get Below (map id_of xs) (AllPairs-from_IsRising (map id_of xs) h) i j (id_of a) (id_of b) l (slice_get-map id_of xs i a p) (slice_get-map id_of xs j b q))
+    AllPairs-slice_get Below (map id_of xs) (AllPairs-from_IsRising (map id_of xs) h) i j (id_of a)
+    (id_of b) l (slice_get-map id_of xs i a p) (slice_get-map id_of xs j b q))
 
 -- if each Id of a list is below the next, so it is in the tail
-neighbours_tail : (x : Id) (xs : List Id) → AllAdjacentBelow Below (x ∷ xs) (length (x ∷ xs)) → AllAdjacentBelow Below xs (length xs)
+neighbours_tail : (x : Id) (xs : List Id) → AllAdjacentBelow Below (x ∷ xs) (length (x ∷ xs))
+    → AllAdjacentBelow Below xs (length xs)
 neighbours_tail x xs h k d l =
     let e : suc k + 1 ≡ suc (k + 1) = omega arith in
     let P : ℕ → Type 0 = λ n. Below (get_or xs k d) (get_or (x ∷ xs) n d) in
@@ -55,5 +68,6 @@ IsRising-from_neighbours (x ∷ y ∷ ys) h =
     ((first, BelowAll-trans x y ys first rest.0), rest)
 
 -- a list is not rising if some pair of positions does not rise
-pub IsRising-not : (xs : List Id) (i j : ℕ) (d : Id) → i < j → j < length xs → ¬ Below (get_or xs i d) (get_or xs j d) → ¬ IsRising xs
+pub IsRising-not : (xs : List Id) (i j : ℕ) (d : Id) → i < j → j < length xs
+    → ¬ Below (get_or xs i d) (get_or xs j d) → ¬ IsRising xs
 IsRising-not xs i j d l k level rising = level (AllPairs-from_IsRising xs rising i j d l k)

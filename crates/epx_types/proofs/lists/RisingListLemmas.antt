@@ -1,9 +1,12 @@
 -- Rising lists, by a total order in which only equal values compare as equal.
-use Rattle.std.proofs.Common.{◌≡◌, ◌⊎◌, true, List, [], ◌∷◌, Contains, AllPairs, Ordering, is_lt, sym, subst, inl, inr, arith}
+use Rattle.std.proofs.Common.{◌≡◌, ◌⊎◌, true, List, [], ◌∷◌, Contains, AllPairs, Ordering, is_lt}
+use Rattle.std.proofs.Common.{sym, subst, inl, inr, arith}
 use Rattle.std.specs.Cmp.{IsTotalOrder}
 use Rattle.std.specs.FinMap.{IsAntisymmetric}
-use Rattle.epx_types.proofs.lists.MembershipLemmas.{Contains-nil, Contains-head, Contains-cons, Contains-cons_cases}
-use Rattle.epx_types.proofs.lists.ListPositionLemmas.{AllPairs-head, AllPairs-tail, AllPairs-from_parts}
+use Rattle.epx_types.proofs.lists.MembershipLemmas.{Contains-nil, Contains-head, Contains-cons}
+use Rattle.epx_types.proofs.lists.MembershipLemmas.{Contains-cons_cases}
+use Rattle.epx_types.proofs.lists.ListPositionLemmas.{AllPairs-head, AllPairs-tail}
+use Rattle.epx_types.proofs.lists.ListPositionLemmas.{AllPairs-from_parts}
 use Rattle.epx_types.proofs.lists.TotalOrderLemmas.{below_cases, below_trans}
 
 -- each element is below all later ones
@@ -17,11 +20,13 @@ pub record IsWith {K : Type 0} (R : K → K → Ordering) (x : K) (xs now : List
   pub kept : (y : K) → Contains xs y → Contains now y
   pub only : (y : K) → Contains now y → (x ≡ y) ⊎ Contains xs y
 
-module _ {K : Type 0} {R : K → K → Ordering} (total : IsTotalOrder R) (same : IsAntisymmetric R) where
+module _ {K : Type 0} {R : K → K → Ordering} (total : IsTotalOrder R)
+    (same : IsAntisymmetric R) where
   abbrev Lower : K → K → Type 0
   Lower x y = is_lt (R x y) ≡ true
 
-  put_first : (x y : K) (xs : List K) → Lower x y → Rises R (y ∷ xs) → IsWith R x (y ∷ xs) (x ∷ y ∷ xs)
+  put_first : (x y : K) (xs : List K) → Lower x y → Rises R (y ∷ xs)
+      → IsWith R x (y ∷ xs) (x ∷ y ∷ xs)
   put_first x y xs l rising = record {
     rising = AllPairs-from_parts Lower x (y ∷ xs) (λ z h. elim (Contains-cons_cases y xs z h) [
       | inl is ↦ subst (Lower x) is l
@@ -32,7 +37,8 @@ module _ {K : Type 0} {R : K → K → Ordering} (total : IsTotalOrder R) (same 
     only = λ z h. Contains-cons_cases x (y ∷ xs) z h;
   }
 
-  put_later : (x y : K) (xs now : List K) → Lower y x → Rises R (y ∷ xs) → IsWith R x xs now → IsWith R x (y ∷ xs) (y ∷ now)
+  put_later : (x y : K) (xs now : List K) → Lower y x → Rises R (y ∷ xs) → IsWith R x xs now
+      → IsWith R x (y ∷ xs) (y ∷ now)
   put_later x y xs now l rising rest = record {
     rising = AllPairs-from_parts Lower y now (λ z h. elim (rest.only z h) [
       | inl is ↦ subst (Lower y) is l
@@ -45,7 +51,10 @@ module _ {K : Type 0} {R : K → K → Ordering} (total : IsTotalOrder R) (same 
     ];
     only = λ z h. elim (Contains-cons_cases y now z h) [
       | inl is ↦ inr (subst (Contains (y ∷ xs)) is (Contains-head y xs))
-      | inr later ↦ elim (rest.only z later) [ inl is ↦ inl is | inr old ↦ inr (Contains-cons y xs z old) ]
+      | inr later ↦ elim (rest.only z later) [
+        | inl is ↦ inl is
+        | inr old ↦ inr (Contains-cons y xs z old)
+      ]
     ];
   }
 
@@ -65,7 +74,12 @@ module _ {K : Type 0} {R : K → K → Ordering} (total : IsTotalOrder R) (same 
         | inl l ↦ (x ∷ y ∷ xs, put_first x y xs l rising)
         | inr (inl is) ↦ (
           y ∷ xs,
-          record { rising = rising; here = subst (Contains (y ∷ xs)) (sym is) (Contains-head y xs); kept = λ z h. h; only = λ z h. inr h },
+          record {
+            rising = rising;
+            here = subst (Contains (y ∷ xs)) (sym is) (Contains-head y xs);
+            kept = λ z h. h;
+            only = λ z h. inr h;
+          },
         )
         | inr (inr l) ↦
             let rest = insert_rising x xs (AllPairs-tail Lower y xs rising) in
@@ -79,7 +93,8 @@ module _ {K : Type 0} {R : K → K → Ordering} (total : IsTotalOrder R) (same 
     pub elements_all : (x : K) → Contains xs x → P x → Contains those x
 
   module _ (P : K → Type 0) (tell : (x : K) → P x ⊎ (¬ P x)) where
-    with_one : (x : K) (xs those : List K) → P x → AreThose P xs those → (now : List K) × AreThose P (x ∷ xs) now
+    with_one : (x : K) (xs those : List K) → P x → AreThose P xs those
+        → (now : List K) × AreThose P (x ∷ xs) now
     with_one x xs those here rest =
         let put = insert_rising x those rest.elements_rise in (
           put.0,
@@ -96,10 +111,12 @@ module _ {K : Type 0} {R : K → K → Ordering} (total : IsTotalOrder R) (same 
           },
         )
 
-    without_one : (x : K) (xs those : List K) → ¬ P x → AreThose P xs those → AreThose P (x ∷ xs) those
+    without_one : (x : K) (xs those : List K) → ¬ P x → AreThose P xs those
+        → AreThose P (x ∷ xs) those
     without_one x xs those not_here rest = record {
       elements_rise = rest.elements_rise;
-      elements_only = λ y h. let was = rest.elements_only y h in (Contains-cons x xs y was.0, was.1);
+      elements_only = λ y h. let was = rest.elements_only y h in
+          (Contains-cons x xs y was.0, was.1);
       elements_all = λ y h p. elim (Contains-cons_cases x xs y h) [
         | inl is ↦ absurd (not_here (subst P (sym is) p))
         | inr later ↦ rest.elements_all y later p

@@ -1,26 +1,31 @@
 -- Searching a finite list, and the numbers up to a bound, for a decidable property.
-use Rattle.std.proofs.Common.{◌≡◌, ◌⊎◌, ◌≤◌, ℕ, zero, suc, List, [], ◌∷◌, Contains, refl, sym, subst, inl, inr, arith}
+use Rattle.std.proofs.Common.{◌≡◌, ◌⊎◌, ◌≤◌, ℕ, zero, suc, List, [], ◌∷◌, Contains, refl, sym}
+use Rattle.std.proofs.Common.{subst, inl, inr, arith}
 use Rattle.std.proofs.lemmas.Bool.{cases_lt}
 use Rattle.epx_types.specs.declared.id.Id.{Id}
 use Rattle.epx_types.specs.Ids.{Below, UpTo}
-use Rattle.epx_types.proofs.lists.MembershipLemmas.{Contains-nil, Contains-head, Contains-cons, Contains-cons_cases}
+use Rattle.epx_types.proofs.lists.MembershipLemmas.{Contains-nil, Contains-head, Contains-cons}
+use Rattle.epx_types.proofs.lists.MembershipLemmas.{Contains-cons_cases}
 use Rattle.epx_types.proofs.lists.TotalOrderLemmas.{below_cases, below_trans}
 use Rattle.epx_types.proofs.lists.ComparisonLemmas.{id_cmp_total, id_cmp-IsAntisymmetric}
 
 -- some element of a list has the property, or none has it
-pub some_or_none : {X : Type 0} (P : X → Type 0) → ((x : X) → P x ⊎ (¬ P x)) → (xs : List X) → ((x : X) × Contains xs x × P x) ⊎ ((x : X) → Contains xs x → ¬ P x)
+pub some_or_none : {X : Type 0} (P : X → Type 0) → ((x : X) → P x ⊎ (¬ P x)) → (xs : List X)
+    → ((x : X) × Contains xs x × P x) ⊎ ((x : X) → Contains xs x → ¬ P x)
 some_or_none P tell [] = inr (λ x h p. Contains-nil x h)
 some_or_none P tell (y ∷ xs) =
     elim (tell y) [
       | inl here ↦ inl (y, Contains-head y xs, here)
       | inr not_here ↦ elim (some_or_none P tell xs) [
         | inl found ↦ inl (found.0, Contains-cons y xs found.0 found.1, found.2)
-        | inr none ↦ inr (λ x h p. elim (Contains-cons_cases y xs x h) [ inl same ↦ not_here (subst P (sym same) p) | inr later ↦ none x later p ])
+        | inr none ↦ inr (λ x h p. elim (Contains-cons_cases y xs x h)
+            [ inl same ↦ not_here (subst P (sym same) p) | inr later ↦ none x later p ])
       ]
     ]
 
 -- if equality is decidable, membership in a list is decidable
-pub Contains-cases : {X : Type 0} → ((x y : X) → (x ≡ y) ⊎ (¬ (x ≡ y))) → (xs : List X) (x : X) → Contains xs x ⊎ (¬ Contains xs x)
+pub Contains-cases : {X : Type 0} → ((x y : X) → (x ≡ y) ⊎ (¬ (x ≡ y))) → (xs : List X) (x : X)
+    → Contains xs x ⊎ (¬ Contains xs x)
 Contains-cases same xs x =
     elim (some_or_none (λ y. y ≡ x) (λ y. same y x) xs) [
       | inl found ↦ inl (subst (Contains xs) found.2 found.1)
@@ -28,7 +33,8 @@ Contains-cases same xs x =
     ]
 
 -- the greatest number up to a bound that has the property
-pub greatest_up_to : (P : ℕ → Type 0) → ((k : ℕ) → P k ⊎ (¬ P k)) → P 0 → (n : ℕ) → (k : ℕ) × P k × ((j : ℕ) → j ≤ n → P j → j ≤ k)
+pub greatest_up_to : (P : ℕ → Type 0) → ((k : ℕ) → P k ⊎ (¬ P k)) → P 0 → (n : ℕ)
+    → (k : ℕ) × P k × ((j : ℕ) → j ≤ n → P j → j ≤ k)
 greatest_up_to P tell least zero = (0, least, λ j l p. l)
 greatest_up_to P tell least (suc n) =
     elim (tell (suc n)) [
@@ -53,25 +59,67 @@ module _ (P : Id → Type 0) (tell : (x : Id) → P x ⊎ (¬ P x)) where
   abbrev pub IsLeastOf : List Id → Id → Type 0
   IsLeastOf ids x = P x × ((y : Id) → Contains ids y → P y → UpTo x y)
 
-  with_first : (z : Id) (ids : List Id) → P z → (x : Id) → IsLeastOf ids x → (w : Id) × IsLeastOf (z ∷ ids) w
+  with_first : (z : Id) (ids : List Id) → P z → (x : Id) → IsLeastOf ids x
+      → (w : Id) × IsLeastOf (z ∷ ids) w
   with_first z ids here x least =
       elim (below_cases id_cmp_total id_cmp-IsAntisymmetric z x) [
-        | inl l ↦ (z, (here, λ y h p. elim (Contains-cons_cases z ids y h) [ inl same ↦ inl same | inr later ↦ UpTo-below z x y l (least.1 y later p) ]))
-        | inr (inl e) ↦ (x, (least.0, λ y h p. elim (Contains-cons_cases z ids y h) [ inl same ↦ inl (subst (λ (w : Id). w ≡ y) e same) | inr later ↦ least.1 y later p ]))
-        | inr (inr l) ↦ (x, (least.0, λ y h p. elim (Contains-cons_cases z ids y h) [ inl same ↦ inr (subst (Below x) same l) | inr later ↦ least.1 y later p ]))
+        | inl l ↦ (
+          z,
+          (
+            here,
+            λ y h p. elim (Contains-cons_cases z ids y h)
+                [ inl same ↦ inl same | inr later ↦ UpTo-below z x y l (least.1 y later p) ],
+          ),
+        )
+        | inr (inl e) ↦ (
+          x,
+          (
+            least.0,
+            λ y h p. elim (Contains-cons_cases z ids y h) [
+              | inl same ↦ inl (subst (λ (w : Id). w ≡ y) e same)
+              | inr later ↦ least.1 y later p
+            ],
+          ),
+        )
+        | inr (inr l) ↦ (
+          x,
+          (
+            least.0,
+            λ y h p. elim (Contains-cons_cases z ids y h)
+                [ inl same ↦ inr (subst (Below x) same l) | inr later ↦ least.1 y later p ],
+          ),
+        )
       ]
 
   -- the least Id of a list that has the property, or no Id has it
-  pub least_or_none : (ids : List Id) → ((x : Id) × IsLeastOf ids x) ⊎ ((y : Id) → Contains ids y → ¬ P y)
+  pub least_or_none : (ids : List Id) → ((x : Id) × IsLeastOf ids x)
+      ⊎ ((y : Id) → Contains ids y → ¬ P y)
   least_or_none [] = inr (λ y h p. Contains-nil y h)
   least_or_none (z ∷ ids) =
       elim (tell z) [
         | inl here ↦ elim (least_or_none ids) [
           | inl least ↦ inl (with_first z ids here least.0 least.1)
-          | inr none ↦ inl (z, (here, λ y h p. elim (Contains-cons_cases z ids y h) [ inl same ↦ inl same | inr later ↦ absurd (none y later p) ]))
+          | inr none ↦ inl (
+            z,
+            (
+              here,
+              λ y h p. elim (Contains-cons_cases z ids y h)
+                  [ inl same ↦ inl same | inr later ↦ absurd (none y later p) ],
+            ),
+          )
         ]
         | inr not_here ↦ elim (least_or_none ids) [
-          | inl least ↦ inl (least.0, (least.1.0, λ y h p. elim (Contains-cons_cases z ids y h) [ inl same ↦ absurd (not_here (subst P (sym same) p)) | inr later ↦ least.1.1 y later p ]))
-          | inr none ↦ inr (λ y h p. elim (Contains-cons_cases z ids y h) [ inl same ↦ not_here (subst P (sym same) p) | inr later ↦ none y later p ])
+          | inl least ↦ inl (
+            least.0,
+            (
+              least.1.0,
+              λ y h p. elim (Contains-cons_cases z ids y h) [
+                | inl same ↦ absurd (not_here (subst P (sym same) p))
+                | inr later ↦ least.1.1 y later p
+              ],
+            ),
+          )
+          | inr none ↦ inr (λ y h p. elim (Contains-cons_cases z ids y h)
+              [ inl same ↦ not_here (subst P (sym same) p) | inr later ↦ none y later p ])
         ]
       ]

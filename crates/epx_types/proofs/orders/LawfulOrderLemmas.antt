@@ -1,5 +1,6 @@
 -- All lawful orders have related instances in the same order.
-use Rattle.std.proofs.Common.{◌≡◌, ◌≢◌, ◌⊎◌, ℕ, List, Contains, AllPairs, Some, slice_get, refl, sym, ap, ◌∙◌, inl, inr, arith}
+use Rattle.std.proofs.Common.{◌≡◌, ◌≢◌, ◌⊎◌, ℕ, List, Contains, AllPairs, Some, slice_get, refl}
+use Rattle.std.proofs.Common.{sym, ap, ◌∙◌, inl, inr, arith}
 use Rattle.std.specs.Cmp.{IsTotalOrder, nat_cmp_total, on_total, then_total}
 use Rattle.std.specs.Ordering.{nat_cmp, ordering_then}
 use Rattle.std.specs.declared.cmp.Ordering.{Ordering}
@@ -12,16 +13,19 @@ use Rattle.epx_types.specs.Reaching.{Reaches}
 use Rattle.epx_types.specs.Components.{InOneComponent}
 use Rattle.epx_types.specs.LawfulOrders.{Before, SequenceBefore, IsLawful}
 use Rattle.epx_types.proofs.lists.MembershipLemmas.{Contains-from_map}
-use Rattle.epx_types.proofs.lists.ListPositionLemmas.{Contains-slice_get, slice_get-from_Contains, AllPairs-slice_get}
+use Rattle.epx_types.proofs.lists.ListPositionLemmas.{Contains-slice_get, slice_get-from_Contains}
+use Rattle.epx_types.proofs.lists.ListPositionLemmas.{AllPairs-slice_get}
 use Rattle.epx_types.proofs.lists.TotalOrderLemmas.{below_cases}
-use Rattle.epx_types.proofs.lists.ComparisonLemmas.{id_cmp_total, id_cmp-IsAntisymmetric, first_is_equal, second_is_equal}
+use Rattle.epx_types.proofs.lists.ComparisonLemmas.{id_cmp_total, id_cmp-IsAntisymmetric}
+use Rattle.epx_types.proofs.lists.ComparisonLemmas.{first_is_equal, second_is_equal}
 
 -- by sequence number, then by Id
 abbrev sequence_cmp : ℕ × Id → ℕ × Id → Ordering
 sequence_cmp a b = ordering_then (nat_cmp a.0 b.0) (id_cmp a.1 b.1)
 
 sequence_cmp_total : IsTotalOrder sequence_cmp
-sequence_cmp_total = then_total (on_total (λ (a : ℕ × Id). a.0) nat_cmp_total) (on_total (λ (a : ℕ × Id). a.1) id_cmp_total)
+sequence_cmp_total = then_total (on_total (λ (a : ℕ × Id). a.0) nat_cmp_total)
+    (on_total (λ (a : ℕ × Id). a.1) id_cmp_total)
 
 sequence_cmp-IsAntisymmetric : IsAntisymmetric sequence_cmp
 sequence_cmp-IsAntisymmetric a b e =
@@ -49,7 +53,8 @@ module _ (ids : List Id) (once : AllPairs (λ x y. x ≢ y) ids) where
       omega arith
 
 -- of two different Ids of a list, one is before the other
-pub Before-cases : (ids : List Id) (x y : Id) → Contains ids x → Contains ids y → x ≢ y → Before ids x y ⊎ Before ids y x
+pub Before-cases : (ids : List Id) (x y : Id) → Contains ids x → Contains ids y → x ≢ y
+    → Before ids x y ⊎ Before ids y x
 Before-cases ids x y in_x in_y differ =
     let a = slice_get-from_Contains ids x in_x in
     let b = slice_get-from_Contains ids y in_y in
@@ -66,7 +71,8 @@ Before-cases ids x y in_x in_y differ =
 
 -- an Id that is before another is different from it
 Before-differ : (ids : List Id) → AllPairs (λ x y. x ≢ y) ids → (x y : Id) → Before ids x y → x ≢ y
-Before-differ ids once x y (i, j, l, p, q) = AllPairs-slice_get (λ v w. v ≢ w) ids once i j x y l p q
+Before-differ ids once x y (i, j, l, p, q) =
+    AllPairs-slice_get (λ v w. v ≢ w) ids once i j x y l p q
 
 pub Before-in_second : (ids : List Id) (x y : Id) → Before ids x y → Contains ids y
 Before-in_second ids x y (i, j, l, p, q) = Contains-slice_get ids j y q
@@ -76,7 +82,8 @@ Before-in_first ids x y (i, j, l, p, q) = Contains-slice_get ids i x p
 
 module _ (m : List Instance) (ids : List Id) (lawful : IsLawful m ids) where
   -- of two different members, one has the lower sequence number, or the same one and the lower Id
-  SequenceBefore-cases : (x y : Id) → Contains ids x → Contains ids y → x ≢ y → SequenceBefore m x y ⊎ SequenceBefore m y x
+  SequenceBefore-cases : (x y : Id) → Contains ids x → Contains ids y → x ≢ y
+      → SequenceBefore m x y ⊎ SequenceBefore m y x
   SequenceBefore-cases x y in_x in_y differ =
       let d = Contains-from_map (λ (e : Instance). e.id) m x (lawful.only x in_x).committed in
       let e = Contains-from_map (λ (e : Instance). e.id) m y (lawful.only y in_y).committed in
@@ -87,7 +94,8 @@ module _ (m : List Instance) (ids : List Id) (lawful : IsLawful m ids) where
       ]
 
 -- two instances of which one reaches the other are in the same order in each lawful order
-module _ (m : List Instance) (ids other : List Id) (lawful : IsLawful m ids) (lawful' : IsLawful m other) (x y : Id) (before : Before ids x y) where
+module _ (m : List Instance) (ids other : List Id) (lawful : IsLawful m ids)
+    (lawful' : IsLawful m other) (x y : Id) (before : Before ids x y) where
   in_x : Contains ids x
   in_x = Before-in_first ids x y before
 
@@ -107,8 +115,10 @@ module _ (m : List Instance) (ids other : List Id) (lawful : IsLawful m ids) (la
   not_reversed : InOneComponent m x y → ¬ Before other y x
   not_reversed one turned =
       elim (SequenceBefore-cases m ids lawful x y in_x in_y differ) [
-        | inl lower ↦ Before-not_both other lawful'.once y x turned (lawful'.by_sequence x y in_other_x in_other_y one lower)
-        | inr lower ↦ Before-not_both ids lawful.once x y before (lawful.by_sequence y x in_y in_x (one.1, one.0) lower)
+        | inl lower ↦ Before-not_both other lawful'.once y x turned
+            (lawful'.by_sequence x y in_other_x in_other_y one lower)
+        | inr lower ↦ Before-not_both ids lawful.once x y before
+            (lawful.by_sequence y x in_y in_x (one.1, one.0) lower)
       ]
 
   -- if the first reaches the second
@@ -116,7 +126,8 @@ module _ (m : List Instance) (ids other : List Id) (lawful : IsLawful m ids) (la
   Before-alike_reaching there =
       elim (Before-cases other x y in_other_x in_other_y differ) [
         | inl so ↦ so
-        | inr turned ↦ absurd (Before-not_both ids lawful.once x y before (lawful.after_reached x y in_x there (λ back. not_reversed (there, back) turned)))
+        | inr turned ↦ absurd (Before-not_both ids lawful.once x y before
+            (lawful.after_reached x y in_x there (λ back. not_reversed (there, back) turned)))
       ]
 
   -- if the second reaches the first
@@ -124,5 +135,8 @@ module _ (m : List Instance) (ids other : List Id) (lawful : IsLawful m ids) (la
   Before-alike_reached back =
       elim (Before-cases other x y in_other_x in_other_y differ) [
         | inl so ↦ so
-        | inr turned ↦ absurd (Before-not_both other lawful'.once y x turned (lawful'.after_reached y x in_other_y back (λ there. not_reversed (there, back) turned)))
+        | inr turned ↦ absurd
+            (Before-not_both other lawful'.once y x turned
+            (lawful'.after_reached y x in_other_y back
+            (λ there. not_reversed (there, back) turned)))
       ]

@@ -1,5 +1,6 @@
 -- Positions in the remaining map.
-use Rattle.std.proofs.Common.{◌≡◌, ◌++◌, ℕ, zero, suc, ◌+◌, List, [], ◌∷◌, length, take, filter, map, get_or, slice_get, Some, Contains, ap, ◌∙◌, inl, inr, cond, not}
+use Rattle.std.proofs.Common.{◌≡◌, ◌++◌, ℕ, zero, suc, ◌+◌, List, [], ◌∷◌, length, take, filter}
+use Rattle.std.proofs.Common.{map, get_or, slice_get, Some, Contains, ap, ◌∙◌, inl, inr, cond, not}
 use Rattle.std.proofs.lemmas.List.{map-append, append-nil}
 use Rattle.std.proofs.lemmas.List.Elements.{filter_more}
 use Rattle.std.proofs.lemmas.Option.{slice_get_within, get_or_from_slice_get}
@@ -14,29 +15,42 @@ use Rattle.epx_types.proofs.lists.MembershipLemmas.{Contains-filter, Contains-ma
 module _ (done : List Id) where
   -- ---- one more instance
 
-  more : (m : List Instance) (i : ℕ) (e : Instance) → slice_get m i ≡ Some e → remaining done (take (i + 1) m) ≡ remaining done (take i m) ++ map (without_deps done) (cond (not (is_among done e.id)) (e ∷ []) [])
+  more : (m : List Instance) (i : ℕ) (e : Instance) → slice_get m i ≡ Some e
+      → remaining done (take (i + 1) m) ≡ remaining done (take i m)
+      ++ map (without_deps done) (cond (not (is_among done e.id)) (e ∷ []) [])
   more m i e at =
       let p = λ (d : Instance). not (is_among done d.id) in
       let same : get_or m i e ≡ e = get_or_from_slice_get m i e e at in
-      ap (map (without_deps done)) (filter_more p m i e (slice_get_within m i e at) ∙ ap (λ (d : Instance). filter p (take i m) ++ cond (p d) (d ∷ []) []) same)
+      ap (map (without_deps done)) (filter_more p m i e (slice_get_within m i e at)
+      ∙ ap (λ (d : Instance). filter p (take i m) ++ cond (p d) (d ∷ []) []) same)
       ∙ map-append (without_deps done) (filter p (take i m)) (cond (p e) (e ∷ []) [])
 
-  pub remaining_skip : (m : List Instance) (i : ℕ) (e : Instance) → slice_get m i ≡ Some e → Contains done e.id → remaining done (take (i + 1) m) ≡ remaining done (take i m)
+  pub remaining_skip : (m : List Instance) (i : ℕ) (e : Instance) → slice_get m i ≡ Some e
+      → Contains done e.id → remaining done (take (i + 1) m) ≡ remaining done (take i m)
   remaining_skip m i e at among =
       elim (is_among_cases done e.id) [
-        | inl found ↦ more m i e at ∙ ap (λ b. remaining done (take i m) ++ map (without_deps done) (cond (not b) (e ∷ []) [])) found.0 ∙ append-nil (remaining done (take i m))
+        | inl found ↦ more m i e at
+            ∙ ap (λ b. remaining done (take i m) ++ map (without_deps done)
+            (cond (not b) (e ∷ []) [])) found.0 ∙ append-nil (remaining done (take i m))
         | inr other ↦ absurd (other.1 among)
       ]
 
-  pub remaining_more : (m : List Instance) (i : ℕ) (e : Instance) → slice_get m i ≡ Some e → ¬ Contains done e.id → remaining done (take (i + 1) m) ≡ remaining done (take i m) ++ without_deps done e ∷ []
-  remaining_more m i e at left = more m i e at ∙ ap (λ b. remaining done (take i m) ++ map (without_deps done) (cond (not b) (e ∷ []) [])) (not_among done e.id left)
+  pub remaining_more : (m : List Instance) (i : ℕ) (e : Instance) → slice_get m i ≡ Some e
+      → ¬ Contains done e.id → remaining done (take (i + 1) m)
+      ≡ remaining done (take i m) ++ without_deps done e ∷ []
+  remaining_more m i e at left = more m i e at
+      ∙ ap (λ b. remaining done (take i m) ++ map (without_deps done) (cond (not b) (e ∷ []) []))
+      (not_among done e.id left)
 
   -- the position of a remaining instance is the number of remaining ones before it
-  pub remaining_position : (m : List Instance) (i : ℕ) (e : Instance) → slice_get m i ≡ Some e → ¬ Contains done e.id → slice_get (remaining done m) (length (remaining done (take i m))) ≡ Some (without_deps done e)
+  pub remaining_position : (m : List Instance) (i : ℕ) (e : Instance) → slice_get m i ≡ Some e
+      → ¬ Contains done e.id → slice_get (remaining done m) (length (remaining done (take i m)))
+      ≡ Some (without_deps done e)
   remaining_position [] i e at left = absurd (cc at)
   remaining_position (d ∷ m) zero e at left =
       let same : d ≡ e = cc at in
-      let here : is_among done d.id ≡ is_among done e.id = ap (λ (x : Instance). is_among done x.id) same in
+      let here : is_among done d.id ≡ is_among done e.id =
+      ap (λ (x : Instance). is_among done x.id) same in
       rw (here ∙ not_among done e.id left) (ap (λ (x : Instance). Some (without_deps done x)) same)
   remaining_position (d ∷ m) (suc i) e at left =
       let rest = remaining_position m i e at left in
@@ -45,14 +59,17 @@ module _ (done : List Id) where
         | inr other ↦ rw other.0 rest
       ]
 
-  pub Contains-left : (m : List Instance) (e : Instance) → Contains m e → ¬ Contains done e.id → Contains (remaining done m) (without_deps done e)
+  pub Contains-left : (m : List Instance) (e : Instance) → Contains m e → ¬ Contains done e.id
+      → Contains (remaining done m) (without_deps done e)
   Contains-left m e in_m left =
       let p = λ (d : Instance). not (is_among done d.id) in
-      Contains-map (without_deps done) (filter p m) e (Contains-filter p m e in_m (ap not (not_among done e.id left)))
+      Contains-map (without_deps done) (filter p m) e
+      (Contains-filter p m e in_m (ap not (not_among done e.id left)))
 
   -- ---- the remaining map has the order of the map
 
-  remaining_below : (m : List Instance) (x : Id) → BelowAll x (ids_of m) → BelowAll x (ids_of (remaining done m))
+  remaining_below : (m : List Instance) (x : Id) → BelowAll x (ids_of m)
+      → BelowAll x (ids_of (remaining done m))
   remaining_below [] x below = tt
   remaining_below (e ∷ m) x below =
       elim (is_among_cases done e.id) [
@@ -60,7 +77,8 @@ module _ (done : List Id) where
         | inr other ↦ rw other.0 (below.0, remaining_below m x below.1)
       ]
 
-  pub remaining_rising : (m : List Instance) → IsRising (ids_of m) → IsRising (ids_of (remaining done m))
+  pub remaining_rising : (m : List Instance) → IsRising (ids_of m)
+      → IsRising (ids_of (remaining done m))
   remaining_rising [] rising = tt
   remaining_rising (e ∷ m) rising =
       elim (is_among_cases done e.id) [

@@ -6,13 +6,15 @@ use Rattle.epx_types.specs.CommittedMap.{IsCommitted}
 use Rattle.epx_types.specs.Done.{remaining}
 use Rattle.epx_types.specs.Reaching.{IsPath, Reaches}
 use Rattle.epx_types.specs.Readiness.{IsReady}
-use Rattle.epx_types.proofs.remaining.RemainingLemmas.{Contains-remaining_iff, DependsOn-remaining, is_among_cases}
+use Rattle.epx_types.proofs.remaining.RemainingLemmas.{Contains-remaining_iff, DependsOn-remaining}
+use Rattle.epx_types.proofs.remaining.RemainingLemmas.{is_among_cases}
 use Rattle.epx_types.proofs.graph.ReachingLemmas.{Reaches-trans, Reaches-dependency}
 
 module _ (done : List Id) (m : List Instance) where
   -- ---- a remaining instance reaches what it reached before and is not done
 
-  remaining_path : (x : Id) (via : List Id) (y : Id) → IsPath (remaining done m) x via y → Reaches m x y × (¬ Contains done y)
+  remaining_path : (x : Id) (via : List Id) (y : Id) → IsPath (remaining done m) x via y
+      → Reaches m x y × (¬ Contains done y)
   remaining_path x [] y path =
       let d = (DependsOn-remaining done m x y).0 path in
       (Reaches-dependency m x y d.0, d.2)
@@ -21,8 +23,10 @@ module _ (done : List Id) (m : List Instance) where
       let rest = remaining_path z via y path.1 in
       (Reaches-trans m x z y (Reaches-dependency m x z d.0) rest.0, rest.1)
 
-  pub Reaches-from_remaining : (x y : Id) → ¬ Contains done x → Reaches (remaining done m) x y → Reaches m x y × (¬ Contains done y)
-  Reaches-from_remaining x y left (inl same) = (inl same, subst (λ (z : Id). ¬ Contains done z) same left)
+  pub Reaches-from_remaining : (x y : Id) → ¬ Contains done x → Reaches (remaining done m) x y
+      → Reaches m x y × (¬ Contains done y)
+  Reaches-from_remaining x y left (inl same) =
+      (inl same, subst (λ (z : Id). ¬ Contains done z) same left)
   Reaches-from_remaining x y left (inr path) = remaining_path x path.0 y path.1
 
   -- ---- readiness in the remaining map and in the whole map
@@ -38,14 +42,16 @@ module _ (done : List Id) (m : List Instance) where
   module _ (all_ready : (x : Id) → Contains done x → IsReady m x) where
     -- a path from an instance that is ready in the remaining map ends at a committed instance,
     -- also if it passes a done one
-    path_complete : (x : Id) (via : List Id) (y : Id) → IsReady (remaining done m) x → IsPath m x via y → IsCommitted m y
+    path_complete : (x : Id) (via : List Id) (y : Id) → IsReady (remaining done m) x
+        → IsPath m x via y → IsCommitted m y
     path_complete x [] y ready step =
         elim (is_among_cases done y) [
           | inl found ↦ (all_ready y found.1).committed
           | inr other ↦
               let left = ((Contains-remaining_iff done m x).0 ready.committed).1 in
               let d = (DependsOn-remaining done m x y).1 (step, left, other.1) in
-              ((Contains-remaining_iff done m y).0 (ready.complete y (Reaches-dependency (remaining done m) x y d))).0
+              ((Contains-remaining_iff done m y).0
+              (ready.complete y (Reaches-dependency (remaining done m) x y d))).0
         ]
     path_complete x (z ∷ via) y ready path =
         elim (is_among_cases done z) [
@@ -54,7 +60,12 @@ module _ (done : List Id) (m : List Instance) where
               let left = ((Contains-remaining_iff done m x).0 ready.committed).1 in
               let d = (DependsOn-remaining done m x z).1 (path.0, left, other.1) in
               let there = Reaches-dependency (remaining done m) x z d in
-              path_complete z via y (record { committed = ready.complete z there; complete = λ w on. ready.complete w (Reaches-trans (remaining done m) x z w there on) }) path.1
+              path_complete z via y
+              (record {
+                committed = ready.complete z there;
+                complete = λ w on. ready.complete w
+                    (Reaches-trans (remaining done m) x z w there on);
+              }) path.1
         ]
 
     pub ready_from_remaining : (x : Id) → IsReady (remaining done m) x → IsReady m x
@@ -67,5 +78,8 @@ module _ (done : List Id) (m : List Instance) where
 
 -- if all done instances are ready, an instance that is not done is ready in the remaining map
 -- exactly if it is ready in the whole map
-pub remaining_is_ready_alike : (done : List Id) (m : List Instance) → ((x : Id) → Contains done x → IsReady m x) → (x : Id) → ¬ Contains done x → IsReady (remaining done m) x ↔ IsReady m x
-remaining_is_ready_alike done m all_ready x left = (ready_from_remaining done m all_ready x, remaining_ready done m x left)
+pub remaining_is_ready_alike : (done : List Id) (m : List Instance)
+    → ((x : Id) → Contains done x → IsReady m x) → (x : Id) → ¬ Contains done x
+    → IsReady (remaining done m) x ↔ IsReady m x
+remaining_is_ready_alike done m all_ready x left =
+    (ready_from_remaining done m all_ready x, remaining_ready done m x left)

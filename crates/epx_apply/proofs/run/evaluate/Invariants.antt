@@ -5,4 +5,6 @@ use Rattle.epx_apply.proofs.run.evaluate.Given as goal
 
 abbrev pub invariant-loop-place : goal.invariant-loop-place
 invariant-loop-place l =
-    l.effects.items ++ effects_over l.store (commands_at (op_lists_of l.commands) (drop l.place-index l.places)) ≡ effects_over l.store (commands_at (op_lists_of l.commands) l.places)
+    l.effects.items ++ effects_over l.store
+    (commands_at (op_lists_of l.commands) (drop l.place-index l.places))
+    ≡ effects_over l.store (commands_at (op_lists_of l.commands) l.places)

@@ -15,9 +15,12 @@ returns g c =
     let done = c.in_ok-parts.ensures.ok in
     IfOk-weaker c.join_parts.result _ _ (λ v joined.
     joined
-    ∙ parts_joined cut c.pieces-pieces.ensures.fits.some_item (effect_at store ops) places (λ part. part.items) c.in_ok-parts.parts.items (done.len ∙ c.pieces-pieces.ensures.pieces) (λ i inside.
+    ∙ parts_joined cut c.pieces-pieces.ensures.fits.some_item (effect_at store ops) places
+    (λ part. part.items) c.in_ok-parts.parts.items (done.len ∙ c.pieces-pieces.ensures.pieces)
+    (λ i inside.
     let part = done.each i (rw c.pieces-pieces.ensures.pieces inside) in
     let answer = part.2 in
-    let is : part.0.items ≡ effects_over store (commands_at ops (items_of_piece cut places i)) = search rules in
+    let is : part.0.items ≡ effects_over store (commands_at ops (items_of_piece cut places i)) =
+    search rules in
     (part.0, part.1, is ∙ effects_over-each store ops (items_of_piece cut places i)))
     ∙ sym (effects_over-each store ops places)) c.join_parts.ensures

@@ -12,5 +12,9 @@ returns c =
     let utf8 : IsUtf8 bytes = search rules in
     let over : c.take_line.new.reader ≡ [] = search rules in
     let all : c.in_ok-reader.reader ≡ tokens bytes = search rules in
-    let value = json_of-some bytes line.0 (utf8, read-from_tokens bytes line.0 (BeginsWith-deeper 2 3 _ line.0 _ (omega arith) (rw (all, over) at line.1))) in
+    let value = json_of-some bytes line.0 (
+      utf8,
+      read-from_tokens bytes line.0
+          (BeginsWith-deeper 2 3 _ line.0 _ (omega arith) (rw (all, over) at line.1)),
+    ) in
     ap (option_and_then form_of) value ∙ line.2

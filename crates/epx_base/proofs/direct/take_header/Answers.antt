@@ -13,6 +13,14 @@ returns c =
     let third : c.in_ok-take_text-2.field-0.now ≡ codes "components" = search rules in
     let ds = e.0 ∷ string (codes "waiting") ∷ w.0 ∷ string (codes "components") ∷ n.0 ∷ [] in (
       ds,
-      BeginsWithAll-deeper 0 1 _ ds _ (omega arith) (_, e.1, (_, rw second at c.in_ok-take_text.ensures, (_, w.1, (_, rw third at c.in_ok-take_text-2.ensures, (_, n.1, refl))))),
+      BeginsWithAll-deeper 0 1 _ ds _ (omega arith) (
+        _,
+        e.1,
+        (
+          _,
+          rw second at c.in_ok-take_text.ensures,
+          (_, w.1, (_, rw third at c.in_ok-take_text-2.ensures, (_, n.1, refl))),
+        ),
+      ),
       form_named-executed e.0 w.0 n.0 _ _ _ e.2 w.2 n.2 (omega arith),
     )

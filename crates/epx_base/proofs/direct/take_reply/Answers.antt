@@ -8,6 +8,7 @@ returns c =
     let x = c.in_ok-id.ensures in
     let y = c.in_ok-take_outcome.ensures in (
       x.0 ++ y.0 ∷ y.1 ∷ [],
-      BeginsWithAll-append 1 _ x.0 (y.0 ∷ y.1 ∷ []) _ _ (BeginsWithAll-deeper 0 1 _ x.0 _ (omega arith) x.1) y.2,
+      BeginsWithAll-append 1 _ x.0 (y.0 ∷ y.1 ∷ []) _ _
+          (BeginsWithAll-deeper 0 1 _ x.0 _ (omega arith) x.1) y.2,
       form_named-reply x.0 _ y.0 y.1 x.2 y.3,
     )

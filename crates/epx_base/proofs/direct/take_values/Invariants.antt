@@ -5,7 +5,8 @@ use Rattle.epx_base.proofs.direct.take_values.Given as goal
 
 abbrev pub invariant-loop-count : goal.invariant-loop-count
 invariant-loop-count l = record {
-  taken : (vs : List (Option ℤ)) × HasReadItems 0 value_or_null l.initial.reader vs l.reader × (length vs ≡ l.count);
+  taken : (vs : List (Option ℤ)) × HasReadItems 0 value_or_null l.initial.reader vs l.reader
+      × (length vs ≡ l.count);
   few : l.count ≤ 64;
 }
 

@@ -6,5 +6,9 @@ use Rattle.epx_base.proofs.direct.take_waiting.Goals as goal
 pub returns : goal.returns
 returns c =
     let x = c.in_ok-id.ensures in
-    let y = c.in_ok-_missing.ensures in
-    (x.0 ++ y.0, BeginsWithAll-deeper 0 1 _ _ _ (omega arith) (BeginsWithAll-append 0 _ x.0 y.0 _ _ x.1 y.1), form_named-waiting x.0 y.0 _ _ x.2 y.2)
+    let y = c.in_ok-_missing.ensures in (
+      x.0 ++ y.0,
+      BeginsWithAll-deeper 0 1 _ _ _ (omega arith)
+          (BeginsWithAll-append 0 _ x.0 y.0 _ _ x.1 y.1),
+      form_named-waiting x.0 y.0 _ _ x.2 y.2,
+    )

@@ -6,4 +6,5 @@ pub returns-then-len-gt-MAX_OPS : goal.returns-then-len-gt-MAX_OPS
 returns-then-len-gt-MAX_OPS c = is_value_list-many _ _ c.in-Some.ensures (omega arith)
 
 pub loop-value-init : goal.loop-value-init
-loop-value-init c = is_value_list-begin _ _ _ c.in-Some.ensures (omega arith) c.deref-value-items.ensures.value
+loop-value-init c = is_value_list-begin _ _ _ c.in-Some.ensures (omega arith)
+    c.deref-value-items.ensures.value

@@ -6,4 +6,5 @@ use Rattle.epx_base.proofs.ValueListLemmas.{is_value_or_null}
 use Rattle.epx_base.proofs.form.is_list_of_values.Given as goal
 
 abbrev pub invariant-loop-value : goal.invariant-loop-value
-invariant-loop-value l = is_value_list (view l.fn.value) ≡ list_all is_value_or_null (drop l.value-index l.value-items)
+invariant-loop-value l = is_value_list (view l.fn.value)
+    ≡ list_all is_value_or_null (drop l.value-index l.value-items)

@@ -4,4 +4,5 @@ use Rattle.epx_base.specs.Bases.{put_pairs}
 use Rattle.epx_base.proofs.progress.store_of.Given as goal
 
 abbrev pub invariant-loop-key : goal.invariant-loop-key
-invariant-loop-key l = put_pairs l.key-iterator.rest.items l.store ≡ put_pairs l.fn.pairs.items contents.empty
+invariant-loop-key l = put_pairs l.key-iterator.rest.items l.store
+    ≡ put_pairs l.fn.pairs.items contents.empty

@@ -13,4 +13,6 @@ returns c =
     let ts = begin_array ∷ string (codes "done") ∷ id_tokens c.args.id in
     let same : last.tokens ≡ ts = grind (arith, common_steps) in
     let kept : last.before ≡ [] = grind arith in
-    on_ok_weaker c.end_line.result (λ e. line_written (done_data c.args.id) ts last.tokens c.args.text.now.items last.before c.end_line.new.text.items same kept (refl) e) c.end_line.ensures
+    on_ok_weaker c.end_line.result
+    (λ e. line_written (done_data c.args.id) ts last.tokens c.args.text.now.items last.before
+    c.end_line.new.text.items same kept (refl) e) c.end_line.ensures

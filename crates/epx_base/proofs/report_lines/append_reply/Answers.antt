@@ -10,7 +10,11 @@ use Rattle.epx_base.proofs.report_lines.append_reply.Goals as goal
 pub returns : goal.returns
 returns c =
     let last = c.write_reply.new.out in
-    let ts = begin_array ∷ string (codes "reply") ∷ (id_tokens c.args.id ++ reply_tokens c.args.reply.now) in
+    let ts = begin_array ∷ string (codes "reply")
+    ∷ (id_tokens c.args.id ++ reply_tokens c.args.reply.now) in
     let same : last.tokens ≡ ts = grind (arith, common_steps) in
     let kept : last.before ≡ [] = grind arith in
-    on_ok_weaker c.end_line.result (λ e. line_written (reply_data c.args.id c.args.reply.now) ts last.tokens c.args.text.now.items last.before c.end_line.new.text.items same kept (reply_line-tokens c.args.id c.args.reply.now) e) c.end_line.ensures
+    on_ok_weaker c.end_line.result
+    (λ e. line_written (reply_data c.args.id c.args.reply.now) ts last.tokens
+    c.args.text.now.items last.before c.end_line.new.text.items same kept
+    (reply_line-tokens c.args.id c.args.reply.now) e) c.end_line.ensures

@@ -5,4 +5,5 @@ use Rattle.epx_base.proofs.report_lines.append_store.Given as goal
 
 abbrev pub invariant-loop-key : goal.invariant-loop-key
 invariant-loop-key l =
-    l.text.items ++ flat_map store_line (map (λ p. (p.0.now, p.1)) (drop l.key-index l.key-items)) ≡ l.fn.text.items ++ flat_map store_line (contents.entries l.fn.store)
+    l.text.items ++ flat_map store_line (map (λ p. (p.0.now, p.1)) (drop l.key-index l.key-items))
+    ≡ l.fn.text.items ++ flat_map store_line (contents.entries l.fn.store)

@@ -4,6 +4,7 @@ use Rattle.epx_base.proofs.report_lines.write_values.Given as goal
 
 abbrev pub invariant-loop-value : goal.invariant-loop-value
 invariant-loop-value l = record {
-  written : l.out.tokens ++ map value_token (drop l.value-index l.values) ≡ l.fn.out.tokens ++ map value_token l.values;
+  written : l.out.tokens ++ map value_token (drop l.value-index l.values)
+      ≡ l.fn.out.tokens ++ map value_token l.values;
   before : l.out.before ≡ l.fn.out.before;
 }

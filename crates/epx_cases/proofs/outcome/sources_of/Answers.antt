@@ -4,4 +4,5 @@ use Rattle.epx_cases.proofs.outcome.sources_of.Goals as goal
 
 pub loop-log-preserved : goal.loop-log-preserved
 loop-log-preserved c =
-    rw c.in_ok-push.ensures.items (All-push (λ s. s.failed ≡ false) _ _ c.loop-log.invariant c.source.ensures)
+    rw c.in_ok-push.ensures.items
+    (All-push (λ s. s.failed ≡ false) _ _ c.loop-log.invariant c.source.ensures)

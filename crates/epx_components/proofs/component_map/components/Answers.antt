@@ -6,7 +6,8 @@ use Rattle.epx_components.proofs.NodeRankLemmas.{leader_by_node}
 use Rattle.epx_components.proofs.component_map.components.Goals as goal
 
 pub returns-clause-leaders : goal.returns-clause-leaders
-returns-clause-leaders c = leader_by_node _ (parts c.in_ok-partition.partition) _ _ c.in_ok-partition.ensures.each_node c.in_ok-leaders.ensures.each
+returns-clause-leaders c = leader_by_node _ (parts c.in_ok-partition.partition) _ _
+    c.in_ok-partition.ensures.each_node c.in_ok-leaders.ensures.each
 
 pub returns-clause-instances : goal.returns-clause-instances
 returns-clause-instances c m is k x at =

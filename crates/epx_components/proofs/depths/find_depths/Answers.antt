@@ -16,13 +16,29 @@ loop-node-preserved c =
     let order = c.deref-node-items.ensures.value in
     let in' : i < length p.order = omega (arith, c.loop-node-test.true, ap length order) in
     let node_in = node_below edges p is i in' in
-    let own : c.index-own.result.now ≡ component_of p (node_at p i) = get_or_read p.component _ _ (omega (arith, node_in, ap (λ xs. get_or xs i 0) order)) c.index-own.ensures 0 ∙ ap (λ xs. get_or p.component (get_or xs i 0) 0) order in
-    let own_in : component_of p (node_at p i) < length depths = omega (arith, component_below edges p is (node_at p i) node_in, c.loop-node.invariant.len) in
-    let was : c.index.result.now ≡ number_for p depths (node_at p i) = get_or_read depths _ _ (omega (arith, own)) c.index.ensures 0 ∙ ap (λ x. get_or depths x 0) own in
+    let own : c.index-own.result.now ≡ component_of p (node_at p i) =
+    get_or_read p.component _ _ (omega (arith, node_in, ap (λ xs. get_or xs i 0) order))
+    c.index-own.ensures 0 ∙ ap (λ xs. get_or p.component (get_or xs i 0) 0) order in
+    let own_in : component_of p (node_at p i) < length depths =
+    omega (
+      arith,
+      component_below edges p is (node_at p i) node_in,
+      c.loop-node.invariant.len,
+    ) in
+    let was : c.index.result.now ≡ number_for p depths (node_at p i) =
+    get_or_read depths _ _ (omega (arith, own)) c.index.ensures 0
+    ∙ ap (λ x. get_or depths x 0) own in
     record {
       len = length-set depths c.index-own.result.now c.max.result ∙ c.loop-node.invariant.len;
-      depths = rw own (depths_step edges p depths i c.depth_above-below.result c.max.result is in' own_in
-          (rw (c.edges.ensures.edges, order, c.deref.ensures.value, c.deref-in-loop-node.ensures.value, own) at c.depth_above-below.ensures)
+      depths = rw own (depths_step edges p depths i c.depth_above-below.result c.max.result is in'
+          own_in
+          (rw (
+            c.edges.ensures.edges,
+            order,
+            c.deref.ensures.value,
+            c.deref-in-loop-node.ensures.value,
+            own,
+          ) at c.depth_above-below.ensures)
           (rw was at c.max.ensures) c.loop-node.invariant.depths);
     }
 
@@ -31,5 +47,13 @@ returns-clause-each c = λ k l.
     let edges = edges_of c.args.graph.now in
     let p = parts c.args.partition.now in
     let depths = c.loop-node.depths.items in
-    let end : c.loop-node.node-index ≡ length p.order = omega (arith, c.loop-node-test.false, c.loop-node.auto.node-index-end, ap length c.deref-node-items.ensures.value) in
-    depths_all edges p depths c.requires.is (subst (AreDepths edges p depths) end c.loop-node.invariant.depths) k (omega (arith, c.requires.each_node))
+    let end : c.loop-node.node-index ≡ length p.order =
+    omega (
+      arith,
+      c.loop-node-test.false,
+      c.loop-node.auto.node-index-end,
+      ap length c.deref-node-items.ensures.value,
+    ) in
+    depths_all edges p depths c.requires.is
+    (subst (AreDepths edges p depths) end c.loop-node.invariant.depths) k
+    (omega (arith, c.requires.each_node))

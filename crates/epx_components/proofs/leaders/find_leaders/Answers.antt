@@ -9,4 +9,6 @@ returns-clause-each c = λ k l.
     let p = parts c.args.partition.now in
     let leaders = c.loop-node.leaders.items in
     let end : c.loop-node.node ≡ 0 = omega (arith, c.loop-node-test.false) in
-    leaders_all (edges_of c.args.graph.now) p leaders c.requires.is (subst (AreLeadersFrom p leaders) end c.loop-node.invariant.leaders) k (omega (arith, c.requires.each_node))
+    leaders_all (edges_of c.args.graph.now) p leaders c.requires.is
+    (subst (AreLeadersFrom p leaders) end c.loop-node.invariant.leaders) k
+    (omega (arith, c.requires.each_node))

@@ -7,5 +7,6 @@ use Rattle.epx_components.proofs.missing.find_missing.Given as goal
 abbrev pub invariant-loop-node : goal.invariant-loop-node
 invariant-loop-node l = record {
   len : length l.marks.items ≡ l.partition.count;
-  marks : AreMarks (edges_of l.graph) (λ j. l.graph.committed ≤ j) (parts l.partition) l.marks.items l.node-index;
+  marks : AreMarks (edges_of l.graph) (λ j. l.graph.committed ≤ j) (parts l.partition)
+      l.marks.items l.node-index;
 }

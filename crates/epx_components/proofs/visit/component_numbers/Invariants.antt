@@ -6,5 +6,6 @@ use Rattle.epx_components.proofs.visit.component_numbers.Given as goal
 abbrev pub invariant-loop-place : goal.invariant-loop-place
 invariant-loop-place l = record {
   len : vec_len l.component ≡ l.place-index;
-  closed : (k : ℕ) → k < l.place-index → visit_of l.fn.place k ≡ Closed (get_or l.component.items k 0);
+  closed : (k : ℕ) → k < l.place-index
+      → visit_of l.fn.place k ≡ Closed (get_or l.component.items k 0);
 }

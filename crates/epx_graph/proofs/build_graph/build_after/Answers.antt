@@ -13,4 +13,5 @@ pub returns : goal.returns
 returns g c =
     let m = left_of c.in_ok-left.left in
     let rows = rw c.deref.ensures.value at c.in_ok-rows.ensures in
-    rw (c.new-2.ensures, sym (ap left_of c.in_ok-left.ensures)) (graph_built m c.in_ok-ids.ids.items c.in_ok-rows.rows c.in_ok-ids.ensures rows)
+    rw (c.new-2.ensures, sym (ap left_of c.in_ok-left.ensures))
+    (graph_built m c.in_ok-ids.ids.items c.in_ok-rows.rows c.in_ok-ids.ensures rows)

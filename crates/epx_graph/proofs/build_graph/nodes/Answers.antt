@@ -11,6 +11,9 @@ returns c =
     let m = left_of c.args.left.now in
     let missing = c.in_ok-missing.missing.items in
     let is : c.extend_from_slice.new.self.items ≡ ids_of m ++ missing =
-    c.in_ok-extend_from_slice.ensures.items ∙ ap (λ l. l ++ c.deref-2.result.now) c.in_ok-ids.ensures ∙ ap (λ l. ids_of m ++ l) c.deref-2.ensures.value in
-    let kept = missing_kept m c.deref.result.now missing (c.deref.ensures.value ∙ c.requires.all.missing) c.in_ok-missing.ensures.rising c.in_ok-missing.ensures.exact in
+    c.in_ok-extend_from_slice.ensures.items ∙ ap (λ l. l ++ c.deref-2.result.now)
+    c.in_ok-ids.ensures ∙ ap (λ l. ids_of m ++ l) c.deref-2.ensures.value in
+    let kept = missing_kept m c.deref.result.now missing
+    (c.deref.ensures.value ∙ c.requires.all.missing) c.in_ok-missing.ensures.rising
+    c.in_ok-missing.ensures.exact in
     subst (AreNodesOf m) (sym is) (nodes_joined m missing c.requires.instances_rise kept)

@@ -1,4 +1,5 @@
-use Rattle.std.proofs.Common.{◌≡◌, ◌++◌, ◌∷◌, [], ◌+◌, List, Some, slice_get, Contains, length, take, drop, get_or, sym, ap, subst, ◌∙◌}
+use Rattle.std.proofs.Common.{◌≡◌, ◌++◌, ◌∷◌, [], ◌+◌, List, Some, slice_get, Contains, length}
+use Rattle.std.proofs.Common.{take, drop, get_or, sym, ap, subst, ◌∙◌}
 use Rattle.epx_types.specs.declared.id.Id.{Id}
 use Rattle.epx_graph.specs.inner.Remainder.{left_of}
 use Rattle.epx_graph.specs.inner.Nodes.{ArePositionsOf}
@@ -15,16 +16,25 @@ loop-id-preserved c =
     let row = c.loop-id.row.items in
     let x : Id = get_or xs i (record { replica = 0; number = 0 }) in
     let more = take (i + 1) xs in
-    let nodes : c.split_at.result.1.now ≡ drop (length m) ids = c.split_at.ensures.back ∙ ap (λ n. drop n ids) c.len.ensures.len in
-    let front : length c.split_at.result.0.now ≡ length m = c.split_at.ensures.front_len ∙ c.len.ensures.len in
+    let nodes : c.split_at.result.1.now ≡ drop (length m) ids =
+    c.split_at.ensures.back ∙ ap (λ n. drop n ids) c.len.ensures.len in
+    let front : length c.split_at.result.0.now ≡ length m =
+    c.split_at.ensures.front_len ∙ c.len.ensures.len in
     elim c.match-find_id.branch [
       | in-Some+in_ok-push w ↦
           let place = w.in-Some.place in
-          let at : slice_get (drop (length m) ids) place ≡ Some x = ap (λ l. slice_get l place) (sym nodes) ∙ w.in-Some.ensures in
-          let is : c.match-find_id.row.items ≡ row ++ (length m + place) ∷ [] = ap (λ r. r.items) w.row-is ∙ w.in_ok-push.ensures.items ∙ ap (λ n. row ++ (n + place) ∷ []) front in
-          subst (ArePositionsOf ids more) (sym is) (missing_more m ids c.requires.nodes xs c.requires.rising c.requires.missing i c.loop-id-test.true row c.loop-id.invariant place at)
+          let at : slice_get (drop (length m) ids) place ≡ Some x =
+          ap (λ l. slice_get l place) (sym nodes) ∙ w.in-Some.ensures in
+          let is : c.match-find_id.row.items ≡ row ++ (length m + place) ∷ [] =
+          ap (λ r. r.items) w.row-is ∙ w.in_ok-push.ensures.items
+          ∙ ap (λ n. row ++ (n + place) ∷ []) front in
+          subst (ArePositionsOf ids more) (sym is)
+          (missing_more m ids c.requires.nodes xs c.requires.rising c.requires.missing i
+          c.loop-id-test.true row c.loop-id.invariant place at)
       | in_default w ↦
           let none = subst (λ (l : List Id). ¬ Contains l x) nodes w.in_default.ensures in
           let is : c.match-find_id.row.items ≡ row = ap (λ r. r.items) w.row-is in
-          subst (ArePositionsOf ids more) (sym is) (missing_skip m ids c.requires.nodes xs c.requires.rising c.requires.missing i c.loop-id-test.true row c.loop-id.invariant none)
+          subst (ArePositionsOf ids more) (sym is)
+          (missing_skip m ids c.requires.nodes xs c.requires.rising c.requires.missing i
+          c.loop-id-test.true row c.loop-id.invariant none)
     ]

@@ -7,5 +7,14 @@ use Rattle.epx_graph.proofs.build_graph.rows.Goals as goal
 
 pub returns-then-is_empty : goal.returns-then-is_empty
 returns-then-is_empty c =
-    let none : c.args.gathered.missing.items ≡ [] = nil_from_length c.args.gathered.missing.items (grind (arith, nat_tests, c.is_empty.ensures, c.if-is_empty.true, c.args.gathered.missing.ok.0)) in
-    rows_whole (left_of c.args.left.now) c.args.ids.now c.args.gathered.rows c.args.gathered.missing.items c.requires.nodes c.requires.gathered none
+    let none : c.args.gathered.missing.items ≡ [] =
+    nil_from_length c.args.gathered.missing.items
+    (grind (
+      arith,
+      nat_tests,
+      c.is_empty.ensures,
+      c.if-is_empty.true,
+      c.args.gathered.missing.ok.0,
+    )) in
+    rows_whole (left_of c.args.left.now) c.args.ids.now c.args.gathered.rows
+    c.args.gathered.missing.items c.requires.nodes c.requires.gathered none

@@ -10,7 +10,9 @@ returns g c =
     let m = left_of c.args.left.now in
     let part = c.all_instances-part.result in
     let end : part.end ≡ length m = c.all_instances-part.ensures.end ∙ c.len.ensures.len in
-    let all : slice_range m part.start part.end ≡ m = ap (λ a. slice_range m a part.end) c.all_instances-part.ensures.start ∙ whole_range m part.end (omega (arith, end)) in
+    let all : slice_range m part.start part.end ≡ m =
+    ap (λ a. slice_range m a part.end) c.all_instances-part.ensures.start
+    ∙ whole_range m part.end (omega (arith, end)) in
     IfOk-weaker c.gather_parts.result _ _ (λ gathered is. record {
       all = subst (λ es. IsGatheredOf m es gathered.rows gathered.missing.items) all is;
       instances_rise = c.len.ensures.rising;

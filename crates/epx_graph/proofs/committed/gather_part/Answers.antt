@@ -1,4 +1,5 @@
-use Rattle.std.proofs.Common.{◌≡◌, ◌+◌, ◌++◌, ◌∷◌, [], List, ℕ, sym, ap, subst, ◌∙◌, slice_range, arith}
+use Rattle.std.proofs.Common.{◌≡◌, ◌+◌, ◌++◌, ◌∷◌, [], List, ℕ, sym, ap, subst, ◌∙◌, slice_range}
+use Rattle.std.proofs.Common.{arith}
 use Rattle.epx_types.specs.Done.{without_deps, remaining_ids}
 use Rattle.epx_graph.specs.inner.Remainder.{left_of}
 use Rattle.epx_graph.specs.inner.Nodes.{positions_of, missing_of, IsGatheredOf}
@@ -7,7 +8,8 @@ use Rattle.epx_graph.proofs.RemainderLemmas.{rest_rises}
 use Rattle.epx_graph.proofs.committed.gather_part.Goals as goal
 
 pub loop-place-init : goal.loop-place-init
-loop-place-init c = gathered_none (left_of c.args.left.now) c.args.part.start c.in_ok-rows.rows c.new-missing.result.items c.in_ok-rows.ensures c.new-missing.ensures.items
+loop-place-init c = gathered_none (left_of c.args.left.now) c.args.part.start c.in_ok-rows.rows
+    c.new-missing.result.items c.in_ok-rows.ensures c.new-missing.ensures.items
 
 pub loop-place-preserved : goal.loop-place-preserved
 loop-place-preserved c =
@@ -18,14 +20,28 @@ loop-place-preserved c =
     let rows = c.loop-place.rows in
     let missing = c.loop-place.missing.items in
     let part = slice_range m c.args.part.start (c.loop-place.place + 1) in
-    let rows_are : rows ++ positions_of m deps ∷ [] ≡ c.in_ok-rows-2.rows = ap (λ xs. rows ++ positions_of m (remaining_ids done xs) ∷ []) (sym c.deps.ensures.deps) ∙ sym c.in_ok-rows-2.ensures.rows in
-    let missing_are : missing ++ missing_of m deps ≡ c.push_committed.new.missing.items = ap (λ xs. missing ++ missing_of m (remaining_ids done xs)) (sym c.deps.ensures.deps) ∙ sym c.in_ok-rows-2.ensures.missing in
+    let rows_are : rows ++ positions_of m deps ∷ [] ≡ c.in_ok-rows-2.rows =
+    ap (λ xs. rows ++ positions_of m (remaining_ids done xs) ∷ []) (sym c.deps.ensures.deps)
+    ∙ sym c.in_ok-rows-2.ensures.rows in
+    let missing_are : missing ++ missing_of m deps ≡ c.push_committed.new.missing.items =
+    ap (λ xs. missing ++ missing_of m (remaining_ids done xs)) (sym c.deps.ensures.deps)
+    ∙ sym c.in_ok-rows-2.ensures.missing in
     subst (IsGatheredOf m part c.in_ok-rows-2.rows) missing_are
     (subst (λ (r : List (List ℕ)). IsGatheredOf m part r (missing ++ missing_of m deps)) rows_are
-    (gathered_more m c.args.part.start c.loop-place.place (without_deps done e) rows missing c.loop-place.auto.place c.entry_at.ensures (rest_rises done e.deps c.deps.ensures.fits.rising) c.loop-place.invariant))
+    (gathered_more m c.args.part.start c.loop-place.place (without_deps done e) rows missing
+    c.loop-place.auto.place c.entry_at.ensures
+    (rest_rises done e.deps c.deps.ensures.fits.rising) c.loop-place.invariant))
 
 pub returns : goal.returns
 returns c =
     let m = left_of c.args.left.now in
-    let last : c.loop-place.place ≡ c.args.part.end = omega (arith, c.loop-place-test.false, c.loop-place.auto.place-end, c.loop-place.auto.place, c.requires.start) in
-    subst (λ n. IsGatheredOf m (slice_range m c.args.part.start n) c.loop-place.rows c.loop-place.missing.items) last c.loop-place.invariant
+    let last : c.loop-place.place ≡ c.args.part.end =
+    omega (
+      arith,
+      c.loop-place-test.false,
+      c.loop-place.auto.place-end,
+      c.loop-place.auto.place,
+      c.requires.start,
+    ) in
+    subst (λ n. IsGatheredOf m (slice_range m c.args.part.start n) c.loop-place.rows
+    c.loop-place.missing.items) last c.loop-place.invariant

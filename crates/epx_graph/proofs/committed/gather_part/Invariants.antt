@@ -4,4 +4,5 @@ use Rattle.epx_graph.specs.inner.Nodes.{IsGatheredOf}
 use Rattle.epx_graph.proofs.committed.gather_part.Given as goal
 
 abbrev pub invariant-loop-place : goal.invariant-loop-place
-invariant-loop-place l = IsGatheredOf (left_of l.left) (slice_range (left_of l.left) l.fn.part.start l.place) l.rows l.missing.items
+invariant-loop-place l = IsGatheredOf (left_of l.left)
+    (slice_range (left_of l.left) l.fn.part.start l.place) l.rows l.missing.items

@@ -11,6 +11,7 @@ returns c = λ yes k d l within.
     let x = c.args.id in
     let zero : Id = record { replica = 0; number = 0 } in
     let first = get_or ids n zero in
-    let below : Below x first = is_lt-from_lt (nat_cmp x.replica first.replica) (nat_cmp x.number first.number) (sym c.lt.ensures ∙ yes) in
+    let below : Below x first = is_lt-from_lt (nat_cmp x.replica first.replica)
+    (nat_cmp x.number first.number) (sym c.lt.ensures ∙ yes) in
     let same = other_default ids n zero d (omega arith) in
     above_from ids c.requires x n d (subst (Below x) same below) k l within

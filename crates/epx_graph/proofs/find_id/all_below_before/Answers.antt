@@ -11,6 +11,8 @@ returns-then-place-ids c = λ yes k d l.
     let x = c.args.id in
     let zero : Id = record { replica = 0; number = 0 } in
     let last = get_or ids (n - 1) zero in
-    let below : Below last x = is_lt-from_lt (nat_cmp last.replica x.replica) (nat_cmp last.number x.number) (sym c.lt.ensures ∙ yes) in
+    let below : Below last x = is_lt-from_lt (nat_cmp last.replica x.replica)
+    (nat_cmp last.number x.number) (sym c.lt.ensures ∙ yes) in
     let same = other_default ids (n - 1) zero d (omega arith) in
-    below_before ids c.requires x n d (omega arith) (omega arith) (subst (λ y. Below y x) same below) k l
+    below_before ids c.requires x n d (omega arith) (omega arith)
+    (subst (λ y. Below y x) same below) k l

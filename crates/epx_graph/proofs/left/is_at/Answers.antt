@@ -7,5 +7,8 @@ pub returns-then-place-done : goal.returns-then-place-done
 returns-then-place-done c = λ yes.
     let done = c.args.done.now in
     let zero : Id = record { replica = 0; number = 0 } in
-    let same = same_from_eq (get_or done c.args.place zero) c.args.id (sym c.eq.ensures ∙ yes) in
-    (c.args.place, c.if-place-done.true, other_default done c.args.place c.args.id zero c.if-place-done.true ∙ same)
+    let same = same_from_eq (get_or done c.args.place zero) c.args.id (sym c.eq.ensures ∙ yes) in (
+      c.args.place,
+      c.if-place-done.true,
+      other_default done c.args.place c.args.id zero c.if-place-done.true ∙ same,
+    )

@@ -1,5 +1,9 @@
-use Rattle.epx_types.proofs.keys.KeyListLemmas.{AllPairs-rising_keys, Contains-rising_keys, Contains-from_rising_keys}
+use Rattle.epx_types.proofs.keys.KeyListLemmas.{AllPairs-rising_keys, Contains-rising_keys}
+use Rattle.epx_types.proofs.keys.KeyListLemmas.{Contains-from_rising_keys}
 use Rattle.epx_laws.proofs.commands.keys_rise.Goals as goal
 
 pub returns : goal.returns
-returns c = λ ks. (AllPairs-rising_keys ks, λ k. (Contains-from_rising_keys ks k, Contains-rising_keys ks k))
+returns c = λ ks. (
+  AllPairs-rising_keys ks,
+  λ k. (Contains-from_rising_keys ks k, Contains-rising_keys ks k),
+)

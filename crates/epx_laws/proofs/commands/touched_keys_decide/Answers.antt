@@ -2,4 +2,5 @@ use Rattle.epx_types.proofs.commands.CommandLemmas.{command_on-HasSameOutcome, w
 use Rattle.epx_laws.proofs.commands.touched_keys_decide.Goals as goal
 
 pub returns : goal.returns
-returns c = λ ops c d agree. ((command_on-HasSameOutcome ops c d agree).0, writes_of-alike ops c d agree)
+returns c = λ ops c d agree.
+    ((command_on-HasSameOutcome ops c d agree).0, writes_of-alike ops c d agree)

@@ -2,4 +2,8 @@ use Rattle.epx_types.proofs.orders.LawfulOrderLemmas.{Before-alike_reaching, Bef
 use Rattle.epx_laws.proofs.order.related_keep_order.Goals as goal
 
 pub returns : goal.returns
-returns c = λ m ids other lawful lawful' x y before. record { there = Before-alike_reaching m ids other lawful lawful' x y before; back = Before-alike_reached m ids other lawful lawful' x y before }
+returns c = λ m ids other lawful lawful' x y before.
+    record {
+      there = Before-alike_reaching m ids other lawful lawful' x y before;
+      back = Before-alike_reached m ids other lawful lawful' x y before;
+    }

@@ -2,4 +2,8 @@ use Rattle.epx_types.proofs.graph.ReachingLemmas.{IsLeader-along, IsDepth-along,
 use Rattle.epx_laws.proofs.reaching.members_are_alike.Goals as goal
 
 pub returns : goal.returns
-returns c = record { leader = IsLeader-along; depth = IsDepth-along; ready = λ m x y one. IsReady-reached m x y one.0 }
+returns c = record {
+  leader = IsLeader-along;
+  depth = IsDepth-along;
+  ready = λ m x y one. IsReady-reached m x y one.0;
+}

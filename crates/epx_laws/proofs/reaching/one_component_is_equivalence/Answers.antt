@@ -1,5 +1,10 @@
-use Rattle.epx_types.proofs.graph.ReachingLemmas.{InOneComponent-refl, InOneComponent-symm, InOneComponent-trans}
+use Rattle.epx_types.proofs.graph.ReachingLemmas.{InOneComponent-refl, InOneComponent-symm}
+use Rattle.epx_types.proofs.graph.ReachingLemmas.{InOneComponent-trans}
 use Rattle.epx_laws.proofs.reaching.one_component_is_equivalence.Goals as goal
 
 pub returns : goal.returns
-returns c = record { reflexive = InOneComponent-refl; symmetric = InOneComponent-symm; transitive = InOneComponent-trans }
+returns c = record {
+  reflexive = InOneComponent-refl;
+  symmetric = InOneComponent-symm;
+  transitive = InOneComponent-trans;
+}

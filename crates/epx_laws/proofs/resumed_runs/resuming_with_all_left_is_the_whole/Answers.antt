@@ -6,4 +6,6 @@ use Rattle.epx_laws.proofs.resumed_runs.resuming_with_all_left_is_the_whole.Goal
 
 pub returns : goal.returns
 returns c = λ m other done d can all covered order whole ordered ordered'.
-    final-resumed m can.rising done d can.sound other can.has (ranked_ids order) (IsExecutionOrder-IsLawful (remaining done other) order ordered) all covered (ranked_ids whole) (IsExecutionOrder-IsLawful m whole ordered')
+    final-resumed m can.rising done d can.sound other can.has (ranked_ids order)
+    (IsExecutionOrder-IsLawful (remaining done other) order ordered) all covered
+    (ranked_ids whole) (IsExecutionOrder-IsLawful m whole ordered')

@@ -4,7 +4,10 @@ use Rattle.epx_lines.proofs.cut.cut_lines.Goals as goal
 
 pub loop-rest-preserved : goal.loop-rest-preserved
 loop-rest-preserved c =
-    line_more c.loop-rest.lines.items c.push.new.self.items c.cut_line.result.0 c.loop-rest.rest.now c.cut_line.result.1.now _ c.cut_line.ensures.lines c.loop-rest.invariant c.in_ok-push.ensures.items
+    line_more c.loop-rest.lines.items c.push.new.self.items c.cut_line.result.0
+    c.loop-rest.rest.now c.cut_line.result.1.now _ c.cut_line.ensures.lines
+    c.loop-rest.invariant c.in_ok-push.ensures.items
 
 pub returns : goal.returns
-returns c = line_none c.loop-rest.lines.items c.loop-rest.rest.now _ (search rules) c.loop-rest.invariant
+returns c = line_none c.loop-rest.lines.items c.loop-rest.rest.now _ (search rules)
+    c.loop-rest.invariant

@@ -4,4 +4,5 @@ use Rattle.epx_lines.proofs.OtherIdLemmas.{with_others}
 use Rattle.epx_lines.proofs.deps.sort_other_ids.Given as goal
 
 abbrev pub invariant-loop-dep : goal.invariant-loop-dep
-invariant-loop-dep l = rising_others l.fn.id l.fn.named.items ≡ with_others l.fn.id l.others.keys (drop l.dep-index l.dep-items)
+invariant-loop-dep l = rising_others l.fn.id l.fn.named.items
+    ≡ with_others l.fn.id l.others.keys (drop l.dep-index l.dep-items)

@@ -5,5 +5,6 @@ use Rattle.epx_lines.proofs.digits.read_digits.Goals as goal
 pub loop-byte-preserved : goal.loop-byte-preserved
 loop-byte-preserved c =
     let so_far = c.loop-byte.invariant in
-    let more = one_digit_more c.args.bytes.now c.loop-byte.byte-index c.loop-byte.number so_far.all_digits so_far.value (omega arith) (search rules) in
+    let more = one_digit_more c.args.bytes.now c.loop-byte.byte-index c.loop-byte.number
+    so_far.all_digits so_far.value (omega arith) (search rules) in
     record { all_digits = more.0; value = rw c.from.ensures more.1 }

@@ -11,4 +11,6 @@ returns-in_ok-read_digits-in-45 c =
     let minus : get_or bytes 0 0 ≡ 45 = omega arith in
     let rest = take_all (length bytes - 1) (drop 1 bytes) (omega (arith, length-drop 1 bytes)) in
     let digits : AreDigitsOf (drop 1 bytes) n = rw rest at c.in_ok-read_digits-in-45.ensures in
-    IfSome_then c.negate.result c.negate.ensures (λ z h. rw (← c.as_bytes.ensures.value, h.2) (number_of-minus bytes n minus digits h.0 h.1))
+    IfSome_then c.negate.result c.negate.ensures
+    (λ z h. rw (← c.as_bytes.ensures.value, h.2)
+    (number_of-minus bytes n minus digits h.0 h.1))

@@ -13,8 +13,13 @@ returns c =
     let seq_is : c.args.parts.seq ≡ Some c.in_ok-seq.field-0 = search rules in
     let named_is : c.args.parts.named ≡ Some c.in_ok-named.field-0 = search rules in
     let ops_is : c.args.parts.ops ≡ Some c.in_ok-ops.field-0 = search rules in
-    let deps_is : c.in_ok-deps.deps.items ≡ rising_others (record { replica = c.in_ok-replica.field-0; number = c.in_ok-number.field-0 }) c.in_ok-named.field-0.items = search rules in
+    let deps_is : c.in_ok-deps.deps.items
+    ≡ rising_others
+    (record { replica = c.in_ok-replica.field-0; number = c.in_ok-number.field-0 })
+    c.in_ok-named.field-0.items = search rules in
     IfSome_then c.new.result c.new.ensures.entry (λ e is ms h.
-    meaning_of_object-parts ms _ _ _ c.in_ok-named.field-0.items c.in_ok-deps.deps.items c.in_ok-ops.field-0.items
-    (rw r_is at h.replica) (rw i_is at h.number) (rw seq_is at h.seq) (rw named_is at h.named) (rw ops_is at h.ops) h.status deps_is
+    meaning_of_object-parts ms _ _ _ c.in_ok-named.field-0.items c.in_ok-deps.deps.items
+    c.in_ok-ops.field-0.items
+    (rw r_is at h.replica) (rw i_is at h.number) (rw seq_is at h.seq) (rw named_is at h.named)
+    (rw ops_is at h.ops) h.status deps_is
     ∙ ap (λ e. Ok (Entry e)) (sym is))

@@ -15,5 +15,7 @@ returns c =
     let same : c.in_ok-text.text.now ≡ c.args.bytes.now = search rules in
     let over : c.take_parts.new.reader ≡ [] = search rules in
     let all : c.in_ok-reader.reader ≡ tokens c.args.bytes.now = search rules in
-    let value = json_of-some c.args.bytes.now (object parts.0) (utf8, read-from_tokens c.args.bytes.now (object parts.0) (rw (all, over) at parts.1)) in
-    IfSome_then c.entry_from_parts.result c.entry_from_parts.ensures (λ e is. ap (λ o. need NotJson o meaning_of_value) value ∙ is parts.0 parts.2)
+    let value = json_of-some c.args.bytes.now (object parts.0)
+    (utf8, read-from_tokens c.args.bytes.now (object parts.0) (rw (all, over) at parts.1)) in
+    IfSome_then c.entry_from_parts.result c.entry_from_parts.ensures
+    (λ e is. ap (λ o. need NotJson o meaning_of_value) value ∙ is parts.0 parts.2)

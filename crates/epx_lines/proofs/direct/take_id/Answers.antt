@@ -9,7 +9,9 @@ use Rattle.epx_lines.proofs.direct.take_id.Goals as goal
 pub returns : goal.returns
 unfolding id_of
 returns c =
-    let first : c.args.reader.now ≡ token_of c.in_ok-next.field-0 ∷ c.next.new.self = grind arith in
+    let first : c.args.reader.now ≡ token_of c.in_ok-next.field-0 ∷ c.next.new.self =
+    grind arith in
     let is : c.args.reader.now ≡ Token.begin_array ∷ c.next.new.self = grind (arith, first) in
-    let end : after_end_array c.take_id_parts.new.reader ≡ Some c.take_end_array.new.self = grind arith in
+    let end : after_end_array c.take_id_parts.new.reader ≡ Some c.take_end_array.new.self =
+    grind arith in
     rw is (ParsesAllTo-array 0 id_of_pair _ _ _ _ c.in_ok-id.ensures end)

@@ -9,11 +9,15 @@ pub returns-then-len-gt-MAX_OPS : goal.returns-then-len-gt-MAX_OPS
 returns-then-len-gt-MAX_OPS c = ops_of_many _ _ c.in-Some.ensures (omega arith)
 
 pub loop-op-init : goal.loop-op-init
-loop-op-init c = ops_begin _ c.in-Some.written.now.items _ _ c.in-Some.ensures (omega arith) c.deref-op-items.ensures.value c.in_ok-ops.ensures.items
+loop-op-init c = ops_begin _ c.in-Some.written.now.items _ _ c.in-Some.ensures (omega arith)
+    c.deref-op-items.ensures.value c.in_ok-ops.ensures.items
 
 pub loop-op-preserved : goal.loop-op-preserved
 loop-op-preserved c =
     let written = c.deref-op-items.result.now in
     let read = sym (rw c.in-Some-2.is at c.in_ok-op.ensures) in
-    read_one_more (λ v. op_of (view v)) written c.loop-op.op-index c.op-item.result c.in-Some-2.op c.loop-op.ops.items _ c.loop-op-test.true c.op-item.is read c.loop-op.invariant
-    ∙ ap (λ ops. option_map (λ more. ops ++ more) (every (λ v. op_of (view v)) (drop (c.loop-op.op-index + 1) written))) (sym c.in_ok-push.ensures.items)
+    read_one_more (λ v. op_of (view v)) written c.loop-op.op-index c.op-item.result c.in-Some-2.op
+    c.loop-op.ops.items _ c.loop-op-test.true c.op-item.is read c.loop-op.invariant
+    ∙ ap (λ ops. option_map (λ more. ops ++ more)
+    (every (λ v. op_of (view v)) (drop (c.loop-op.op-index + 1) written)))
+    (sym c.in_ok-push.ensures.items)

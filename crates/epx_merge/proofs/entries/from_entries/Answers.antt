@@ -7,4 +7,5 @@ use Rattle.epx_merge.proofs.entries.from_entries.Goals as goal
 pub returns : goal.returns
 returns c =
     let entries = c.args.entries.items in
-    c.close.ensures (entry_lines entries) (entries_in_order entries) (c.in_ok-note_each.ensures [] c.new-ledger.ensures)
+    c.close.ensures (entry_lines entries) (entries_in_order entries)
+    (c.in_ok-note_each.ensures [] c.new-ledger.ensures)

@@ -15,15 +15,26 @@ loop-entry-preserved c =
     let n : c.loop-entry.line + 1 ≡ suc c.loop-entry.line = omega arith in
     let line : ℕ → Placed = λ k. record { place = record { log = 0; line = k }; instance = e } in
     let is : c.new.result ≡ line (suc c.loop-entry.line) = c.new.ensures ∙ ap line n in
-    let one : NotesLines (line (suc c.loop-entry.line) ∷ []) old c.note.new.self = subst (λ p. NotesLines (p ∷ []) old c.note.new.self) is c.in_ok-note.ensures in (
+    let one : NotesLines (line (suc c.loop-entry.line) ∷ []) old c.note.new.self =
+    subst (λ p. NotesLines (p ∷ []) old c.note.new.self) is c.in_ok-note.ensures in (
       λ last more.
-          let after : NotesLines (entry_lines_from (suc (suc c.loop-entry.line)) rest) c.note.new.self last = subst (λ k. NotesLines (entry_lines_from (suc k) rest) c.note.new.self last) n more in
-          c.loop-entry.invariant.0 last (subst (λ es. NotesLines (entry_lines_from (suc c.loop-entry.line) es) old last) (sym c.in-Some.ensures.steps.0)
-          (NotesLines-append (line (suc c.loop-entry.line) ∷ []) (entry_lines_from (suc (suc c.loop-entry.line)) rest) old c.note.new.self last one after)),
+          let after : NotesLines (entry_lines_from (suc (suc c.loop-entry.line)) rest)
+          c.note.new.self last =
+          subst (λ k. NotesLines (entry_lines_from (suc k) rest) c.note.new.self last) n
+          more in
+          c.loop-entry.invariant.0 last
+          (subst (λ es. NotesLines (entry_lines_from (suc c.loop-entry.line) es) old last)
+          (sym c.in-Some.ensures.steps.0)
+          (NotesLines-append (line (suc c.loop-entry.line) ∷ [])
+          (entry_lines_from (suc (suc c.loop-entry.line)) rest) old c.note.new.self last one
+          after)),
       omega (arith, c.loop-entry.invariant.1, ap length c.in-Some.ensures.steps.0),
     )
 
 pub returns : goal.returns
 returns c =
-    let none = nil_from_length c.loop-entry.entry-iterator.rest.items (sym c.loop-entry.entry-iterator.rest.ok.0 ∙ c.in-None.ensures.steps.0) in
-    c.loop-entry.invariant.0 c.loop-entry.ledger (subst (λ es. NotesLines (entry_lines_from (suc c.loop-entry.line) es) c.loop-entry.ledger c.loop-entry.ledger) (sym none) (NotesLines-nil c.loop-entry.ledger))
+    let none = nil_from_length c.loop-entry.entry-iterator.rest.items
+    (sym c.loop-entry.entry-iterator.rest.ok.0 ∙ c.in-None.ensures.steps.0) in
+    c.loop-entry.invariant.0 c.loop-entry.ledger
+    (subst (λ es. NotesLines (entry_lines_from (suc c.loop-entry.line) es) c.loop-entry.ledger
+    c.loop-entry.ledger) (sym none) (NotesLines-nil c.loop-entry.ledger))

@@ -4,4 +4,5 @@ use Rattle.epx_merge.proofs.limits.first_too_long.Given as goal
 
 -- no log so far is too long
 abbrev pub invariant-loop-number : goal.invariant-loop-number
-invariant-loop-number l = (k : ℕ) → k < l.number → (bytes : List ℕ) → slice_get (map (λ log. log.items) l.logs) k ≡ Some bytes → length bytes ≤ max_log_bytes
+invariant-loop-number l = (k : ℕ) → k < l.number → (bytes : List ℕ)
+    → slice_get (map (λ log. log.items) l.logs) k ≡ Some bytes → length bytes ≤ max_log_bytes

@@ -7,5 +7,7 @@ use Rattle.epx_merge.proofs.pieces.note_pieces.Given as goal
 
 abbrev pub invariant-loop-piece : goal.invariant-loop-piece
 invariant-loop-piece l =
-    (lines : List MeaningAt) → AreRead (λ given entries. entries.items ≡ given) lines l.fn.pieces.items
-    → IsGathering (λ given entries. entries.items ≡ given) lines (λ given. NotesLines given l.fn.ledger l.ledger) l.piece-iterator.rest.items
+    (lines : List MeaningAt) → AreRead (λ given entries. entries.items ≡ given) lines
+    l.fn.pieces.items
+    → IsGathering (λ given entries. entries.items ≡ given) lines
+    (λ given. NotesLines given l.fn.ledger l.ledger) l.piece-iterator.rest.items

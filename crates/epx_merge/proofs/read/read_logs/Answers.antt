@@ -9,11 +9,22 @@ use Rattle.epx_merge.proofs.read.read_logs.Goals as goal
 pub returns-in-Ok : goal.returns-in-Ok
 returns-in-Ok g c =
     let logs = map (λ log. log.items) c.args.logs.now in
-    let few : length logs ≤ max_logs = omega (arith, length-map c.args.logs.now (λ log. log.items), c.if-logs-gt-MAX_LOGS.false) in
-    ledger_answers logs ((few, c.in_default.ensures), c.in-Ok.ensures.0) c.close.result (c.close.ensures (placed_of logs) (placed_in_order logs) c.in-Ok.ensures.1)
+    let few : length logs ≤ max_logs =
+    omega (
+      arith,
+      length-map c.args.logs.now (λ log. log.items),
+      c.if-logs-gt-MAX_LOGS.false,
+    ) in
+    ledger_answers logs ((few, c.in_default.ensures), c.in-Ok.ensures.0) c.close.result
+    (c.close.ensures (placed_of logs) (placed_in_order logs) c.in-Ok.ensures.1)
 
 pub returns-in-Err : goal.returns-in-Err
 returns-in-Err g c =
     let logs = map (λ log. log.items) c.args.logs.now in
-    let few : length logs ≤ max_logs = omega (arith, length-map c.args.logs.now (λ log. log.items), c.if-logs-gt-MAX_LOGS.false) in
+    let few : length logs ≤ max_logs =
+    omega (
+      arith,
+      length-map c.args.logs.now (λ log. log.items),
+      c.if-logs-gt-MAX_LOGS.false,
+    ) in
     read_fault_refuses logs (few, c.in_default.ensures) c.in-Err.fault c.in-Err.ensures

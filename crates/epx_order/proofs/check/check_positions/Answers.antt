@@ -4,7 +4,9 @@ use Rattle.std.proofs.lemmas.List.{get_or_read}
 use Rattle.std.proofs.lemmas.List.Elements.{All-get_or}
 use Rattle.epx_components.specs.Partitions.{parts, component_of}
 use Rattle.epx_order.specs.inner.SequenceKeys.{sequence_key_of, ComesBefore, IsNodeEarlyAt}
-use Rattle.epx_order.proofs.SequenceKeyLemmas.{latest_in, overtaken_from_latest, overtaken_to_latest, latest_step, nodes_in_order_step}
+use Rattle.epx_order.proofs.SequenceKeyLemmas.{latest_in, overtaken_from_latest}
+use Rattle.epx_order.proofs.SequenceKeyLemmas.{overtaken_to_latest, latest_step}
+use Rattle.epx_order.proofs.SequenceKeyLemmas.{nodes_in_order_step}
 use Rattle.epx_order.proofs.check.check_positions.Goals as goal
 
 pub returns-then-comes_before : goal.returns-then-comes_before
@@ -16,12 +18,29 @@ returns-then-comes_before c =
     let latest = c.loop-place.latest.items in
     let old = c.loop-place.invariant in
     let k = get_or nodes n 0 in
-    let node_in : k < length p.component = All-get_or (λ k. k < length p.component) nodes n 0 c.loop-place-test.true c.requires.nodes in
-    let own : c.index-own.result.now ≡ component_of p k = get_or_read p.component k _ node_in c.index-own.ensures 0 in
-    let own_in : component_of p k < length latest = omega (arith, All-get_or (λ c. c < p.count) p.component k 0 node_in c.requires.counted, old.latest.whole) in
-    let last : c.index.result.now ≡ latest_in p latest k = get_or_read latest _ _ (omega (arith, own)) c.index.ensures None ∙ ap (λ c. get_or latest c None) own in
-    let before = subst₂ ComesBefore c.of-key_of_node.ensures last (c.comes_before.ensures.0 c.if-comes_before.true) in
-    (c.loop-place-test.true, overtaken_from_latest m p nodes n latest old.latest c.entry_at.result.now c.entry_at.ensures before, (λ ahead. absurd (omega (arith, ahead, c.if-below-own.false, ap (λ x. get_or c.args.below.now x 0) own))), old.none)
+    let node_in : k < length p.component =
+    All-get_or (λ k. k < length p.component) nodes n 0 c.loop-place-test.true
+    c.requires.nodes in
+    let own : c.index-own.result.now ≡ component_of p k =
+    get_or_read p.component k _ node_in c.index-own.ensures 0 in
+    let own_in : component_of p k < length latest =
+    omega (
+      arith,
+      All-get_or (λ c. c < p.count) p.component k 0 node_in c.requires.counted,
+      old.latest.whole,
+    ) in
+    let last : c.index.result.now ≡ latest_in p latest k =
+    get_or_read latest _ _ (omega (arith, own)) c.index.ensures None
+    ∙ ap (λ c. get_or latest c None) own in
+    let before = subst₂ ComesBefore c.of-key_of_node.ensures last
+    (c.comes_before.ensures.0 c.if-comes_before.true) in (
+      c.loop-place-test.true,
+      overtaken_from_latest m p nodes n latest old.latest
+          c.entry_at.result.now c.entry_at.ensures before,
+      (λ ahead. absurd
+          (omega (arith, ahead, c.if-below-own.false, ap (λ x. get_or c.args.below.now x 0) own))),
+      old.none,
+    )
 
 pub loop-place-preserved : goal.loop-place-preserved
 loop-place-preserved c =
@@ -34,13 +53,30 @@ loop-place-preserved c =
     let old = c.loop-place.invariant in
     let e = c.entry_at.result.now in
     let k = get_or nodes n 0 in
-    let node_in : k < length p.component = All-get_or (λ k. k < length p.component) nodes n 0 c.loop-place-test.true c.requires.nodes in
-    let own : c.index-own.result.now ≡ component_of p k = get_or_read p.component k _ node_in c.index-own.ensures 0 in
-    let own_in : component_of p k < length latest = omega (arith, All-get_or (λ c. c < p.count) p.component k 0 node_in c.requires.counted, old.latest.whole) in
-    let last : c.index.result.now ≡ latest_in p latest k = get_or_read latest _ _ (omega (arith, own)) c.index.ensures None ∙ ap (λ c. get_or latest c None) own in
-    let none : ¬ ComesBefore (sequence_key_of e) (latest_in p latest k) = λ h. false≢true (sym c.if-comes_before.false ∙ c.comes_before.ensures.1 (subst₂ ComesBefore (sym c.of-key_of_node.ensures) (sym last) h)) in
-    let not_ahead : ¬ IsNodeEarlyAt p below nodes n = λ ahead. absurd (omega (arith, ahead, c.if-below-own.false, ap (λ c. get_or below c 0) own)) in
+    let node_in : k < length p.component =
+    All-get_or (λ k. k < length p.component) nodes n 0 c.loop-place-test.true
+    c.requires.nodes in
+    let own : c.index-own.result.now ≡ component_of p k =
+    get_or_read p.component k _ node_in c.index-own.ensures 0 in
+    let own_in : component_of p k < length latest =
+    omega (
+      arith,
+      All-get_or (λ c. c < p.count) p.component k 0 node_in c.requires.counted,
+      old.latest.whole,
+    ) in
+    let last : c.index.result.now ≡ latest_in p latest k =
+    get_or_read latest _ _ (omega (arith, own)) c.index.ensures None
+    ∙ ap (λ c. get_or latest c None) own in
+    let none : ¬ ComesBefore (sequence_key_of e) (latest_in p latest k) =
+    λ h. false≢true (sym c.if-comes_before.false ∙ c.comes_before.ensures.1
+    (subst₂ ComesBefore (sym c.of-key_of_node.ensures) (sym last) h)) in
+    let not_ahead : ¬ IsNodeEarlyAt p below nodes n =
+    λ ahead. absurd
+    (omega (arith, ahead, c.if-below-own.false, ap (λ c. get_or below c 0) own)) in
     record {
-      latest = rw (own, c.of-key_of_node.ensures) (latest_step m p nodes n latest old.latest e c.entry_at.ensures own_in none);
-      none = nodes_in_order_step m p below nodes n not_ahead (λ passed. none (overtaken_to_latest m p nodes n latest old.latest e c.entry_at.ensures passed)) old.none;
+      latest = rw (own, c.of-key_of_node.ensures)
+          (latest_step m p nodes n latest old.latest e c.entry_at.ensures own_in none);
+      none = nodes_in_order_step m p below nodes n not_ahead
+          (λ passed. none (overtaken_to_latest m p nodes n latest old.latest e c.entry_at.ensures
+          passed)) old.none;
     }

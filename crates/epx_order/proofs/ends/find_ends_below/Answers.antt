@@ -17,13 +17,29 @@ loop-node-preserved c =
     let order = c.deref-node-items.ensures.value in
     let in' : i < length p.order = omega (arith, c.loop-node-test.true, ap length order) in
     let node_in = node_below edges p is i in' in
-    let own : c.index-own.result.now ≡ component_of p (node_at p i) = get_or_read p.component _ _ (omega (arith, node_in, ap (λ xs. get_or xs i 0) order)) c.index-own.ensures 0 ∙ ap (λ xs. get_or p.component (get_or xs i 0) 0) order in
-    let own_in : component_of p (node_at p i) < length below = omega (arith, component_below edges p is (node_at p i) node_in, c.loop-node.invariant.len) in
-    let was : c.index.result.now ≡ number_for p below (node_at p i) = get_or_read below _ _ (omega (arith, own)) c.index.ensures 0 ∙ ap (λ x. get_or below x 0) own in
+    let own : c.index-own.result.now ≡ component_of p (node_at p i) =
+    get_or_read p.component _ _ (omega (arith, node_in, ap (λ xs. get_or xs i 0) order))
+    c.index-own.ensures 0 ∙ ap (λ xs. get_or p.component (get_or xs i 0) 0) order in
+    let own_in : component_of p (node_at p i) < length below =
+    omega (
+      arith,
+      component_below edges p is (node_at p i) node_in,
+      c.loop-node.invariant.len,
+    ) in
+    let was : c.index.result.now ≡ number_for p below (node_at p i) =
+    get_or_read below _ _ (omega (arith, own)) c.index.ensures 0
+    ∙ ap (λ x. get_or below x 0) own in
     record {
       len = length-set below c.index-own.result.now c.max.result ∙ c.loop-node.invariant.len;
-      below = rw own (ends_below_step edges p is ends below i c.greatest_end-over.result c.max.result in' own_in
-          (rw (c.edges.ensures.edges, order, c.deref.ensures.value, c.deref-in-loop-node.ensures.value, own) at c.greatest_end-over.ensures)
+      below = rw own (ends_below_step edges p is ends below i c.greatest_end-over.result
+          c.max.result in' own_in
+          (rw (
+            c.edges.ensures.edges,
+            order,
+            c.deref.ensures.value,
+            c.deref-in-loop-node.ensures.value,
+            own,
+          ) at c.greatest_end-over.ensures)
           (rw was at c.max.ensures) c.loop-node.invariant.below);
     }
 
@@ -33,5 +49,13 @@ returns-clause-each c = λ k l.
     let p = parts c.args.partition.now in
     let ends = c.args.ends.now in
     let below = c.loop-node.below.items in
-    let end : c.loop-node.node-index ≡ length p.order = omega (arith, c.loop-node-test.false, c.loop-node.auto.node-index-end, ap length c.deref-node-items.ensures.value) in
-    ends_below_all edges p c.requires.partition.is ends below (subst (AreEndsBelow edges p ends below) end c.loop-node.invariant.below) k (omega (arith, c.requires.partition.each_node))
+    let end : c.loop-node.node-index ≡ length p.order =
+    omega (
+      arith,
+      c.loop-node-test.false,
+      c.loop-node.auto.node-index-end,
+      ap length c.deref-node-items.ensures.value,
+    ) in
+    ends_below_all edges p c.requires.partition.is ends below
+    (subst (AreEndsBelow edges p ends below) end c.loop-node.invariant.below) k
+    (omega (arith, c.requires.partition.each_node))

@@ -14,6 +14,12 @@ loop-target-preserved c =
     let i = c.loop-target.target-index in
     let old = c.loop-target.invariant in
     elim c.if-other-own.branch [
-      | then-other-own w ↦ subst (IsGreatestEnd component ends below own targets (i + 1)) (sym w.greatest-is) (greatest_end_take component ends below own targets i c.loop-target.greatest old _ _ _ w.max-greatest.result refl w.if-other-own.true refl refl (rw w.max.ensures at w.max-greatest.ensures))
-      | else-other-own w ↦ subst (IsGreatestEnd component ends below own targets (i + 1)) (sym w.greatest-is) (greatest_end_skip component ends below own targets i c.loop-target.greatest old w.if-other-own.false)
+      | then-other-own w ↦ subst (IsGreatestEnd component ends below own targets (i + 1))
+          (sym w.greatest-is)
+          (greatest_end_take component ends below own targets i c.loop-target.greatest old _ _ _
+          w.max-greatest.result refl w.if-other-own.true refl refl
+          (rw w.max.ensures at w.max-greatest.ensures))
+      | else-other-own w ↦ subst (IsGreatestEnd component ends below own targets (i + 1))
+          (sym w.greatest-is) (greatest_end_skip component ends below own targets i
+          c.loop-target.greatest old w.if-other-own.false)
     ]

@@ -20,16 +20,25 @@ returns-clause-order g c =
     IfOk-weaker c.new.result _ _ (λ found at done is.
     let m = remaining done c.args.merged.now in
     let ready = subst (AreReadyRanks m) (sym read) (c.in_ok-ranks.ensures done is) in
-    let order = order_from_sort m c.deref_mut.result.now sorted ready sort.permutation sort.sorted sort.stable in
+    let order = order_from_sort m c.deref_mut.result.now sorted ready sort.permutation sort.sorted
+    sort.stable in
     subst (IsExecutionOrder m) (sym (at ∙ ap ranked_all written)) order) c.new.ensures
 
 pub returns-clause-lawful : goal.returns-clause-lawful
-returns-clause-lawful g c = IfOk-weaker c.new.result _ _ (λ found orders done is. IsExecutionOrder-IsLawful (remaining done c.args.merged.now) found (orders done is)) (returns-clause-order g c)
+returns-clause-lawful g c = IfOk-weaker c.new.result _ _
+    (λ found orders done is. IsExecutionOrder-IsLawful (remaining done c.args.merged.now) found
+    (orders done is)) (returns-clause-order g c)
 
 pub returns-clause-whole : goal.returns-clause-whole
 returns-clause-whole g c =
     let m = c.args.merged.now in
-    IfOk-weaker c.new.result _ _ (λ found orders is. subst (λ left. IsExecutionOrder left found) (remaining-nil m) (orders [] (subst (λ left. IsGraphOf left c.args.graph.now) (sym (remaining-nil m)) is))) (returns-clause-order g c)
+    IfOk-weaker c.new.result _ _
+    (λ found orders is. subst (λ left. IsExecutionOrder left found) (remaining-nil m)
+    (orders [] (subst (λ left. IsGraphOf left c.args.graph.now) (sym (remaining-nil m)) is)))
+    (returns-clause-order g c)
 
 pub returns-clause-whole_lawful : goal.returns-clause-whole_lawful
-returns-clause-whole_lawful g c = IfOk-weaker c.new.result _ _ (λ found orders is. IsExecutionOrder-IsLawful c.args.merged.now found (orders is)) (returns-clause-whole g c)
+returns-clause-whole_lawful g c =
+    IfOk-weaker c.new.result _ _
+    (λ found orders is. IsExecutionOrder-IsLawful c.args.merged.now found (orders is))
+    (returns-clause-whole g c)

@@ -10,9 +10,17 @@ loop-rank-preserved c =
     let old = c.loop-rank.invariant in
     elim c.if-eq.branch [
       | then-eq w ↦
-          let more = leader_more ranks i _ c.loop-rank-test.true (sym c.eq.ensures ∙ w.if-eq.true) in
-          record { fits = omega (arith, w.count-is, old.fits); counted = omega (arith, w.count-is, old.counted, more) }
+          let more = leader_more ranks i _ c.loop-rank-test.true
+          (sym c.eq.ensures ∙ w.if-eq.true) in
+          record {
+            fits = omega (arith, w.count-is, old.fits);
+            counted = omega (arith, w.count-is, old.counted, more);
+          }
       | else-eq w ↦
-          let same = leader_no_more ranks i _ c.loop-rank-test.true (sym c.eq.ensures ∙ w.if-eq.false) in
-          record { fits = omega (arith, w.count-is, old.fits); counted = omega (arith, w.count-is, old.counted, same) }
+          let same = leader_no_more ranks i _ c.loop-rank-test.true
+          (sym c.eq.ensures ∙ w.if-eq.false) in
+          record {
+            fits = omega (arith, w.count-is, old.fits);
+            counted = omega (arith, w.count-is, old.counted, same);
+          }
     ]

@@ -6,5 +6,6 @@ use Rattle.epx_order.proofs.quick_audit.are_all_related.Given as goal
 abbrev pub invariant-loop-index : goal.invariant-loop-index
 invariant-loop-index l = record {
   seen : length l.path_search.seen.items ≡ length l.graph.ids;
-  related_up_to : IsRelatedUpTo (edges_of l.graph) l.reach.nodes.items l.touches l.last_writer l.index;
+  related_up_to : IsRelatedUpTo (edges_of l.graph) l.reach.nodes.items l.touches l.last_writer
+      l.index;
 }

@@ -17,5 +17,6 @@ unreachable-requires c =
 pub returns : goal.returns
 returns c =
     let m = c.args.merged.now in
-    let e = position_of-instance m c.args.id c.in-Some.position (sym c.position.ensures ∙ c.in-Some.is) in
+    let e = position_of-instance m c.args.id c.in-Some.position
+    (sym c.position.ensures ∙ c.in-Some.is) in
     slice_get-map (λ (d : Instance). d.id) m c.in-Some.position e.0 e.1 ∙ ap Some e.2

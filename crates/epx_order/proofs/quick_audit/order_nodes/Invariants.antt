@@ -6,5 +6,6 @@ use Rattle.epx_order.proofs.quick_audit.order_nodes.Given as goal
 abbrev pub invariant-loop-id : goal.invariant-loop-id
 invariant-loop-id l = record {
   whole : length l.nodes.items ≡ l.id-index;
-  each : (p : ℕ) (r : Ranked) → p < l.id-index → slice_get l.order p ≡ Some r → slice_get (ids_of l.merged) (get_or l.nodes.items p 0) ≡ Some r.id;
+  each : (p : ℕ) (r : Ranked) → p < l.id-index → slice_get l.order p ≡ Some r
+      → slice_get (ids_of l.merged) (get_or l.nodes.items p 0) ≡ Some r.id;
 }

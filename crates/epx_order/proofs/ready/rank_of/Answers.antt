@@ -9,17 +9,22 @@ use Rattle.epx_order.proofs.ready.rank_of.Goals as goal
 
 pub returns-then-node_rank-clause-none : goal.returns-then-node_rank-clause-none
 returns-then-node_rank-clause-none c done x is at ready =
-    node_from_ready (remaining done c.args.merged.now) c.args.graph.now is c.args.node x at ready (c.requires.node_rank.missing.0 c.if-node_rank.true)
+    node_from_ready (remaining done c.args.merged.now) c.args.graph.now is c.args.node x at ready
+    (c.requires.node_rank.missing.0 c.if-node_rank.true)
 
 pub entry_of-requires : goal.entry_of-requires
 entry_of-requires c =
     let m = c.args.merged.now in
     let done = c.requires.graph.0 in
-    let left = (node_committed (remaining done m) c.args.graph.now c.requires.graph.1 c.args.node c.id-id.result c.id-id.ensures).0 c.requires.committed in
+    let left =
+    (node_committed (remaining done m) c.args.graph.now c.requires.graph.1 c.args.node
+    c.id-id.result c.id-id.ensures).0 c.requires.committed in
     ((Contains-remaining_iff done m c.id-id.result).0 left).0
 
 pub returns-clause-rank : goal.returns-clause-rank
 returns-clause-rank c done is =
     let e = c.entry_of.result.now in
-    rw c.seq.ensures (rank_left done c.args.merged.now c.args.graph.now is c.args.node c.id-id.result e c.args.node_rank c.id.result c.id-id.ensures c.entry_of.ensures.among c.entry_of.ensures.id c.requires.committed c.requires.node_rank
+    rw c.seq.ensures (rank_left done c.args.merged.now c.args.graph.now is c.args.node
+    c.id-id.result e c.args.node_rank c.id.result c.id-id.ensures c.entry_of.ensures.among
+    c.entry_of.ensures.id c.requires.committed c.requires.node_rank
     (λ waits. false≢true (sym c.if-node_rank.false ∙ waits)) c.id.ensures)

@@ -6,4 +6,5 @@ use Rattle.epx_order.proofs.ReadyRankLemmas.{AreGathered}
 use Rattle.epx_order.proofs.ready.ready_ranks.Given as goal
 
 abbrev pub invariant-loop-node : goal.invariant-loop-node
-invariant-loop-node l = (done : List Id) → IsGraphOf (remaining done l.merged) l.graph → AreGathered (remaining done l.merged) l.graph l.node l.ranks.items
+invariant-loop-node l = (done : List Id) → IsGraphOf (remaining done l.merged) l.graph
+    → AreGathered (remaining done l.merged) l.graph l.node l.ranks.items

@@ -7,5 +7,6 @@ use Rattle.epx_order.proofs.related.find_reaching.Given as goal
 abbrev pub invariant-loop-node : goal.invariant-loop-node
 invariant-loop-node l = record {
   len : length l.words.items ≡ l.partition.count;
-  marks : AreReachingBits (edges_of l.graph) (parts l.partition) l.sources l.words.items l.node-index;
+  marks : AreReachingBits (edges_of l.graph) (parts l.partition) l.sources l.words.items
+      l.node-index;
 }

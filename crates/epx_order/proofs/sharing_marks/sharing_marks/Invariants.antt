@@ -6,5 +6,8 @@ use Rattle.epx_order.proofs.sharing_marks.sharing_marks.Given as goal
 abbrev pub invariant-loop-touch : goal.invariant-loop-touch
 invariant-loop-touch l = record {
   len : length l.words.items ≡ length l.own;
-  marks : (i : ℕ) → i < l.touch-index → HasBitsOf (word_of l.touching.items l.writing.items (doubtful_at l.doubtful.touches.items i)) (get_or l.words.items (doubtful_at l.doubtful.touches.items i).node 0);
+  marks : (i : ℕ) → i < l.touch-index
+      → HasBitsOf (word_of l.touching.items l.writing.items
+      (doubtful_at l.doubtful.touches.items i))
+      (get_or l.words.items (doubtful_at l.doubtful.touches.items i).node 0);
 }

@@ -5,5 +5,6 @@ use Rattle.epx_order.proofs.source_marks.source_marks.Given as goal
 abbrev pub invariant-loop-bit : goal.invariant-loop-bit
 invariant-loop-bit l = record {
   len : length l.words.items ≡ l.len;
-  marks : (b s : ℕ) → IsTrue (has_bit b (get_or l.words.items s 0)) ↔ ((b < l.bit) × (get_or l.slots b 0 ≡ s));
+  marks : (b s : ℕ) → IsTrue (has_bit b (get_or l.words.items s 0))
+      ↔ ((b < l.bit) × (get_or l.slots b 0 ≡ s));
 }

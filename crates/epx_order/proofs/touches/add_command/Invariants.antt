@@ -3,4 +3,5 @@ use Rattle.epx_order.specs.inner.Touches.{touches_of}
 use Rattle.epx_order.proofs.touches.add_command.Given as goal
 
 abbrev pub invariant-loop-op : goal.invariant-loop-op
-invariant-loop-op l = l.touches.items ≡ l.initial.touches.items ++ touches_of l.start l.position (take l.op-index l.ops)
+invariant-loop-op l = l.touches.items ≡ l.initial.touches.items
+    ++ touches_of l.start l.position (take l.op-index l.ops)

@@ -7,4 +7,7 @@ use Rattle.epx_order.specs.inner.Sources.{AreSettled}
 use Rattle.epx_order.proofs.uncovered_pair.find_pair.Given as goal
 
 abbrev pub invariant-loop-number : goal.invariant-loop-number
-invariant-loop-number l = (m : List Instance) → l.keys ≡ map keys_of m → HoldAllConflicts m (edges_of l.graph) l.ready l.doubtful.touches.items → AreSettled m (edges_of l.graph) l.ready l.sources.items (min (length l.sources.items) (l.number * 64))
+invariant-loop-number l = (m : List Instance) → l.keys ≡ map keys_of m
+    → HoldAllConflicts m (edges_of l.graph) l.ready l.doubtful.touches.items
+    → AreSettled m (edges_of l.graph) l.ready l.sources.items
+    (min (length l.sources.items) (l.number * 64))

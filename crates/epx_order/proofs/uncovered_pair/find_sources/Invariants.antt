@@ -8,7 +8,8 @@ abbrev pub invariant-loop-touch : goal.invariant-loop-touch
 invariant-loop-touch l = record {
   len : length l.touching.items ≡ length l.ready;
   reason : (k : ℕ) → IsTrue (is_marked l.touching.items k) → IsTouching l.touches k;
-  marks : (i : ℕ) → i < l.touch-index → IsTrue (is_marked l.touching.items (doubtful_at l.touches i).node);
+  marks : (i : ℕ) → i < l.touch-index
+      → IsTrue (is_marked l.touching.items (doubtful_at l.touches i).node);
 }
 
 abbrev pub invariant-loop-node : goal.invariant-loop-node

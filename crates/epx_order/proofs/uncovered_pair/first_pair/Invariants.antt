@@ -7,4 +7,6 @@ use Rattle.epx_order.specs.inner.Sources.{AreSettled}
 use Rattle.epx_order.proofs.uncovered_pair.first_pair.Given as goal
 
 abbrev pub invariant-loop-bit : goal.invariant-loop-bit
-invariant-loop-bit l = (m : List Instance) → l.keys ≡ map keys_of m → HoldAllConflicts m (edges_of l.graph) l.ready l.doubtful.touches.items → AreSettled m (edges_of l.graph) l.ready l.sources l.bit
+invariant-loop-bit l = (m : List Instance) → l.keys ≡ map keys_of m
+    → HoldAllConflicts m (edges_of l.graph) l.ready l.doubtful.touches.items
+    → AreSettled m (edges_of l.graph) l.ready l.sources l.bit

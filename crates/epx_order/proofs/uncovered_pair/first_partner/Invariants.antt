@@ -9,4 +9,8 @@ use Rattle.epx_order.specs.inner.NodeConflicts.{keys_of, IsSettled}
 use Rattle.epx_order.proofs.uncovered_pair.first_partner.Given as goal
 
 abbrev pub invariant-loop-other : goal.invariant-loop-other
-invariant-loop-other l = (m : List Instance) (g : DependencyGraph) (touches : List DoubtfulTouch) (sources : List ℕ) → l.keys ≡ map keys_of m → HoldAllConflicts m (edges_of g) l.ready touches → IsBatch g (parts l.partition) touches sources l.batch → l.bit < length sources → get_or sources l.bit 0 ≡ l.source → (j : ℕ) → l.source < j → j < l.other → IsSettled m (edges_of g) l.ready l.source j
+invariant-loop-other l = (m : List Instance) (g : DependencyGraph) (touches : List DoubtfulTouch)
+    (sources : List ℕ) → l.keys ≡ map keys_of m → HoldAllConflicts m (edges_of g) l.ready touches
+    → IsBatch g (parts l.partition) touches sources l.batch → l.bit < length sources
+    → get_or sources l.bit 0 ≡ l.source → (j : ℕ) → l.source < j → j < l.other
+    → IsSettled m (edges_of g) l.ready l.source j

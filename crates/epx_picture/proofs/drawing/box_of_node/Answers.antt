@@ -10,4 +10,6 @@ returns-clause-node_boxes c =
     let e = c.entry_at-entry.result.now in
     let at = c.entry_at-entry.ensures in
     let node = own_node m g is k e at in
-    rw (c.id.ensures, c.seq.ensures) (box_from_node m g is k e at c.args.node_rank c.cluster_of.result c.requires.node_rank (c.cluster_of.ensures m e.id is node))
+    rw (c.id.ensures, c.seq.ensures)
+    (box_from_node m g is k e at c.args.node_rank c.cluster_of.result c.requires.node_rank
+    (c.cluster_of.ensures m e.id is node))

@@ -10,4 +10,7 @@ loop-position-preserved c =
     let m = c.args.merged.now in
     let n = c.loop-position.position in
     let more = arrow_lines c.entry_at.result.now in
-    c.in_ok-write_arrows.ensures ∙ ap (λ bytes. bytes ++ more) c.loop-position.invariant ∙ append_assoc before (flat_map arrow_lines (take n m)) more ∙ ap (λ bytes. before ++ bytes) (sym (flat_map_next arrow_lines m n c.entry_at.result.now c.entry_at.ensures))
+    c.in_ok-write_arrows.ensures ∙ ap (λ bytes. bytes ++ more) c.loop-position.invariant
+    ∙ append_assoc before (flat_map arrow_lines (take n m)) more
+    ∙ ap (λ bytes. before ++ bytes)
+    (sym (flat_map_next arrow_lines m n c.entry_at.result.now c.entry_at.ensures))

@@ -3,4 +3,5 @@ use Rattle.epx_picture.specs.PictureText.{missing_line}
 use Rattle.epx_picture.proofs.picture_writer.write_all_missing.Given as goal
 
 abbrev pub invariant-loop-id : goal.invariant-loop-id
-invariant-loop-id l = string_bytes l.text ≡ string_bytes l.initial.text ++ flat_map missing_line (take l.id-index l.missing)
+invariant-loop-id l = string_bytes l.text ≡ string_bytes l.initial.text
+    ++ flat_map missing_line (take l.id-index l.missing)

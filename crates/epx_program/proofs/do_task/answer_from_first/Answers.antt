@@ -1,6 +1,9 @@
-use Rattle.std.proofs.Common.{◌≡◌, ◌+◌, ◌∷◌, [], length, Some, OnOk, ap, inl, inr, refl, sym, subst, arith}
+use Rattle.std.proofs.Common.{◌≡◌, ◌+◌, ◌∷◌, [], length, Some, OnOk, ap, inl, inr, refl, sym}
+use Rattle.std.proofs.Common.{subst, arith}
 use Rattle.epx_program.specs.Endings.{AddsAnswer, AddsPart, IsTaskResult, task_over}
-use Rattle.epx_program.proofs.FirstTextLemmas.{adds_part_to_nothing, adds_to_nothing, result_of_no_text, failed_of_all, from_first, from_nothing}
+use Rattle.epx_program.proofs.FirstTextLemmas.{adds_part_to_nothing, adds_to_nothing}
+use Rattle.epx_program.proofs.FirstTextLemmas.{result_of_no_text, failed_of_all, from_first}
+use Rattle.epx_program.proofs.FirstTextLemmas.{from_nothing}
 use Rattle.epx_program.proofs.do_task.answer_from_first.Goals as goal
 
 pub returns-in-Some : goal.returns-in-Some
@@ -36,7 +39,8 @@ returns-in-None g c =
     let nothing_read = run.ensures.answer [] [] (ap Some c.new-first.ensures) refl in
     let comes = result_of_no_text old new c.args.kind run.result nothing_read in
     record {
-      known = from_nothing g.S.Source.remaining (λ texts. IsTaskResult task texts run.result old new)
+      known = from_nothing g.S.Source.remaining
+          (λ texts. IsTaskResult task texts run.result old new)
           c.args.sources.now none comes;
       answered = subst (λ n. OnOk run.result (AddsAnswer task n old new)) (sym none)
           (adds_to_nothing old new task run.result comes);

@@ -8,6 +8,7 @@ returns g c =
     let run = c.show.ensures in
     let ask = c.args.ask in
     outcome (task_showing ask) (IsViewText ask) (view_is_answer ask) (view_is_refused ask)
-    g.S.Source.remaining g.S.Source.reads g.S.Source.fails c.args.sources.now c.show.new.sources _ _
+    g.S.Source.remaining g.S.Source.reads g.S.Source.fails c.args.sources.now c.show.new.sources _
+    _
     c.show.result _ _ run.text run.answered run.flushed run.refusal run.refused run.nothing
     run.prefix run.part run.written

@@ -10,7 +10,8 @@ use Rattle.epx_program.proofs.do_task.answer_with_input.Goals as goal
 pub returns-in-Base-clause-answer : goal.returns-in-Base-clause-answer
 returns-in-Base-clause-answer g c =
     let run = c.run_resume.ensures in
-    rw c.in-Base.is (task_result Resume IsBadBase IsResumedText (λ text logs answer h. h) (λ text logs
+    rw c.in-Base.is (task_result Resume IsBadBase IsResumedText (λ text logs answer h. h)
+    (λ text logs
     fault h. h)
     _ _ g.F.Source.remaining g.S.Source.remaining c.args.first.now c.args.logs.now
     c.run_resume.result

@@ -11,10 +11,14 @@ loop-path-preserved g c =
     let before = c.loop-path.invariant in
     let said = c.source_at.ensures in
     rw c.in_ok-push.ensures.items record {
-      paths = map-push _ _ _ _ _ _ _ c.loop-path-test.true c.path-item.is (rw said.path c.as_str.ensures.value) before.paths;
-      failed = All-push (λ s. value_by (λ f. f.failed) (value_by g.I.Source.has_failed (λ _. false)) s ≡ false) _ _ before.failed said.failed;
+      paths = map-push _ _ _ _ _ _ _ c.loop-path-test.true c.path-item.is
+          (rw said.path c.as_str.ensures.value) before.paths;
+      failed = All-push (λ s. value_by (λ f. f.failed)
+          (value_by g.I.Source.has_failed (λ _. false)) s ≡ false) _ _ before.failed said.failed;
       left = said.left;
       fresh = λ none. absurd (omega (arith, none));
-      given = alone-push path_of string_bytes _ _ _ _ _ _ _ c.loop-path-test.true c.path-item.is before.paths
-          (λ start hyphen. said.input c.args.input (c.as_str.ensures.value ∙ hyphen) (before.fresh start));
+      given = alone-push path_of string_bytes _ _ _ _ _ _ _ c.loop-path-test.true c.path-item.is
+          before.paths
+          (λ start hyphen. said.input c.args.input (c.as_str.ensures.value ∙ hyphen)
+          (before.fresh start));
     }

@@ -10,8 +10,10 @@ use Rattle.epx_program.proofs.inputs.sources_at.Given as goal
 abbrev pub invariant-loop-path : goal.invariant-loop-path
 invariant-loop-path g l = record {
   paths : map path_of l.sources.items ≡ map string_bytes (take l.path-index l.paths);
-  failed : All (λ s. value_by (λ f. f.failed) (value_by g.I.Source.has_failed (λ _. false)) s ≡ false) l.sources.items;
+  failed : All (λ s. value_by (λ f. f.failed) (value_by g.I.Source.has_failed (λ _. false)) s
+      ≡ false) l.sources.items;
   left : IfSome l.input (λ i. g.I.Source.has_failed i ≡ false);
   fresh : l.path-index ≡ 0 → l.input ≡ Some l.fn.input;
-  given : map string_bytes (take l.path-index l.paths) ≡ codes "-" ∷ [] → l.sources.items ≡ either.Second (either.First l.fn.input) ∷ [];
+  given : map string_bytes (take l.path-index l.paths) ≡ codes "-" ∷ []
+      → l.sources.items ≡ either.Second (either.First l.fn.input) ∷ [];
 }

@@ -1,5 +1,6 @@
 use Rattle.std.proofs.Common.{◌≡◌, true, ◌∷◌, []}
-use Rattle.epx_program.proofs.StatusLemmas.{failed_device, ends-as-done, is_status, unchanged_by_text, unchanged_by_work, of_done, of-text}
+use Rattle.epx_program.proofs.StatusLemmas.{failed_device, ends-as-done, is_status}
+use Rattle.epx_program.proofs.StatusLemmas.{unchanged_by_text, unchanged_by_work, of_done, of-text}
 use Rattle.epx_program.proofs.program.execute_words.Goals as goal
 
 pub returns-in-Work-clause-do_task : goal.returns-in-Work-clause-do_task
@@ -24,11 +25,13 @@ returns-in-Text-clause-text g c =
 
 pub returns-in-Work-clause-nothing : goal.returns-in-Work-clause-nothing
 returns-in-Work-clause-nothing g c =
-    unchanged_by_work c.do_task-done.result _ (g.W.Sink.has_failed c.do_task-done.new.output) _ _ c.report_fault.ensures
+    unchanged_by_work c.do_task-done.result _ (g.W.Sink.has_failed c.do_task-done.new.output) _ _
+    c.report_fault.ensures
     c.do_task-done.ensures.nothing c.do_task-done.ensures.written
 
 pub returns-in-Text-clause-nothing : goal.returns-in-Text-clause-nothing
 returns-in-Text-clause-nothing g c =
-    unchanged_by_text g.W.Sink.contents c.args.output.now c.print_text.new.output c.in-Text.status _
+    unchanged_by_text g.W.Sink.contents c.args.output.now c.print_text.new.output c.in-Text.status
+    _
     (g.W.Sink.has_failed c.print_text.new.output) c.print_text.ensures.told
     c.print_text.ensures.status

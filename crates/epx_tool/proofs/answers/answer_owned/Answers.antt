@@ -3,4 +3,5 @@ use Rattle.epx_tool.proofs.AcceptedLogLemmas.{accepted_are_few}
 use Rattle.epx_tool.proofs.answers.answer_owned.Goals as goal
 
 pub whole_report-requires-clause-few : goal.whole_report-requires-clause-few
-whole_report-requires-clause-few g c κs within = accepted_are_few (map (λ log. log.items) c.deref.result.now) c.in-Ok.merged c.in-Ok.ensures
+whole_report-requires-clause-few g c κs within =
+    accepted_are_few (map (λ log. log.items) c.deref.result.now) c.in-Ok.merged c.in-Ok.ensures

@@ -6,4 +6,6 @@ pub audit-requires-clause-order : goal.audit-requires-clause-order
 audit-requires-clause-order g c = c.in_ok-order.ensures.whole c.in_ok-graph.ensures.graph
 
 pub returns : goal.returns
-returns g c = IfOk-weaker c.audit_line.result _ _ (λ text printed. IsAuditText-printed c.args.merged.now c.in_ok-found.found text.items c.in_ok-found.ensures printed) c.audit_line.ensures
+returns g c = IfOk-weaker c.audit_line.result _ _
+    (λ text printed. IsAuditText-printed c.args.merged.now c.in_ok-found.found text.items
+    c.in_ok-found.ensures printed) c.audit_line.ensures

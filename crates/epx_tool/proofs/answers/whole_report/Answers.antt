@@ -7,4 +7,6 @@ use Rattle.epx_tool.proofs.answers.whole_report.Goals as goal
 
 pub returns : goal.returns
 returns g c = IfOk-weaker c.report_of.result _ _ (λ text is.
-    IsReport-after_nothing c.args.merged text.items (subst (λ (s : Contents). IsReportAfter [] s c.args.merged text.items) c.new.ensures is)) c.report_of.ensures
+    IsReport-after_nothing c.args.merged text.items
+    (subst (λ (s : Contents). IsReportAfter [] s c.args.merged text.items) c.new.ensures is))
+    c.report_of.ensures

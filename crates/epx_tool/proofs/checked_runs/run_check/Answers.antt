@@ -11,21 +11,31 @@ use Rattle.epx_tool.proofs.LogsWithInputLemmas.{no_stop, run_fault_of_reading}
 use Rattle.epx_tool.proofs.checked_runs.run_check.Goals as goal
 
 pub returns-in-Err-clause-list_untouched : goal.returns-in-Err-clause-list_untouched
-returns-in-Err-clause-list_untouched g c log (inl long) lower = let named : c.in-Err.fault ≡ LogTooLong log = cc long in c.in-Err.ensures.input_untouched log (inl (ap Err named)) lower
-returns-in-Err-clause-list_untouched g c log (inr unread) lower = let named : c.in-Err.fault ≡ Read log = cc unread in c.in-Err.ensures.input_untouched log (inr (ap Err named)) lower
+returns-in-Err-clause-list_untouched g c log (inl long) lower =
+    let named : c.in-Err.fault ≡ LogTooLong log = cc long in
+    c.in-Err.ensures.input_untouched log (inl (ap Err named)) lower
+returns-in-Err-clause-list_untouched g c log (inr unread) lower =
+    let named : c.in-Err.fault ≡ Read log = cc unread in
+    c.in-Err.ensures.input_untouched log (inr (ap Err named)) lower
 
 pub returns-in-Err-check_owned-clause-no_further : goal.returns-in-Err-check_owned-clause-no_further
 returns-in-Err-check_owned-clause-no_further g c log stops =
-    absurd (no_stop (map (λ log. log.items) c.in-Ok.read.1.items) c.in-Ok.read.0.items IsBadList c.in-Err-check_owned.fault log c.in-Ok.ensures.fit c.in-Ok.ensures.short c.in-Err-check_owned.ensures stops)
+    absurd (no_stop (map (λ log. log.items) c.in-Ok.read.1.items) c.in-Ok.read.0.items IsBadList
+    c.in-Err-check_owned.fault log c.in-Ok.ensures.fit c.in-Ok.ensures.short
+    c.in-Err-check_owned.ensures stops)
 
 pub returns-in-Err-check_owned-clause-list_untouched : goal.returns-in-Err-check_owned-clause-list_untouched
 returns-in-Err-check_owned-clause-list_untouched g c log stops lower =
-    absurd (no_stop (map (λ log. log.items) c.in-Ok.read.1.items) c.in-Ok.read.0.items IsBadList c.in-Err-check_owned.fault log c.in-Ok.ensures.fit c.in-Ok.ensures.short c.in-Err-check_owned.ensures stops)
+    absurd (no_stop (map (λ log. log.items) c.in-Ok.read.1.items) c.in-Ok.read.0.items IsBadList
+    c.in-Err-check_owned.fault log c.in-Ok.ensures.fit c.in-Ok.ensures.short
+    c.in-Err-check_owned.ensures stops)
 
 pub returns-clause-text : goal.returns-clause-text
 returns-clause-text g c = on_ok_weaker c.write_out.result (λ written listed logs known are. (
   c.in-Ok-check_owned.text.items,
-  known_answer Checks c.in-Ok.read.0.items listed (map (λ log. log.items) c.in-Ok.read.1.items) logs (Ok c.in-Ok-check_owned.text.items) (c.in-Ok.ensures.text listed known) (c.in-Ok.ensures.bytes logs are) c.in-Ok-check_owned.ensures,
+  known_answer Checks c.in-Ok.read.0.items listed (map (λ log. log.items) c.in-Ok.read.1.items)
+      logs (Ok c.in-Ok-check_owned.text.items) (c.in-Ok.ensures.text listed known)
+      (c.in-Ok.ensures.bytes logs are) c.in-Ok-check_owned.ensures,
   subst (Appends _ _) c.deref.ensures.value written,
 )) c.write_out.ensures.bytes
 
@@ -43,13 +53,17 @@ pub returns-clause-refusal : goal.returns-clause-refusal
 returns-clause-refusal g c = IfErr-weaker c.write_out.result _ _ (λ fault is listed logs known are.
     subst (IsRunFaultWithInput IsBadList IsCheckText listed logs) (sym is) (
       c.in-Ok-check_owned.text.items,
-      known_answer Checks c.in-Ok.read.0.items listed (map (λ log. log.items) c.in-Ok.read.1.items) logs (Ok c.in-Ok-check_owned.text.items) (c.in-Ok.ensures.text listed known) (c.in-Ok.ensures.bytes logs are) c.in-Ok-check_owned.ensures,
+      known_answer Checks c.in-Ok.read.0.items listed (map (λ log. log.items) c.in-Ok.read.1.items)
+          logs (Ok c.in-Ok-check_owned.text.items) (c.in-Ok.ensures.text listed known)
+          (c.in-Ok.ensures.bytes logs are) c.in-Ok-check_owned.ensures,
     )) c.write_out.ensures.faults
 
 pub returns-clause-prefix : goal.returns-clause-prefix
 returns-clause-prefix g c is listed logs known are = (
   c.in-Ok-check_owned.text.items,
-  known_answer Checks c.in-Ok.read.0.items listed (map (λ log. log.items) c.in-Ok.read.1.items) logs (Ok c.in-Ok-check_owned.text.items) (c.in-Ok.ensures.text listed known) (c.in-Ok.ensures.bytes logs are) c.in-Ok-check_owned.ensures,
+  known_answer Checks c.in-Ok.read.0.items listed (map (λ log. log.items) c.in-Ok.read.1.items)
+      logs (Ok c.in-Ok-check_owned.text.items) (c.in-Ok.ensures.text listed known)
+      (c.in-Ok.ensures.bytes logs are) c.in-Ok-check_owned.ensures,
   subst (AppendsPrefix _ _) c.deref.ensures.value c.write_out.ensures.prefix,
 )
 

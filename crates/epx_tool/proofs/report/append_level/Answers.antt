@@ -10,7 +10,10 @@ use Rattle.epx_tool.proofs.report.append_level.Goals as goal
 pub returns : goal.returns
 returns c =
     let last = c.u64.new.self in
-    let ts = begin_array ∷ string (codes "level") ∷ (id_tokens c.args.id ++ number (decimal c.args.level) ∷ []) in
+    let ts = begin_array ∷ string (codes "level")
+    ∷ (id_tokens c.args.id ++ number (decimal c.args.level) ∷ []) in
     let same : last.tokens ≡ ts = grind (arith, common_steps) in
     let kept : last.before ≡ [] = grind arith in
-    on_ok_weaker c.end_line.result (λ e. line_written (level_data c.args.id c.args.level) ts last.tokens c.args.text.now.items last.before c.end_line.new.text.items same kept (refl) e) c.end_line.ensures
+    on_ok_weaker c.end_line.result
+    (λ e. line_written (level_data c.args.id c.args.level) ts last.tokens c.args.text.now.items
+    last.before c.end_line.new.text.items same kept (refl) e) c.end_line.ensures

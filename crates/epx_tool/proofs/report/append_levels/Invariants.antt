@@ -3,4 +3,6 @@ use Rattle.epx_tool.specs.LevelText.{level_line}
 use Rattle.epx_tool.proofs.report.append_levels.Given as goal
 
 abbrev pub invariant-loop-place : goal.invariant-loop-place
-invariant-loop-place l = l.text.items ++ flat_map level_line (zip (drop l.place l.ids) (drop l.place l.levels)) ≡ l.fn.text.items ++ flat_map level_line (zip l.fn.ids l.fn.levels)
+invariant-loop-place l = l.text.items ++ flat_map level_line
+    (zip (drop l.place l.ids) (drop l.place l.levels))
+    ≡ l.fn.text.items ++ flat_map level_line (zip l.fn.ids l.fn.levels)

@@ -3,4 +3,5 @@ use Rattle.epx_tool.specs.OrderText.{order_line}
 use Rattle.epx_tool.proofs.report.append_order.Given as goal
 
 abbrev pub invariant-loop-place : goal.invariant-loop-place
-invariant-loop-place l = l.text.items ++ flat_map order_line (drop l.place l.order) ≡ l.fn.text.items ++ flat_map order_line l.fn.order
+invariant-loop-place l = l.text.items ++ flat_map order_line (drop l.place l.order)
+    ≡ l.fn.text.items ++ flat_map order_line l.fn.order

@@ -11,21 +11,31 @@ use Rattle.epx_tool.proofs.LogsWithInputLemmas.{no_stop, run_fault_of_reading}
 use Rattle.epx_tool.proofs.resumed_runs.run_resume.Goals as goal
 
 pub returns-in-Err-clause-base_untouched : goal.returns-in-Err-clause-base_untouched
-returns-in-Err-clause-base_untouched g c log (inl long) lower = let named : c.in-Err.fault ≡ LogTooLong log = cc long in c.in-Err.ensures.input_untouched log (inl (ap Err named)) lower
-returns-in-Err-clause-base_untouched g c log (inr unread) lower = let named : c.in-Err.fault ≡ Read log = cc unread in c.in-Err.ensures.input_untouched log (inr (ap Err named)) lower
+returns-in-Err-clause-base_untouched g c log (inl long) lower =
+    let named : c.in-Err.fault ≡ LogTooLong log = cc long in
+    c.in-Err.ensures.input_untouched log (inl (ap Err named)) lower
+returns-in-Err-clause-base_untouched g c log (inr unread) lower =
+    let named : c.in-Err.fault ≡ Read log = cc unread in
+    c.in-Err.ensures.input_untouched log (inr (ap Err named)) lower
 
 pub returns-in-Err-resume_owned-clause-no_further : goal.returns-in-Err-resume_owned-clause-no_further
 returns-in-Err-resume_owned-clause-no_further g c log stops =
-    absurd (no_stop (map (λ log. log.items) c.in-Ok.read.1.items) c.in-Ok.read.0.items IsBadBase c.in-Err-resume_owned.fault log c.in-Ok.ensures.fit c.in-Ok.ensures.short c.in-Err-resume_owned.ensures stops)
+    absurd (no_stop (map (λ log. log.items) c.in-Ok.read.1.items) c.in-Ok.read.0.items IsBadBase
+    c.in-Err-resume_owned.fault log c.in-Ok.ensures.fit c.in-Ok.ensures.short
+    c.in-Err-resume_owned.ensures stops)
 
 pub returns-in-Err-resume_owned-clause-base_untouched : goal.returns-in-Err-resume_owned-clause-base_untouched
 returns-in-Err-resume_owned-clause-base_untouched g c log stops lower =
-    absurd (no_stop (map (λ log. log.items) c.in-Ok.read.1.items) c.in-Ok.read.0.items IsBadBase c.in-Err-resume_owned.fault log c.in-Ok.ensures.fit c.in-Ok.ensures.short c.in-Err-resume_owned.ensures stops)
+    absurd (no_stop (map (λ log. log.items) c.in-Ok.read.1.items) c.in-Ok.read.0.items IsBadBase
+    c.in-Err-resume_owned.fault log c.in-Ok.ensures.fit c.in-Ok.ensures.short
+    c.in-Err-resume_owned.ensures stops)
 
 pub returns-clause-text : goal.returns-clause-text
 returns-clause-text g c = on_ok_weaker c.write_out.result (λ written before logs known are. (
   c.in-Ok-resume_owned.text.items,
-  known_answer Resumes c.in-Ok.read.0.items before (map (λ log. log.items) c.in-Ok.read.1.items) logs (Ok c.in-Ok-resume_owned.text.items) (c.in-Ok.ensures.text before known) (c.in-Ok.ensures.bytes logs are) c.in-Ok-resume_owned.ensures,
+  known_answer Resumes c.in-Ok.read.0.items before (map (λ log. log.items) c.in-Ok.read.1.items)
+      logs (Ok c.in-Ok-resume_owned.text.items) (c.in-Ok.ensures.text before known)
+      (c.in-Ok.ensures.bytes logs are) c.in-Ok-resume_owned.ensures,
   subst (Appends _ _) c.deref.ensures.value written,
 )) c.write_out.ensures.bytes
 
@@ -43,13 +53,18 @@ pub returns-clause-refusal : goal.returns-clause-refusal
 returns-clause-refusal g c = IfErr-weaker c.write_out.result _ _ (λ fault is before logs known are.
     subst (IsRunFaultWithInput IsBadBase IsResumedText before logs) (sym is) (
       c.in-Ok-resume_owned.text.items,
-      known_answer Resumes c.in-Ok.read.0.items before (map (λ log. log.items) c.in-Ok.read.1.items) logs (Ok c.in-Ok-resume_owned.text.items) (c.in-Ok.ensures.text before known) (c.in-Ok.ensures.bytes logs are) c.in-Ok-resume_owned.ensures,
+      known_answer Resumes c.in-Ok.read.0.items before
+          (map (λ log. log.items) c.in-Ok.read.1.items) logs (Ok c.in-Ok-resume_owned.text.items)
+          (c.in-Ok.ensures.text before known) (c.in-Ok.ensures.bytes logs are)
+          c.in-Ok-resume_owned.ensures,
     )) c.write_out.ensures.faults
 
 pub returns-clause-prefix : goal.returns-clause-prefix
 returns-clause-prefix g c is before logs known are = (
   c.in-Ok-resume_owned.text.items,
-  known_answer Resumes c.in-Ok.read.0.items before (map (λ log. log.items) c.in-Ok.read.1.items) logs (Ok c.in-Ok-resume_owned.text.items) (c.in-Ok.ensures.text before known) (c.in-Ok.ensures.bytes logs are) c.in-Ok-resume_owned.ensures,
+  known_answer Resumes c.in-Ok.read.0.items before (map (λ log. log.items) c.in-Ok.read.1.items)
+      logs (Ok c.in-Ok-resume_owned.text.items) (c.in-Ok.ensures.text before known)
+      (c.in-Ok.ensures.bytes logs are) c.in-Ok-resume_owned.ensures,
   subst (AppendsPrefix _ _) c.deref.ensures.value c.write_out.ensures.prefix,
 )
 

@@ -3,7 +3,9 @@ use Rattle.std.proofs.lemmas.List.{length-map, map-append}
 use Rattle.epx_tool.proofs.ConsumedLemmas.{none_consumed}
 use Rattle.epx_devices.specs.Deliveries.{DeliversAll}
 use Rattle.epx_tool.proofs.DeliveredLemmas.{AreDeliveredUpTo, delivered_step, stops_reading}
-use Rattle.epx_tool.proofs.SourceLemmas.{same_next, none_read, read_well, read_step, reading_refusal, taken_further, all_fit, each_read, all_ended, none_failed, none_failed_after, one_failed}
+use Rattle.epx_tool.proofs.SourceLemmas.{same_next, none_read, read_well, read_step}
+use Rattle.epx_tool.proofs.SourceLemmas.{reading_refusal, taken_further, all_fit, each_read}
+use Rattle.epx_tool.proofs.SourceLemmas.{all_ended, none_failed, none_failed_after, one_failed}
 use Rattle.epx_tool.proofs.sources.read_sources.Goals as goal
 
 pub returns-in-Err-clause-refusal : goal.returns-in-Err-clause-refusal

@@ -1,4 +1,5 @@
-use Rattle.std.proofs.Common.{◌≡◌, ◌+◌, ℕ, List, Option, length, map, Err, inl, inr, ap, subst, arith}
+use Rattle.std.proofs.Common.{◌≡◌, ◌+◌, ℕ, List, Option, length, map, Err, inl, inr, ap, subst}
+use Rattle.std.proofs.Common.{arith}
 use Rattle.std.proofs.lemmas.List.{length-map}
 use Rattle.std.proofs.lemmas.Option.{slice_get_within}
 use Rattle.epx_types.specs.declared.fault.Fault.TheVariants.{Read}
@@ -6,7 +7,8 @@ use Rattle.epx_devices.specs.Deliveries.{IsLogStop}
 use Rattle.epx_devices.specs.Transfers.{ConsumesExactly}
 use Rattle.epx_merge.specs.Limits.{max_log_bytes}
 use Rattle.epx_merge.specs.Refusals.{FitLimits}
-use Rattle.epx_tool.proofs.LogsWithInputLemmas.{input_after_logs, reading_refusal_with_input, refusal_of_reading_with_input}
+use Rattle.epx_tool.proofs.LogsWithInputLemmas.{input_after_logs, reading_refusal_with_input}
+use Rattle.epx_tool.proofs.LogsWithInputLemmas.{refusal_of_reading_with_input}
 use Rattle.epx_tool.proofs.sources.read_with_input.Goals as goal
 
 pub returns-in-Err-clause-input_failed : goal.returns-in-Err-clause-input_failed
@@ -22,14 +24,27 @@ pub returns-in-Err-read_log-clause-refusal : goal.returns-in-Err-read_log-clause
 returns-in-Err-read_log-clause-refusal g c before logs known are =
     let same = c.in-Ok.ensures.bytes logs are in
     let many : length c.read_sources.new.sources ≡ length logs =
-    omega (arith, c.read_sources.auto.sources, c.in-Ok.ensures.each, length-map c.in-Ok.logs.items (λ log. log.items), ap length same) in
-    refusal_of_reading_with_input logs before (length c.read_sources.new.sources) (g.B.Source.remaining c.read_log.new.source) c.in-Err-read_log.fault many (subst FitLimits same c.in-Ok.ensures.fit)
-    c.in-Err-read_log.ensures.faults (λ is. subst (λ (o : Option (List ℕ)). ConsumesExactly o (g.B.Source.remaining c.read_log.new.source) (max_log_bytes + 1)) known (c.in-Err-read_log.ensures.too_long is))
+    omega (
+      arith,
+      c.read_sources.auto.sources,
+      c.in-Ok.ensures.each,
+      length-map c.in-Ok.logs.items (λ log. log.items),
+      ap length same,
+    ) in
+    refusal_of_reading_with_input logs before (length c.read_sources.new.sources)
+    (g.B.Source.remaining c.read_log.new.source) c.in-Err-read_log.fault many
+    (subst FitLimits same c.in-Ok.ensures.fit)
+    c.in-Err-read_log.ensures.faults
+    (λ is. subst (λ (o : Option (List ℕ)). ConsumesExactly o
+    (g.B.Source.remaining c.read_log.new.source) (max_log_bytes + 1)) known
+    (c.in-Err-read_log.ensures.too_long is))
 
 pub returns-in-Err-read_log-clause-failed : goal.returns-in-Err-read_log-clause-failed
 returns-in-Err-read_log-clause-failed g c log source there =
     let here = c.in-Ok.ensures.failed log source there in (
-      λ is. absurd (input_after_logs (length c.read_sources.new.sources) c.in-Err-read_log.fault log c.in-Err-read_log.ensures.faults (cc is) (slice_get_within c.read_sources.new.sources log source there)),
+      λ is. absurd (input_after_logs (length c.read_sources.new.sources) c.in-Err-read_log.fault
+          log c.in-Err-read_log.ensures.faults (cc is)
+          (slice_get_within c.read_sources.new.sources log source there)),
       λ bad. let never = here.1 bad in absurd (cc never),
     )
 

@@ -13,4 +13,5 @@ returns c =
     let ts = begin_array ∷ string (codes "missing") ∷ id_tokens c.args.id in
     let same : last.tokens ≡ ts = grind (arith, common_steps) in
     let kept : last.before ≡ [] = grind arith in
-    line_alone (fault_data (Missing c.args.id)) ts last.tokens c.new-text.result.items last.before c.end_line.new.text.items c.new-text.ensures.items same kept refl c.in_ok-end_line.ensures
+    line_alone (fault_data (Missing c.args.id)) ts last.tokens c.new-text.result.items last.before
+    c.end_line.new.text.items c.new-text.ensures.items same kept refl c.in_ok-end_line.ensures

@@ -9,7 +9,10 @@ use Rattle.epx_tool.proofs.verdict.pair_line.Goals as goal
 pub returns : goal.returns
 returns c =
     let last = c.write_id_parts-2.new.out in
-    let ts = begin_array ∷ string (codes "uncovered") ∷ (id_tokens c.args.pair.0 ++ id_tokens c.args.pair.1) in
+    let ts = begin_array ∷ string (codes "uncovered")
+    ∷ (id_tokens c.args.pair.0 ++ id_tokens c.args.pair.1) in
     let same : last.tokens ≡ ts = grind (arith, common_steps) in
     let kept : last.before ≡ [] = grind arith in
-    line_alone (uncovered_data c.args.pair.0 c.args.pair.1) ts last.tokens c.new-text.result.items last.before c.end_line.new.text.items c.new-text.ensures.items same kept refl c.in_ok-end_line.ensures
+    line_alone (uncovered_data c.args.pair.0 c.args.pair.1) ts last.tokens c.new-text.result.items
+    last.before c.end_line.new.text.items c.new-text.ensures.items same kept refl
+    c.in_ok-end_line.ensures

@@ -12,4 +12,6 @@ returns c =
     let ts = begin_array ∷ string c.args.name.now ∷ number (decimal c.args.place) ∷ [] in
     let same : last.tokens ≡ ts = grind (arith, common_steps) in
     let kept : last.before ≡ [] = grind arith in
-    line_alone (value.string c.args.name.now ∷ data_of_number c.args.place ∷ []) ts last.tokens c.new-text.result.items last.before c.end_line.new.text.items c.new-text.ensures.items same kept refl c.in_ok-end_line.ensures
+    line_alone (value.string c.args.name.now ∷ data_of_number c.args.place ∷ []) ts last.tokens
+    c.new-text.result.items last.before c.end_line.new.text.items c.new-text.ensures.items same
+    kept refl c.in_ok-end_line.ensures

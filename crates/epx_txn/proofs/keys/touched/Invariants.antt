@@ -4,4 +4,5 @@ use Rattle.epx_types.specs.CommandKeys.{touched_by, touched_keys}
 use Rattle.epx_txn.proofs.keys.touched.Given as goal
 
 abbrev pub invariant-loop-op : goal.invariant-loop-op
-invariant-loop-op l = add_keys (map (λ k. k.now) l.keys.keys) (flat_map touched_by (drop l.op-index l.ops)) ≡ touched_keys l.ops
+invariant-loop-op l = add_keys (map (λ k. k.now) l.keys.keys)
+    (flat_map touched_by (drop l.op-index l.ops)) ≡ touched_keys l.ops

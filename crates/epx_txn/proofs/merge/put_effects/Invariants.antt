@@ -4,4 +4,5 @@ use Rattle.epx_txn.proofs.MergeLemmas.{writes_in}
 use Rattle.epx_txn.proofs.merge.put_effects.Given as goal
 
 abbrev pub invariant-loop-effect : goal.invariant-loop-effect
-invariant-loop-effect l = apply_writes (writes_in (drop l.effect-index l.effects)) l.store ≡ apply_writes (writes_in l.effects) l.initial.store
+invariant-loop-effect l = apply_writes (writes_in (drop l.effect-index l.effects)) l.store
+    ≡ apply_writes (writes_in l.effects) l.initial.store

@@ -12,5 +12,8 @@ returns c =
     let cut = number_rule (codes "cut") (codes "256") 65536 in
     let workers_is : rule_of c.help-workers.result ≡ workers = search rules in
     let cut_is : rule_of c.help-cut.result ≡ cut = search rules in
-    let one = with_argument c.with_help.result c.in_ok-arg.field-0 c.help-workers.result start workers c.in_ok-arg.ensures c.with_help.ensures workers_is refl in
-    IfOk-weaker c.arg-2.result _ _ (λ made added. with_argument c.in_ok-arg.field-0 made c.help-cut.result (with_rule start workers) cut added one cut_is refl) c.arg-2.ensures
+    let one = with_argument c.with_help.result c.in_ok-arg.field-0 c.help-workers.result start
+    workers c.in_ok-arg.ensures c.with_help.ensures workers_is refl in
+    IfOk-weaker c.arg-2.result _ _
+    (λ made added. with_argument c.in_ok-arg.field-0 made c.help-cut.result
+    (with_rule start workers) cut added one cut_is refl) c.arg-2.ensures

@@ -16,8 +16,15 @@ levels = with_subcommand order (work_app (codes "levels")).top
 
 pub returns : goal.returns
 returns c =
-    let one = with_command c.start.result c.in_ok-run.run' c.in_ok-subcommand.field-0 epx_top (work_app (codes "run")) c.in_ok-subcommand.ensures c.start.ensures c.in_ok-run.ensures refl in
-    let two = with_command c.in_ok-subcommand.field-0 c.in_ok-order.order c.in_ok-subcommand-2.field-0 run (work_app (codes "order")) c.in_ok-subcommand-2.ensures one c.in_ok-order.ensures refl in
-    let three = with_command c.in_ok-subcommand-2.field-0 c.in_ok-levels.levels c.in_ok-subcommand-3.field-0 order (work_app (codes "levels")) c.in_ok-subcommand-3.ensures two c.in_ok-levels.ensures refl in
+    let one = with_command c.start.result c.in_ok-run.run' c.in_ok-subcommand.field-0 epx_top
+    (work_app (codes "run")) c.in_ok-subcommand.ensures c.start.ensures c.in_ok-run.ensures
+    refl in
+    let two = with_command c.in_ok-subcommand.field-0 c.in_ok-order.order
+    c.in_ok-subcommand-2.field-0 run (work_app (codes "order")) c.in_ok-subcommand-2.ensures
+    one c.in_ok-order.ensures refl in
+    let three = with_command c.in_ok-subcommand-2.field-0 c.in_ok-levels.levels
+    c.in_ok-subcommand-3.field-0 order (work_app (codes "levels")) c.in_ok-subcommand-3.ensures
+    two c.in_ok-levels.ensures refl in
     IfOk-weaker c.subcommand-4.result _ _ (λ made added.
-    with_command c.in_ok-subcommand-3.field-0 c.in_ok-graph.graph made levels (work_app (codes "graph")) added three c.in_ok-graph.ensures refl) c.subcommand-4.ensures
+    with_command c.in_ok-subcommand-3.field-0 c.in_ok-graph.graph made levels
+    (work_app (codes "graph")) added three c.in_ok-graph.ensures refl) c.subcommand-4.ensures

@@ -3,4 +3,5 @@ use Rattle.std.specs.Prelude.{string_bytes}
 use Rattle.epx_words.proofs.read.copies.Given as goal
 
 abbrev pub invariant-loop-text : goal.invariant-loop-text
-invariant-loop-text l = map string_bytes l.copies.items ≡ map (λ t. t.now) (take l.text-index l.texts)
+invariant-loop-text l = map string_bytes l.copies.items
+    ≡ map (λ t. t.now) (take l.text-index l.texts)

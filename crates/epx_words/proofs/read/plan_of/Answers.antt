@@ -1,4 +1,5 @@
-use Rattle.std.proofs.Common.{◌≡◌, ◌≤◌, codes, ℕ, List, Option, Some, Result, refl, subst, sym, rules}
+use Rattle.std.proofs.Common.{◌≡◌, ◌≤◌, codes, ℕ, List, Option, Some, Result, refl, subst, sym}
+use Rattle.std.proofs.Common.{rules}
 use Rattle.std.specs.Option.{IfSome, IsSome}
 use Rattle.std.specs.Str.Parse.{ExplainsUnsignedError, HasUnsignedDigitsIfOk, ParsesUnsigned}
 use Rattle.std.specs.declared.num.ParseIntError.{ParseIntError}
@@ -9,22 +10,31 @@ use Rattle.epx_words.proofs.NumberLemmas.{number_read}
 use Rattle.epx_words.proofs.read.plan_of.Goals as goal
 
 abbrev ParsesUsize : List ℕ → Result ℕ ParseIntError → Type 0
-ParsesUsize bs r = ParsesUnsigned 64 10 bs r × ExplainsUnsignedError 10 bs r × HasUnsignedDigitsIfOk bs r
+ParsesUsize bs r = ParsesUnsigned 64 10 bs r × ExplainsUnsignedError 10 bs r
+    × HasUnsignedDigitsIfOk bs r
 
 pub unwrap-workers-requires : goal.unwrap-workers-requires
 unwrap-workers-requires c =
-    let read = number_read ParseIntError ParsesUsize (λ u x g. g.0) 64 (found_of c.args.matches.now) (codes "workers") c.get_one.result c.get_one.ensures.value c.requires.workers in
+    let read = number_read ParseIntError ParsesUsize (λ u x g. g.0) 64
+    (found_of c.args.matches.now) (codes "workers") c.get_one.result c.get_one.ensures.value
+    c.requires.workers in
     subst IsSome (sym read.is) refl
 
 pub unwrap-cut-requires : goal.unwrap-cut-requires
 unwrap-cut-requires c =
-    let read = number_read ParseIntError ParsesUsize (λ u x g. g.0) 65536 (found_of c.args.matches.now) (codes "cut") c.get_one-2.result c.get_one-2.ensures.value c.requires.cut in
+    let read = number_read ParseIntError ParsesUsize (λ u x g. g.0) 65536
+    (found_of c.args.matches.now) (codes "cut") c.get_one-2.result c.get_one-2.ensures.value
+    c.requires.cut in
     subst IsSome (sym read.is) refl
 
 pub unwrap-requires : goal.unwrap-requires
 unwrap-requires c =
-    let workers = number_read ParseIntError ParsesUsize (λ u x g. g.0) 64 (found_of c.args.matches.now) (codes "workers") c.get_one.result c.get_one.ensures.value c.requires.workers in
-    let cut = number_read ParseIntError ParsesUsize (λ u x g. g.0) 65536 (found_of c.args.matches.now) (codes "cut") c.get_one-2.result c.get_one-2.ensures.value c.requires.cut in
+    let workers = number_read ParseIntError ParsesUsize (λ u x g. g.0) 64
+    (found_of c.args.matches.now) (codes "workers") c.get_one.result c.get_one.ensures.value
+    c.requires.workers in
+    let cut = number_read ParseIntError ParsesUsize (λ u x g. g.0) 65536
+    (found_of c.args.matches.now) (codes "cut") c.get_one-2.result c.get_one-2.ensures.value
+    c.requires.cut in
     let workers_is : workers.number ≡ c.unwrap-workers.result = cc in
     let cut_is : cut.number ≡ c.unwrap-cut.result = cc in
     c.new.ensures.fits.1 (record {
@@ -34,19 +44,25 @@ unwrap-requires c =
       few_items = subst (λ n. n ≤ 65536) cut_is cut.most;
     })
 
-made_of : (made : Option PlanNumbers) (plan wanted : PlanNumbers) → made ≡ Some plan → IfSome made (λ p. p ≡ wanted) → plan ≡ wanted
+made_of : (made : Option PlanNumbers) (plan wanted : PlanNumbers) → made ≡ Some plan
+    → IfSome made (λ p. p ≡ wanted) → plan ≡ wanted
 made_of made plan wanted is h = subst (λ o. IfSome o (λ p. p ≡ wanted)) is h
 
 pub returns-clause-workers : goal.returns-clause-workers
 returns-clause-workers c =
-    let read = number_read ParseIntError ParsesUsize (λ u x g. g.0) 64 (found_of c.args.matches.now) (codes "workers") c.get_one.result c.get_one.ensures.value c.requires.workers in
+    let read = number_read ParseIntError ParsesUsize (λ u x g. g.0) 64
+    (found_of c.args.matches.now) (codes "workers") c.get_one.result c.get_one.ensures.value
+    c.requires.workers in
     let plan = made_of c.new.result c.unwrap.result _ (search rules) c.new.ensures.plan in
     let is : read.number ≡ c.unwrap.result.workers = cc in
-    subst (IsNumberOf (one_of (codes "workers") (rows_of (found_of c.args.matches.now)))) is read.means
+    subst (IsNumberOf (one_of (codes "workers") (rows_of (found_of c.args.matches.now)))) is
+    read.means
 
 pub returns-clause-cut : goal.returns-clause-cut
 returns-clause-cut c =
-    let read = number_read ParseIntError ParsesUsize (λ u x g. g.0) 65536 (found_of c.args.matches.now) (codes "cut") c.get_one-2.result c.get_one-2.ensures.value c.requires.cut in
+    let read = number_read ParseIntError ParsesUsize (λ u x g. g.0) 65536
+    (found_of c.args.matches.now) (codes "cut") c.get_one-2.result c.get_one-2.ensures.value
+    c.requires.cut in
     let plan = made_of c.new.result c.unwrap.result _ (search rules) c.new.ensures.plan in
     let is : read.number ≡ c.unwrap.result.cut = cc in
     subst (IsNumberOf (one_of (codes "cut") (rows_of (found_of c.args.matches.now)))) is read.means

@@ -11,4 +11,5 @@ invariant-loop-place l =
     let whole = execute (commands_at (op_lists_of l.commands) l.places) l.fn.self.store in
     (length l.self.replies.items ≡ length l.commands)
     × (rest.final ≡ whole.final)
-    × (put_replies left rest.replies l.self.replies.items ≡ put_replies l.places whole.replies l.fn.self.replies.items)
+    × (put_replies left rest.replies l.self.replies.items
+    ≡ put_replies l.places whole.replies l.fn.self.replies.items)

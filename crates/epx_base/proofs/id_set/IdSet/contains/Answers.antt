@@ -6,9 +6,13 @@ use Rattle.epx_base.proofs.id_set.IdSet.contains.Goals as goal
 pub returns-then-contains_id : goal.returns-then-contains_id
 returns-then-contains_id c =
     let found : is_among c.self.inside.rising.items c.args.id.now ≡ true = search rules in
-    c.if-contains_id.true ∙ sym (found_rising c.self.inside.rising.items c.self.inside.late.keys c.self.invariant c.args.id.now found) ∙ ap (λ ids. is_among ids c.args.id.now) c.self.view_is
+    c.if-contains_id.true ∙ sym
+    (found_rising c.self.inside.rising.items c.self.inside.late.keys c.self.invariant
+    c.args.id.now found) ∙ ap (λ ids. is_among ids c.args.id.now) c.self.view_is
 
 pub returns-else-contains_id : goal.returns-else-contains_id
 returns-else-contains_id c =
     let missed : is_among c.self.inside.rising.items c.args.id.now ≡ false = search rules in
-    c.contains.ensures ∙ found_late c.self.inside.rising.items c.self.inside.late.keys c.self.invariant c.args.id.now missed ∙ ap (λ ids. is_among ids c.args.id.now) c.self.view_is
+    c.contains.ensures ∙ found_late c.self.inside.rising.items c.self.inside.late.keys
+    c.self.invariant c.args.id.now missed ∙ ap (λ ids. is_among ids c.args.id.now)
+    c.self.view_is

@@ -6,4 +6,5 @@ use Rattle.epx_base.proofs.id_set.IdSet.last.Goals as goal
 pub returns : goal.returns
 returns c =
     let own : option_copied c.last.result ≡ last c.self.inside.rising.items = search rules in
-    own ∙ last-with_late c.self.inside.rising.items c.self.inside.late.keys c.self.invariant ∙ ap last c.self.view_is
+    own ∙ last-with_late c.self.inside.rising.items c.self.inside.late.keys c.self.invariant
+    ∙ ap last c.self.view_is

@@ -4,8 +4,11 @@ use Rattle.epx_claims.proofs.claims.Claims.close.Goals as goal
 
 pub returns : goal.returns
 returns c =
-    let every = ap (λ s. s.share) c.seat.view_is ∙ c.requires.share ∙ sym (ap (λ s. s.workers) c.self.view_is) in
+    let every = ap (λ s. s.share) c.seat.view_is ∙ c.requires.share
+    ∙ sym (ap (λ s. s.workers) c.self.view_is) in
     let all =
-    drawn_at_close c.self.inside.table.shared.key _ _ _ _ _ _ _ _ c.seat.invariant.shown every c.word-word.ensures c.self.invariant.pieces c.min.ensures
+    drawn_at_close c.self.inside.table.shared.key _ _ _ _ _ _ _ _ c.seat.invariant.shown every
+    c.word-word.ensures c.self.invariant.pieces c.min.ensures
     c.close_with-closed.ensures.values.2 in
-    rw (← c.seat.view_is, ← c.self.view_is) (record { length = all.length; each_once = all.each_once; all = all.all; deal = all.deal })
+    rw (← c.seat.view_is, ← c.self.view_is)
+    (record { length = all.length; each_once = all.each_once; all = all.all; deal = all.deal })

@@ -6,8 +6,10 @@ use Rattle.epx_claims.proofs.claims.Claims.join.Goals as goal
 
 pub join_seat-requires : goal.join_seat-requires
 join_seat-requires c =
-    let own = same_claims c.seat.inside c.self.inside _ _ c.seat.view_is c.requires.own c.self.view_is in
-    let theirs = same_claims c.other.inside c.self.inside _ _ c.other.view_is c.requires.other c.self.view_is in
+    let own = same_claims c.seat.inside c.self.inside _ _ c.seat.view_is c.requires.own
+    c.self.view_is in
+    let theirs = same_claims c.other.inside c.self.inside _ _ c.other.view_is c.requires.other
+    c.self.view_is in
     let ready = c.self.invariant in (
       ap (λ k. k.table) own,
       ap (λ k. k.table) theirs,
@@ -19,7 +21,8 @@ join_seat-requires c =
 pub load-requires : goal.load-requires
 load-requires c =
     let ready = c.self.invariant in
-    let is = ap (λ m. m.0.seat_states) c.join_seat.ensures.2 ∙ (λ i. c.seat.invariant.shown i ++ c.other.invariant.shown i) in (
+    let is = ap (λ m. m.0.seat_states) c.join_seat.ensures.2
+    ∙ (λ i. c.seat.invariant.shown i ++ c.other.invariant.shown i) in (
       search rules,
       omega arith,
       join_allowed c.self.inside.table.shared.key _ _ c.join_seat.new.seat.me _ _ is,
@@ -27,7 +30,10 @@ load-requires c =
 
 pub returns-clause-apart : goal.returns-clause-apart
 returns-clause-apart c =
-    let own = same_claims c.seat.inside c.self.inside _ _ c.seat.view_is c.requires.own c.self.view_is in
-    let is = ap (λ m. m.0.seat_states) c.join_seat.ensures.2 ∙ (λ i. c.seat.invariant.shown i ++ c.other.invariant.shown i) in
+    let own = same_claims c.seat.inside c.self.inside _ _ c.seat.view_is c.requires.own
+    c.self.view_is in
+    let is = ap (λ m. m.0.seat_states) c.join_seat.ensures.2
+    ∙ (λ i. c.seat.invariant.shown i ++ c.other.invariant.shown i) in
     let pieces = ap (λ m. m.0.terms.pieces) c.join_seat.ensures.2 ∙ ap (λ k. k.pieces) own in
-    rw (← c.seat.view_is, ← c.other.view_is, ← c.self.view_is) (step_apart _ _ _ _ _ _ _ _ _ is pieces c.load.ensures.2.1.0)
+    rw (← c.seat.view_is, ← c.other.view_is, ← c.self.view_is)
+    (step_apart _ _ _ _ _ _ _ _ _ is pieces c.load.ensures.2.1.0)

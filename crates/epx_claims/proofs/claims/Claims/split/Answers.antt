@@ -6,19 +6,22 @@ use Rattle.epx_claims.proofs.claims.Claims.split.Goals as goal
 
 pub load-requires : goal.load-requires
 load-requires c =
-    let own = same_claims c.seat.inside c.self.inside _ _ c.seat.view_is c.requires.own c.self.view_is in
+    let own = same_claims c.seat.inside c.self.inside _ _ c.seat.view_is c.requires.own
+    c.self.view_is in
     let not_ended = ap (λ s. s.ended) c.seat.view_is ∙ c.requires.open in
     let share = ap (λ s. s.share) c.seat.view_is in
     let enough = c.requires.share in
     let ready = c.self.invariant in (
       ap (λ k. k.table) own,
       omega arith,
-      split_allowed c.self.inside.table.shared.key _ _ c.seat.inside.seat.me _ c.seat.invariant.shown not_ended (omega arith),
+      split_allowed c.self.inside.table.shared.key _ _ c.seat.inside.seat.me _
+          c.seat.invariant.shown not_ended (omega arith),
     )
 
 pub split_seat-given-requires : goal.split_seat-given-requires
 split_seat-given-requires c =
-    let own = same_claims c.seat.inside c.self.inside _ _ c.seat.view_is c.requires.own c.self.view_is in
+    let own = same_claims c.seat.inside c.self.inside _ _ c.seat.view_is c.requires.own
+    c.self.view_is in
     let ready = c.self.invariant in (
       search rules,
       omega arith,

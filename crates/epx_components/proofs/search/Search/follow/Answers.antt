@@ -14,27 +14,45 @@ pub arrive-requires-clause-node : goal.arrive-requires-clause-node
 arrive-requires-clause-node c =
     let s = c.args.self.now in
     let w = c.requires.search.1 in
-    let in' = open_below _ _ _ (state s) c.args.node c.requires.next.place w c.requires.next.is_open in
-    let next = get_or_read s.looked_at.items c.args.node _ (omega (arith, w.looks)) c.index-next.ensures 0 in
-    rw (c.edges.ensures.edges, next) (omega (arith, w.places, s.place.ok.0, edge_to c.args.graph.now c.requires.graph c.args.node _ c.requires.next.left))
+    let in' = open_below _ _ _ (state s) c.args.node c.requires.next.place w
+    c.requires.next.is_open in
+    let next = get_or_read s.looked_at.items c.args.node _ (omega (arith, w.looks))
+    c.index-next.ensures 0 in
+    rw (c.edges.ensures.edges, next)
+    (omega (
+      arith,
+      w.places,
+      s.place.ok.0,
+      edge_to c.args.graph.now c.requires.graph c.args.node _ c.requires.next.left,
+    ))
 
 pub returns-clause-keeps : goal.returns-clause-keeps
 returns-clause-keeps c =
     let s = c.args.self.now in
     let edges = edges_of c.args.graph.now in
     let w = c.requires.search.1 in
-    let in' = open_below edges _ _ (state s) c.args.node c.requires.next.place w c.requires.next.is_open in
-    let next = get_or_read s.looked_at.items c.args.node _ (omega (arith, w.looks)) c.index-next.ensures 0 in
-    on_ok_weaker {Q = KeepsSearch edges (length c.args.graph.now.ids) (state s) (state c.arrive.new.self)} c.arrive.result
-    (λ h seen w. follow_keeps edges (length c.args.graph.now.ids) seen (state s) (state c.arrive.new.self) c.args.node w c.requires.next
-    (edge_to c.args.graph.now c.requires.graph c.args.node _ c.requires.next.left) (rw (c.edges.ensures.edges, next) at h)) c.arrive.ensures
+    let in' = open_below edges _ _ (state s) c.args.node c.requires.next.place w
+    c.requires.next.is_open in
+    let next = get_or_read s.looked_at.items c.args.node _ (omega (arith, w.looks))
+    c.index-next.ensures 0 in
+    on_ok_weaker {Q = KeepsSearch edges (length c.args.graph.now.ids) (state s)
+    (state c.arrive.new.self)} c.arrive.result
+    (λ h seen w. follow_keeps edges (length c.args.graph.now.ids) seen (state s)
+    (state c.arrive.new.self) c.args.node w c.requires.next
+    (edge_to c.args.graph.now c.requires.graph c.args.node _ c.requires.next.left)
+    (rw (c.edges.ensures.edges, next) at h)) c.arrive.ensures
 
 pub returns-clause-less : goal.returns-clause-less
 returns-clause-less c =
     let s = c.args.self.now in
     let edges = edges_of c.args.graph.now in
     let w = c.requires.search.1 in
-    let in' = open_below edges _ _ (state s) c.args.node c.requires.next.place w c.requires.next.is_open in
-    let next = get_or_read s.looked_at.items c.args.node _ (omega (arith, w.looks)) c.index-next.ensures 0 in
-    on_ok_weaker {Q = work_left c.args.graph.now.edges (state c.arrive.new.self) < work_left c.args.graph.now.edges (state s)} c.arrive.result
-    (λ h. follow_less c.args.graph.now.edges (state s) (state c.arrive.new.self) c.args.node _ (omega (arith, w.looks)) c.requires.next.left (rw (c.edges.ensures.edges, next) at h)) c.arrive.ensures
+    let in' = open_below edges _ _ (state s) c.args.node c.requires.next.place w
+    c.requires.next.is_open in
+    let next = get_or_read s.looked_at.items c.args.node _ (omega (arith, w.looks))
+    c.index-next.ensures 0 in
+    on_ok_weaker {Q = work_left c.args.graph.now.edges (state c.arrive.new.self)
+    < work_left c.args.graph.now.edges (state s)} c.arrive.result
+    (λ h. follow_less c.args.graph.now.edges (state s) (state c.arrive.new.self) c.args.node _
+    (omega (arith, w.looks)) c.requires.next.left (rw (c.edges.ensures.edges, next) at h))
+    c.arrive.ensures

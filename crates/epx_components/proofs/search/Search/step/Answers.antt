@@ -14,15 +14,24 @@ returns-in-Some-2-clause-keeps c seen w =
     let s = c.args.self.now in
     let edges = edges_of c.args.graph.now in
     let top = c.in-Some.ensures.found in
-    let in' = open_below edges _ seen (state s) c.in-Some.node top.place w (top_open edges _ seen (state s) c.in-Some.node w top) in
-    let looked = get_or_read s.looked_at.items c.in-Some.node _ (omega (arith, w.looks)) c.index.ensures 0 in
-    let path : c.pop.new.self.items ≡ take (length s.path.items - 1) s.path.items = c.pop.ensures.rest ∙ ap (λ n. take (n - 1) s.path.items) s.path.ok.0 in
-    let Then : List ℕ → Type 0 = λ path. IsSearch edges (length c.args.graph.now.ids) seen (record (state s) { path = path }) in
-    subst Then (sym path) (pop_keeps edges (length c.args.graph.now.ids) seen (state s) c.in-Some.node w top (omega (arith, c.if-index-edges.false, looked, ap length c.edges.ensures.edges)))
+    let in' = open_below edges _ seen (state s) c.in-Some.node top.place w
+    (top_open edges _ seen (state s) c.in-Some.node w top) in
+    let looked = get_or_read s.looked_at.items c.in-Some.node _ (omega (arith, w.looks))
+    c.index.ensures 0 in
+    let path : c.pop.new.self.items ≡ take (length s.path.items - 1) s.path.items =
+    c.pop.ensures.rest ∙ ap (λ n. take (n - 1) s.path.items) s.path.ok.0 in
+    let Then : List ℕ → Type 0 = λ path. IsSearch edges (length c.args.graph.now.ids) seen
+    (record (state s) { path = path }) in
+    subst Then (sym path)
+    (pop_keeps edges (length c.args.graph.now.ids) seen (state s) c.in-Some.node w top
+    (omega (arith, c.if-index-edges.false, looked, ap length c.edges.ensures.edges)))
 
 pub returns-in-None-clause-keeps : goal.returns-in-None-clause-keeps
 returns-in-None-clause-keeps c =
     let s = c.args.self.now in
     let edges = edges_of c.args.graph.now in
-    on_ok_weaker {Q = KeepsSearch edges (length c.args.graph.now.ids) (state s) (state c.finish.new.self)} c.finish.result
-    (λ h seen w. finish_keeps edges (length c.args.graph.now.ids) seen (state s) (state c.finish.new.self) w h (λ i l. omega (arith, c.in-None.ensures.none i l, h.last.1))) c.finish.ensures
+    on_ok_weaker {Q = KeepsSearch edges (length c.args.graph.now.ids) (state s)
+    (state c.finish.new.self)} c.finish.result
+    (λ h seen w. finish_keeps edges (length c.args.graph.now.ids) seen (state s)
+    (state c.finish.new.self) w h (λ i l. omega (arith, c.in-None.ensures.none i l, h.last.1)))
+    c.finish.ensures

@@ -10,4 +10,5 @@ returns-clause-transpose c =
     let rows = c.self.inside.rows in
     let spare = length c.self.inside.ids.items - length rows in
     IfOk-weaker c.transpose.result (AreTransposed rows) (AreTransposed c.args.self.now.edges)
-    (λ back h. subst (λ (g : DependencyGraph). AreTransposed g.edges back) c.self.view_is (transpose_padded rows back spare h)) c.transpose.ensures.transpose
+    (λ back h. subst (λ (g : DependencyGraph). AreTransposed g.edges back) c.self.view_is
+    (transpose_padded rows back spare h)) c.transpose.ensures.transpose

@@ -3,4 +3,10 @@ use Rattle.epx_graph.proofs.RowLemmas.{length_rows}
 use Rattle.epx_graph.proofs.rows.Rows.len.Goals as goal
 
 pub returns : goal.returns
-returns c = omega (arith, c.len.ensures, c.self.inside.ends.ok.0, length_rows 0 c.self.inside.ends.items c.self.inside.numbers.items, ap length c.self.view_is)
+returns c = omega (
+  arith,
+  c.len.ensures,
+  c.self.inside.ends.ok.0,
+  length_rows 0 c.self.inside.ends.items c.self.inside.numbers.items,
+  ap length c.self.view_is,
+)

@@ -9,13 +9,20 @@ pub index-requires : goal.index-requires
 index-requires c =
     let rows = c.self.inside.rows in
     let long : vec_len rows ≡ length rows.items = search rules in
-    omega (arith, long, length_at c.self.inside.lines.items rows.items c.self.invariant, ap length c.self.view_is, c.requires)
+    omega (
+      arith,
+      long,
+      length_at c.self.inside.lines.items rows.items c.self.invariant,
+      ap length c.self.view_is,
+      c.requires,
+    )
 
 pub index-requires-2 : goal.index-requires-2
 index-requires-2 c =
     let lines = c.self.inside.lines in
     let within = subst (λ m. c.args.position < length m) (sym c.self.view_is) c.requires in
-    let at = stands_at lines.items c.self.inside.rows.items c.self.invariant c.args.position c.index.result.now within c.index.ensures in
+    let at = stands_at lines.items c.self.inside.rows.items c.self.invariant c.args.position
+    c.index.result.now within c.index.ensures in
     let long : vec_len lines ≡ length lines.items = search rules in
     omega (arith, long, slice_get_within lines.items c.index.result.now.line at.0 at.1)
 
@@ -23,6 +30,10 @@ pub returns : goal.returns
 returns c =
     let lines = c.self.inside.lines.items in
     let within = subst (λ m. c.args.position < length m) (sym c.self.view_is) c.requires in
-    let at = stands_at lines c.self.inside.rows.items c.self.invariant c.args.position c.index.result.now within c.index.ensures in
-    let line = get_or_from_slice_get lines c.index.result.now.line at.0 c.index-2.result.now at.1 in
-    ap (λ m. slice_get m c.args.position) (sym c.self.view_is) ∙ at.3 ∙ ap (λ (p : Placed). Some p.instance) (sym line ∙ sym c.index-2.ensures) ∙ ap Some (sym c.entry.ensures)
+    let at = stands_at lines c.self.inside.rows.items c.self.invariant c.args.position
+    c.index.result.now within c.index.ensures in
+    let line = get_or_from_slice_get lines c.index.result.now.line at.0 c.index-2.result.now
+    at.1 in
+    ap (λ m. slice_get m c.args.position) (sym c.self.view_is) ∙ at.3
+    ∙ ap (λ (p : Placed). Some p.instance) (sym line ∙ sym c.index-2.ensures)
+    ∙ ap Some (sym c.entry.ensures)

@@ -11,12 +11,25 @@ pub index-requires : goal.index-requires
 index-requires c =
     let rows = c.self.inside.rows in
     let long : vec_len rows ≡ length rows.items = search rules in
-    omega (arith, long, length_at c.self.inside.lines.items rows.items c.self.invariant, ap length c.self.view_is, c.requires)
+    omega (
+      arith,
+      long,
+      length_at c.self.inside.lines.items rows.items c.self.invariant,
+      ap length c.self.view_is,
+      c.requires,
+    )
 
 pub returns : goal.returns
 returns c =
     let lines = c.self.inside.lines.items in
     let rows = c.self.inside.rows.items in
-    let row = slice_get_read rows (length rows) c.args.position c.index.result.now refl (omega (arith, length_at lines rows c.self.invariant, ap length c.self.view_is, c.requires)) c.index.ensures in
-    ap (λ m. slice_get (ids_of m) c.args.position) (sym c.self.view_is) ∙ ap (λ l. slice_get l c.args.position) (ids_at lines rows c.self.invariant)
+    let row = slice_get_read rows (length rows) c.args.position c.index.result.now refl
+    (omega (
+      arith,
+      length_at lines rows c.self.invariant,
+      ap length c.self.view_is,
+      c.requires,
+    )) c.index.ensures in
+    ap (λ m. slice_get (ids_of m) c.args.position) (sym c.self.view_is)
+    ∙ ap (λ l. slice_get l c.args.position) (ids_at lines rows c.self.invariant)
     ∙ slice_get-map (λ (r : Row). r.id) rows c.args.position c.index.result.now row

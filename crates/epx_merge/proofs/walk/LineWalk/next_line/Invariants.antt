@@ -5,7 +5,8 @@ use Rattle.epx_merge.proofs.walk.LineWalk.next_line.Given as goal
 -- the lines that are left stay the same
 abbrev pub invariant-loop-rest : goal.invariant-loop-rest
 invariant-loop-rest l =
-    (meanings_left l.log l.line l.rest (map (λ log. log.items) l.others) ≡ l.fn.self) × (l.line + length l.rest < 2 ^ 64) × (l.log + length l.others < 2 ^ 64)
+    (meanings_left l.log l.line l.rest (map (λ log. log.items) l.others) ≡ l.fn.self)
+    × (l.line + length l.rest < 2 ^ 64) × (l.log + length l.others < 2 ^ 64)
 
 abbrev pub decreases-loop-rest : goal.decreases-loop-rest
 decreases-loop-rest l = length l.others

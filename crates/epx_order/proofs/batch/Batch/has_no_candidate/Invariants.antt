@@ -7,4 +7,6 @@ use Rattle.epx_order.specs.inner.DoubtfulKeys.{IsRelatedOrFree}
 use Rattle.epx_order.proofs.batch.Batch.has_no_candidate.Given as goal
 
 abbrev pub invariant-loop-node : goal.invariant-loop-node
-invariant-loop-node l = (g : DependencyGraph) (touches : List DoubtfulTouch) (sources : List ℕ) (b j : ℕ) → IsBatch g (parts l.partition) touches sources l.self → b < length sources → j < l.node → IsRelatedOrFree (edges_of g) l.ready touches (get_or sources b 0) j
+invariant-loop-node l = (g : DependencyGraph) (touches : List DoubtfulTouch) (sources : List ℕ)
+    (b j : ℕ) → IsBatch g (parts l.partition) touches sources l.self → b < length sources
+    → j < l.node → IsRelatedOrFree (edges_of g) l.ready touches (get_or sources b 0) j

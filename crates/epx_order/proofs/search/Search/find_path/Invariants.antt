@@ -6,5 +6,6 @@ use Rattle.epx_order.proofs.search.Search.find_path.Given as goal
 abbrev pub invariant-loop : goal.invariant-loop
 invariant-loop l = record {
   seen : length l.self.seen.items ≡ length l.graph.ids;
-  opened : (j : ℕ) → Contains l.self.opened.items j → (j < length l.graph.ids) × NodeReaches (edges_of l.graph) l.from j;
+  opened : (j : ℕ) → Contains l.self.opened.items j
+      → (j < length l.graph.ids) × NodeReaches (edges_of l.graph) l.from j;
 }

@@ -5,7 +5,8 @@ use Rattle.epx_txn.proofs.few_writes.FewWrites.get.Goals as goal
 pub returns-in-Ok : goal.returns-in-Ok
 returns-in-Ok c =
     let there = rw c.as_slice.ensures.value at c.in-Ok.ensures in
-    ap (λ p. Some p.1) (shown_at (λ p. (p.0.now, p.1)) c.self.inside.items.items c.in-Ok.place c.index.result.now c.index.ensures)
+    ap (λ p. Some p.1) (shown_at (λ p. (p.0.now, p.1)) c.self.inside.items.items c.in-Ok.place
+    c.index.result.now c.index.ensures)
     ∙ get_at_slot _ c.args.self.now c.self.view_is c.args.key.now c.in-Ok.place _ there
 
 pub returns-in-Err : goal.returns-in-Err

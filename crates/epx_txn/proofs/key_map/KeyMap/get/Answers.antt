@@ -5,5 +5,6 @@ use Rattle.epx_txn.proofs.key_map.KeyMap.get.Goals as goal
 
 pub returns : goal.returns
 returns g c =
-    c.copied.ensures ∙ c.get.ensures.value ∙ sym (get-found c.self.inside.map.entries c.args.key.now)
+    c.copied.ensures ∙ c.get.ensures.value ∙ sym
+    (get-found c.self.inside.map.entries c.args.key.now)
     ∙ ap (λ m. contents.get m c.args.key.now) c.self.view_is

@@ -5,5 +5,6 @@ use Rattle.epx_txn.proofs.key_map.KeyMap.insert.Goals as goal
 
 pub returns-clause-ok : goal.returns-clause-ok
 returns-clause-ok g c =
-    from_entries-inserted c.self.inside.map c.insert.new.self c.args.key c.args.value c.in_ok-insert.ensures.updates
+    from_entries-inserted c.self.inside.map c.insert.new.self c.args.key c.args.value
+    c.in_ok-insert.ensures.updates
     ∙ ap (λ m. contents.insert m c.args.key c.args.value) c.self.view_is

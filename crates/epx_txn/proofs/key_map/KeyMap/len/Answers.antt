@@ -7,6 +7,8 @@ use Rattle.epx_txn.proofs.key_map.KeyMap.len.Goals as goal
 pub returns : goal.returns
 returns g c =
     c.len.ensures.len
-    ∙ ap length (sym (entries-from_entries c.self.inside.map.entries (is_sorted-from_order c.self.inside.map.entries c.len.ensures.ordered)))
+    ∙ ap length
+    (sym (entries-from_entries c.self.inside.map.entries
+    (is_sorted-from_order c.self.inside.map.entries c.len.ensures.ordered)))
     ∙ sym (contents.len-entries (contents.from_entries c.self.inside.map.entries))
     ∙ ap contents.len c.self.view_is

@@ -5,5 +5,6 @@ use Rattle.epx_txn.proofs.key_map.KeyMap.remove.Goals as goal
 
 pub returns : goal.returns
 returns g c =
-    from_entries-removed c.self.inside.map c.remove.new.self c.args.key.now c.remove.ensures.updates
+    from_entries-removed c.self.inside.map c.remove.new.self c.args.key.now
+    c.remove.ensures.updates
     ∙ ap (λ m. contents.remove m c.args.key.now) c.self.view_is

@@ -5,5 +5,6 @@ use Rattle.epx_txn.proofs.key_map.KeyMap.set.Goals as goal
 
 pub returns-in-Some-clause-ok : goal.returns-in-Some-clause-ok
 returns-in-Some-clause-ok g c =
-    from_entries-inserted c.self.inside.map (c.get_mut.follows.lender c.args.value) c.args.key.now c.args.value ((c.get_mut.follows.holds c.args.value).3 (search rules))
+    from_entries-inserted c.self.inside.map (c.get_mut.follows.lender c.args.value) c.args.key.now
+    c.args.value ((c.get_mut.follows.holds c.args.value).3 (search rules))
     ∙ ap (λ m. contents.insert m c.args.key.now c.args.value) c.self.view_is
