@@ -58,7 +58,7 @@ fn a_good_line_among_bad_bytes(rt: HostRuntime) -> Result<(), Fail> {
         (",", ""),
         ("\u{a0}", ""),
     ] {
-        let line = format!(in rt.alloc(); "{before}{LEAST}{after}")?;
+        let line = format!(in rt.alloc(); "{before}{ONE_LINE}{after}")?;
         assert!(rt; run_is_right(&rt, line.as_bytes(), &[], bad_first_line(Why::NotJson))?);
     }
     Ok(())

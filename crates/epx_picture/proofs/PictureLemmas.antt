@@ -22,7 +22,7 @@ use Rattle.epx_types.proofs.graph.ReachingDecisionLemmas.{Contains-within_reach}
 use Rattle.epx_types.proofs.graph.WaitingLemmas.{Id-cases}
 use Rattle.epx_graph.specs.Graphs.{missing_ids}
 use Rattle.epx_graph.proofs.GraphExistenceLemmas.{graph_exists}
-use Rattle.epx_picture.specs.declared.node_boxes.NodeBox.{NodeBox}
+use Rattle.epx_picture.specs.declared.node_box.NodeBox.{NodeBox}
 use Rattle.epx_picture.specs.NodeBoxes.{IsCluster, IsBoxOf}
 use Rattle.epx_picture.specs.PictureText.{picture_text}
 use Rattle.epx_picture.specs.Pictures.{IsPicture}

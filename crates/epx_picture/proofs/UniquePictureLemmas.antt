@@ -10,7 +10,7 @@ use Rattle.epx_types.proofs.lists.MembershipLemmas.{Contains-head, Contains-cons
 use Rattle.epx_types.proofs.lists.MembershipLemmas.{Contains-from_map}
 use Rattle.epx_types.proofs.graph.ReachingLemmas.{IsLeader-unique, IsDepth-unique}
 use Rattle.epx_graph.proofs.GraphUniquenessLemmas.{same_ids}
-use Rattle.epx_picture.specs.declared.node_boxes.NodeBox.{NodeBox}
+use Rattle.epx_picture.specs.declared.node_box.NodeBox.{NodeBox}
 use Rattle.epx_picture.specs.NodeBoxes.{IsCluster, IsBoxOf}
 use Rattle.epx_picture.specs.PictureText.{picture_text}
 use Rattle.epx_picture.specs.PictureLaws.{PictureIsOne}

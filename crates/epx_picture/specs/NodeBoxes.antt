@@ -5,7 +5,7 @@ use Rattle.epx_types.specs.Components.{InOneComponent, IsLeader}
 use Rattle.epx_types.specs.Depth.{IsDepth}
 use Rattle.epx_types.specs.Instances.{Instance}
 use Rattle.epx_types.specs.Readiness.{IsReady}
-use Rattle.epx_picture.specs.declared.node_boxes.NodeBox.{NodeBox}
+use Rattle.epx_picture.specs.declared.node_box.NodeBox.{NodeBox}
 
 -- the cluster of an instance has the name of its component's leader; an instance that is alone in
 -- its component has no cluster

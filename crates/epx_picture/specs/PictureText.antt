@@ -4,7 +4,7 @@ use Rattle.std.specs.Prelude.{codes, decimal}
 use Rattle.epx_types.specs.declared.id.Id.{Id}
 use Rattle.epx_types.specs.Faults.{id_text}
 use Rattle.epx_types.specs.Instances.{Instance}
-use Rattle.epx_picture.specs.declared.node_boxes.NodeBox.{NodeBox}
+use Rattle.epx_picture.specs.declared.node_box.NodeBox.{NodeBox}
 
 abbrev pub head_text : List ℕ
 head_text = codes "digraph dependencies {\n  node [shape=box];\n"

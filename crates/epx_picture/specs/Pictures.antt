@@ -5,7 +5,7 @@ use Rattle.epx_types.specs.Ids.{IsRising}
 use Rattle.epx_types.specs.CommittedMap.{ids_of}
 use Rattle.epx_types.specs.Instances.{Instance}
 use Rattle.epx_graph.specs.GraphOf.{IsMissing}
-use Rattle.epx_picture.specs.declared.node_boxes.NodeBox.{NodeBox}
+use Rattle.epx_picture.specs.declared.node_box.NodeBox.{NodeBox}
 use Rattle.epx_picture.specs.NodeBoxes.{IsBoxOf}
 use Rattle.epx_picture.specs.PictureText.{picture_text}
 

@@ -4,12 +4,12 @@ ghost use Rattle.epx_types.specs.CommittedMap.{ids_of};
 ghost use Rattle.epx_graph.specs.GraphOf.{IsGraphOf};
 ghost use Rattle.epx_components.specs.NodeRanks.{IsNodeRank};
 ghost use Rattle.epx_picture.specs.inner.Clusters.{AreLeaderMarks, AreNodeRanks};
-ghost use Rattle.epx_picture.specs.declared.node_boxes.NodeBox.{NodeBox};
+ghost use Rattle.epx_picture.specs.declared.node_box.NodeBox.{NodeBox};
 ghost use Rattle.epx_picture.specs.NodeBoxes.{IsBoxOf};
 ghost use Rattle.epx_picture.specs.Pictures.{IsPicture};
 
 use crate::cluster::{cluster_of, mark_leaders};
-use crate::node_boxes::NodeBox;
+use crate::node_box::NodeBox;
 use crate::picture_writer::write_picture;
 use epx_components::{NodeRank, NodeRanks};
 use epx_graph::Graph;
@@ -31,7 +31,7 @@ fn box_of_node(
     requires leader_marks { (node_ranks : _) × AreNodeRanks graph.now node_ranks
         × AreLeaderMarks node_ranks (length graph.now.ids) leader_marks.now }
     ensures id { slice_get (ids_of merged.now) position ≡ Some result.id }
-    ensures node_boxes { IsBoxOf merged.now result }
+    ensures node_box { IsBoxOf merged.now result }
 {
     let entry = merged.entry_at(position);
     NodeBox {

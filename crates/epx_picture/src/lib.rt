@@ -4,8 +4,8 @@
 mod cluster;
 mod drawing;
 pub mod laws;
-mod node_boxes;
+mod node_box;
 mod picture_writer;
 
 pub use drawing::picture;
-pub use node_boxes::NodeBox;
+pub use node_box::NodeBox;

@@ -3,17 +3,17 @@ ghost use Rattle.std.specs.Prelude.{◌≡◌, ◌++◌, OnOk, IfOk, flat_map, s
 ghost use Rattle.epx_picture.specs.PictureText.{arrow_line, arrow_lines, box_line, missing_line};
 ghost use Rattle.epx_picture.specs.PictureText.{picture_text};
 
-use crate::node_boxes::NodeBox;
+use crate::node_box::NodeBox;
 use epx_merge::Merged;
 use epx_types::{Entry, Id, Memory};
 use std::alloc::{AllocError, Global};
 
-fn write_box(text: &mut String, node_boxes: NodeBox) -> Result<(), AllocError>
-    ensures { OnOk result (string_bytes text.new ≡ string_bytes text.old ++ box_line node_boxes) }
+fn write_box(text: &mut String, node_box: NodeBox) -> Result<(), AllocError>
+    ensures { OnOk result (string_bytes text.new ≡ string_bytes text.old ++ box_line node_box) }
 {
-    match node_boxes.cluster {
-        Some(leader) => write!(text, "  subgraph \"cluster {leader}\" {{ {drawn} }}\n"),
-        None => write!(text, "  {drawn}\n"),
+    match node_box.cluster {
+        Some(leader) => write!(text, "  subgraph \"cluster {leader}\" {{ {node_box} }}\n"),
+        None => write!(text, "  {node_box}\n"),
     }
 }
 

@@ -13,4 +13,4 @@ loop-position-preserved c =
     let n = c.loop-position.position in
     subst (AreBoxesOf m (n + 1)) (sym c.in_ok-push.ensures.items)
     (boxes_push m n c.loop-position.node_boxes.items c.box_of_node.result
-    c.loop-position.invariant c.box_of_node.ensures.id c.box_of_node.ensures.node_boxes)
+    c.loop-position.invariant c.box_of_node.ensures.id c.box_of_node.ensures.node_box)

@@ -1,8 +1,8 @@
 use Rattle.epx_picture.proofs.NodeBoxLemmas.{own_node, box_from_node}
 use Rattle.epx_picture.proofs.drawing.box_of_node.Goals as goal
 
-pub returns-clause-node_boxes : goal.returns-clause-node_boxes
-returns-clause-node_boxes c =
+pub returns-clause-node_box : goal.returns-clause-node_box
+returns-clause-node_box c =
     let m = c.args.merged.now in
     let g = c.args.graph.now in
     let is = c.requires.graph in

@@ -28,7 +28,7 @@ impl fmt::Display for NodeBox {
     ghost use Rattle.std.specs.Prelude.{Some};
     ghost use Rattle.epx_picture.specs.PictureText.{box_text};
 
-    ghost output = { λ node_boxes. Some (box_text node_boxes) };
+    ghost output = { λ node_box. Some (box_text node_box) };
 
     fn fmt<W: fmt::Write>(&self, f: &mut fmt::Formatter<W>) -> fmt::Result {
         let NodeBox { id, seq, depth, .. } = *self;

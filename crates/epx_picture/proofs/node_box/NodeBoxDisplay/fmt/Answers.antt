@@ -1,5 +1,5 @@
 use Rattle.std.proofs.Common.{sym}
-use Rattle.epx_picture.proofs.node_boxes.DrawnDisplay.fmt.Goals as goal
+use Rattle.epx_picture.proofs.node_box.NodeBoxDisplay.fmt.Goals as goal
 
 pub returns-clause-writes : goal.returns-clause-writes
 returns-clause-writes g c = rw (sym c.style_of-style.ensures) c.write.ensures.writes
