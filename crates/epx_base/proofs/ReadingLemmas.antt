@@ -8,7 +8,7 @@ use Rattle.epx_base.specs.Bases.{after_line, reading}
 pub reading-more : (s t : Seen) (n : ℕ) (rest l more : List ℕ) → lines_of rest ≡ l ∷ lines_of more
     → after_line s l ≡ some_if true t → reading s n (lines_of rest)
     ≡ reading t (n + 1) (lines_of more)
-reading-more s t n rest l more cut stands = rw (cut, stands) refl
+reading-more s t n rest l more cut is_allowed = rw (cut, is_allowed) refl
 
 -- the next line is not allowed at its position
 pub reading-stop : (s t : Seen) (n : ℕ) (rest l more : List ℕ) → lines_of rest ≡ l ∷ lines_of more

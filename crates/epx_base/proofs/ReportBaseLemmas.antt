@@ -43,7 +43,7 @@ ReadsTo s ls end = (n : ℕ) → read_base_lines s n ls ≡ Ok end
 
 reads_on : (s t end : Seen) (l : BaseLine) (ls : List BaseLine) → after s l ≡ Some t
     → ReadsTo t ls end → ReadsTo s (l ∷ ls) end
-reads_on s t end l ls stands more n = rw stands (more (n + 1))
+reads_on s t end l ls is_allowed more n = rw is_allowed (more (n + 1))
 
 tied : (n : ℕ) → (n == n) ≡ true
 tied n = grind (arith, nat_tests)

@@ -32,7 +32,7 @@ nothing_seen = record { counts = None; done = []; replies = 0; waiting = []; sto
 
 -- the next state, if the line is allowed at its position
 abbrev pub some_if : {S : Type 0} → Bool → S → Option S
-some_if stands next = if stands then Some next else None
+some_if is_allowed next = if is_allowed then Some next else None
 
 -- ---- rising lists
 

@@ -71,7 +71,7 @@ impl Progress {
     /// Takes one more done line. False if it is not allowed at its position. The methods below do
     /// the same for the other kinds of lines.
     fn take_done(&mut self, id: Id) -> Result<bool, Memory>
-        ensures { IfOk result (λ stands. after_done self.old id ≡ some_if stands self.new) }
+        ensures { IfOk result (λ is_allowed. after_done self.old id ≡ some_if is_allowed self.new) }
     {
         if self.replies != 0 || !self.waiting.is_empty() || !self.stored.is_empty() {
             return Ok(false);
@@ -84,7 +84,8 @@ impl Progress {
     }
 
     fn take_reply(&mut self, counts: Counts, id: Id) -> Result<bool, Memory>
-        ensures { IfOk result (λ stands. after_reply counts self.old id ≡ some_if stands self.new) }
+        ensures { IfOk result (λ is_allowed. after_reply counts self.old id
+            ≡ some_if is_allowed self.new) }
     {
         if self.replies >= counts.executed || !self.done.insert(id)? {
             return Ok(false);
@@ -94,8 +95,8 @@ impl Progress {
     }
 
     fn take_waiting(&mut self, counts: Counts, id: Id) -> Result<bool, Memory>
-        ensures { IfOk result (λ stands. after_waiting counts self.old id
-            ≡ some_if stands self.new) }
+        ensures { IfOk result (λ is_allowed. after_waiting counts self.old id
+            ≡ some_if is_allowed self.new) }
     {
         if self.replies != counts.executed || self.waiting.len() as u64 >= counts.waiting {
             return Ok(false);
@@ -108,8 +109,8 @@ impl Progress {
     }
 
     fn take_store(&mut self, counts: Counts, key: Key, value: i64) -> Result<bool, Memory>
-        ensures { IfOk result (λ stands. after_store counts self.old key value
-            ≡ some_if stands self.new) }
+        ensures { IfOk result (λ is_allowed. after_store counts self.old key value
+            ≡ some_if is_allowed self.new) }
     {
         if self.replies != counts.executed || self.waiting.len() as u64 != counts.waiting {
             return Ok(false);
@@ -136,7 +137,7 @@ impl Progress {
     /// Takes one more line that was read. False if it is not allowed at its position.
     #[tactic(auto, unfolding(crate::specs::Seen::after))]
     pub(crate) fn take(&mut self, line: BaseLine) -> Result<bool, Memory>
-        ensures { IfOk result (λ stands. after self.old line ≡ some_if stands self.new) }
+        ensures { IfOk result (λ is_allowed. after self.old line ≡ some_if is_allowed self.new) }
     {
         let Some(counts) = self.counts else {
             return Ok(self.take_first(line));
@@ -157,7 +158,8 @@ impl Progress {
         reader: &mut BaseLineReader,
         bytes: &[u8],
     ) -> Result<bool, Memory>
-        ensures { IfOk result (λ stands. after_line self.old bytes.now ≡ some_if stands self.new) }
+        ensures { IfOk result (λ is_allowed. after_line self.old bytes.now
+            ≡ some_if is_allowed self.new) }
     {
         match reader.read(alloc, bytes)? {
             Some(line) => self.take(line),

@@ -27,7 +27,8 @@ pub record IsAllDrawn (pieces workers answer : ℕ) (h : SeatState) : Type 0 whe
   pub length : answer ≡ length h.drawn
   pub each_once : (x : ℕ) → occurrences x h.drawn ≡ once_below x answer
   pub all : h.ended ≡ true → answer ≡ pieces
-  pub deal : (word : ℕ) × (answer ≡ min word pieces) × ClaimState pieces workers word (h ∷ [])
+  pub claim_state : (word : ℕ) × (answer ≡ min word pieces)
+      × ClaimState pieces workers word (h ∷ [])
 
 -- the element of a list of one
 at_zero : (xs : List ℕ) (x : ℕ) → get_elem? xs 0 ≡ some x → get_or xs 0 0 ≡ x
@@ -48,7 +49,7 @@ drawn_at_end terms id word v h ws xs is every found final =
     let with_rest : ClaimState terms.pieces terms.workers word (h ∷ hs) =
     subst (λ (p : ℕ × List SeatState). ClaimState terms.pieces terms.workers p.0 (p.1 ++ hs))
     (λ i. (c i, is i)) (state_by_view terms (get_or s.words 0 0) s.views id v final.1.1
-    r.deal) in
+    r.claim_state) in
     let shares = with_rest.all_shares in
     let full = with_rest.no_empty_share in
     let alone : hs ≡ [] = no_seat_states hs (omega arith) (omega arith) in
@@ -65,7 +66,7 @@ drawn_at_end terms id word v h ws xs is every found final =
       each_once = λ x. let e = d.each_once x in omega arith;
       all = λ ended. let one : one_if h.ended ≡ 1 = ap one_if ended in
           let g = d.all_pieces_drawn (omega arith) in omega arith;
-      deal = (word, refl, d);
+      claim_state = (word, refl, d);
     }
 
 -- the same, with the number of pieces and the answer under other names

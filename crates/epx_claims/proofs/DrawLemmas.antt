@@ -28,7 +28,7 @@ draw_allowed terms few_pieces few_workers slots id me h is not_ended s r wide at
     let same : v.terms ≡ terms = terms_are terms v h [] is (r.terms_known id v at) in
     let before : ClaimState n terms.workers c (h ∷ hs) =
     subst (λ (z : List SeatState). ClaimState n terms.workers c (z ++ hs)) is
-    (state_by_view terms c s.views id v at r.deal) in
+    (state_by_view terms c s.views id v at r.claim_state) in
     let fits = word_fits n terms.workers c (h ∷ hs) before in
     let whole : (c + 1) % 2 ^ 64 ≡ c + 1 = omega arith in
     let long : drawn_in_all v.seat_states ≡ drawn_in_all (h ∷ []) = ap drawn_in_all is in

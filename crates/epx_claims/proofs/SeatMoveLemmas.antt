@@ -52,7 +52,7 @@ module _ (terms : Terms) where
       ⊎_elim (λ none. inl (ap (drop 1) none)) (λ same. inr same) knows in
       record {
         one_word = r.one_word;
-        deal = same_sums _ _ _ _ _ same r.deal;
+        claim_state = same_sums _ _ _ _ _ same r.claim_state;
         lengths = sym (same (λ h. length h.drawn)) ∙ r.lengths;
         terms_known = λ j u found. ⊎_elim
             (terms_known_set terms s.views id (first_view v) r.terms_known first j u)
@@ -69,7 +69,7 @@ module _ (terms : Terms) where
       inr (terms_are terms v h [] is (r.terms_known id v at)) in
       record {
         one_word = r.one_word;
-        deal = same_sums _ _ _ _ _ same r.deal;
+        claim_state = same_sums _ _ _ _ _ same r.claim_state;
         lengths = sym (same (λ h. length h.drawn)) ∙ r.lengths;
         terms_known = terms_known_set terms (set s.views id (joined_view v w)) other spent_view
             (terms_known_set terms s.views id (joined_view v w) r.terms_known knows) (inl refl);

@@ -52,17 +52,17 @@ module _ (terms : Terms) where
       → drawn_in_all w.seat_states + min (get_or s.words 0 0) terms.pieces
       ≡ drawn_in_all v.seat_states + min next terms.pieces
       → HasClaimState terms (stepped s 0 next id carried w keeps)
-  state_after s r id v w next carried at knows deal longer =
+  state_after s r id v w next carried at knows claim_state longer =
       let one = r.one_word in
       let found : get_or (set s.words 0 next) 0 0 ≡ next =
       get_or-set_same s.words 0 next 0 (omega arith) in
       let placed = same_sums _ _ _ (w.seat_states ++ others s.views id)
       (all_seat_states (set s.views id w))
       (λ f. total-append f w.seat_states (others s.views id)
-      ∙ sym (placed_sum f s.views id v w at)) deal in
+      ∙ sym (placed_sum f s.views id v w at)) claim_state in
       record {
         one_word = length-set s.words 0 next ∙ r.one_word;
-        deal = rw found placed;
+        claim_state = rw found placed;
         lengths =
             let a = picked_sum (λ h. length h.drawn) s.views id v at in
             let b = placed_sum (λ h. length h.drawn) s.views id v w at in
@@ -81,7 +81,7 @@ module _ (terms : Terms) where
       let same : v.terms ≡ terms = terms_are v h [] is (r.terms_known id v at) in
       let before : ClaimState terms.pieces terms.workers c (h ∷ others s.views id) =
       subst (λ (hs : List SeatState). ClaimState terms.pieces terms.workers c
-      (hs ++ others s.views id)) is (state_by_view c s.views id v at r.deal) in
+      (hs ++ others s.views id)) is (state_by_view c s.views id v at r.claim_state) in
       let after = split_keeps _ _ _ h (others s.views id) not_ended enough before in
       let w : View = view terms (split_in_two (h ∷ [])) in
       let lengths : drawn_in_all w.seat_states + min c terms.pieces
@@ -111,7 +111,7 @@ module _ (terms : Terms) where
       let same : v.terms ≡ terms = terms_are v h (k ∷ []) is (r.terms_known id v at) in
       let before : ClaimState terms.pieces terms.workers c (h ∷ k ∷ others s.views id) =
       subst (λ (hs : List SeatState). ClaimState terms.pieces terms.workers c
-      (hs ++ others s.views id)) is (state_by_view c s.views id v at r.deal) in
+      (hs ++ others s.views id)) is (state_by_view c s.views id v at r.claim_state) in
       let after = join_keeps _ _ _ h k (others s.views id) before in
       let w : View = view terms (join_two (h ∷ k ∷ [])) in
       let lengths : drawn_in_all w.seat_states + min c terms.pieces

@@ -19,8 +19,8 @@ pub record ClaimState (pieces workers word : ℕ) (seat_states : List SeatState)
 
 -- One step: the word and some seats change, while all other seats stay. The state is consistent
 -- before the step and after it
-pub record StateStep (pieces workers word next : ℕ) (mine mine_next : List SeatState) : Type
-    0 where
+pub record StateStep (pieces workers word next : ℕ)
+    (mine mine_next : List SeatState) : Type 0 where
   pub others : List SeatState
   pub before : ClaimState pieces workers word (mine ++ others)
   pub after : ClaimState pieces workers next (mine_next ++ others)

@@ -47,7 +47,7 @@ impl Claims {
         requires workers { (1 ≤ workers) × (workers ≤ 64) }
         ensures terms { IfOk result (λ c. (c.0.pieces ≡ pieces) × (c.0.workers ≡ workers)) }
         ensures seat { IfOk result (λ c. c.1 ≡ fresh_seat c.0 workers) }
-        ensures deal { IfOk result (λ c. IsClaimState c.0 0 (c.1 ∷ [])) }
+        ensures claim_state { IfOk result (λ c. IsClaimState c.0 0 (c.1 ∷ [])) }
     {
         let terms = Terms { pieces, workers };
         let (table, seat) = Table::of_words(alloc, &[0], &terms)?;
@@ -98,7 +98,7 @@ impl Claims {
         requires share { 2 ≤ seat.old.share }
         ensures kept { seat.new ≡ record seat.old { share = seat.old.share - seat.old.share / 2 } }
         ensures given { result ≡ fresh_seat self.now (seat.old.share / 2) }
-        ensures deal { (word : ℕ) × ClaimStep self.now word word (seat.old ∷ [])
+        ensures claim_state { (word : ℕ) × ClaimStep self.now word word (seat.old ∷ [])
             (seat.new ∷ result ∷ []) }
     {
         let half = seat.share / 2;
@@ -125,7 +125,7 @@ impl Claims {
         } }
         ensures apart { (x : ℕ) → occurrences x seat.old.drawn + occurrences x other.drawn
             ≤ once_below x self.now.pieces }
-        ensures deal { (word : ℕ) × ClaimStep self.now word word (seat.old ∷ other ∷ [])
+        ensures claim_state { (word : ℕ) × ClaimStep self.now word word (seat.old ∷ other ∷ [])
             (seat.new ∷ []) }
     {
         let ClaimSeat {
@@ -148,7 +148,7 @@ impl Claims {
         ensures length { result ≡ length seat.drawn }
         ensures each_once { (x : ℕ) → occurrences x seat.drawn ≡ once_below x result }
         ensures all { seat.ended ≡ true → result ≡ self.pieces }
-        ensures deal { (word : ℕ) × (result ≡ min word self.pieces)
+        ensures claim_state { (word : ℕ) × (result ≡ min word self.pieces)
             × IsClaimState self word (seat ∷ []) }
     {
         let Claims { table, pieces } = self;

@@ -24,12 +24,12 @@ pub closes_group : (place new : List Visit) (opened : List ℕ) (s c : ℕ) → 
     → ((k : ℕ) → ((i : ℕ) → i < length (drop s opened) → get_or (drop s opened) i 0 ≢ k)
     → visit_of new k ≡ visit_of place k) → (k : ℕ) → Closes s c (visit_of place k) (visit_of new k)
 closes_group place new opened s c r closed others k =
-    let stands : (i : ℕ) → i < length (drop s opened)
+    let is_open_at : (i : ℕ) → i < length (drop s opened)
     → visit_of place (get_or (drop s opened) i 0) ≡ Open (s + i) = λ i l.
-    rw (get_or-drop s opened i 0) (r.stands (s + i) (omega (arith, length-drop s opened))) in
+    rw (get_or-drop s opened i 0) (r.is_open_at (s + i) (omega (arith, length-drop s opened))) in
     let kept : ((q : ℕ) → s ≤ q → visit_of place k ≢ Open q)
     → visit_of new k ≡ visit_of place k = λ ne.
-    others k (λ i l e. ne (s + i) (omega arith) (ap (visit_of place) (sym e) ∙ stands i l)) in
+    others k (λ i l e. ne (s + i) (omega arith) (ap (visit_of place) (sym e) ∙ is_open_at i l)) in
     Closes-by s c _ _
     (λ e. kept (λ q _ f. let wrong : Unseen ≡ Open q = sym e ∙ f in cc) ∙ e)
     (λ p e. ⊎_elim

@@ -51,7 +51,7 @@ finish_last_group edges n seen s place start w at in' last off =
       get_or-drop start s.opened (i - length s.order) 0,
     )
     (is_closed start s.count _ _ _ (at _)
-    (w.row.stands (start + (i - length s.order))
+    (w.row.is_open_at (start + (i - length s.order))
     (omega (arith, length-append s.order group, length-drop start s.opened))) (omega arith)) in
     record {
       counted = counted;
@@ -132,9 +132,9 @@ finish_keeps edges n seen s new w f off =
       looks = w.looks;
       seen_below = λ k l e. w.seen_below k l (was_unseen start s.count _ _ (at k) e);
       row = record {
-        stands = λ p l. let l' : p < start = omega arith in
+        is_open_at = λ p l. let l' : p < start = omega arith in
             rw (get_or-take start s.opened p 0)
-            (stays_open start s.count _ _ p (at _) (w.row.stands p (omega arith)) l');
+            (stays_open start s.count _ _ p (at _) (w.row.is_open_at p (omega arith)) l');
         placed = λ k p e. let b = before k p e in
             (omega (arith, b.1), get_or-take start s.opened p 0 b.1 ∙ (w.row.placed k p b.0).1);
       };

@@ -22,10 +22,11 @@ enter_row place opened k r l un =
     let m = length opened in
     let new = set place k (Open m) in
     record {
-      stands = push_cases opened k (λ p j. visit_of new j ≡ Open p)
+      is_open_at = push_cases opened k (λ p j. visit_of new j ≡ Open p)
           (λ p h. get_or-set_other place k _ _ Unseen
-          (λ e. let wrong : Open p ≡ Unseen = sym (r.stands p h) ∙ (ap (visit_of place) e ∙ un) in
-          cc) ∙ r.stands p h)
+          (λ e. let wrong : Open p ≡ Unseen =
+          sym (r.is_open_at p h) ∙ (ap (visit_of place) e ∙ un) in
+          cc) ∙ r.is_open_at p h)
           (get_or-set_same place k (Open m) Unseen l);
       placed = λ j p h. ⊎_elim
           (λ (e : (j ≡ k) × (visit_of new j ≡ Open m)).

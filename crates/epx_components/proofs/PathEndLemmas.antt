@@ -20,7 +20,7 @@ rising_last xs n h i l = ⊎_elim
 pub top_open : (edges : ℕ → List ℕ) (n seen : ℕ) (s : SearchState) (k : ℕ)
     → IsSearch edges n seen s → (t : IsTopNode s k) → visit_of s.place k ≡ Open t.place
 top_open edges n seen s k w t =
-    ap (visit_of s.place) (sym t.node) ∙ w.row.stands t.place
+    ap (visit_of s.place) (sym t.node) ∙ w.row.is_open_at t.place
     (omega (arith, t.some, t.ends, w.path.below (length s.path - 1) (omega (arith, t.some))))
 
 pub open_below : (edges : ℕ → List ℕ) (n seen : ℕ) (s : SearchState) (k p : ℕ)

@@ -43,14 +43,14 @@ module _ (m : List Instance) (g : DependencyGraph) (is : IsGraphOf m g) where
       → slice_get g.ids k ≡ Some e.id → Contains m e → k < g.committed → IsNodeRank g k s
       → ¬ IsTrue s.reaches_missing → slice_get g.ids s.leader ≡ Some leader
       → IsRanked m (record { id = e.id; seq = e.seq; leader = leader; depth = s.depth })
-  rank_from_node k e s leader node in_m l stands complete to =
+  rank_from_node k e s leader node in_m l node_rank complete to =
       let ready = ready_from_node m g is k e.id node l
-      (λ missing. complete (stands.missing.1 missing)) in
+      (λ missing. complete (node_rank.missing.1 missing)) in
       record {
         ready = ready;
         seq = λ d in_d same. ap (λ (i : Instance). i.seq) (instance_is_one d e in_d in_m same);
-        leader = leader_from_node m g is k s.leader e.id leader node to stands.leader;
-        depth = depth_from_node m g is k e.id s.depth node stands.depth;
+        leader = leader_from_node m g is k s.leader e.id leader node to node_rank.leader;
+        depth = depth_from_node m g is k e.id s.depth node node_rank.depth;
       }
 
 -- the same for what is left of a map, with the entry of the whole map
@@ -60,11 +60,11 @@ pub rank_left : (done : List Id) (m : List Instance) (g : DependencyGraph)
     → ¬ IsTrue s.reaches_missing → slice_get g.ids s.leader ≡ Some leader
     → IsRanked (remaining done m)
     (record { id = x; seq = e.seq; leader = leader; depth = s.depth })
-rank_left done m g is k x e s leader at in_m same l stands complete to =
+rank_left done m g is k x e s leader at in_m same l node_rank complete to =
     let committed = (node_committed (remaining done m) g is k x at).0 l in
     let left : ¬ Contains done e.id = subst (λ (y : Id). ¬ Contains done y) (sym same)
     ((Contains-remaining_iff done m x).0 committed).1 in
     let rank = rank_from_node (remaining done m) g is k (without_deps done e) s leader
-    (at ∙ ap Some (sym same)) (Contains-left done m e in_m left) l stands complete to in
+    (at ∙ ap Some (sym same)) (Contains-left done m e in_m left) l node_rank complete to in
     subst (λ (y : Id). IsRanked (remaining done m)
     (record { id = y; seq = e.seq; leader = leader; depth = s.depth })) same rank

@@ -194,17 +194,17 @@ module _ {E : Type 0} (holds : List Placed → E → Type 0) (all : List Meaning
     pub so_far_fault : (f : Fault) → IsReadFault (bad_lines_among h.pending) f
         → IsReadFault (bad_lines_among all) f
     so_far_fault f bad =
-        let tells = SameOutcome-kept h.gone [] kept h.keeps in
+        let outcome = SameOutcome-kept h.gone [] kept h.keeps in
         let here = fault_after h.read h.pending lines kept f h.clean bad
         (sym (append_assoc h.read h.pending lines)) in
-        fault_after [] h.gone walk all f refl (tells.fault f here) (sym h.whole)
+        fault_after [] h.gone walk all f refl (outcome.fault f here) (sym h.whole)
 
     -- no line is left, and the last lines that were read are noted
     pub so_far_over : (ledger' : LedgerView) → lines ≡ [] → bad_lines_among h.pending ≡ []
         → NotesLines (placed_among h.pending) ledger ledger'
         → (bad_lines_among all ≡ []) × IsLedgerOf (placed_among all) ledger'
     so_far_over ledger' none clean noted =
-        let tells = SameOutcome-kept h.gone [] kept h.keeps in
+        let outcome = SameOutcome-kept h.gone [] kept h.keeps in
         let same : kept ≡ h.read ++ h.pending =
         ap (λ l. (h.read ++ h.pending) ++ l) none ∙ append-nil (h.read ++ h.pending) in
         let every : all ≡ h.gone = h.whole ∙ ap (λ l. h.gone ++ l) (h.last none)
@@ -214,8 +214,8 @@ module _ {E : Type 0} (holds : List Placed → E → Type 0) (all : List Meaning
         ∙ ap (λ l. l ++ bad_lines_among h.pending) h.clean ∙ clean in
         let placed : placed_among kept ≡ placed_among h.read ++ placed_among h.pending =
         ap placed_among same ∙ placed_among-append h.read h.pending in (
-          ap bad_lines_among every ∙ tells.clean no_bad_lines,
+          ap bad_lines_among every ∙ outcome.clean no_bad_lines,
           subst (λ l. IsLedgerOf (placed_among l) ledger') (sym every)
-              (tells.ledger ledger' (subst (λ l. IsLedgerOf l ledger') (sym placed)
+              (outcome.ledger ledger' (subst (λ l. IsLedgerOf l ledger') (sym placed)
               (noted (placed_among h.read) h.noted))),
         )

@@ -15,17 +15,17 @@ use Rattle.epx_types.specs.declared.id.Id.{Id}
 use Rattle.epx_types.specs.contracts.id.IdPartialEq.TheImpl as id_eq
 
 -- the cases of a test that decides a fact
-tells : {P : Type 0} (r : Bool) → Decides r P → ((r ≡ true) × P) ⊎ ((r ≡ false) × ¬ P)
-tells true d = inl (refl, d.0 refl)
-tells false d = inr (refl, not_from_Decides false d refl)
+decided : {P : Type 0} (r : Bool) → Decides r P → ((r ≡ true) × P) ⊎ ((r ≡ false) × ¬ P)
+decided true d = inl (refl, d.0 refl)
+decided false d = inr (refl, not_from_Decides false d refl)
 
 keys_decide : (k j : List ℕ) → ((is_eq (slice_cmp nat_cmp k j) ≡ true) × (k ≡ j))
     ⊎ ((is_eq (slice_cmp nat_cmp k j) ≡ false) × (k ≢ j))
-keys_decide k j = tells (is_eq (slice_cmp nat_cmp k j))
+keys_decide k j = decided (is_eq (slice_cmp nat_cmp k j))
     (Decides-at (is_eq (slice_cmp nat_cmp k j)) _ (is_eq-slice_cmp k j) (bytes_eq-Decides k j))
 
 numbers_decide : (m n : ℤ) → ((int_eq m n ≡ true) × (m ≡ n)) ⊎ ((int_eq m n ≡ false) × (m ≢ n))
-numbers_decide m n = tells (int_eq m n) (Decides-int_eq m n)
+numbers_decide m n = decided (int_eq m n) (Decides-int_eq m n)
 
 op_true : (a b : Op) → op_eq.eq-value.it a b ≡ true → a ≡ b
 op_true a b h = grind (arith, keys_decide, numbers_decide)
@@ -47,7 +47,7 @@ ids_decide a b = (λ h. grind (arith, nat_tests), λ e. grind (arith, nat_tests)
 -- ---- the equality of two instances is decidable
 
 by_test : {X : Type 0} (r : Bool) (x y : X) → Decides r (x ≡ y) → (x ≡ y) ⊎ (x ≢ y)
-by_test r x y d = elim (tells r d) [ inl holds ↦ inl holds.1 | inr fails ↦ inr fails.1 ]
+by_test r x y d = elim (decided r d) [ inl holds ↦ inl holds.1 | inr fails ↦ inr fails.1 ]
 
 list_cases : {X : Type 0} → ((x y : X) → (x ≡ y) ⊎ (x ≢ y)) → (xs ys : List X)
     → (xs ≡ ys) ⊎ (xs ≢ ys)

@@ -98,10 +98,10 @@ pub known_line : (lines : List Placed) (names after : List Id) (x y : Id) (place
     → names ≡ map (λ p. p.instance.id) lines → not (list_any (same_id x) names) ≡ false
     → after ≡ insert_key same_id names x → slice_get after place ≡ Some y → same_id x y ≡ true
     → (first : Placed) × (slice_get (with_ids lines) place ≡ Some (x, first))
-known_line lines names after x y place stand old same_after at same =
+known_line lines names after x y place names_are old same_after at same =
     let p = slice_get-from_map (λ (q : Placed). q.instance.id) lines place y
     (sym (ap (λ (l : List Id). slice_get l place)
-    (same_after ∙ same_names x names old ∙ stand)) ∙ at) in
+    (same_after ∙ same_names x names old ∙ names_are)) ∙ at) in
     let id : p.0.instance.id ≡ x = p.2 ∙ sym ((ids_decide x y).0 same) in (
       p.0,
       slice_get-map (λ (q : Placed). (q.instance.id, q)) lines place p.0 p.1
@@ -135,7 +135,7 @@ module _ (lines : List Placed) (disagreements : List (Id × Disagreement)) (line
       → names ≡ map (λ p. p.instance.id) lines → not (list_any (same_id x) names) ≡ true
       → after ≡ lines ++ line ∷ [] → NotesLines (line ∷ []) noted
       (record { firsts = with_ids after; disagreements = disagreements })
-  noted_first after names stand new is =
+  noted_first after names names_are new is =
       let end : with_ids after ≡ with_ids lines ++ (line.instance.id, line) ∷ [] =
       ap with_ids is ∙ map-append (λ (p : Placed). (p.instance.id, p)) lines (line ∷ []) in
       let none = unseen x names (let fresh : list_any (same_id x) names ≡ false =
@@ -144,7 +144,7 @@ module _ (lines : List Placed) (disagreements : List (Id × Disagreement)) (line
       (record { firsts = firsts; disagreements = disagreements })) (sym end)
       (NotesLines-new noted line
       (subst₂ (λ (names : List Id) (y : Id). ¬ Contains names y)
-      (stand ∙ sym (names_under lines)) named none))
+      (names_are ∙ sym (names_under lines)) named none))
 
   module _ (first : Placed) (known : Contains (with_ids lines) (line.instance.id, first)) where
     -- a line equal to the first line of its instance

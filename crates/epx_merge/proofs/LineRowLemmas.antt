@@ -148,11 +148,11 @@ same_flips : (x y : Id) → same_id x y ≡ same_id y x
 same_flips x y = grind (arith, nat_tests)
 
 module _ (lines : List Placed) (names : List Id) (rows : List Row)
-    (stand : names ≡ map (λ p. p.instance.id) lines)
+    (names_are : names ≡ map (λ p. p.instance.id) lines)
     (moved : IsPermutation (rows_of_ids 0 names) rows) where
   under_moved : IsPermutation (with_ids lines) (under_rows lines rows)
   under_moved =
-      let start = ap (λ (l : List Id). under_rows lines (rows_of_ids 0 l)) stand
+      let start = ap (λ (l : List Id). under_rows lines (rows_of_ids 0 l)) names_are
       ∙ in_order [] lines in
       subst (λ (l : List (Id × Placed)). IsPermutation l (under_rows lines rows)) start
       (IsPermutation-map (under_row lines) (rows_of_ids 0 names) rows moved)
@@ -160,7 +160,7 @@ module _ (lines : List Placed) (names : List Id) (rows : List Row)
   named_moved : (r : Row) → Contains rows r → NamesItsLine lines r
   named_moved r h =
       names_there [] lines r
-      (subst (λ (l : List Id). Contains (rows_of_ids 0 l) r) stand
+      (subst (λ (l : List Id). Contains (rows_of_ids 0 l) r) names_are
       (Contains-permutation rows (rows_of_ids 0 names) r
       (IsPermutation-sym (rows_of_ids 0 names) rows moved) h))
 

@@ -80,8 +80,8 @@ module _ (m : List Instance) (rising : IsRising (ids_of m)) (x : Id)
   not_found (Some e) found =
       let has = (instance_of_iff m rising x e).0 found in
       let at = slice_get-from_Contains m e has.0 in
-      let stands = position_of-found m rising x at.0 e at.1 has.1 in
-      absurd (cc (none, stands))
+      let position = position_of-found m rising x at.0 e at.1 has.1 in
+      absurd (cc (none, position))
 
   pub instance_nowhere : None ≡ instance_of m x
   instance_nowhere = not_found (instance_of m x) refl

@@ -1,4 +1,4 @@
--- The kept lines have the first bad line and the ledger of all lines.
+-- The lines that are not redundant have the first bad line and the ledger of all lines.
 use Rattle.std.proofs.Common.{◌≡◌, ◌≢◌, inl, inr, ◌≤◌, ◌+◌, List, [], ◌∷◌, ◌++◌, length, Contains}
 use Rattle.std.proofs.Common.{Result, Ok, Err, refl, sym, ap, subst, ◌∙◌, append_assoc, append-nil}
 use Rattle.std.proofs.Common.{length-append, arith}
@@ -117,7 +117,7 @@ module _ (a b : List Placed) (e q : Placed) (has : Contains a e) (same : e.insta
         ∙ other.2;
   }
 
--- ---- what the kept lines say of all lines
+-- ---- what the lines that are not redundant say of all lines
 
 -- some lines have the first bad line and the ledger of all lines
 pub record SameOutcome (some all : List MeaningAt) : Type 0 where

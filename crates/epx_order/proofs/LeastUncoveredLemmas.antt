@@ -42,8 +42,8 @@ module _ (m : List Instance) where
   of_name : (P : Instance → Type 0) → ((d : Instance) → P d ⊎ (¬ P d)) → (x : Id)
       → ((d : Instance) × Contains m d × (d.id ≡ x) × P d)
       ⊎ (¬ ((d : Instance) × Contains m d × (d.id ≡ x) × P d))
-  of_name P tell x =
-      elim (some_or_none (λ d. (d.id ≡ x) × P d) (λ d. both_cases (Id-cases d.id x) (tell d)) m) [
+  of_name P decide x =
+      elim (some_or_none (λ d. (d.id ≡ x) × P d) (λ d. both_cases (Id-cases d.id x) (decide d)) m) [
         | inl found ↦ inl (found.0, found.1, found.2.0, found.2.1)
         | inr none ↦ inr (λ h. none h.0 h.1 (h.2, h.3))
       ]

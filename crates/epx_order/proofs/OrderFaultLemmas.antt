@@ -48,7 +48,7 @@ decided_as (inr none) there back = inr (λ b. none (back b))
 
 element_cases : {X : Type 0} (P : X → Type 0) → ((x : X) → Decided (P x)) → (xs : List X)
     → Decided ((x : X) × Contains xs x × P x)
-element_cases P tell xs = elim (some_or_none P tell xs)
+element_cases P decide xs = elim (some_or_none P decide xs)
     [ inl found ↦ inl found | inr none ↦ inr (λ h. none h.0 h.1 h.2) ]
 
 -- the least number below n that has the fact, or none has it
@@ -56,11 +56,11 @@ abbrev LeastOrNone : (ℕ → Type 0) → ℕ → Type 0
 LeastOrNone P n = ((k : ℕ) × (k < n) × P k × ((j : ℕ) → j < k → ¬ P j)) ⊎ ((j : ℕ) → j < n → ¬ P j)
 
 least_place : (P : ℕ → Type 0) → ((k : ℕ) → Decided (P k)) → (n : ℕ) → LeastOrNone P n
-least_place P tell zero = inr (λ j l. absurd (omega (arith, l)))
-least_place P tell (suc n) =
-    elim (least_place P tell n) [
+least_place P decide zero = inr (λ j l. absurd (omega (arith, l)))
+least_place P decide (suc n) =
+    elim (least_place P decide n) [
       | inl least ↦ inl (least.0, omega (arith, least.1), least.2, least.3)
-      | inr none ↦ elim (tell n) [
+      | inr none ↦ elim (decide n) [
         | inl here ↦ inl (n, omega arith, here, none)
         | inr not_here ↦ inr
             (λ j l p. elim (cases_lt j n) [
@@ -76,17 +76,17 @@ module _ (ids : List Id) where
   HasAt P k = (x : Id) × (slice_get ids k ≡ Some x) × P x
 
   at_cases : (P : Id → Type 0) → ((x : Id) → Decided (P x)) → (k : ℕ) → Decided (HasAt P k)
-  at_cases P tell k = by (slice_get ids k) refl where
+  at_cases P decide k = by (slice_get ids k) refl where
     by : (o : Option Id) → slice_get ids k ≡ o → Decided (HasAt P k)
     by None e = inr (λ h. let at = h.1 in cc (e, at))
-    by (Some x) e = decided_as (tell x) (λ p. (x, e, p))
+    by (Some x) e = decided_as (decide x) (λ p. (x, e, p))
         (λ h. let at = h.1 in let same : h.0 ≡ x = cc (e, at) in subst P same h.2)
 
   -- so does the Id at some place for which R holds
   place_cases : (R : ℕ → Type 0) (P : Id → Type 0) → ((k : ℕ) → Decided (R k))
       → ((x : Id) → Decided (P x)) → Decided ((k : ℕ) × R k × HasAt P k)
-  place_cases R P among tell =
-      elim (least_place (λ k. R k × HasAt P k) (λ k. both_cases (among k) (at_cases P tell k))
+  place_cases R P among decide =
+      elim (least_place (λ k. R k × HasAt P k) (λ k. both_cases (among k) (at_cases P decide k))
       (length ids)) [
         | inl found ↦ inl (found.0, found.2.0, found.2.1)
         | inr none ↦ inr (λ h. none h.0 (slice_get_within ids h.0 h.2.0 h.2.1) (h.1, h.2))

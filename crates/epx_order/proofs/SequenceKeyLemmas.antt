@@ -124,9 +124,9 @@ module _ (m : List Instance) (p : Parts) (nodes : List ℕ) (n : ℕ)
               sequence_key_of e,
               here.1,
               λ lower.
-                  let stands : latest_in p latest (get_or nodes n 0) ≡ Some was.0 =
+                  let latest_is : latest_in p latest (get_or nodes n 0) ≡ Some was.0 =
                   ap (λ c. get_or latest c None) (sym here.0) ∙ was.1 in
-                  none (subst (ComesBefore (sequence_key_of e)) (sym stands)
+                  none (subst (ComesBefore (sequence_key_of e)) (sym latest_is)
                   (before_later (sequence_key_of e) (sequence_key_of f) was.0 lower was.2)),
             )
             | inr there ↦ (was.0, there.1 ∙ was.1, was.2)

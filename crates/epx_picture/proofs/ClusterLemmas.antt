@@ -35,7 +35,7 @@ one_leader edges k j l i one p q =
     omega arith
 
 module _ (m : List Instance) (g : DependencyGraph) (is : IsGraphOf m g) (k : ℕ) (x : Id)
-    (s : NodeRank) (at : slice_get g.ids k ≡ Some x) (stands : IsNodeRank g k s) where
+    (s : NodeRank) (at : slice_get g.ids k ≡ Some x) (rank : IsNodeRank g k s) where
   in_component : (j : ℕ) (y : Id) → slice_get g.ids j ≡ Some y
       → InOneNodeComponent (edges_of g) k j → InOneComponent m x y
   in_component j y to one =
@@ -45,10 +45,10 @@ module _ (m : List Instance) (g : DependencyGraph) (is : IsGraphOf m g) (k : ℕ
   pub cluster_of_member : (leader : Id) → slice_get g.ids s.leader ≡ Some leader → ¬ (s.leader ≡ k)
       → IsCluster m x (Some leader)
   cluster_of_member leader to other = (
-    leader_from_node m g is k s.leader x leader at to stands.leader,
+    leader_from_node m g is k s.leader x leader at to rank.leader,
     (
       leader,
-      in_component s.leader leader to stands.leader.member,
+      in_component s.leader leader to rank.leader.member,
       λ same. other (node_is_one g is.graph s.leader k x (to ∙ ap Some same) at),
     ),
   )
@@ -63,7 +63,7 @@ module _ (m : List Instance) (g : DependencyGraph) (is : IsGraphOf m g) (k : ℕ
         let t = all.each led.0 led.1 led.3 in
         let member = subst (λ l. InOneNodeComponent (edges_of g) led.0 l) led.4 t.leader.member in (
           leader_from_node m g is k k x x at at
-              (subst (IsNodeLeader (edges_of g) k) own stands.leader),
+              (subst (IsNodeLeader (edges_of g) k) own rank.leader),
           (
             y.0,
             in_component led.0 y.0 y.1 (member.1, member.0),
@@ -80,7 +80,7 @@ module _ (m : List Instance) (g : DependencyGraph) (is : IsGraphOf m g) (k : ℕ
         let within = slice_get_within g.ids j.0 y j.1 in
         let there = slice_get-get_or node_ranks j.0 s (omega (arith, all.nodes)) in
         let t = all.each j.0 (get_or node_ranks j.0 s) there in
-        let leads = one_leader (edges_of g) k j.0 s.leader _ (j.2, back) stands.leader t.leader in
+        let leads = one_leader (edges_of g) k j.0 s.leader _ (j.2, back) rank.leader t.leader in
         elim (cases_eq j.0 k) [
           | inl same ↦ (let found : Some y ≡ Some x = sym j.1 ∙ ap (slice_get g.ids) same ∙ at in
               cc found)

@@ -40,16 +40,16 @@ module _ (m : List Instance) (g : DependencyGraph) (is : IsGraphOf m g) (k : ℕ
         cluster = cluster;
         waits = s.reaches_missing;
       })
-  box_from_node s cluster stands clustered = record {
+  box_from_node s cluster rank clustered = record {
     seq = λ d in_d same. ap (λ (i : Instance). i.seq)
         (IsRising-same m (subst IsRising is.committed is.graph.committed_rise) d e in_d
         (Contains-slice_get m k e at) same);
-    depth = depth_from_node m g is k e.id s.depth own_node stands.depth;
+    depth = depth_from_node m g is k e.id s.depth own_node rank.depth;
     cluster = clustered;
     waits = (
-      λ h ready. node_from_ready m g is k e.id own_node ready (stands.missing.0 h),
+      λ h ready. node_from_ready m g is k e.id own_node ready (rank.missing.0 h),
       λ waits. from_not_false s.reaches_missing
           (λ none. waits (ready_from_node m g is k e.id own_node below
-          (λ missing. false≢true (sym none ∙ stands.missing.1 missing)))),
+          (λ missing. false≢true (sym none ∙ rank.missing.1 missing)))),
     );
   }

@@ -109,10 +109,10 @@ pub unchanged_by_text : {W : Type 0} (contents : W → Option (List ℕ)) (befor
     (status result : ℕ) (failed : Bool) → (status ≢ 0 → (result ≡ status) × (after ≡ before))
     → (status ≡ 0 → result ≢ 0 → (result ≡ 4) × (failed ≡ true)) → failed ≡ false → result ≢ 0
     → Keeps (contents before) (contents after)
-unchanged_by_text contents before after zero result failed told bad well some =
+unchanged_by_text contents before after zero result failed refused bad well some =
     let is = (bad refl some).1 in absurd (cc (is, well))
-unchanged_by_text contents before after (suc n) result failed told bad well some =
-    contents_unchanged contents before after (told (λ none. omega (arith, none))).1
+unchanged_by_text contents before after (suc n) result failed refused bad well some =
+    contents_unchanged contents before after (refused (λ none. omega (arith, none))).1
 
 -- a text with status 0 is written, or the output failed
 pub of-text : {P : Type 0} (result : ℕ) → (result ≢ 0 → (result ≡ 4) × P)
@@ -137,7 +137,7 @@ pub of-words : (P Q : Type 0) (words : Words) (result : ℕ)
     → IfWork (λ task plan paths. IsStatus result) words
     → IfText (λ status. status ≡ 0 → (result ≡ 0) ⊎ ((result ≡ 4) × Q)) words
     → IfText (λ status. status ≢ 0 → (result ≡ status) × P) words → IsStatus result ⊎ (result ≡ 2)
-of-words P Q (Work task plan paths) result said work text told = inl work
-of-words P Q (Text text status) result (inl good) work asked told = inl (shown result (asked good))
-of-words P Q (Text text status) result (inr two) work asked told =
-    inr ((told (λ none. omega (arith, none, two))).0 ∙ two)
+of-words P Q (Work task plan paths) result said work text refused = inl work
+of-words P Q (Text text status) result (inl good) work asked refused = inl (shown result (asked good))
+of-words P Q (Text text status) result (inr two) work asked refused =
+    inr ((refused (λ none. omega (arith, none, two))).0 ∙ two)

@@ -94,14 +94,14 @@ module _ {S : Type 0} (contents : S → Option (List ℕ)) (before after : S)
       → (n ≡ 0 → (status ≡ 0) ⊎ ((status ≡ 4) × (failed ≡ true)))
       → (n ≢ 0 → (status ≡ n) × (after ≡ before))
       → EndsWithText said n status failed (contents before) (contents after)
-  ends_with_text said zero shown prefix well told = go (well refl)
+  ends_with_text said zero shown prefix well refused = go (well refl)
     where
       go : (status ≡ 0) ⊎ ((status ≡ 4) × (failed ≡ true))
           → EndsWithText said 0 status failed (contents before) (contents after)
       go (inl done) = inl (done, shown refl done)
       go (inr bad) = inr (bad.0, bad.1, prefix refl)
-  ends_with_text said (suc n) shown prefix well told =
-      let ends = told (λ none. omega (arith, none)) in
+  ends_with_text said (suc n) shown prefix well refused =
+      let ends = refused (λ none. omega (arith, none)) in
       (ends.0, contents_unchanged contents before after ends.1)
 
   -- how the program ends with what is wanted, from the contracts of the calls that do it
@@ -115,7 +115,7 @@ module _ {S : Type 0} (contents : S → Option (List ℕ)) (before after : S)
       → IfText (λ n. n ≡ 0 → (status ≡ 0) ⊎ ((status ≡ 4) × (failed ≡ true))) wanted
       → IfText (λ n. n ≢ 0 → (status ≡ n) × (after ≡ before)) wanted
       → EndsAsAsked input Unread wanted status failed (contents before) (contents after)
-  ends_as_asked (Work task plan paths) work shown prefix well told = work
-  ends_as_asked (text said n) work shown prefix well told =
+  ends_as_asked (Work task plan paths) work shown prefix well refused = work
+  ends_as_asked (text said n) work shown prefix well refused =
       ends_with_text (string_bytes said) n (λ none. shown said (ap (text said) none))
-      (λ none. prefix said (ap (text said) none)) well told
+      (λ none. prefix said (ap (text said) none)) well refused

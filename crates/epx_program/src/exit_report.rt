@@ -27,7 +27,7 @@ pub(crate) fn report_fault(rt: &impl Eprint, done: Result<(), Fault>) -> u8
 pub(crate) fn print_text<R: Eprint, W: Sink>(rt: &R, text: &str, status: u8, output: &mut W) -> u8
     requires { W.has_failed output.old ≡ false }
 
-    ensures told { status ≢ 0 → (result ≡ status) × (output.new ≡ output.old) }
+    ensures refused { status ≢ 0 → (result ≡ status) × (output.new ≡ output.old) }
 
     ensures shown { status ≡ 0 → result ≡ 0
         → Appends (W.contents output.old) (W.contents output.new) text.now }

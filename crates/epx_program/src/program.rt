@@ -42,7 +42,7 @@ where
         → AppendsPrefix (W.contents output.old) (W.contents output.new) (string_bytes text) }
     ensures text { IfText (λ status. status ≡ 0 → (result ≡ 0)
         ⊎ ((result ≡ 4) × (W.has_failed output.new ≡ true))) words }
-    ensures told { IfText (λ status. status ≢ 0 → (result ≡ status)
+    ensures refused { IfText (λ status. status ≢ 0 → (result ≡ status)
         × (output.new ≡ output.old)) words }
 
     ensures flushed { result ≡ 0 → W.is_flushed output.new ≡ true }

@@ -213,12 +213,12 @@ module _ {S : Type 0} (remaining : S → Option (List ℕ)) (has_failed : S → 
         → IsErrOf {T = V} (Err f) (Read k) ↔ (has_failed s ≡ true)
     unfolding fault_in
     one_failed {T} {V} l later f of_log failed k s there =
-        let stands = get_or_from_slice_get (set now n later) k s s there in
+        let entry = get_or_from_slice_get (set now n later) k s s there in
         elim (cases_eq k n) [
           | inl e ↦
               let same : later ≡ s =
               sym (get_or-set_same now n later s (omega (arith, l, h.as_many)))
-              ∙ ap (λ i. get_or (set now n later) i s) (sym e) ∙ stands in (
+              ∙ ap (λ i. get_or (set now n later) i s) (sym e) ∙ entry in (
                 λ is. subst (λ t. has_failed t ≡ true) same
                     (failed.0 (ap Err (ap fault_in is ∙ ap Read e))),
                 λ bad. ap Err
@@ -227,7 +227,7 @@ module _ {S : Type 0} (remaining : S → Option (List ℕ)) (has_failed : S → 
               )
           | inr other ↦
               let well : has_failed s ≡ false = subst (λ t. has_failed t ≡ false)
-              (sym (get_or-set_other now n k later s other) ∙ stands)
+              (sym (get_or-set_other now n k later s other) ∙ entry)
               (h.whole k s
               (omega (
                 arith,

@@ -31,7 +31,7 @@ HasTerms terms v = (v.seat_states ≡ []) ⊎ (v.terms ≡ terms)
 -- pieces drawn, and each view has the terms
 pub record HasClaimState (terms : Terms) (state : State (Unit {0}) View) : Type 0 where
   pub one_word : length state.words ≡ 1
-  pub deal : ClaimState terms.pieces terms.workers (slice_index state.words 0)
+  pub claim_state : ClaimState terms.pieces terms.workers (slice_index state.words 0)
       (all_seat_states state.views)
   pub lengths : total (λ h. length h.drawn) (all_seat_states state.views)
       ≡ min (slice_index state.words 0) terms.pieces

@@ -18,7 +18,7 @@ MayLead starts (Closed c) (Closed d) = d ≤ c
 
 -- the open nodes are those of the row, each at its position
 pub record IsRow (place : List Visit) (opened : List ℕ) : Type 0 where
-  pub stands : (p : ℕ) → p < length opened → visit_of place (slice_index opened p) ≡ Open p
+  pub is_open_at : (p : ℕ) → p < length opened → visit_of place (slice_index opened p) ≡ Open p
   pub placed : (k p : ℕ) → visit_of place k ≡ Open p
       → (p < length opened) × (slice_index opened p ≡ k)
 

@@ -20,7 +20,7 @@ DropsRedundant [] old new = old ≡ new
 DropsRedundant (line ∷ lines) old new = DropsRedundant lines (old ++ line ∷ []) new
     ⊎ (IsRedundant old line.meaning × DropsRedundant lines old new)
 
--- ---- a cache of the meanings of kept lines
+-- ---- a cache of the meanings of lines
 
 -- the line is blank, or the cache has its meaning
 abbrev pub IsRedundantIn : List (Result Line Why) → Result Line Why → Type 0
@@ -31,7 +31,7 @@ abbrev pub CachesAfter : List (Result Line Why) → Result Line Why → List (Re
 CachesAfter old meaning new = (m : Result Line Why) → Contains new m
     → Contains old m ⊎ (m ≡ meaning)
 
--- each meaning in the cache is redundant after the kept lines
+-- each meaning in the cache is redundant after the lines that are not
 abbrev pub IsCacheOf : List MeaningAt → List (Result Line Why) → Type 0
 IsCacheOf kept table = (m : Result Line Why) → Contains table m → IsRedundant kept m
 

@@ -79,15 +79,15 @@ position_of-found m rising x i e at is =
 -- a position is within the committed instances
 pub position_of-within : (m : List Instance) (x : Id) (i : ℕ) → position_of m x ≡ Some i
     → i < length m
-position_of-within m x i found = let stands = position_of-instance m x i found in
-    slice_get_within m i stands.0 stands.1
+position_of-within m x i found = let position = position_of-instance m x i found in
+    slice_get_within m i position.0 position.1
 
 -- a look-up finds the instance at the position of an Id
 pub instance_of-position : (m : List Instance) → IsRising (ids_of m)
     → (x : Id) (i : ℕ) (e : Instance) → position_of m x ≡ Some i → slice_get m i ≡ Some e
     → instance_of m x ≡ Some e
 instance_of-position m rising x i e found at =
-    let stands = position_of-instance m x i found in
-    let same : stands.0 ≡ e = cc (stands.1, at) in
+    let position = position_of-instance m x i found in
+    let same : position.0 ≡ e = cc (position.1, at) in
     (instance_of_iff m rising x e).1
-    (Contains-slice_get m i e at, sym (ap (λ (d : Instance). d.id) same) ∙ stands.2)
+    (Contains-slice_get m i e at, sym (ap (λ (d : Instance). d.id) same) ∙ position.2)

@@ -92,7 +92,7 @@ module _ {K : Type 0} {R : K → K → Ordering} (total : IsTotalOrder R)
     pub elements_only : (x : K) → Contains those x → Contains xs x × P x
     pub elements_all : (x : K) → Contains xs x → P x → Contains those x
 
-  module _ (P : K → Type 0) (tell : (x : K) → P x ⊎ (¬ P x)) where
+  module _ (P : K → Type 0) (decide : (x : K) → P x ⊎ (¬ P x)) where
     with_one : (x : K) (xs those : List K) → P x → AreThose P xs those
         → (now : List K) × AreThose P (x ∷ xs) now
     with_one x xs those here rest =
@@ -134,7 +134,7 @@ module _ {K : Type 0} {R : K → K → Ordering} (total : IsTotalOrder R)
     )
     rising_list (x ∷ xs) =
         let rest = rising_list xs in
-        elim (tell x) [
+        elim (decide x) [
           | inl here ↦ with_one x xs rest.0 here rest.1
           | inr not_here ↦ (rest.0, without_one x xs rest.0 not_here rest.1)
         ]

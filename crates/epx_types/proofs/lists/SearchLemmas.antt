@@ -12,11 +12,11 @@ use Rattle.epx_types.proofs.lists.ComparisonLemmas.{id_cmp_total, id_cmp-IsAntis
 -- some element of a list has the property, or none has it
 pub some_or_none : {X : Type 0} (P : X → Type 0) → ((x : X) → P x ⊎ (¬ P x)) → (xs : List X)
     → ((x : X) × Contains xs x × P x) ⊎ ((x : X) → Contains xs x → ¬ P x)
-some_or_none P tell [] = inr (λ x h p. Contains-nil x h)
-some_or_none P tell (y ∷ xs) =
-    elim (tell y) [
+some_or_none P decide [] = inr (λ x h p. Contains-nil x h)
+some_or_none P decide (y ∷ xs) =
+    elim (decide y) [
       | inl here ↦ inl (y, Contains-head y xs, here)
-      | inr not_here ↦ elim (some_or_none P tell xs) [
+      | inr not_here ↦ elim (some_or_none P decide xs) [
         | inl found ↦ inl (found.0, Contains-cons y xs found.0 found.1, found.2)
         | inr none ↦ inr (λ x h p. elim (Contains-cons_cases y xs x h)
             [ inl same ↦ not_here (subst P (sym same) p) | inr later ↦ none x later p ])
@@ -35,12 +35,12 @@ Contains-cases same xs x =
 -- the greatest number up to a bound that has the property
 pub greatest_up_to : (P : ℕ → Type 0) → ((k : ℕ) → P k ⊎ (¬ P k)) → P 0 → (n : ℕ)
     → (k : ℕ) × P k × ((j : ℕ) → j ≤ n → P j → j ≤ k)
-greatest_up_to P tell least zero = (0, least, λ j l p. l)
-greatest_up_to P tell least (suc n) =
-    elim (tell (suc n)) [
+greatest_up_to P decide least zero = (0, least, λ j l p. l)
+greatest_up_to P decide least (suc n) =
+    elim (decide (suc n)) [
       | inl here ↦ (suc n, here, λ j l p. l)
       | inr not_here ↦
-          let lower = greatest_up_to P tell least n in (
+          let lower = greatest_up_to P decide least n in (
             lower.0,
             lower.1,
             λ j l p. elim (cases_lt j (suc n)) [
@@ -54,7 +54,7 @@ UpTo-below : (x y z : Id) → Below x y → UpTo y z → UpTo x z
 UpTo-below x y z l (inl same) = inr (subst (Below x) same l)
 UpTo-below x y z l (inr k) = inr (below_trans id_cmp_total x y z l k)
 
-module _ (P : Id → Type 0) (tell : (x : Id) → P x ⊎ (¬ P x)) where
+module _ (P : Id → Type 0) (decide : (x : Id) → P x ⊎ (¬ P x)) where
   -- x has the property, and no Id of the list below x has it
   abbrev pub IsLeastOf : List Id → Id → Type 0
   IsLeastOf ids x = P x × ((y : Id) → Contains ids y → P y → UpTo x y)
@@ -96,7 +96,7 @@ module _ (P : Id → Type 0) (tell : (x : Id) → P x ⊎ (¬ P x)) where
       ⊎ ((y : Id) → Contains ids y → ¬ P y)
   least_or_none [] = inr (λ y h p. Contains-nil y h)
   least_or_none (z ∷ ids) =
-      elim (tell z) [
+      elim (decide z) [
         | inl here ↦ elim (least_or_none ids) [
           | inl least ↦ inl (with_first z ids here least.0 least.1)
           | inr none ↦ inl (

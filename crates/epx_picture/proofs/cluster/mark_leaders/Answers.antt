@@ -14,10 +14,10 @@ loop-node-init c = subst (AreLeaderMarks c.args.node_ranks.now 0)
 
 pub index_mut-requires : goal.index_mut-requires
 index_mut-requires c =
-    let stands = c.requires.each c.loop-node.node c.get-leader.result c.get-leader.ensures in
+    let rank = c.requires.each c.loop-node.node c.get-leader.result c.get-leader.ensures in
     let within = leader_within c.args.graph.now c.len.ensures.fits c.loop-node.node
     c.get-leader.result.leader
-    (omega (arith, c.loop-node-test.true, c.len-node-end.ensures.len)) stands.leader in
+    (omega (arith, c.loop-node-test.true, c.len-node-end.ensures.len)) rank.leader in
     omega (arith, within, c.loop-node.invariant.nodes, c.requires.nodes)
 
 pub loop-node-preserved : goal.loop-node-preserved
@@ -27,9 +27,9 @@ loop-node-preserved c =
     let marks = c.loop-node.marks.items in
     let s = c.get-leader.result in
     let old = c.loop-node.invariant in
-    let stands = c.requires.each n s c.get-leader.ensures in
+    let rank = c.requires.each n s c.get-leader.ensures in
     let within = leader_within c.args.graph.now c.len.ensures.fits n s.leader
-    (omega (arith, c.loop-node-test.true, c.len-node-end.ensures.len)) stands.leader in
+    (omega (arith, c.loop-node-test.true, c.len-node-end.ensures.len)) rank.leader in
     let Marked : List Bool → Type 0 = λ new. AreLeaderMarks node_ranks (n + 1) new in
     elim c.if-leader-node.branch [
       | then-leader-node w ↦ subst Marked (sym (ap (λ v. v.items) w.marks-is))

@@ -11,4 +11,9 @@ returns c =
     c.word-word.ensures c.self.invariant.pieces c.min.ensures
     c.close_with-closed.ensures.values.2 in
     rw (← c.seat.view_is, ← c.self.view_is)
-    (record { length = all.length; each_once = all.each_once; all = all.all; deal = all.deal })
+    (record {
+      length = all.length;
+      each_once = all.each_once;
+      all = all.all;
+      claim_state = all.claim_state;
+    })

@@ -20,11 +20,11 @@ returns-then-is_new c =
 
 pub compare-requires : goal.compare-requires
 compare-requires c =
-    let stand = c.self.invariant ∙ ap (map (λ (p : Placed). p.instance.id))
+    let names_are = c.self.invariant ∙ ap (map (λ (p : Placed). p.instance.id))
     (sym c.in_ok-reserve.ensures.items) in
     let at = c.in_ok-place.ensures.stored in
     let first = known_line c.reserve.new.self.items c.self.inside.names.keys
-    c.insert_full.new.self.keys c.id.result at.0 c.in_ok-place.place stand
+    c.insert_full.new.self.keys c.id.result at.0 c.in_ok-place.place names_are
     (sym c.in_ok-place.ensures.added ∙ c.if-is_new.false) c.in_ok-place.ensures.keys at.1 at.2 in
     (first.0, first.1 ∙ ap (λ (x : Id). Some (x, first.0)) c.id.ensures)
 
