@@ -46,7 +46,8 @@ fn evaluate(
 ) -> Result<Vec<Effect>, Memory>
     requires { All (λ i. i < length commands.now) places.now }
     ensures { IfOk result
-        (λ v. v.items ≡ effects_over store.now (commands_at (op_lists_of commands.now) places.now)) }
+        (λ v. v.items
+        ≡ effects_over store.now (commands_at (op_lists_of commands.now) places.now)) }
 {
     let mut effects = Vec::with_capacity(alloc, places.len())?;
     for place in places {
@@ -98,7 +99,8 @@ fn evaluate_all<R: Threads + Sync, G: Gate + Sync>(
     requires few { length places.now ≤ 2 ^ 40 }
     requires within { All (λ i. i < length commands.now) places.now }
     ensures { IfOk result
-        (λ v. v.items ≡ effects_over store.now (commands_at (op_lists_of commands.now) places.now)) }
+        (λ v. v.items
+        ≡ effects_over store.now (commands_at (op_lists_of commands.now) places.now)) }
 {
     let pieces = plan.pieces(places.len());
     let parts = claimed_map(rt, alloc, pieces, plan, gate, |piece| {

@@ -1,6 +1,5 @@
 pub mod Forms
 pub mod Seen
-pub mod DoneAndStored
 pub mod Bases
 pub mod Laws
 pub mod Lists
@@ -9,4 +8,5 @@ pub mod ReportLines
 pub mod ReportReadings
 pub mod ReportBases
 pub mod LineTokens
+pub mod DoneAndStored
 pub mod inner

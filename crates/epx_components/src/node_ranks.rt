@@ -35,9 +35,11 @@ impl Model for NodeRanks {
 
     ghost Value = { List NodeRank };
 
-    ghost view = { λ s. node_ranks_in s.component.items s.leaders.items s.depths.items s.missing.items };
+    ghost view = { λ s.
+        node_ranks_in s.component.items s.leaders.items s.depths.items s.missing.items };
 
-    ghost invariant = { λ s. HasValueForEach s.component.items s.leaders.items s.depths.items s.missing.items };
+    ghost invariant = { λ s.
+        HasValueForEach s.component.items s.leaders.items s.depths.items s.missing.items };
 }
 
 impl NodeRanks {

@@ -3,4 +3,5 @@ pub mod Fuses
 pub mod Deliveries
 pub mod Transfers
 pub mod EitherSources
-pub mod inner
+pub mod DeviceStates
+pub mod MemorySink

@@ -16,7 +16,7 @@ pub struct MemorySink {
 }
 
 impl Model for MemorySink {
-    ghost use Rattle.epx_devices.specs.inner.MemorySink.{SinkState};
+    ghost use Rattle.epx_devices.specs.MemorySink.{SinkState};
 
     ghost Value = { SinkState };
 

@@ -3,7 +3,7 @@ ghost use Rattle.std.specs.Prelude.{◌≡◌, true, false, take, None, IfOk, On
 ghost use Rattle.std.specs.Io.{ReadsAtMost};
 ghost use Rattle.std.specs.Io.KnownBytes.{ReadConsumes};
 ghost use Rattle.epx_devices.specs.Devices.{failed_after};
-ghost use Rattle.epx_devices.specs.inner.DeviceStates.{ReadsNext, ReadsPath};
+ghost use Rattle.epx_devices.specs.DeviceStates.{ReadsNext, ReadsPath};
 
 use crate::device::{DeviceFault, Source};
 use crate::retry::retry_read;
@@ -23,7 +23,7 @@ pub struct PathSource<'a, R: Files> {
 }
 
 impl<'a, R: Files> Model for PathSource<'a, R> {
-    ghost use Rattle.epx_devices.specs.inner.DeviceStates.{PathState};
+    ghost use Rattle.epx_devices.specs.DeviceStates.{PathState};
 
     ghost Value = { PathState R.File };
 
@@ -49,7 +49,8 @@ impl<'a, R: Files> PathSource<'a, R> {
         ensures bytes { let left = option_and_then R.File.remaining self.new.file in
             ReadConsumes (option_and_then R.File.remaining self.old.file) left result part.new }
         ensures given { IfOk result
-            (λ count. ReadsNext R.File.remaining self.old.file self.new.file (take count part.new)) }
+            (λ count. ReadsNext R.File.remaining self.old.file self.new.file
+            (take count part.new)) }
         ensures path { self.new.path ≡ self.old.path }
         ensures failed { self.new.failed ≡ self.old.failed }
     {

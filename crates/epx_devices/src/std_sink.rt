@@ -16,7 +16,7 @@ pub struct StdSink<W> {
 }
 
 impl<W> Model for StdSink<W> {
-    ghost use Rattle.epx_devices.specs.inner.DeviceStates.{WriterState};
+    ghost use Rattle.epx_devices.specs.DeviceStates.{WriterState};
 
     ghost Value = { WriterState W };
 

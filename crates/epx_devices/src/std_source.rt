@@ -15,7 +15,7 @@ pub struct StdSource<R> {
 }
 
 impl<R> Model for StdSource<R> {
-    ghost use Rattle.epx_devices.specs.inner.DeviceStates.{ReaderState};
+    ghost use Rattle.epx_devices.specs.DeviceStates.{ReaderState};
 
     ghost Value = { ReaderState R };
 

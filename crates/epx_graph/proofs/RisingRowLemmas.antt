@@ -92,7 +92,8 @@ positions_are_rising m rising (x ∷ xs) rise =
       by (Some i) some rest =
           let position = position_of-instance m x i some in
           positions_cons (ids_of m) rising x xs i (positions_of m xs) rise
-          (slice_get-map (λ (e : Instance). e.id) m i position.0 position.1 ∙ ap Some position.2) rest
+          (slice_get-map (λ (e : Instance). e.id) m i position.0 position.1 ∙ ap Some position.2)
+          rest
 
 -- each is committed or missing
 pub positions_count : (m : List Instance) (xs : List Id)

@@ -16,7 +16,7 @@ use Rattle.epx_types.proofs.lists.MembershipLemmas.{Contains-nil, Contains-head}
 use Rattle.epx_types.proofs.lists.MembershipLemmas.{Contains-cons_cases}
 use Rattle.epx_graph.specs.Graphs.{DependencyGraph, edges_of, IsGraph}
 use Rattle.epx_graph.specs.NodePaths.{IsNodePath, NodeReaches}
-use Rattle.epx_graph.specs.LeastMissing.{IsLeastMissing, mark_of, AreMarksOf}
+use Rattle.epx_graph.specs.inner.LeastMissing.{IsLeastMissing, mark_of, AreMarksOf}
 use Rattle.epx_graph.specs.inner.Rows.{row_of, AreTransposed}
 use Rattle.epx_graph.specs.inner.Searches.{SearchView, IsMarked, steps_left, IsVisit}
 use Rattle.epx_graph.specs.inner.Searches.{IsMissingSearch, IsSpreadFrom, BeginsFrom}

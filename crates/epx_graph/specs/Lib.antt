@@ -2,5 +2,4 @@ pub mod Graphs
 pub mod GraphOf
 pub mod NodePaths
 pub mod GraphLaws
-pub mod LeastMissing
 pub mod inner

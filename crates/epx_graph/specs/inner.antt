@@ -5,3 +5,4 @@ pub mod Remainder
 pub mod Filling
 pub mod Searches
 pub mod Waiters
+pub mod LeastMissing

@@ -47,7 +47,8 @@ impl<'a> Model for Remainder<'a> {
 
     ghost view = { λ l. record { whole = l.merged.now; done = l.done.now } };
 
-    ghost invariant = { λ l. let r : RemainderView = record { whole = l.merged.now; done = l.done.now } in
+    ghost invariant = { λ l.
+        let r : RemainderView = record { whole = l.merged.now; done = l.done.now } in
         IsRising (ids_of r.whole) × IsRising r.done
         × (0 < length r.done → ArePositionTables r l.positions.items l.positions_left.items
         (length r.whole)) };

@@ -2,7 +2,7 @@
 ghost use Rattle.std.specs.Prelude.{◌≡◌, ◌+◌, ◌<◌, ◌≤◌, [], None, length, replicate, All, IfOk};
 ghost use Rattle.std.specs.Prelude.{OnOk};
 ghost use Rattle.epx_graph.specs.Graphs.{DependencyGraph, IsGraph};
-ghost use Rattle.epx_graph.specs.LeastMissing.{AreMarksOf};
+ghost use Rattle.epx_graph.specs.inner.LeastMissing.{AreMarksOf};
 ghost use Rattle.epx_graph.specs.inner.Rows.{AreTransposed};
 ghost use Rattle.epx_graph.specs.inner.Searches.{IsVisit, BeginsFrom};
 

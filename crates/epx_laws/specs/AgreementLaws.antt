@@ -6,7 +6,7 @@ use Rattle.epx_types.specs.PlacedLines.{Placed, HaveDistinctPlaces}
 use Rattle.epx_types.specs.Agreement.{Agree, IsFirstDisagreement}
 use Rattle.epx_types.specs.CommittedMap.{ids_of, instance_of, position_of, IsCommittedBy}
 use Rattle.epx_types.specs.Ids.{IsRising}
-use Rattle.epx_laws.specs.inner.AtMostOne.{AtMostOne}
+use Rattle.epx_laws.specs.AtMostOne.{AtMostOne}
 
 -- two committed maps of the same lines are equal
 abbrev pub CommittedMapIsUnique : Type 0

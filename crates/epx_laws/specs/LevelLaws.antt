@@ -2,7 +2,7 @@
 use Rattle.std.specs.Prelude.{◌≢◌, ℕ, ◌<◌, ◌≤◌, List, length, Contains}
 use Rattle.epx_types.specs.declared.op.Op.{Op}
 use Rattle.epx_types.specs.Levels.{ConflictAt, IsLevel, AreLevels, level_count, RisesWithConflicts}
-use Rattle.epx_laws.specs.inner.AtMostOne.{AtMostOne}
+use Rattle.epx_laws.specs.AtMostOne.{AtMostOne}
 
 -- every list of commands has levels
 abbrev pub LevelsExist : Type 0

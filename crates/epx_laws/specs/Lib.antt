@@ -10,4 +10,4 @@ pub mod DoneLaws
 pub mod GrowthLaws
 pub mod ResumedRunLaws
 pub mod ComparisonLaws
-pub mod inner
+pub mod AtMostOne

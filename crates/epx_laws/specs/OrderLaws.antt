@@ -11,7 +11,7 @@ use Rattle.epx_types.specs.Readiness.{IsReady}
 use Rattle.epx_types.specs.Conflicts.{Conflict, IsCovered}
 use Rattle.epx_types.specs.ExecutionOrder.{Ranked, IsExecutionOrder, component_count}
 use Rattle.epx_types.specs.LawfulOrders.{Before, IsLawful, commands_in}
-use Rattle.epx_laws.specs.inner.AtMostOne.{AtMostOne}
+use Rattle.epx_laws.specs.AtMostOne.{AtMostOne}
 
 -- a committed map has an execution order
 abbrev pub ExecutionOrderExists : Type 0

@@ -9,7 +9,7 @@ use Rattle.epx_types.specs.Readiness.{IsReady, WaitsFor, NoneMissing}
 use Rattle.epx_types.specs.WaitingLists.{Waiting, IsWaitingList}
 use Rattle.epx_types.specs.Components.{InOneComponent, IsLeader}
 use Rattle.epx_types.specs.Depth.{IsDepth, FallsOneWay}
-use Rattle.epx_laws.specs.inner.AtMostOne.{AtMostOne}
+use Rattle.epx_laws.specs.AtMostOne.{AtMostOne}
 
 -- only committed instances depend on others, each exactly on the Ids in its list of dependencies
 pub record DependenciesAreListed : Type 0 where

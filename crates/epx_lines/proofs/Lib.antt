@@ -8,7 +8,7 @@ pub mod WrittenLengthLemmas
 pub mod WrittenLineLemmas
 pub mod FloatLemmas
 pub mod OnLiterals
-pub mod WorkedLines
+pub mod LineExamples
 pub mod TokenValueLemmas
 pub mod EntryPartLemmas
 pub mod NumberTextLemmas

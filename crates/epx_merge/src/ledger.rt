@@ -41,7 +41,8 @@ impl Model for Ledger {
 
     ghost Value = { LedgerView };
 
-    ghost view = { λ l. record { firsts = with_ids l.firsts.items; disagreements = l.disagreements.entries } };
+    ghost view = { λ l.
+        record { firsts = with_ids l.firsts.items; disagreements = l.disagreements.entries } };
 
     ghost invariant = { λ l. l.names.keys ≡ map (λ p. p.instance.id) l.firsts.items };
 }

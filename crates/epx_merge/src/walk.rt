@@ -22,9 +22,11 @@ impl<'a> Model for LineWalk<'a> {
 
     ghost Value = { List MeaningAt };
 
-    ghost view = { λ w. meanings_left w.log w.line w.rest.now (map (λ log. log.items) w.others.now) };
+    ghost view = { λ w.
+        meanings_left w.log w.line w.rest.now (map (λ log. log.items) w.others.now) };
 
-    ghost invariant = { λ w. (w.line + length w.rest.now < 2 ^ 64) × (w.log + length w.others.now < 2 ^ 64) };
+    ghost invariant = { λ w.
+        (w.line + length w.rest.now < 2 ^ 64) × (w.log + length w.others.now < 2 ^ 64) };
 }
 
 impl<'a> LineWalk<'a> {

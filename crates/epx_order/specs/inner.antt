@@ -1,5 +1,4 @@
 -- Words of private clauses: no public contract speaks of them.
-pub mod Ranks
 pub mod ReadyMarks
 pub mod NodeLists
 pub mod Ends
@@ -12,3 +11,4 @@ pub mod SourceBits
 pub mod DoubtfulKeys
 pub mod Batches
 pub mod Sources
+pub mod Ranks

@@ -77,7 +77,8 @@ pub(crate) fn write_picture(
     node_boxes: &[NodeBox],
     missing: &[Id],
 ) -> Result<Vec<u8>, Memory>
-    ensures { IfOk result (λ text. text.items ≡ picture_text merged.now node_boxes.now missing.now) }
+    ensures { IfOk result
+        (λ text. text.items ≡ picture_text merged.now node_boxes.now missing.now) }
 {
     let mut text = String::from_str(alloc, "digraph dependencies {\n  node [shape=box];\n")?;
     write_boxes(&mut text, node_boxes)?;

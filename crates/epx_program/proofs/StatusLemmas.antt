@@ -138,6 +138,7 @@ pub of-words : (P Q : Type 0) (words : Words) (result : ℕ)
     → IfText (λ status. status ≡ 0 → (result ≡ 0) ⊎ ((result ≡ 4) × Q)) words
     → IfText (λ status. status ≢ 0 → (result ≡ status) × P) words → IsStatus result ⊎ (result ≡ 2)
 of-words P Q (Work task plan paths) result said work text refused = inl work
-of-words P Q (Text text status) result (inl good) work asked refused = inl (shown result (asked good))
+of-words P Q (Text text status) result (inl good) work asked refused =
+    inl (shown result (asked good))
 of-words P Q (Text text status) result (inr two) work asked refused =
     inr ((refused (λ none. omega (arith, none, two))).0 ∙ two)

@@ -3,7 +3,7 @@ use Rattle.std.specs.Prelude.{◌≡◌, ⊤, ℕ, List, [], ◌∷◌, Option, 
 use Rattle.std.specs.Prelude.{slice_get}
 use Rattle.epx_devices.specs.Deliveries.{FailRelation, ReadRelation, DeliversThenFails}
 use Rattle.epx_devices.specs.EitherSources.{value_by}
-use Rattle.epx_devices.specs.inner.DeviceStates.{PathState}
+use Rattle.epx_devices.specs.DeviceStates.{PathState}
 use Rattle.epx_devices.specs.declared.either_source.EitherSource.{EitherSource}
 
 -- only the input is read: there are no paths, or the only path is a hyphen, which means the input

@@ -20,8 +20,8 @@ pub mod Sources
 pub mod Delivered
 pub mod DeliveredWithInput
 pub use Rattle.epx_devices.specs.Devices
-pub use Rattle.epx_devices.specs.inner.MemorySink
-pub use Rattle.epx_devices.specs.inner.DeviceStates
+pub use Rattle.epx_devices.specs.MemorySink
+pub use Rattle.epx_devices.specs.DeviceStates
 pub use Rattle.epx_devices.specs.Fuses
 pub use Rattle.epx_devices.specs.Transfers
 pub use Rattle.epx_devices.specs.Deliveries

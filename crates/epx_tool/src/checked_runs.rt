@@ -44,7 +44,8 @@ pub fn run_check<T: Threads + RandomSource + Sync, L: Source, S: Source, W: Sink
         (text : _) × Checks listed logs (Ok text)
         × Appends (W.contents sink.old) (W.contents sink.new) text) }
     ensures answered { OnOk result
-        (AnswersBoth L.reads S.reads IsBadList IsCheckText list.old list.new sources.old sources.new
+        (AnswersBoth L.reads S.reads IsBadList IsCheckText list.old list.new sources.old
+        sources.new
         (Appends (W.contents sink.old) (W.contents sink.new))) }
     ensures flushed { OnOk result (W.is_flushed sink.new ≡ true) }
 

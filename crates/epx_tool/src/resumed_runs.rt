@@ -44,7 +44,8 @@ pub fn run_resume<T: Threads + RandomSource + Sync, B: Source, S: Source, W: Sin
         (text : _) × Resumes before logs (Ok text)
         × Appends (W.contents sink.old) (W.contents sink.new) text) }
     ensures answered { OnOk result
-        (AnswersBoth B.reads S.reads IsBadBase IsResumedText base.old base.new sources.old sources.new
+        (AnswersBoth B.reads S.reads IsBadBase IsResumedText base.old base.new sources.old
+        sources.new
         (Appends (W.contents sink.old) (W.contents sink.new))) }
     ensures flushed { OnOk result (W.is_flushed sink.new ≡ true) }
 
@@ -61,7 +62,8 @@ pub fn run_resume<T: Threads + RandomSource + Sync, B: Source, S: Source, W: Sin
         (text : _) × Resumes before logs (Ok text)
         × AppendsPrefix (W.contents sink.old) (W.contents sink.new) text }
     ensures part { IsErrOf result Fault.Write →
-        AnswersBoth B.reads S.reads IsBadBase IsResumedText base.old base.new sources.old sources.new
+        AnswersBoth B.reads S.reads IsBadBase IsResumedText base.old base.new sources.old
+        sources.new
         (AppendsPrefix (W.contents sink.old) (W.contents sink.new)) }
 
     ensures read { (log : _) (source : _) → slice_get sources.new log ≡ Some source

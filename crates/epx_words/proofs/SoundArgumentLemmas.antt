@@ -107,7 +107,8 @@ module _ (name default : Text) (most : ℕ) (fits : FitsRow name most) (again : 
 
 logs_keep : (again : Bool) (i : ℕ) → KeepsSound again (logs_leaf i)
 logs_keep again i values rows none ok =
-    values_sound (codes "logs") AsWritten CommandLine (values_or_missing (logs_leaf i) values) rows (
+    values_sound (codes "logs") AsWritten CommandLine
+    (values_or_missing (logs_leaf i) values) rows (
       λ e. absurd (true≢false (sym e)),
       λ e. absurd (true≢false (sym e)),
       λ e. absurd (true≢false (sym e)),

@@ -4,7 +4,7 @@ use Rattle.std.specs.Prelude.{Option, Some, None, not, is_some, count_by}
 use Rattle.epx_graph.specs.Graphs.{DependencyGraph, edges_of, IsGraph}
 use Rattle.epx_graph.specs.NodePaths.{NodeReaches}
 use Rattle.epx_graph.specs.inner.Rows.{AreTransposed}
-use Rattle.epx_graph.specs.LeastMissing.{IsLeastMissing, mark_of}
+use Rattle.epx_graph.specs.inner.LeastMissing.{IsLeastMissing, mark_of}
 
 -- the mark of each committed node, and the nodes whose sources are to be visited
 pub record SearchView : Type 0 where

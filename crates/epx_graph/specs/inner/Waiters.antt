@@ -3,7 +3,7 @@ use Rattle.std.specs.Prelude.{◌≡◌, ℕ, ◌<◌, List, Contains, Option, S
 use Rattle.epx_types.specs.Ids.{IsRising}
 use Rattle.epx_types.specs.WaitingLists.{Waiting, waiting_ids}
 use Rattle.epx_graph.specs.Graphs.{DependencyGraph}
-use Rattle.epx_graph.specs.LeastMissing.{mark_of}
+use Rattle.epx_graph.specs.inner.LeastMissing.{mark_of}
 
 -- what a marked node waits for
 pub record IsWaiter (g : DependencyGraph) (marks : List (Option ℕ)) (k : ℕ) (w : Waiting) : Type

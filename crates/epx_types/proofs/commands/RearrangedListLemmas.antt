@@ -147,10 +147,11 @@ module _ {X : Type 0} (f : X → List Op) where
           (Once-taken front rest x both.once (subst (Contains (front ++ rest)) (sym same) h))
       | inr later ↦ later
     ];
-    whole = λ y h. elim (taken_or_remaining front rest x y (both.whole y (Contains-cons x ys y h))) [
-      | inl same ↦ absurd (both.once_too.0 (subst (Contains ys) (sym same) h))
-      | inr left ↦ left
-    ];
+    whole = λ y h. let within = both.whole y (Contains-cons x ys y h) in
+        elim (taken_or_remaining front rest x y within) [
+          | inl same ↦ absurd (both.once_too.0 (subst (Contains ys) (sym same) h))
+          | inr left ↦ left
+        ];
     keeps = λ y z h conflict. elim (both.keeps y z (Precedes-left front rest x y z h) conflict) [
       | inl first ↦ absurd (Once-taken front rest x both.once
           (subst (Contains (front ++ rest)) (sym first.0) (Precedes-first (front ++ rest) y z h)))

@@ -1,6 +1,6 @@
 use Rattle.std.proofs.Common.{◌≡◌, ◌<◌, None, replicate, All, sym, ap, subst, ◌∙◌, arith}
 use Rattle.epx_graph.specs.inner.Searches.{SearchView, BeginsFrom}
-use Rattle.epx_graph.specs.LeastMissing.{AreMarksOf}
+use Rattle.epx_graph.specs.inner.LeastMissing.{AreMarksOf}
 use Rattle.epx_graph.proofs.SearchLemmas.{search_first, search_last, sources_committed}
 use Rattle.epx_graph.proofs.search.least_missing.Goals as goal
 

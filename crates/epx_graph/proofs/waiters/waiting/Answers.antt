@@ -1,6 +1,6 @@
 use Rattle.std.proofs.Common.{◌≡◌, ◌<◌, sym, subst, arith}
 use Rattle.epx_types.specs.WaitingLists.{Waiting}
-use Rattle.epx_graph.specs.LeastMissing.{AreMarksOf}
+use Rattle.epx_graph.specs.inner.LeastMissing.{AreMarksOf}
 use Rattle.epx_graph.specs.inner.Waiters.{IsWaiter, AreWaiters}
 use Rattle.epx_graph.proofs.GraphNodeLemmas.{reached_within}
 use Rattle.epx_graph.proofs.WaiterLemmas.{waiters_none, waiters_skip, waiters_more, waiting_list}

@@ -1,3 +1,0 @@
--- Words of private clauses: no public contract speaks of them.
-pub mod MemorySink
-pub mod DeviceStates
