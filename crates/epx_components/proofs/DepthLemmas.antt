@@ -6,14 +6,16 @@ use Rattle.std.proofs.lemmas.List.{get_or_default, get_or-set_same, get_or-set_o
 use Rattle.std.proofs.lemmas.List.Elements.{Contains-get_or}
 use Rattle.epx_graph.specs.NodePaths.{IsNodePath}
 use Rattle.epx_components.specs.NodeDepths.{NodeDescends, IsNodeDepth}
-use Rattle.epx_components.specs.Partitions.{Parts, IsPartition, component_of, node_at, number_for}
+use Rattle.epx_components.specs.Partitions.{ComponentParts, IsPartition, component_of, node_at}
+use Rattle.epx_components.specs.Partitions.{number_for}
 use Rattle.epx_components.specs.Targets.{IsDepthAbove}
 use Rattle.epx_components.proofs.NodePathLemmas.{reach_falls, reach_below, reaches_edge}
 use Rattle.epx_components.proofs.NodePathLemmas.{reaches_on}
 use Rattle.epx_components.proofs.PartitionLemmas.{node_below, value_after_set}
 
 -- the depths after the first n nodes of the order
-pub record AreDepths (edges : ℕ → List ℕ) (p : Parts) (depths : List ℕ) (n : ℕ) : Type 0 where
+pub record AreDepths (edges : ℕ → List ℕ) (p : ComponentParts) (depths : List ℕ) (n : ℕ) : Type
+    0 where
   pub low : (c : ℕ) → get_or depths c 0 ≤ c
   pub descent : (k : ℕ) → k < length p.component
       → (cs : List ℕ) × NodeDescends edges k cs × (length cs ≡ number_for p depths k)
@@ -22,7 +24,8 @@ pub record AreDepths (edges : ℕ → List ℕ) (p : Parts) (depths : List ℕ) 
       → number_for p depths j + 1 ≤ number_for p depths (node_at p q)
 
 -- one step down an edge of a node in the same component, and then on
-descent_on : (edges : ℕ → List ℕ) (p : Parts) → IsPartition edges p → (k b j : ℕ) (cs : List ℕ)
+descent_on : (edges : ℕ → List ℕ) (p : ComponentParts) → IsPartition edges p
+    → (k b j : ℕ) (cs : List ℕ)
     → k < length p.component → b < length p.component → component_of p k ≡ component_of p b
     → Contains (edges b) j → component_of p j ≢ component_of p b → NodeDescends edges j cs
     → NodeDescends edges k (j ∷ cs)
@@ -47,7 +50,7 @@ over_target component depths own targets found over j h ne =
     (rw at at (over.all h.0 h.1)) ne
 
 -- the greater of the depth so far and the depth over the targets belongs to some descent
-depth_reason : (edges : ℕ → List ℕ) (p : Parts) (depths : List ℕ) (k found depth : ℕ)
+depth_reason : (edges : ℕ → List ℕ) (p : ComponentParts) (depths : List ℕ) (k found depth : ℕ)
     → IsDepthAbove p.component depths (component_of p k) (edges k) (length (edges k)) found
     → depth ≡ max (number_for p depths k) found
     → (depth ≡ number_for p depths k)
@@ -66,7 +69,7 @@ depth_reason edges p depths k found depth over e = elim over.one [
   ]
 ]
 
-pub depths_step : (edges : ℕ → List ℕ) (p : Parts) (depths : List ℕ) (n found depth : ℕ)
+pub depths_step : (edges : ℕ → List ℕ) (p : ComponentParts) (depths : List ℕ) (n found depth : ℕ)
     → IsPartition edges p → n < length p.order → component_of p (node_at p n) < length depths
     → IsDepthAbove p.component depths (component_of p (node_at p n)) (edges (node_at p n))
     (length (edges (node_at p n))) found
@@ -139,7 +142,7 @@ depths_step edges p depths n found depth is l in' over e old =
           ];
     }
 
-edge_down : (edges : ℕ → List ℕ) (p : Parts) (depths : List ℕ) → IsPartition edges p
+edge_down : (edges : ℕ → List ℕ) (p : ComponentParts) (depths : List ℕ) → IsPartition edges p
     → AreDepths edges p depths (length p.order) → (k j : ℕ) → k < length p.component
     → Contains (edges k) j → component_of p j ≢ component_of p k
     → number_for p depths j + 1 ≤ number_for p depths k
@@ -149,7 +152,7 @@ edge_down edges p depths is all k j l h ne =
     (rw at at (all.above q.0 j q.1)) h ne
 
 -- a path stays in the component or leads down
-path_down : (edges : ℕ → List ℕ) (p : Parts) (depths : List ℕ) → IsPartition edges p
+path_down : (edges : ℕ → List ℕ) (p : ComponentParts) (depths : List ℕ) → IsPartition edges p
     → AreDepths edges p depths (length p.order) → (k j : ℕ) (cs : List ℕ) → k < length p.component
     → IsNodePath edges k cs j → (component_of p j ≡ component_of p k)
     ⊎ (number_for p depths j + 1 ≤ number_for p depths k)
@@ -169,7 +172,7 @@ path_down edges p depths is all k j (c ∷ cs) l h =
           ])
     ]
 
-descent_short : (edges : ℕ → List ℕ) (p : Parts) (depths : List ℕ) → IsPartition edges p
+descent_short : (edges : ℕ → List ℕ) (p : ComponentParts) (depths : List ℕ) → IsPartition edges p
     → AreDepths edges p depths (length p.order) → (k : ℕ) (cs : List ℕ) → k < length p.component
     → NodeDescends edges k cs → length cs ≤ number_for p depths k
 descent_short edges p depths is all k [] l h = omega arith
@@ -181,7 +184,7 @@ descent_short edges p depths is all k (c ∷ cs) l h =
       | inr down ↦ omega (arith, rest, down)
     ]
 
-pub depths_all : (edges : ℕ → List ℕ) (p : Parts) (depths : List ℕ) → IsPartition edges p
+pub depths_all : (edges : ℕ → List ℕ) (p : ComponentParts) (depths : List ℕ) → IsPartition edges p
     → AreDepths edges p depths (length p.order) → (k : ℕ) → k < length p.component
     → IsNodeDepth edges k (number_for p depths k)
 depths_all edges p depths is all k l =

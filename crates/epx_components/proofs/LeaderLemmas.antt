@@ -2,17 +2,18 @@
 use Rattle.std.proofs.Common.{◌≡◌, ◌≢◌, ℕ, ◌+◌, ◌<◌, ◌≤◌, inl, inr, List, length, get_or, set, sym}
 use Rattle.std.proofs.Common.{◌∙◌, ap, arith}
 use Rattle.epx_components.specs.NodeComponents.{IsNodeLeader}
-use Rattle.epx_components.specs.Partitions.{Parts, IsPartition, component_of, number_for}
+use Rattle.epx_components.specs.Partitions.{ComponentParts, IsPartition, component_of, number_for}
 use Rattle.epx_components.proofs.NodePathLemmas.{reach_falls, reach_below}
 use Rattle.epx_components.proofs.PartitionLemmas.{value_after_set}
 
 -- the least of the nodes from start on in each component
-pub record AreLeadersFrom (p : Parts) (leaders : List ℕ) (start : ℕ) : Type 0 where
+pub record AreLeadersFrom (p : ComponentParts) (leaders : List ℕ) (start : ℕ) : Type 0 where
   pub least : (k : ℕ) → start ≤ k → k < length p.component → number_for p leaders k ≤ k
   pub member : (k : ℕ) → start ≤ k → k < length p.component
       → component_of p (number_for p leaders k) ≡ component_of p k
 
-pub leaders_step : (p : Parts) (leaders : List ℕ) (b : ℕ) → component_of p b < length leaders
+pub leaders_step : (p : ComponentParts) (leaders : List ℕ) (b : ℕ)
+    → component_of p b < length leaders
     → AreLeadersFrom p leaders (b + 1) → AreLeadersFrom p (set leaders (component_of p b) b) b
 leaders_step p leaders b in' old = record {
   least = λ k le l. elim (value_after_set 0 p leaders b b in' k) [
@@ -29,7 +30,8 @@ leaders_step p leaders b in' old = record {
   ];
 }
 
-pub leaders_all : (edges : ℕ → List ℕ) (p : Parts) (leaders : List ℕ) → IsPartition edges p
+pub leaders_all : (edges : ℕ → List ℕ) (p : ComponentParts) (leaders : List ℕ)
+    → IsPartition edges p
     → AreLeadersFrom p leaders 0 → (k : ℕ) → k < length p.component
     → IsNodeLeader edges k (number_for p leaders k)
 leaders_all edges p leaders is all k l =

@@ -8,13 +8,14 @@ use Rattle.std.proofs.lemmas.List.{get_or_default, get_or_past, get_or-replicate
 use Rattle.std.proofs.lemmas.List.Elements.{Contains-get_or}
 use Rattle.epx_graph.specs.NodePaths.{IsNodePath}
 use Rattle.epx_components.specs.MissingNodes.{ReachesMissing, ReachesAny}
-use Rattle.epx_components.specs.Partitions.{Parts, IsPartition, component_of, node_at, mark_for}
+use Rattle.epx_components.specs.Partitions.{ComponentParts, IsPartition, component_of, node_at}
+use Rattle.epx_components.specs.Partitions.{mark_for}
 use Rattle.epx_components.specs.Targets.{LeadsToMarked}
 use Rattle.epx_components.proofs.NodePathLemmas.{reaches_edge, reaches_on, reach_below}
 use Rattle.epx_components.proofs.PartitionLemmas.{node_below, value_after_set}
 
 -- the marks after the first n nodes of the order
-pub record AreMarks (edges : ℕ → List ℕ) (P : ℕ → Type 0) (p : Parts) (marks : List Bool)
+pub record AreMarks (edges : ℕ → List ℕ) (P : ℕ → Type 0) (p : ComponentParts) (marks : List Bool)
     (n : ℕ) : Type 0 where
   pub reason : (k : ℕ) → k < length p.component → IsTrue (mark_for p marks k)
       → ReachesAny edges P k
@@ -23,7 +24,8 @@ pub record AreMarks (edges : ℕ → List ℕ) (P : ℕ → Type 0) (p : Parts) 
       → IsTrue (mark_for p marks (node_at p q))
 
 -- what follows from an edge to a marked component
-pub marks_found : (edges : ℕ → List ℕ) (P : ℕ → Type 0) (p : Parts) (marks : List Bool) (n k : ℕ)
+pub marks_found : (edges : ℕ → List ℕ) (P : ℕ → Type 0) (p : ComponentParts) (marks : List Bool)
+    (n k : ℕ)
     → IsPartition edges p → AreMarks edges P p marks n → LeadsToMarked p.component marks (edges k)
     → ReachesAny edges P k
 marks_found edges P p marks n k is m f =
@@ -31,7 +33,8 @@ marks_found edges P p marks n k is m f =
     let on = m.reason (get_or (edges k) f.0 0) (is.within k _ h) f.2 in
     (on.0, on.1, reaches_on edges k (get_or (edges k) f.0 0) on.0 (reaches_edge edges k _ h) on.2)
 
-pub marks_set : (edges : ℕ → List ℕ) (P : ℕ → Type 0) (p : Parts) (marks : List Bool) (n : ℕ)
+pub marks_set : (edges : ℕ → List ℕ) (P : ℕ → Type 0) (p : ComponentParts) (marks : List Bool)
+    (n : ℕ)
     → IsPartition edges p → n < length p.order → component_of p (node_at p n) < length marks
     → ReachesAny edges P (node_at p n) → AreMarks edges P p marks n
     → AreMarks edges P p (set marks (component_of p (node_at p n)) true) (n + 1)
@@ -80,7 +83,8 @@ marks_set edges P p marks n is l in' why old =
       ];
     }
 
-pub marks_skip : (edges : ℕ → List ℕ) (P : ℕ → Type 0) (p : Parts) (marks : List Bool) (n : ℕ)
+pub marks_skip : (edges : ℕ → List ℕ) (P : ℕ → Type 0) (p : ComponentParts) (marks : List Bool)
+    (n : ℕ)
     → ¬ P (node_at p n) → ¬ LeadsToMarked p.component marks (edges (node_at p n))
     → AreMarks edges P p marks n → AreMarks edges P p marks (n + 1)
 marks_skip edges P p marks n early none old = record {
@@ -102,7 +106,7 @@ marks_skip edges P p marks n early none old = record {
   ];
 }
 
-path_marked : (edges : ℕ → List ℕ) (P : ℕ → Type 0) (p : Parts) (marks : List Bool)
+path_marked : (edges : ℕ → List ℕ) (P : ℕ → Type 0) (p : ComponentParts) (marks : List Bool)
     → IsPartition edges p → AreMarks edges P p marks (length p.order) → (k j : ℕ) (cs : List ℕ)
     → k < length p.component → P j → IsNodePath edges k cs j → IsTrue (mark_for p marks k)
 path_marked edges P p marks is m k j [] l le h =
@@ -115,14 +119,14 @@ path_marked edges P p marks is m k j (c ∷ cs) l le h =
     (rw at at (m.edge q.0 c q.1)) h.0
     (path_marked edges P p marks is m c j cs (is.within k c h.0) le h.1)
 
-pub marks_all : (edges : ℕ → List ℕ) (P : ℕ → Type 0) (p : Parts) (marks : List Bool)
+pub marks_all : (edges : ℕ → List ℕ) (P : ℕ → Type 0) (p : ComponentParts) (marks : List Bool)
     → IsPartition edges p → AreMarks edges P p marks (length p.order) → (k : ℕ)
     → k < length p.component → IsTrue (mark_for p marks k) ↔ ReachesAny edges P k
 marks_all edges P p marks is m k l =
     (m.reason k l, λ r. path_marked edges P p marks is m k r.0 r.2.0 l r.1 r.2.1)
 
 -- if all nodes are committed, none reaches a missing node
-pub none_missing : (edges : ℕ → List ℕ) (p : Parts) (marks : List Bool) (count : ℕ)
+pub none_missing : (edges : ℕ → List ℕ) (p : ComponentParts) (marks : List Bool) (count : ℕ)
     → IsPartition edges p → marks ≡ replicate count false → (k : ℕ) → k < length p.component
     → IsTrue (mark_for p marks k) ↔ ReachesMissing edges (length p.component) k
 none_missing edges p marks count is unmarked k l =

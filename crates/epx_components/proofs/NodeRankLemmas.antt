@@ -9,10 +9,10 @@ use Rattle.epx_components.specs.declared.node_ranks.NodeRank.{NodeRank}
 use Rattle.epx_components.specs.NodeComponents.{IsNodeLeader}
 use Rattle.epx_components.specs.NodeDepths.{IsNodeDepth}
 use Rattle.epx_components.specs.MissingNodes.{ReachesMissing}
-use Rattle.epx_components.specs.Partitions.{Parts, number_for, mark_for}
+use Rattle.epx_components.specs.Partitions.{ComponentParts, number_for, mark_for}
 use Rattle.epx_components.specs.NodeRanks.{IsNodeRank, node_rank_in, node_ranks_in}
 
-pub leader_by_node : (edges : ℕ → List ℕ) (p : Parts) (leaders : List ℕ) (n : ℕ)
+pub leader_by_node : (edges : ℕ → List ℕ) (p : ComponentParts) (leaders : List ℕ) (n : ℕ)
     → length p.component ≡ n → ((k : ℕ) → k < n → IsNodeLeader edges k (number_for p leaders k))
     → (k : ℕ) → k < n → IsNodeLeader edges k
     (get_or (map (λ c. get_or leaders c 0) p.component) k 0)
@@ -21,7 +21,8 @@ leader_by_node edges p leaders n len each k l =
     (sym (get_or-map (λ (c : ℕ). get_or leaders c 0) p.component k 0 0 (omega arith)))
     (each k l)
 
-pub rank_by_node : (g : DependencyGraph) (p : Parts) (leaders depths : List ℕ) (marks : List Bool)
+pub rank_by_node : (g : DependencyGraph) (p : ComponentParts) (leaders depths : List ℕ)
+    (marks : List Bool)
     → length p.component ≡ length g.ids
     → ((k : ℕ) → k < length g.ids → IsNodeLeader (edges_of g) k (number_for p leaders k))
     → ((k : ℕ) → k < length g.ids → IsNodeDepth (edges_of g) k (number_for p depths k))

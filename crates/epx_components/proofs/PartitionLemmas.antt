@@ -4,23 +4,23 @@ use Rattle.std.proofs.Common.{ap, ◌∙◌, All}
 use Rattle.std.proofs.lemmas.Bool.{cases_eq}
 use Rattle.std.proofs.lemmas.List.{get_or-set_same, get_or-set_other}
 use Rattle.std.proofs.lemmas.List.Elements.{All-get_or, All-from_get_or, Contains-get_or}
-use Rattle.epx_components.specs.Partitions.{Parts, IsPartition, component_of, node_at}
+use Rattle.epx_components.specs.Partitions.{ComponentParts, IsPartition, component_of, node_at}
 
-pub node_below : (edges : ℕ → List ℕ) (p : Parts) → IsPartition edges p → (i : ℕ)
+pub node_below : (edges : ℕ → List ℕ) (p : ComponentParts) → IsPartition edges p → (i : ℕ)
     → i < length p.order → node_at p i < length p.component
 node_below edges p is i l = All-get_or (λ k. k < length p.component) p.order i 0 l is.nodes
 
-pub component_below : (edges : ℕ → List ℕ) (p : Parts) → IsPartition edges p → (k : ℕ)
+pub component_below : (edges : ℕ → List ℕ) (p : ComponentParts) → IsPartition edges p → (k : ℕ)
     → k < length p.component → component_of p k < p.count
 component_below edges p is k l = All-get_or (λ c. c < p.count) p.component k 0 l is.counted
 
-pub targets_below : (edges : ℕ → List ℕ) (p : Parts) → IsPartition edges p → (k : ℕ)
+pub targets_below : (edges : ℕ → List ℕ) (p : ComponentParts) → IsPartition edges p → (k : ℕ)
     → All (λ j. j < length p.component) (edges k)
 targets_below edges p is k = All-from_get_or (λ j. j < length p.component) (edges k) 0
     (λ x l. is.within k _ (Contains-get_or (edges k) x 0 l))
 
 -- the value of a node after a write for the component of b
-pub value_after_set : {A : Type 0} (none : A) (p : Parts) (xs : List A) (b : ℕ) (x : A)
+pub value_after_set : {A : Type 0} (none : A) (p : ComponentParts) (xs : List A) (b : ℕ) (x : A)
     → component_of p b < length xs → (k : ℕ)
     → ((component_of p k ≡ component_of p b)
     × (get_or (set xs (component_of p b) x) (component_of p k) none ≡ x))

@@ -7,13 +7,13 @@ use Rattle.epx_graph.specs.NodePaths.{NodeReaches}
 use Rattle.epx_components.specs.declared.partition.Partition.{Partition}
 
 -- the component of each node, the nodes by rising component, and the number of components
-pub record Parts : Type 0 where
+pub record ComponentParts : Type 0 where
   pub component : List ℕ
   pub order : List ℕ
   pub count : ℕ
 
 -- the model of a partition
-abbrev pub parts : Partition → Parts
+abbrev pub parts : Partition → ComponentParts
 parts p = record { component = p.component.items; order = p.order.items; count = p.count }
 
 -- no edge leads to a component with a greater number
@@ -26,7 +26,7 @@ abbrev pub MembersReach : (ℕ → List ℕ) → List ℕ → Type 0
 MembersReach edges component = (k j : ℕ) → k < length component → j < length component
     → slice_index component k ≡ slice_index component j → NodeReaches edges k j
 
-pub record IsPartition (edges : ℕ → List ℕ) (p : Parts) : Type 0 where
+pub record IsPartition (edges : ℕ → List ℕ) (p : ComponentParts) : Type 0 where
   pub within : (k j : ℕ) → Contains (edges k) j → j < length p.component
   pub falls : EdgesFall edges p.component
   pub joined : MembersReach edges p.component
@@ -39,22 +39,22 @@ pub record IsPartition (edges : ℕ → List ℕ) (p : Parts) : Type 0 where
       ≤ slice_index p.component (slice_index p.order j)
 
 -- the components of a graph
-pub record IsPartitionOf (g : DependencyGraph) (p : Parts) : Type 0 where
+pub record IsPartitionOf (g : DependencyGraph) (p : ComponentParts) : Type 0 where
   pub each_node : length p.component ≡ length g.ids
   pub is : IsPartition (edges_of g) p
 
 -- the component of a node
-abbrev pub component_of : Parts → ℕ → ℕ
+abbrev pub component_of : ComponentParts → ℕ → ℕ
 component_of p k = slice_index p.component k
 
 -- the node at this position of the order
-abbrev pub node_at : Parts → ℕ → ℕ
+abbrev pub node_at : ComponentParts → ℕ → ℕ
 node_at p i = slice_index p.order i
 
 -- the number of a node's component, from a list with a number for each component
-abbrev pub number_for : Parts → List ℕ → ℕ → ℕ
+abbrev pub number_for : ComponentParts → List ℕ → ℕ → ℕ
 number_for p numbers k = slice_index numbers (component_of p k)
 
 -- the mark of a node's component, from a list with a mark for each component
-abbrev pub mark_for : Parts → List Bool → ℕ → Bool
+abbrev pub mark_for : ComponentParts → List Bool → ℕ → Bool
 mark_for p marks k = slice_index_or marks (component_of p k) false

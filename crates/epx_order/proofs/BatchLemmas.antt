@@ -3,7 +3,7 @@ use Rattle.std.proofs.Common.{◌≡◌, inl, inr, ℕ, ◌<◌, List, Bool, len
 use Rattle.std.proofs.Common.{arith}
 use Rattle.std.proofs.lemmas.Bool.{cases_Bool, false≢true}
 use Rattle.epx_graph.specs.Graphs.{DependencyGraph, edges_of}
-use Rattle.epx_components.specs.Partitions.{Parts, IsPartitionOf, number_for}
+use Rattle.epx_components.specs.Partitions.{ComponentParts, IsPartitionOf, number_for}
 use Rattle.epx_order.specs.declared.batch.Batch.{Batch}
 use Rattle.epx_order.specs.declared.doubtful_touches.DoubtfulTouch.{DoubtfulTouch}
 use Rattle.epx_order.specs.inner.Batches.{IsBatch, IsWhole, IsReadyApart}
@@ -11,7 +11,8 @@ use Rattle.epx_order.specs.inner.DoubtfulKeys.{IsRelatedOrFree}
 use Rattle.epx_order.specs.inner.ReadyMarks.{is_marked}
 use Rattle.epx_order.specs.inner.SourceBits.{has_bit, HasAlone}
 
-module _ (g : DependencyGraph) (p : Parts) (touches : List DoubtfulTouch) (sources : List ℕ)
+module _ (g : DependencyGraph) (p : ComponentParts) (touches : List DoubtfulTouch)
+    (sources : List ℕ)
     (words : Batch) (ready : List Bool) (is : IsBatch g p touches sources words) where
   pub batch_whole : IsPartitionOf g p → length ready ≡ length g.ids → IsWhole p ready words
   batch_whole partition same = record {

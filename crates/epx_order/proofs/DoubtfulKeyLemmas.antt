@@ -20,7 +20,7 @@ use Rattle.epx_order.specs.inner.RelatedTouches.{AreAllRelated}
 use Rattle.epx_order.specs.inner.DoubtfulKeys.{doubtful_touch, ShareKey, HoldAllConflicts}
 use Rattle.epx_order.specs.inner.ReadyMarks.{AreReadyMarks}
 use Rattle.epx_order.specs.inner.Touches.{touch, hash_of, touches_of, HoldTouches}
-use Rattle.epx_order.specs.inner.ReachIndexes.{AreNodesOf}
+use Rattle.epx_order.specs.inner.ReachIndexes.{AreOrderNodes}
 use Rattle.epx_order.proofs.HashLemmas.{contains_or_not}
 use Rattle.epx_order.proofs.QuickAuditLemmas.{HasPosition, position_of_ready, related}
 use Rattle.epx_order.proofs.ReadyMarkLemmas.{ready_from_mark}
@@ -55,7 +55,7 @@ module _ (m : List Instance) (g : DependencyGraph) (is : IsGraphOf m g) where
       })
 
   module _ (order : List Ranked) (orders : IsExecutionOrder m order) (nodes : List ℕ)
-      (are : AreNodesOf m order nodes) (start : DefaultHasher) (touches sure : List Touch)
+      (are : AreOrderNodes m order nodes) (start : DefaultHasher) (touches sure : List Touch)
       (hashes : List ℕ) (hold : HoldTouches start m nodes (length nodes) touches)
       (keeps : (t : Touch) → Contains touches t → ¬ Contains hashes t.hash → Contains sure t)
       (linked : AreAllRelated (edges_of g) nodes sure (length sure))

@@ -7,7 +7,8 @@ use Rattle.std.proofs.lemmas.List.{get_or_past}
 use Rattle.std.proofs.lemmas.List.Elements.{Contains-get_or}
 use Rattle.epx_graph.specs.NodePaths.{IsNodePath, NodeReaches}
 use Rattle.epx_order.specs.inner.Ends.{AreEnds, IsEndBelow, IsGreatestEnd}
-use Rattle.epx_components.specs.Partitions.{Parts, IsPartition, component_of, node_at, number_for}
+use Rattle.epx_components.specs.Partitions.{ComponentParts, IsPartition, component_of, node_at}
+use Rattle.epx_components.specs.Partitions.{number_for}
 use Rattle.epx_components.proofs.NodePathLemmas.{reach_falls, reaches_edge, reaches_on}
 use Rattle.epx_components.proofs.PartitionLemmas.{node_below, value_after_set}
 
@@ -19,14 +20,14 @@ zero_everywhere n c =
       | inr past ↦ get_or_past (replicate n 0) c 0 (omega (arith, length-replicate {A = ℕ} n 0))
     ]
 
-pub ends_none : (p : Parts) (nodes : List ℕ) → AreEnds p nodes 0 (replicate p.count 0)
+pub ends_none : (p : ComponentParts) (nodes : List ℕ) → AreEnds p nodes 0 (replicate p.count 0)
 ends_none p nodes = record {
   whole = length-replicate {A = ℕ} p.count 0;
   all = λ i l. absurd (omega arith);
   one = λ k _. inl (zero_everywhere p.count (component_of p k));
 }
 
-pub ends_step : (p : Parts) (nodes : List ℕ) (n : ℕ) (ends : List ℕ)
+pub ends_step : (p : ComponentParts) (nodes : List ℕ) (n : ℕ) (ends : List ℕ)
     → component_of p (get_or nodes n 0) < length ends → AreEnds p nodes n ends
     → AreEnds p nodes (n + 1) (set ends (component_of p (get_or nodes n 0)) (n + 1))
 ends_step p nodes n ends in' old =
@@ -123,7 +124,8 @@ module _ (component ends below : List ℕ) (own : ℕ) (targets : List ℕ) (n f
 -- ---- from component to component
 
 -- the ends below, after the first n nodes of the order of components
-pub record AreEndsBelow (edges : ℕ → List ℕ) (p : Parts) (ends below : List ℕ) (n : ℕ) : Type
+pub record AreEndsBelow (edges : ℕ → List ℕ) (p : ComponentParts) (ends below : List ℕ)
+    (n : ℕ) : Type
     0 where
   pub reason : (k : ℕ) → k < length p.component
       → (number_for p below k ≡ 0)
@@ -134,14 +136,14 @@ pub record AreEndsBelow (edges : ℕ → List ℕ) (p : Parts) (ends below : Lis
       → (number_for p ends j ≤ number_for p below (node_at p q))
       × (number_for p below j ≤ number_for p below (node_at p q))
 
-pub ends_below_none : (edges : ℕ → List ℕ) (p : Parts) (ends : List ℕ)
+pub ends_below_none : (edges : ℕ → List ℕ) (p : ComponentParts) (ends : List ℕ)
     → AreEndsBelow edges p ends (replicate p.count 0) 0
 ends_below_none edges p ends = record {
   reason = λ k l. inl (zero_everywhere p.count (component_of p k));
   above = λ q j l. absurd (omega arith);
 }
 
-module _ (edges : ℕ → List ℕ) (p : Parts) (is : IsPartition edges p) (ends : List ℕ) where
+module _ (edges : ℕ → List ℕ) (p : ComponentParts) (is : IsPartition edges p) (ends : List ℕ) where
   -- one step down an edge, from a node of the same component
   down_edge : (k b j : ℕ) → k < length p.component → b < length p.component
       → component_of p k ≡ component_of p b → Contains (edges b) j → NodeReaches edges k j

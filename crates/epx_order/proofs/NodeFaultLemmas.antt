@@ -22,7 +22,8 @@ use Rattle.epx_order.specs.inner.Ends.{AreEnds, IsEndBelow}
 use Rattle.epx_order.specs.inner.NodeLists.{AreListed}
 use Rattle.epx_order.specs.OrderFaults.{IsEarlyAt, IsOvertakenAt, IsListOfReady, InOrder}
 use Rattle.epx_order.specs.OrderFaults.{IsOrderFault}
-use Rattle.epx_components.specs.Partitions.{Parts, IsPartitionOf, component_of, number_for}
+use Rattle.epx_components.specs.Partitions.{ComponentParts, IsPartitionOf, component_of}
+use Rattle.epx_components.specs.Partitions.{number_for}
 use Rattle.epx_order.specs.inner.SequenceKeys.{IsNodeEarlyAt, IsNodeOvertakenAt, AreNodesInOrder}
 use Rattle.epx_order.specs.inner.SequenceKeys.{IsNodeFault}
 use Rattle.epx_order.specs.declared.order_fault.OrderFault.{OrderFault}
@@ -32,7 +33,7 @@ use Rattle.epx_order.proofs.LawfulOrderLemmas.{lawful_from_order}
 use Rattle.epx_components.proofs.NodePathLemmas.{reach_falls, reaches_on}
 use Rattle.epx_components.proofs.ReadyRankLemmas.{node_of_place}
 
-module _ (m : List Instance) (g : DependencyGraph) (is : IsGraphOf m g) (p : Parts)
+module _ (m : List Instance) (g : DependencyGraph) (is : IsGraphOf m g) (p : ComponentParts)
     (part : IsPartitionOf g p) (ids : List Id) (nodes : List ℕ) (marks : List Bool)
     (listed : AreListed g ids (length ids) nodes marks) (ready : IsListOfReady m ids) where
   -- the node at a place is that of the instance there, and is committed

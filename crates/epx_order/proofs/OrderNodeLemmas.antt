@@ -12,11 +12,11 @@ use Rattle.epx_types.proofs.graph.ReachingLemmas.{Reaches-trans}
 use Rattle.epx_graph.specs.Graphs.{DependencyGraph, edges_of}
 use Rattle.epx_graph.specs.GraphOf.{IsGraphOf}
 use Rattle.epx_graph.proofs.MapPathLemmas.{committed_count, node_reaches}
-use Rattle.epx_order.specs.inner.ReachIndexes.{AreNodesOf, LeadersJoin}
+use Rattle.epx_order.specs.inner.ReachIndexes.{AreOrderNodes, LeadersJoin}
 use Rattle.epx_components.proofs.ReadyRankLemmas.{node_of_place}
 
 module _ (m : List Instance) (order : List Ranked) (nodes : List ℕ)
-    (are : AreNodesOf m order nodes) where
+    (are : AreOrderNodes m order nodes) where
   entry : (p : ℕ) (r : Ranked) → slice_get order p ≡ Some r
       → (e : Instance) × (slice_get m (get_or nodes p 0) ≡ Some e) × (e.id ≡ r.id)
   entry p r at = slice_get-from_map (λ (e : Instance). e.id) m (get_or nodes p 0) r.id

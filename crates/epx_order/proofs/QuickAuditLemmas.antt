@@ -22,12 +22,12 @@ use Rattle.epx_graph.proofs.MapPathLemmas.{committed_count, node_reaches}
 use Rattle.epx_order.specs.declared.touches.Touch.{Touch}
 use Rattle.epx_order.specs.inner.RelatedTouches.{touch_at, AreAllRelated}
 use Rattle.epx_order.specs.inner.Touches.{touch, HoldTouches}
-use Rattle.epx_order.specs.inner.ReachIndexes.{AreNodesOf}
+use Rattle.epx_order.specs.inner.ReachIndexes.{AreOrderNodes}
 use Rattle.epx_components.proofs.ReadyRankLemmas.{node_of_place}
 use Rattle.epx_order.proofs.TouchLemmas.{touch_of_touched, touch_of_written}
 
 module _ (m : List Instance) (g : DependencyGraph) (is : IsGraphOf m g) (order : List Ranked)
-    (orders : IsExecutionOrder m order) (nodes : List ℕ) (are : AreNodesOf m order nodes) where
+    (orders : IsExecutionOrder m order) (nodes : List ℕ) (are : AreOrderNodes m order nodes) where
   -- the position of a ready instance in the order
   pub record HasPosition (d : Instance) : Type 0 where
     pub position : ℕ

@@ -8,7 +8,8 @@ use Rattle.std.proofs.lemmas.List.{length-replicate, map-set}
 use Rattle.std.proofs.Math.Seq.{map-set_same}
 use Rattle.epx_graph.specs.NodePaths.{NodeReaches}
 use Rattle.epx_components.specs.MissingNodes.{ReachesAny}
-use Rattle.epx_components.specs.Partitions.{Parts, IsPartition, component_of, node_at, number_for}
+use Rattle.epx_components.specs.Partitions.{ComponentParts, IsPartition, component_of, node_at}
+use Rattle.epx_components.specs.Partitions.{number_for}
 use Rattle.epx_components.specs.Targets.{LeadsToMarked}
 use Rattle.epx_components.proofs.MissingLemmas.{AreMarks, marks_found, marks_set, marks_skip}
 use Rattle.epx_components.proofs.MissingLemmas.{marks_all}
@@ -21,7 +22,7 @@ use Rattle.epx_order.proofs.ReachedMarkLemmas.{AreReached, reached_from, reached
 use Rattle.epx_order.proofs.ReachedMarkLemmas.{reached_skip, reached_step, reached_all}
 
 -- bit b of the words, after the nodes of the order from n on
-abbrev pub AreReachedBits : (ℕ → List ℕ) → Parts → List ℕ → List ℕ → ℕ → Type 0
+abbrev pub AreReachedBits : (ℕ → List ℕ) → ComponentParts → List ℕ → List ℕ → ℕ → Type 0
 AreReachedBits edges p sources words n = (b : ℕ) → b < length sources
     → AreReached edges p (get_or sources b 0) (bits_of b words) n
 
@@ -30,11 +31,12 @@ abbrev pub IsSource : List ℕ → ℕ → ℕ → Type 0
 IsSource sources b j = j ≡ get_or sources b 0
 
 -- bit b of the words, after the first n nodes of the order
-abbrev pub AreReachingBits : (ℕ → List ℕ) → Parts → List ℕ → List ℕ → ℕ → Type 0
+abbrev pub AreReachingBits : (ℕ → List ℕ) → ComponentParts → List ℕ → List ℕ → ℕ → Type 0
 AreReachingBits edges p sources words n = (b : ℕ) → b < length sources
     → AreMarks edges (IsSource sources b) p (bits_of b words) n
 
-module _ (edges : ℕ → List ℕ) (p : Parts) (is : IsPartition edges p) (sources : List ℕ) where
+module _ (edges : ℕ → List ℕ) (p : ComponentParts) (is : IsPartition edges p)
+    (sources : List ℕ) where
   mark_bit : (b : ℕ) (words : List ℕ) (c : ℕ)
       → IsTrue (get_or (bits_of b words) c false) ↔ IsTrue (has_bit b (get_or words c 0))
   mark_bit b words c = ((λ h. sym (bits_at b words c) ∙ h), λ h. bits_at b words c ∙ h)

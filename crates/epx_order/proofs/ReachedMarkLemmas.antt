@@ -5,12 +5,13 @@ use Rattle.std.proofs.lemmas.Bool.{cases_lt}
 use Rattle.std.proofs.lemmas.List.{get_or_default}
 use Rattle.std.proofs.lemmas.List.Elements.{Contains-get_or}
 use Rattle.epx_graph.specs.NodePaths.{IsNodePath, NodeReaches}
-use Rattle.epx_components.specs.Partitions.{Parts, IsPartition, component_of, node_at, mark_for}
+use Rattle.epx_components.specs.Partitions.{ComponentParts, IsPartition, component_of, node_at}
+use Rattle.epx_components.specs.Partitions.{mark_for}
 use Rattle.epx_components.proofs.NodePathLemmas.{reaches_edge, reaches_on}
 use Rattle.epx_components.proofs.PartitionLemmas.{node_below}
 
 -- the marks after the nodes of the order from n on
-pub record AreReached (edges : ℕ → List ℕ) (p : Parts) (root : ℕ) (marks : List Bool)
+pub record AreReached (edges : ℕ → List ℕ) (p : ComponentParts) (root : ℕ) (marks : List Bool)
     (n : ℕ) : Type 0 where
   pub reason : (k : ℕ) → k < length p.component → IsTrue (mark_for p marks k)
       → NodeReaches edges root k
@@ -18,7 +19,7 @@ pub record AreReached (edges : ℕ → List ℕ) (p : Parts) (root : ℕ) (marks
   pub edge : (q j : ℕ) → n ≤ q → q < length p.order → Contains (edges (node_at p q)) j
       → IsTrue (mark_for p marks (node_at p q)) → IsTrue (mark_for p marks j)
 
-module _ (edges : ℕ → List ℕ) (p : Parts) (is : IsPartition edges p) (root : ℕ) where
+module _ (edges : ℕ → List ℕ) (p : ComponentParts) (is : IsPartition edges p) (root : ℕ) where
   -- only the component of the root is marked
   pub reached_from : (marks : List Bool) → root < length p.component
       → ((c : ℕ) → IsTrue (get_or marks c false) ↔ (component_of p root ≡ c))

@@ -11,16 +11,16 @@ use Rattle.epx_types.proofs.lists.TotalOrderLemmas.{below_irrefl, below_trans, b
 use Rattle.epx_types.proofs.lists.ComparisonLemmas.{id_cmp_total, id_cmp-IsAntisymmetric}
 use Rattle.epx_types.proofs.lists.ComparisonLemmas.{first_is_equal, second_is_equal}
 use Rattle.epx_order.specs.declared.sequence_key.SequenceKey.{SequenceKey}
-use Rattle.epx_components.specs.Partitions.{Parts, component_of}
+use Rattle.epx_components.specs.Partitions.{ComponentParts, component_of}
 use Rattle.epx_order.specs.inner.SequenceKeys.{sequence_key_of, sequence_key_cmp, ComesBefore}
 use Rattle.epx_order.specs.inner.SequenceKeys.{IsNodeEarlyAt, IsNodeOvertakenAt, AreNodesInOrder}
 use Rattle.epx_components.proofs.PartitionLemmas.{value_after_set}
 
-abbrev pub latest_in : Parts → List (Option SequenceKey) → ℕ → Option SequenceKey
+abbrev pub latest_in : ComponentParts → List (Option SequenceKey) → ℕ → Option SequenceKey
 latest_in p latest k = get_or latest (component_of p k) None
 
 -- for each component, the greatest sequence key of its nodes among the first n of the list
-pub record AreLatest (m : List Instance) (p : Parts) (nodes : List ℕ) (n : ℕ)
+pub record AreLatest (m : List Instance) (p : ComponentParts) (nodes : List ℕ) (n : ℕ)
     (latest : List (Option SequenceKey)) : Type 0 where
   pub whole : length latest ≡ p.count
   pub from : (k : ℕ) (t : SequenceKey) → latest_in p latest k ≡ Some t
@@ -50,7 +50,7 @@ before_later a b c lower not =
       | inr (inr l) ↦ below_trans sequence_key_cmp_total a b c lower l
     ]
 
-pub latest_none : (m : List Instance) (p : Parts) (nodes : List ℕ)
+pub latest_none : (m : List Instance) (p : ComponentParts) (nodes : List ℕ)
     → AreLatest m p nodes 0 (replicate p.count None)
 latest_none m p nodes = record {
   whole = length-replicate {A = Option SequenceKey} p.count None;
@@ -65,7 +65,7 @@ latest_none m p nodes = record {
         (omega (arith, length-replicate {A = Option SequenceKey} p.count None))
   ]
 
-module _ (m : List Instance) (p : Parts) (nodes : List ℕ) (n : ℕ)
+module _ (m : List Instance) (p : ComponentParts) (nodes : List ℕ) (n : ℕ)
     (latest : List (Option SequenceKey)) (old : AreLatest m p nodes n latest) (e : Instance)
     (at : slice_get m (get_or nodes n 0) ≡ Some e) where
   same_instance : (f : Instance) → slice_get m (get_or nodes n 0) ≡ Some f → f ≡ e
@@ -158,7 +158,7 @@ module _ (m : List Instance) (p : Parts) (nodes : List ℕ) (n : ℕ)
     cases = value_after_set None p latest (get_or nodes n 0) (Some (sequence_key_of e)) in'
 
 -- one more position
-pub nodes_in_order_step : (m : List Instance) (p : Parts) (below nodes : List ℕ) (n : ℕ)
+pub nodes_in_order_step : (m : List Instance) (p : ComponentParts) (below nodes : List ℕ) (n : ℕ)
     → ¬ IsNodeEarlyAt p below nodes n → ¬ IsNodeOvertakenAt m p nodes n
     → AreNodesInOrder m p below nodes n → AreNodesInOrder m p below nodes (n + 1)
 nodes_in_order_step m p below nodes n ahead passed old i l = elim (cases_lt i n) [

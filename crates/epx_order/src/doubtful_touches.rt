@@ -13,7 +13,7 @@ ghost use Rattle.epx_order.specs.inner.ReachIndexes.{IsReachIndex};
 use crate::order_list::OrderList;
 use crate::quick_audit::{are_all_related, is_related_back, next_writer, order_nodes};
 use crate::reach_index::ReachIndex;
-use crate::search::Search;
+use crate::search::PathSearch;
 use crate::touches::{Touch, find_touches};
 use epx_graph::Graph;
 use epx_merge::Merged;
@@ -80,7 +80,7 @@ fn doubtful_hashes(
     requires placed { ArePlaced (length reach.now.nodes.items) touches.now }
     ensures { IfOk result (λ hashes. IsStrictlyIncreasing hashes.items) }
 {
-    let mut path_search = Search::new(alloc, graph.len())?;
+    let mut path_search = PathSearch::new(alloc, graph.len())?;
     let mut hashes = Vec::new(alloc);
     let mut last_writer = 0;
     for index in 0..touches.len() {

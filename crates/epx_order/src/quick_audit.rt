@@ -9,11 +9,11 @@ ghost use Rattle.epx_graph.specs.GraphOf.{IsGraphOf};
 ghost use Rattle.epx_order.specs.inner.RelatedTouches.{touch_at, AreAllRelated, IsRelatedBack};
 ghost use Rattle.epx_order.specs.inner.RelatedTouches.{IsNextWriter};
 ghost use Rattle.epx_order.specs.inner.Touches.{ArePlaced};
-ghost use Rattle.epx_order.specs.inner.ReachIndexes.{AreNodesOf, IsReachIndex};
+ghost use Rattle.epx_order.specs.inner.ReachIndexes.{AreOrderNodes, IsReachIndex};
 
 use crate::order_list::OrderList;
 use crate::reach_index::ReachIndex;
-use crate::search::Search;
+use crate::search::PathSearch;
 use crate::touches::{Touch, find_touches};
 use epx_graph::Graph;
 use epx_merge::Merged;
@@ -53,7 +53,7 @@ pub(crate) fn order_nodes(
 ) -> Result<Vec<usize>, Memory>
     requires rising { IsRising (ids_of merged.now) }
     requires order { IsExecutionOrder merged.now order.now }
-    ensures { IfOk result (λ nodes. AreNodesOf merged.now order.now nodes.items) }
+    ensures { IfOk result (λ nodes. AreOrderNodes merged.now order.now nodes.items) }
 {
     let mut nodes = Vec::with_capacity(alloc, order.len())?;
     for id in order.ids() {
@@ -87,7 +87,7 @@ pub(crate) fn are_all_related(
     ensures { IfOk result (λ yes. IsTrue yes →
         AreAllRelated (edges_of graph.now) reach.now.nodes.items touches.now (length touches.now)) }
 {
-    let mut path_search = Search::new(alloc, graph.len())?;
+    let mut path_search = PathSearch::new(alloc, graph.len())?;
     let mut last_writer = 0;
     for index in 0..touches.len() {
         if !is_related_back(&mut path_search, graph, reach, touches, last_writer, index)? {
@@ -116,7 +116,7 @@ pub(crate) fn next_writer(touches: &[Touch], last_writer: usize, index: usize) -
 /// Whether a touch has no lower hash than the last writer, and is found to reach all touches that
 /// it has to reach.
 pub(crate) fn is_related_back(
-    path_search: &mut Search,
+    path_search: &mut PathSearch,
     graph: &Graph,
     reach: &ReachIndex,
     touches: &[Touch],

@@ -15,7 +15,7 @@ const OPENED_PER_NODE: usize = 64;
 
 /// The state that searches share, so that a search does not have to clear the table of seen nodes.
 #[derive(Debug, Drop)]
-pub(crate) struct Search {
+pub(crate) struct PathSearch {
     /// For each node, the number of the last search that opened it.
     seen: Vec<usize>,
     /// The number of the current search.
@@ -26,11 +26,11 @@ pub(crate) struct Search {
     left: usize,
 }
 
-impl Search {
-    pub(crate) fn new(alloc: Global, nodes: usize) -> Result<Search, Memory>
+impl PathSearch {
+    pub(crate) fn new(alloc: Global, nodes: usize) -> Result<PathSearch, Memory>
         ensures { IfOk result (λ path_search. length path_search.seen.items ≡ nodes) }
     {
-        Ok(Search {
+        Ok(PathSearch {
             seen: vec![in alloc; 0; nodes]?,
             search: 0,
             opened: Vec::new(alloc),

@@ -18,7 +18,7 @@ use Rattle.epx_tool.specs.declared.ask.Ask.TheVariants.{Order, Levels, Audit, Gr
 use Rattle.epx_program.proofs.FailedInputLemmas.{unread}
 use Rattle.epx_program.proofs.StatusLemmas.{adds_answer, adds_part}
 use Rattle.epx_program.specs.Endings.{IsTaskResult, IsTaskAnswer, IsTaskFault}
-use Rattle.epx_program.specs.inner.Outcomes.{Outcome, task_showing}
+use Rattle.epx_program.specs.inner.Outcomes.{TaskOutcome, task_showing}
 
 pub view_is_answer : (asked : Ask) (logs : List (List ℕ)) (text : List ℕ)
     → Answers (IsViewText asked) logs (Ok text) → IsTaskAnswer (task_showing asked) logs (Ok text)
@@ -73,7 +73,7 @@ module _ (task : Task) (Is : List Instance → List ℕ → Type 0)
       → (IsErrOf done Write → OfKnown (IsWritten (AppendsPrefix old new)))
       → (IsErrOf done Write → AnswersDelivered reads Is before after (AppendsPrefix old new))
       → IsErrOf done Write ↔ (failed ≡ true)
-      → Outcome remaining reads fails task before done flushed failed old new
+      → TaskOutcome remaining reads fails task before done flushed failed old new
   outcome done flushed failed text answered flush refusal refused nothing prefix part written =
       record {
         known = task_result done text refusal prefix nothing;

@@ -6,7 +6,7 @@ ghost use Rattle.epx_program.specs.Calls.{paths_of};
 ghost use Rattle.epx_program.specs.Endings.{AddsAnswer, AddsPart, IsTaskResult, task_over};
 ghost use Rattle.epx_program.specs.Inputs.{HasFailedRead, IsInputAlone, OneHasFailedRead};
 ghost use Rattle.epx_program.specs.Inputs.{text_count};
-ghost use Rattle.epx_program.specs.inner.Outcomes.{Outcome, task_showing};
+ghost use Rattle.epx_program.specs.inner.Outcomes.{TaskOutcome, task_showing};
 ghost use Rattle.epx_tool.specs.Runs.{AreBytesOf};
 
 use crate::inputs::sources_at;
@@ -73,7 +73,7 @@ fn answer_from_first<R: Threads + RandomSource + Sync, S: Source, W: Sink>(
 ) -> Result<(), Fault>
     requires sources { All (λ s. S.has_failed s ≡ false) sources.old }
     requires output { W.has_failed output.old ≡ false }
-    ensures { Outcome S.remaining S.reads S.fails (task_over kind) sources.old result
+    ensures { TaskOutcome S.remaining S.reads S.fails (task_over kind) sources.old result
         (W.is_flushed output.new) (W.has_failed output.new) (W.contents output.old)
         (W.contents output.new) }
 {
@@ -97,7 +97,7 @@ fn answer_report<R: Threads + RandomSource + Sync, S: Source, W: Sink>(
 ) -> Result<(), Fault>
     requires sources { All (λ s. S.has_failed s ≡ false) sources.old }
     requires output { W.has_failed output.old ≡ false }
-    ensures { Outcome S.remaining S.reads S.fails Task.Run sources.old result
+    ensures { TaskOutcome S.remaining S.reads S.fails Task.Run sources.old result
         (W.is_flushed output.new) (W.has_failed output.new) (W.contents output.old)
         (W.contents output.new) }
 {
@@ -115,7 +115,7 @@ fn answer_view<R: Threads + RandomSource + Sync, S: Source, W: Sink>(
 ) -> Result<(), Fault>
     requires sources { All (λ s. S.has_failed s ≡ false) sources.old }
     requires output { W.has_failed output.old ≡ false }
-    ensures { Outcome S.remaining S.reads S.fails (task_showing ask) sources.old result
+    ensures { TaskOutcome S.remaining S.reads S.fails (task_showing ask) sources.old result
         (W.is_flushed output.new) (W.has_failed output.new) (W.contents output.old)
         (W.contents output.new) }
 {
@@ -133,7 +133,7 @@ fn answer<R: Threads + RandomSource + Sync, S: Source, W: Sink>(
 ) -> Result<(), Fault>
     requires sources { All (λ s. S.has_failed s ≡ false) sources.old }
     requires output { W.has_failed output.old ≡ false }
-    ensures { Outcome S.remaining S.reads S.fails task sources.old result
+    ensures { TaskOutcome S.remaining S.reads S.fails task sources.old result
         (W.is_flushed output.new) (W.has_failed output.new) (W.contents output.old)
         (W.contents output.new) }
 {

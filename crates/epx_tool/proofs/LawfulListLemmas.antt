@@ -13,7 +13,7 @@ use Rattle.epx_types.proofs.orders.LawfulExecutionLemmas.{final-lawful, reply-la
 use Rattle.epx_merge.specs.Acceptance.{IsAccepted}
 use Rattle.epx_merge.proofs.UniquenessLemmas.{accepted_unique}
 use Rattle.epx_base.specs.Lists.{IsList}
-use Rattle.epx_tool.specs.Report.{ops_of, commands_of}
+use Rattle.epx_tool.specs.Report.{ops_found, commands_of}
 use Rattle.epx_tool.specs.Verdicts.{lawful_text}
 use Rattle.epx_tool.specs.CheckAnswers.{Checks}
 use Rattle.epx_tool.specs.CheckLaws.{LawfulTextMeansLawful, LawfulListExecutesAlike}
@@ -39,7 +39,7 @@ lawful_text_means_lawful list logs ids m short is accepted = (
 
 -- ---- executed
 
-same_ops : (e : Option Instance) → ops_of e ≡ lawful.ops_of e
+same_ops : (e : Option Instance) → ops_found e ≡ lawful.ops_found e
 same_ops None = refl
 same_ops (Some e) = refl
 

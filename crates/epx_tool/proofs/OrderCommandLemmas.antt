@@ -5,17 +5,17 @@ use Rattle.epx_types.specs.declared.op.Op.{Op}
 use Rattle.epx_types.specs.Instances.{Instance}
 use Rattle.epx_types.specs.CommittedMap.{instance_of}
 use Rattle.epx_types.specs.ExecutionOrder.{Ranked, ranked_ids}
-use Rattle.epx_tool.specs.Report.{ops_of, commands_of}
+use Rattle.epx_tool.specs.Report.{ops_found, commands_of}
 
 -- the commands of the instances of a list
 abbrev pub commands_by_id : List Instance → List Id → List (List Op)
-commands_by_id m ids = map (λ x. ops_of (instance_of m x)) ids
+commands_by_id m ids = map (λ x. ops_found (instance_of m x)) ids
 
 commands_of-by_id : (m : List Instance) (order : List Ranked)
     → commands_of m order ≡ commands_by_id m (ranked_ids order)
 commands_of-by_id m [] = refl
 commands_of-by_id m (r ∷ order) =
-    ap (λ rest. ops_of (instance_of m r.id) ∷ rest) (commands_of-by_id m order)
+    ap (λ rest. ops_found (instance_of m r.id) ∷ rest) (commands_of-by_id m order)
 
 pub commands_are : (m : List Instance) (order : List Ranked) (ids : List Id)
     (commands : List (List Op)) → ids ≡ ranked_ids order → commands ≡ commands_by_id m ids

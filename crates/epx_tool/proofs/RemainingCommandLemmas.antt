@@ -12,7 +12,7 @@ use Rattle.epx_types.specs.Done.{remaining}
 use Rattle.epx_types.proofs.lists.ComparisonLemmas.{id_cmp-IsAntisymmetric}
 use Rattle.epx_types.proofs.remaining.RemainingLemmas.{is_among_cases}
 use Rattle.epx_types.proofs.lists.MembershipLemmas.{Contains-head, Contains-cons}
-use Rattle.epx_tool.specs.Report.{ops_of}
+use Rattle.epx_tool.specs.Report.{ops_found}
 use Rattle.epx_tool.proofs.OrderCommandLemmas.{commands_by_id}
 
 module _ (done : List Id) where
@@ -25,10 +25,10 @@ module _ (done : List Id) where
         | inr other ↦ rw other.0 (omega (arith, length-remaining m))
       ]
 
-  ops_of-left : (m : List Instance) (x : Id) → ¬ Contains done x
-      → ops_of (instance_of (remaining done m) x) ≡ ops_of (instance_of m x)
-  ops_of-left [] x left = refl
-  ops_of-left (e ∷ m) x left =
+  ops_found-left : (m : List Instance) (x : Id) → ¬ Contains done x
+      → ops_found (instance_of (remaining done m) x) ≡ ops_found (instance_of m x)
+  ops_found-left [] x left = refl
+  ops_found-left (e ∷ m) x left =
       elim (cases_Bool (is_eq (id_cmp e.id x))) [
         | inl found ↦
             let same = id_cmp-IsAntisymmetric e.id x ((Equal-is (id_cmp e.id x)).0 found) in
@@ -37,8 +37,8 @@ module _ (done : List Id) where
               | inr other ↦ rw other.0 (rw found refl)
             ]
         | inr missed ↦ elim (is_among_cases done e.id) [
-          | inl among ↦ rw among.0 (rw missed (ops_of-left m x left))
-          | inr other ↦ rw other.0 (rw missed (ops_of-left m x left))
+          | inl among ↦ rw among.0 (rw missed (ops_found-left m x left))
+          | inr other ↦ rw other.0 (rw missed (ops_found-left m x left))
         ]
       ]
 
@@ -47,5 +47,5 @@ module _ (done : List Id) where
       → commands_by_id (remaining done m) ids ≡ commands_by_id m ids
   commands-left m [] left = refl
   commands-left m (x ∷ ids) left =
-      ap₂ (λ o os. o ∷ os) (ops_of-left m x (left x (Contains-head x ids)))
+      ap₂ (λ o os. o ∷ os) (ops_found-left m x (left x (Contains-head x ids)))
       (commands-left m ids (λ y h. left y (Contains-cons x ids y h)))

@@ -23,7 +23,7 @@ use Rattle.epx_base.specs.ReportLines.{store_line}
 use Rattle.epx_base.specs.ReportBases.{replied_ids, AreLinesInOrder, AreDoneAfter}
 use Rattle.epx_base.specs.ReportReadings.{ReportData, text_of_report}
 use Rattle.epx_base.proofs.ReportBaseLemmas.{report_is_a_base}
-use Rattle.epx_tool.specs.Report.{IsReport, commands_of, ops_of, report_text}
+use Rattle.epx_tool.specs.Report.{IsReport, commands_of, ops_found, report_text}
 use Rattle.epx_tool.specs.ResumedReport.{IsReportAfter}
 use Rattle.epx_tool.specs.ResumptionLaws.{ReportIsAfterNothing, ReportIsBase, reported_of, run_in}
 use Rattle.epx_tool.proofs.ReportLemmas.{executed_is_left, IsReport-after_nothing}
@@ -63,7 +63,7 @@ module _ (done : List Id) (stored : Contents) (m : List Instance) (text : List �
   as_many : length run.replies ≡ length (ranked_ids p.order)
   as_many =
       length-replies (commands_of (remaining done m) p.order) stored
-      ∙ length-map p.order (λ r. ops_of (instance_of (remaining done m) r.id))
+      ∙ length-map p.order (λ r. ops_found (instance_of (remaining done m) r.id))
       ∙ sym (length-map p.order (λ (r : Ranked). r.id))
 
   pub replied : replied_ids written.replies ≡ ranked_ids p.order

@@ -15,7 +15,7 @@ use Rattle.epx_types.specs.ExecutionOrder.{Ranked, IsExecutionOrder, ranked_ids}
 use Rattle.epx_types.specs.WaitingLists.{Waiting, IsWaitingList}
 use Rattle.epx_types.specs.Levels.{AreLevels}
 use Rattle.epx_merge.specs.Limits.{max_instances}
-use Rattle.epx_tool.specs.Report.{IsReport, ops_of, commands_of, report_text}
+use Rattle.epx_tool.specs.Report.{IsReport, ops_found, commands_of, report_text}
 use Rattle.epx_tool.specs.ResumedReport.{IsReportAfter, resumed_text}
 use Rattle.epx_tool.specs.LevelText.{IsLevelText, level_text}
 use Rattle.epx_tool.specs.AuditText.{IsAuditText, covered_line, uncovered_line}
@@ -35,7 +35,8 @@ module _ (done : List Id) (m : List Instance) (order : List Ranked)
       → map ops commands ≡ commands_by_id m ids → length commands ≤ 2 ^ 40
   few_commands few ops commands e =
       let many : length commands ≡ length order =
-      sym (length-map commands ops) ∙ ap length e ∙ length-map ids (λ x. ops_of (instance_of m x))
+      sym (length-map commands ops) ∙ ap length e
+      ∙ length-map ids (λ x. ops_found (instance_of m x))
       ∙ ap length are ∙ length-map order (λ (r : Ranked). r.id) in
       omega (
         arith,

@@ -49,7 +49,7 @@ use Rattle.epx_base.proofs.LineRangeLemmas.{IsStoreKey, FitsCommand, FitsInstanc
 use Rattle.epx_base.proofs.LineRangeLemmas.{line_fits, of_all}
 use Rattle.epx_base.proofs.BaseRangeLemmas.{FitsBase}
 use Rattle.epx_base.proofs.ExecutionRangeLemmas.{execute_fits}
-use Rattle.epx_tool.specs.Report.{ops_of, commands_of}
+use Rattle.epx_tool.specs.Report.{ops_found, commands_of}
 use Rattle.epx_tool.specs.ResumedReport.{IsReportAfter}
 use Rattle.epx_tool.specs.ResumptionLaws.{reported_of, run_in}
 use Rattle.epx_tool.proofs.RemainingCommandLemmas.{length-remaining}
@@ -160,11 +160,11 @@ CommandFits : Instance → Type 0
 CommandFits e = FitsCommand e.ops
 
 ops_fit : (l : List Instance) → AllByRecursion CommandFits l → (x : Id)
-    → FitsCommand (ops_of (instance_of l x))
+    → FitsCommand (ops_found (instance_of l x))
 unfolding CommandFits
 ops_fit [] h x = record { each = tt; few = omega arith }
 ops_fit (e ∷ l) h x =
-    by_test (λ (o : Option Instance). FitsCommand (ops_of o)) (is_eq (id_cmp e.id x)) (Some e)
+    by_test (λ (o : Option Instance). FitsCommand (ops_found o)) (is_eq (id_cmp e.id x)) (Some e)
     (instance_of l x) (λ _. h.0) (λ _. ops_fit l h.1 x)
 
 commands_fit : (l : List Instance) → AllByRecursion CommandFits l → (order : List Ranked)

@@ -8,10 +8,10 @@ use Rattle.epx_order.specs.declared.order_fault.OrderFault.{OrderFault}
 use Rattle.epx_order.specs.declared.order_fault.OrderFault.TheVariants.{Memory, Stranger, Repeat}
 use Rattle.epx_order.specs.declared.order_fault.OrderFault.TheVariants.{Missing, Early, Sequence}
 use Rattle.epx_order.proofs.UniqueFaultLemmas.{fault_is_one, lawful_has_no_fault}
-use Rattle.epx_tool.specs.Verdicts.{lawful_text, fault_text, IsVerdict}
+use Rattle.epx_tool.specs.Verdicts.{lawful_text, order_fault_text, IsVerdict}
 
 -- no fault has the text of a lawful order
-lawful_text-apart : (fault : OrderFault) → ¬ (lawful_text ≡ fault_text fault)
+lawful_text-apart : (fault : OrderFault) → ¬ (lawful_text ≡ order_fault_text fault)
 unfolding escape_byte
 lawful_text-apart Memory e = cc e
 lawful_text-apart (Stranger place) e = cc e
@@ -27,7 +27,7 @@ module _ (m : List Instance) (ids : List Id) where
   IsVerdict-unique text other (inl a) (inr b) = absurd (lawful_has_no_fault m ids b.0 b.1 a.0 b.2)
   IsVerdict-unique text other (inr a) (inl b) = absurd (lawful_has_no_fault m ids a.0 a.1 b.0 a.2)
   IsVerdict-unique text other (inr a) (inr b) =
-      a.3 ∙ ap fault_text (fault_is_one m ids a.0 b.0 a.1 b.1 a.2 b.2) ∙ sym b.3
+      a.3 ∙ ap order_fault_text (fault_is_one m ids a.0 b.0 a.1 b.1 a.2 b.2) ∙ sym b.3
 
   pub lawful-from_verdict : IsVerdict m ids lawful_text → IsLawful m ids
   lawful-from_verdict (inl a) = a.0

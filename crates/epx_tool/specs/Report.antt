@@ -10,13 +10,13 @@ use Rattle.epx_types.specs.ExecutionOrder.{Ranked, IsExecutionOrder, ranked_ids,
 use Rattle.epx_types.specs.WaitingLists.{Waiting, IsWaitingList}
 use Rattle.epx_base.specs.ReportLines.{header_line, reply_line, waiting_line, store_line}
 
-abbrev pub ops_of : Option Instance → List Op
-ops_of None = []
-ops_of (Some e) = e.ops
+abbrev pub ops_found : Option Instance → List Op
+ops_found None = []
+ops_found (Some e) = e.ops
 
 -- the commands of the instances of an order
 abbrev pub commands_of : List Instance → List Ranked → List (List Op)
-commands_of m order = map (λ r. ops_of (instance_of m r.id)) order
+commands_of m order = map (λ r. ops_found (instance_of m r.id)) order
 
 -- the header, the replies in execution order, the instances that wait, and the store, by the bytes
 -- of its keys

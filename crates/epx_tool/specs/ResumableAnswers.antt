@@ -82,8 +82,9 @@ ResumedReportIsSound = (m : List Instance) (base : List ℕ) (logs : List (List 
 -- ---- the replies and the final store of resumed runs
 
 -- the replies of a report
-abbrev pub replies_in : (m : List Instance) (text : List ℕ) → IsReport m text → List (Id × Reply)
-replies_in m text p =
+abbrev pub replies_by_report : (m : List Instance) (text : List ℕ) → IsReport m text
+    → List (Id × Reply)
+replies_by_report m text p =
     zip (ranked_ids p.order) (execute (commands_of m p.order) contents.empty).replies
 
 -- the replies of a report that resumes from a base
@@ -98,7 +99,7 @@ pub record RepliesMatchWhole (m : List Instance) (base : List ℕ) (logs : List 
   pub report : IsReportAfter g.before.done g.before.stored g.rest text
   pub each : (r : Id × Reply)
       → Contains (replies_after g.before.done g.before.stored g.rest text report) r
-      → Contains (replies_in m whole q) r
+      → Contains (replies_by_report m whole q) r
 
 -- over covered logs, each reply of a resumed run is the reply in the report of the whole
 abbrev pub ResumedReportRepeatsTheWhole : Type 0

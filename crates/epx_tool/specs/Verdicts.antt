@@ -23,11 +23,11 @@ fault_data (Missing x) = string (codes "missing") ∷ data_of_number x.replica
 fault_data (Early place) = string (codes "early") ∷ data_of_number place ∷ []
 fault_data (Sequence place) = string (codes "sequence") ∷ data_of_number place ∷ []
 
-abbrev pub fault_text : OrderFault → List ℕ
-fault_text fault = line_of (fault_data fault)
+abbrev pub order_fault_text : OrderFault → List ℕ
+order_fault_text fault = line_of (fault_data fault)
 
 -- the verdict is that the list is a lawful order, or its fault
 abbrev pub IsVerdict : List Instance → List Id → List ℕ → Type 0
 IsVerdict m ids text = (IsLawful m ids × (text ≡ lawful_text))
     ⊎ ((fault : OrderFault) × (fault ≢ Memory) × IsOrderFault m ids fault
-    × (text ≡ fault_text fault))
+    × (text ≡ order_fault_text fault))

@@ -7,7 +7,7 @@ ghost use Rattle.epx_tool.specs.Answer.{Answers, IsAnswer};
 ghost use Rattle.epx_tool.specs.OrderText.{IsOrderText};
 ghost use Rattle.epx_tool.specs.LevelText.{IsLevelText};
 ghost use Rattle.epx_tool.specs.AuditText.{IsAuditText};
-ghost use Rattle.epx_tool.specs.Report.{ops_of, IsReport};
+ghost use Rattle.epx_tool.specs.Report.{ops_found, IsReport};
 ghost use Rattle.epx_tool.specs.ResumedReport.{resumed_text, IsReportAfter};
 ghost use Rattle.epx_tool.specs.Views.{IsViewText};
 ghost use Rattle.epx_picture.specs.Pictures.{IsPicture};
@@ -30,7 +30,7 @@ use std::thread::{Threads, join};
 /// The commands of some instances.
 fn commands<'a>(alloc: Global, merged: &'a Merged, ids: &[Id]) -> Result<Vec<Command<'a>>, Memory>
     ensures { IfOk result (λ commands. map (λ c. c.ops.now) commands.items
-        ≡ map (λ x. ops_of (instance_of merged.now x)) ids.now) }
+        ≡ map (λ x. ops_found (instance_of merged.now x)) ids.now) }
 {
     let mut commands = Vec::with_capacity(alloc, ids.len())?;
     for id in ids {

@@ -3,7 +3,7 @@ ghost use Rattle.std.specs.Prelude.{◌≡◌, ◌≢◌, ◌∷◌, [], IfOk, M
 ghost use Rattle.serde_json.specs.Data.{string};
 ghost use Rattle.epx_base.specs.ReportLines.{data_of_number, line_of};
 ghost use Rattle.epx_tool.specs.AuditText.{covered_line, uncovered_line};
-ghost use Rattle.epx_tool.specs.Verdicts.{fault_data, fault_text, lawful_text};
+ghost use Rattle.epx_tool.specs.Verdicts.{fault_data, order_fault_text, lawful_text};
 
 use epx_base::{begin_line, end_line, write_id_parts};
 use epx_order::OrderFault;
@@ -33,7 +33,7 @@ fn place_line(alloc: Global, name: &str, place: usize) -> Result<Vec<u8>, AllocE
 }
 
 fn missing_line(alloc: Global, id: Id) -> Result<Vec<u8>, AllocError>
-    ensures { IfOk result (λ text. text.items ≡ fault_text (OrderFault.Missing id)) }
+    ensures { IfOk result (λ text. text.items ≡ order_fault_text (OrderFault.Missing id)) }
 {
     let mut text = Vec::new(alloc);
     let line = &mut Vec::new(alloc);
@@ -45,7 +45,8 @@ fn missing_line(alloc: Global, id: Id) -> Result<Vec<u8>, AllocError>
 
 /// The line of a fault. Out of memory has no line.
 fn fault_line(alloc: Global, fault: OrderFault) -> Result<Vec<u8>, Memory>
-    ensures { IfOk result (λ text. (fault ≢ OrderFault.Memory) × (text.items ≡ fault_text fault)) }
+    ensures { IfOk result (λ text. (fault ≢ OrderFault.Memory)
+        × (text.items ≡ order_fault_text fault)) }
 {
     match fault {
         OrderFault::Memory => Err(Memory),
@@ -83,7 +84,7 @@ pub(crate) fn audit_line(alloc: Global, found: Option<(Id, Id)>) -> Result<Vec<u
 /// The line of a verdict.
 pub(crate) fn verdict_line(alloc: Global, found: Result<(), OrderFault>) -> Result<Vec<u8>, Memory>
     ensures { IfOk result (λ text. MatchResult found (λ _. text.items ≡ lawful_text)
-        (λ fault. (fault ≢ OrderFault.Memory) × (text.items ≡ fault_text fault))) }
+        (λ fault. (fault ≢ OrderFault.Memory) × (text.items ≡ order_fault_text fault))) }
 {
     match found {
         Ok(()) => Ok(name_line(alloc, "lawful")?),

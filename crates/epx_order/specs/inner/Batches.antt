@@ -3,7 +3,7 @@
 use Rattle.std.specs.Prelude.{◌≡◌, ◌↔◌, ℕ, ◌<◌, ◌≤◌, List, Bool, length, slice_index, All, IsTrue}
 use Rattle.epx_graph.specs.Graphs.{DependencyGraph, edges_of}
 use Rattle.epx_graph.specs.NodePaths.{NodeReaches}
-use Rattle.epx_components.specs.Partitions.{Parts, number_for}
+use Rattle.epx_components.specs.Partitions.{ComponentParts, number_for}
 use Rattle.epx_order.specs.declared.batch.Batch.{Batch}
 use Rattle.epx_order.specs.declared.doubtful_touches.DoubtfulTouch.{DoubtfulTouch}
 use Rattle.epx_order.specs.inner.DoubtfulKeys.{ShareKey}
@@ -11,13 +11,13 @@ use Rattle.epx_order.specs.inner.ReadyMarks.{is_marked}
 use Rattle.epx_order.specs.inner.SourceBits.{has_bit}
 
 -- bit b of a component's word: source b reaches it
-abbrev pub AreReachedBy : DependencyGraph → Parts → List ℕ → List ℕ → Type 0
+abbrev pub AreReachedBy : DependencyGraph → ComponentParts → List ℕ → List ℕ → Type 0
 AreReachedBy g p sources words =
     (b k : ℕ) → b < length sources → k < length g.ids →
     IsTrue (has_bit b (number_for p words k)) ↔ NodeReaches (edges_of g) (slice_index sources b) k
 
 -- bit b of a component's word: it reaches source b
-abbrev pub AreReaching : DependencyGraph → Parts → List ℕ → List ℕ → Type 0
+abbrev pub AreReaching : DependencyGraph → ComponentParts → List ℕ → List ℕ → Type 0
 AreReaching g p sources words =
     (b k : ℕ) → b < length sources → k < length g.ids →
     IsTrue (has_bit b (number_for p words k)) ↔ NodeReaches (edges_of g) k (slice_index sources b)
@@ -29,13 +29,13 @@ AreSharing touches sources words =
     IsTrue (has_bit b (slice_index words j))
 
 -- the batch has one word for each component and one for each node
-pub record IsWhole (p : Parts) (ready : List Bool) (batch : Batch) : Type 0 where
+pub record IsWhole (p : ComponentParts) (ready : List Bool) (batch : Batch) : Type 0 where
   pub counted : All (λ c. c < p.count) p.component
   pub components : (length batch.reached.items ≡ p.count) × (length batch.reaching.items ≡ p.count)
   pub nodes : (length batch.sharing.items ≡ length p.component)
       × (length ready ≡ length p.component)
 
-pub record IsBatch (g : DependencyGraph) (p : Parts) (touches : List DoubtfulTouch)
+pub record IsBatch (g : DependencyGraph) (p : ComponentParts) (touches : List DoubtfulTouch)
     (sources : List ℕ) (batch : Batch) : Type 0 where
   pub few : length sources ≤ 64
   pub nodes : length p.component ≡ length g.ids

@@ -2,11 +2,11 @@
 -- the same for the components that it reaches.
 use Rattle.std.specs.Prelude.{◌≡◌, ◌≢◌, ◌⊎◌, ℕ, ◌+◌, ◌<◌, ◌≤◌, List, length, slice_index}
 use Rattle.epx_graph.specs.NodePaths.{NodeReaches}
-use Rattle.epx_components.specs.Partitions.{Parts, component_of, number_for}
+use Rattle.epx_components.specs.Partitions.{ComponentParts, component_of, number_for}
 
 -- for each component: one more than the last of the first n positions at which it has a member, or
 -- 0
-pub record AreEnds (p : Parts) (nodes : List ℕ) (n : ℕ) (ends : List ℕ) : Type 0 where
+pub record AreEnds (p : ComponentParts) (nodes : List ℕ) (n : ℕ) (ends : List ℕ) : Type 0 where
   pub whole : length ends ≡ p.count
   pub all : (i : ℕ) → i < n → i + 1 ≤ number_for p ends (slice_index nodes i)
   pub one : (k : ℕ) → k < length p.component
@@ -15,7 +15,8 @@ pub record AreEnds (p : Parts) (nodes : List ℕ) (n : ℕ) (ends : List ℕ) : 
       × (number_for p ends k ≡ i + 1))
 
 -- the greatest end of the other components that a node reaches, or 0
-pub record IsEndBelow (edges : ℕ → List ℕ) (p : Parts) (ends : List ℕ) (k found : ℕ) : Type 0 where
+pub record IsEndBelow (edges : ℕ → List ℕ) (p : ComponentParts) (ends : List ℕ)
+    (k found : ℕ) : Type 0 where
   pub all : (j : ℕ) → NodeReaches edges k j → component_of p j ≢ component_of p k
       → number_for p ends j ≤ found
   pub one : (found ≡ 0) ⊎ ((j : ℕ) × NodeReaches edges k j × (component_of p j ≢ component_of p k)

@@ -10,7 +10,7 @@ use Rattle.epx_order.specs.declared.reach_index.Chain.{Chain}
 use Rattle.epx_order.specs.declared.reach_index.ReachIndex.{ReachIndex}
 
 -- the node at each position of an order
-pub record AreNodesOf (m : List Instance) (order : List Ranked) (nodes : List ℕ) : Type 0 where
+pub record AreOrderNodes (m : List Instance) (order : List Ranked) (nodes : List ℕ) : Type 0 where
   pub whole : length nodes ≡ length order
   pub each : (p : ℕ) (r : Ranked) → slice_get order p ≡ Some r
       → slice_get (ids_of m) (slice_index nodes p) ≡ Some r.id

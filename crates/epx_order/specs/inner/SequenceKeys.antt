@@ -9,7 +9,7 @@ use Rattle.epx_order.specs.declared.order_fault.OrderFault.{OrderFault}
 use Rattle.epx_order.specs.declared.order_fault.OrderFault.TheVariants.{Memory, Stranger, Repeat}
 use Rattle.epx_order.specs.declared.order_fault.OrderFault.TheVariants.{Missing, Early, Sequence}
 use Rattle.epx_order.specs.declared.sequence_key.SequenceKey.{SequenceKey}
-use Rattle.epx_components.specs.Partitions.{Parts, component_of, number_for}
+use Rattle.epx_components.specs.Partitions.{ComponentParts, component_of, number_for}
 
 abbrev pub sequence_key_of : Instance → SequenceKey
 sequence_key_of e = record { seq = e.seq; id = e.id }
@@ -30,21 +30,21 @@ SequenceKeyBefore m k j = (d e : Instance) × (slice_get m k ≡ Some d) × (sli
     × (is_lt (sequence_key_cmp (sequence_key_of d) (sequence_key_of e)) ≡ true)
 
 -- a component below that of the node at position i has a later end
-abbrev pub IsNodeEarlyAt : Parts → List ℕ → List ℕ → ℕ → Type 0
+abbrev pub IsNodeEarlyAt : ComponentParts → List ℕ → List ℕ → ℕ → Type 0
 IsNodeEarlyAt p below nodes i = i < number_for p below (slice_index nodes i)
 
 -- an earlier position has a node of the same component with a greater sequence key
-abbrev pub IsNodeOvertakenAt : List Instance → Parts → List ℕ → ℕ → Type 0
+abbrev pub IsNodeOvertakenAt : List Instance → ComponentParts → List ℕ → ℕ → Type 0
 IsNodeOvertakenAt m p nodes i = (j : ℕ) × (j < i)
     × (component_of p (slice_index nodes j) ≡ component_of p (slice_index nodes i))
     × SequenceKeyBefore m (slice_index nodes i) (slice_index nodes j)
 
-abbrev pub AreNodesInOrder : List Instance → Parts → List ℕ → List ℕ → ℕ → Type 0
+abbrev pub AreNodesInOrder : List Instance → ComponentParts → List ℕ → List ℕ → ℕ → Type 0
 AreNodesInOrder m p below nodes n = (i : ℕ) → i < n
     → ¬ IsNodeEarlyAt p below nodes i × ¬ IsNodeOvertakenAt m p nodes i
 
 -- the least position where the order is wrong
-abbrev pub IsNodeFault : List Instance → Parts → List ℕ → List ℕ → OrderFault → Type 0
+abbrev pub IsNodeFault : List Instance → ComponentParts → List ℕ → List ℕ → OrderFault → Type 0
 IsNodeFault m p below nodes Memory = Unit {0}
 IsNodeFault m p below nodes (Stranger i) = ⊥
 IsNodeFault m p below nodes (Repeat i) = ⊥

@@ -21,7 +21,7 @@ task_showing ask.Audit = Audit
 task_showing ask.Graph = Graph
 
 -- The outcome of a task over these sources. `old` and `new` are the contents of the output.
-pub record Outcome {S A : Type 0} (remaining : S → Option (List ℕ)) (reads : ReadRelation S)
+pub record TaskOutcome {S A : Type 0} (remaining : S → Option (List ℕ)) (reads : ReadRelation S)
     (fails : FailRelation S) (task : Task) (sources : List S) (done : Result A Fault)
     (is_flushed has_failed : Bool) (old new : Option (List ℕ)) : Type 0 where
   -- if the bytes of the sources are known, the outcome is that of the task over them

@@ -2,7 +2,7 @@ use Rattle.std.proofs.Common.{◌≡◌, ◌≤◌, inl, inr, length, sym, subst
 use Rattle.std.proofs.lemmas.Bool.{cases_lt, false≢true}
 use Rattle.std.proofs.lemmas.List.Elements.{Contains-get_or}
 use Rattle.epx_graph.specs.Graphs.{edges_of}
-use Rattle.epx_order.specs.declared.search.Search.{Search}
+use Rattle.epx_order.specs.declared.search.PathSearch.{PathSearch}
 use Rattle.epx_order.specs.inner.RelatedTouches.{touch_at, TouchReaches}
 use Rattle.epx_order.proofs.quick_audit.is_related_back.Goals as goal
 use Rattle.epx_order.proofs.quick_audit.is_related_back.Goals.{then-touch, else-touch}
@@ -29,7 +29,7 @@ loop-earlier-preserved c =
     let now = c.loop-earlier.earlier in
     elim c.else-asked.branch [
       | else-asked-via-then-asked+in_ok-reaches+else-not-branch w ↦ record {
-        seen = ap (λ (w : Search). length w.seen.items) w.path_search-is
+        seen = ap (λ (w : PathSearch). length w.seen.items) w.path_search-is
             ∙ (w.in_ok-reaches.ensures.seen ∙ c.loop-earlier.invariant.seen);
         related_back = λ j l below one. elim (cases_lt j now) [
           | inl past ↦ c.loop-earlier.invariant.related_back j l past one
@@ -41,7 +41,7 @@ loop-earlier-preserved c =
         ];
       }
       | else-asked-via-else-asked w ↦ record {
-        seen = ap (λ (w : Search). length w.seen.items) w.path_search-is
+        seen = ap (λ (w : PathSearch). length w.seen.items) w.path_search-is
             ∙ c.loop-earlier.invariant.seen;
         related_back = λ j l below one. elim (cases_lt j now) [
           | inl past ↦ c.loop-earlier.invariant.related_back j l past one

@@ -1,8 +1,8 @@
 use Rattle.std.proofs.Common.{◌≡◌, map, take}
 use Rattle.epx_types.specs.CommittedMap.{instance_of}
-use Rattle.epx_tool.specs.Report.{ops_of}
+use Rattle.epx_tool.specs.Report.{ops_found}
 use Rattle.epx_tool.proofs.answers.commands.Given as goal
 
 abbrev pub invariant-loop-id : goal.invariant-loop-id
 invariant-loop-id l = map (λ c. c.ops.now) l.commands.items
-    ≡ map (λ x. ops_of (instance_of l.merged x)) (take l.id-index l.ids)
+    ≡ map (λ x. ops_found (instance_of l.merged x)) (take l.id-index l.ids)

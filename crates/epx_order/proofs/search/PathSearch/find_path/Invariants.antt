@@ -1,7 +1,7 @@
 use Rattle.std.proofs.Common.{◌≡◌, ◌<◌, ℕ, length, Contains}
 use Rattle.epx_graph.specs.Graphs.{edges_of}
 use Rattle.epx_graph.specs.NodePaths.{NodeReaches}
-use Rattle.epx_order.proofs.search.Search.find_path.Given as goal
+use Rattle.epx_order.proofs.search.PathSearch.find_path.Given as goal
 
 abbrev pub invariant-loop : goal.invariant-loop
 invariant-loop l = record {

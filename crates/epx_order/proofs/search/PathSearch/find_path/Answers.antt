@@ -4,7 +4,7 @@ use Rattle.epx_types.proofs.lists.MembershipLemmas.{Contains-head}
 use Rattle.epx_graph.specs.Graphs.{edges_of}
 use Rattle.epx_graph.proofs.GraphNodeLemmas.{edge_within}
 use Rattle.epx_components.proofs.NodePathLemmas.{reaches_edge, reaches_on}
-use Rattle.epx_order.proofs.search.Search.find_path.Goals as goal
+use Rattle.epx_order.proofs.search.PathSearch.find_path.Goals as goal
 
 pub open_targets-requires-clause-node : goal.open_targets-requires-clause-node
 open_targets-requires-clause-node c =

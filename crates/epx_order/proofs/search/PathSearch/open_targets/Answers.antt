@@ -5,9 +5,9 @@ use Rattle.epx_types.proofs.lists.MembershipLemmas.{Contains-cons_cases, Contain
 use Rattle.epx_graph.specs.Graphs.{edges_of}
 use Rattle.epx_graph.proofs.GraphNodeLemmas.{edge_within}
 use Rattle.epx_components.proofs.NodePathLemmas.{reaches_edge, reaches_on}
-use Rattle.epx_order.proofs.search.Search.open_targets.Goals as goal
-use Rattle.epx_order.proofs.search.Search.open_targets.Goals.{then-index-position+then-index-self+in_ok-push}
-use Rattle.epx_order.proofs.search.Search.open_targets.Goals.{else-index-position}
+use Rattle.epx_order.proofs.search.PathSearch.open_targets.Goals as goal
+use Rattle.epx_order.proofs.search.PathSearch.open_targets.Goals.{then-index-position+then-index-self+in_ok-push}
+use Rattle.epx_order.proofs.search.PathSearch.open_targets.Goals.{else-index-position}
 
 pub returns-then-reaches_by_chain-clause-reaches : goal.returns-then-reaches_by_chain-clause-reaches
 returns-then-reaches_by_chain-clause-reaches c = λ yes.

@@ -1,6 +1,6 @@
 use Rattle.std.proofs.Common.{◌≡◌, ◌⊎◌, ℕ, length, Contains}
 use Rattle.epx_graph.specs.Graphs.{edges_of}
-use Rattle.epx_order.proofs.search.Search.open_targets.Given as goal
+use Rattle.epx_order.proofs.search.PathSearch.open_targets.Given as goal
 
 abbrev pub invariant-loop-target : goal.invariant-loop-target
 invariant-loop-target l = record {

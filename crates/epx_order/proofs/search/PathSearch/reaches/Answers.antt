@@ -5,9 +5,9 @@ use Rattle.std.proofs.lemmas.Result.{IfOk-weaker}
 use Rattle.epx_graph.specs.Graphs.{edges_of}
 use Rattle.epx_graph.specs.NodePaths.{NodeReaches}
 use Rattle.epx_components.proofs.NodePathLemmas.{reaches_edge, reaches_on}
-use Rattle.epx_order.proofs.search.Search.reaches.Goals as goal
-use Rattle.epx_order.proofs.search.Search.reaches.Goals.{then-reaches_by_chain-via-then-reaches_by_chain}
-use Rattle.epx_order.proofs.search.Search.reaches.Goals.{then-reaches_by_chain-via-else-reaches_by_chain+then-has_edge}
+use Rattle.epx_order.proofs.search.PathSearch.reaches.Goals as goal
+use Rattle.epx_order.proofs.search.PathSearch.reaches.Goals.{then-reaches_by_chain-via-then-reaches_by_chain}
+use Rattle.epx_order.proofs.search.PathSearch.reaches.Goals.{then-reaches_by_chain-via-else-reaches_by_chain+then-has_edge}
 
 pub returns-then-reaches_by_chain-clause-reaches : goal.returns-then-reaches_by_chain-clause-reaches
 returns-then-reaches_by_chain-clause-reaches c = λ yes.
