@@ -5,10 +5,9 @@
     report = epx.report(["0.jsonl", "1.jsonl"])
     report.store["alice"], report.replies[0].values
 
-A log is a path, or its bytes. `Fault` is raised where epx refuses the logs. Nothing but the standard
-library is needed, and the program at `epx.PROGRAM`. `python3 tools/epx.py` compares the answers with
-those of examples/.
-"""
+A log is a path, or its bytes. `Fault` is raised where epx refuses the logs. Nothing but the
+standard library is needed, and the program at `epx.PROGRAM`. `python3 tools/epx.py` compares the
+answers with those of examples/. """
 
 import contextlib
 import dataclasses
@@ -22,8 +21,8 @@ PROGRAM = pathlib.Path(__file__).resolve().parent.parent / "crates/epx/out/epx"
 
 
 class Fault(Exception):
-    """Why there is no answer: the line of standard error, the fault's number (None: the words were
-    refused), and the exit status."""
+    """Why there is no answer: the line of standard error, the fault's number (None: the words
+    were refused), and the exit status."""
 
     def __init__(self, text, status):
         super().__init__(text)
@@ -42,8 +41,8 @@ class Id:
 
 @dataclasses.dataclass(frozen=True)
 class Reply:
-    """What a command replied: the values that it read, None for an absent key; or, where it aborted,
-    the place of the operation that did."""
+    """What a command replied: the values that it read, None for an absent key; or, where it
+    aborted, the place of the operation that did."""
 
     id: Id
     values: tuple
@@ -60,7 +59,8 @@ class Waiting:
 
 @dataclasses.dataclass
 class Report:
-    """A report: instances that were done before, replies in execution order, what waits, the store."""
+    """A report: instances that were done before, replies in execution order, what waits, the
+    store."""
 
     components: int
     done: list
@@ -103,7 +103,8 @@ def audit(logs, workers=4):
 
 
 def check(instances, logs, workers=4):
-    """What is wrong with a list of instances as an order, as a row of the answer, or None: lawful."""
+    """What is wrong with a list of instances as an order, as a row of the answer, or None:
+    lawful."""
     lines = "".join(f"[{one.replica},{one.number}]\n" for one in instances)
     row = json.loads(ask("check", [lines.encode()], logs, workers))
     return None if row == ["lawful"] else tuple(row)

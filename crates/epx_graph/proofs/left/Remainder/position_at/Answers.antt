@@ -22,5 +22,5 @@ returns c =
     let within = subst (λ (r : RemainderView). c.args.place < length (left_of r))
     (sym c.self.view_is) c.requires in
     rw (sym c.self.view_is)
-    (position_from_table _ c.self.inside.positions.items c.self.inside.places.items
+    (position_from_table _ c.self.inside.positions.items c.self.inside.positions_left.items
     (c.self.invariant.2 some) c.args.place c.index.result.now within c.index.ensures)
