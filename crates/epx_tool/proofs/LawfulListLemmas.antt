@@ -39,7 +39,7 @@ lawful_text_means_lawful list logs ids m short is accepted = (
 
 -- ---- executed
 
-same_ops : (e : Option Instance) → ops_found e ≡ lawful.ops_of e
+same_ops : (e : Option Instance) → ops_found e ≡ lawful.ops_or_empty e
 same_ops None = refl
 same_ops (Some e) = refl
 
