@@ -6,7 +6,7 @@ use Rattle.std.specs.Io.KnownBytes.{Appends, Keeps}
 use Rattle.epx_types.specs.declared.fault.Fault.{Fault}
 use Rattle.epx_types.specs.declared.fault.Fault.TheVariants.{Write}
 use Rattle.epx_types.specs.Instances.{Instance}
-use Rattle.epx_words.specs.declared.asked.Task.{Task}
+use Rattle.epx_words.specs.declared.words.Task.{Task}
 use Rattle.epx_devices.specs.Deliveries.{FailRelation, ReadRelation}
 use Rattle.epx_devices.specs.Transfers.{AppendsPrefix}
 use Rattle.epx_tool.specs.WithInput.{AnswersWithInput}

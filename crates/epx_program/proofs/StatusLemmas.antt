@@ -11,9 +11,9 @@ use Rattle.epx_types.specs.declared.fault.Fault.TheVariants.{Memory, TooManyLogs
 use Rattle.epx_types.specs.declared.fault.Fault.TheVariants.{BadLine, TooManyInstances, Disagree}
 use Rattle.epx_types.specs.declared.fault.Fault.TheVariants.{Read, Write, BadBase}
 use Rattle.epx_words.specs.Requests.{IfText, IfWork}
-use Rattle.epx_words.specs.declared.asked.Task.{Task}
-use Rattle.epx_words.specs.declared.asked.Words.{Words}
-use Rattle.epx_words.specs.declared.asked.Words.TheVariants.{Work, Text}
+use Rattle.epx_words.specs.declared.words.Task.{Task}
+use Rattle.epx_words.specs.declared.words.Words.{Words}
+use Rattle.epx_words.specs.declared.words.Words.TheVariants.{Work, Text}
 use Rattle.epx_devices.specs.Deliveries.{ReadRelation}
 use Rattle.epx_devices.specs.Transfers.{AppendsPrefix}
 use Rattle.epx_tool.specs.Answer.{Answers}

@@ -15,9 +15,9 @@ use Rattle.epx_words.specs.App.{epx_app}
 use Rattle.epx_words.specs.Requests.{ArePathsOf, IsWork, AsksFor, IfText, IfWork, task_name}
 use Rattle.epx_words.specs.ExitStatus.{IsExitStatus}
 use Rattle.epx_words.specs.SubcommandRows.{IsCutOf, IsWorkersOf, name_in, rows_in}
-use Rattle.epx_words.specs.declared.asked.Task.TheVariants.{Run}
-use Rattle.epx_words.specs.declared.asked.Words.{Words}
-use Rattle.epx_words.specs.declared.asked.Words.TheVariants.{Work, Text as text}
+use Rattle.epx_words.specs.declared.words.Task.TheVariants.{Run}
+use Rattle.epx_words.specs.declared.words.Words.{Words}
+use Rattle.epx_words.specs.declared.words.Words.TheVariants.{Work, Text as text}
 use Rattle.epx_program.specs.Calls.{AreTakenFor, Asks, EndsAsAsked, EndsTask, EndsWithText}
 use Rattle.epx_program.proofs.OutputLemmas.{contents_unchanged}
 

@@ -15,10 +15,10 @@ use Rattle.epx_devices.specs.Transfers.{AppendsPrefix}
 use Rattle.epx_words.specs.App.{epx_app}
 use Rattle.epx_words.specs.Requests.{IsWork, AsksFor, IfText, IfWork}
 use Rattle.epx_words.specs.ExitStatus.{IsExitStatus}
-use Rattle.epx_words.specs.declared.asked.Task.{Task}
-use Rattle.epx_words.specs.declared.asked.Task.TheVariants.{Run}
-use Rattle.epx_words.specs.declared.asked.Words.{Words}
-use Rattle.epx_words.specs.declared.asked.Words.TheVariants as asked
+use Rattle.epx_words.specs.declared.words.Task.{Task}
+use Rattle.epx_words.specs.declared.words.Task.TheVariants.{Run}
+use Rattle.epx_words.specs.declared.words.Words.{Words}
+use Rattle.epx_words.specs.declared.words.Words.TheVariants as asked
 use Rattle.epx_program.specs.Endings.{AddsAnswer, AddsPart, EndsWith, IsStatus}
 use Rattle.epx_program.specs.Inputs.{IsInputAlone, text_count}
 

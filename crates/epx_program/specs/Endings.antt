@@ -6,9 +6,9 @@ use Rattle.epx_types.specs.declared.fault.Fault.{Fault}
 use Rattle.epx_types.specs.declared.fault.Fault.TheVariants.{Write}
 use Rattle.epx_types.specs.Faults.{fault_status}
 use Rattle.epx_devices.specs.Transfers.{AppendsPrefix}
-use Rattle.epx_words.specs.declared.asked.Task.{Task}
-use Rattle.epx_words.specs.declared.asked.Task.TheVariants.{Run, Order, Levels, Graph, Resume}
-use Rattle.epx_words.specs.declared.asked.Task.TheVariants.{Audit, Check}
+use Rattle.epx_words.specs.declared.words.Task.{Task}
+use Rattle.epx_words.specs.declared.words.Task.TheVariants.{Run, Order, Levels, Graph, Resume}
+use Rattle.epx_words.specs.declared.words.Task.TheVariants.{Audit, Check}
 use Rattle.epx_base.specs.Bases.{IsBadBase}
 use Rattle.epx_base.specs.Lists.{IsBadList}
 use Rattle.epx_tool.specs.Answer.{Answers}

@@ -4,8 +4,8 @@ use Rattle.std.specs.Prelude.{IfErr, IsErrOf}
 use Rattle.std.specs.Io.KnownBytes.{Keeps}
 use Rattle.epx_types.specs.declared.fault.Fault.{Fault}
 use Rattle.epx_types.specs.declared.fault.Fault.TheVariants.{Read, Write}
-use Rattle.epx_words.specs.declared.asked.Task.{Task}
-use Rattle.epx_words.specs.declared.asked.Task.TheVariants.{Order, Levels, Graph, Audit}
+use Rattle.epx_words.specs.declared.words.Task.{Task}
+use Rattle.epx_words.specs.declared.words.Task.TheVariants.{Order, Levels, Graph, Audit}
 use Rattle.epx_devices.specs.Deliveries.{FailRelation, ReadRelation}
 use Rattle.epx_tool.specs.Runs.{AreBytesOf}
 use Rattle.epx_tool.specs.declared.ask.Ask.{Ask}

@@ -1,5 +1,5 @@
 use Rattle.epx_tool.specs.Report.{IsReport}
-use Rattle.epx_words.specs.declared.asked.Task.TheVariants.{Run}
+use Rattle.epx_words.specs.declared.words.Task.TheVariants.{Run}
 use Rattle.epx_program.proofs.OutcomeLemmas.{outcome}
 use Rattle.epx_program.proofs.do_task.answer_report.Goals as goal
 

@@ -2,7 +2,7 @@ use Rattle.epx_base.specs.Bases.{IsBadBase}
 use Rattle.epx_base.specs.Lists.{IsBadList}
 use Rattle.epx_tool.specs.CheckAnswers.{IsCheckText}
 use Rattle.epx_tool.specs.Resumption.{IsResumedText}
-use Rattle.epx_words.specs.declared.asked.Task.TheVariants.{Resume, Check}
+use Rattle.epx_words.specs.declared.words.Task.TheVariants.{Resume, Check}
 use Rattle.epx_program.proofs.FailedInputLemmas.{unread_both}
 use Rattle.epx_program.proofs.FirstTextLemmas.{adds_answer, adds_part, task_result}
 use Rattle.epx_program.proofs.do_task.answer_with_input.Goals as goal
