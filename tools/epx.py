@@ -7,7 +7,8 @@
 
 A log is a path, or its bytes. `Fault` is raised where epx refuses the logs. Nothing but the
 standard library is needed, and the program at `epx.PROGRAM`. `python3 tools/epx.py` compares the
-answers with those of examples/. """
+answers with those of examples/.
+"""
 
 import contextlib
 import dataclasses
