@@ -81,13 +81,13 @@ module _ (done : List (List Op × ℕ)) (current : List (List ℕ × Bool)) (t :
     no_repeats = no_repeats;
     key_levels = length_push t.key_levels no_levels ∙ ap (λ n. n + 1) is.key_levels
         ∙ sym (length_push t.keys k);
-    touchers = λ x low. elim (place x low) [
+    touchers = λ x low. elim (position x low) [
       | inl (old, key, at_key) ↦ at touched_in x key at_key (λ (b : KeyLevels). b.touchers)
           (is.touchers x old)
       | inr (key, at_key) ↦ none touched_in x key (λ (b : KeyLevels). b.touchers) refl at_key
           (λ ops h. h)
     ];
-    writers = λ x low. elim (place x low) [
+    writers = λ x low. elim (position x low) [
       | inl (old, key, at_key) ↦ at written_in x key at_key (λ (b : KeyLevels). b.writers)
           (is.writers x old)
       | inr (key, at_key) ↦ none written_in x key (λ (b : KeyLevels). b.writers) refl at_key
@@ -104,12 +104,12 @@ module _ (done : List (List Op × ℕ)) (current : List (List ℕ × Bool)) (t :
     key_levels' : List KeyLevels
     key_levels' = t.key_levels ++ no_levels ∷ []
 
-    place : (x : ℕ) → x < length (t.keys ++ k ∷ [])
+    position : (x : ℕ) → x < length (t.keys ++ k ∷ [])
         → ((x < length t.keys) × (key_at (t.keys ++ k ∷ []) x ≡ key_at t.keys x)
         × (key_levels_at (t.key_levels ++ no_levels ∷ []) x ≡ key_levels_at t.key_levels x))
         ⊎ ((key_at (t.keys ++ k ∷ []) x ≡ k)
         × (key_levels_at (t.key_levels ++ no_levels ∷ []) x ≡ no_levels))
-    place x low =
+    position x low =
         elim (cases_lt x (length t.keys)) [
           | inl old ↦ inl (
             old,

@@ -19,10 +19,10 @@ use Rattle.epx_apply.specs.inner.Effects.{effect_over, effects_over, replies_in}
 abbrev pub effect_at : Contents → List (List Op) → ℕ → Effect
 effect_at c commands i = effect_over c (slice_index_or commands i [])
 
-pub effects_over-each : (c : Contents) (commands : List (List Op)) (places : List ℕ)
-    → effects_over c (commands_at commands places) ≡ map (effect_at c commands) places
-effects_over-each c commands places =
-    map-map (effect_over c) (λ i. slice_index_or commands i []) places
+pub effects_over-each : (c : Contents) (commands : List (List Op)) (positions : List ℕ)
+    → effects_over c (commands_at commands positions) ≡ map (effect_at c commands) positions
+effects_over-each c commands positions =
+    map-map (effect_over c) (λ i. slice_index_or commands i []) positions
 
 -- commands of which no two conflict
 module _ (commands : List (List Op)) (c : Contents) (effects : List Effect)

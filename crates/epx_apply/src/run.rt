@@ -42,16 +42,16 @@ fn evaluate(
     alloc: Global,
     store: &Store,
     commands: &[Command],
-    places: &[usize],
+    positions: &[usize],
 ) -> Result<Vec<Effect>, Memory>
-    requires { All (λ i. i < length commands.now) places.now }
+    requires { All (λ i. i < length commands.now) positions.now }
     ensures { IfOk result
         (λ v. v.items
-        ≡ effects_over store.now (commands_at (op_lists_of commands.now) places.now)) }
+        ≡ effects_over store.now (commands_at (op_lists_of commands.now) positions.now)) }
 {
-    let mut effects = Vec::with_capacity(alloc, places.len())?;
-    for place in places {
-        add_effect(alloc, store, commands[*place].ops, &mut effects)?;
+    let mut effects = Vec::with_capacity(alloc, positions.len())?;
+    for position in positions {
+        add_effect(alloc, store, commands[*position].ops, &mut effects)?;
     }
     Ok(effects)
 }
@@ -61,17 +61,17 @@ fn evaluate_piece(
     alloc: Global,
     store: &Store,
     commands: &[Command],
-    places: &[usize],
+    positions: &[usize],
     plan: Plan,
     piece: usize,
 ) -> Result<Vec<Effect>, Memory>
-    requires piece { piece < piece_count plan.cut (length places.now) }
-    requires within { All (λ i. i < length commands.now) places.now }
+    requires piece { piece < piece_count plan.cut (length positions.now) }
+    requires within { All (λ i. i < length commands.now) positions.now }
     ensures { IfOk result (λ v. v.items ≡ effects_over store.now
-        (commands_at (op_lists_of commands.now) (items_of_piece plan.cut places.now piece))) }
+        (commands_at (op_lists_of commands.now) (items_of_piece plan.cut positions.now piece))) }
 {
-    let (start, end) = plan.range(piece, places.len());
-    evaluate(alloc, store, commands, &places[start..end])
+    let (start, end) = plan.range(piece, positions.len());
+    evaluate(alloc, store, commands, &positions[start..end])
 }
 
 /// Concatenates the effects of all parts. `count` is their expected number.
@@ -92,41 +92,41 @@ fn evaluate_all<R: Threads + Sync, G: Gate + Sync>(
     alloc: Global,
     store: &Store,
     commands: &[Command],
-    places: &[usize],
+    positions: &[usize],
     plan: Plan,
     gate: &G,
 ) -> Result<Vec<Effect>, Memory>
-    requires few { length places.now ≤ 2 ^ 40 }
-    requires within { All (λ i. i < length commands.now) places.now }
+    requires few { length positions.now ≤ 2 ^ 40 }
+    requires within { All (λ i. i < length commands.now) positions.now }
     ensures { IfOk result
         (λ v. v.items
-        ≡ effects_over store.now (commands_at (op_lists_of commands.now) places.now)) }
+        ≡ effects_over store.now (commands_at (op_lists_of commands.now) positions.now)) }
 {
-    let pieces = plan.pieces(places.len());
+    let pieces = plan.pieces(positions.len());
     let parts = claimed_map(rt, alloc, pieces, plan, gate, |piece| {
-        evaluate_piece(alloc, store, commands, places, plan, piece)
+        evaluate_piece(alloc, store, commands, positions, plan, piece)
     })?;
-    join_parts(alloc, parts, places.len())
+    join_parts(alloc, parts, positions.len())
 }
 
 /// Puts the reply of an effect at the position of its command.
-fn put_reply(replies: &mut Vec<Reply>, place: usize, effect: Effect)
-    requires { place < length replies.old.items }
-    ensures { replies.new.items ≡ slice_set replies.old.items place effect.reply }
+fn put_reply(replies: &mut Vec<Reply>, position: usize, effect: Effect)
+    requires { position < length replies.old.items }
+    ensures { replies.new.items ≡ slice_set replies.old.items position effect.reply }
 {
     let Effect { reply, writes: _ } = effect;
-    replies[place] = reply;
+    replies[position] = reply;
 }
 
 /// Puts the reply of each effect at the position of its command.
-fn put_all_replies(replies: &mut Vec<Reply>, places: &[usize], effects: Vec<Effect>)
-    requires len { length effects.items ≡ length places.now }
-    requires within { All (λ i. i < length replies.old.items) places.now }
+fn put_all_replies(replies: &mut Vec<Reply>, positions: &[usize], effects: Vec<Effect>)
+    requires len { length effects.items ≡ length positions.now }
+    requires within { All (λ i. i < length replies.old.items) positions.now }
     ensures { replies.new.items ≡
-        put_replies places.now (replies_in effects.items) replies.old.items }
+        put_replies positions.now (replies_in effects.items) replies.old.items }
 {
-    for (place, effect) in places.iter().zip(effects) {
-        put_reply(replies, *place, effect);
+    for (position, effect) in positions.iter().zip(effects) {
+        put_reply(replies, *position, effect);
     }
 }
 
@@ -151,14 +151,14 @@ impl RunState {
     }
 
     /// Runs one command.
-    fn run_one(&mut self, alloc: Global, ops: &[Op], place: usize) -> Result<(), Memory>
-        requires { place < length self.old.replies.items }
+    fn run_one(&mut self, alloc: Global, ops: &[Op], position: usize) -> Result<(), Memory>
+        requires { position < length self.old.replies.items }
         ensures store { OnOk result (self.new.store ≡ (command_on ops.now self.old.store).after) }
         ensures replies { OnOk result (self.new.replies.items ≡
-            slice_set self.old.replies.items place (command_on ops.now self.old.store).reply) }
+            slice_set self.old.replies.items position (command_on ops.now self.old.store).reply) }
     {
         let reply = apply(alloc, &mut self.store, ops)?;
-        self.replies[place] = reply;
+        self.replies[position] = reply;
         Ok(())
     }
 
@@ -167,18 +167,18 @@ impl RunState {
         &mut self,
         alloc: Global,
         commands: &[Command],
-        places: &[usize],
+        positions: &[usize],
     ) -> Result<(), Memory>
-        requires within { All (λ i. i < length commands.now) places.now }
+        requires within { All (λ i. i < length commands.now) positions.now }
         requires replies { length self.old.replies.items ≡ length commands.now }
         ensures store { OnOk result (self.new.store ≡
-            (execute (commands_at (op_lists_of commands.now) places.now) self.old.store).final) }
-        ensures replies { OnOk result (self.new.replies.items ≡ put_replies places.now
-            (execute (commands_at (op_lists_of commands.now) places.now) self.old.store).replies
+            (execute (commands_at (op_lists_of commands.now) positions.now) self.old.store).final) }
+        ensures replies { OnOk result (self.new.replies.items ≡ put_replies positions.now
+            (execute (commands_at (op_lists_of commands.now) positions.now) self.old.store).replies
             self.old.replies.items) }
     {
-        for place in places {
-            self.run_one(alloc, commands[*place].ops, *place)?;
+        for position in positions {
+            self.run_one(alloc, commands[*position].ops, *position)?;
         }
         Ok(())
     }
@@ -190,24 +190,24 @@ impl RunState {
         rt: &R,
         alloc: Global,
         commands: &[Command],
-        places: &[usize],
+        positions: &[usize],
         plan: Plan,
         gate: &G,
     ) -> Result<(), Memory>
-        requires few { length places.now ≤ 2 ^ 40 }
-        requires within { All (λ i. i < length commands.now) places.now }
-        requires apart { NoneConflict (commands_at (op_lists_of commands.now) places.now) }
+        requires few { length positions.now ≤ 2 ^ 40 }
+        requires within { All (λ i. i < length commands.now) positions.now }
+        requires apart { NoneConflict (commands_at (op_lists_of commands.now) positions.now) }
         requires replies { length self.old.replies.items ≡ length commands.now }
         ensures store { OnOk result (self.new.store ≡
-            (execute (commands_at (op_lists_of commands.now) places.now) self.old.store).final) }
-        ensures replies { OnOk result (self.new.replies.items ≡ put_replies places.now
-            (execute (commands_at (op_lists_of commands.now) places.now) self.old.store).replies
+            (execute (commands_at (op_lists_of commands.now) positions.now) self.old.store).final) }
+        ensures replies { OnOk result (self.new.replies.items ≡ put_replies positions.now
+            (execute (commands_at (op_lists_of commands.now) positions.now) self.old.store).replies
             self.old.replies.items) }
     {
-        let effects = evaluate_all(rt, alloc, &self.store, commands, places, plan, gate)?;
+        let effects = evaluate_all(rt, alloc, &self.store, commands, positions, plan, gate)?;
         let before = replace(&mut self.store, Store::new(alloc));
         self.store = merge_effects(rt, alloc, before, &effects)?;
-        put_all_replies(&mut self.replies, places, effects);
+        put_all_replies(&mut self.replies, positions, effects);
         Ok(())
     }
 

@@ -63,7 +63,7 @@ reply_line-tokens x (Values vs) =
     ap (λ ts. begin_array ∷ string (codes "reply")
     ∷ (id_tokens x ++ (string (codes "ok") ∷ begin_array ∷ (ts ++ end_array ∷ []))))
     (list_tokens vs)
-reply_line-tokens x (Abort place) = refl
+reply_line-tokens x (Abort index) = refl
 
 pub store_line-tokens : (k : List ℕ) (v : ℤ)
     → tokens_of (array_of (store_data (k, v)))

@@ -16,4 +16,4 @@ value_token (Some v) = number (signed_decimal v)
 abbrev pub reply_tokens : Reply → List Token
 reply_tokens (Values vs) = string (codes "ok") ∷ begin_array
     ∷ (map value_token vs ++ end_array ∷ [])
-reply_tokens (Abort place) = string (codes "abort") ∷ number (decimal place) ∷ []
+reply_tokens (Abort index) = string (codes "abort") ∷ number (decimal index) ∷ []

@@ -43,8 +43,8 @@ done_line x = line_of (done_data x)
 abbrev pub reply_data : Id → Reply → List Data
 reply_data x (Values vs) = string (codes "reply") ∷ data_of_number x.replica
     ∷ data_of_number x.number ∷ string (codes "ok") ∷ array_of (map data_of_value vs) ∷ []
-reply_data x (Abort place) = string (codes "reply") ∷ data_of_number x.replica
-    ∷ data_of_number x.number ∷ string (codes "abort") ∷ data_of_number place ∷ []
+reply_data x (Abort index) = string (codes "reply") ∷ data_of_number x.replica
+    ∷ data_of_number x.number ∷ string (codes "abort") ∷ data_of_number index ∷ []
 
 abbrev pub reply_line : Id × Reply → List ℕ
 reply_line p = line_of (reply_data p.0 p.1)

@@ -77,7 +77,7 @@ fn is_op_index_value(value: &Value) -> bool
     ensures { result ≡ is_op_index (view value.now) }
 {
     match read_number(value) {
-        Some(place) => place < MAX_OPS as u64,
+        Some(index) => index < MAX_OPS as u64,
         None => false,
     }
 }

@@ -82,9 +82,9 @@ fn write_reply(out: &mut Writer, reply: &Reply) -> Result<(), AllocError>
             write_values(out, values.as_slice())?;
             out.end_array()
         }
-        Reply::Abort(place) => {
+        Reply::Abort(index) => {
             out.string("abort")?;
-            out.u64(*place as u64)
+            out.u64(*index as u64)
         }
     }
 }

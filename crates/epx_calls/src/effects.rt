@@ -88,7 +88,7 @@ pub(crate) enum Wanted<'a> {
 pub(crate) fn expect_reply(rt: &impl Abort, reply: &Reply, wanted: Wanted) {
     match (reply, wanted) {
         (Reply::Values(values), Wanted::Values(list)) => assert!(rt; values.as_slice() == list),
-        (Reply::Abort(place), Wanted::Abort(at)) => assert!(rt; *place == at),
+        (Reply::Abort(index), Wanted::Abort(at)) => assert!(rt; *index == at),
         _ => panic!(rt; "an abort for values, or values for an abort"),
     }
 }
@@ -203,11 +203,11 @@ fn all_writes_are_merged(rt: HostRuntime) -> Result<(), Fail> {
 /// Puts of the letters from z down to a, each with its position in the alphabet.
 fn letters(rt: &impl Abort, alloc: Global) -> Result<Vec<Op>, Memory> {
     let mut ops = Vec::new(alloc);
-    for (place, letter) in "abcdefghijklmnopqrstuvwxyz".char_indices().rev() {
+    for (index, letter) in "abcdefghijklmnopqrstuvwxyz".char_indices().rev() {
         let text = format!(in alloc; "{letter}")?;
         ops.push(Op::Put {
             key: key(rt, alloc, text.as_str())?,
-            value: place as i64 + 1,
+            value: index as i64 + 1,
         })?;
     }
     Ok(ops)

@@ -48,12 +48,12 @@ fn row_of(number: u64, leader: u64, depth: usize) -> Row {
 /// The rows of an order, position by position.
 fn rows(alloc: Global, order: &OrderList) -> Result<Vec<Row>, Memory> {
     let mut rows = Vec::new(alloc);
-    for (place, of) in order.ids().iter().enumerate() {
-        if place < order.len() {
+    for (position, of) in order.ids().iter().enumerate() {
+        if position < order.len() {
             rows.push(Row {
                 id: *of,
-                leader: order.component_of(place),
-                depth: order.depth_of(place),
+                leader: order.component_of(position),
+                depth: order.depth_of(position),
             })?;
         }
     }

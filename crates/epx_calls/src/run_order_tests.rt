@@ -177,11 +177,11 @@ fn have_levels(
 ) -> Result<bool, Memory> {
     let map = levels(alloc, commands)?;
     let mut same = commands.len() == wanted.len() && map.count() == members.len();
-    for (place, level) in wanted.iter().enumerate() {
-        same = same && place < commands.len() && map.level_of(place) == *level;
+    for (position, level) in wanted.iter().enumerate() {
+        same = same && position < commands.len() && map.level_of(position) == *level;
     }
-    for (level, places) in members.iter().enumerate() {
-        same = same && level < map.count() && map.members(level) == *places;
+    for (level, positions) in members.iter().enumerate() {
+        same = same && level < map.count() && map.members(level) == *positions;
     }
     Ok(same)
 }

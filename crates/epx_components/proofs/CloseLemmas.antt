@@ -19,17 +19,17 @@ Closes-by s c (Open p) y un open' closed = open' p refl
 Closes-by s c (Closed d) y un open' closed = closed d refl
 
 -- the nodes of a group are closed, and no others
-pub closes_group : (place new : List Visit) (opened : List ℕ) (s c : ℕ) → IsRow place opened
+pub closes_group : (visits new : List Visit) (opened : List ℕ) (s c : ℕ) → IsRow visits opened
     → ((i : ℕ) → i < length (drop s opened) → visit_of new (get_or (drop s opened) i 0) ≡ Closed c)
     → ((k : ℕ) → ((i : ℕ) → i < length (drop s opened) → get_or (drop s opened) i 0 ≢ k)
-    → visit_of new k ≡ visit_of place k) → (k : ℕ) → Closes s c (visit_of place k) (visit_of new k)
-closes_group place new opened s c r closed others k =
+    → visit_of new k ≡ visit_of visits k) → (k : ℕ) → Closes s c (visit_of visits k) (visit_of new k)
+closes_group visits new opened s c r closed others k =
     let is_open_at : (i : ℕ) → i < length (drop s opened)
-    → visit_of place (get_or (drop s opened) i 0) ≡ Open (s + i) = λ i l.
+    → visit_of visits (get_or (drop s opened) i 0) ≡ Open (s + i) = λ i l.
     rw (get_or-drop s opened i 0) (r.is_open_at (s + i) (omega (arith, length-drop s opened))) in
-    let kept : ((q : ℕ) → s ≤ q → visit_of place k ≢ Open q)
-    → visit_of new k ≡ visit_of place k = λ ne.
-    others k (λ i l e. ne (s + i) (omega arith) (ap (visit_of place) (sym e) ∙ is_open_at i l)) in
+    let kept : ((q : ℕ) → s ≤ q → visit_of visits k ≢ Open q)
+    → visit_of new k ≡ visit_of visits k = λ ne.
+    others k (λ i l e. ne (s + i) (omega arith) (ap (visit_of visits) (sym e) ∙ is_open_at i l)) in
     Closes-by s c _ _
     (λ e. kept (λ q _ f. let wrong : Unseen ≡ Open q = sym e ∙ f in cc) ∙ e)
     (λ p e. ⊎_elim

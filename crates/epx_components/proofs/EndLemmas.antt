@@ -10,26 +10,26 @@ use Rattle.epx_components.specs.inner.SearchStates.{SearchState, visit_of}
 use Rattle.epx_components.specs.declared.visit.Visit.{Visit}
 use Rattle.epx_components.specs.declared.visit.Visit.TheVariants.{Closed, Open, Unseen}
 
-closed_at : (edges : ℕ → List ℕ) (n k : ℕ) (s : SearchState) (x : Visit) → visit_of s.place k ≡ x
+closed_at : (edges : ℕ → List ℕ) (n k : ℕ) (s : SearchState) (x : Visit) → visit_of s.visits k ≡ x
     → IsSearch edges n n s → length s.starts ≡ 0 → k < n
-    → (c : ℕ) × (visit_of s.place k ≡ Closed c)
+    → (c : ℕ) × (visit_of s.visits k ≡ Closed c)
 closed_at edges n k s Unseen e w none l = absurd (w.seen_below k l e)
 closed_at edges n k s (Open p) e w none l =
     absurd (omega (arith, (w.row.placed k p e).0, w.grouped))
 closed_at edges n k s (Closed c) e w none l = (c, e)
 
 pub all_closed : (edges : ℕ → List ℕ) (n : ℕ) (s : SearchState) → IsSearch edges n n s
-    → length s.starts ≡ 0 → (k : ℕ) → k < n → (c : ℕ) × (visit_of s.place k ≡ Closed c)
+    → length s.starts ≡ 0 → (k : ℕ) → k < n → (c : ℕ) × (visit_of s.visits k ≡ Closed c)
 all_closed edges n s w none k l = closed_at edges n k s _ refl w none l
 
 -- a closed node is below n
 closed_below : (edges : ℕ → List ℕ) (n seen : ℕ) (s : SearchState) (k c : ℕ)
-    → IsSearch edges n seen s → visit_of s.place k ≡ Closed c → k < n
+    → IsSearch edges n seen s → visit_of s.visits k ≡ Closed c → k < n
 closed_below edges n seen s k c w h =
     omega (
       arith,
-      w.places,
-      placed_below s.place k
+      w.all_visits,
+      placed_below s.visits k
           (λ e. let wrong : Closed c ≡ Unseen = sym h ∙ e in cc),
     )
 
@@ -42,10 +42,10 @@ MayLead-closed starts c (Closed d) h = (d, refl, h)
 pub end_partition : (edges : ℕ → List ℕ) (n : ℕ) (s : SearchState) (component : List ℕ)
     → ((k j : ℕ) → Contains (edges k) j → k < n) → ((k j : ℕ) → Contains (edges k) j → j < n)
     → IsSearch edges n n s → length component ≡ n
-    → ((k : ℕ) → k < n → visit_of s.place k ≡ Closed (get_or component k 0))
+    → ((k : ℕ) → k < n → visit_of s.visits k ≡ Closed (get_or component k 0))
     → IsPartition edges (record { component = component; order = s.order; count = s.count })
 end_partition edges n s component from to w len is =
-    let number : (k c : ℕ) → visit_of s.place k ≡ Closed c → get_or component k 0 ≡ c = λ k c h.
+    let number : (k c : ℕ) → visit_of s.visits k ≡ Closed c → get_or component k 0 ≡ c = λ k c h.
     let same : Closed (get_or component k 0) ≡ Closed c =
     sym (is k (closed_below edges n n s k c w h)) ∙ h in cc in
     let below : (i : ℕ) → i < length s.order → get_or s.order i 0 < n =
@@ -55,9 +55,9 @@ end_partition edges n s component from to w len is =
       falls = λ k j h.
           let here = is k (from k j h) in
           let at : get_or (edges k) h.0 0 ≡ j = get_or_default (edges k) h.0 0 j h.1 ∙ h.2 in
-          let led : MayLead s.starts (visit_of s.place k) (visit_of s.place j) =
+          let led : MayLead s.starts (visit_of s.visits k) (visit_of s.visits j) =
           rw at at (w.leads k h.0 (omega (arith, h.1, w.finished.looked k _ here))) in
-          let to = MayLead-closed s.starts (get_or component k 0) (visit_of s.place j)
+          let to = MayLead-closed s.starts (get_or component k 0) (visit_of s.visits j)
           (rw here at led) in
           omega (arith, number j to.0 to.1, to.2);
       joined = λ k j lk lj e. w.finished.joined k j _ (is k (omega arith))

@@ -19,25 +19,25 @@ use Rattle.epx_components.specs.declared.visit.Visit.{Visit}
 use Rattle.epx_components.specs.declared.visit.Visit.TheVariants.{Closed, Open}
 
 -- the nodes of the last group join the finished ones
-finish_last_group : (edges : ℕ → List ℕ) (n seen : ℕ) (s : SearchState) (place : List Visit)
+finish_last_group : (edges : ℕ → List ℕ) (n seen : ℕ) (s : SearchState) (visits : List Visit)
     (start : ℕ) → IsSearch edges n seen s
-    → ((k : ℕ) → Closes start s.count (visit_of s.place k) (visit_of place k))
+    → ((k : ℕ) → Closes start s.count (visit_of s.visits k) (visit_of visits k))
     → start < length s.opened → IsInLastGroup s.starts start
     → ((i : ℕ) → i < length s.path → get_or s.path i 0 < start)
-    → AreFinished edges place s.looked_at (s.order ++ drop start s.opened) (s.count + 1)
-finish_last_group edges n seen s place start w at in' last off =
+    → AreFinished edges visits s.looked_at (s.order ++ drop start s.opened) (s.count + 1)
+finish_last_group edges n seen s visits start w at in' last off =
     let group = drop start s.opened in
     let all = s.order ++ group in
-    let was : (k c : ℕ) → visit_of place k ≡ Closed c
-    → (visit_of s.place k ≡ Closed c) ⊎ WasOpen start s.count (visit_of s.place k) c =
+    let was : (k c : ℕ) → visit_of visits k ≡ Closed c
+    → (visit_of s.visits k ≡ Closed c) ⊎ WasOpen start s.count (visit_of s.visits k) c =
     λ k c e. was_closed start s.count _ _ c (at k) e in
-    let counted : (k c : ℕ) → visit_of place k ≡ Closed c
+    let counted : (k c : ℕ) → visit_of visits k ≡ Closed c
     → c < s.count + 1 = λ k c e. elim (was k c e)
     [ inl h ↦ omega (arith, w.finished.counted k c h) | inr h ↦ omega (arith, h.3) ] in
     -- a node of the order is closed already, or is closed in this step
     let old : (i : ℕ) → i < length s.order → (c : ℕ)
-    × (visit_of s.place (get_or s.order i 0) ≡ Closed c)
-    × (visit_of place (get_or all i 0) ≡ Closed c) = λ i l.
+    × (visit_of s.visits (get_or s.order i 0) ≡ Closed c)
+    × (visit_of visits (get_or all i 0) ≡ Closed c) = λ i l.
     let c = w.finished.closed i l in (
       c.0,
       c.1,
@@ -45,7 +45,7 @@ finish_last_group edges n seen s place start w at in' last off =
           (stays_closed start s.count _ _ c.0 (at _) c.1),
     ) in
     let now : (i : ℕ) → length s.order ≤ i → i < length all
-    → visit_of place (get_or all i 0) ≡ Closed s.count = λ i le l.
+    → visit_of visits (get_or all i 0) ≡ Closed s.count = λ i le l.
     rw (
       get_or-append_right s.order group (length s.order) i 0 refl le,
       get_or-drop start s.opened (i - length s.order) 0,
@@ -118,9 +118,9 @@ finish_keeps edges n seen s new w f off =
     let is_last : last < length s.starts = omega (arith, f.last) in
     let in' : start < length s.opened = omega (arith, w.starts.below last is_last, f.last) in
     let long : length (take start s.opened) ≡ start = omega (arith, length-take start s.opened) in
-    let at : (k : ℕ) → Closes start s.count (visit_of s.place k) (visit_of new.place k) =
+    let at : (k : ℕ) → Closes start s.count (visit_of s.visits k) (visit_of new.visits k) =
     f.closes in
-    let before : (k p : ℕ) → visit_of new.place k ≡ Open p → (visit_of s.place k ≡ Open p)
+    let before : (k p : ℕ) → visit_of new.visits k ≡ Open p → (visit_of s.visits k ≡ Open p)
     × (p < start) = λ k p e. was_open start s.count _ _ p (at k) e in
     let low : (i : ℕ) → i < last → i < length s.starts → get_or s.starts i 0 < start =
     λ i l h. omega (arith, w.starts.rises i last l is_last, f.last) in
@@ -128,7 +128,7 @@ finish_keeps edges n seen s new w f off =
     λ i l. omega (arith, rising_last s.starts (length s.opened) w.starts i l, f.last.1) in
     let P : SearchState → Type 0 = λ x. IsSearch edges n seen x in
     subst P (sym f.same) (record {
-      places = f.places ∙ w.places;
+      all_visits = f.all_visits ∙ w.all_visits;
       looks = w.looks;
       seen_below = λ k l e. w.seen_below k l (was_unseen start s.count _ _ (at k) e);
       row = record {
@@ -154,5 +154,5 @@ finish_keeps edges n seen s new w f off =
           w.reaches k j p q bk.0 (before j q hj).0
           (IsInGroupFrom-untake s.starts last p q (λ i h l. let e : last ≡ i = omega arith in
           omega (arith, ap (λ x. get_or s.starts x 0) e, f.last, bk.1)) from);
-      finished = finish_last_group edges n seen s new.place start w at in' all_low off;
+      finished = finish_last_group edges n seen s new.visits start w at in' all_low off;
     })

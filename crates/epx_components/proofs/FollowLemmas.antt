@@ -21,50 +21,50 @@ abbrev next_of : (ℕ → List ℕ) → SearchState → ℕ → ℕ
 next_of edges s k = get_or (edges k) (get_or s.looked_at k 0) 0
 
 groups_reach : (edges : ℕ → List ℕ) (n seen : ℕ) (s : SearchState) (k : ℕ)
-    → IsSearch edges n seen s → IsNextNode edges s k → (j p : ℕ) → visit_of s.place j ≡ Open p
+    → IsSearch edges n seen s → IsNextNode edges s k → (j p : ℕ) → visit_of s.visits j ≡ Open p
     → NodeReaches edges j (next_of edges s k)
 groups_reach edges n seen s k w next j p h =
-    reaches_on edges j k _ (w.reaches j k p next.place h next.is_open (λ i l _. next.is_last i l))
+    reaches_on edges j k _ (w.reaches j k p next.position h next.is_open (λ i l _. next.is_last i l))
     (reaches_edge edges k _ (Contains-get_or (edges k) _ 0 next.left))
 
 follow_at : (edges : ℕ → List ℕ) (n seen : ℕ) (s new : SearchState) (k : ℕ) (x : Visit)
-    → visit_of s.place (next_of edges s k) ≡ x → IsSearch edges n seen s → IsNextNode edges s k
+    → visit_of s.visits (next_of edges s k) ≡ x → IsSearch edges n seen s → IsNextNode edges s k
     → next_of edges s k < n → Arrives x (next_of edges s k) (looked s k) new
     → IsSearch edges n seen new
 follow_at edges n seen s new k Unseen e w next l h =
     let to = next_of edges s k in
     let m = length s.opened in
-    let in' : to < length s.place = omega (arith, w.places) in
-    let open' : visit_of (set s.place to (Open m)) k ≡ Open next.place =
-    get_or-set_other s.place to k _ Unseen (λ f. let wrong : Open next.place ≡ Unseen =
-    sym next.is_open ∙ (ap (visit_of s.place) f ∙ e) in cc) ∙ next.is_open in
-    let at : visit_of (set s.place to (Open m)) to ≡ Open m =
-    get_or-set_same s.place to (Open m) Unseen in' in
-    let from : IsInGroupFrom (s.starts ++ m ∷ []) next.place m =
-    push_cases s.starts m (λ _ b. b ≤ next.place → b ≤ m)
+    let in' : to < length s.visits = omega (arith, w.all_visits) in
+    let open' : visit_of (set s.visits to (Open m)) k ≡ Open next.position =
+    get_or-set_other s.visits to k _ Unseen (λ f. let wrong : Open next.position ≡ Unseen =
+    sym next.is_open ∙ (ap (visit_of s.visits) f ∙ e) in cc) ∙ next.is_open in
+    let at : visit_of (set s.visits to (Open m)) to ≡ Open m =
+    get_or-set_same s.visits to (Open m) Unseen in' in
+    let from : IsInGroupFrom (s.starts ++ m ∷ []) next.position m =
+    push_cases s.starts m (λ _ b. b ≤ next.position → b ≤ m)
     (λ i in'' _. omega (arith, w.starts.below i in'')) (λ _. omega arith) in
     let P : SearchState → Type 0 = λ t. IsSearch edges n seen t in
-    subst P (sym h) (look_keeps edges n seen (after_enter s to) k next.place
+    subst P (sym h) (look_keeps edges n seen (after_enter s to) k next.position
     (enter_keeps edges n seen s to w l e (groups_reach edges n seen s k w next)) open' next.left
     (rw (open', at) from))
 follow_at edges n seen s new k (Open t) e w next l h =
     let cut = h.0 in
-    let from : IsInGroupFrom new.starts next.place t = rw cut.same (λ i l _.
+    let from : IsInGroupFrom new.starts next.position t = rw cut.same (λ i l _.
     let in' : i < cut.kept = omega (arith, length-take cut.kept s.starts) in
     rw (get_or-take cut.kept s.starts i 0 in') (cut.below i in')) in
     let P : SearchState → Type 0 = λ u. IsSearch edges n seen u in
-    subst P (sym h.1) (look_keeps edges n seen (record s { starts = new.starts }) k next.place
+    subst P (sym h.1) (look_keeps edges n seen (record s { starts = new.starts }) k next.position
     (cut_keeps edges n seen s new.starts (next_of edges s k) t w e
     (groups_reach edges n seen s k w next) cut) next.is_open next.left
     (rw (next.is_open, e) from))
 follow_at edges n seen s new k (Closed c) e w next l h =
     let P : SearchState → Type 0 = λ t. IsSearch edges n seen t in
-    subst P (sym h) (look_keeps edges n seen s k next.place w next.is_open next.left
+    subst P (sym h) (look_keeps edges n seen s k next.position w next.is_open next.left
     (rw (next.is_open, e) tt))
 
 pub follow_keeps : (edges : ℕ → List ℕ) (n seen : ℕ) (s new : SearchState) (k : ℕ)
     → IsSearch edges n seen s → IsNextNode edges s k → next_of edges s k < n
-    → Arrives (visit_of s.place (next_of edges s k)) (next_of edges s k) (looked s k) new
+    → Arrives (visit_of s.visits (next_of edges s k)) (next_of edges s k) (looked s k) new
     → IsSearch edges n seen new
 follow_keeps edges n seen s new k w next l h = follow_at edges n seen s new k _ refl w next l h
 
@@ -103,7 +103,7 @@ arrive_less (Closed c) k s new h = (
 
 pub follow_less : (rows : List (List ℕ)) (s new : SearchState) (k j : ℕ) → k < length s.looked_at
     → get_or s.looked_at k 0 < length (get_or rows k [])
-    → Arrives (visit_of s.place j) j (looked s k) new → work_left rows new < work_left rows s
+    → Arrives (visit_of s.visits j) j (looked s k) new → work_left rows new < work_left rows s
 follow_less rows s new k j l left h =
-    let less = arrive_less (visit_of s.place j) j (looked s k) new h in
+    let less = arrive_less (visit_of s.visits j) j (looked s k) new h in
     rw less.0 (omega (arith, edges_left-set rows s.looked_at k l left, less.1))

@@ -12,14 +12,14 @@ use Rattle.epx_components.specs.inner.Starts.{IsCutAbove}
 use Rattle.epx_components.specs.declared.visit.Visit.TheVariants.{Open}
 
 pub cut_keeps : (edges : ℕ → List ℕ) (n seen : ℕ) (s : SearchState) (new : List ℕ) (k t : ℕ)
-    → IsSearch edges n seen s → visit_of s.place k ≡ Open t
-    → ((j p : ℕ) → visit_of s.place j ≡ Open p → NodeReaches edges j k) → IsCutAbove t s.starts new
+    → IsSearch edges n seen s → visit_of s.visits k ≡ Open t
+    → ((j p : ℕ) → visit_of s.visits j ≡ Open p → NodeReaches edges j k) → IsCutAbove t s.starts new
     → IsSearch edges n seen (record s { starts = new })
 cut_keeps edges n seen s new k t w is all cut =
     let m = cut.kept in
     let P : List ℕ → Type 0 = λ starts. IsSearch edges n seen (record s { starts = starts }) in
     subst P (sym cut.same) (record {
-      places = w.places;
+      all_visits = w.all_visits;
       looks = w.looks;
       seen_below = w.seen_below;
       row = w.row;

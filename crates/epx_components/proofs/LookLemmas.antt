@@ -12,18 +12,18 @@ use Rattle.epx_components.specs.inner.SearchSteps.{IsTopNode}
 use Rattle.epx_components.specs.declared.visit.Visit.TheVariants.{Closed, Open, Unseen}
 
 pub look_keeps : (edges : ℕ → List ℕ) (n seen : ℕ) (s : SearchState) (k p : ℕ)
-    → IsSearch edges n seen s → visit_of s.place k ≡ Open p
+    → IsSearch edges n seen s → visit_of s.visits k ≡ Open p
     → get_or s.looked_at k 0 < length (edges k)
-    → MayLead s.starts (visit_of s.place k)
-    (visit_of s.place (get_or (edges k) (get_or s.looked_at k 0) 0))
+    → MayLead s.starts (visit_of s.visits k)
+    (visit_of s.visits (get_or (edges k) (get_or s.looked_at k 0) 0))
     → IsSearch edges n seen
     (record s { looked_at = set s.looked_at k (get_or s.looked_at k 0 + 1) })
 look_keeps edges n seen s k p w is left leads =
     let in' : k < length s.looked_at =
     omega (
       arith,
-      placed_below s.place k (λ e. let wrong : Open p ≡ Unseen = sym is ∙ e in cc),
-      w.places,
+      placed_below s.visits k (λ e. let wrong : Open p ≡ Unseen = sym is ∙ e in cc),
+      w.all_visits,
       w.looks,
     ) in
     let new = set s.looked_at k (get_or s.looked_at k 0 + 1) in
@@ -31,10 +31,10 @@ look_keeps edges n seen s k p w is left leads =
     get_or-set_same s.looked_at k _ 0 in' in
     let other : (j : ℕ) → j ≢ k → get_or new j 0 ≡ get_or s.looked_at j 0 =
     λ j ne. get_or-set_other s.looked_at k j _ 0 ne in
-    let Led : ℕ → ℕ → Type 0 = λ j i. MayLead s.starts (visit_of s.place j)
-    (visit_of s.place (get_or (edges j) i 0)) in
+    let Led : ℕ → ℕ → Type 0 = λ j i. MayLead s.starts (visit_of s.visits j)
+    (visit_of s.visits (get_or (edges j) i 0)) in
     record {
-      places = w.places;
+      all_visits = w.all_visits;
       looks = length-set s.looked_at k _ ∙ w.looks;
       seen_below = w.seen_below;
       row = w.row;
@@ -68,7 +68,7 @@ look_keeps edges n seen s k p w is left leads =
           arith,
           w.finished.looked j c h,
           other j (λ e. let wrong : Open p ≡ Closed c =
-              sym is ∙ (ap (visit_of s.place) (sym e) ∙ h) in cc),
+              sym is ∙ (ap (visit_of s.visits) (sym e) ∙ h) in cc),
         );
         listed = w.finished.listed;
         closed = w.finished.closed;
@@ -84,7 +84,7 @@ pub pop_keeps : (edges : ℕ → List ℕ) (n seen : ℕ) (s : SearchState) (k :
 pop_keeps edges n seen s k w top none =
     let last = length s.path - 1 in
     record {
-      places = w.places;
+      all_visits = w.all_visits;
       looks = w.looks;
       seen_below = w.seen_below;
       row = w.row;

@@ -16,47 +16,47 @@ use Rattle.epx_components.specs.inner.SearchSteps.{after_enter}
 use Rattle.epx_components.specs.declared.visit.Visit.{Visit}
 use Rattle.epx_components.specs.declared.visit.Visit.TheVariants.{Closed, Open, Unseen}
 
-enter_row : (place : List Visit) (opened : List ℕ) (k : ℕ) → IsRow place opened → k < length place
-    → visit_of place k ≡ Unseen → IsRow (set place k (Open (length opened))) (opened ++ k ∷ [])
-enter_row place opened k r l un =
+enter_row : (visits : List Visit) (opened : List ℕ) (k : ℕ) → IsRow visits opened → k < length visits
+    → visit_of visits k ≡ Unseen → IsRow (set visits k (Open (length opened))) (opened ++ k ∷ [])
+enter_row visits opened k r l un =
     let m = length opened in
-    let new = set place k (Open m) in
+    let new = set visits k (Open m) in
     record {
       is_open_at = push_cases opened k (λ p j. visit_of new j ≡ Open p)
-          (λ p h. get_or-set_other place k _ _ Unseen
+          (λ p h. get_or-set_other visits k _ _ Unseen
           (λ e. let wrong : Open p ≡ Unseen =
-          sym (r.is_open_at p h) ∙ (ap (visit_of place) e ∙ un) in
+          sym (r.is_open_at p h) ∙ (ap (visit_of visits) e ∙ un) in
           cc) ∙ r.is_open_at p h)
-          (get_or-set_same place k (Open m) Unseen l);
+          (get_or-set_same visits k (Open m) Unseen l);
       placed = λ j p h. ⊎_elim
           (λ (e : (j ≡ k) × (visit_of new j ≡ Open m)).
           let same : Open m ≡ Open p = sym e.1 ∙ h in
           let at : m ≡ p = cc in
           (omega (arith, length_push opened k), get_or_push opened k 0 p at ∙ sym e.0))
-          (λ (e : (j ≢ k) × (visit_of new j ≡ visit_of place j)).
+          (λ (e : (j ≢ k) × (visit_of new j ≡ visit_of visits j)).
           let old = r.placed j p (sym e.1 ∙ h) in (
             omega (arith, old.0, length_push opened k),
             get_or_append_left opened (k ∷ []) 0 p old.0 ∙ old.1,
           ))
-          (set_cases place k (Open m) j l);
+          (set_cases visits k (Open m) j l);
     }
 
 -- the finished components stay the same
-enter_finished : (edges : ℕ → List ℕ) (place : List Visit) (looked_at order : List ℕ)
-    (count k m : ℕ) → AreFinished edges place looked_at order count → k < length place
-    → visit_of place k ≡ Unseen → AreFinished edges (set place k (Open m)) looked_at order count
-enter_finished edges place looked_at order count k m d l un =
-    let new = set place k (Open m) in
-    let back : (j c : ℕ) → visit_of new j ≡ Closed c → visit_of place j ≡ Closed c = λ j c h.
+enter_finished : (edges : ℕ → List ℕ) (visits : List Visit) (looked_at order : List ℕ)
+    (count k m : ℕ) → AreFinished edges visits looked_at order count → k < length visits
+    → visit_of visits k ≡ Unseen → AreFinished edges (set visits k (Open m)) looked_at order count
+enter_finished edges visits looked_at order count k m d l un =
+    let new = set visits k (Open m) in
+    let back : (j c : ℕ) → visit_of new j ≡ Closed c → visit_of visits j ≡ Closed c = λ j c h.
     ⊎_elim
     (λ (e : (j ≡ k) × (visit_of new j ≡ Open m)). let wrong : Open m ≡ Closed c = sym e.1 ∙ h in
     cc)
-    (λ (e : (j ≢ k) × (visit_of new j ≡ visit_of place j)). sym e.1 ∙ h)
-    (set_cases place k (Open m) j l)
+    (λ (e : (j ≢ k) × (visit_of new j ≡ visit_of visits j)). sym e.1 ∙ h)
+    (set_cases visits k (Open m) j l)
     in
-    let on : (j c : ℕ) → visit_of place j ≡ Closed c → visit_of new j ≡ Closed c = λ j c h.
-    get_or-set_other place k j _ Unseen (λ e. let wrong : Closed c ≡ Unseen =
-    sym h ∙ (ap (visit_of place) e ∙ un) in cc) ∙ h
+    let on : (j c : ℕ) → visit_of visits j ≡ Closed c → visit_of new j ≡ Closed c = λ j c h.
+    get_or-set_other visits k j _ Unseen (λ e. let wrong : Closed c ≡ Unseen =
+    sym h ∙ (ap (visit_of visits) e ∙ un) in cc) ∙ h
     in
     record {
       counted = λ j c h. d.counted j c (back j c h);
@@ -69,34 +69,34 @@ enter_finished edges place looked_at order count k m d l un =
     }
 
 pub enter_keeps : (edges : ℕ → List ℕ) (n seen : ℕ) (s : SearchState) (k : ℕ)
-    → IsSearch edges n seen s → k < n → visit_of s.place k ≡ Unseen
-    → ((j p : ℕ) → visit_of s.place j ≡ Open p → NodeReaches edges j k)
+    → IsSearch edges n seen s → k < n → visit_of s.visits k ≡ Unseen
+    → ((j p : ℕ) → visit_of s.visits j ≡ Open p → NodeReaches edges j k)
     → IsSearch edges n seen (after_enter s k)
 enter_keeps edges n seen s k w l un all =
     let m = length s.opened in
-    let in' : k < length s.place = omega (arith, w.places) in
-    let new = set s.place k (Open m) in
+    let in' : k < length s.visits = omega (arith, w.all_visits) in
+    let new = set s.visits k (Open m) in
     let cases : (j : ℕ) → ((j ≡ k) × (visit_of new j ≡ Open m))
-    ⊎ ((j ≢ k) × (visit_of new j ≡ visit_of s.place j)) =
-    λ j. set_cases s.place k (Open m) j in' in
-    let kept : (j : ℕ) → visit_of s.place j ≢ Unseen → visit_of new j ≡ visit_of s.place j = λ j h.
-    get_or-set_other s.place k j _ Unseen (λ e. h (ap (visit_of s.place) e ∙ un)) in
+    ⊎ ((j ≢ k) × (visit_of new j ≡ visit_of s.visits j)) =
+    λ j. set_cases s.visits k (Open m) j in' in
+    let kept : (j : ℕ) → visit_of s.visits j ≢ Unseen → visit_of new j ≡ visit_of s.visits j = λ j h.
+    get_or-set_other s.visits k j _ Unseen (λ e. h (ap (visit_of s.visits) e ∙ un)) in
     record {
-      places = length-set s.place k (Open m) ∙ w.places;
+      all_visits = length-set s.visits k (Open m) ∙ w.all_visits;
       looks = w.looks;
       seen_below = λ j h e. w.seen_below j h (sym (kept j (w.seen_below j h)) ∙ e);
-      row = enter_row s.place s.opened k w.row in' un;
+      row = enter_row s.visits s.opened k w.row in' un;
       starts = AreRisingBelow-push s.starts m _ w.starts (omega (arith, length_push s.opened k));
       begins = first_push s.starts m w.begins w.grouped;
       grouped = λ _. omega (arith, length_push s.starts m);
       path = AreRisingBelow-push s.path m _ w.path (omega (arith, length_push s.opened k));
-      finished = enter_finished edges s.place s.looked_at s.order s.count k m w.finished in' un;
+      finished = enter_finished edges s.visits s.looked_at s.order s.count k m w.finished in' un;
       waits = λ j p h. ⊎_elim
           (λ (e : (j ≡ k) × (visit_of new j ≡ Open m)).
           let same : Open m ≡ Open p = sym e.1 ∙ h in
           let at : m ≡ p = cc in
           inr (subst (Contains (s.path ++ m ∷ [])) at (Contains-push s.path m)))
-          (λ (e : (j ≢ k) × (visit_of new j ≡ visit_of s.place j)).
+          (λ (e : (j ≢ k) × (visit_of new j ≡ visit_of s.visits j)).
           ⊎_elim (λ h. inl h) (λ h. inr (Contains-append_left s.path (m ∷ []) p h))
           (w.waits j p (sym e.1 ∙ h)))
           (cases j);
@@ -108,15 +108,15 @@ enter_keeps edges n seen s k w l un all =
       reaches = λ i j p q hi hj from. ⊎_elim
           (λ (e : (i ≡ k) × (visit_of new i ≡ Open m)). ⊎_elim
           (λ (f : (j ≡ k) × (visit_of new j ≡ Open m)). reaches_itself edges i j (e.0 ∙ sym f.0))
-          (λ (f : (j ≢ k) × (visit_of new j ≡ visit_of s.place j)).
+          (λ (f : (j ≢ k) × (visit_of new j ≡ visit_of s.visits j)).
           let same : Open m ≡ Open p = sym e.1 ∙ hi in
           let at : m ≡ p = cc in
           let last : m ≤ q = IsInGroupFrom-pushed s.starts m p q (omega arith) from in
           absurd (omega (arith, (w.row.placed j q (sym f.1 ∙ hj)).0)))
           (cases j))
-          (λ (e : (i ≢ k) × (visit_of new i ≡ visit_of s.place i)). ⊎_elim
+          (λ (e : (i ≢ k) × (visit_of new i ≡ visit_of s.visits i)). ⊎_elim
           (λ (f : (j ≡ k) × (visit_of new j ≡ Open m)). rw f.0 (all i p (sym e.1 ∙ hi)))
-          (λ (f : (j ≢ k) × (visit_of new j ≡ visit_of s.place j)).
+          (λ (f : (j ≢ k) × (visit_of new j ≡ visit_of s.visits j)).
           w.reaches i j p q (sym e.1 ∙ hi) (sym f.1 ∙ hj)
           (IsInGroupFrom-unpush s.starts m p q from))
           (cases j))

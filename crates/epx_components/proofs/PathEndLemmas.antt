@@ -18,17 +18,17 @@ rising_last xs n h i l = ⊎_elim
     (cases_lt i (length xs - 1))
 
 pub top_open : (edges : ℕ → List ℕ) (n seen : ℕ) (s : SearchState) (k : ℕ)
-    → IsSearch edges n seen s → (t : IsTopNode s k) → visit_of s.place k ≡ Open t.place
+    → IsSearch edges n seen s → (t : IsTopNode s k) → visit_of s.visits k ≡ Open t.position
 top_open edges n seen s k w t =
-    ap (visit_of s.place) (sym t.node) ∙ w.row.is_open_at t.place
+    ap (visit_of s.visits) (sym t.node) ∙ w.row.is_open_at t.position
     (omega (arith, t.some, t.ends, w.path.below (length s.path - 1) (omega (arith, t.some))))
 
 pub open_below : (edges : ℕ → List ℕ) (n seen : ℕ) (s : SearchState) (k p : ℕ)
-    → IsSearch edges n seen s → visit_of s.place k ≡ Open p → k < n
+    → IsSearch edges n seen s → visit_of s.visits k ≡ Open p → k < n
 open_below edges n seen s k p w h =
     omega (
       arith,
-      w.places,
-      placed_below s.place k
+      w.all_visits,
+      placed_below s.visits k
           (λ e. let wrong : Open p ≡ Unseen = sym h ∙ e in cc),
     )

@@ -11,9 +11,9 @@ use Rattle.epx_components.specs.declared.visit.Visit.{Visit}
 use Rattle.epx_components.specs.declared.visit.Visit.TheVariants.{Closed, Open, Unseen}
 
 pub seen_after : (edges : ℕ → List ℕ) (n k : ℕ) (s : SearchState) → IsSearch edges n k s
-    → visit_of s.place k ≢ Unseen → IsSearch edges n (k + 1) s
+    → visit_of s.visits k ≢ Unseen → IsSearch edges n (k + 1) s
 seen_after edges n k s w h = record {
-  places = w.places;
+  all_visits = w.all_visits;
   looks = w.looks;
   seen_below = λ j l. ⊎_elim (λ (e : j ≡ k). rw e h) (λ (ne : j ≢ k). w.seen_below j (omega arith))
       (cases_eq j k);
@@ -30,15 +30,15 @@ seen_after edges n k s w h = record {
 
 -- the search from a node, when nothing is open
 pub root_search : (edges : ℕ → List ℕ) (n k : ℕ) (s new : SearchState) (x : Visit)
-    → visit_of s.place k ≡ x → IsSearch edges n k s → k < n → length s.starts ≡ 0
+    → visit_of s.visits k ≡ x → IsSearch edges n k s → k < n → length s.starts ≡ 0
     → Arrives x k s new → IsSearch edges n (k + 1) new
 root_search edges n k s new Unseen e w l none h =
     let P : SearchState → Type 0 = λ t. IsSearch edges n (k + 1) t in
-    let none_open : (j p : ℕ) → visit_of s.place j ≡ Open p
+    let none_open : (j p : ℕ) → visit_of s.visits j ≡ Open p
     → ⊥ = λ j p o. omega (arith, (w.row.placed j p o).0, w.grouped) in
     let m = length s.opened in
-    let is : visit_of (set s.place k (Open m)) k ≡ Open m =
-    get_or-set_same s.place k (Open m) Unseen (omega (arith, w.places)) in
+    let is : visit_of (set s.visits k (Open m)) k ≡ Open m =
+    get_or-set_same s.visits k (Open m) Unseen (omega (arith, w.all_visits)) in
     subst P (sym h) (seen_after edges n k (after_enter s k)
     (enter_keeps edges n k s k w l e (λ j p o. absurd (none_open j p o)))
     (λ f. let wrong : Open m ≡ Unseen = sym is ∙ f in cc))

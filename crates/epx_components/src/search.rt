@@ -23,7 +23,7 @@ use std::alloc::Global;
 /// row merges the groups from there on. A last group without an edge left is a component.
 #[derive(Drop)]
 pub(crate) struct Search {
-    place: Vec<Visit>,
+    visits: Vec<Visit>,
     /// How many edges of each node have been looked at.
     looked_at: Vec<usize>,
     /// The row of open nodes.
@@ -47,7 +47,7 @@ pub fn find_components(alloc: Global, graph: &Graph) -> Result<Partition, Memory
     for root in 0..len {
         search.explore(graph, root)?;
     }
-    let component = component_numbers(alloc, &search.place)?;
+    let component = component_numbers(alloc, &search.visits)?;
     Ok(Partition {
         component,
         order: search.order,
@@ -62,7 +62,7 @@ impl Search {
         ensures none { IfOk result (λ s. length (state s).starts ≡ 0) }
     {
         Ok(Search {
-            place: vec![in alloc; Visit::Unseen; len]?,
+            visits: vec![in alloc; Visit::Unseen; len]?,
             looked_at: vec![in alloc; 0; len]?,
             opened: Vec::new(alloc),
             path: Vec::new(alloc),
@@ -150,12 +150,12 @@ impl Search {
     /// Arrives at a node: opens it if it is unseen. If it is open, merges the groups from its own
     /// on.
     fn arrive(&mut self, node: usize) -> Result<(), Memory>
-        requires node { node < length (state self.old).place }
+        requires node { node < length (state self.old).visits }
         requires starts { AreRisingBelow (state self.old).starts (length (state self.old).opened) }
-        ensures { OnOk result (Arrives (visit_of (state self.old).place node) node (state self.old)
+        ensures { OnOk result (Arrives (visit_of (state self.old).visits node) node (state self.old)
             (state self.new)) }
     {
-        match self.place[node] {
+        match self.visits[node] {
             Visit::Unseen => self.enter(node)?,
             Visit::Open(position) => merge_groups(&mut self.starts, position),
             Visit::Closed(_) => {}
@@ -165,11 +165,11 @@ impl Search {
 
     /// Opens a node as a group of its own.
     fn enter(&mut self, node: usize) -> Result<(), Memory>
-        requires { node < length (state self.old).place }
+        requires { node < length (state self.old).visits }
         ensures { OnOk result (state self.new ≡ after_enter (state self.old) node) }
     {
         let position = self.opened.len();
-        self.place[node] = Visit::Open(position);
+        self.visits[node] = Visit::Open(position);
         self.opened.push(node)?;
         self.path.push(position)?;
         self.starts.push(position)?;
@@ -178,7 +178,7 @@ impl Search {
 
     /// Makes the last group a component.
     fn finish(&mut self) -> Result<(), Memory>
-        requires row { IsRow (state self.old).place (state self.old).opened }
+        requires row { IsRow (state self.old).visits (state self.old).opened }
         requires starts { AreRisingBelow (state self.old).starts (length (state self.old).opened) }
         requires some { 0 < length (state self.old).starts }
         requires count { (state self.old).count ≤ length (state self.old).order }
@@ -186,7 +186,7 @@ impl Search {
     {
         let start = self.starts[self.starts.len() - 1];
         self.order.extend_from_slice(&self.opened[start..])?;
-        close_nodes(&mut self.place, &self.opened[start..], self.count);
+        close_nodes(&mut self.visits, &self.opened[start..], self.count);
         self.opened.truncate(start);
         self.starts.pop();
         self.count += 1;

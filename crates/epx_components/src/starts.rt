@@ -3,12 +3,12 @@ ghost use Rattle.std.specs.Prelude.{ℕ};
 ghost use Rattle.epx_components.specs.inner.Starts.{AreRisingBelow, IsCutAbove};
 
 /// Merges the groups that start after a position of the row into the group of that position.
-pub(crate) fn merge_groups(starts: &mut Vec<usize>, place: usize)
+pub(crate) fn merge_groups(starts: &mut Vec<usize>, position: usize)
     requires { (n : ℕ) × AreRisingBelow starts.old.items n }
-    ensures { IsCutAbove place starts.old.items starts.new.items }
+    ensures { IsCutAbove position starts.old.items starts.new.items }
 {
     while let Some(&start) = starts.last()
-        && start > place
+        && start > position
     {
         starts.pop();
     }

@@ -17,28 +17,28 @@ pub(crate) enum Visit {
 }
 
 /// Puts nodes into a component.
-pub(crate) fn close_nodes(place: &mut [Visit], nodes: &[usize], component: usize)
-    requires { (i : ℕ) → i < length nodes.now → slice_index nodes.now i < length place.old }
+pub(crate) fn close_nodes(visits: &mut [Visit], nodes: &[usize], component: usize)
+    requires { (i : ℕ) → i < length nodes.now → slice_index nodes.now i < length visits.old }
     ensures closed { (i : ℕ) → i < length nodes.now
-        → visit_of place.new (slice_index nodes.now i) ≡ Closed component }
+        → visit_of visits.new (slice_index nodes.now i) ≡ Closed component }
     ensures others { (k : ℕ) → ((i : ℕ) → i < length nodes.now → slice_index nodes.now i ≢ k)
-        → visit_of place.new k ≡ visit_of place.old k }
+        → visit_of visits.new k ≡ visit_of visits.old k }
 {
     for node in nodes {
-        place[*node] = Visit::Closed(component);
+        visits[*node] = Visit::Closed(component);
     }
 }
 
 /// The component of each node, when all nodes are closed.
-pub(crate) fn component_numbers(alloc: Global, place: &[Visit]) -> Result<Vec<usize>, Memory>
-    requires { (k : ℕ) → k < length place.now → (c : ℕ) × (visit_of place.now k ≡ Closed c) }
-    ensures len { IfOk result (λ component. length component.items ≡ length place.now) }
-    ensures closed { IfOk result (λ component. (k : ℕ) → k < length place.now
-        → visit_of place.now k ≡ Closed (slice_index component.items k)) }
+pub(crate) fn component_numbers(alloc: Global, visits: &[Visit]) -> Result<Vec<usize>, Memory>
+    requires { (k : ℕ) → k < length visits.now → (c : ℕ) × (visit_of visits.now k ≡ Closed c) }
+    ensures len { IfOk result (λ component. length component.items ≡ length visits.now) }
+    ensures closed { IfOk result (λ component. (k : ℕ) → k < length visits.now
+        → visit_of visits.now k ≡ Closed (slice_index component.items k)) }
 {
-    let mut component = Vec::with_capacity(alloc, place.len())?;
-    for place in place {
-        match place {
+    let mut component = Vec::with_capacity(alloc, visits.len())?;
+    for visit in visits {
+        match visit {
             Visit::Closed(number) => component.push(*number)?,
             _ => unreachable!(),
         }

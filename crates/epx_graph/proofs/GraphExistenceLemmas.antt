@@ -52,20 +52,20 @@ module _ (ids xs : List Id) where
               none (subst (Contains xs) (cc same) h.1))
         ]
 
-  places : (row : List ℕ) × AreThose nat_cmp_total nat_cmp-IsAntisymmetric IsPositionIn
+  positions : (row : List ℕ) × AreThose nat_cmp_total nat_cmp-IsAntisymmetric IsPositionIn
       (list_positions (length ids)) row
-  places = rising_list nat_cmp_total nat_cmp-IsAntisymmetric IsPositionIn IsPositionIn-cases
+  positions = rising_list nat_cmp_total nat_cmp-IsAntisymmetric IsPositionIn IsPositionIn-cases
       (list_positions (length ids))
 
-  places_are : ArePositionsOf ids xs places.0
+  places_are : ArePositionsOf ids xs positions.0
   places_are = record {
-    rising = AllPairs-from_slice_get (λ i j. i < j) places.0
+    rising = AllPairs-from_slice_get (λ i j. i < j) positions.0
         (λ k n i j l p q. less_from_is_lt i j
-        (AllPairs-slice_get (λ i j. is_lt (nat_cmp i j) ≡ true) places.0 places.1.elements_rise k n
+        (AllPairs-slice_get (λ i j. is_lt (nat_cmp i j) ≡ true) positions.0 positions.1.elements_rise k n
         i j l p q));
     exact = λ j. (
-      λ h. (places.1.elements_only j h).1,
-      λ is. places.1.elements_all j
+      λ h. (positions.1.elements_only j h).1,
+      λ is. positions.1.elements_all j
           (Contains-list_positions (length ids) j (slice_get_within ids j is.0 is.2)) is,
     );
   }
@@ -107,16 +107,16 @@ module _ (m : List Instance) (rising : IsRising (ids_of m)) where
       }
 
   rows : List (List ℕ)
-  rows = map (λ e. (places nodes e.deps).0) m
+  rows = map (λ e. (positions nodes e.deps).0) m
 
   rows_are : AreRowsOf m nodes rows (length m)
   unfolding rows
   rows_are = (
-    length-map m (λ (e : Instance). (places nodes e.deps).0),
+    length-map m (λ (e : Instance). (positions nodes e.deps).0),
     λ k e l at.
-        let row : row_of (map (λ e. (places nodes e.deps).0) m) k ≡ (places nodes e.deps).0 =
-        get_or_from_slice_get (map (λ e. (places nodes e.deps).0) m) k (places nodes e.deps).0
-        [] (slice_get-map (λ (e : Instance). (places nodes e.deps).0) m k e at) in
+        let row : row_of (map (λ e. (positions nodes e.deps).0) m) k ≡ (positions nodes e.deps).0 =
+        get_or_from_slice_get (map (λ e. (positions nodes e.deps).0) m) k (positions nodes e.deps).0
+        [] (slice_get-map (λ (e : Instance). (positions nodes e.deps).0) m k e at) in
         subst (ArePositionsOf nodes e.deps) (sym row) (places_are nodes e.deps),
   )
 

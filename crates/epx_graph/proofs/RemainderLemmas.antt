@@ -107,7 +107,7 @@ module _ (r : RemainderView) (none : length r.done ≡ 0) where
       )
 
   pub found_there : (x : Id) (p : ℕ) → position_of r.whole x ≡ Some p
-      → IsIdStateOf r x (found.Remainder p)
+      → IsIdStateOf r x (found.Left p)
   found_there x p at = (
     λ h. Contains-nil x (subst (λ (ds : List Id). Contains ds x) (nil_from_length r.done none)
         h),
@@ -127,22 +127,22 @@ tables_none r = record {
 module _ (r : RemainderView) (positions : List ℕ) (positions_left : List (Option ℕ)) (n : ℕ)
     (e : Instance) (at : slice_get r.whole n ≡ Some e)
     (are : ArePositionTables r positions positions_left n) where
-  tables_push : (place : Option ℕ) → IsPositionLeft r e place → (p : ℕ) (d : Instance) → p < n + 1
+  tables_push : (index : Option ℕ) → IsPositionLeft r e index → (p : ℕ) (d : Instance) → p < n + 1
       → slice_get r.whole p ≡ Some d
-      → IsPositionLeft r d (get_or (positions_left ++ place ∷ []) p None)
-  tables_push place is p d l there =
+      → IsPositionLeft r d (get_or (positions_left ++ index ∷ []) p None)
+  tables_push index is p d l there =
       elim (cases_lt p n) [
         | inl lower ↦ subst (IsPositionLeft r d)
-            (sym (get_or_append_left positions_left (place ∷ []) None p (omega (arith, are.all))))
+            (sym (get_or_append_left positions_left (index ∷ []) None p (omega (arith, are.all))))
             (are.all_positions_left p d lower there)
         | inr not_lower ↦
             let same : p ≡ n = omega arith in
             let one : Some d ≡ Some e = sym there ∙ ap (slice_get r.whole) same ∙ at in
             let of : d ≡ e = cc one in
-            let last : get_or (positions_left ++ place ∷ []) p None ≡ place =
-            get_or_push positions_left place None p (omega (arith, are.all)) in
+            let last : get_or (positions_left ++ index ∷ []) p None ≡ index =
+            get_or_push positions_left index None p (omega (arith, are.all)) in
             subst (IsPositionLeft r d) (sym last)
-            (subst (λ (i : Instance). IsPositionLeft r i place) (sym of) is)
+            (subst (λ (i : Instance). IsPositionLeft r i index) (sym of) is)
       ]
 
   -- one more instance, which is done
@@ -197,22 +197,22 @@ module _ (r : RemainderView) (positions : List ℕ) (positions_left : List (Opti
       (are.at_positions k within)
 
   -- what the table says of the instance at a position
-  position_read : (p : ℕ) (e : Instance) (place : Option ℕ) → slice_get r.whole p ≡ Some e
-      → place ≡ get_or positions_left p place → IsPositionLeft r e place
-  position_read p e place at read =
+  position_read : (p : ℕ) (e : Instance) (index : Option ℕ) → slice_get r.whole p ≡ Some e
+      → index ≡ get_or positions_left p index → IsPositionLeft r e index
+  position_read p e index at read =
       let l = slice_get_within r.whole p e at in
       subst (IsPositionLeft r e)
-      (sym (get_or_read positions_left p place (omega (arith, are.all)) read None))
+      (sym (get_or_read positions_left p index (omega (arith, are.all)) read None))
       (are.all_positions_left p e l at)
 
   -- and of the Id at it
-  pub found_left : IsRising (ids_of r.whole) → (p k : ℕ) (x : Id) (place : Option ℕ)
-      → position_of r.whole x ≡ Some p → place ≡ get_or positions_left p place → place ≡ Some k
-      → IsIdStateOf r x (found.Remainder k)
-  found_left rising p k x place at read some =
+  pub found_left : IsRising (ids_of r.whole) → (p k : ℕ) (x : Id) (index : Option ℕ)
+      → position_of r.whole x ≡ Some p → index ≡ get_or positions_left p index → index ≡ Some k
+      → IsIdStateOf r x (found.Left k)
+  found_left rising p k x index at read some =
       let e = position_of-instance r.whole x p at in
       let there : slice_get (left_of r) k ≡ Some (without_deps r.done e.0) =
-      subst (IsPositionLeft r e.0) some (position_read p e.0 place e.1 read) in
+      subst (IsPositionLeft r e.0) some (position_read p e.0 index e.1 read) in
       let is = Contains-slice_get (ids_of (left_of r)) k x
       (slice_get-map (λ (i : Instance). i.id) (left_of r) k (without_deps r.done e.0) there
       ∙ ap Some e.2) in (
@@ -221,12 +221,12 @@ module _ (r : RemainderView) (positions : List ℕ) (positions_left : List (Opti
             (without_deps r.done e.0) there e.2,
       )
 
-  pub found_done : (p : ℕ) (x : Id) (place : Option ℕ) → position_of r.whole x ≡ Some p
-      → place ≡ get_or positions_left p place → place ≡ None → Contains r.done x
-  found_done p x place at read none =
+  pub found_done : (p : ℕ) (x : Id) (index : Option ℕ) → position_of r.whole x ≡ Some p
+      → index ≡ get_or positions_left p index → index ≡ None → Contains r.done x
+  found_done p x index at read none =
       let e = position_of-instance r.whole x p at in
       subst (Contains r.done) e.2
-      (subst (IsPositionLeft r e.0) none (position_read p e.0 place e.1 read))
+      (subst (IsPositionLeft r e.0) none (position_read p e.0 index e.1 read))
 
 -- an Id without a position is not left
 pub found_missing : (r : RemainderView) (x : Id) → position_of r.whole x ≡ None
@@ -241,12 +241,12 @@ found_missing r x none left = (
 
 -- what an Id adds to the positions, and to the missing Ids
 abbrev pub positions_found : IdState → List ℕ
-positions_found (found.Remainder k) = k ∷ []
+positions_found (found.Left k) = k ∷ []
 positions_found found.Done = []
 positions_found found.Missing = []
 
 abbrev pub missing_found : Id → IdState → List Id
-missing_found x (found.Remainder k) = []
+missing_found x (found.Left k) = []
 missing_found x found.Done = []
 missing_found x found.Missing = x ∷ []
 
@@ -260,7 +260,7 @@ module _ (r : RemainderView) where
   gathered_push : (xs : List Id) (x : Id) (f : IdState) → IsIdStateOf r x f
       → (positions_in (xs ++ x ∷ []) ≡ positions_in xs ++ positions_found f)
       × (missing_in (xs ++ x ∷ []) ≡ missing_in xs ++ missing_found x f)
-  gathered_push xs x (found.Remainder k) is =
+  gathered_push xs x (found.Left k) is =
       let rest = rest_more r.done xs x is.0 in (
         ap (positions_of (left_of r)) rest ∙ positions_take (left_of r) (remaining_ids r.done xs) x
             k is.1,

@@ -221,44 +221,44 @@ module _ (m : List Instance) (ids : List Id) (nodes : AreNodesOf m ids) where
       );
     })
 
-    pub missing_more : (place : ℕ) → slice_get (drop (length m) ids) place ≡ Some x
-        → ArePositionsOf ids (take (i + 1) xs) (row ++ (length m + place) ∷ [])
-    missing_more place at =
-        subst (λ (ys : List Id). ArePositionsOf ids ys (row ++ (length m + place) ∷ [])) (sym more)
+    pub missing_more : (index : ℕ) → slice_get (drop (length m) ids) index ≡ Some x
+        → ArePositionsOf ids (take (i + 1) xs) (row ++ (length m + index) ∷ [])
+    missing_more index at =
+        subst (λ (ys : List Id). ArePositionsOf ids ys (row ++ (length m + index) ∷ [])) (sym more)
         (record {
-          rising = AllPairs-append (λ a b. a < b) row ((length m + place) ∷ []) are.rising
+          rising = AllPairs-append (λ a b. a < b) row ((length m + index) ∷ []) are.rising
               (λ a b d low within. absurd (omega arith)) below;
           exact = λ j. (
-            λ h. elim (Contains-push_cases row (length m + place) j h) [
+            λ h. elim (Contains-push_cases row (length m + index) j h) [
               | inl old ↦ let there = (are.exact j).0 old in
                   (there.0, Contains-append_left (take i xs) (x ∷ []) there.0 there.1, there.2)
               | inr last ↦ (x, Contains-push (take i xs) x, ap (slice_get ids) (sym last) ∙ number)
             ],
             λ h. elim (Contains-push_cases (take i xs) x h.0 h.1) [
-              | inl old ↦ Contains-append_left row ((length m + place) ∷ []) j
+              | inl old ↦ Contains-append_left row ((length m + index) ∷ []) j
                   ((are.exact j).1 (h.0, old, h.2))
-              | inr last ↦ subst (Contains (row ++ (length m + place) ∷ []))
-                  (one j (h.2 ∙ ap Some (sym last))) (Contains-push row (length m + place))
+              | inr last ↦ subst (Contains (row ++ (length m + index) ∷ []))
+                  (one j (h.2 ∙ ap Some (sym last))) (Contains-push row (length m + index))
             ],
           );
         }) where
-          number : slice_get ids (length m + place) ≡ Some x
-          number = slice_get-from_drop ids (length m) place x at
+          number : slice_get ids (length m + index) ≡ Some x
+          number = slice_get-from_drop ids (length m) index x at
 
-          one : (j : ℕ) → slice_get ids j ≡ Some x → length m + place ≡ j
+          one : (j : ℕ) → slice_get ids j ≡ Some x → length m + index ≡ j
           one j there =
               let past = missing_above m ids nodes x j lacks_x there in
-              let same = rising_position_is_one (drop (length m) ids) nodes.missing.rising place
+              let same = rising_position_is_one (drop (length m) ids) nodes.missing.rising index
               (j - length m) x at (slice_get-drop ids (length m) j x past there) in
               omega arith
 
-          below : (a b : ℕ) → Contains row a → Contains ((length m + place) ∷ []) b → a < b
+          below : (a b : ℕ) → Contains row a → Contains ((length m + index) ∷ []) b → a < b
           below a b h k =
               let old = above a h in
               let lower = rising_positions_back (drop (length m) ids) nodes.missing.rising
-              (a - length m) place old.0 x (slice_get-drop ids (length m) a old.0 old.2 old.3) at
+              (a - length m) index old.0 x (slice_get-drop ids (length m) a old.0 old.2 old.3) at
               old.1 in
-              elim (Contains-cons_cases (length m + place) [] b k) [
+              elim (Contains-cons_cases (length m + index) [] b k) [
                 | inl same ↦ omega (arith, old.2)
                 | inr none ↦ absurd (Contains-nil b none)
               ]

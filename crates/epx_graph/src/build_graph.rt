@@ -35,8 +35,8 @@ fn committed_ids(alloc: Global, left: &Remainder, more: usize) -> Result<Vec<Id>
     ensures { IfOk result (λ ids. ids.items ≡ ids_of (left_of left.now)) }
 {
     let mut ids = Vec::with_capacity(alloc, left.len().saturating_add(more))?;
-    for place in 0..left.len() {
-        ids.push(left.id_at(place))?;
+    for index in 0..left.len() {
+        ids.push(left.id_at(index))?;
     }
     Ok(ids)
 }
@@ -67,8 +67,8 @@ fn number_missing(
     row.clear();
     let (committed, nodes) = ids.split_at(left.len());
     for id in missing {
-        if let Some(place) = find_id(nodes, *id) {
-            row.push(committed.len() + place)?;
+        if let Some(index) = find_id(nodes, *id) {
+            row.push(committed.len() + index)?;
         }
     }
     Ok(())
@@ -90,9 +90,9 @@ fn numbered_rows(
     let mut rows = gathered.rows.room(alloc, gathered.missing.len())?;
     let mut missing = gathered.missing.as_slice();
     let mut row = Vec::new(alloc);
-    for place in 0..left.len() {
-        let known = gathered.rows.row(place);
-        let lacks = left.count_undone(left.entry_at(place).deps()) - known.len();
+    for index in 0..left.len() {
+        let known = gathered.rows.row(index);
+        let lacks = left.count_undone(left.entry_at(index).deps()) - known.len();
         let (here, later) = missing.split_at(lacks);
         number_missing(left, ids, here, &mut row)?;
         rows = rows.push_row(known, &row)?;

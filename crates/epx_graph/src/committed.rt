@@ -46,7 +46,7 @@ fn gather(
 {
     for id in deps {
         match left.look_up(*id) {
-            IdState::Remainder(place) => numbers.push(place)?,
+            IdState::Left(index) => numbers.push(index)?,
             IdState::Done => {}
             IdState::Missing => missing.push(*id)?,
         }
@@ -106,8 +106,8 @@ fn gather_part(alloc: Global, left: &Remainder, part: Part) -> Result<Gathered, 
 {
     let mut rows = part.room(alloc)?;
     let mut missing = Vec::new(alloc);
-    for place in part.start..part.end {
-        rows = rows.push_committed(left, left.entry_at(place).deps(), &mut missing)?;
+    for index in part.start..part.end {
+        rows = rows.push_committed(left, left.entry_at(index).deps(), &mut missing)?;
     }
     Ok(Gathered { rows, missing })
 }
@@ -160,11 +160,11 @@ fn mean_deps(left: &Remainder) -> usize {
     let step = left.len() / SAMPLES + 1;
     let mut seen: usize = 0;
     let mut count: usize = 0;
-    let mut place = 0;
-    while place < left.len() {
+    let mut index = 0;
+    while index < left.len() {
         seen = seen.saturating_add(1);
-        count = count.saturating_add(left.entry_at(place).deps().len());
-        place = place.saturating_add(step);
+        count = count.saturating_add(left.entry_at(index).deps().len());
+        index = index.saturating_add(step);
     }
     if seen == 0 {
         return 0;

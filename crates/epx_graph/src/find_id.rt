@@ -12,39 +12,39 @@ pub(crate) fn find_id(ids: &[Id], id: Id) -> Option<usize>
     ensures { MatchOption result (¬ Contains ids.now id) (λ k. slice_get ids.now k ≡ Some id) }
 {
     match ids.binary_search(&id) {
-        Ok(place) => Some(place),
+        Ok(index) => Some(index),
         Err(_) => None,
     }
 }
 
 /// Whether all Ids before a position are below this one. False says nothing.
-fn all_below_before(ids: &[Id], place: usize, id: Id) -> bool
+fn all_below_before(ids: &[Id], index: usize, id: Id) -> bool
     requires { IsRising ids.now }
-    ensures { IsTrue result → (k : ℕ) (d : Id) → k < place
+    ensures { IsTrue result → (k : ℕ) (d : Id) → k < index
         → Below (slice_index_or ids.now k d) id }
 {
-    if place == 0 {
+    if index == 0 {
         return true;
     }
-    place <= ids.len() && ids[place - 1] < id
+    index <= ids.len() && ids[index - 1] < id
 }
 
 /// Whether all Ids from a position on are above this one. False says nothing.
-fn all_above_from(ids: &[Id], place: usize, id: Id) -> bool
+fn all_above_from(ids: &[Id], index: usize, id: Id) -> bool
     requires { IsRising ids.now }
-    ensures { IsTrue result → (k : ℕ) (d : Id) → place ≤ k → k < length ids.now
+    ensures { IsTrue result → (k : ℕ) (d : Id) → index ≤ k → k < length ids.now
         → Below id (slice_index_or ids.now k d) }
 {
-    if place >= ids.len() {
+    if index >= ids.len() {
         return true;
     }
-    id < ids[place]
+    id < ids[index]
 }
 
 /// Whether the neighbours at a position show that the Id is not in the list. False says nothing.
-pub(crate) fn is_absent(ids: &[Id], place: usize, id: Id) -> bool
+pub(crate) fn is_absent(ids: &[Id], index: usize, id: Id) -> bool
     requires { IsRising ids.now }
     ensures { IsTrue result → ¬ Contains ids.now id }
 {
-    all_below_before(ids, place, id) && all_above_from(ids, place, id)
+    all_below_before(ids, index, id) && all_above_from(ids, index, id)
 }

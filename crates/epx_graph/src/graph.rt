@@ -67,11 +67,11 @@ impl Graph {
             (λ node. slice_get self.now.ids node ≡ Some id) }
     {
         let (committed, missing) = self.ids.split_at(self.committed_len());
-        if let Some(place) = find_id(committed, id) {
-            return Some(place);
+        if let Some(position) = find_id(committed, id) {
+            return Some(position);
         }
         match find_id(missing, id) {
-            Some(place) => Some(committed.len() + place),
+            Some(position) => Some(committed.len() + position),
             None => None,
         }
     }

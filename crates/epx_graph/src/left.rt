@@ -16,7 +16,7 @@ use std::marker::Model;
 #[derive(Clone, Copy, Debug)]
 pub(crate) enum IdState {
     /// At this position among the instances that are left.
-    Remainder(usize),
+    Left(usize),
     Done,
     /// Neither committed nor done.
     Missing,
@@ -57,17 +57,17 @@ impl<'a> Model for Remainder<'a> {
 /// Guesses of the positions of the done instances.
 fn guesses_of(alloc: Global, done: &[Id]) -> Result<Guesses, Memory> {
     let mut guesses = Guesses::new(alloc);
-    for (place, id) in done.iter().enumerate() {
-        guesses.note(*id, place)?;
+    for (index, id) in done.iter().enumerate() {
+        guesses.note(*id, index)?;
     }
     Ok(guesses)
 }
 
 /// Whether the Id at this position of the done ones is the given one.
-fn is_at(done: &[Id], place: usize, id: Id) -> bool
+fn is_at(done: &[Id], index: usize, id: Id) -> bool
     ensures { IsTrue result → Contains done.now id }
 {
-    place < done.len() && done[place] == id
+    index < done.len() && done[index] == id
 }
 
 /// Whether the Id is at its guessed position, which shows that it is done.
@@ -75,7 +75,7 @@ fn is_guessed(done: &[Id], guesses: &Guesses, id: Id) -> bool
     ensures { IsTrue result → Contains done.now id }
 {
     match guesses.guess(id) {
-        Some(place) => is_at(done, place, id),
+        Some(index) => is_at(done, index, id),
         None => false,
     }
 }
@@ -90,23 +90,23 @@ fn is_done(done: &[Id], guesses: &Guesses, id: Id) -> bool
 
 /// The first position, from `start` on, whose Id is not below the given one.
 fn first_not_below(done: &[Id], start: usize, id: Id) -> usize {
-    let mut place = start;
-    while place < done.len() && done[place] < id {
-        place += 1;
+    let mut index = start;
+    while index < done.len() && done[index] < id {
+        index += 1;
     }
-    place
+    index
 }
 
 /// Whether an Id is done. Its neighbours at a position usually show it; otherwise a binary search
 /// decides.
-fn is_done_near(done: &[Id], place: usize, id: Id) -> bool
+fn is_done_near(done: &[Id], index: usize, id: Id) -> bool
     requires { IsRising done.now }
     ensures { IsTrue result ↔ Contains done.now id }
 {
-    if is_at(done, place, id) {
+    if is_at(done, index, id) {
         return true;
     }
-    !is_absent(done, place, id) && find_id(done, id).is_some()
+    !is_absent(done, index, id) && find_id(done, id).is_some()
 }
 
 impl<'a> Remainder<'a> {
@@ -158,31 +158,31 @@ impl<'a> Remainder<'a> {
     }
 
     /// The position in the map of the instance at a position of those that are left.
-    fn position_at(&self, place: usize) -> usize
-        requires { place < length (left_of self.now) }
-        ensures { IsAtPosition self.now result place }
+    fn position_at(&self, index: usize) -> usize
+        requires { index < length (left_of self.now) }
+        ensures { IsAtPosition self.now result index }
     {
         if self.done.is_empty() {
-            return place;
+            return index;
         }
-        self.positions[place]
+        self.positions[index]
     }
 
     /// The Id of the instance at a position of those that are left.
-    pub(crate) fn id_at(&self, place: usize) -> Id
-        requires { place < length (left_of self.now) }
-        ensures { slice_get (ids_of (left_of self.now)) place ≡ Some result }
+    pub(crate) fn id_at(&self, index: usize) -> Id
+        requires { index < length (left_of self.now) }
+        ensures { slice_get (ids_of (left_of self.now)) index ≡ Some result }
     {
-        self.merged.id_at(self.position_at(place))
+        self.merged.id_at(self.position_at(index))
     }
 
     /// The entry at a position of those that are left. It still has its done dependencies.
-    pub(crate) fn entry_at(&self, place: usize) -> &Entry
-        requires { place < length (left_of self.now) }
-        ensures { slice_get (left_of self.now) place
+    pub(crate) fn entry_at(&self, index: usize) -> &Entry
+        requires { index < length (left_of self.now) }
+        ensures { slice_get (left_of self.now) index
             ≡ Some (without_deps self.now.done result.now) }
     {
-        self.merged.entry_at(self.position_at(place))
+        self.merged.entry_at(self.position_at(index))
     }
 
     /// Whether an Id is left, done or missing.
@@ -195,10 +195,10 @@ impl<'a> Remainder<'a> {
         }
         if let Some(position) = self.merged.position(id) {
             if self.done.is_empty() {
-                return IdState::Remainder(position);
+                return IdState::Left(position);
             }
             return match self.positions_left[position] {
-                Some(place) => IdState::Remainder(place),
+                Some(index) => IdState::Left(index),
                 None => IdState::Done,
             };
         }

@@ -27,14 +27,14 @@ impl Model for Rows {
 }
 
 /// The start and the end of a row.
-fn bounds(ends: &[usize], place: usize) -> (usize, usize)
-    requires { place < length ends.now }
-    ensures { result ≡ (slice_index (0 ∷ ends.now) place, slice_index ends.now place) }
+fn bounds(ends: &[usize], index: usize) -> (usize, usize)
+    requires { index < length ends.now }
+    ensures { result ≡ (slice_index (0 ∷ ends.now) index, slice_index ends.now index) }
 {
-    if place == 0 {
+    if index == 0 {
         return (0, ends[0]);
     }
-    (ends[place - 1], ends[place])
+    (ends[index - 1], ends[index])
 }
 
 /// Appends the ends of later rows, moved by the count of numbers before them.
@@ -84,11 +84,11 @@ impl Rows {
         self.ends.len()
     }
 
-    pub(crate) fn row(&self, place: usize) -> &[usize]
-        requires { place < length self.now }
-        ensures { result.now ≡ row_of self.now place }
+    pub(crate) fn row(&self, index: usize) -> &[usize]
+        requires { index < length self.now }
+        ensures { result.now ≡ row_of self.now index }
     {
-        let (start, end) = bounds(&self.ends, place);
+        let (start, end) = bounds(&self.ends, index);
         part(&self.numbers, start, end)
     }
 

@@ -27,9 +27,9 @@ ExecutionAppends = (first rest : List (List Op)) (c : Contents) →
 -- a rearrangement that keeps the order of any two commands that conflict leaves the same contents,
 -- and each command has the same reply
 abbrev pub RearrangementsExecuteAlike : Type 0
-RearrangementsExecuteAlike = (commands : List (List Op)) (places : List ℕ)
-    → IsRearrangement commands places → (c : Contents) →
-    ((execute (commands_at commands places) c).final ≡ (execute commands c).final)
-    × ((k i : ℕ) → slice_get places k ≡ Some i
-    → slice_get (execute (commands_at commands places) c).replies k
+RearrangementsExecuteAlike = (commands : List (List Op)) (positions : List ℕ)
+    → IsRearrangement commands positions → (c : Contents) →
+    ((execute (commands_at commands positions) c).final ≡ (execute commands c).final)
+    × ((k i : ℕ) → slice_get positions k ≡ Some i
+    → slice_get (execute (commands_at commands positions) c).replies k
     ≡ slice_get (execute commands c).replies i)

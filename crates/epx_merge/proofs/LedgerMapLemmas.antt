@@ -94,17 +94,17 @@ same_names x names old = let there : list_any (same_id x) names ≡ true = grind
     rw there refl
 
 -- the line at the index of a known Id has that Id
-pub known_line : (lines : List Placed) (names after : List Id) (x y : Id) (place : ℕ)
+pub known_line : (lines : List Placed) (names after : List Id) (x y : Id) (index : ℕ)
     → names ≡ map (λ p. p.instance.id) lines → not (list_any (same_id x) names) ≡ false
-    → after ≡ insert_key same_id names x → slice_get after place ≡ Some y → same_id x y ≡ true
-    → (first : Placed) × (slice_get (with_ids lines) place ≡ Some (x, first))
-known_line lines names after x y place names_are old same_after at same =
-    let p = slice_get-from_map (λ (q : Placed). q.instance.id) lines place y
-    (sym (ap (λ (l : List Id). slice_get l place)
+    → after ≡ insert_key same_id names x → slice_get after index ≡ Some y → same_id x y ≡ true
+    → (first : Placed) × (slice_get (with_ids lines) index ≡ Some (x, first))
+known_line lines names after x y index names_are old same_after at same =
+    let p = slice_get-from_map (λ (q : Placed). q.instance.id) lines index y
+    (sym (ap (λ (l : List Id). slice_get l index)
     (same_after ∙ same_names x names old ∙ names_are)) ∙ at) in
     let id : p.0.instance.id ≡ x = p.2 ∙ sym ((ids_decide x y).0 same) in (
       p.0,
-      slice_get-map (λ (q : Placed). (q.instance.id, q)) lines place p.0 p.1
+      slice_get-map (λ (q : Placed). (q.instance.id, q)) lines index p.0 p.1
           ∙ ap (λ (z : Id). Some (z, p.0)) id,
     )
 
@@ -112,18 +112,18 @@ known_line lines names after x y place names_are old same_after at same =
 pub line_under : (lines : List Placed) (disagreements : List (Id × Disagreement))
     (noted : LedgerView) → ◌≡◌ {A = LedgerView}
     (record { firsts = with_ids lines; disagreements = disagreements }) noted
-    → (place : ℕ) (x : Id) (first : Placed)
-    → (p : Placed) × (slice_get noted.firsts place ≡ Some (x, p))
-    → first ≡ get_or lines place first → Contains (with_ids lines) (x, first)
-line_under lines disagreements noted view place x first h is =
-    let at : slice_get (with_ids lines) place ≡ Some (x, h.0) =
-    subst (λ (n : LedgerView). slice_get n.firsts place ≡ Some (x, h.0)) (sym view) h.1 in
-    let q = slice_get-from_map (λ (r : Placed). (r.instance.id, r)) lines place (x, h.0) at in
+    → (index : ℕ) (x : Id) (first : Placed)
+    → (p : Placed) × (slice_get noted.firsts index ≡ Some (x, p))
+    → first ≡ get_or lines index first → Contains (with_ids lines) (x, first)
+line_under lines disagreements noted view index x first h is =
+    let at : slice_get (with_ids lines) index ≡ Some (x, h.0) =
+    subst (λ (n : LedgerView). slice_get n.firsts index ≡ Some (x, h.0)) (sym view) h.1 in
+    let q = slice_get-from_map (λ (r : Placed). (r.instance.id, r)) lines index (x, h.0) at in
     let same : h.0 ≡ first =
-    sym (is ∙ get_or_from_slice_get lines place q.0 first q.1
+    sym (is ∙ get_or_from_slice_get lines index q.0 first q.1
     ∙ ap (λ (e : Id × Placed). e.1) q.2) in
     subst (λ (r : Placed). Contains (with_ids lines) (x, r)) same
-    (Contains-slice_get (with_ids lines) place (x, h.0) at)
+    (Contains-slice_get (with_ids lines) index (x, h.0) at)
 
 module _ (lines : List Placed) (disagreements : List (Id × Disagreement)) (line : Placed) (x : Id)
     (named : x ≡ line.instance.id) where

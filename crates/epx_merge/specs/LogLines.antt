@@ -1,6 +1,7 @@
 -- The lines of logs: the place and meaning of each, those that have an instance, and those that
 -- have a fault.
-use Rattle.std.specs.Prelude.{ℕ, suc, List, [], ◌∷◌, ◌++◌, flat_map, Result, Ok, Err}
+use Rattle.std.specs.Prelude.{ℕ, suc, List, [], ◌∷◌, ◌++◌, map, flat_map, Result, Ok, Err, Vec}
+use Rattle.std.specs.declared.alloc.Global.{Global}
 use Rattle.epx_types.specs.declared.place.Place.{Place}
 use Rattle.epx_types.specs.declared.fault.Why.{Why}
 use Rattle.epx_types.specs.PlacedLines.{Placed}
@@ -8,6 +9,10 @@ use Rattle.epx_lines.specs.Lines.{lines_of}
 use Rattle.epx_lines.specs.Meaning.{meaning_of}
 use Rattle.epx_lines.specs.declared.Line.{Line}
 use Rattle.epx_lines.specs.declared.Line.TheVariants.{Blank, Entry}
+
+-- the bytes of logs that are in memory
+abbrev pub bytes_of : List (Vec ℕ Global) → List (List ℕ)
+bytes_of logs = map (λ log. log.items) logs
 
 -- a line's place and its meaning
 pub record MeaningAt : Type 0 where

@@ -88,7 +88,7 @@ impl Guesses {
     /// A guess of the position of an instance, if it has one.
     pub fn guess(&self, id: Id) -> Option<usize> {
         let offset = self.offsets[id.replica as usize]?;
-        let place = offset.wrapping_add(id.number / BLOCK_NUMBERS);
-        self.blocks.get(place as usize)?.guess(id.number)
+        let index = offset.wrapping_add(id.number / BLOCK_NUMBERS);
+        self.blocks.get(index as usize)?.guess(id.number)
     }
 }

@@ -66,22 +66,22 @@ impl Ledger {
     {
         // Reserve first, so that an Id never goes in without its line.
         self.firsts.reserve(1)?;
-        let (place, is_new) = self.names.insert_full(line.id())?;
+        let (index, is_new) = self.names.insert_full(line.id())?;
         if is_new {
             self.firsts.push(line)?;
             return Ok(());
         }
-        self.compare(place, &line)
+        self.compare(index, &line)
     }
 
     /// Records a line of an instance whose first line is at this index.
-    fn compare(&mut self, place: usize, line: &PlacedEntry) -> Result<(), Memory>
+    fn compare(&mut self, index: usize, line: &PlacedEntry) -> Result<(), Memory>
         requires { (first : Placed)
-            × (slice_get self.now.firsts place ≡ Some (line.now.instance.id, first)) }
+            × (slice_get self.now.firsts index ≡ Some (line.now.instance.id, first)) }
         ensures { OnOk result (NotesLines (line.now ∷ []) self.old self.new) }
     {
         let id = line.id();
-        let first = &self.firsts[place];
+        let first = &self.firsts[index];
         if same_entry(first.entry(), line.entry()) || self.disagreements.contains_key(&id) {
             return Ok(());
         }

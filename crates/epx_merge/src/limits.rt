@@ -1,6 +1,7 @@
 //! Limits of logs.
-ghost use Rattle.std.specs.Prelude.{MatchOption, map};
+ghost use Rattle.std.specs.Prelude.{MatchOption};
 ghost use Rattle.epx_merge.specs.Refusals.{IsFirstTooLong, NoneTooLong};
+ghost use Rattle.epx_merge.specs.LogLines.{bytes_of};
 
 /// The greatest number of logs.
 pub const MAX_LOGS: usize = 64;
@@ -13,7 +14,7 @@ pub const MAX_INSTANCES: usize = 1_048_576;
 
 /// The first log that is longer than `MAX_LOG_BYTES`, if any is.
 pub fn first_too_long(logs: &[Vec<u8>]) -> Option<usize>
-    ensures { let bytes = map (λ log. log.items) logs.now in
+    ensures { let bytes = bytes_of logs.now in
         MatchOption result (NoneTooLong bytes) (IsFirstTooLong bytes) }
 {
     for (number, log) in logs.iter().enumerate() {

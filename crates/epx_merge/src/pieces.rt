@@ -4,7 +4,7 @@ ghost use Rattle.std.specs.Prelude.{MatchResult, length};
 ghost use Rattle.epx_types.specs.Pieces.{piece_count};
 ghost use Rattle.epx_merge.specs.LogLines.{MeaningAt, placed_at, placed_among, bad_lines_at};
 ghost use Rattle.epx_merge.specs.LogLines.{bad_lines_among};
-ghost use Rattle.epx_merge.specs.inner.ReadPieces.{IsRead, AreRead, lines_of_piece};
+ghost use Rattle.epx_merge.specs.inner.ReadPieces.{IsRead, AreRead, lines_of_piece, HasItems};
 ghost use Rattle.epx_merge.specs.inner.Ledgers.{NotesLines};
 ghost use Rattle.epx_merge.specs.Steps.{IsReadFault};
 
@@ -55,7 +55,7 @@ fn read_lines(
     alloc: Global,
     lines: &[PlacedLine<'_>],
 ) -> Result<Result<Vec<PlacedEntry>, BadLine>, Memory>
-    ensures { IfOk result (IsRead (λ given entries. entries.items ≡ given) lines.now) }
+    ensures { IfOk result (IsRead HasItems lines.now) }
 {
     let mut reader = LineReader::new(alloc);
     let mut entries = Vec::with_capacity(alloc, lines.len())?;
@@ -75,7 +75,7 @@ pub(crate) fn read_piece(
     piece: usize,
 ) -> Result<Result<Vec<PlacedEntry>, BadLine>, Memory>
     requires { piece < piece_count plan.cut (length lines.now) }
-    ensures { IfOk result (IsRead (λ given entries. entries.items ≡ given)
+    ensures { IfOk result (IsRead HasItems
         (lines_of_piece plan.cut piece lines.now)) }
 {
     let (start, end) = plan.range(piece, lines.len());
@@ -85,7 +85,7 @@ pub(crate) fn read_piece(
 /// Records the entries of pieces in order, up to the first bad line.
 pub(crate) fn note_pieces(pieces: Pieces, ledger: &mut Ledger) -> Result<(), Fault>
     ensures { (lines : List MeaningAt)
-        → AreRead (λ given entries. entries.items ≡ given) lines pieces.items → MatchResult result
+        → AreRead HasItems lines pieces.items → MatchResult result
         (λ _. (bad_lines_among lines ≡ []) × NotesLines (placed_among lines) ledger.old ledger.new)
         (IsReadFault (bad_lines_among lines)) }
 {

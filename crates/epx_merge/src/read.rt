@@ -2,8 +2,8 @@
 ghost use Rattle.std.specs.Prelude.{◌≡◌, ◌≤◌, ◌^◌, List, [], IfOk, MatchResult, length, map};
 ghost use Rattle.std.specs.Thread.{IsSync};
 ghost use Rattle.epx_merge.specs.inner.ReadSteps.{IsReadStep};
-ghost use Rattle.epx_merge.specs.inner.ReadPieces.{AreRead};
-ghost use Rattle.epx_merge.specs.LogLines.{MeaningAt, placed_of, bad_lines_among, bad_lines_of};
+ghost use Rattle.epx_merge.specs.inner.ReadPieces.{AreRead, HasItems};
+ghost use Rattle.epx_merge.specs.LogLines.{MeaningAt, placed_of, bad_lines_among, bad_lines_of, bytes_of};
 ghost use Rattle.epx_merge.specs.inner.Ledgers.{IsLedgerOf};
 ghost use Rattle.epx_merge.specs.Steps.{IsReadFault};
 ghost use Rattle.epx_merge.specs.Acceptance.{IsAccepted};
@@ -32,7 +32,7 @@ fn read_pieces<R: Threads + Sync, G: Gate + Sync>(
 ) -> Result<Pieces, Memory>
     requires { length lines.items ≤ 2 ^ 40 }
     ensures { IfOk result
-        (λ v. AreRead (λ given entries. entries.items ≡ given) lines.entry.items v.items) }
+        (λ v. AreRead HasItems lines.entry.items v.items) }
 {
     let pieces = plan.pieces(lines.len());
     claimed_map(rt, alloc, pieces, plan, gate, |piece| {
@@ -54,10 +54,10 @@ fn read_and_step<'a, R: Threads + Sync, G: Gate + Sync>(
 ) -> Result<(ReadState<'a>, Vec<PlacedLine<'a>>, Pieces), Fault>
     requires { length lines.items ≤ 2 ^ 40 }
     ensures { (done : List MeaningAt)
-        → AreRead (λ given entries. entries.items ≡ given) done read.items → MatchResult result
+        → AreRead HasItems done read.items → MatchResult result
         (λ next. IsReadStep done state.entry.ledger next.0.ledger state.entry.walk next.0.walk
         state.entry.table next.0.table next.1.items
-        × AreRead (λ given entries. entries.items ≡ given) lines.entry.items next.2.items)
+        × AreRead HasItems lines.entry.items next.2.items)
         (IsReadFault (bad_lines_among done)) }
 {
     if plan.workers() == 1 || lines.len() <= plan.cut() {
@@ -69,7 +69,7 @@ fn read_and_step<'a, R: Threads + Sync, G: Gate + Sync>(
         rt,
         move || -> Result<(ReadState, Vec<PlacedLine>), Fault>
             ensures { (done : List MeaningAt)
-                → AreRead (λ given entries. entries.items ≡ given) done read.items
+                → AreRead HasItems done read.items
                 → MatchResult result
                 (λ next. IsReadStep done state.entry.ledger next.0.ledger state.entry.walk
                 next.0.walk state.entry.table next.0.table next.1.items)
@@ -78,7 +78,7 @@ fn read_and_step<'a, R: Threads + Sync, G: Gate + Sync>(
         move || -> Result<Pieces, Memory>
             requires { IsSync R.row × IsSync G.row × (length lines.items ≤ 2 ^ 40) }
             ensures { IfOk result
-                (λ v. AreRead (λ given entries. entries.items ≡ given) lines.entry.items v.items) }
+                (λ v. AreRead HasItems lines.entry.items v.items) }
         { read_pieces(rt, alloc, plan, gate, lines) },
     );
     let (state, next) = stepped?;
@@ -94,7 +94,7 @@ fn read_all<R: Threads + RandomSource + Sync, G: Gate + Sync>(
     plan: Plan,
     gate: &G,
 ) -> Result<Ledger, Fault>
-    ensures { let bytes = map (λ log. log.items) logs.now in MatchResult result
+    ensures { let bytes = bytes_of logs.now in MatchResult result
         (λ ledger. (bad_lines_of bytes ≡ []) × IsLedgerOf (placed_of bytes) ledger)
         (IsReadFault (bad_lines_of bytes)) }
 {
@@ -120,7 +120,7 @@ pub fn read_logs<R: Threads + RandomSource + Sync, G: Gate + Sync>(
     plan: Plan,
     gate: &G,
 ) -> Result<Merged, Fault>
-    ensures { let bytes = map (λ log. log.items) logs.now in
+    ensures { let bytes = bytes_of logs.now in
         MatchResult result (IsAccepted bytes) (IsRefusal bytes) }
 {
     if logs.len() > MAX_LOGS {

@@ -1,9 +1,9 @@
 //! The state between two steps of reading logs, and the next step.
-ghost use Rattle.std.specs.Prelude.{◌≡◌, List, [], IfOk, MatchResult, map};
+ghost use Rattle.std.specs.Prelude.{◌≡◌, List, [], IfOk, MatchResult};
 ghost use Rattle.epx_merge.specs.inner.ReadSteps.{IsReadStep};
 ghost use Rattle.epx_merge.specs.inner.Ledgers.{IsLedgerOf};
-ghost use Rattle.epx_merge.specs.LogLines.{MeaningAt, meanings_of, bad_lines_among};
-ghost use Rattle.epx_merge.specs.inner.ReadPieces.{AreRead};
+ghost use Rattle.epx_merge.specs.LogLines.{MeaningAt, meanings_of, bad_lines_among, bytes_of};
+ghost use Rattle.epx_merge.specs.inner.ReadPieces.{AreRead, HasItems};
 ghost use Rattle.epx_merge.specs.Steps.{IsReadFault};
 
 use crate::ledger::Ledger;
@@ -45,7 +45,7 @@ impl<'a> ReadState<'a> {
     ) -> Result<ReadState<'a>, Memory>
         ensures ledger { IfOk result (λ state. IsLedgerOf [] state.ledger) }
         ensures walk { IfOk result
-            (λ state. state.walk ≡ meanings_of (map (λ log. log.items) logs.now)) }
+            (λ state. state.walk ≡ meanings_of (bytes_of logs.now)) }
         ensures table { IfOk result (λ state. state.table ≡ []) }
     {
         Ok(ReadState {
@@ -64,7 +64,7 @@ pub(crate) fn next_step<'a>(
     read: Pieces,
 ) -> Result<(ReadState<'a>, Vec<PlacedLine<'a>>), Fault>
     ensures { (done : List MeaningAt)
-        → AreRead (λ given entries. entries.items ≡ given) done read.items → MatchResult result
+        → AreRead HasItems done read.items → MatchResult result
         (λ next. IsReadStep done state.entry.ledger next.0.ledger state.entry.walk next.0.walk
         state.entry.table next.0.table next.1.items)
         (IsReadFault (bad_lines_among done)) }

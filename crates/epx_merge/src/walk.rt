@@ -1,6 +1,6 @@
 //! Iterates over the lines of logs.
-ghost use Rattle.std.specs.Prelude.{◌≡◌, ◌∷◌, [], MatchOption, map};
-ghost use Rattle.epx_merge.specs.LogLines.{meanings_of};
+ghost use Rattle.std.specs.Prelude.{◌≡◌, ◌∷◌, [], MatchOption};
+ghost use Rattle.epx_merge.specs.LogLines.{meanings_of, bytes_of};
 
 use crate::line::PlacedLine;
 use epx_lines::cut_line;
@@ -17,13 +17,13 @@ pub(crate) struct LineWalk<'a> {
 }
 
 impl<'a> Model for LineWalk<'a> {
-    ghost use Rattle.std.specs.Prelude.{List, ◌+◌, ◌<◌, ◌^◌, length, map};
+    ghost use Rattle.std.specs.Prelude.{List, ◌+◌, ◌<◌, ◌^◌, length};
     ghost use Rattle.epx_merge.specs.LogLines.{MeaningAt, meanings_left};
 
     ghost Value = { List MeaningAt };
 
     ghost view = { λ w.
-        meanings_left w.log w.line w.rest.now (map (λ log. log.items) w.others.now) };
+        meanings_left w.log w.line w.rest.now (bytes_of w.others.now) };
 
     ghost invariant = { λ w.
         (w.line + length w.rest.now < 2 ^ 64) × (w.log + length w.others.now < 2 ^ 64) };
@@ -31,7 +31,7 @@ impl<'a> Model for LineWalk<'a> {
 
 impl<'a> LineWalk<'a> {
     pub(crate) fn new(logs: &'a [Vec<u8>]) -> LineWalk<'a>
-        ensures { result ≡ meanings_of (map (λ log. log.items) logs.now) }
+        ensures { result ≡ meanings_of (bytes_of logs.now) }
     {
         match logs.split_first() {
             Some((first, others)) => LineWalk {

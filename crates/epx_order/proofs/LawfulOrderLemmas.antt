@@ -68,8 +68,8 @@ module _ (m : List Instance) (rising : IsRising (ids_of m)) (ids : List Id) wher
                   ((order i.0 (slice_get_within ids i.0 x i.1)).1
                   (x, y, i.1, one, lower, j.0, earlier, j.1))
               | inr other ↦
-                  let place : j.0 ≡ i.0 = omega arith in
-                  let same : Some y ≡ Some x = sym j.1 ∙ ap (slice_get ids) place ∙ i.1 in
+                  let position : j.0 ≡ i.0 = omega arith in
+                  let same : Some y ≡ Some x = sym j.1 ∙ ap (slice_get ids) position ∙ i.1 in
                   let is_x : y ≡ x = cc same in
                   absurd (not_before_itself x (subst (SequenceBefore m x) is_x lower))
             ]

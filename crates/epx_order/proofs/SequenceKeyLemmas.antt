@@ -133,8 +133,8 @@ module _ (m : List Instance) (p : ComponentParts) (nodes : List ℕ) (n : ℕ)
           ]
       | inr now ↦
           let same : j ≡ n = omega arith in
-          let place : get_or nodes j 0 ≡ get_or nodes n 0 = ap (λ x. get_or nodes x 0) same in
-          let one = same_instance f (ap (slice_get m) (sym place) ∙ at_f) in
+          let position : get_or nodes j 0 ≡ get_or nodes n 0 = ap (λ x. get_or nodes x 0) same in
+          let one = same_instance f (ap (slice_get m) (sym position) ∙ at_f) in
           elim (cases (get_or nodes j 0)) [
             | inl here ↦ (
               sequence_key_of e,
@@ -143,7 +143,7 @@ module _ (m : List Instance) (p : ComponentParts) (nodes : List ℕ) (n : ℕ)
                   (subst (λ f. is_lt (sequence_key_cmp (sequence_key_of e) (sequence_key_of f))
                   ≡ true) one lower),
             )
-            | inr there ↦ absurd (there.0 (ap (component_of p) place))
+            | inr there ↦ absurd (there.0 (ap (component_of p) position))
           ]
     ];
   } where

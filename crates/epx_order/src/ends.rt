@@ -22,8 +22,8 @@ pub(crate) fn find_ends(
         (λ ends. AreEnds (parts partition.now) nodes.now (length nodes.now) ends.items) }
 {
     let mut ends = vec![in alloc; 0; partition.count]?;
-    for (place, node) in nodes.iter().enumerate() {
-        ends[partition.component[*node]] = place + 1;
+    for (position, node) in nodes.iter().enumerate() {
+        ends[partition.component[*node]] = position + 1;
     }
     Ok(ends)
 }

@@ -27,12 +27,12 @@ pub(crate) struct NodeList {
 
 impl NodeList {
     /// An empty list for a graph of this many nodes, with capacity for this many positions.
-    fn new(alloc: Global, nodes: usize, places: usize) -> Result<NodeList, Memory>
+    fn new(alloc: Global, nodes: usize, len: usize) -> Result<NodeList, Memory>
         ensures nodes { IfOk result (λ node_list. node_list.nodes.items ≡ []) }
         ensures marks { IfOk result (λ node_list. node_list.marks.items ≡ replicate nodes false) }
     {
         Ok(NodeList {
-            nodes: Vec::with_capacity(alloc, places)?,
+            nodes: Vec::with_capacity(alloc, len)?,
             marks: vec![in alloc; false; nodes]?,
         })
     }

@@ -66,20 +66,20 @@ impl OrderList {
     }
 
     /// The leader of the component of the instance at a position. The leader is the least member.
-    pub fn component_of(&self, place: usize) -> Id
-        requires { place < length self.now }
-        ensures { (r : Ranked) × (slice_get self.now place ≡ Some r) × (r.leader ≡ result) }
+    pub fn component_of(&self, position: usize) -> Id
+        requires { position < length self.now }
+        ensures { (r : Ranked) × (slice_get self.now position ≡ Some r) × (r.leader ≡ result) }
     {
-        self.ranks[place].leader
+        self.ranks[position].leader
     }
 
     /// The depth of the component of the instance at a position: the largest number of components
     /// that follow it in one chain, in which each reaches the next.
-    pub fn depth_of(&self, place: usize) -> usize
-        requires { place < length self.now }
-        ensures { (r : Ranked) × (slice_get self.now place ≡ Some r) × (r.depth ≡ result) }
+    pub fn depth_of(&self, position: usize) -> usize
+        requires { position < length self.now }
+        ensures { (r : Ranked) × (slice_get self.now position ≡ Some r) × (r.depth ≡ result) }
     {
-        self.ranks[place].depth
+        self.ranks[position].depth
     }
 }
 

@@ -3,6 +3,7 @@ ghost use Rattle.std.specs.Prelude.{◌≡◌, ◌≤◌, length, map, IfOk, Mat
 ghost use Rattle.epx_types.specs.CommittedMap.{instance_of};
 ghost use Rattle.epx_types.specs.Ids.{IsRising};
 ghost use Rattle.epx_merge.specs.Limits.{max_instances};
+ghost use Rattle.epx_merge.specs.LogLines.{bytes_of};
 ghost use Rattle.epx_tool.specs.Answer.{Answers, IsAnswer};
 ghost use Rattle.epx_tool.specs.OrderText.{IsOrderText};
 ghost use Rattle.epx_tool.specs.LevelText.{IsLevelText};
@@ -183,7 +184,7 @@ pub fn answer<R: Threads + RandomSource + Sync>(
     logs: &[Vec<u8>],
     plan: Plan,
 ) -> Result<Vec<u8>, Fault>
-    ensures { let bytes = map (λ log. log.items) logs.now in
+    ensures { let bytes = bytes_of logs.now in
         MatchResult result (λ text. IsAnswer bytes (Ok text.items))
         (λ fault. IsAnswer bytes (Err fault)) }
 {
@@ -201,7 +202,7 @@ pub(crate) fn answer_owned<R: Threads + RandomSource + Sync>(
     logs: Vec<Vec<u8>>,
     plan: Plan,
 ) -> Result<Vec<u8>, Fault>
-    ensures { let bytes = map (λ log. log.items) logs.items in
+    ensures { let bytes = bytes_of logs.items in
         MatchResult result (λ text. IsAnswer bytes (Ok text.items))
         (λ fault. IsAnswer bytes (Err fault)) }
 {
@@ -222,7 +223,7 @@ pub fn view<R: Threads + RandomSource + Sync>(
     logs: &[Vec<u8>],
     plan: Plan,
 ) -> Result<Vec<u8>, Fault>
-    ensures { let bytes = map (λ log. log.items) logs.now in
+    ensures { let bytes = bytes_of logs.now in
         MatchResult result (λ text. Answers (IsViewText ask) bytes (Ok text.items))
         (λ fault. Answers (IsViewText ask) bytes (Err fault)) }
 {

@@ -2,6 +2,7 @@
 ghost use Rattle.std.specs.Prelude.{map, IfOk, MatchResult, Ok, Err};
 ghost use Rattle.epx_base.specs.Lists.{IsList, IsBadList};
 ghost use Rattle.epx_merge.specs.Acceptance.{IsAccepted};
+ghost use Rattle.epx_merge.specs.LogLines.{bytes_of};
 ghost use Rattle.epx_tool.specs.WithInput.{IsRefusalWithInput, IsShort};
 ghost use Rattle.epx_tool.specs.CheckAnswers.{Checks};
 ghost use Rattle.epx_tool.specs.Verdicts.{IsVerdict};
@@ -26,7 +27,7 @@ fn read_sequentially<R: Threads + RandomSource + Sync>(
     logs: &[Vec<u8>],
     plan: Plan,
 ) -> Result<(Merged, Vec<Id>), Fault>
-    ensures { let bytes = map (λ log. log.items) logs.now in MatchResult result
+    ensures { let bytes = bytes_of logs.now in MatchResult result
         (λ read. IsShort list.now × IsAccepted bytes read.0 × IsList list.now read.1.items)
         (IsRefusalWithInput IsBadList list.now bytes) }
 {
@@ -69,7 +70,7 @@ pub fn check<R: Threads + RandomSource + Sync>(
     logs: &[Vec<u8>],
     plan: Plan,
 ) -> Result<Vec<u8>, Fault>
-    ensures { let bytes = map (λ log. log.items) logs.now in
+    ensures { let bytes = bytes_of logs.now in
         MatchResult result (λ text. Checks list.now bytes (Ok text.items))
         (λ fault. Checks list.now bytes (Err fault)) }
 {
@@ -88,7 +89,7 @@ pub(crate) fn check_owned<R: Threads + RandomSource + Sync>(
     logs: Vec<Vec<u8>>,
     plan: Plan,
 ) -> Result<Vec<u8>, Fault>
-    ensures { let bytes = map (λ log. log.items) logs.items in
+    ensures { let bytes = bytes_of logs.items in
         MatchResult result (λ text. Checks list.items bytes (Ok text.items))
         (λ fault. Checks list.items bytes (Err fault)) }
 {

@@ -63,9 +63,9 @@ fn append_order(alloc: Global, text: &mut Vec<u8>, order: &OrderList) -> Result<
     ensures { OnOk result (text.new.items ≡ text.old.items ++ flat_map order_line order.now) }
 {
     let mut line = Vec::new(alloc);
-    for (place, id) in order.ids().iter().enumerate() {
-        let leader = order.component_of(place);
-        append_ranked(alloc, text, &mut line, *id, order.depth_of(place), leader)?;
+    for (position, id) in order.ids().iter().enumerate() {
+        let leader = order.component_of(position);
+        append_ranked(alloc, text, &mut line, *id, order.depth_of(position), leader)?;
     }
     Ok(())
 }
@@ -81,8 +81,8 @@ fn append_levels(
         ++ flat_map level_line (zip ids.now levels.now)) }
 {
     let mut line = Vec::new(alloc);
-    for (place, id) in ids.iter().enumerate() {
-        append_level(alloc, text, &mut line, *id, levels.level_of(place))?;
+    for (position, id) in ids.iter().enumerate() {
+        append_level(alloc, text, &mut line, *id, levels.level_of(position))?;
     }
     Ok(())
 }

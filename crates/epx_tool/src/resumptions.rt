@@ -5,6 +5,7 @@ ghost use Rattle.epx_base.specs.Bases.{IsBase, IsBadBase, IsBaseFault};
 ghost use Rattle.epx_types.specs.Ids.{IsRising};
 ghost use Rattle.epx_merge.specs.Acceptance.{IsAccepted};
 ghost use Rattle.epx_merge.specs.Limits.{max_instances};
+ghost use Rattle.epx_merge.specs.LogLines.{bytes_of};
 ghost use Rattle.epx_tool.specs.WithInput.{IsRefusalWithInput, IsShort};
 ghost use Rattle.epx_tool.specs.ResumedReport.{IsReportAfter};
 ghost use Rattle.epx_tool.specs.Resumption.{Resumes};
@@ -27,7 +28,7 @@ fn read_sequentially<R: Threads + RandomSource + Sync>(
     logs: &[Vec<u8>],
     plan: Plan,
 ) -> Result<(Merged, Base), Fault>
-    ensures { let bytes = map (λ log. log.items) logs.now in MatchResult result
+    ensures { let bytes = bytes_of logs.now in MatchResult result
         (λ read. IsShort base.now × IsAccepted bytes read.0
         × IsBase base.now read.1.done read.1.stored)
         (IsRefusalWithInput IsBadBase base.now bytes) }
@@ -50,7 +51,7 @@ fn read_base_and_logs<R: Threads + RandomSource + Sync>(
     logs: &[Vec<u8>],
     plan: Plan,
 ) -> Result<(Merged, Base), Fault>
-    ensures { let bytes = map (λ log. log.items) logs.now in MatchResult result
+    ensures { let bytes = bytes_of logs.now in MatchResult result
         (λ read. IsShort base.now × IsAccepted bytes read.0
         × IsBase base.now read.1.done read.1.stored)
         (IsRefusalWithInput IsBadBase base.now bytes) }
@@ -62,7 +63,7 @@ fn read_base_and_logs<R: Threads + RandomSource + Sync>(
         rt,
         || -> Result<Merged, Fault>
             requires { IsSync R.row }
-            ensures { let bytes = map (λ log. log.items) logs.entry.now in
+            ensures { let bytes = bytes_of logs.entry.now in
                 MatchResult result (λ m. IsShort base.entry.now × IsAccepted bytes m)
                 (IsRefusalWithInput (λ _ _. ⊥) base.entry.now bytes) }
         { merge_with_input(rt, alloc, base, logs, plan) },
@@ -111,7 +112,7 @@ pub fn resume<R: Threads + RandomSource + Sync>(
     logs: &[Vec<u8>],
     plan: Plan,
 ) -> Result<Vec<u8>, Fault>
-    ensures { let bytes = map (λ log. log.items) logs.now in
+    ensures { let bytes = bytes_of logs.now in
         MatchResult result (λ text. Resumes base.now bytes (Ok text.items))
         (λ fault. Resumes base.now bytes (Err fault)) }
 {
@@ -130,7 +131,7 @@ pub(crate) fn resume_owned<R: Threads + RandomSource + Sync>(
     logs: Vec<Vec<u8>>,
     plan: Plan,
 ) -> Result<Vec<u8>, Fault>
-    ensures { let bytes = map (λ log. log.items) logs.items in
+    ensures { let bytes = bytes_of logs.items in
         MatchResult result (λ text. Resumes base.items bytes (Ok text.items))
         (λ fault. Resumes base.items bytes (Err fault)) }
 {

@@ -1,10 +1,11 @@
 //! Reads sources to their ends before anything is done with the bytes.
-ghost use Rattle.std.specs.Prelude.{◌≡◌, ◌↔◌, ◌+◌, ◌<◌, ℕ, List, true, false, map, drop, length};
+ghost use Rattle.std.specs.Prelude.{◌≡◌, ◌↔◌, ◌+◌, ◌<◌, ℕ, List, true, false, drop, length};
 ghost use Rattle.std.specs.Prelude.{All, Some, slice_get, IfOk, OnOk, IfErr, IsErrOf};
 ghost use Rattle.std.specs.Io.KnownBytes.{IsAtEnd};
 ghost use Rattle.epx_devices.specs.Transfers.{ConsumesUpTo};
 ghost use Rattle.epx_merge.specs.Limits.{max_log_bytes};
 ghost use Rattle.epx_merge.specs.Refusals.{FitLimits};
+ghost use Rattle.epx_merge.specs.LogLines.{bytes_of};
 ghost use Rattle.epx_tool.specs.Runs.{AreBytesOf, IsReadingRefusal};
 ghost use Rattle.epx_tool.specs.WithInput.{IsShort};
 ghost use Rattle.epx_tool.specs.RunsWithInput.{IsReadingRefusalWithInput};
@@ -24,10 +25,10 @@ pub(crate) fn read_sources<S: Source>(
 ) -> Result<Vec<Vec<u8>>, Fault>
     requires { All (λ s. S.has_failed s ≡ false) sources.old }
     ensures bytes { IfOk result (λ v. (logs : _) → AreBytesOf S.remaining sources.old logs
-        → map (λ log. log.items) v.items ≡ logs) }
+        → bytes_of v.items ≡ logs) }
     ensures each { IfOk result (λ v. length v.items ≡ length sources.old) }
     ensures delivered { IfOk result (λ v.
-        EachDelivers S.reads sources.old sources.new (map (λ log. log.items) v.items)) }
+        EachDelivers S.reads sources.old sources.new (bytes_of v.items)) }
     ensures refusal { IfErr result (λ fault. (logs : _) → AreBytesOf S.remaining sources.old logs
         → IsReadingRefusal logs fault) }
     ensures stopped { IfErr result (StopsReading S.reads S.fails sources.old sources.new) }
@@ -35,7 +36,7 @@ pub(crate) fn read_sources<S: Source>(
     ensures failed { (log : _) (source : _) → slice_get sources.new log ≡ Some source
         → IsErrOf result (Fault.Read log) ↔ (S.has_failed source ≡ true) }
     ensures place { (log : ℕ) → StopsAt result log → log < length sources.old }
-    ensures fit { IfOk result (λ v. FitLimits (map (λ log. log.items) v.items)) }
+    ensures fit { IfOk result (λ v. FitLimits (bytes_of v.items)) }
 
     ensures taken { EachConsumesUpTo S.remaining sources.old sources.new (max_log_bytes + 1) }
     ensures ended { OnOk result (All (λ s. IsAtEnd (S.remaining s)) sources.new) }
@@ -72,12 +73,12 @@ pub(crate) fn read_with_input<B: Source, S: Source>(
     ensures text { IfOk result (λ v. (before : _) → B.remaining input.old ≡ Some before
         → v.0.items ≡ before) }
     ensures bytes { IfOk result (λ v. (logs : _) → AreBytesOf S.remaining sources.old logs
-        → map (λ log. log.items) v.1.items ≡ logs) }
+        → bytes_of v.1.items ≡ logs) }
     ensures each { IfOk result (λ v. length v.1.items ≡ length sources.old) }
     ensures short { IfOk result (λ v. IsShort v.0.items) }
-    ensures fit { IfOk result (λ v. FitLimits (map (λ log. log.items) v.1.items)) }
+    ensures fit { IfOk result (λ v. FitLimits (bytes_of v.1.items)) }
     ensures delivered { IfOk result (λ v. DeliversBoth B.reads S.reads input.old input.new
-        sources.old sources.new v.0.items (map (λ log. log.items) v.1.items)) }
+        sources.old sources.new v.0.items (bytes_of v.1.items)) }
     ensures refusal { IfErr result (λ fault. (before : _) (logs : _)
         → B.remaining input.old ≡ Some before
         → AreBytesOf S.remaining sources.old logs → IsReadingRefusalWithInput before logs fault) }

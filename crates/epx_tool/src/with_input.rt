@@ -1,6 +1,7 @@
 //! Logs that are read before an extra input.
 ghost use Rattle.std.specs.Prelude.{map, MatchResult};
 ghost use Rattle.epx_merge.specs.Acceptance.{IsAccepted};
+ghost use Rattle.epx_merge.specs.LogLines.{bytes_of};
 ghost use Rattle.epx_tool.specs.WithInput.{IsShort, IsRefusalWithInput};
 
 use epx_claims::FreeGate;
@@ -19,7 +20,7 @@ pub(crate) fn merge_with_input<R: Threads + RandomSource + Sync>(
     logs: &[Vec<u8>],
     plan: Plan,
 ) -> Result<Merged, Fault>
-    ensures { let bytes = map (λ log. log.items) logs.now in
+    ensures { let bytes = bytes_of logs.now in
         MatchResult result (λ m. IsShort input.now
         × IsAccepted bytes m) (IsRefusalWithInput (λ _ _. ⊥) input.now bytes) }
 {

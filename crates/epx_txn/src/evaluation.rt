@@ -21,13 +21,13 @@ fn operate_all<'a>(
 {
     let mut draft = Draft::new(alloc);
     let mut got = Vec::new(alloc);
-    for (place, op) in ops.iter().enumerate() {
+    for (index, op) in ops.iter().enumerate() {
         match operate(&mut draft, store, op)? {
             Step::Read(value) => got.push(value)?,
             Step::Done => {}
             Step::Abort => {
                 let nothing = Draft::new(alloc);
-                return Ok((Reply::Abort(place as u64), nothing));
+                return Ok((Reply::Abort(index as u64), nothing));
             }
         }
     }

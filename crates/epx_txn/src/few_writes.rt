@@ -47,10 +47,10 @@ fn slot_of(writes: &[(&Key, Option<i64>)], key: &Key) -> Result<usize, usize>
         (IsAtSlot (map (λ p. (p.0.now, p.1)) writes.now) key.now)
         (IsInsertedAt (map (λ p. (p.0.now, p.1)) writes.now) key.now) }
 {
-    for (place, write) in writes.iter().enumerate() {
+    for (index, write) in writes.iter().enumerate() {
         match key.cmp(write.0) {
-            Ordering::Less => return Err(place),
-            Ordering::Equal => return Ok(place),
+            Ordering::Less => return Err(index),
+            Ordering::Equal => return Ok(index),
             Ordering::Greater => {}
         }
     }
@@ -70,7 +70,7 @@ impl<'a> FewWrites<'a> {
         ensures { result ≡ contents.get self.now key.now }
     {
         match slot_of(self.items.as_slice(), key) {
-            Ok(place) => Some(self.items[place].1),
+            Ok(index) => Some(self.items[index].1),
             Err(_) => None,
         }
     }
@@ -83,12 +83,12 @@ impl<'a> FewWrites<'a> {
         ensures room { IfOk result (λ had_room. had_room ≡ false → 16 ≤ contents.len self.old) }
     {
         match slot_of(self.items.as_slice(), key) {
-            Ok(place) => self.items[place] = (key, value),
-            Err(place) => {
+            Ok(index) => self.items[index] = (key, value),
+            Err(index) => {
                 if self.items.len() >= LINEAR_LIMIT {
                     return Ok(false);
                 }
-                self.items.insert(place, (key, value))?;
+                self.items.insert(index, (key, value))?;
             }
         }
         Ok(true)

@@ -7,12 +7,12 @@ use Rattle.epx_types.specs.LawfulOrders.{Before}
 
 -- the commands at these positions, in this order
 abbrev pub commands_at : List (List Op) → List ℕ → List (List Op)
-commands_at commands places = map (λ i. slice_index_or commands i []) places
+commands_at commands positions = map (λ i. slice_index_or commands i []) positions
 
 -- each position of the list occurs once; of two commands that conflict, the one that is first in
 -- the list is first here
-pub record IsRearrangement (commands : List (List Op)) (places : List ℕ) : Type 0 where
-  pub once : AllPairs (λ i j. i ≢ j) places
-  pub only : (i : ℕ) → Contains places i → i < length commands
-  pub whole : (i : ℕ) → i < length commands → Contains places i
-  pub keeps : (i j : ℕ) → i < j → ConflictAt commands i j → Before places i j
+pub record IsRearrangement (commands : List (List Op)) (positions : List ℕ) : Type 0 where
+  pub once : AllPairs (λ i j. i ≢ j) positions
+  pub only : (i : ℕ) → Contains positions i → i < length commands
+  pub whole : (i : ℕ) → i < length commands → Contains positions i
+  pub keeps : (i j : ℕ) → i < j → ConflictAt commands i j → Before positions i j

@@ -37,12 +37,12 @@ impl Model for Key {
 }
 
 /// The byte at an index, or 0 past the end.
-fn byte_at(bytes: &[u8], place: usize) -> u64
-    ensures value { result ≡ slice_index_or bytes.now place 0 }
+fn byte_at(bytes: &[u8], index: usize) -> u64
+    ensures value { result ≡ slice_index_or bytes.now index 0 }
     ensures byte { result < 256 }
 {
-    if place < bytes.len() {
-        bytes[place] as u64
+    if index < bytes.len() {
+        bytes[index] as u64
     } else {
         0
     }

@@ -27,8 +27,8 @@ replies_in effects = map (λ e. e.reply) effects
 -- puts each reply at its position, one after another
 abbrev pub put_replies : List ℕ → List Reply → List Reply → List Reply
 put_replies [] replies at = at
-put_replies (i ∷ places) [] at = at
-put_replies (i ∷ places) (r ∷ replies) at = put_replies places replies (slice_set at i r)
+put_replies (i ∷ positions) [] at = at
+put_replies (i ∷ positions) (r ∷ replies) at = put_replies positions replies (slice_set at i r)
 
 -- the items of one piece of a list
 abbrev pub items_of_piece : {X : Type 0} → ℕ → List X → ℕ → List X

@@ -17,46 +17,46 @@ MayLead starts (Closed c) (Open q) = ⊥
 MayLead starts (Closed c) (Closed d) = d ≤ c
 
 -- the open nodes are those of the row, each at its position
-pub record IsRow (place : List Visit) (opened : List ℕ) : Type 0 where
-  pub is_open_at : (p : ℕ) → p < length opened → visit_of place (slice_index opened p) ≡ Open p
-  pub placed : (k p : ℕ) → visit_of place k ≡ Open p
+pub record IsRow (visits : List Visit) (opened : List ℕ) : Type 0 where
+  pub is_open_at : (p : ℕ) → p < length opened → visit_of visits (slice_index opened p) ≡ Open p
+  pub placed : (k p : ℕ) → visit_of visits k ≡ Open p
       → (p < length opened) × (slice_index opened p ≡ k)
 
 -- the finished components, and their nodes by rising component
-pub record AreFinished (edges : ℕ → List ℕ) (place : List Visit) (looked_at order : List ℕ)
+pub record AreFinished (edges : ℕ → List ℕ) (visits : List Visit) (looked_at order : List ℕ)
     (count : ℕ) : Type 0 where
-  pub counted : (k c : ℕ) → visit_of place k ≡ Closed c → c < count
-  pub joined : (k j c : ℕ) → visit_of place k ≡ Closed c → visit_of place j ≡ Closed c
+  pub counted : (k c : ℕ) → visit_of visits k ≡ Closed c → c < count
+  pub joined : (k j c : ℕ) → visit_of visits k ≡ Closed c → visit_of visits j ≡ Closed c
       → NodeReaches edges k j
-  pub looked : (k c : ℕ) → visit_of place k ≡ Closed c → length (edges k) ≤ slice_index looked_at k
-  pub listed : (k c : ℕ) → visit_of place k ≡ Closed c → Contains order k
+  pub looked : (k c : ℕ) → visit_of visits k ≡ Closed c → length (edges k) ≤ slice_index looked_at k
+  pub listed : (k c : ℕ) → visit_of visits k ≡ Closed c → Contains order k
   pub closed : (i : ℕ) → i < length order → (c : ℕ)
-      × (visit_of place (slice_index order i) ≡ Closed c)
+      × (visit_of visits (slice_index order i) ≡ Closed c)
   pub sorted : (i j c d : ℕ) → i ≤ j → j < length order
-      → visit_of place (slice_index order i) ≡ Closed c
-      → visit_of place (slice_index order j) ≡ Closed d → c ≤ d
+      → visit_of visits (slice_index order i) ≡ Closed c
+      → visit_of visits (slice_index order j) ≡ Closed d → c ≤ d
   pub count_below : count ≤ length order
 
 -- a search of n nodes that has seen all nodes below `seen`
 pub record IsSearch (edges : ℕ → List ℕ) (n seen : ℕ) (s : SearchState) : Type 0 where
-  pub places : length s.place ≡ n
+  pub all_visits : length s.visits ≡ n
   pub looks : length s.looked_at ≡ n
-  pub seen_below : (k : ℕ) → k < seen → visit_of s.place k ≢ Unseen
-  pub row : IsRow s.place s.opened
+  pub seen_below : (k : ℕ) → k < seen → visit_of s.visits k ≢ Unseen
+  pub row : IsRow s.visits s.opened
   -- the groups cover the row: the first one starts at 0
   pub starts : AreRisingBelow s.starts (length s.opened)
   pub begins : slice_index s.starts 0 ≡ 0
   pub grouped : 0 < length s.opened → 0 < length s.starts
   -- an open node that is not on the path has no edge left
   pub path : AreRisingBelow s.path (length s.opened)
-  pub waits : (k p : ℕ) → visit_of s.place k ≡ Open p
+  pub waits : (k p : ℕ) → visit_of s.visits k ≡ Open p
       → (length (edges k) ≤ slice_index s.looked_at k) ⊎ Contains s.path p
   pub leads : (k i : ℕ) → i < slice_index s.looked_at k
-      → MayLead s.starts (visit_of s.place k) (visit_of s.place (slice_index (edges k) i))
+      → MayLead s.starts (visit_of s.visits k) (visit_of s.visits (slice_index (edges k) i))
   -- an open node reaches the nodes of its own group and of later groups
-  pub reaches : (k j p q : ℕ) → visit_of s.place k ≡ Open p → visit_of s.place j ≡ Open q
+  pub reaches : (k j p q : ℕ) → visit_of s.visits k ≡ Open p → visit_of s.visits j ≡ Open q
       → IsInGroupFrom s.starts p q → NodeReaches edges k j
-  pub finished : AreFinished edges s.place s.looked_at s.order s.count
+  pub finished : AreFinished edges s.visits s.looked_at s.order s.count
 
 abbrev pub KeepsSearch : (ℕ → List ℕ) → ℕ → SearchState → SearchState → Type 0
 KeepsSearch edges n old new = (seen : ℕ) → IsSearch edges n seen old → IsSearch edges n seen new

@@ -6,7 +6,7 @@ use Rattle.epx_components.specs.declared.search.Search.{Search}
 
 -- the lists and the count of a search
 pub record SearchState : Type 0 where
-  pub place : List Visit
+  pub visits : List Visit
   pub looked_at : List ℕ
   pub opened : List ℕ
   pub path : List ℕ
@@ -16,7 +16,7 @@ pub record SearchState : Type 0 where
 
 abbrev pub state : Search → SearchState
 state s = record {
-  place = s.place.items;
+  visits = s.visits.items;
   looked_at = s.looked_at.items;
   opened = s.opened.items;
   path = s.path.items;
@@ -27,4 +27,4 @@ state s = record {
 
 -- the progress of the search at a node
 abbrev pub visit_of : List Visit → ℕ → Visit
-visit_of places k = slice_index_or places k Unseen
+visit_of visits k = slice_index_or visits k Unseen

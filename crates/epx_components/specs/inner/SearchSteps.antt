@@ -8,18 +8,18 @@ use Rattle.epx_components.specs.inner.SearchStates.{SearchState, visit_of}
 
 -- a node of the last group with an edge left
 pub record IsNextNode (edges : ℕ → List ℕ) (s : SearchState) (k : ℕ) : Type 0 where
-  pub place : ℕ
-  pub is_open : visit_of s.place k ≡ Open place
-  pub is_last : IsInLastGroup s.starts place
+  pub position : ℕ
+  pub is_open : visit_of s.visits k ≡ Open position
+  pub is_last : IsInLastGroup s.starts position
   pub left : slice_index s.looked_at k < length (edges k)
 
 -- the node at the end of the path, where that is in the last group
 pub record IsTopNode (s : SearchState) (k : ℕ) : Type 0 where
-  pub place : ℕ
+  pub position : ℕ
   pub some : 0 < length s.path
-  pub ends : slice_index s.path (length s.path - 1) ≡ place
-  pub node : slice_index s.opened place ≡ k
-  pub is_last : IsInLastGroup s.starts place
+  pub ends : slice_index s.path (length s.path - 1) ≡ position
+  pub node : slice_index s.opened position ≡ k
+  pub is_last : IsInLastGroup s.starts position
 
 -- no node of the path is in the last group
 abbrev pub IsPathBelow : SearchState → Type 0
@@ -29,7 +29,7 @@ IsPathBelow s = (i : ℕ) → i < length s.path
 -- after a node is opened as a group of its own
 abbrev pub after_enter : SearchState → ℕ → SearchState
 after_enter s k = record s {
-  place = slice_set s.place k (Open (length s.opened));
+  visits = slice_set s.visits k (Open (length s.opened));
   opened = s.opened ++ k ∷ [];
   path = s.path ++ length s.opened ∷ [];
   starts = s.starts ++ length s.opened ∷ [];
@@ -56,10 +56,10 @@ Closes start c (Closed d) new = new ≡ Closed d
 pub record IsFinished (old new : SearchState) : Type 0 where
   pub start : ℕ
   pub last : (0 < length old.starts) × (slice_index old.starts (length old.starts - 1) ≡ start)
-  pub closes : (k : ℕ) → Closes start old.count (visit_of old.place k) (visit_of new.place k)
-  pub places : length new.place ≡ length old.place
+  pub closes : (k : ℕ) → Closes start old.count (visit_of old.visits k) (visit_of new.visits k)
+  pub all_visits : length new.visits ≡ length old.visits
   pub same : new ≡ record old {
-    place = new.place;
+    visits = new.visits;
     opened = take start old.opened;
     starts = take (length old.starts - 1) old.starts;
     order = old.order ++ drop start old.opened;

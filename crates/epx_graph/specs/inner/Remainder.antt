@@ -18,7 +18,7 @@ left_of r = remaining r.done r.whole
 
 -- what an Id is: left, at its position among those left; done; or missing
 abbrev pub IsIdStateOf : RemainderView → Id → IdState → Type 0
-IsIdStateOf r x (found.Remainder k) = (¬ Contains r.done x) × (position_of (left_of r) x ≡ Some k)
+IsIdStateOf r x (found.Left k) = (¬ Contains r.done x) × (position_of (left_of r) x ≡ Some k)
 IsIdStateOf r x found.Done = Contains r.done x
 IsIdStateOf r x found.Missing = (¬ Contains r.done x) × (position_of (left_of r) x ≡ None)
 

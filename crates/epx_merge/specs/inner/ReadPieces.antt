@@ -1,9 +1,14 @@
 -- The result of reading consecutive lines, piece by piece.
-use Rattle.std.specs.Prelude.{◌≡◌, ◌*◌, ◌++◌, ◌∷◌, ℕ, List, [], Result, Ok, Err, take, drop}
+use Rattle.std.specs.Prelude.{◌≡◌, ◌*◌, ◌++◌, ◌∷◌, ℕ, List, [], Result, Ok, Err, Vec, take, drop}
+use Rattle.std.specs.declared.alloc.Global.{Global}
 use Rattle.epx_types.specs.PlacedLines.{Placed}
 use Rattle.epx_merge.specs.declared.pieces.BadLine.{BadLine}
 use Rattle.epx_merge.specs.LogLines.{MeaningAt, placed_among, bad_lines_among}
 use Rattle.epx_merge.specs.Refusals.{IsFirstBadLine}
+
+-- the entries are those of these lines
+abbrev pub HasItems : List Placed → Vec Placed Global → Type 0
+HasItems lines entries = entries.items ≡ lines
 
 -- no line is bad, and `held` holds the instances of the lines
 pub record IsCleanRead {E : Type 0} (holds : List Placed → E → Type 0) (lines : List MeaningAt)

@@ -187,7 +187,7 @@ operate_all-abort before j (op ∷ ops) c got k e =
     → (i : ℕ) × (k ≡ j + i) × (i < suc (length ops))
     × ((reads : List (Option ℤ))
     × ((operate_all before j (take i (op ∷ ops)) c got).reply ≡ Values reads))) [
-      | None ↦ λ is aborted. let place : j ≡ k = cc aborted in
+      | None ↦ λ is aborted. let index : j ≡ k = cc aborted in
           (0, omega arith, omega arith, (got, refl))
       | Some r ↦ λ is aborted.
           let rest = operate_all-abort before (suc j) ops r.0 (got ++ r.1) k aborted in
@@ -200,11 +200,11 @@ pub reply-abort : (ops : List Op) (c : Contents) (j : ℕ) → (command_on ops c
     × ((reads : List (Option ℤ)) × ((command_on (take j ops) c).reply ≡ Values reads))
 reply-abort ops c j e =
     let at = operate_all-abort c 0 ops c [] j e in
-    let place : at.0 ≡ j = omega (arith, at.1) in
+    let index : at.0 ≡ j = omega (arith, at.1) in
     let P : ℕ → Type 0 = λ i. (i < length ops)
     × ((reads : List (Option ℤ))
     × ((operate_all c 0 (take i ops) c []).reply ≡ Values reads)) in
-    subst P place (at.2, at.3)
+    subst P index (at.2, at.3)
 
 -- ---- on what a reply depends
 

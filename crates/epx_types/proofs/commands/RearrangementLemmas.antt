@@ -84,17 +84,17 @@ map-list_positions d xs =
 
 -- ---- a rearrangement
 
-module _ (commands : List (List Op)) (places : List ℕ)
-    (arranged : IsRearrangement commands places) where
+module _ (commands : List (List Op)) (positions : List ℕ)
+    (arranged : IsRearrangement commands positions) where
   is_rearranged : IsRearranged (λ i. slice_index_or commands i [])
-      (list_positions (length commands)) places
+      (list_positions (length commands)) positions
   is_rearranged = record {
     once = Once-from_AllPairs (list_positions (length commands))
         (list_positions-distinct (length commands));
-    once_too = Once-from_AllPairs places arranged.once;
+    once_too = Once-from_AllPairs positions arranged.once;
     only = λ i h. arranged.whole i (Contains-from_list_positions (length commands) i h);
     whole = λ i h. Contains-list_positions (length commands) i (arranged.only i h);
-    keeps = λ i j h conflict. Precedes-from_Before places i j
+    keeps = λ i j h conflict. Precedes-from_Before positions i j
         (arranged.keeps i j (AllPairs-Precedes (λ k l. k < l) (list_positions (length commands))
         (list_positions-rising (length commands)) i j h) conflict);
   }
@@ -102,7 +102,7 @@ module _ (commands : List (List Op)) (places : List ℕ)
   alike : (c : Contents) (d : Reply)
       → ExecutesAlike (λ i. slice_index_or commands i [])
       (λ i. slice_index_or (execute commands c).replies i d) (list_positions (length commands))
-      places c
+      positions c
   alike c d =
       let whole : map (λ i. slice_index_or commands i []) (list_positions (length commands))
       ≡ commands = map-list_positions [] commands in
@@ -111,33 +111,33 @@ module _ (commands : List (List Op)) (places : List ℕ)
       ap (λ n. map (λ i. slice_index_or (execute commands c).replies i d) (list_positions n))
       (sym (length-replies commands c)) ∙ map-list_positions d (execute commands c).replies in
       execute-rearranged (λ i. slice_index_or commands i [])
-      (λ i. slice_index_or (execute commands c).replies i d) places
+      (λ i. slice_index_or (execute commands c).replies i d) positions
       (list_positions (length commands)) is_rearranged c
       (ap (λ os. (execute os c).replies) whole ∙ sym replied)
 
   -- it leaves the same contents
   pub final-rearranged : (c : Contents)
-      → (execute (commands_at commands places) c).final ≡ (execute commands c).final
+      → (execute (commands_at commands positions) c).final ≡ (execute commands c).final
   final-rearranged c = (alike c (Abort 0)).final
       ∙ ap (λ os. (execute os c).final) (map-list_positions [] commands)
 
   -- and the replies are those of the list, at the same positions
   pub replies-rearranged : (c : Contents) (d : Reply)
-      → (execute (commands_at commands places) c).replies
-      ≡ map (λ i. slice_index_or (execute commands c).replies i d) places
+      → (execute (commands_at commands positions) c).replies
+      ≡ map (λ i. slice_index_or (execute commands c).replies i d) positions
   replies-rearranged c d = (alike c d).replies
 
   -- so each command has the same reply
-  pub reply-rearranged : (c : Contents) (k i : ℕ) → slice_get places k ≡ Some i
-      → slice_get (execute (commands_at commands places) c).replies k
+  pub reply-rearranged : (c : Contents) (k i : ℕ) → slice_get positions k ≡ Some i
+      → slice_get (execute (commands_at commands positions) c).replies k
       ≡ slice_get (execute commands c).replies i
   reply-rearranged c k i e =
       let within : i < length (execute commands c).replies =
       omega (
         arith,
         length-replies commands c,
-        arranged.only i (Contains-slice_get places k i e),
+        arranged.only i (Contains-slice_get positions k i e),
       ) in
       ap (λ rs. slice_get rs k) (replies-rearranged c (Abort 0))
-      ∙ slice_get-map (λ j. slice_index_or (execute commands c).replies j (Abort 0)) places k i e
+      ∙ slice_get-map (λ j. slice_index_or (execute commands c).replies j (Abort 0)) positions k i e
       ∙ sym (slice_get-get_or (execute commands c).replies i (Abort 0) within)

@@ -131,7 +131,7 @@ module _ (commands : List (List Op)) (ops : List Op) where
       → IsLevel (commands ++ ops ∷ []) j l
   IsLevel-longer j l low is = record {
     chain = (is.chain.0, Climbs-longer j is.chain.0 low is.chain.1, is.chain.2);
-    longest = λ places climbs. is.longest places (Climbs-shorter j places low climbs);
+    longest = λ positions climbs. is.longest positions (Climbs-shorter j positions low climbs);
   }
 
   -- the least level above those of all earlier commands that conflict
@@ -267,7 +267,7 @@ pub each_level-reached : (commands : List (List Op)) (levels : List ℕ) → Are
     → (l : ℕ) → l < level_count levels → Contains levels l
 each_level-reached commands levels are l low =
     let top = level_count-reached levels (omega arith) in
-    let place = level-below commands levels are (get_or levels top.0 0 - l) l top.0
+    let position = level-below commands levels are (get_or levels top.0 0 - l) l top.0
     (omega (arith, top.1, are.whole)) (omega (arith, top.2)) in
-    subst (Contains levels) place.2
-    (Contains-get_or levels place.0 0 (omega (arith, place.1, are.whole)))
+    subst (Contains levels) position.2
+    (Contains-get_or levels position.0 0 (omega (arith, position.1, are.whole)))

@@ -102,9 +102,9 @@ pub Contains-from_level_positions : (levels : List ℕ) (l i : ℕ)
     → Contains (level_positions levels l) i → (i < length levels) × (slice_index levels i ≡ l)
 Contains-from_level_positions levels l i h =
     let from = Contains-from_level_positions_from 0 levels l i h in
-    let place : from.0 ≡ i = omega (arith, from.1) in
+    let position : from.0 ≡ i = omega (arith, from.1) in
     let at : slice_get levels i ≡ Some l =
-    subst (λ (k : ℕ). slice_get levels k ≡ Some l) place from.2 in
+    subst (λ (k : ℕ). slice_get levels k ≡ Some l) position from.2 in
     (slice_get_within levels i l at, get_or_from_slice_get levels i l 0 at)
 
 -- and all positions with that level are among them
@@ -160,19 +160,19 @@ module _ (levels : List ℕ) where
       let high = Contains-from_level_positions levels l j k in
       inl (omega (arith, low.1, high.1)))
     where
-      by : (places : List ℕ)
-          → ((i : ℕ) → Contains places i → (i < length levels) × (slice_index levels i ≡ l))
-          → AllPairs (λ i j. i < j) places → AllPairs (IsAtLowerLevel levels) places
+      by : (positions : List ℕ)
+          → ((i : ℕ) → Contains positions i → (i < length levels) × (slice_index levels i ≡ l))
+          → AllPairs (λ i j. i < j) positions → AllPairs (IsAtLowerLevel levels) positions
       by [] has rises = λ i j d less within. absurd (omega arith)
-      by (i ∷ places) has rises =
-          AllPairs-from_parts (IsAtLowerLevel levels) i places
+      by (i ∷ positions) has rises =
+          AllPairs-from_parts (IsAtLowerLevel levels) i positions
           (λ j h. inr (
-            (has i (Contains-head i places)).1
-                ∙ sym (has j (Contains-cons i places j h)).1,
-            AllPairs-head (λ k m. k < m) i places j rises h,
+            (has i (Contains-head i positions)).1
+                ∙ sym (has j (Contains-cons i positions j h)).1,
+            AllPairs-head (λ k m. k < m) i positions j rises h,
           ))
-          (by places (λ j h. has j (Contains-cons i places j h))
-          (AllPairs-tail (λ k m. k < m) i places rises))
+          (by positions (λ j h. has j (Contains-cons i positions j h))
+          (AllPairs-tail (λ k m. k < m) i positions rises))
 
   by_level-distinct : (l : ℕ) → AllPairs (λ i j. i ≢ j) (by_level levels l)
   by_level-distinct l i j d less within e =
@@ -211,21 +211,21 @@ module _ (commands : List (List Op)) (levels : List ℕ) (are : AreLevels comman
   pub level-no_conflict : (l : ℕ) → NoneConflict (commands_at commands (level_positions levels l))
   level-no_conflict l = by (level_positions levels l) (Contains-from_level_positions levels l)
       (level_positions-rising levels l) where
-        by : (places : List ℕ)
-            → ((i : ℕ) → Contains places i → (i < length levels) × (slice_index levels i ≡ l))
-            → AllPairs (λ i j. i < j) places → NoneConflict (commands_at commands places)
+        by : (positions : List ℕ)
+            → ((i : ℕ) → Contains positions i → (i < length levels) × (slice_index levels i ≡ l))
+            → AllPairs (λ i j. i < j) positions → NoneConflict (commands_at commands positions)
         by [] has rises = tt
-        by (i ∷ places) has rises = (
+        by (i ∷ positions) has rises = (
           λ b h conflict.
-              let from = Contains-from_map (λ j. slice_index_or commands j []) places b h in
-              let before = AllPairs-head (λ k m. k < m) i places from.0 rises from.1 in
+              let from = Contains-from_map (λ j. slice_index_or commands j []) positions b h in
+              let before = AllPairs-head (λ k m. k < m) i positions from.0 rises from.1 in
               let climb = levels-climb i from.0 before
               (subst (Conflict (slice_index_or commands i [])) (sym from.2) conflict) in
-              let low = has i (Contains-head i places) in
-              let high = has from.0 (Contains-cons i places from.0 from.1) in
+              let low = has i (Contains-head i positions) in
+              let high = has from.0 (Contains-cons i positions from.0 from.1) in
               omega (arith, climb.1, low.1, high.1),
-          by places (λ j h. has j (Contains-cons i places j h))
-              (AllPairs-tail (λ k m. k < m) i places rises),
+          by positions (λ j h. has j (Contains-cons i positions j h))
+              (AllPairs-tail (λ k m. k < m) i positions rises),
         )
 
   -- the positions of all levels, one level after another
@@ -234,8 +234,8 @@ module _ (commands : List (List Op)) (levels : List ℕ) (are : AreLevels comman
 
   in_all : (i : ℕ) → i < length commands → Contains all i
   in_all i within =
-      let place : i < length levels = omega (arith, are.whole) in
-      Contains-by_level levels (level_count levels) i place (level_below_count levels i place)
+      let position : i < length levels = omega (arith, are.whole) in
+      Contains-by_level levels (level_count levels) i position (level_below_count levels i position)
 
   -- of two positions, the one with the lower level comes first
   lower_before : (i j : ℕ) → i < length commands → j < length commands

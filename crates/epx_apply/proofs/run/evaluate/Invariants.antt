@@ -3,8 +3,8 @@ use Rattle.epx_types.specs.Rearrangements.{commands_at}
 use Rattle.epx_apply.specs.inner.Effects.{op_lists_of, effects_over}
 use Rattle.epx_apply.proofs.run.evaluate.Given as goal
 
-abbrev pub invariant-loop-place : goal.invariant-loop-place
-invariant-loop-place l =
+abbrev pub invariant-loop-position : goal.invariant-loop-position
+invariant-loop-position l =
     l.effects.items ++ effects_over l.store
-    (commands_at (op_lists_of l.commands) (drop l.place-index l.places))
-    ≡ effects_over l.store (commands_at (op_lists_of l.commands) l.places)
+    (commands_at (op_lists_of l.commands) (drop l.position-index l.positions))
+    ≡ effects_over l.store (commands_at (op_lists_of l.commands) l.positions)

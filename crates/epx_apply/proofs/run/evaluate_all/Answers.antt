@@ -10,17 +10,17 @@ pub returns : goal.returns
 returns g c =
     let ops = op_lists_of c.args.commands.now in
     let store = c.args.store.now in
-    let places = c.args.places.now in
+    let positions = c.args.positions.now in
     let cut = c.args.plan.cut in
     let done = c.in_ok-parts.ensures.ok in
     IfOk-weaker c.join_parts.result _ _ (λ v joined.
     joined
-    ∙ parts_joined cut c.pieces-pieces.ensures.fits.some_item (effect_at store ops) places
+    ∙ parts_joined cut c.pieces-pieces.ensures.fits.some_item (effect_at store ops) positions
     (λ part. part.items) c.in_ok-parts.parts.items (done.len ∙ c.pieces-pieces.ensures.pieces)
     (λ i inside.
     let part = done.each i (rw c.pieces-pieces.ensures.pieces inside) in
     let answer = part.2 in
-    let is : part.0.items ≡ effects_over store (commands_at ops (items_of_piece cut places i)) =
+    let is : part.0.items ≡ effects_over store (commands_at ops (items_of_piece cut positions i)) =
     search rules in
-    (part.0, part.1, is ∙ effects_over-each store ops (items_of_piece cut places i)))
-    ∙ sym (effects_over-each store ops places)) c.join_parts.ensures
+    (part.0, part.1, is ∙ effects_over-each store ops (items_of_piece cut positions i)))
+    ∙ sym (effects_over-each store ops positions)) c.join_parts.ensures

@@ -26,7 +26,7 @@ component_numbers-requires c =
     let end = subst (λ k. IsSearch (edges_of c.args.graph.now) n k (state s)) all w in
     rw c.deref.ensures.value
     (λ k l. all_closed (edges_of c.args.graph.now) n (state s) end
-    (omega (arith, s.starts.ok.0, c.loop-root.invariant.none)) k (omega (arith, w.places)))
+    (omega (arith, s.starts.ok.0, c.loop-root.invariant.none)) k (omega (arith, w.all_visits)))
 
 pub returns : goal.returns
 returns c =
@@ -38,15 +38,15 @@ returns c =
     omega (arith, c.loop-root.auto.root-end, c.loop-root-test.false) in
     let end = subst (λ k. IsSearch edges n k (state s)) all w in
     let component = c.in_ok-component.component in
-    let long : length s.place.items ≡ length c.deref.result.now =
+    let long : length s.visits.items ≡ length c.deref.result.now =
     ap length (sym c.deref.ensures.value) in
     let fits = c.len-len.ensures.fits in
     let is = end_partition edges n (state s) component.items (edge_from c.args.graph.now fits)
     (edge_within c.args.graph.now fits) end
-    (omega (arith, component.ok.0, c.in_ok-component.ensures.len, w.places))
-    (λ k l. ap (λ places. visit_of places k) (sym c.deref.ensures.value)
-    ∙ c.in_ok-component.ensures.closed k (omega (arith, w.places))) in
+    (omega (arith, component.ok.0, c.in_ok-component.ensures.len, w.all_visits))
+    (λ k l. ap (λ visits. visit_of visits k) (sym c.deref.ensures.value)
+    ∙ c.in_ok-component.ensures.closed k (omega (arith, w.all_visits))) in
     record {
-      each_node = omega (arith, component.ok.0, c.in_ok-component.ensures.len, w.places);
+      each_node = omega (arith, component.ok.0, c.in_ok-component.ensures.len, w.all_visits);
       is = is;
     }

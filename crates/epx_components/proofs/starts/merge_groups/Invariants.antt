@@ -6,7 +6,7 @@ invariant-loop-start l = record {
   kept : l.starts.items ≡ take (vec_len l.starts) l.fn.starts.items;
   within : vec_len l.starts ≤ length l.fn.starts.items;
   above : (i : ℕ) → vec_len l.starts ≤ i → i < length l.fn.starts.items
-      → l.place < get_or l.fn.starts.items i 0;
+      → l.position < get_or l.fn.starts.items i 0;
 }
 
 abbrev pub decreases-loop-start : goal.decreases-loop-start

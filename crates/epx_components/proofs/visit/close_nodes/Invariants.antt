@@ -5,7 +5,7 @@ use Rattle.epx_components.proofs.visit.close_nodes.Given as goal
 
 abbrev pub invariant-loop-node : goal.invariant-loop-node
 invariant-loop-node l = record {
-  closed : (i : ℕ) → i < l.node-index → visit_of l.place (get_or l.nodes i 0) ≡ Closed l.component;
+  closed : (i : ℕ) → i < l.node-index → visit_of l.visits (get_or l.nodes i 0) ≡ Closed l.component;
   others : (k : ℕ) → ((i : ℕ) → i < l.node-index → get_or l.nodes i 0 ≢ k)
-      → visit_of l.place k ≡ visit_of l.fn.place k;
+      → visit_of l.visits k ≡ visit_of l.fn.visits k;
 }

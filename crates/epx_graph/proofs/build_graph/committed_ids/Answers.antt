@@ -6,12 +6,12 @@ use Rattle.epx_graph.specs.inner.Remainder.{left_of}
 use Rattle.epx_graph.proofs.MissingIdLemmas.{ids_more}
 use Rattle.epx_graph.proofs.build_graph.committed_ids.Goals as goal
 
-pub loop-place-preserved : goal.loop-place-preserved
-loop-place-preserved c =
+pub loop-index-preserved : goal.loop-index-preserved
+loop-index-preserved c =
     let m = left_of c.args.left.now in
-    let i = c.loop-place.place in
+    let i = c.loop-index.index in
     let e = slice_get-from_map (λ (d : Instance). d.id) m i c.id_at.result c.id_at.ensures in
     c.in_ok-push.ensures.items
-    ∙ ap (λ l. l ++ c.id_at.result ∷ []) c.loop-place.invariant
+    ∙ ap (λ l. l ++ c.id_at.result ∷ []) c.loop-index.invariant
     ∙ ap (λ x. ids_of (take i m) ++ x ∷ []) (sym e.2)
     ∙ sym (ids_more m i e.0 e.1)

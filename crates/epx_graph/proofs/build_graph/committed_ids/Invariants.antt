@@ -3,5 +3,5 @@ use Rattle.epx_types.specs.CommittedMap.{ids_of}
 use Rattle.epx_graph.specs.inner.Remainder.{left_of}
 use Rattle.epx_graph.proofs.build_graph.committed_ids.Given as goal
 
-abbrev pub invariant-loop-place : goal.invariant-loop-place
-invariant-loop-place l = l.ids.items ≡ ids_of (take l.place (left_of l.left))
+abbrev pub invariant-loop-index : goal.invariant-loop-index
+invariant-loop-index l = l.ids.items ≡ ids_of (take l.index (left_of l.left))

@@ -22,15 +22,15 @@ loop-id-preserved c =
     c.split_at.ensures.front_len ∙ c.len.ensures.len in
     elim c.match-find_id.branch [
       | in-Some+in_ok-push w ↦
-          let place = w.in-Some.place in
-          let at : slice_get (drop (length m) ids) place ≡ Some x =
-          ap (λ l. slice_get l place) (sym nodes) ∙ w.in-Some.ensures in
-          let is : c.match-find_id.row.items ≡ row ++ (length m + place) ∷ [] =
+          let index = w.in-Some.index in
+          let at : slice_get (drop (length m) ids) index ≡ Some x =
+          ap (λ l. slice_get l index) (sym nodes) ∙ w.in-Some.ensures in
+          let is : c.match-find_id.row.items ≡ row ++ (length m + index) ∷ [] =
           ap (λ r. r.items) w.row-is ∙ w.in_ok-push.ensures.items
-          ∙ ap (λ n. row ++ (n + place) ∷ []) front in
+          ∙ ap (λ n. row ++ (n + index) ∷ []) front in
           subst (ArePositionsOf ids more) (sym is)
           (missing_more m ids c.requires.nodes xs c.requires.rising c.requires.missing i
-          c.loop-id-test.true row c.loop-id.invariant place at)
+          c.loop-id-test.true row c.loop-id.invariant index at)
       | in_default w ↦
           let none = subst (λ (l : List Id). ¬ Contains l x) nodes w.in_default.ensures in
           let is : c.match-find_id.row.items ≡ row = ap (λ r. r.items) w.row-is in

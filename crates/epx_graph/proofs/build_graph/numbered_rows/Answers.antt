@@ -18,7 +18,7 @@ pub overflow_sub-lacks : goal.overflow_sub-lacks
 overflow_sub-lacks c =
     let done = c.args.left.now.done in
     let short = row_short (left_of c.args.left.now) c.args.gathered.now.rows
-    c.args.gathered.now.missing.items c.requires.gathered c.loop-place.place
+    c.args.gathered.now.missing.items c.requires.gathered c.loop-index.index
     (without_deps done c.entry_at.result.now) c.entry_at.ensures in
     omega (
       arith,
@@ -36,9 +36,9 @@ split_at-requires c =
     c.count_undone.ensures ∙ ap (λ xs. length (remaining_ids c.args.left.now.done xs))
     c.deps.ensures.deps in
     let these = starts_with_missing m c.args.gathered.now.rows c.args.gathered.now.missing.items
-    c.requires.gathered c.loop-place.place e c.entry_at.ensures c.row-known.result.now
-    c.count_undone.result c.loop-place.missing.now c.row-known.ensures count
-    c.loop-place.invariant.missing in
+    c.requires.gathered c.loop-index.index e c.entry_at.ensures c.row-known.result.now
+    c.count_undone.result c.loop-index.missing.now c.row-known.ensures count
+    c.loop-index.invariant.missing in
     these.within
 
 pub number_missing-requires-clause-rising : goal.number_missing-requires-clause-rising
@@ -49,9 +49,9 @@ number_missing-requires-clause-rising c =
     let count : c.count_undone.result ≡ length e.deps =
     c.count_undone.ensures ∙ ap (λ xs. length (remaining_ids done xs)) c.deps.ensures.deps in
     let these = starts_with_missing m c.args.gathered.now.rows c.args.gathered.now.missing.items
-    c.requires.gathered c.loop-place.place e c.entry_at.ensures c.row-known.result.now
-    c.count_undone.result c.loop-place.missing.now c.row-known.ensures count
-    c.loop-place.invariant.missing in
+    c.requires.gathered c.loop-index.index e c.entry_at.ensures c.row-known.result.now
+    c.count_undone.result c.loop-index.missing.now c.row-known.ensures count
+    c.loop-index.invariant.missing in
     subst (AllPairs Below) (sym (c.split_at.ensures.front ∙ these.these))
     (lacking_rises m e.deps
     (rest_rises done c.entry_at.result.now.deps c.deps.ensures.fits.rising))
@@ -64,50 +64,50 @@ number_missing-requires-clause-missing c =
     c.count_undone.ensures ∙ ap (λ xs. length (remaining_ids c.args.left.now.done xs))
     c.deps.ensures.deps in
     let these = starts_with_missing m c.args.gathered.now.rows c.args.gathered.now.missing.items
-    c.requires.gathered c.loop-place.place e c.entry_at.ensures c.row-known.result.now
-    c.count_undone.result c.loop-place.missing.now c.row-known.ensures count
-    c.loop-place.invariant.missing in
+    c.requires.gathered c.loop-index.index e c.entry_at.ensures c.row-known.result.now
+    c.count_undone.result c.loop-index.missing.now c.row-known.ensures count
+    c.loop-index.invariant.missing in
     subst (All (λ x. ¬ IsCommitted m x)) (sym (c.split_at.ensures.front ∙ these.these))
     (lacking_lacks m e.deps)
 
-pub loop-place-preserved : goal.loop-place-preserved
-loop-place-preserved c =
+pub loop-index-preserved : goal.loop-index-preserved
+loop-index-preserved c =
     let m = left_of c.args.left.now in
     let done = c.args.left.now.done in
     let e = without_deps done c.entry_at.result.now in
     let count : c.count_undone.result ≡ length e.deps =
     c.count_undone.ensures ∙ ap (λ xs. length (remaining_ids done xs)) c.deps.ensures.deps in
     let these = starts_with_missing m c.args.gathered.now.rows c.args.gathered.now.missing.items
-    c.requires.gathered c.loop-place.place e c.entry_at.ensures c.row-known.result.now
-    c.count_undone.result c.loop-place.missing.now c.row-known.ensures count
-    c.loop-place.invariant.missing in
+    c.requires.gathered c.loop-index.index e c.entry_at.ensures c.row-known.result.now
+    c.count_undone.result c.loop-index.missing.now c.row-known.ensures count
+    c.loop-index.invariant.missing in
     let ids = c.args.ids.now in
-    let rows = c.loop-place.rows in
+    let rows = c.loop-index.rows in
     let high = c.number_missing.new.row.items in
-    let places : ArePositionsOf ids (missing_of m e.deps) high =
+    let positions : ArePositionsOf ids (missing_of m e.deps) high =
     subst (λ (xs : List Id). ArePositionsOf ids xs high)
     (c.split_at.ensures.front ∙ these.these) c.in_ok-number_missing.ensures in
     let joined = row_joined m ids c.requires.nodes e.deps
     (AllPairs-from_IsRising e.deps
-    (rest_rises done c.entry_at.result.now.deps c.deps.ensures.fits.rising)) high places in
+    (rest_rises done c.entry_at.result.now.deps c.deps.ensures.fits.rising)) high positions in
     let is : c.in_ok-rows-2.rows ≡ rows ++ (positions_of m e.deps ++ high) ∷ [] =
     c.in_ok-rows-2.ensures ∙ ap (λ r. rows ++ (c.row-known.result.now ++ r) ∷ [])
     c.deref.ensures.value ∙ ap (λ r. rows ++ (r ++ high) ∷ []) these.known in
     record {
-      rows = subst (λ (r : List (List ℕ)). AreRowsOf m ids r (c.loop-place.place + 1)) (sym is)
-          (rows_more m ids rows c.loop-place.place e (positions_of m e.deps ++ high)
-          c.entry_at.ensures joined c.loop-place.invariant.rows);
+      rows = subst (λ (r : List (List ℕ)). AreRowsOf m ids r (c.loop-index.index + 1)) (sym is)
+          (rows_more m ids rows c.loop-index.index e (positions_of m e.deps ++ high)
+          c.entry_at.ensures joined c.loop-index.invariant.rows);
       missing = c.split_at.ensures.back ∙ these.later;
     }
 
 pub returns : goal.returns
 returns c =
-    let whole : c.loop-place.place ≡ length (left_of c.args.left.now) =
+    let whole : c.loop-index.index ≡ length (left_of c.args.left.now) =
     omega (
       arith,
-      c.loop-place-test.false,
-      c.loop-place.auto.place-end,
-      c.len-place-end.ensures.len,
+      c.loop-index-test.false,
+      c.loop-index.auto.index-end,
+      c.len-index-end.ensures.len,
     ) in
-    subst (AreRowsOf (left_of c.args.left.now) c.args.ids.now c.loop-place.rows) whole
-    c.loop-place.invariant.rows
+    subst (AreRowsOf (left_of c.args.left.now) c.args.ids.now c.loop-index.rows) whole
+    c.loop-index.invariant.rows

@@ -3,6 +3,6 @@ use Rattle.epx_graph.specs.inner.Remainder.{left_of}
 use Rattle.epx_graph.specs.inner.Nodes.{IsGatheredOf}
 use Rattle.epx_graph.proofs.committed.gather_part.Given as goal
 
-abbrev pub invariant-loop-place : goal.invariant-loop-place
-invariant-loop-place l = IsGatheredOf (left_of l.left)
-    (slice_range (left_of l.left) l.fn.part.start l.place) l.rows l.missing.items
+abbrev pub invariant-loop-index : goal.invariant-loop-index
+invariant-loop-index l = IsGatheredOf (left_of l.left)
+    (slice_range (left_of l.left) l.fn.part.start l.index) l.rows l.missing.items

@@ -7,7 +7,7 @@ use Rattle.epx_graph.proofs.find_id.all_above_from.Goals as goal
 pub returns : goal.returns
 returns c = λ yes k d l within.
     let ids = c.args.ids.now in
-    let n = c.args.place in
+    let n = c.args.index in
     let x = c.args.id in
     let zero : Id = record { replica = 0; number = 0 } in
     let first = get_or ids n zero in

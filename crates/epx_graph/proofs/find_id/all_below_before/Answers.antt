@@ -4,10 +4,10 @@ use Rattle.epx_types.specs.Ids.{Below}
 use Rattle.epx_graph.proofs.NeighbourLemmas.{is_lt-from_lt, other_default, below_before}
 use Rattle.epx_graph.proofs.find_id.all_below_before.Goals as goal
 
-pub returns-then-place-ids : goal.returns-then-place-ids
-returns-then-place-ids c = λ yes k d l.
+pub returns-then-index-ids : goal.returns-then-index-ids
+returns-then-index-ids c = λ yes k d l.
     let ids = c.args.ids.now in
-    let n = c.args.place in
+    let n = c.args.index in
     let x = c.args.id in
     let zero : Id = record { replica = 0; number = 0 } in
     let last = get_or ids (n - 1) zero in

@@ -2,5 +2,5 @@ use Rattle.epx_types.proofs.commands.RearrangementLemmas.{final-rearranged, repl
 use Rattle.epx_laws.proofs.execution.rearrangements_execute_alike.Goals as goal
 
 pub returns : goal.returns
-returns c = λ commands places arranged d.
-    (final-rearranged commands places arranged d, reply-rearranged commands places arranged d)
+returns c = λ commands positions arranged d.
+    (final-rearranged commands positions arranged d, reply-rearranged commands positions arranged d)

@@ -1,7 +1,7 @@
-use Rattle.std.proofs.Common.{◌≡◌, ◌∷◌, ◌∙◌, ap, sym, subst}
+use Rattle.std.proofs.Common.{◌∷◌, ◌∙◌, ap, sym, subst}
 use Rattle.std.proofs.lemmas.List.{nil_from_length}
 use Rattle.epx_merge.specs.inner.Ledgers.{NotesLines}
-use Rattle.epx_merge.specs.inner.ReadPieces.{AreRead}
+use Rattle.epx_merge.specs.inner.ReadPieces.{AreRead, HasItems}
 use Rattle.epx_merge.proofs.LedgerLemmas.{NotesLines-nil, NotesLines-append}
 use Rattle.epx_merge.proofs.ReadPieceLemmas.{gathering_none, gathering_more, gathering_bad}
 use Rattle.epx_merge.proofs.ReadPieceLemmas.{gathering_all}
@@ -10,7 +10,7 @@ use Rattle.epx_merge.proofs.pieces.note_pieces.Goals as goal
 pub loop-piece-init : goal.loop-piece-init
 loop-piece-init c = λ lines all.
     gathering_none _ lines _ _ (NotesLines-nil c.args.ledger.now)
-    (subst (AreRead (λ given entries. entries.items ≡ given) lines)
+    (subst (AreRead HasItems lines)
     (sym c.into_iter-piece-iterator.ensures.into_iter_gives.0) all)
 
 pub loop-piece-preserved : goal.loop-piece-preserved

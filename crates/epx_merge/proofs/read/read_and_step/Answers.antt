@@ -1,6 +1,6 @@
-use Rattle.std.proofs.Common.{◌≡◌, rules}
+use Rattle.std.proofs.Common.{rules}
 use Rattle.std.proofs.lemmas.Result.{IfOk-at_ok}
-use Rattle.epx_merge.specs.inner.ReadPieces.{AreRead}
+use Rattle.epx_merge.specs.inner.ReadPieces.{AreRead, HasItems}
 use Rattle.epx_merge.specs.inner.ReadSteps.{IsReadStep}
 use Rattle.epx_merge.proofs.read.read_and_step.Goals as goal
 
@@ -10,6 +10,6 @@ returns g c = λ done all.
     let stepped : IsReadStep done c.args.state.ledger next.state.ledger c.args.state.walk
     next.state.walk c.args.state.table next.state.table next.next.items = search rules in (
       stepped,
-      IfOk-at_ok (λ v. AreRead (λ given entries. entries.items ≡ given) c.args.lines.items
+      IfOk-at_ok (λ v. AreRead HasItems c.args.lines.items
           v.items) c.in_ok-read-2.was c.join-stepped.ensures.second,
     )

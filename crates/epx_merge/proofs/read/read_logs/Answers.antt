@@ -1,14 +1,14 @@
-use Rattle.std.proofs.Common.{◌≤◌, map, length, arith}
+use Rattle.std.proofs.Common.{◌≤◌, length, arith}
 use Rattle.std.proofs.lemmas.List.{length-map}
 use Rattle.epx_merge.specs.Limits.{max_logs}
-use Rattle.epx_merge.specs.LogLines.{placed_of}
+use Rattle.epx_merge.specs.LogLines.{placed_of, bytes_of}
 use Rattle.epx_merge.proofs.PlaceOrderLemmas.{placed_in_order}
 use Rattle.epx_merge.proofs.AnswerLemmas.{ledger_answers, read_fault_refuses}
 use Rattle.epx_merge.proofs.read.read_logs.Goals as goal
 
 pub returns-in-Ok : goal.returns-in-Ok
 returns-in-Ok g c =
-    let logs = map (λ log. log.items) c.args.logs.now in
+    let logs = bytes_of c.args.logs.now in
     let few : length logs ≤ max_logs =
     omega (
       arith,
@@ -20,7 +20,7 @@ returns-in-Ok g c =
 
 pub returns-in-Err : goal.returns-in-Err
 returns-in-Err g c =
-    let logs = map (λ log. log.items) c.args.logs.now in
+    let logs = bytes_of c.args.logs.now in
     let few : length logs ≤ max_logs =
     omega (
       arith,

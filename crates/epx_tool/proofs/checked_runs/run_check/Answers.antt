@@ -1,4 +1,4 @@
-use Rattle.std.proofs.Common.{◌≡◌, Ok, Err, map, inl, inr, ap, sym, subst}
+use Rattle.std.proofs.Common.{◌≡◌, Ok, Err, inl, inr, ap, sym, subst}
 use Rattle.std.proofs.lemmas.Result.{on_ok_weaker, IfErr-weaker}
 use Rattle.std.specs.Io.KnownBytes.{Appends}
 use Rattle.epx_types.specs.declared.fault.Fault.TheVariants.{LogTooLong, Read}
@@ -9,6 +9,7 @@ use Rattle.epx_tool.specs.CheckAnswers.{IsCheckText, Checks}
 use Rattle.epx_tool.proofs.KnownTextLemmas.{known_answer}
 use Rattle.epx_tool.proofs.LogsWithInputLemmas.{no_stop, run_fault_of_reading}
 use Rattle.epx_tool.proofs.checked_runs.run_check.Goals as goal
+use Rattle.epx_merge.specs.LogLines.{bytes_of}
 
 pub returns-in-Err-clause-list_untouched : goal.returns-in-Err-clause-list_untouched
 returns-in-Err-clause-list_untouched g c log (inl long) lower =
@@ -20,20 +21,20 @@ returns-in-Err-clause-list_untouched g c log (inr unread) lower =
 
 pub returns-in-Err-check_owned-clause-no_further : goal.returns-in-Err-check_owned-clause-no_further
 returns-in-Err-check_owned-clause-no_further g c log stops =
-    absurd (no_stop (map (λ log. log.items) c.in-Ok.read.1.items) c.in-Ok.read.0.items IsBadList
+    absurd (no_stop (bytes_of c.in-Ok.read.1.items) c.in-Ok.read.0.items IsBadList
     c.in-Err-check_owned.fault log c.in-Ok.ensures.fit c.in-Ok.ensures.short
     c.in-Err-check_owned.ensures stops)
 
 pub returns-in-Err-check_owned-clause-list_untouched : goal.returns-in-Err-check_owned-clause-list_untouched
 returns-in-Err-check_owned-clause-list_untouched g c log stops lower =
-    absurd (no_stop (map (λ log. log.items) c.in-Ok.read.1.items) c.in-Ok.read.0.items IsBadList
+    absurd (no_stop (bytes_of c.in-Ok.read.1.items) c.in-Ok.read.0.items IsBadList
     c.in-Err-check_owned.fault log c.in-Ok.ensures.fit c.in-Ok.ensures.short
     c.in-Err-check_owned.ensures stops)
 
 pub returns-clause-text : goal.returns-clause-text
 returns-clause-text g c = on_ok_weaker c.write_out.result (λ written listed logs known are. (
   c.in-Ok-check_owned.text.items,
-  known_answer Checks c.in-Ok.read.0.items listed (map (λ log. log.items) c.in-Ok.read.1.items)
+  known_answer Checks c.in-Ok.read.0.items listed (bytes_of c.in-Ok.read.1.items)
       logs (Ok c.in-Ok-check_owned.text.items) (c.in-Ok.ensures.text listed known)
       (c.in-Ok.ensures.bytes logs are) c.in-Ok-check_owned.ensures,
   subst (Appends _ _) c.deref.ensures.value written,
@@ -42,7 +43,7 @@ returns-clause-text g c = on_ok_weaker c.write_out.result (λ written listed log
 pub returns-clause-answered : goal.returns-clause-answered
 returns-clause-answered g c = on_ok_weaker c.write_out.result (λ written. record {
   input = c.in-Ok.read.0.items;
-  logs = map (λ log. log.items) c.in-Ok.read.1.items;
+  logs = bytes_of c.in-Ok.read.1.items;
   delivered = c.in-Ok.ensures.delivered;
   text = c.in-Ok-check_owned.text.items;
   answer = c.in-Ok-check_owned.ensures;
@@ -53,7 +54,7 @@ pub returns-clause-refusal : goal.returns-clause-refusal
 returns-clause-refusal g c = IfErr-weaker c.write_out.result _ _ (λ fault is listed logs known are.
     subst (IsRunFaultWithInput IsBadList IsCheckText listed logs) (sym is) (
       c.in-Ok-check_owned.text.items,
-      known_answer Checks c.in-Ok.read.0.items listed (map (λ log. log.items) c.in-Ok.read.1.items)
+      known_answer Checks c.in-Ok.read.0.items listed (bytes_of c.in-Ok.read.1.items)
           logs (Ok c.in-Ok-check_owned.text.items) (c.in-Ok.ensures.text listed known)
           (c.in-Ok.ensures.bytes logs are) c.in-Ok-check_owned.ensures,
     )) c.write_out.ensures.faults
@@ -61,7 +62,7 @@ returns-clause-refusal g c = IfErr-weaker c.write_out.result _ _ (λ fault is li
 pub returns-clause-prefix : goal.returns-clause-prefix
 returns-clause-prefix g c is listed logs known are = (
   c.in-Ok-check_owned.text.items,
-  known_answer Checks c.in-Ok.read.0.items listed (map (λ log. log.items) c.in-Ok.read.1.items)
+  known_answer Checks c.in-Ok.read.0.items listed (bytes_of c.in-Ok.read.1.items)
       logs (Ok c.in-Ok-check_owned.text.items) (c.in-Ok.ensures.text listed known)
       (c.in-Ok.ensures.bytes logs are) c.in-Ok-check_owned.ensures,
   subst (AppendsPrefix _ _) c.deref.ensures.value c.write_out.ensures.prefix,
@@ -70,7 +71,7 @@ returns-clause-prefix g c is listed logs known are = (
 pub returns-clause-part : goal.returns-clause-part
 returns-clause-part g c is = record {
   input = c.in-Ok.read.0.items;
-  logs = map (λ log. log.items) c.in-Ok.read.1.items;
+  logs = bytes_of c.in-Ok.read.1.items;
   delivered = c.in-Ok.ensures.delivered;
   text = c.in-Ok-check_owned.text.items;
   answer = c.in-Ok-check_owned.ensures;
@@ -83,7 +84,7 @@ returns-in-Err-clause-refused g c other = inl c.in-Err.ensures.stopped
 pub returns-in-Err-check_owned-clause-refused : goal.returns-in-Err-check_owned-clause-refused
 returns-in-Err-check_owned-clause-refused g c other = inr (record {
   input = c.in-Ok.read.0.items;
-  logs = map (λ log. log.items) c.in-Ok.read.1.items;
+  logs = bytes_of c.in-Ok.read.1.items;
   delivered = c.in-Ok.ensures.delivered;
   refusal = c.in-Err-check_owned.ensures;
 })

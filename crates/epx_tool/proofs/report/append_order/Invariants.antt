@@ -2,6 +2,6 @@ use Rattle.std.proofs.Common.{◌≡◌, ◌++◌, flat_map, drop}
 use Rattle.epx_tool.specs.OrderText.{order_line}
 use Rattle.epx_tool.proofs.report.append_order.Given as goal
 
-abbrev pub invariant-loop-place : goal.invariant-loop-place
-invariant-loop-place l = l.text.items ++ flat_map order_line (drop l.place l.order)
+abbrev pub invariant-loop-position : goal.invariant-loop-position
+invariant-loop-position l = l.text.items ++ flat_map order_line (drop l.position l.order)
     ≡ l.fn.text.items ++ flat_map order_line l.fn.order

@@ -1,22 +1,23 @@
-use Rattle.std.proofs.Common.{map, inl, inr, subst}
+use Rattle.std.proofs.Common.{inl, inr, subst}
 use Rattle.std.proofs.lemmas.Result.{on_ok_weaker, IfErr-weaker}
 use Rattle.std.specs.Io.KnownBytes.{Appends}
 use Rattle.epx_devices.specs.Transfers.{AppendsPrefix}
 use Rattle.epx_tool.proofs.runs.show.Goals as goal
+use Rattle.epx_merge.specs.LogLines.{bytes_of}
 
 pub returns-in-Err-clause-refused : goal.returns-in-Err-clause-refused
 returns-in-Err-clause-refused g c other = inl c.in-Err.ensures.stopped
 
 pub returns-in-Err-view-clause-refused : goal.returns-in-Err-view-clause-refused
 returns-in-Err-view-clause-refused g c other = inr (record {
-  logs = map (λ log. log.items) c.in-Ok.logs.items;
+  logs = bytes_of c.in-Ok.logs.items;
   delivered = c.in-Ok.ensures.delivered;
   refusal = rw c.deref.ensures.value at c.in-Err-view.ensures;
 })
 
 pub returns-clause-answered : goal.returns-clause-answered
 returns-clause-answered g c = on_ok_weaker c.write_out.result (λ written. record {
-  logs = map (λ log. log.items) c.in-Ok.logs.items;
+  logs = bytes_of c.in-Ok.logs.items;
   delivered = c.in-Ok.ensures.delivered;
   text = c.in-Ok-view.text.items;
   answer = rw c.deref.ensures.value at c.in-Ok-view.ensures;
@@ -25,7 +26,7 @@ returns-clause-answered g c = on_ok_weaker c.write_out.result (λ written. recor
 
 pub returns-clause-part : goal.returns-clause-part
 returns-clause-part g c is = record {
-  logs = map (λ log. log.items) c.in-Ok.logs.items;
+  logs = bytes_of c.in-Ok.logs.items;
   delivered = c.in-Ok.ensures.delivered;
   text = c.in-Ok-view.text.items;
   answer = rw c.deref.ensures.value at c.in-Ok-view.ensures;

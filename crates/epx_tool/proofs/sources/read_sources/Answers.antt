@@ -1,4 +1,4 @@
-use Rattle.std.proofs.Common.{refl, map, ap, ◌∙◌, sym, subst}
+use Rattle.std.proofs.Common.{refl, ap, ◌∙◌, sym, subst}
 use Rattle.std.proofs.lemmas.List.{length-map, map-append}
 use Rattle.epx_tool.proofs.ConsumedLemmas.{none_consumed}
 use Rattle.epx_devices.specs.Deliveries.{DeliversAll}
@@ -7,6 +7,7 @@ use Rattle.epx_tool.proofs.SourceLemmas.{same_next, none_read, read_well, read_s
 use Rattle.epx_tool.proofs.SourceLemmas.{reading_refusal, taken_further, all_fit, each_read}
 use Rattle.epx_tool.proofs.SourceLemmas.{all_ended, none_failed, none_failed_after, one_failed}
 use Rattle.epx_tool.proofs.sources.read_sources.Goals as goal
+use Rattle.epx_merge.specs.LogLines.{bytes_of}
 
 pub returns-in-Err-clause-refusal : goal.returns-in-Err-clause-refusal
 returns-in-Err-clause-refusal g c =
@@ -41,7 +42,7 @@ returns-then-sources-gt-MAX_LOGS-clause-failed g c k source there =
 pub loop-log-init : goal.loop-log-init
 loop-log-init g c =
     let S = g.S.Source in
-    let none = ap (map (λ log. log.items)) (sym c.new-logs.ensures.items) in
+    let none = ap bytes_of (sym c.new-logs.ensures.items) in
     subst (AreDeliveredUpTo S.remaining S.reads S.has_failed _ _ _) none (record {
       read = none_read S.remaining S.has_failed c.args.sources.now c.requires;
       delivered = tt;
@@ -94,7 +95,7 @@ loop-log-preserved g c =
     c.loop-log-test.true c.index-sources-log.result c.read_log.new.source well
     c.in-Ok.bytes.items c.in-Ok.ensures.bytes c.in-Ok.ensures.fits c.in-Ok.ensures.no_further
     c.in-Ok.ensures.end in
-    let grown = ap (map (λ log. log.items)) c.in-Ok-push.ensures.items ∙ map-append (λ log.
+    let grown = ap bytes_of c.in-Ok-push.ensures.items ∙ map-append (λ log.
     log.items) c.loop-log.logs.items _ in
     let reads = g.S.Source.reads in
     let next = c.index-sources-log.result in

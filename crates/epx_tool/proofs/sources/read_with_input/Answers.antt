@@ -1,4 +1,4 @@
-use Rattle.std.proofs.Common.{◌≡◌, ◌+◌, ℕ, List, Option, length, map, Err, inl, inr, ap, subst}
+use Rattle.std.proofs.Common.{◌≡◌, ◌+◌, ℕ, List, Option, length, Err, inl, inr, ap, subst}
 use Rattle.std.proofs.Common.{arith}
 use Rattle.std.proofs.lemmas.List.{length-map}
 use Rattle.std.proofs.lemmas.Option.{slice_get_within}
@@ -7,6 +7,7 @@ use Rattle.epx_devices.specs.Deliveries.{IsLogStop}
 use Rattle.epx_devices.specs.Transfers.{ConsumesExactly}
 use Rattle.epx_merge.specs.Limits.{max_log_bytes}
 use Rattle.epx_merge.specs.Refusals.{FitLimits}
+use Rattle.epx_merge.specs.LogLines.{bytes_of}
 use Rattle.epx_tool.proofs.LogsWithInputLemmas.{input_after_logs, reading_refusal_with_input}
 use Rattle.epx_tool.proofs.LogsWithInputLemmas.{refusal_of_reading_with_input}
 use Rattle.epx_tool.proofs.sources.read_with_input.Goals as goal
@@ -59,7 +60,7 @@ returns-in-Err-read_log-clause-stopped g c =
     IsLogStop g.B.Source.reads g.B.Source.fails n c.args.input.now c.read_log.new.source
     c.in-Err-read_log.fault in
     inr (record {
-      logs = map (λ log. log.items) c.in-Ok.logs.items;
+      logs = bytes_of c.in-Ok.logs.items;
       delivered = c.in-Ok.ensures.delivered;
       short = c.in-Ok.ensures.fit.1;
       stopped = subst StopsAt many c.in-Err-read_log.ensures.stops;

@@ -7,54 +7,54 @@ use Rattle.epx_types.proofs.keys.SortedEntryLemmas.{entries-empty}
 use Rattle.epx_txn.proofs.evaluation.operate_all.Goals as goal
 use Rattle.epx_txn.proofs.evaluation.operate_all.Goals.{in-Read+in_ok-push-in-Read, in-Done}
 
-pub loop-place-init : goal.loop-place-init
-loop-place-init c = rw (c.new-draft.ensures, c.new-got.ensures.items)
+pub loop-index-init : goal.loop-index-init
+loop-index-init c = rw (c.new-draft.ensures, c.new-got.ensures.items)
     (at_start c.args.ops.now c.args.store.now)
 
 pub returns-in-Abort-clause-reply : goal.returns-in-Abort-clause-reply
 returns-in-Abort-clause-reply c =
-    let within : c.loop-place.place < length c.args.ops.now = omega arith in
-    reply_of_abort c.args.ops.now c.args.store.now c.loop-place.place c.loop-place.draft
-    c.operate.new.draft c.loop-place.got.items c.index-ops-place.result c.loop-place.invariant
-    within c.index-ops-place.is (rw c.in-Abort.is at c.in_ok-value.ensures)
+    let within : c.loop-index.index < length c.args.ops.now = omega arith in
+    reply_of_abort c.args.ops.now c.args.store.now c.loop-index.index c.loop-index.draft
+    c.operate.new.draft c.loop-index.got.items c.index-ops-index.result c.loop-index.invariant
+    within c.index-ops-index.is (rw c.in-Abort.is at c.in_ok-value.ensures)
 
 pub returns-in-Abort-clause-writes : goal.returns-in-Abort-clause-writes
 returns-in-Abort-clause-writes c =
-    let within : c.loop-place.place < length c.args.ops.now = omega arith in
+    let within : c.loop-index.index < length c.args.ops.now = omega arith in
     ap contents.entries c.new-nothing.ensures
     ∙ entries-empty
-    ∙ writes_of_abort c.args.ops.now c.args.store.now c.loop-place.place c.loop-place.draft
-    c.operate.new.draft c.loop-place.got.items c.index-ops-place.result c.loop-place.invariant
-    within c.index-ops-place.is (rw c.in-Abort.is at c.in_ok-value.ensures)
+    ∙ writes_of_abort c.args.ops.now c.args.store.now c.loop-index.index c.loop-index.draft
+    c.operate.new.draft c.loop-index.got.items c.index-ops-index.result c.loop-index.invariant
+    within c.index-ops-index.is (rw c.in-Abort.is at c.in_ok-value.ensures)
 
-pub loop-place-preserved : goal.loop-place-preserved
-loop-place-preserved c =
-    let within : c.loop-place.place < length c.args.ops.now = omega arith in
+pub loop-index-preserved : goal.loop-index-preserved
+loop-index-preserved c =
+    let within : c.loop-index.index < length c.args.ops.now = omega arith in
     elim c.match-branch-2.branch [
       | in-Read+in_ok-push-in-Read w ↦
-          let e : c.match-branch-2.got.items ≡ c.loop-place.got.items ++ w.in-Read.value ∷ [] =
+          let e : c.match-branch-2.got.items ≡ c.loop-index.got.items ++ w.in-Read.value ∷ [] =
           search rules in
-          rw e (after_read c.args.ops.now c.args.store.now c.loop-place.place c.loop-place.draft
-          c.operate.new.draft c.loop-place.got.items c.index-ops-place.result
-          c.loop-place.invariant within c.index-ops-place.is w.in-Read.value
+          rw e (after_read c.args.ops.now c.args.store.now c.loop-index.index c.loop-index.draft
+          c.operate.new.draft c.loop-index.got.items c.index-ops-index.result
+          c.loop-index.invariant within c.index-ops-index.is w.in-Read.value
           (rw w.in-Read.is at c.in_ok-value.ensures))
       | in-Done w ↦
-          let e : c.match-branch-2.got.items ≡ c.loop-place.got.items = search rules in
-          rw e (after_done c.args.ops.now c.args.store.now c.loop-place.place c.loop-place.draft
-          c.operate.new.draft c.loop-place.got.items c.index-ops-place.result
-          c.loop-place.invariant within c.index-ops-place.is
+          let e : c.match-branch-2.got.items ≡ c.loop-index.got.items = search rules in
+          rw e (after_done c.args.ops.now c.args.store.now c.loop-index.index c.loop-index.draft
+          c.operate.new.draft c.loop-index.got.items c.index-ops-index.result
+          c.loop-index.invariant within c.index-ops-index.is
           (rw w.in-Done.is at c.in_ok-value.ensures))
     ]
 
 pub returns-clause-reply : goal.returns-clause-reply
 returns-clause-reply c =
-    let past : length c.args.ops.now ≤ c.loop-place.place = omega arith in
+    let past : length c.args.ops.now ≤ c.loop-index.index = omega arith in
     ap (λ v. Values v) c.new.ensures
-    ∙ reply_at_end c.args.ops.now c.args.store.now c.loop-place.place c.loop-place.draft
-    c.loop-place.got.items c.loop-place.invariant past
+    ∙ reply_at_end c.args.ops.now c.args.store.now c.loop-index.index c.loop-index.draft
+    c.loop-index.got.items c.loop-index.invariant past
 
 pub returns-clause-writes : goal.returns-clause-writes
 returns-clause-writes c =
-    let past : length c.args.ops.now ≤ c.loop-place.place = omega arith in
-    writes_at_end c.args.ops.now c.args.store.now c.loop-place.place c.loop-place.draft
-    c.loop-place.got.items c.loop-place.invariant past
+    let past : length c.args.ops.now ≤ c.loop-index.index = omega arith in
+    writes_at_end c.args.ops.now c.args.store.now c.loop-index.index c.loop-index.draft
+    c.loop-index.got.items c.loop-index.invariant past

@@ -11,9 +11,9 @@ returns c =
     let some : 0 < length s.starts.items = omega (arith, s.starts.ok.0, c.requires.some) in
     let last : c.len.result - 1 ≡ length s.starts.items - 1 =
     omega (arith, s.starts.ok.0, c.len.ensures) in
-    let placed : length c.close_nodes.new.place ≡ s.place.len =
-    c.close_nodes.auto.place ∙ (ap length c.deref_mut.ensures.value ∙ sym s.place.ok.0) in
-    let place = with_items_is s.place c.close_nodes.new.place placed in
+    let placed : length c.close_nodes.new.visits ≡ s.visits.len =
+    c.close_nodes.auto.visits ∙ (ap length c.deref_mut.ensures.value ∙ sym s.visits.ok.0) in
+    let visits = with_items_is s.visits c.close_nodes.new.visits placed in
     let group : take (length c.deref-2.result.now - start) (drop start c.deref-2.result.now)
     ≡ drop start s.opened.items = take_rest _ start
     ∙ ap (drop start) c.deref-2.ensures.value in
@@ -30,10 +30,10 @@ returns c =
         sym (get_or_read s.starts.items _ _ (omega (arith, last)) c.index-start.ensures 0
             ∙ ap (λ i. get_or s.starts.items i 0) last),
       );
-      closes = rw place (closes_group s.place.items c.close_nodes.new.place s.opened.items start
+      closes = rw visits (closes_group s.visits.items c.close_nodes.new.visits s.opened.items start
           s.count c.requires.row
           (rw group at c.close_nodes.ensures.closed)
           (rw (group, c.deref_mut.ensures.value) at c.close_nodes.ensures.others));
-      places = rw place (placed ∙ s.place.ok.0);
+      all_visits = rw visits (placed ∙ s.visits.ok.0);
       same = rw (c.truncate.ensures.items, order, starts) refl;
     }

@@ -14,15 +14,15 @@ pub arrive-requires-clause-node : goal.arrive-requires-clause-node
 arrive-requires-clause-node c =
     let s = c.args.self.now in
     let w = c.requires.search.1 in
-    let in' = open_below _ _ _ (state s) c.args.node c.requires.next.place w
+    let in' = open_below _ _ _ (state s) c.args.node c.requires.next.position w
     c.requires.next.is_open in
     let next = get_or_read s.looked_at.items c.args.node _ (omega (arith, w.looks))
     c.index-next.ensures 0 in
     rw (c.edges.ensures.edges, next)
     (omega (
       arith,
-      w.places,
-      s.place.ok.0,
+      w.all_visits,
+      s.visits.ok.0,
       edge_to c.args.graph.now c.requires.graph c.args.node _ c.requires.next.left,
     ))
 
@@ -31,7 +31,7 @@ returns-clause-keeps c =
     let s = c.args.self.now in
     let edges = edges_of c.args.graph.now in
     let w = c.requires.search.1 in
-    let in' = open_below edges _ _ (state s) c.args.node c.requires.next.place w
+    let in' = open_below edges _ _ (state s) c.args.node c.requires.next.position w
     c.requires.next.is_open in
     let next = get_or_read s.looked_at.items c.args.node _ (omega (arith, w.looks))
     c.index-next.ensures 0 in
@@ -47,7 +47,7 @@ returns-clause-less c =
     let s = c.args.self.now in
     let edges = edges_of c.args.graph.now in
     let w = c.requires.search.1 in
-    let in' = open_below edges _ _ (state s) c.args.node c.requires.next.place w
+    let in' = open_below edges _ _ (state s) c.args.node c.requires.next.position w
     c.requires.next.is_open in
     let next = get_or_read s.looked_at.items c.args.node _ (omega (arith, w.looks))
     c.index-next.ensures 0 in

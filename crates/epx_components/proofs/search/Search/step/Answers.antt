@@ -14,7 +14,7 @@ returns-in-Some-2-clause-keeps c seen w =
     let s = c.args.self.now in
     let edges = edges_of c.args.graph.now in
     let top = c.in-Some.ensures.found in
-    let in' = open_below edges _ seen (state s) c.in-Some.node top.place w
+    let in' = open_below edges _ seen (state s) c.in-Some.node top.position w
     (top_open edges _ seen (state s) c.in-Some.node w top) in
     let looked = get_or_read s.looked_at.items c.in-Some.node _ (omega (arith, w.looks))
     c.index.ensures 0 in

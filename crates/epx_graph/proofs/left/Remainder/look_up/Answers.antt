@@ -17,7 +17,7 @@ returns-in-Some-index c =
     grind (arith, nat_tests, c.is_empty.ensures, c.if-is_empty.false) in
     rw (sym c.self.view_is)
     (found_left _ c.self.inside.positions.items c.self.inside.positions_left.items
-    (c.self.invariant.2 some) c.self.invariant.0 c.in-Some.position c.in-Some-index.place
+    (c.self.invariant.2 some) c.self.invariant.0 c.in-Some.position c.in-Some-index.index
     c.args.id c.index.result.now (sym c.position.ensures ∙ c.in-Some.is) c.index.ensures
     c.in-Some-index.is)
 

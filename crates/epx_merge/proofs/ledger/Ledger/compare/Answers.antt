@@ -15,7 +15,7 @@ returns-then-same_entry c =
     let disagreements = c.self.inside.disagreements.entries in
     let line = c.args.line.now in
     let first = c.index-first.result.now in
-    let known = line_under lines disagreements c.args.self.now c.self.view_is c.args.place
+    let known = line_under lines disagreements c.args.self.now c.self.view_is c.args.index
     line.instance.id first c.requires c.index-first.ensures in
     subst (λ (n : LedgerView). NotesLines (line ∷ []) n n) c.self.view_is
     (elim c.then-same_entry.branch [
@@ -34,7 +34,7 @@ returns c =
     let disagreements = c.self.inside.disagreements.entries in
     let line = c.args.line.now in
     let first = c.index-first.result.now in
-    let known = line_under lines disagreements c.args.self.now c.self.view_is c.args.place
+    let known = line_under lines disagreements c.args.self.now c.self.view_is c.args.index
     line.instance.id first c.requires c.index-first.ensures in
     let disagreement : Disagreement =
     record { first = c.place.result; second = c.place-2.result } in

@@ -11,7 +11,7 @@ returns-then-is_new c =
     let disagreements = c.self.inside.disagreements.entries in
     let after : LedgerView =
     record { firsts = with_ids c.push.new.self.items; disagreements = disagreements } in
-    let new = sym c.in_ok-place.ensures.added ∙ c.if-is_new.true in
+    let new = sym c.in_ok-index.ensures.added ∙ c.if-is_new.true in
     let last = c.in_ok-push.ensures.items ∙ ap (λ (l : List Placed). l ++ c.args.line ∷ [])
     c.in_ok-reserve.ensures.items in
     subst (λ (n : LedgerView). NotesLines (c.args.line ∷ []) n after) c.self.view_is
@@ -22,10 +22,10 @@ pub compare-requires : goal.compare-requires
 compare-requires c =
     let names_are = c.self.invariant ∙ ap (map (λ (p : Placed). p.instance.id))
     (sym c.in_ok-reserve.ensures.items) in
-    let at = c.in_ok-place.ensures.stored in
+    let at = c.in_ok-index.ensures.stored in
     let first = known_line c.reserve.new.self.items c.self.inside.names.keys
-    c.insert_full.new.self.keys c.id.result at.0 c.in_ok-place.place names_are
-    (sym c.in_ok-place.ensures.added ∙ c.if-is_new.false) c.in_ok-place.ensures.keys at.1 at.2 in
+    c.insert_full.new.self.keys c.id.result at.0 c.in_ok-index.index names_are
+    (sym c.in_ok-index.ensures.added ∙ c.if-is_new.false) c.in_ok-index.ensures.keys at.1 at.2 in
     (first.0, first.1 ∙ ap (λ (x : Id). Some (x, first.0)) c.id.ensures)
 
 pub returns : goal.returns

@@ -6,6 +6,6 @@ use Rattle.epx_order.proofs.order_list.OrderList.depth_of.Goals as goal
 pub returns : goal.returns
 returns c =
     let rank = c.index.result.now in
-    let at = rank_at c.self.inside.ranks.items c.args.place rank
+    let at = rank_at c.self.inside.ranks.items c.args.position rank
     (omega (arith, c.requires, ap length c.self.view_is)) c.index.ensures in
-    (ranked rank, ap (λ ranks. slice_get ranks c.args.place) (sym c.self.view_is) ∙ at, refl)
+    (ranked rank, ap (λ ranks. slice_get ranks c.args.position) (sym c.self.view_is) ∙ at, refl)

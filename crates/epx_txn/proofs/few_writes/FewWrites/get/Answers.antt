@@ -5,9 +5,9 @@ use Rattle.epx_txn.proofs.few_writes.FewWrites.get.Goals as goal
 pub returns-in-Ok : goal.returns-in-Ok
 returns-in-Ok c =
     let there = rw c.as_slice.ensures.value at c.in-Ok.ensures in
-    ap (λ p. Some p.1) (shown_at (λ p. (p.0.now, p.1)) c.self.inside.items.items c.in-Ok.place
+    ap (λ p. Some p.1) (shown_at (λ p. (p.0.now, p.1)) c.self.inside.items.items c.in-Ok.index
     c.index.result.now c.index.ensures)
-    ∙ get_at_slot _ c.args.self.now c.self.view_is c.args.key.now c.in-Ok.place _ there
+    ∙ get_at_slot _ c.args.self.now c.self.view_is c.args.key.now c.in-Ok.index _ there
 
 pub returns-in-Err : goal.returns-in-Err
 returns-in-Err c =

@@ -7,28 +7,28 @@ pub invariant_of-self : goal.invariant_of-self
 invariant_of-self c =
     let there = rw c.as_slice.ensures.value at c.in-Ok.ensures in
     rises_put _ c.self.invariant c.args.key.now c.args.value _
-    (set_at_slot (λ p. (p.0.now, p.1)) c.self.inside.items.items c.in-Ok.place
+    (set_at_slot (λ p. (p.0.now, p.1)) c.self.inside.items.items c.in-Ok.index
     (c.args.key, c.args.value) there)
 
 pub returns-in-Ok-clause-after : goal.returns-in-Ok-clause-after
 returns-in-Ok-clause-after c =
     let there = rw c.as_slice.ensures.value at c.in-Ok.ensures in
     inserted_put _ c.self.invariant c.args.key.now c.args.value _
-    (set_at_slot (λ p. (p.0.now, p.1)) c.self.inside.items.items c.in-Ok.place
+    (set_at_slot (λ p. (p.0.now, p.1)) c.self.inside.items.items c.in-Ok.index
     (c.args.key, c.args.value) there) c.args.self.now c.self.view_is
 
 pub invariant_of-self-in-Continue-1 : goal.invariant_of-self-in-Continue-1
 invariant_of-self-in-Continue-1 c =
     let there = rw c.as_slice.ensures.value at c.in-Err.ensures in
     rises_put _ c.self.invariant c.args.key.now c.args.value _
-    (insert_at_slot (λ p. (p.0.now, p.1)) c.self.inside.items.items c.in-Err.place
+    (insert_at_slot (λ p. (p.0.now, p.1)) c.self.inside.items.items c.in-Err.index
     (c.args.key, c.args.value) _ there c.in_ok-insert-in-Err.ensures.items)
 
 pub returns-in_ok-insert-in-Err-clause-after : goal.returns-in_ok-insert-in-Err-clause-after
 returns-in_ok-insert-in-Err-clause-after c =
     let there = rw c.as_slice.ensures.value at c.in-Err.ensures in
     inserted_put _ c.self.invariant c.args.key.now c.args.value _
-    (insert_at_slot (λ p. (p.0.now, p.1)) c.self.inside.items.items c.in-Err.place
+    (insert_at_slot (λ p. (p.0.now, p.1)) c.self.inside.items.items c.in-Err.index
     (c.args.key, c.args.value) _ there c.in_ok-insert-in-Err.ensures.items) c.args.self.now
     c.self.view_is
 
