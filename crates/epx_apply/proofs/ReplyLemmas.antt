@@ -19,7 +19,8 @@ pub record ArePutUpTo (positions : List ℕ) (effects : List Effect) (at all : L
 -- one more reply is put
 module _ (positions positions' : List ℕ) (effects effects' : List Effect) (i : ℕ) (e : Effect)
     (at all : List Reply) (next_position : positions ≡ i ∷ positions')
-    (next_effect : effects ≡ e ∷ effects') (remaining_put : ArePutUpTo positions effects at all) where
+    (next_effect : effects ≡ e ∷ effects')
+    (remaining_put : ArePutUpTo positions effects at all) where
   here : ArePutUpTo (i ∷ positions') (e ∷ effects') at all
   here = subst (λ (is : List ℕ). ArePutUpTo is (e ∷ effects') at all) next_position
       (subst (λ (es : List Effect). ArePutUpTo positions es at all) next_effect remaining_put)

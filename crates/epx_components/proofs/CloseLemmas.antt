@@ -22,7 +22,8 @@ Closes-by s c (Closed d) y un open' closed = closed d refl
 pub closes_group : (visits new : List Visit) (opened : List ℕ) (s c : ℕ) → IsRow visits opened
     → ((i : ℕ) → i < length (drop s opened) → visit_of new (get_or (drop s opened) i 0) ≡ Closed c)
     → ((k : ℕ) → ((i : ℕ) → i < length (drop s opened) → get_or (drop s opened) i 0 ≢ k)
-    → visit_of new k ≡ visit_of visits k) → (k : ℕ) → Closes s c (visit_of visits k) (visit_of new k)
+    → visit_of new k ≡ visit_of visits k) → (k : ℕ)
+    → Closes s c (visit_of visits k) (visit_of new k)
 closes_group visits new opened s c r closed others k =
     let is_open_at : (i : ℕ) → i < length (drop s opened)
     → visit_of visits (get_or (drop s opened) i 0) ≡ Open (s + i) = λ i l.

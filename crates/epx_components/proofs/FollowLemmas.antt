@@ -24,7 +24,8 @@ groups_reach : (edges : ℕ → List ℕ) (n seen : ℕ) (s : SearchState) (k : 
     → IsSearch edges n seen s → IsNextNode edges s k → (j p : ℕ) → visit_of s.visits j ≡ Open p
     → NodeReaches edges j (next_of edges s k)
 groups_reach edges n seen s k w next j p h =
-    reaches_on edges j k _ (w.reaches j k p next.position h next.is_open (λ i l _. next.is_last i l))
+    reaches_on edges j k _
+    (w.reaches j k p next.position h next.is_open (λ i l _. next.is_last i l))
     (reaches_edge edges k _ (Contains-get_or (edges k) _ 0 next.left))
 
 follow_at : (edges : ℕ → List ℕ) (n seen : ℕ) (s new : SearchState) (k : ℕ) (x : Visit)

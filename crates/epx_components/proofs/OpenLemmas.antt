@@ -16,8 +16,8 @@ use Rattle.epx_components.specs.inner.SearchSteps.{after_enter}
 use Rattle.epx_components.specs.declared.visit.Visit.{Visit}
 use Rattle.epx_components.specs.declared.visit.Visit.TheVariants.{Closed, Open, Unseen}
 
-enter_row : (visits : List Visit) (opened : List ℕ) (k : ℕ) → IsRow visits opened → k < length visits
-    → visit_of visits k ≡ Unseen → IsRow (set visits k (Open (length opened))) (opened ++ k ∷ [])
+enter_row : (visits : List Visit) (opened : List ℕ) (k : ℕ) → IsRow visits opened
+    → k < length visits → visit_of visits k ≡ Unseen → IsRow (set visits k (Open (length opened))) (opened ++ k ∷ [])
 enter_row visits opened k r l un =
     let m = length opened in
     let new = set visits k (Open m) in
@@ -79,8 +79,8 @@ enter_keeps edges n seen s k w l un all =
     let cases : (j : ℕ) → ((j ≡ k) × (visit_of new j ≡ Open m))
     ⊎ ((j ≢ k) × (visit_of new j ≡ visit_of s.visits j)) =
     λ j. set_cases s.visits k (Open m) j in' in
-    let kept : (j : ℕ) → visit_of s.visits j ≢ Unseen → visit_of new j ≡ visit_of s.visits j = λ j h.
-    get_or-set_other s.visits k j _ Unseen (λ e. h (ap (visit_of s.visits) e ∙ un)) in
+    let kept : (j : ℕ) → visit_of s.visits j ≢ Unseen → visit_of new j ≡ visit_of s.visits j =
+    λ j h. get_or-set_other s.visits k j _ Unseen (λ e. h (ap (visit_of s.visits) e ∙ un)) in
     record {
       all_visits = length-set s.visits k (Open m) ∙ w.all_visits;
       looks = w.looks;

@@ -61,8 +61,8 @@ module _ (ids xs : List Id) where
   places_are = record {
     rising = AllPairs-from_slice_get (λ i j. i < j) positions.0
         (λ k n i j l p q. less_from_is_lt i j
-        (AllPairs-slice_get (λ i j. is_lt (nat_cmp i j) ≡ true) positions.0 positions.1.elements_rise k n
-        i j l p q));
+        (AllPairs-slice_get (λ i j. is_lt (nat_cmp i j) ≡ true) positions.0
+        positions.1.elements_rise k n i j l p q));
     exact = λ j. (
       λ h. (positions.1.elements_only j h).1,
       λ is. positions.1.elements_all j
