@@ -17,7 +17,8 @@ use Rattle.epx_components.specs.declared.visit.Visit.{Visit}
 use Rattle.epx_components.specs.declared.visit.Visit.TheVariants.{Closed, Open, Unseen}
 
 enter_row : (visits : List Visit) (opened : List ℕ) (k : ℕ) → IsRow visits opened
-    → k < length visits → visit_of visits k ≡ Unseen → IsRow (set visits k (Open (length opened))) (opened ++ k ∷ [])
+    → k < length visits → visit_of visits k ≡ Unseen
+    → IsRow (set visits k (Open (length opened))) (opened ++ k ∷ [])
 enter_row visits opened k r l un =
     let m = length opened in
     let new = set visits k (Open m) in

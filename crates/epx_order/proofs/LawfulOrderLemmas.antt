@@ -23,10 +23,12 @@ use Rattle.epx_order.specs.OrderFaults.{IsListOfReady, InOrder}
 module _ (m : List Instance) (rising : IsRising (ids_of m)) (ids : List Id) where
   -- no instance comes before itself
   not_before_itself : (x : Id) → ¬ SequenceBefore m x x
-  not_before_itself x (d, e, in_d, is_d, in_e, is_e, lower) =
-      let one = IsRising-same m rising d e in_d in_e (is_d ∙ sym is_e) in
+  not_before_itself x by =
+      let e = by.second in
+      let one = IsRising-same m rising by.first e by.first_in by.second_in
+      (by.first_is ∙ sym by.second_is) in
       let same = subst (λ (d : Instance). is_lt (ordering_then (nat_cmp d.seq e.seq) (id_cmp x x))
-      ≡ true) one lower in
+      ≡ true) one by.lower in
       below_irrefl (then_total (on_total (λ (a : ℕ × Id). a.0) nat_cmp_total)
       (on_total (λ (a : ℕ × Id). a.1) id_cmp_total)) (e.seq, x) same
 
@@ -51,7 +53,16 @@ module _ (m : List Instance) (rising : IsRising (ids_of m)) (ids : List Id) wher
             | inl before ↦ (j.0, i.0, before, j.1, i.1)
             | inr upto ↦ elim (cases_lt i.0 j.0) [
               | inl later ↦ absurd ((order i.0 (slice_get_within ids i.0 x i.1)).0
-                  (x, y, i.1, there, back, j.0, later, j.1))
+                  (record {
+                    id = x;
+                    reached = y;
+                    here = i.1;
+                    reaches = there;
+                    outside = back;
+                    later = j.0;
+                    is_later = later;
+                    there = j.1;
+                  }))
               | inr other ↦
                   let one : i.0 ≡ j.0 = omega arith in
                   let same : Some x ≡ Some y = sym i.1 ∙ ap (slice_get ids) one ∙ j.1 in
@@ -66,7 +77,16 @@ module _ (m : List Instance) (rising : IsRising (ids_of m)) (ids : List Id) wher
             | inr upto ↦ elim (cases_lt j.0 i.0) [
               | inl earlier ↦ absurd
                   ((order i.0 (slice_get_within ids i.0 x i.1)).1
-                  (x, y, i.1, one, lower, j.0, earlier, j.1))
+                  (record {
+                    id = x;
+                    follower = y;
+                    here = i.1;
+                    one_component = one;
+                    by_sequence = lower;
+                    earlier = j.0;
+                    is_earlier = earlier;
+                    there = j.1;
+                  }))
               | inr other ↦
                   let position : j.0 ≡ i.0 = omega arith in
                   let same : Some y ≡ Some x = sym j.1 ∙ ap (slice_get ids) position ∙ i.1 in

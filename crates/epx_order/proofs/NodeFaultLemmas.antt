@@ -103,38 +103,43 @@ module _ (m : List Instance) (g : DependencyGraph) (is : IsGraphOf m g) (p : Com
                       | inr upto ↦ let one : q ≡ i = omega (arith, ahead, end, at_q) in
                           absurd (apart (sym same ∙ ap (λ i. component_of p (get_or nodes i 0))
                           one))
-                    ] in (
-                      x.0,
-                      y.0,
-                      x.1,
-                      reached,
-                      (λ back. apart
+                    ] in record {
+                      id = x.0;
+                      reached = y.0;
+                      here = x.1;
+                      reaches = reached;
+                      outside = λ back. apart
                           (omega (
                             arith,
                             falls (get_or nodes q 0) k
                                 (reaches_back q i y.0 x.0 y.1 x.1 back),
                             j_down,
                             same,
-                          ))),
-                      q,
-                      later,
-                      y.1,
-                    )
+                          ));
+                      later = q;
+                      is_later = later;
+                      there = y.1;
+                    }
               ]
         ]
 
     pub node_early_from : (i : ℕ) → IsEarlyAt m ids i → IsNodeEarlyAt p below nodes i
-    node_early_from i (x, y, at, there, none_back, j, later, to) =
+    node_early_from i early =
+        let x = early.id in
+        let y = early.reached in
+        let at = early.here in
+        let j = early.later in
+        let to = early.there in
         let k = get_or nodes i 0 in
         let n = get_or nodes j 0 in
         let apart : component_of p n ≢ component_of p k =
-        λ same. none_back
+        λ same. early.outside
         (reaches j i y x to at (part.is.joined n k (node_in j y to) (node_in i x at) same)) in
         let k_in = slice_get_within g.ids k x (node_of i x at) in
-        let under = (are_below k k_in).all n (reaches_back i j x y at to there) apart in
+        let under = (are_below k k_in).all n (reaches_back i j x y at to early.reaches) apart in
         let j_l = slice_get_within ids j y to in
         let high = are_ends.all j (omega (arith, listed.whole)) in
-        omega (arith, later, under, high)
+        omega (arith, early.is_later, under, high)
 
   -- ---- overtaken
 
@@ -152,24 +157,27 @@ module _ (m : List Instance) (g : DependencyGraph) (is : IsGraphOf m g) (p : Com
       let there = part.is.joined (get_or nodes i 0) (get_or nodes j 0) (node_in i x.0 x.1)
       (node_in j y.0 y.1) (sym same) in
       let back = part.is.joined (get_or nodes j 0) (get_or nodes i 0) (node_in j y.0 y.1)
-      (node_in i x.0 x.1) same in (
-        d.id,
-        e.id,
-        at_x,
-        (reaches i j d.id e.id at_x at_y there, reaches j i e.id d.id at_y at_x back),
-        (
-          d,
-          e,
-          Contains-slice_get m (get_or nodes i 0) d at_d,
-          refl,
-          Contains-slice_get m (get_or nodes j 0) e at_e,
-          refl,
-          lower,
-        ),
-        j,
-        earlier,
-        at_y,
-      )
+      (node_in i x.0 x.1) same in record {
+        id = d.id;
+        follower = e.id;
+        here = at_x;
+        one_component = (
+          reaches i j d.id e.id at_x at_y there,
+          reaches j i e.id d.id at_y at_x back,
+        );
+        by_sequence = record {
+          first = d;
+          second = e;
+          first_in = Contains-slice_get m (get_or nodes i 0) d at_d;
+          first_is = refl;
+          second_in = Contains-slice_get m (get_or nodes j 0) e at_e;
+          second_is = refl;
+          lower = lower;
+        };
+        earlier = j;
+        is_earlier = earlier;
+        there = at_y;
+      }
 
   -- the instance at a place of the list
   instance_at : (i : ℕ) (x : Id) (d : Instance) → slice_get ids i ≡ Some x → Contains m d
@@ -181,7 +189,14 @@ module _ (m : List Instance) (g : DependencyGraph) (is : IsGraphOf m g) (p : Com
       in_d (f.2 ∙ sym same))
 
   pub node_overtaken_from : (i : ℕ) → IsOvertakenAt m ids i → IsNodeOvertakenAt m p nodes i
-  node_overtaken_from i (x, y, at, one, (d, e, in_d, is_x, in_e, is_y, lower), j, earlier, to) =
+  node_overtaken_from i overtaken =
+      let x = overtaken.id in
+      let y = overtaken.follower in
+      let at = overtaken.here in
+      let one = overtaken.one_component in
+      let by = overtaken.by_sequence in
+      let j = overtaken.earlier in
+      let to = overtaken.there in
       let k = get_or nodes i 0 in
       let n = get_or nodes j 0 in
       let same : component_of p n ≡ component_of p k =
@@ -191,15 +206,16 @@ module _ (m : List Instance) (g : DependencyGraph) (is : IsGraphOf m g) (p : Com
         falls n k (reaches_back j i y x to at one.1),
       ) in (
         j,
-        earlier,
+        overtaken.is_earlier,
         same,
         (
-          d,
-          e,
-          instance_at i x d at in_d is_x,
-          instance_at j y e to in_e is_y,
-          subst₂ (λ x y. is_lt (ordering_then (nat_cmp d.seq e.seq) (id_cmp x y)) ≡ true)
-              (sym is_x) (sym is_y) lower,
+          by.first,
+          by.second,
+          instance_at i x by.first at by.first_in by.first_is,
+          instance_at j y by.second to by.second_in by.second_is,
+          subst₂
+              (λ x y. is_lt (ordering_then (nat_cmp by.first.seq by.second.seq) (id_cmp x y))
+              ≡ true) (sym by.first_is) (sym by.second_is) by.lower,
         ),
       )
 

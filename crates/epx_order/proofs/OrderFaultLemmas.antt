@@ -114,19 +114,37 @@ module _ (m : List Instance) (ids : List Id) where
       × ((e : Instance) × Contains m e × Follows x y d e))
       (λ d. both_cases (Id-cases d.id x)
       (element_cases (Follows x y d) (λ e. both_cases (Id-cases e.id y) (true_cases _)) m)) m)
-      (λ h. (h.0, h.2.1.0, h.1, h.2.0, h.2.1.1, h.2.1.2.0, h.2.1.2.1))
-      (λ h. (h.0, h.2, (h.3, (h.1, h.4, (h.5, h.6)))))
+      (λ h. record {
+        first = h.0;
+        second = h.2.1.0;
+        first_in = h.1;
+        first_is = h.2.0;
+        second_in = h.2.1.1;
+        second_is = h.2.1.2.0;
+        lower = h.2.1.2.1;
+      })
+      (λ h. (h.first, h.first_in, (h.first_is, (h.second, h.second_in, (h.second_is, h.lower)))))
 
   stranger_cases : (k : ℕ) → Decided (IsStrangerAt m ids k)
-  stranger_cases k = at_cases ids (λ x. ¬ IsReady m x) (λ x. not_cases (ready_cases x)) k
+  stranger_cases k =
+      decided_as (at_cases ids (λ x. ¬ IsReady m x) (λ x. not_cases (ready_cases x)) k)
+      (λ h. record { id = h.0; here = h.1; waits = h.2 })
+      (λ h. (h.id, h.here, h.waits))
 
   repeat_cases : (k : ℕ) → Decided (IsRepeatAt m ids k)
   repeat_cases k =
       decided_as (at_cases ids (λ x. IsReady m x × ((i : ℕ) × (i < k) × HasAt ids (λ y. x ≡ y) i))
       (λ x. both_cases (ready_cases x)
       (place_cases ids (λ i. i < k) (λ y. x ≡ y) (λ i. less_cases i k) (Id-cases x))) k)
-      (λ h. (h.0, h.1, h.2.0, h.2.1.0, h.2.1.1, h.2.1.2.1 ∙ ap Some (sym h.2.1.2.2)))
-      (λ h. (h.0, h.1, (h.2, (h.3, h.4, (h.0, h.5, refl)))))
+      (λ h. record {
+        id = h.0;
+        here = h.1;
+        ready = h.2.0;
+        earlier = h.2.1.0;
+        is_earlier = h.2.1.1;
+        there = h.2.1.2.1 ∙ ap Some (sym h.2.1.2.2);
+      })
+      (λ h. (h.id, h.here, (h.ready, (h.earlier, h.is_earlier, (h.id, h.there, refl)))))
 
   early_cases : (k : ℕ) → Decided (IsEarlyAt m ids k)
   early_cases k =
@@ -135,8 +153,17 @@ module _ (m : List Instance) (ids : List Id) where
       × HasAt ids (λ y. Reaches m x y × ¬ Reaches m y x) j)
       (λ x. place_cases ids (λ j. k < j) (λ y. Reaches m x y × ¬ Reaches m y x) (less_cases k)
       (λ y. both_cases (Reaches-cases m x y) (not_cases (Reaches-cases m y x)))) k)
-      (λ h. (h.0, h.2.2.0, h.1, h.2.2.2.0, h.2.2.2.1, h.2.0, h.2.1, h.2.2.1))
-      (λ h. (h.0, h.2, (h.5, h.6, (h.1, h.7, (h.3, h.4)))))
+      (λ h. record {
+        id = h.0;
+        reached = h.2.2.0;
+        here = h.1;
+        reaches = h.2.2.2.0;
+        outside = h.2.2.2.1;
+        later = h.2.0;
+        is_later = h.2.1;
+        there = h.2.2.1;
+      })
+      (λ h. (h.id, h.here, (h.later, h.is_later, (h.reached, h.there, (h.reaches, h.outside)))))
 
   overtaken_cases : (k : ℕ) → Decided (IsOvertakenAt m ids k)
   overtaken_cases k =
@@ -146,8 +173,21 @@ module _ (m : List Instance) (ids : List Id) where
       (λ x. place_cases ids (λ j. j < k) (λ y. InOneComponent m x y × SequenceBefore m x y)
       (λ j. less_cases j k)
       (λ y. both_cases (InOneComponent-cases m x y) (sequence_cases x y))) k)
-      (λ h. (h.0, h.2.2.0, h.1, h.2.2.2.0, h.2.2.2.1, h.2.0, h.2.1, h.2.2.1))
-      (λ h. (h.0, h.2, (h.5, h.6, (h.1, h.7, (h.3, h.4)))))
+      (λ h. record {
+        id = h.0;
+        follower = h.2.2.0;
+        here = h.1;
+        one_component = h.2.2.2.0;
+        by_sequence = h.2.2.2.1;
+        earlier = h.2.0;
+        is_earlier = h.2.1;
+        there = h.2.2.1;
+      })
+      (λ h. (
+        h.id,
+        h.here,
+        (h.earlier, h.is_earlier, (h.follower, h.there, (h.one_component, h.by_sequence))),
+      ))
 
   -- ---- the first fault
 
@@ -158,8 +198,19 @@ module _ (m : List Instance) (ids : List Id) where
       → ReadyOnce m ids n
   once_below n none i x l at =
       elim (ready_cases x) [
-        | inl ready ↦ (ready, λ j lower there. none i l (inr (x, at, ready, j, lower, there)))
-        | inr waits ↦ absurd (none i l (inl (x, at, waits)))
+        | inl ready ↦ (
+          ready,
+          λ j lower there. none i l
+              (inr (record {
+                id = x;
+                here = at;
+                ready = ready;
+                earlier = j;
+                is_earlier = lower;
+                there = there;
+              })),
+        )
+        | inr waits ↦ absurd (none i l (inl (record { id = x; here = at; waits = waits })))
       ]
 
   missing_or_whole : ReadyOnce m ids (length ids) → HasFault ⊎ HasAllReady m ids

@@ -23,13 +23,14 @@ module _ (m : List Instance) (ids : List Id) where
   -- if a list has only ready instances, each once, up to a place, then no lower place has a
   -- stranger or a repeat
   not_below : (n place : ℕ) → ReadyOnce m ids n → IsStrangerOrRepeatAt place → ¬ (place < n)
-  not_below n place once (inl (x, at, waits)) l = waits (once place x l at).0
-  not_below n place once (inr (x, at, ready, i, before, earlier)) l =
-      (once place x l at).1 i before earlier
+  not_below n place once (inl stranger) l =
+      stranger.waits (once place stranger.id l stranger.here).0
+  not_below n place once (inr again) l =
+      (once place again.id l again.here).1 again.earlier again.is_earlier again.there
 
   within : (place : ℕ) → IsStrangerOrRepeatAt place → place < length ids
-  within place (inl (x, at, waits)) = slice_get_within ids place x at
-  within place (inr (x, at, ready, i, before, earlier)) = slice_get_within ids place x at
+  within place (inl stranger) = slice_get_within ids place stranger.id stranger.here
+  within place (inr again) = slice_get_within ids place again.id again.here
 
   not_whole : (place : ℕ) → IsStrangerOrRepeatAt place → ¬ ReadyOnce m ids (length ids)
   not_whole place wrong once = not_below (length ids) place once wrong (within place wrong)
@@ -45,9 +46,9 @@ module _ (m : List Instance) (ids : List Id) where
   ]
 
   not_both : (i : ℕ) → IsStrangerAt m ids i → ¬ IsRepeatAt m ids i
-  not_both i (x, at, waits) (y, to, ready, j, before, earlier) =
-      let same : Some y ≡ Some x = sym to ∙ at in
-      waits (subst (IsReady m) (cc same) ready)
+  not_both i stranger again =
+      let same : Some again.id ≡ Some stranger.id = sym again.here ∙ stranger.here in
+      stranger.waits (subst (IsReady m) (cc same) again.ready)
 
   -- two places where the order is wrong, each the least one, are equal
   one_order_place : (i j : ℕ) → IsEarlyAt m ids i ⊎ IsOvertakenAt m ids i → InOrder m ids i

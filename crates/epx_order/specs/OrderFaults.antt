@@ -12,24 +12,42 @@ use Rattle.epx_order.specs.declared.order_fault.OrderFault.TheVariants.{Memory, 
 use Rattle.epx_order.specs.declared.order_fault.OrderFault.TheVariants.{Missing, Early, Sequence}
 
 -- the instance at a place is not ready
-abbrev pub IsStrangerAt : List Instance → List Id → ℕ → Type 0
-IsStrangerAt m ids place = (x : Id) × (slice_get ids place ≡ Some x) × ¬ IsReady m x
+pub record IsStrangerAt (m : List Instance) (ids : List Id) (place : ℕ) : Type 0 where
+  pub id : Id
+  pub here : slice_get ids place ≡ Some id
+  pub waits : ¬ IsReady m id
 
 -- the instance at a place is ready, and is at an earlier place too
-abbrev pub IsRepeatAt : List Instance → List Id → ℕ → Type 0
-IsRepeatAt m ids place = (x : Id) × (slice_get ids place ≡ Some x) × IsReady m x × (i : ℕ)
-    × (i < place) × (slice_get ids i ≡ Some x)
+pub record IsRepeatAt (m : List Instance) (ids : List Id) (place : ℕ) : Type 0 where
+  pub id : Id
+  pub here : slice_get ids place ≡ Some id
+  pub ready : IsReady m id
+  pub earlier : ℕ
+  pub is_earlier : earlier < place
+  pub there : slice_get ids earlier ≡ Some id
 
 -- the instance at a place reaches another one, outside its component, that is at a later place
-abbrev pub IsEarlyAt : List Instance → List Id → ℕ → Type 0
-IsEarlyAt m ids place = (x y : Id) × (slice_get ids place ≡ Some x) × Reaches m x y
-    × ¬ Reaches m y x × (j : ℕ) × (place < j) × (slice_get ids j ≡ Some y)
+pub record IsEarlyAt (m : List Instance) (ids : List Id) (place : ℕ) : Type 0 where
+  pub id : Id
+  pub reached : Id
+  pub here : slice_get ids place ≡ Some id
+  pub reaches : Reaches m id reached
+  pub outside : ¬ Reaches m reached id
+  pub later : ℕ
+  pub is_later : place < later
+  pub there : slice_get ids later ≡ Some reached
 
 -- an earlier place has a member of the same component that belongs after the instance at this
 -- place
-abbrev pub IsOvertakenAt : List Instance → List Id → ℕ → Type 0
-IsOvertakenAt m ids place = (x y : Id) × (slice_get ids place ≡ Some x) × InOneComponent m x y
-    × SequenceBefore m x y × (j : ℕ) × (j < place) × (slice_get ids j ≡ Some y)
+pub record IsOvertakenAt (m : List Instance) (ids : List Id) (place : ℕ) : Type 0 where
+  pub id : Id
+  pub follower : Id
+  pub here : slice_get ids place ≡ Some id
+  pub one_component : InOneComponent m id follower
+  pub by_sequence : SequenceBefore m id follower
+  pub earlier : ℕ
+  pub is_earlier : earlier < place
+  pub there : slice_get ids earlier ≡ Some follower
 
 -- below place n, each instance is ready and is at no earlier place
 abbrev pub ReadyOnce : List Instance → List Id → ℕ → Type 0

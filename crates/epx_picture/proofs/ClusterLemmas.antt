@@ -59,15 +59,16 @@ module _ (m : List Instance) (g : DependencyGraph) (is : IsGraphOf m g) (k : ℕ
     pub cluster_of_leader : IsTrue (get_or marks k false) → IsCluster m x (Some x)
     cluster_of_leader h =
         let led = (marked.exact k).0 h in
-        let y = node_id g is.graph led.0 led.2 in
-        let t = all.each led.0 led.1 led.3 in
-        let member = subst (λ l. InOneNodeComponent (edges_of g) led.0 l) led.4 t.leader.member in (
+        let y = node_id g is.graph led.node led.below in
+        let t = all.each led.node led.rank led.there in
+        let member = subst (λ l. InOneNodeComponent (edges_of g) led.node l) led.leads
+        t.leader.member in (
           leader_from_node m g is k k x x at at
               (subst (IsNodeLeader (edges_of g) k) own rank.leader),
           (
             y.0,
-            in_component led.0 y.0 y.1 (member.1, member.0),
-            λ same. led.5 (node_is_one g is.graph led.0 k x (y.1 ∙ ap Some same) at),
+            in_component led.node y.0 y.1 (member.1, member.0),
+            λ same. led.other (node_is_one g is.graph led.node k x (y.1 ∙ ap Some same) at),
           ),
         )
 
@@ -85,12 +86,12 @@ module _ (m : List Instance) (g : DependencyGraph) (is : IsGraphOf m g) (k : ℕ
           | inl same ↦ (let found : Some y ≡ Some x = sym j.1 ∙ ap (slice_get g.ids) same ∙ at in
               cc found)
           | inr other ↦ absurd
-              (none ((marked.exact k).1 (
-                j.0,
-                get_or node_ranks j.0 s,
-                within,
-                there,
-                sym leads ∙ own,
-                other,
-              )))
+              (none ((marked.exact k).1 (record {
+                node = j.0;
+                rank = get_or node_ranks j.0 s;
+                below = within;
+                there = there;
+                leads = sym leads ∙ own;
+                other = other;
+              })))
         ]

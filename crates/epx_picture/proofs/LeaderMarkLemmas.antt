@@ -20,7 +20,7 @@ leader_marks_none node_ranks n long = record {
   nodes = length-replicate n false ∙ sym long;
   exact = λ l. (
     λ h. absurd (false≢true (sym (no_leader_mark n l) ∙ h)),
-    λ w. absurd (let l = w.2 in omega arith),
+    λ w. absurd (let l = w.below in omega arith),
   );
 }
 
@@ -29,18 +29,33 @@ module _ (node_ranks : List NodeRank) (n : ℕ) (marks : List Bool)
     (at : slice_get node_ranks n ≡ Some s) where
   -- a node that is a leader among the first is one among more
   more : (l : ℕ) → LeadsAmong node_ranks n l → LeadsAmong node_ranks (n + 1) l
-  more l (k, t, below, there, leads, other) = (k, t, omega arith, there, leads, other)
+  more l w = record {
+    node = w.node;
+    rank = w.rank;
+    below = omega arith;
+    there = w.there;
+    leads = w.leads;
+    other = w.other;
+  }
 
   -- a node that is a leader only among one more is the leader of the last one
   fewer : (l : ℕ) → LeadsAmong node_ranks (n + 1) l
       → LeadsAmong node_ranks n l ⊎ ((s.leader ≡ l) × ¬ (n ≡ l))
-  fewer l (k, t, below, there, leads, other) = elim (cases_lt k n) [
-    | inl past ↦ inl (k, t, past, there, leads, other)
+  fewer l w = elim (cases_lt w.node n) [
+    | inl past ↦ inl (record {
+      node = w.node;
+      rank = w.rank;
+      below = past;
+      there = w.there;
+      leads = w.leads;
+      other = w.other;
+    })
     | inr now ↦
-        let same : k ≡ n = omega arith in
-        let one : Some s ≡ Some t = sym at ∙ ap (slice_get node_ranks) (sym same) ∙ there in
-        let is : s ≡ t = cc one in
-        inr (ap (λ (r : NodeRank). r.leader) is ∙ leads, λ e. other (same ∙ e))
+        let same : w.node ≡ n = omega arith in
+        let one : Some s ≡ Some w.rank =
+        sym at ∙ ap (slice_get node_ranks) (sym same) ∙ w.there in
+        let is : s ≡ w.rank = cc one in
+        inr (ap (λ (r : NodeRank). r.leader) is ∙ w.leads, λ e. w.other (same ∙ e))
   ]
 
   -- the next node is its own leader
@@ -63,7 +78,14 @@ module _ (node_ranks : List NodeRank) (n : ℕ) (marks : List Bool)
     nodes = length-set marks s.leader true ∙ old.nodes;
     exact = λ l. (
       λ h. elim (cases_eq l s.leader) [
-        | inl same ↦ (n, s, omega arith, at, sym same, λ e. other (sym same ∙ sym e))
+        | inl same ↦ record {
+          node = n;
+          rank = s;
+          below = omega arith;
+          there = at;
+          leads = sym same;
+          other = λ e. other (sym same ∙ sym e);
+        }
         | inr apart ↦ more l
             ((old.exact l).0 (sym (get_or-set_other marks s.leader l true false apart) ∙ h))
       ],

@@ -16,9 +16,14 @@ abbrev pub Before : {X : Type 0} → List X → X → X → Type 0
 Before xs x y = (i j : ℕ) × (i < j) × (slice_get xs i ≡ Some x) × (slice_get xs j ≡ Some y)
 
 -- x has the lower sequence number, or the same one and the lower Id
-abbrev pub SequenceBefore : List Instance → Id → Id → Type 0
-SequenceBefore m x y = (d e : Instance) × Contains m d × (d.id ≡ x) × Contains m e × (e.id ≡ y)
-    × (is_lt (ordering_then (nat_cmp d.seq e.seq) (id_cmp x y)) ≡ true)
+pub record SequenceBefore (m : List Instance) (x y : Id) : Type 0 where
+  pub first : Instance
+  pub second : Instance
+  pub first_in : Contains m first
+  pub first_is : first.id ≡ x
+  pub second_in : Contains m second
+  pub second_is : second.id ≡ y
+  pub lower : is_lt (ordering_then (nat_cmp first.seq second.seq) (id_cmp x y)) ≡ true
 
 -- Each instance of the set occurs once, and nothing else does. An instance comes after all that it
 -- reaches outside its component. Members of one component come in the order of their sequence

@@ -101,8 +101,8 @@ each instance that was executed before. That report can be resumed in turn.",
     after: "Example:
   epx resume earlier.report examples/replicas/*.jsonl",
     long_after: "A base is what epx run or epx resume printed. The instances that have a reply in
-it, or are told there as done, are not executed again, and what depends on them
-does not wait for them. Those that wait in it must stand in the logs again.
+it, or are listed there as done, are not executed again, and what depends on
+them does not wait for them. The logs must name those that wait in it again.
 
 Example:
   epx run examples/replicas/0.jsonl > earlier.report
@@ -110,8 +110,8 @@ Example:
 };
 
 const AUDIT: Help = Help {
-    about: "Tells whether the logs are covered",
-    long_about: "Tells whether the logs are covered, and executes nothing: whether of any two
+    about: "Says whether the logs are covered",
+    long_about: "Says whether the logs are covered, and executes nothing: whether of any two
 ready instances that conflict one reaches the other by dependencies. Where they
 are, all orders that the protocol allows give each instance the same reply, and
 the same final store.",
@@ -128,12 +128,12 @@ Example:
 };
 
 const CHECK: Help = Help {
-    about: "Tells whether a list of instances is an order that the protocol allows",
-    long_about: "Tells whether a list of instances is an order that the protocol allows for what
+    about: "Says whether a list of instances is an order that the protocol allows",
+    long_about: "Says whether a list of instances is an order that the protocol allows for what
 the logs commit, and executes nothing. Such an order is lawful: each ready
-instance stands in it once, after all that it reaches by dependencies, but for
-those of its component, which reach each other: these stand by sequence number,
-then replica, then number.",
+instance is in it once, after all that it reaches by dependencies, but for those
+of its component, which reach each other: these come by sequence number, then
+replica, then number.",
     after: "Example:
   epx check executed.list examples/replicas/*.jsonl",
     long_after: "A list has one instance a line, as replica and number; blank lines are passed
@@ -145,10 +145,10 @@ What comes out is one line, in which places in the list count from 0:
 
   [\"lawful\"]       the list is lawful
   [\"stranger\",p]   the instance at place p is not ready
-  [\"repeat\",p]     the one at place p stands earlier too
+  [\"repeat\",p]     the one at place p is in the list earlier too
   [\"missing\",r,i]  the instance i of replica r is ready and not in the list
-  [\"early\",p]      one that it reaches, outside its component, stands later
-  [\"sequence\",p]   one of its component, which is to follow it, stands earlier
+  [\"early\",p]      one that it reaches, outside its component, comes later
+  [\"sequence\",p]   one of its component, which is to follow it, comes earlier
 
 Example:
   epx check executed.list examples/replicas/*.jsonl",

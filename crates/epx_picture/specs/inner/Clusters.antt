@@ -11,9 +11,13 @@ pub record AreNodeRanks (g : DependencyGraph) (node_ranks : List NodeRank) : Typ
   pub each : (k : ℕ) (s : NodeRank) → slice_get node_ranks k ≡ Some s → IsNodeRank g k s
 
 -- one of the first n nodes has this leader, and is not the leader itself
-abbrev pub LeadsAmong : List NodeRank → ℕ → ℕ → Type 0
-LeadsAmong node_ranks n leader = (k : ℕ) × (s : NodeRank) × (k < n)
-    × (slice_get node_ranks k ≡ Some s) × (s.leader ≡ leader) × (k ≢ leader)
+pub record LeadsAmong (node_ranks : List NodeRank) (n leader : ℕ) : Type 0 where
+  pub node : ℕ
+  pub rank : NodeRank
+  pub below : node < n
+  pub there : slice_get node_ranks node ≡ Some rank
+  pub leads : rank.leader ≡ leader
+  pub other : node ≢ leader
 
 -- for each node, whether it is the leader of another of the first n nodes
 pub record AreLeaderMarks (node_ranks : List NodeRank) (n : ℕ) (marks : List Bool) : Type 0 where

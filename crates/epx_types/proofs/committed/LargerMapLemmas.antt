@@ -67,12 +67,16 @@ module _ (m more : List Instance) (rising : IsRising (ids_of more))
 
   SequenceBefore-in_less : (x y : Id) → IsCommitted m x → IsCommitted m y → SequenceBefore more x y
       → SequenceBefore m x y
-  SequenceBefore-in_less x y x_in y_in (d, e, in_d, d_is, in_e, e_is, lower) =
+  SequenceBefore-in_less x y x_in y_in by =
       let c = instance_in x x_in in
       let f = instance_in y y_in in
-      let same_d = IsRising-same more rising c.0 d (within c.0 c.1) in_d (c.2 ∙ sym d_is) in
-      let same_e = IsRising-same more rising f.0 e (within f.0 f.1) in_e (f.2 ∙ sym e_is) in
-      (d, e, subst (Contains m) same_d c.1, d_is, subst (Contains m) same_e f.1, e_is, lower)
+      let same_first = IsRising-same more rising c.0 by.first (within c.0 c.1) by.first_in
+      (c.2 ∙ sym by.first_is) in
+      let same_second = IsRising-same more rising f.0 by.second (within f.0 f.1) by.second_in
+      (f.2 ∙ sym by.second_is) in record by {
+        first_in = subst (Contains m) same_first c.1;
+        second_in = subst (Contains m) same_second f.1;
+      }
 
   same_ops : (x : Id) → IsCommitted m x
       → ops_or_empty (instance_of m x) ≡ ops_or_empty (instance_of more x)

@@ -152,7 +152,7 @@ module _ (m : List Instance) where
   pub IsExecutionOrder-by_sequence : (order : List Ranked) → IsExecutionOrder m order → (x y : Id)
       → Contains (map (λ r. r.id) order) x → Contains (map (λ r. r.id) order) y
       → InOneComponent m x y → SequenceBefore m x y → Before (map (λ r. r.id) order) x y
-  IsExecutionOrder-by_sequence order h x y in_x in_y one (d, e, in_d, d_is, in_e, e_is, lower) =
+  IsExecutionOrder-by_sequence order h x y in_x in_y one by =
       let a = Contains-from_map (λ (r : Ranked). r.id) order x in_x in
       let b = Contains-from_map (λ (r : Ranked). r.id) order y in_y in
       let ranked_a = h.ranked a.0 a.1 in
@@ -162,11 +162,13 @@ module _ (m : List Instance) where
       (IsLeader-along m a.0.id b.0.id a.0.leader one_ab ranked_a.leader) ranked_b.leader in
       let depth = IsDepth-unique m b.0.id a.0.depth b.0.depth
       (IsDepth-along m a.0.id b.0.id a.0.depth one_ab ranked_a.depth) ranked_b.depth in
-      let seq_a : d.seq ≡ a.0.seq = ranked_a.seq d in_d (d_is ∙ sym a.2) in
-      let seq_b : e.seq ≡ b.0.seq = ranked_b.seq e in_e (e_is ∙ sym b.2) in
+      let seq_a : by.first.seq ≡ a.0.seq =
+      ranked_a.seq by.first by.first_in (by.first_is ∙ sym a.2) in
+      let seq_b : by.second.seq ≡ b.0.seq =
+      ranked_b.seq by.second by.second_in (by.second_is ∙ sym b.2) in
       let lower_ab : is_lt (ordering_then (nat_cmp a.0.seq b.0.seq) (id_cmp a.0.id b.0.id))
       ≡ true = ap₂ (λ r s. is_lt (ordering_then r s)) (sym (ap₂ nat_cmp seq_a seq_b))
-      (ap₂ id_cmp a.2 b.2) ∙ lower in
+      (ap₂ id_cmp a.2 b.2) ∙ by.lower in
       IsExecutionOrder-before order h x y a.0 b.0 a.1 b.1 a.2 b.2
       (lower_by_sequence a.0 b.0 depth leader lower_ab)
 

@@ -88,10 +88,25 @@ module _ (m : List Instance) (ids : List Id) (lawful : IsLawful m ids) where
       let d = Contains-from_map (λ (e : Instance). e.id) m x (lawful.only x in_x).committed in
       let e = Contains-from_map (λ (e : Instance). e.id) m y (lawful.only y in_y).committed in
       elim (below_cases sequence_cmp_total sequence_cmp-IsAntisymmetric (d.0.seq, x) (e.0.seq, y)) [
-        | inl l ↦ inl (d.0, e.0, d.1, d.2, e.1, e.2, l)
+        | inl l ↦ inl (before d e l)
         | inr (inl same) ↦ absurd (differ (ap (λ (a : ℕ × Id). a.1) same))
-        | inr (inr l) ↦ inr (e.0, d.0, e.1, e.2, d.1, d.2, l)
-      ]
+        | inr (inr l) ↦ inr (before e d l)
+      ] where
+        abbrev IsAt : Id → Type 0
+        IsAt z = (f : Instance) × Contains m f × (f.id ≡ z)
+
+        before : {v w : Id} (f : IsAt v) (g : IsAt w)
+            → is_lt (ordering_then (nat_cmp f.0.seq g.0.seq) (id_cmp v w)) ≡ true
+            → SequenceBefore m v w
+        before f g lower = record {
+          first = f.0;
+          second = g.0;
+          first_in = f.1;
+          first_is = f.2;
+          second_in = g.1;
+          second_is = g.2;
+          lower = lower;
+        }
 
 -- two instances of which one reaches the other are in the same order in each lawful order
 module _ (m : List Instance) (ids other : List Id) (lawful : IsLawful m ids)

@@ -152,19 +152,21 @@ module _ (m other : List Instance) (done : List Id) (rising : IsRising (ids_of m
 
   SequenceBefore-left : (x y : Id) → IsCommitted left x → IsCommitted left y → SequenceBefore m x y
       → SequenceBefore left x y
-  SequenceBefore-left x y x_left y_left (d, e, in_d, d_is, in_e, e_is, lower) =
+  SequenceBefore-left x y x_left y_left by =
       let c = instance_left x x_left in
       let f = instance_left y y_left in
-      let same_d = IsRising-same m rising c.0 d c.1 in_d (c.2 ∙ sym d_is) in
-      let same_e = IsRising-same m rising f.0 e f.1 in_e (f.2 ∙ sym e_is) in (
-        without_deps done d,
-        without_deps done e,
-        subst (λ i. Contains left (without_deps done i)) same_d c.3,
-        d_is,
-        subst (λ i. Contains left (without_deps done i)) same_e f.3,
-        e_is,
-        lower,
-      )
+      let same_first =
+      IsRising-same m rising c.0 by.first c.1 by.first_in (c.2 ∙ sym by.first_is) in
+      let same_second =
+      IsRising-same m rising f.0 by.second f.1 by.second_in (f.2 ∙ sym by.second_is) in record {
+        first = without_deps done by.first;
+        second = without_deps done by.second;
+        first_in = subst (λ i. Contains left (without_deps done i)) same_first c.3;
+        first_is = by.first_is;
+        second_in = subst (λ i. Contains left (without_deps done i)) same_second f.3;
+        second_is = by.second_is;
+        lower = by.lower;
+      }
 
   -- ---- orders and commands
 

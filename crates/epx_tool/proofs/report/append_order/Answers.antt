@@ -9,4 +9,5 @@ loop-position-preserved c =
     let line = line_at order position c.ids-id-items.result.now _ c.depth_of.result
     c.component_of-leader.result c.ids-id-items.ensures at c.component_of-leader.ensures in
     printed_one_more order position at.0 c.loop-position.text.items
-    c.append_ranked.new.text.items _ _ at.1 line c.loop-position.invariant c.in_ok-append_ranked.ensures
+    c.append_ranked.new.text.items _ _ at.1 line c.loop-position.invariant
+    c.in_ok-append_ranked.ensures

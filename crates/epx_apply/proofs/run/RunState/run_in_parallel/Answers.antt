@@ -15,7 +15,8 @@ merge_effects-requires-after_bounds g c κs within =
 pub returns-clause-store : goal.returns-clause-store
 returns-clause-store g c =
     merged (commands_at (op_lists_of c.args.commands.now) c.args.positions.now)
-    c.args.self.now.store c.deref.result.now (c.deref.ensures.value ∙ c.in_ok-effects.ensures) c.requires.apart
+    c.args.self.now.store c.deref.result.now
+    (c.deref.ensures.value ∙ c.in_ok-effects.ensures) c.requires.apart
     c.in_ok-self.field-0 (c.in_ok-self.ensures
     ∙ ap (apply_writes (writes_in c.deref.result.now)) c.replace-before.ensures.value)
 
