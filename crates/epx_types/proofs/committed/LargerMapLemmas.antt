@@ -73,9 +73,14 @@ module _ (m more : List Instance) (rising : IsRising (ids_of more))
       let same_first = IsRising-same more rising c.0 by.first (within c.0 c.1) by.first_in
       (c.2 ∙ sym by.first_is) in
       let same_second = IsRising-same more rising f.0 by.second (within f.0 f.1) by.second_in
-      (f.2 ∙ sym by.second_is) in record by {
+      (f.2 ∙ sym by.second_is) in record {
+        first = by.first;
+        second = by.second;
         first_in = subst (Contains m) same_first c.1;
+        first_is = by.first_is;
         second_in = subst (Contains m) same_second f.1;
+        second_is = by.second_is;
+        lower = by.lower;
       }
 
   same_ops : (x : Id) → IsCommitted m x

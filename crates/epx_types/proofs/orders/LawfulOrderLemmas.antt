@@ -1,8 +1,8 @@
 -- All lawful orders have related instances in the same order.
-use Rattle.std.proofs.Common.{◌≡◌, ◌≢◌, ◌⊎◌, ℕ, List, Contains, AllPairs, Some, slice_get, refl}
-use Rattle.std.proofs.Common.{sym, ap, ◌∙◌, inl, inr, arith}
+use Rattle.std.proofs.Common.{◌≡◌, ◌≢◌, ◌⊎◌, ℕ, List, true, Contains, AllPairs, Some, slice_get}
+use Rattle.std.proofs.Common.{refl, sym, ap, ◌∙◌, inl, inr, arith}
 use Rattle.std.specs.Cmp.{IsTotalOrder, nat_cmp_total, on_total, then_total}
-use Rattle.std.specs.Ordering.{nat_cmp, ordering_then}
+use Rattle.std.specs.Ordering.{nat_cmp, ordering_then, is_lt}
 use Rattle.std.specs.declared.cmp.Ordering.{Ordering}
 use Rattle.std.specs.FinMap.{IsAntisymmetric, nat_cmp-IsAntisymmetric}
 use Rattle.std.proofs.lemmas.Bool.{cases_lt}
@@ -92,10 +92,8 @@ module _ (m : List Instance) (ids : List Id) (lawful : IsLawful m ids) where
         | inr (inl same) ↦ absurd (differ (ap (λ (a : ℕ × Id). a.1) same))
         | inr (inr l) ↦ inr (before e d l)
       ] where
-        abbrev IsAt : Id → Type 0
-        IsAt z = (f : Instance) × Contains m f × (f.id ≡ z)
-
-        before : {v w : Id} (f : IsAt v) (g : IsAt w)
+        before : {v w : Id} (f : (i : Instance) × Contains m i × (i.id ≡ v))
+            (g : (i : Instance) × Contains m i × (i.id ≡ w))
             → is_lt (ordering_then (nat_cmp f.0.seq g.0.seq) (id_cmp v w)) ≡ true
             → SequenceBefore m v w
         before f g lower = record {
