@@ -19,8 +19,7 @@ use std::marker::Model;
 /// Threads share the claims by reference; each draws through its own seat. Between any two atomic
 /// steps of any threads, the shared counter and the seats that are not spent are in a consistent
 /// state (`IsClaimState`). Each call's contract says how its own step changes that state, and that
-/// all
-/// other seats stay the same during it. It does not say which other seats exist.
+/// all other seats stay the same during it. It does not say which other seats exist.
 #[derive(Drop)]
 pub struct Claims {
     table: Table<(), View, Terms, ClaimsRule, Global>,
