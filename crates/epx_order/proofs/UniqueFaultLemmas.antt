@@ -112,17 +112,22 @@ module _ (m : List Instance) (ids : List Id) where
 
   pub lawful_has_no_fault : (f : OrderFault) → f ≢ Memory → IsLawful m ids → ¬ IsOrderFault m ids f
   lawful_has_no_fault Memory nf lawful h = nf refl
-  lawful_has_no_fault (Stranger i) nf lawful ((x, at, waits), once) =
-      waits (lawful.only x (Contains-slice_get ids i x at))
-  lawful_has_no_fault (Repeat i) nf lawful ((x, at, ready, j, before, earlier), once) =
-      AllPairs-slice_get (λ x y. x ≢ y) ids lawful.once j i x x before earlier at refl
+  lawful_has_no_fault (Stranger i) nf lawful (stranger, once) =
+      stranger.waits (lawful.only stranger.id (Contains-slice_get ids i stranger.id stranger.here))
+  lawful_has_no_fault (Repeat i) nf lawful (again, once) =
+      AllPairs-slice_get (λ x y. x ≢ y) ids lawful.once again.earlier i again.id again.id
+      again.is_earlier again.there again.here refl
   lawful_has_no_fault (Missing x) nf lawful h = h.2 (lawful.whole x h.1)
-  lawful_has_no_fault (Early i) nf lawful
-      (whole, (x, y, at, there, none_back, j, later, to), order) =
-      Before-not_both ids lawful.once x y (i, j, later, at, to)
-      (lawful.after_reached x y (Contains-slice_get ids i x at) there none_back)
-  lawful_has_no_fault (Sequence i) nf lawful
-      (whole, (x, y, at, one, lower, j, earlier, to), not_early, order) =
-      Before-not_both ids lawful.once y x (j, i, earlier, to, at)
-      (lawful.by_sequence x y (Contains-slice_get ids i x at) (Contains-slice_get ids j y to) one
-      lower)
+  lawful_has_no_fault (Early i) nf lawful (whole, early, order) =
+      Before-not_both ids lawful.once early.id early.reached
+      (i, early.later, early.is_later, early.here, early.there)
+      (lawful.after_reached early.id early.reached
+      (Contains-slice_get ids i early.id early.here) early.reaches early.outside)
+  lawful_has_no_fault (Sequence i) nf lawful (whole, overtaken, not_early, order) =
+      let x = overtaken.id in
+      let y = overtaken.follower in
+      Before-not_both ids lawful.once y x
+      (overtaken.earlier, i, overtaken.is_earlier, overtaken.there, overtaken.here)
+      (lawful.by_sequence x y (Contains-slice_get ids i x overtaken.here)
+      (Contains-slice_get ids overtaken.earlier y overtaken.there) overtaken.one_component
+      overtaken.by_sequence)

@@ -9,11 +9,11 @@ use Rattle.epx_order.proofs.node_list.list_nodes.Goals as goal
 
 pub returns-in_default-clause-sound : goal.returns-in_default-clause-sound
 returns-in_default-clause-sound c m is = (
-  (
-    _,
-    slice_get-get_or c.args.ids.now c.loop-place.place _ c.loop-place-test.true,
-    c.in_default.ensures.ready m is,
-  ),
+  record {
+    id = _;
+    here = slice_get-get_or c.args.ids.now c.loop-place.place _ c.loop-place-test.true;
+    waits = c.in_default.ensures.ready m is;
+  },
   c.loop-place.invariant.sound m is,
 )
 
@@ -37,7 +37,14 @@ returns-then-index-clause-sound c m is =
     let earlier = earlier_from_mark c.args.graph.now is.graph ids n
     c.loop-place.node_list.nodes.items marks c.loop-place.invariant.listed _ at c.in-Some.node
     node marked in (
-      (_, at, c.in-Some.ensures.ready m is, earlier.0, earlier.1, earlier.2),
+      record {
+        id = _;
+        here = at;
+        ready = c.in-Some.ensures.ready m is;
+        earlier = earlier.0;
+        is_earlier = earlier.1;
+        there = earlier.2;
+      },
       c.loop-place.invariant.sound m is,
     )
 
