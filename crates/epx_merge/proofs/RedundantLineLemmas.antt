@@ -132,8 +132,8 @@ SameOutcome-same some all same = record {
   ledger = λ noted h. subst (λ l. IsLedgerOf (placed_among l) noted) same h;
 }
 
-pub SameOutcome-trans : (some more all : List MeaningAt) → SameOutcome some more → SameOutcome more all
-    → SameOutcome some all
+pub SameOutcome-trans : (some more all : List MeaningAt) → SameOutcome some more
+    → SameOutcome more all → SameOutcome some all
 SameOutcome-trans some more all h k = record {
   fault = λ f is. k.fault f (h.fault f is);
   clean = λ none. k.clean (h.clean none);

@@ -3,7 +3,8 @@ ghost use Rattle.std.specs.Prelude.{◌≡◌, ◌≤◌, ◌^◌, List, [], IfO
 ghost use Rattle.std.specs.Thread.{IsSync};
 ghost use Rattle.epx_merge.specs.inner.ReadSteps.{IsReadStep};
 ghost use Rattle.epx_merge.specs.inner.ReadPieces.{AreRead, AreReadBeside, IsBatchRead, HasEntries};
-ghost use Rattle.epx_merge.specs.LogLines.{MeaningAt, placed_of, bad_lines_among, bad_lines_of, bytes_of};
+ghost use Rattle.epx_merge.specs.LogLines.{MeaningAt, placed_of, bad_lines_among, bad_lines_of};
+ghost use Rattle.epx_merge.specs.LogLines.{bytes_of};
 ghost use Rattle.epx_merge.specs.inner.Ledgers.{IsLedgerOf};
 ghost use Rattle.epx_merge.specs.Steps.{IsReadFault};
 ghost use Rattle.epx_merge.specs.Acceptance.{IsAccepted};
