@@ -4,6 +4,7 @@ mod ReadPieceLemmas
 mod PieceLemmas
 mod LedgerLemmas
 mod RedundantLineLemmas
+mod DropsCachedLemmas
 mod BatchLemmas
 mod LineCacheLemmas
 mod LedgerMapLemmas

@@ -5,41 +5,48 @@ use Rattle.std.proofs.Common.{inr, length-append, suc-mul, arith}
 use Rattle.std.proofs.Math.ListN.{drop_of_length-le}
 use Rattle.std.proofs.lemmas.Bool.{cases_lt, cases_Bool}
 use Rattle.std.proofs.lemmas.List.{take-append-drop, drop-drop}
+use Rattle.epx_types.specs.declared.fault.Why.{Why}
 use Rattle.epx_types.specs.Pieces.{piece_count}
 use Rattle.epx_types.specs.PlacedLines.{Placed}
 use Rattle.epx_types.proofs.lists.PieceLemmas.{piece_count-above}
+use Rattle.epx_lines.specs.declared.Line.{Line}
 use Rattle.epx_lines.specs.Lines.{lines_of, prepend_to_first}
 use Rattle.epx_claims.specs.Answered.{AreOrderedAnswers}
 use Rattle.epx_merge.specs.declared.pieces.BadLine.{BadLine}
 use Rattle.epx_merge.specs.Limits.{max_log_bytes}
 use Rattle.epx_merge.specs.LogLines.{MeaningAt, meanings_in, meanings_from}
-use Rattle.epx_merge.specs.inner.ReadPieces.{IsRead, AreRead, lines_of_piece}
+use Rattle.epx_merge.specs.inner.ReadPieces.{IsReadBeside, AreReadBeside, lines_of_piece}
+use Rattle.epx_merge.specs.inner.RedundantLines.{DropsCached}
 use Rattle.epx_merge.specs.Refusals.{NoneTooLong}
+use Rattle.epx_merge.proofs.DropsCachedLemmas.{DropsCached-append}
 
-module _ {E : Type 0} (holds : List Placed → E → Type 0) (cut : ℕ) (some : 1 ≤ cut)
-    (lines : List MeaningAt) where
+module _ {E : Type 0} (holds : List Placed → E → Type 0) (cache : List (Result Line Why)) (cut : ℕ)
+    (some : 1 ≤ cut) (lines : List MeaningAt) where
   -- the pieces from an index on
   read_from : (k : ℕ) (pieces : List (Result E BadLine))
       → k + length pieces ≡ piece_count cut (length lines)
       → ((i : ℕ) → i < length pieces → (x : Result E BadLine) × (slice_get pieces i ≡ Some x)
-      × IsRead holds (lines_of_piece cut (k + i) lines) x)
-      → AreRead holds (drop (k * cut) lines) pieces
-  read_from k [] all each = drop_of_length-le lines (
+      × IsReadBeside holds cache (lines_of_piece cut (k + i) lines) x)
+      → AreReadBeside holds cache (drop (k * cut) lines) pieces
+  read_from k [] all each =
+      let over : drop (k * cut) lines ≡ [] = drop_of_length-le lines (
       elim (cases_lt (k * cut) (length lines)) [
         | inl more ↦ let inside = piece_count-above cut (length lines) some k more in
             absurd (omega arith)
         | inr over ↦ over
       ]
-      )
+      ) in
+      ([], subst (λ l. DropsCached cache l []) (sym over) refl, refl)
   read_from k (piece ∷ pieces) all each =
       let left = drop (k * cut) lines in
+      let after = drop (suc k * cut) lines in
       let first = each 0 (omega arith) in
       let is : first.0 ≡ piece = (let e : Some first.0 ≡ Some piece = sym first.1 in cc) in
       let here =
-      subst (λ (z : ℕ × Result E BadLine). IsRead holds (lines_of_piece cut z.0 lines) z.1)
+      subst (λ (z : ℕ × Result E BadLine).
+      IsReadBeside holds cache (lines_of_piece cut z.0 lines) z.1)
       (λ j. (let n : k + 0 ≡ k = omega arith in n j, is j)) first.2 in
-      let more : drop cut left ≡ drop (suc k * cut) lines =
-      drop-drop cut (k * cut) lines ∙ ap (λ n. drop n lines)
+      let more : drop cut left ≡ after = drop-drop cut (k * cut) lines ∙ ap (λ n. drop n lines)
       (let next : k * cut + cut ≡ suc k * cut = omega (arith, suc-mul k cut) in next) in
       let rest = read_from (suc k) pieces (omega arith)
       (λ i inside.
@@ -47,32 +54,33 @@ module _ {E : Type 0} (holds : List Placed → E → Type 0) (cut : ℕ) (some :
         next.0,
         next.1,
         (let number : k + suc i ≡ suc k + i = omega arith in
-            subst (λ n. IsRead holds (lines_of_piece cut n lines) next.0) number next.2),
-      )) in (
-        take cut left,
-        drop (suc k * cut) lines,
-        sym (take-append-drop cut left)
-            ∙ ap (λ l. take cut left ++ l) more,
-        here,
-        rest,
+            subst (λ n. IsReadBeside holds cache (lines_of_piece cut n lines) next.0) number
+            next.2),
+      )) in
+      let whole : take cut left ++ after ≡ left =
+      sym (sym (take-append-drop cut left) ∙ ap (λ l. take cut left ++ l) more) in (
+        here.0 ++ rest.0,
+        subst (λ l. DropsCached cache l (here.0 ++ rest.0)) whole
+            (DropsCached-append cache (take cut left) after here.0 rest.0 here.1 rest.1),
+        (here.0, rest.0, refl {a = here.0 ++ rest.0}, here.2, rest.2),
       )
 
   -- the result of each piece, in order
   pub read_in_order : (pieces : List (Result E BadLine))
-      → AreOrderedAnswers (λ i x. IsRead holds (lines_of_piece cut i lines) x)
-      (piece_count cut (length lines)) pieces → AreRead holds lines pieces
+      → AreOrderedAnswers (λ i x. IsReadBeside holds cache (lines_of_piece cut i lines) x)
+      (piece_count cut (length lines)) pieces → AreReadBeside holds cache lines pieces
   read_in_order pieces h =
       let none : 0 * cut ≡ 0 = omega arith in
       let count : 0 + length pieces ≡ piece_count cut (length lines) =
       (let l = h.len in omega arith) in
-      subst (λ n. AreRead holds (drop n lines) pieces) none
+      subst (λ n. AreReadBeside holds cache (drop n lines) pieces) none
       (read_from 0 pieces count
       (λ i inside.
       let here = h.each i (let l = h.len in omega arith) in
       let number : i ≡ 0 + i = omega arith in (
         here.0,
         here.1,
-        subst (λ n. IsRead holds (lines_of_piece cut n lines) here.0) number
+        subst (λ n. IsReadBeside holds cache (lines_of_piece cut n lines) here.0) number
             here.2,
       )))
 

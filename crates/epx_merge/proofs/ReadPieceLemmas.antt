@@ -1,20 +1,29 @@
 -- Lines read one after another: the instances so far, and the first bad line.
-use Rattle.std.proofs.Common.{◌≡◌, ℕ, ◌+◌, ◌<◌, List, [], ◌∷◌, ◌++◌, length, get_or, drop, Result}
-use Rattle.std.proofs.Common.{Ok, Err, refl, sym, subst, ap, ◌∙◌, add-one, append_assoc}
-use Rattle.std.proofs.Common.{append-nil}
+use Rattle.std.proofs.Common.{◌≡◌, inl, inr, ℕ, ◌+◌, ◌<◌, List, [], ◌∷◌, ◌++◌, length, get_or}
+use Rattle.std.proofs.Common.{drop, Result, Ok, Err, refl, sym, subst, ap, ◌∙◌, add-one}
+use Rattle.std.proofs.Common.{append_assoc, append-nil}
 use Rattle.std.proofs.Math.Seq.{drop-cons, drop-length}
+use Rattle.epx_types.specs.declared.fault.Why.{Why}
 use Rattle.epx_types.specs.PlacedLines.{Placed}
+use Rattle.epx_lines.specs.declared.Line.{Line}
 use Rattle.epx_merge.specs.declared.pieces.BadLine.{BadLine}
 use Rattle.epx_merge.specs.LogLines.{MeaningAt, placed_at, placed_among, bad_lines_at}
 use Rattle.epx_merge.specs.LogLines.{bad_lines_among}
-use Rattle.epx_merge.specs.inner.ReadPieces.{IsCleanRead, IsFirstBad, AreRead}
+use Rattle.epx_merge.specs.inner.ReadPieces.{IsFirstBad, AreRead, SkipsOrReads, IsReadBeside}
+use Rattle.epx_merge.specs.inner.RedundantLines.{DropsCached}
 use Rattle.epx_merge.proofs.ReadFaultLemmas.{placed_among-append, bad_lines_among-append}
+use Rattle.epx_merge.proofs.DropsCachedLemmas.{DropsCached-none, DropsCached-append}
 
--- the entries and the instances of the rest are those of all lines, and all bad lines are in the
--- rest
-pub record IsReading (lines rest : List MeaningAt) (entries : List Placed) : Type 0 where
-  pub clean : bad_lines_among lines ≡ bad_lines_among rest
-  pub placed : placed_among lines ≡ entries ++ placed_among rest
+-- the lines before the rest, except for some that are redundant in the cache, have these entries
+-- and no bad line
+pub record IsReading (cache : List (Result Line Why)) (lines rest : List MeaningAt)
+    (entries : List Placed) : Type 0 where
+  pub done : List MeaningAt
+  pub kept : List MeaningAt
+  pub whole : lines ≡ done ++ rest
+  pub drops : DropsCached cache done kept
+  pub clean : bad_lines_among kept ≡ []
+  pub placed : placed_among kept ≡ entries
 
 -- the rest begins with the next line
 rest_from : (lines : List MeaningAt) (i : ℕ) (line : MeaningAt) → i < length lines
@@ -22,50 +31,80 @@ rest_from : (lines : List MeaningAt) (i : ℕ) (line : MeaningAt) → i < length
 rest_from lines i line within is = drop-cons lines i line within
     ∙ (λ j. sym is j ∷ drop (sym (add-one i) j) lines)
 
-pub reading_none : (lines : List MeaningAt) (entries : List Placed) → entries ≡ []
-    → IsReading lines (drop 0 lines) entries
-reading_none lines entries none =
-    record { clean = refl; placed = ap (λ es. es ++ placed_among lines) (sym none) }
+module _ (cache : List (Result Line Why)) (lines : List MeaningAt) where
+  pub reading_none : (entries : List Placed) → entries ≡ []
+      → IsReading cache lines (drop 0 lines) entries
+  reading_none entries none = record {
+    done = [];
+    kept = [];
+    whole = refl;
+    drops = refl;
+    clean = refl;
+    placed = sym none;
+  }
 
-module _ (lines : List MeaningAt) (i : ℕ) (line : MeaningAt) (entries : List Placed)
-    (within : i < length lines) (is : line ≡ get_or lines i line)
-    (h : IsReading lines (drop i lines) entries) where
-  -- one more line
-  pub reading_more : (entries' : List Placed) → bad_lines_at line.place line.meaning ≡ []
-      → entries' ≡ entries ++ placed_at line.place line.meaning
-      → IsReading lines (drop (i + 1) lines) entries'
-  reading_more entries' clean added =
-      let next = rest_from lines i line within is in
-      let rest = drop (i + 1) lines in
-      record {
-        clean = h.clean ∙ ap bad_lines_among next ∙ ap (λ s. s ++ bad_lines_among rest) clean;
-        placed =
-            h.placed ∙ ap (λ l. entries ++ placed_among l) next
-            ∙ sym (append_assoc entries (placed_at line.place line.meaning) (placed_among rest))
-            ∙ ap (λ es. es ++ placed_among rest) (sym added);
-      }
+  module _ (i : ℕ) (line : MeaningAt) (entries : List Placed) (within : i < length lines)
+      (is : line ≡ get_or lines i line) (h : IsReading cache lines (drop i lines) entries) where
+    whole_more : lines ≡ (h.done ++ line ∷ []) ++ drop (i + 1) lines
+    whole_more = h.whole ∙ ap (λ l. h.done ++ l) (rest_from lines i line within is)
+        ∙ sym (append_assoc h.done (line ∷ []) (drop (i + 1) lines))
 
-  -- the next line is bad
-  pub reading_bad : (bad : BadLine) → bad_lines_at line.place line.meaning
-      ≡ record { place = bad.place; why = bad.why } ∷ [] → IsFirstBad lines bad
-  reading_bad bad is_bad =
-      let next = rest_from lines i line within is in
-      let rest = drop (i + 1) lines in (
-        bad_lines_among rest,
-        h.clean ∙ ap bad_lines_among next
-            ∙ ap (λ s. s ++ bad_lines_among rest) is_bad,
+    -- one more line
+    pub reading_more : (entries' : List Placed) → SkipsOrReads cache line entries entries'
+        → IsReading cache lines (drop (i + 1) lines) entries'
+    reading_more entries' (inl skipped) = record {
+      done = h.done ++ line ∷ [];
+      kept = h.kept;
+      whole = whole_more;
+      drops = subst (DropsCached cache (h.done ++ line ∷ [])) (append-nil h.kept)
+          (DropsCached-append cache h.done (line ∷ []) h.kept [] h.drops (inr (skipped.0, refl)));
+      clean = h.clean;
+      placed = h.placed ∙ sym skipped.1;
+    }
+    reading_more entries' (inr added) = record {
+      done = h.done ++ line ∷ [];
+      kept = h.kept ++ line ∷ [];
+      whole = whole_more;
+      drops = DropsCached-append cache h.done (line ∷ []) h.kept (line ∷ []) h.drops
+          (DropsCached-none cache (line ∷ []));
+      clean = bad_lines_among-append h.kept (line ∷ [])
+          ∙ ap (λ s. s ++ bad_lines_among (line ∷ [])) h.clean ∙ ap (λ s. s ++ []) added.0;
+      placed = placed_among-append h.kept (line ∷ [])
+          ∙ ap (λ p. p ++ placed_among (line ∷ [])) h.placed
+          ∙ ap (λ p. entries ++ p) (append-nil (placed_at line.place line.meaning))
+          ∙ sym added.1;
+    }
+
+    -- the next line is bad
+    pub reading_bad : {E : Type 0} (holds : List Placed → E → Type 0) (bad : BadLine)
+        → bad_lines_at line.place line.meaning ≡ record { place = bad.place; why = bad.why } ∷ []
+        → IsReadBeside holds cache lines (Err bad)
+    reading_bad holds bad is_bad =
+        let next = rest_from lines i line within is in
+        let left = drop i lines in
+        let rest = bad_lines_among (drop (i + 1) lines) in (
+          h.kept ++ left,
+          subst (λ l. DropsCached cache l (h.kept ++ left)) (sym h.whole)
+              (DropsCached-append cache h.done left h.kept left h.drops
+              (DropsCached-none cache left)),
+          (
+            rest,
+            bad_lines_among-append h.kept left ∙ ap (λ s. s ++ bad_lines_among left) h.clean
+                ∙ ap bad_lines_among next ∙ ap (λ s. s ++ rest) is_bad,
+          ),
+        )
+
+  -- no line is left
+  pub reading_all : {E : Type 0} (holds : List Placed → E → Type 0) (entries : List Placed)
+      (held : E) → IsReading cache lines (drop (length lines) lines) entries → holds entries held
+      → IsReadBeside holds cache lines (Ok held)
+  reading_all holds entries held h good =
+      let all : h.done ≡ lines = sym (h.whole ∙ ap (λ l. h.done ++ l) (drop-length lines)
+      ∙ append-nil h.done) in (
+        h.kept,
+        subst (λ l. DropsCached cache l h.kept) all h.drops,
+        record { clean = h.clean; placed = subst (λ es. holds es held) (sym h.placed) good },
       )
-
--- no line is left
-pub reading_all : {E : Type 0} (holds : List Placed → E → Type 0) (lines : List MeaningAt)
-    (entries : List Placed) (held : E) → IsReading lines (drop (length lines) lines) entries
-    → holds entries held → IsCleanRead holds lines held
-reading_all holds lines entries held h good = record {
-  clean = h.clean ∙ ap bad_lines_among (drop-length lines);
-  placed = subst (λ es. holds es held)
-      (sym (h.placed ∙ ap (λ l. entries ++ placed_among l) (drop-length lines)
-      ∙ append-nil entries)) good;
-}
 
 -- ---- pieces gathered one after another
 

@@ -1,7 +1,6 @@
 -- The lines that are not redundant have the first bad line and the ledger of all lines.
-use Rattle.std.proofs.Common.{◌≡◌, ◌≢◌, inl, inr, ◌≤◌, ◌+◌, List, [], ◌∷◌, ◌++◌, length, Contains}
-use Rattle.std.proofs.Common.{Result, Ok, Err, refl, sym, ap, subst, ◌∙◌, append_assoc, append-nil}
-use Rattle.std.proofs.Common.{length-append, arith}
+use Rattle.std.proofs.Common.{◌≡◌, ◌≢◌, inl, inr, List, [], ◌∷◌, ◌++◌, Contains, Result, Ok, Err}
+use Rattle.std.proofs.Common.{refl, sym, ap, subst, ◌∙◌, append_assoc, append-nil}
 use Rattle.std.proofs.lemmas.List.Elements.{Contains-append_left, Contains-append_cases}
 use Rattle.std.proofs.lemmas.List.Elements.{Contains-append_right}
 use Rattle.epx_types.specs.declared.fault.Fault.{Fault}
@@ -34,13 +33,12 @@ DropsRedundant-append (x ∷ xs) ys a b c (inl h) k =
 DropsRedundant-append (x ∷ xs) ys a b c (inr h) k =
     inr (h.0, DropsRedundant-append xs ys a b c h.1 k)
 
--- at most as many lines are kept as there are
-pub length-kept : (lines old new : List MeaningAt) → DropsRedundant lines old new
-    → length new ≤ length old + length lines
-length-kept [] old new h = let same = ap length h in omega arith
-length-kept (l ∷ lines) old new (inl h) = let rest = length-kept lines (old ++ l ∷ []) new h in
-    omega (arith, length-append old (l ∷ []))
-length-kept (l ∷ lines) old new (inr h) = let rest = length-kept lines old new h.1 in omega arith
+-- no line has to be dropped
+pub DropsRedundant-none : (lines old : List MeaningAt) → DropsRedundant lines old (old ++ lines)
+DropsRedundant-none [] old = sym (append-nil old)
+DropsRedundant-none (l ∷ lines) old =
+    inl (subst (DropsRedundant lines (old ++ l ∷ [])) (append_assoc old (l ∷ []) lines)
+    (DropsRedundant-none lines (old ++ l ∷ [])))
 
 -- ---- one more line, whose instance an earlier line has
 
@@ -134,8 +132,8 @@ SameOutcome-same some all same = record {
   ledger = λ noted h. subst (λ l. IsLedgerOf (placed_among l) noted) same h;
 }
 
-SameOutcome-trans : (some more all : List MeaningAt) → SameOutcome some more → SameOutcome more all
-    → SameOutcome some all
+pub SameOutcome-trans : (some more all : List MeaningAt) → SameOutcome some more
+    → SameOutcome more all → SameOutcome some all
 SameOutcome-trans some more all h k = record {
   fault = λ f is. k.fault f (h.fault f is);
   clean = λ none. k.clean (h.clean none);

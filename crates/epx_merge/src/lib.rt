@@ -2,6 +2,7 @@
 #![tactic(auto)]
 
 mod entries;
+mod fresh_line;
 mod guesses;
 pub mod laws;
 mod ledger;

@@ -41,18 +41,24 @@ impl<'a> Model for LineCache<'a> {
 
     ghost Value = { List (Result Line Why) };
 
-    ghost view = { λ t. map (λ line. meaning_of line.now) t.kept.items };
-}
-
-fn hash_of(bytes: &[u8]) -> u64 {
-    let mut hasher = LineHasher::default();
-    hasher.write(bytes);
-    hasher.finish()
+    ghost view = { λ c. map (λ line. meaning_of line.now) c.kept.items };
 }
 
 impl<'a> LineCache<'a> {
+    /// An empty cache for the lines of this many logs. A single log needs no slots: its lines are
+    /// not compared with each other.
+    pub(crate) fn new(alloc: Global, logs: usize) -> Result<LineCache<'a>, Memory>
+        ensures { IfOk result (λ cache. cache ≡ []) }
+    {
+        if logs < 2 {
+            Ok(LineCache::without_slots(alloc))
+        } else {
+            LineCache::with_slots(alloc)
+        }
+    }
+
     /// A cache that never holds a line.
-    pub(crate) fn without_slots(alloc: Global) -> LineCache<'a>
+    fn without_slots(alloc: Global) -> LineCache<'a>
         ensures { result ≡ [] }
     {
         LineCache {
@@ -61,8 +67,8 @@ impl<'a> LineCache<'a> {
         }
     }
 
-    pub(crate) fn new(alloc: Global) -> Result<LineCache<'a>, Memory>
-        ensures { IfOk result (λ table. table ≡ []) }
+    fn with_slots(alloc: Global) -> Result<LineCache<'a>, Memory>
+        ensures { IfOk result (λ cache. cache ≡ []) }
     {
         Ok(LineCache {
             slots: vec![in alloc; FREE_SLOT; SLOTS as usize + PROBES]?,
@@ -70,8 +76,19 @@ impl<'a> LineCache<'a> {
         })
     }
 
-    fn has_no_slots(&self) -> bool {
-        self.slots.is_empty()
+    /// Whether the cache can hold lines.
+    pub(crate) fn has_slots(&self) -> bool {
+        !self.slots.is_empty()
+    }
+
+    /// The hash of a line, by which it is found. A cache without slots needs none, and returns 0.
+    pub(crate) fn hash_of(&self, bytes: &[u8]) -> u64 {
+        if !self.has_slots() {
+            return 0;
+        }
+        let mut hasher = LineHasher::default();
+        hasher.write(bytes);
+        hasher.finish()
     }
 
     fn slot(&self, at: usize) -> Option<u64> {
@@ -98,15 +115,10 @@ impl<'a> LineCache<'a> {
         }
     }
 
-    /// Whether the cache has a line with these bytes. If not, keeps the line if a slot is free.
-    pub(crate) fn find_or_keep(&mut self, bytes: &'a [u8]) -> bool
-        ensures found { IsTrue result → Contains self.old (meaning_of bytes.now) }
-        ensures held { CachesAfter self.old (meaning_of bytes.now) self.new }
+    /// Whether the cache has a line with these bytes, which have this hash.
+    pub(crate) fn contains(&self, hash: u64, bytes: &[u8]) -> bool
+        ensures { IsTrue result → Contains self.now (meaning_of bytes.now) }
     {
-        if self.has_no_slots() {
-            return false;
-        }
-        let hash = hash_of(bytes);
         let mark = hash >> 32;
         let start = (hash % SLOTS) as usize;
         for at in start..start + PROBES {
@@ -114,7 +126,6 @@ impl<'a> LineCache<'a> {
                 return false;
             };
             if slot == FREE_SLOT {
-                self.keep(at, mark, bytes);
                 return false;
             }
             if slot >> 32 == mark && self.holds((slot & 0xFFFF_FFFF) as usize, bytes) {
@@ -122,5 +133,26 @@ impl<'a> LineCache<'a> {
             }
         }
         false
+    }
+
+    /// Keeps a line with this hash if a slot is free. A slot with the same half of the hash counts
+    /// as this line: so a line that comes twice in a batch is kept once, and none is compared.
+    pub(crate) fn insert(&mut self, hash: u64, bytes: &'a [u8])
+        ensures { CachesAfter self.old (meaning_of bytes.now) self.new }
+    {
+        let mark = hash >> 32;
+        let start = (hash % SLOTS) as usize;
+        for at in start..start + PROBES {
+            let Some(slot) = self.slot(at) else {
+                return;
+            };
+            if slot == FREE_SLOT {
+                self.keep(at, mark, bytes);
+                return;
+            }
+            if slot >> 32 == mark {
+                return;
+            }
+        }
     }
 }

@@ -1,15 +1,15 @@
 //! The next batch of lines that the workers read.
-ghost use Rattle.std.specs.Prelude.{◌≡◌, ◌<◌, ◌≤◌, ◌^◌, [], IfOk, IsTrue, length};
-ghost use Rattle.epx_merge.specs.inner.RedundantLines.{IsRedundantIn, CachesAfter, IsNextBatch};
+ghost use Rattle.std.specs.Prelude.{◌≡◌, ◌<◌, ◌≤◌, ◌^◌, [], IfOk, length};
+ghost use Rattle.epx_merge.specs.inner.RedundantLines.{IsNextBatch};
 
 use crate::line::PlacedLine;
-use crate::line_cache::LineCache;
 use crate::walk::LineWalk;
 use epx_types::{Memory, Plan};
 use std::alloc::Global;
 
-/// The least number of lines in a batch for each of several workers. Fewer are not worth a thread.
-const MIN_LINES_EACH: usize = 4_096;
+/// The least number of lines in a batch for each of several workers. Fewer are not worth a thread,
+/// since most of them may be repeats.
+const MIN_LINES_EACH: usize = 8_192;
 
 /// The same for one worker, which starts no thread. So few lines stay in its cache until it reads
 /// them.
@@ -33,22 +33,13 @@ fn batch_len(plan: Plan) -> usize
     (plan.workers() * each).min(MAX_BATCH_LINES)
 }
 
-/// Whether a line is redundant: it is blank, or the cache has it already.
-fn is_redundant<'a>(line: &PlacedLine<'a>, table: &mut LineCache<'a>) -> bool
-    ensures redundant { IsTrue result → IsRedundantIn table.old line.now.meaning }
-    ensures held { CachesAfter table.old line.now.meaning table.new }
-{
-    line.is_blank() || table.find_or_keep(line.bytes())
-}
-
-/// The next lines that are not redundant. The batch is empty only if no line is left.
+/// The next lines that are not blank. The batch is empty only if no line is left.
 pub(crate) fn next_batch<'a>(
     alloc: Global,
     plan: Plan,
     walk: &mut LineWalk<'a>,
-    table: &mut LineCache<'a>,
 ) -> Result<Vec<PlacedLine<'a>>, Memory>
-    ensures batch { IfOk result (λ v. IsNextBatch walk.old walk.new table.old table.new v.items) }
+    ensures batch { IfOk result (λ v. IsNextBatch walk.old walk.new v.items) }
     ensures last { IfOk result (λ v. v.items ≡ [] → walk.new ≡ []) }
     ensures few { IfOk result (λ v. length v.items ≤ 2 ^ 40) }
 {
@@ -58,7 +49,7 @@ pub(crate) fn next_batch<'a>(
         let Some(line) = walk.next_line() else {
             return Ok(lines);
         };
-        if !is_redundant(&line, table) {
+        if !line.is_blank() {
             lines.push(line)?;
         }
     }

@@ -4,16 +4,22 @@ ghost use Rattle.std.specs.Prelude.{MatchResult, length};
 ghost use Rattle.epx_types.specs.Pieces.{piece_count};
 ghost use Rattle.epx_merge.specs.LogLines.{MeaningAt, placed_at, placed_among, bad_lines_at};
 ghost use Rattle.epx_merge.specs.LogLines.{bad_lines_among};
-ghost use Rattle.epx_merge.specs.inner.ReadPieces.{IsRead, AreRead, lines_of_piece, HasItems};
+ghost use Rattle.epx_merge.specs.inner.ReadPieces.{AreRead, IsReadBeside, SkipsOrReads};
+ghost use Rattle.epx_merge.specs.inner.ReadPieces.{lines_of_piece, HasEntries};
 ghost use Rattle.epx_merge.specs.inner.Ledgers.{NotesLines};
 ghost use Rattle.epx_merge.specs.Steps.{IsReadFault};
 
+use crate::fresh_line::FreshLine;
 use crate::ledger::Ledger;
 use crate::line::PlacedLine;
+use crate::line_cache::LineCache;
 use crate::placed::PlacedEntry;
 use epx_lines::{Line, LineFault, LineReader};
 use epx_types::{Fault, Memory, Place, Plan, Why};
 use std::alloc::Global;
+
+/// A piece has room for this many entries at first. It may have none, if the cache has its lines.
+const FIRST_CAPACITY: usize = 64;
 
 /// A line with a fault, and its reason.
 #[derive(Clone, Copy, Debug)]
@@ -22,8 +28,15 @@ pub(crate) struct BadLine {
     pub(crate) why: Why,
 }
 
+/// What a worker read of a piece: the entries, and which lines the cache lacks.
+#[derive(Debug, Drop)]
+pub(crate) struct ReadPiece {
+    pub(crate) entries: Vec<PlacedEntry>,
+    pub(crate) fresh: Vec<FreshLine>,
+}
+
 /// The result of each piece, in order.
-pub(crate) type Pieces = Vec<Result<Vec<PlacedEntry>, BadLine>>;
+pub(crate) type Pieces = Vec<Result<ReadPiece, BadLine>>;
 
 /// Reads one line, and appends its entry if it has one. Returns the line if it is bad.
 fn read_next(
@@ -50,48 +63,82 @@ fn read_next(
     }
 }
 
-/// The entries of lines, or the first bad line.
-fn read_lines(
+/// Reads one line as `read_next` does, but skips it if the cache has it. Otherwise notes it as
+/// fresh, so that the cache has it for later batches.
+fn read_if_fresh(
     alloc: Global,
-    lines: &[PlacedLine<'_>],
-) -> Result<Result<Vec<PlacedEntry>, BadLine>, Memory>
-    ensures { IfOk result (IsRead HasItems lines.now) }
+    reader: &mut LineReader,
+    cache: &LineCache<'_>,
+    line: &PlacedLine<'_>,
+    index: usize,
+    piece: &mut ReadPiece,
+) -> Result<Option<BadLine>, Memory>
+    ensures { let at = line.now.place in let meaning = line.now.meaning in
+        IfOk result (λ o. MatchOption o
+        (SkipsOrReads cache.now line.now piece.old.entries.items piece.new.entries.items)
+        (λ bad. bad_lines_at at meaning ≡ record { place = bad.place; why = bad.why } ∷ [])) }
 {
-    let mut reader = LineReader::new(alloc);
-    let mut entries = Vec::with_capacity(alloc, lines.len())?;
-    for line in lines {
-        if let Some(bad) = read_next(alloc, &mut reader, line, &mut entries)? {
-            return Ok(Err(bad));
-        }
+    let hash = cache.hash_of(line.bytes());
+    if cache.contains(hash, line.bytes()) {
+        return Ok(None);
     }
-    Ok(Ok(entries))
+    if cache.has_slots() {
+        piece.fresh.push(FreshLine { index, hash })?;
+    }
+    read_next(alloc, reader, line, &mut piece.entries)
 }
 
-/// The entries of the lines of a piece, or its first bad line.
+/// The entries of the lines that the cache lacks, or the first bad line. The first line has this
+/// index in the batch.
+fn read_lines(
+    alloc: Global,
+    cache: &LineCache<'_>,
+    lines: &[PlacedLine<'_>],
+    start: usize,
+) -> Result<Result<ReadPiece, BadLine>, Memory>
+    ensures { IfOk result (IsReadBeside HasEntries cache.now lines.now) }
+{
+    let mut reader = LineReader::new(alloc);
+    let mut piece = ReadPiece {
+        entries: Vec::with_capacity(alloc, lines.len().min(FIRST_CAPACITY))?,
+        fresh: Vec::new(alloc),
+    };
+    let mut index = start;
+    for line in lines {
+        if let Some(bad) = read_if_fresh(alloc, &mut reader, cache, line, index, &mut piece)? {
+            return Ok(Err(bad));
+        }
+        index = index.wrapping_add(1);
+    }
+    Ok(Ok(piece))
+}
+
+/// The entries of the lines of a piece that the cache lacks, or its first bad line.
 pub(crate) fn read_piece(
     alloc: Global,
     plan: Plan,
+    cache: &LineCache<'_>,
     lines: &[PlacedLine<'_>],
     piece: usize,
-) -> Result<Result<Vec<PlacedEntry>, BadLine>, Memory>
+) -> Result<Result<ReadPiece, BadLine>, Memory>
     requires { piece < piece_count plan.cut (length lines.now) }
-    ensures { IfOk result (IsRead HasItems
+    ensures { IfOk result (IsReadBeside HasEntries cache.now
         (lines_of_piece plan.cut piece lines.now)) }
 {
     let (start, end) = plan.range(piece, lines.len());
-    read_lines(alloc, &lines[start..end])
+    read_lines(alloc, cache, &lines[start..end], start)
 }
 
 /// Records the entries of pieces in order, up to the first bad line.
 pub(crate) fn note_pieces(pieces: Pieces, ledger: &mut Ledger) -> Result<(), Fault>
     ensures { (lines : List MeaningAt)
-        → AreRead HasItems lines pieces.items → MatchResult result
+        → AreRead HasEntries lines pieces.items → MatchResult result
         (λ _. (bad_lines_among lines ≡ []) × NotesLines (placed_among lines) ledger.old ledger.new)
         (IsReadFault (bad_lines_among lines)) }
 {
     for piece in pieces {
         match piece {
-            Ok(entries) => note_entries(entries, ledger)?,
+            Ok(piece) => note_entries(piece.entries, ledger)?,
             Err(BadLine { place, why }) => return Err(Fault::BadLine { place, why }),
         }
     }

@@ -2,17 +2,19 @@
 ghost use Rattle.std.specs.Prelude.{◌≡◌, ◌≤◌, ◌^◌, List, [], IfOk, MatchResult, length, map};
 ghost use Rattle.std.specs.Thread.{IsSync};
 ghost use Rattle.epx_merge.specs.inner.ReadSteps.{IsReadStep};
-ghost use Rattle.epx_merge.specs.inner.ReadPieces.{AreRead, HasItems};
-ghost use Rattle.epx_merge.specs.LogLines.{MeaningAt, bytes_of, placed_of};
-ghost use Rattle.epx_merge.specs.LogLines.{bad_lines_among, bad_lines_of};
+ghost use Rattle.epx_merge.specs.inner.ReadPieces.{AreRead, AreReadBeside, IsBatchRead, HasEntries};
+ghost use Rattle.epx_merge.specs.LogLines.{MeaningAt, placed_of, bad_lines_among, bad_lines_of};
+ghost use Rattle.epx_merge.specs.LogLines.{bytes_of};
 ghost use Rattle.epx_merge.specs.inner.Ledgers.{IsLedgerOf};
 ghost use Rattle.epx_merge.specs.Steps.{IsReadFault};
 ghost use Rattle.epx_merge.specs.Acceptance.{IsAccepted};
 ghost use Rattle.epx_merge.specs.Refusals.{IsRefusal};
 
+use crate::fresh_line::cache_batch;
 use crate::ledger::Ledger;
 use crate::limits::{MAX_LOGS, first_too_long};
 use crate::line::PlacedLine;
+use crate::line_cache::LineCache;
 use crate::merged::Merged;
 use crate::pieces::{Pieces, note_pieces, read_piece};
 use crate::read_state::{ReadState, next_step};
@@ -23,22 +25,48 @@ use std::alloc::Global;
 use std::random::RandomSource;
 use std::thread::{Threads, join};
 
-/// The result of each piece of the lines, in order.
+/// The result of each piece of the lines, in order, except for lines that the cache has.
+// Workers only look lines up, so they share the cache without a lock.
 fn read_pieces<R: Threads + Sync, G: Gate + Sync>(
     rt: &R,
     alloc: Global,
     plan: Plan,
     gate: &G,
-    lines: Vec<PlacedLine<'_>>,
+    cache: &LineCache<'_>,
+    lines: &[PlacedLine<'_>],
 ) -> Result<Pieces, Memory>
-    requires { length lines.items ≤ 2 ^ 40 }
-    ensures { IfOk result
-        (λ v. AreRead HasItems lines.entry.items v.items) }
+    requires { length lines.now ≤ 2 ^ 40 }
+    ensures { IfOk result (λ v. AreReadBeside HasEntries cache.now lines.now v.items) }
 {
     let pieces = plan.pieces(lines.len());
     claimed_map(rt, alloc, pieces, plan, gate, |piece| {
-        read_piece(alloc, plan, &lines, piece)
+        read_piece(alloc, plan, cache, lines, piece)
     })
+}
+
+/// The lines that are read next, and the cache of the lines of all earlier batches.
+#[derive(Drop)]
+struct Batch<'a> {
+    lines: Vec<PlacedLine<'a>>,
+    cache: LineCache<'a>,
+}
+
+/// Reads the lines of a batch that the cache lacks, and puts them into the cache.
+fn read_batch<'a, R: Threads + Sync, G: Gate + Sync>(
+    rt: &R,
+    alloc: Global,
+    plan: Plan,
+    gate: &G,
+    batch: Batch<'a>,
+) -> Result<(LineCache<'a>, Pieces), Memory>
+    requires { length batch.lines.items ≤ 2 ^ 40 }
+    ensures { IfOk result (λ v. IsBatchRead HasEntries batch.entry.cache v.0
+        batch.entry.lines.items v.1.items) }
+{
+    let Batch { lines, mut cache } = batch;
+    let pieces = read_pieces(rt, alloc, plan, gate, &cache, &lines)?;
+    cache_batch(&pieces, &lines, &mut cache);
+    Ok((cache, pieces))
 }
 
 /// Reads a batch of lines. Meanwhile another thread notes what was read before, and cuts the next
@@ -51,39 +79,40 @@ fn read_and_step<'a, R: Threads + Sync, G: Gate + Sync>(
     gate: &G,
     state: ReadState<'a>,
     read: Pieces,
-    lines: Vec<PlacedLine<'a>>,
-) -> Result<(ReadState<'a>, Vec<PlacedLine<'a>>, Pieces), Fault>
-    requires { length lines.items ≤ 2 ^ 40 }
+    batch: Batch<'a>,
+) -> Result<(ReadState<'a>, LineCache<'a>, Pieces), Fault>
+    requires { length batch.lines.items ≤ 2 ^ 40 }
     ensures { (done : List MeaningAt)
-        → AreRead HasItems done read.items → MatchResult result
+        → AreRead HasEntries done read.items → MatchResult result
         (λ next. IsReadStep done state.entry.ledger next.0.ledger state.entry.walk next.0.walk
-        state.entry.table next.0.table next.1.items
-        × AreRead HasItems lines.entry.items next.2.items)
+        next.0.lines.items
+        × IsBatchRead HasEntries batch.entry.cache next.1 batch.entry.lines.items next.2.items)
         (IsReadFault (bad_lines_among done)) }
 {
-    if plan.workers() == 1 || lines.len() <= plan.cut() {
-        let (state, next) = next_step(alloc, plan, state, read)?;
-        let read = read_pieces(rt, alloc, plan, gate, lines)?;
-        return Ok((state, next, read));
+    if plan.workers() == 1 || batch.lines.len() <= plan.cut() {
+        let state = next_step(alloc, plan, state, read)?;
+        let (cache, read) = read_batch(rt, alloc, plan, gate, batch)?;
+        return Ok((state, cache, read));
     }
     let (stepped, read) = join(
         rt,
-        move || -> Result<(ReadState, Vec<PlacedLine>), Fault>
+        move || -> Result<ReadState, Fault>
             ensures { (done : List MeaningAt)
-                → AreRead HasItems done read.items
+                → AreRead HasEntries done read.items
                 → MatchResult result
-                (λ next. IsReadStep done state.entry.ledger next.0.ledger state.entry.walk
-                next.0.walk state.entry.table next.0.table next.1.items)
+                (λ next. IsReadStep done state.entry.ledger next.ledger state.entry.walk
+                next.walk next.lines.items)
                 (IsReadFault (bad_lines_among done)) }
         { next_step(alloc, plan, state, read) },
-        move || -> Result<Pieces, Memory>
-            requires { IsSync R.row × IsSync G.row × (length lines.items ≤ 2 ^ 40) }
-            ensures { IfOk result
-                (λ v. AreRead HasItems lines.entry.items v.items) }
-        { read_pieces(rt, alloc, plan, gate, lines) },
+        move || -> Result<(LineCache, Pieces), Memory>
+            requires { IsSync R.row × IsSync G.row × (length batch.lines.items ≤ 2 ^ 40) }
+            ensures { IfOk result (λ v. IsBatchRead HasEntries batch.entry.cache v.0
+                batch.entry.lines.items v.1.items) }
+        { read_batch(rt, alloc, plan, gate, batch) },
     );
-    let (state, next) = stepped?;
-    Ok((state, next, read?))
+    let state = stepped?;
+    let (cache, read) = read?;
+    Ok((state, cache, read))
 }
 
 /// Reads the lines of all logs into a ledger. While one batch is read, the previous one is noted
@@ -100,10 +129,22 @@ fn read_all<R: Threads + RandomSource + Sync, G: Gate + Sync>(
         (IsReadFault (bad_lines_of bytes)) }
 {
     let mut read = Vec::new(alloc);
-    let start = ReadState::new(alloc, logs, Seed::draw(rt))?;
-    let (mut state, mut lines) = next_step(alloc, plan, start, Vec::new(alloc))?;
-    while !lines.is_empty() {
-        (state, lines, read) = read_and_step(rt, alloc, plan, gate, state, read, lines)?;
+    let mut cache = LineCache::new(alloc, logs.len())?;
+    let start = ReadState::new(alloc, logs, Seed::draw(rt));
+    let mut state = next_step(alloc, plan, start, Vec::new(alloc))?;
+    while !state.lines.is_empty() {
+        let ReadState {
+            ledger,
+            walk,
+            lines,
+        } = state;
+        let rest = ReadState {
+            ledger,
+            walk,
+            lines: Vec::new(alloc),
+        };
+        let batch = Batch { lines, cache };
+        (state, cache, read) = read_and_step(rt, alloc, plan, gate, rest, read, batch)?;
     }
     let ReadState { mut ledger, .. } = state;
     note_pieces(read, &mut ledger)?;

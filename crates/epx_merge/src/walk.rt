@@ -18,7 +18,7 @@ pub(crate) struct LineWalk<'a> {
 
 impl<'a> Model for LineWalk<'a> {
     ghost use Rattle.std.specs.Prelude.{List, ◌+◌, ◌<◌, ◌^◌, length};
-    ghost use Rattle.epx_merge.specs.LogLines.{MeaningAt, bytes_of, meanings_left};
+    ghost use Rattle.epx_merge.specs.LogLines.{MeaningAt, meanings_left, bytes_of};
 
     ghost Value = { List MeaningAt };
 

@@ -1,14 +1,18 @@
 -- The result of reading consecutive lines, piece by piece.
-use Rattle.std.specs.Prelude.{◌≡◌, ◌*◌, ◌++◌, ◌∷◌, ℕ, List, [], Result, Ok, Err, Vec, take, drop}
-use Rattle.std.specs.declared.alloc.Global.{Global}
+use Rattle.std.specs.Prelude.{◌≡◌, ◌⊎◌, ◌*◌, ◌++◌, ◌∷◌, ℕ, List, [], Result, Ok, Err, take, drop}
 use Rattle.epx_types.specs.PlacedLines.{Placed}
+use Rattle.epx_types.specs.declared.fault.Why.{Why}
+use Rattle.epx_lines.specs.declared.Line.{Line}
 use Rattle.epx_merge.specs.declared.pieces.BadLine.{BadLine}
-use Rattle.epx_merge.specs.LogLines.{MeaningAt, placed_among, bad_lines_among}
+use Rattle.epx_merge.specs.declared.pieces.ReadPiece.{ReadPiece}
+use Rattle.epx_merge.specs.LogLines.{MeaningAt, placed_at, placed_among, bad_lines_at}
+use Rattle.epx_merge.specs.LogLines.{bad_lines_among}
 use Rattle.epx_merge.specs.Refusals.{IsFirstBadLine}
+use Rattle.epx_merge.specs.inner.RedundantLines.{IsRedundantIn, DropsCached, CachesSomeOf}
 
--- the entries are those of these lines
-abbrev pub HasItems : List Placed → Vec Placed Global → Type 0
-HasItems lines entries = entries.items ≡ lines
+-- the entries of the piece are those of these lines
+abbrev pub HasEntries : List Placed → ReadPiece → Type 0
+HasEntries lines piece = piece.entries.items ≡ lines
 
 -- no line is bad, and `held` holds the instances of the lines
 pub record IsCleanRead {E : Type 0} (holds : List Placed → E → Type 0) (lines : List MeaningAt)
@@ -35,3 +39,30 @@ AreRead holds lines (piece ∷ pieces) = (here rest : List MeaningAt) × (lines 
 -- the lines of a piece
 abbrev pub lines_of_piece : ℕ → ℕ → List MeaningAt → List MeaningAt
 lines_of_piece cut piece lines = take cut (drop (piece * cut) lines)
+
+-- ---- reading beside a cache
+
+-- the line is redundant in the cache and is skipped, or its entry is appended if it has one
+abbrev pub SkipsOrReads : List (Result Line Why) → MeaningAt → List Placed → List Placed → Type 0
+SkipsOrReads cache line old new = (IsRedundantIn cache line.meaning × (new ≡ old))
+    ⊎ ((bad_lines_at line.place line.meaning ≡ [])
+    × (new ≡ old ++ placed_at line.place line.meaning))
+
+-- the result of reading the lines, except for some that are redundant in the cache
+abbrev pub IsReadBeside : {E : Type 0} → (List Placed → E → Type 0) → List (Result Line Why)
+    → List MeaningAt → Result E BadLine → Type 0
+IsReadBeside holds cache lines piece =
+    (kept : List MeaningAt) × DropsCached cache lines kept × IsRead holds kept piece
+
+-- the results of reading pieces of the lines, except for some lines that are redundant in the cache
+abbrev pub AreReadBeside : {E : Type 0} → (List Placed → E → Type 0) → List (Result Line Why)
+    → List MeaningAt → List (Result E BadLine) → Type 0
+AreReadBeside holds cache lines pieces =
+    (kept : List MeaningAt) × DropsCached cache lines kept × AreRead holds kept pieces
+
+-- the lines are read beside the old cache, and the new one has some of them in addition
+pub record IsBatchRead {E : Type 0} (holds : List Placed → E → Type 0)
+    (cache cache' : List (Result Line Why)) (lines : List MeaningAt)
+    (pieces : List (Result E BadLine)) : Type 0 where
+  pub read : AreReadBeside holds cache lines pieces
+  pub cached : CachesSomeOf lines cache cache'

@@ -1,7 +1,5 @@
 -- One step of reading logs.
-use Rattle.std.specs.Prelude.{◌≡◌, ◌≤◌, ◌^◌, List, [], length, Result}
-use Rattle.epx_types.specs.declared.fault.Why.{Why}
-use Rattle.epx_lines.specs.declared.Line.{Line}
+use Rattle.std.specs.Prelude.{◌≡◌, ◌≤◌, ◌^◌, List, [], length}
 use Rattle.epx_merge.specs.LogLines.{MeaningAt, placed_among, bad_lines_among}
 use Rattle.epx_merge.specs.inner.Ledgers.{LedgerView, NotesLines}
 use Rattle.epx_merge.specs.inner.RedundantLines.{IsNextBatch}
@@ -9,10 +7,9 @@ use Rattle.epx_merge.specs.inner.RedundantLines.{IsNextBatch}
 -- the lines that were read are noted and none of them is bad; the next batch is empty only if no
 -- line is left
 pub record IsReadStep (read : List MeaningAt) (ledger ledger' : LedgerView)
-    (walk walk' : List MeaningAt) (table table' : List (Result Line Why))
-    (lines : List MeaningAt) : Type 0 where
+    (walk walk' lines : List MeaningAt) : Type 0 where
   pub clean : bad_lines_among read ≡ []
   pub noted : NotesLines (placed_among read) ledger ledger'
-  pub batch : IsNextBatch walk walk' table table' lines
+  pub batch : IsNextBatch walk walk' lines
   pub last : lines ≡ [] → walk' ≡ []
   pub few : length lines ≤ 2 ^ 40

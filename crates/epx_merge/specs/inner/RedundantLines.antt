@@ -24,23 +24,31 @@ DropsRedundant (line ∷ lines) old new = DropsRedundant lines (old ++ line ∷ 
 
 -- the line is blank, or the cache has its meaning
 abbrev pub IsRedundantIn : List (Result Line Why) → Result Line Why → Type 0
-IsRedundantIn table meaning = (meaning ≡ Ok Blank) ⊎ Contains table meaning
+IsRedundantIn cache meaning = (meaning ≡ Ok Blank) ⊎ Contains cache meaning
+
+-- each meaning in the cache is redundant after the lines that are not
+abbrev pub IsCacheOf : List MeaningAt → List (Result Line Why) → Type 0
+IsCacheOf kept cache = (m : Result Line Why) → Contains cache m → IsRedundant kept m
 
 -- the new cache has no meanings but those of the old one and perhaps this one
 abbrev pub CachesAfter : List (Result Line Why) → Result Line Why → List (Result Line Why) → Type 0
 CachesAfter old meaning new = (m : Result Line Why) → Contains new m
     → Contains old m ⊎ (m ≡ meaning)
 
--- each meaning in the cache is redundant after the lines that are not
-abbrev pub IsCacheOf : List MeaningAt → List (Result Line Why) → Type 0
-IsCacheOf kept table = (m : Result Line Why) → Contains table m → IsRedundant kept m
+-- the new cache has no meanings but those of the old one and of some of the lines
+abbrev pub CachesSomeOf : List MeaningAt → List (Result Line Why) → List (Result Line Why) → Type 0
+CachesSomeOf lines old new = (m : Result Line Why) → Contains new m
+    → Contains old m ⊎ IsRepeated lines m
 
--- reading goes past some lines; those of them that are in the batch are kept, after all lines kept
--- earlier
-pub record IsNextBatch (old new : List MeaningAt) (table table' : List (Result Line Why))
-    (batch : List MeaningAt) : Type 0 where
+-- the kept lines are the lines in order, except for some that are redundant in the cache
+abbrev pub DropsCached : List (Result Line Why) → List MeaningAt → List MeaningAt → Type 0
+DropsCached cache [] kept = kept ≡ []
+DropsCached cache (line ∷ lines) kept =
+    ((rest : List MeaningAt) × (kept ≡ line ∷ rest) × DropsCached cache lines rest)
+    ⊎ (IsRedundantIn cache line.meaning × DropsCached cache lines kept)
+
+-- the walk goes past some lines; the batch has them, except for some blank ones
+pub record IsNextBatch (old new batch : List MeaningAt) : Type 0 where
   pub gone : List MeaningAt
   pub whole : old ≡ gone ++ new
-  pub keeps : (kept : List MeaningAt) → IsCacheOf kept table
-      → DropsRedundant gone kept (kept ++ batch)
-  pub holds : (kept : List MeaningAt) → IsCacheOf kept table → IsCacheOf (kept ++ batch) table'
+  pub drops : DropsCached [] gone batch

@@ -2,7 +2,7 @@ use Rattle.std.proofs.Common.{◌≡◌, ℕ, suc, ◌+◌, [], ◌∷◌, ◌�
 use Rattle.std.proofs.lemmas.List.{nil_from_length}
 use Rattle.epx_types.specs.PlacedLines.{Placed}
 use Rattle.epx_merge.specs.EntryLines.{entry_lines_from}
-use Rattle.epx_merge.specs.inner.Ledgers.{LedgerView, NotesLines}
+use Rattle.epx_merge.specs.inner.Ledgers.{NotesLines}
 use Rattle.epx_merge.proofs.LedgerLemmas.{NotesLines-nil, NotesLines-append}
 use Rattle.epx_merge.proofs.entries.note_each.Goals as goal
 

@@ -1,25 +1,22 @@
-use Rattle.std.proofs.Common.{rules}
+use Rattle.std.proofs.Common.{inl, [], rules}
 use Rattle.epx_merge.specs.inner.RedundantLines.{IsRedundantIn}
-use Rattle.epx_merge.proofs.BatchLemmas.{batch_none, batch_more, batch_redundant}
+use Rattle.epx_merge.proofs.DropsCachedLemmas.{batch_none, batch_more, batch_blank}
 use Rattle.epx_merge.proofs.next_batch.next_batch.Goals as goal
 
 pub loop-walk-init : goal.loop-walk-init
-loop-walk-init c =
-    (batch_none c.args.walk.now _ c.args.table.now c.new-lines.ensures.items, search rules)
+loop-walk-init c = (batch_none c.args.walk.now _ c.new-lines.ensures.items, search rules)
 
 pub loop-walk-preserved-in-Continue-1 : goal.loop-walk-preserved-in-Continue-1
 loop-walk-preserved-in-Continue-1 c = (
   batch_more c.args.walk.now c.loop-walk.walk c.next_line.new.self c.loop-walk.lines.items
-      c.in-Some.line c.args.table.now c.loop-walk.table c.is_redundant.new.table c.in-Some.ensures
-      c.is_redundant.ensures.held c.loop-walk.invariant.0 _ c.in_ok-push.ensures.items,
+      c.in-Some.line c.in-Some.ensures c.loop-walk.invariant.0 _ c.in_ok-push.ensures.items,
   search (rules, c.batch_len-most.ensures.few),
 )
 
 pub loop-walk-preserved : goal.loop-walk-preserved
 loop-walk-preserved c =
-    let redundant : IsRedundantIn c.loop-walk.table c.in-Some.line.meaning = search rules in (
-      batch_redundant c.args.walk.now c.loop-walk.walk c.next_line.new.self c.loop-walk.lines.items
-          c.in-Some.line c.args.table.now c.loop-walk.table c.is_redundant.new.table
-          c.in-Some.ensures c.is_redundant.ensures.held c.loop-walk.invariant.0 redundant,
+    let blank : IsRedundantIn [] c.in-Some.line.meaning = inl (search rules) in (
+      batch_blank c.args.walk.now c.loop-walk.walk c.next_line.new.self c.loop-walk.lines.items
+          c.in-Some.line c.in-Some.ensures c.loop-walk.invariant.0 blank,
       c.loop-walk.invariant.1,
     )

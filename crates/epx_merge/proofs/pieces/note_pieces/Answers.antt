@@ -1,7 +1,7 @@
 use Rattle.std.proofs.Common.{◌∷◌, ◌∙◌, ap, sym, subst}
 use Rattle.std.proofs.lemmas.List.{nil_from_length}
 use Rattle.epx_merge.specs.inner.Ledgers.{NotesLines}
-use Rattle.epx_merge.specs.inner.ReadPieces.{AreRead, HasItems}
+use Rattle.epx_merge.specs.inner.ReadPieces.{AreRead, HasEntries}
 use Rattle.epx_merge.proofs.LedgerLemmas.{NotesLines-nil, NotesLines-append}
 use Rattle.epx_merge.proofs.ReadPieceLemmas.{gathering_none, gathering_more, gathering_bad}
 use Rattle.epx_merge.proofs.ReadPieceLemmas.{gathering_all}
@@ -10,12 +10,12 @@ use Rattle.epx_merge.proofs.pieces.note_pieces.Goals as goal
 pub loop-piece-init : goal.loop-piece-init
 loop-piece-init c = λ lines all.
     gathering_none _ lines _ _ (NotesLines-nil c.args.ledger.now)
-    (subst (AreRead HasItems lines)
+    (subst (AreRead HasEntries lines)
     (sym c.into_iter-piece-iterator.ensures.into_iter_gives.0) all)
 
 pub loop-piece-preserved : goal.loop-piece-preserved
 loop-piece-preserved c = λ lines all.
-    gathering_more _ lines _ _ _ _ c.in-Ok.entries
+    gathering_more _ lines _ _ _ _ c.in-Ok.piece
     (c.in-Some.ensures.steps.0 ∙ ap (λ p. p ∷ c.next.new.self.rest.items) c.in-Ok.is)
     (λ xs ys before is. NotesLines-append xs ys c.args.ledger.now c.loop-piece.ledger
     c.note_entries.new.ledger before

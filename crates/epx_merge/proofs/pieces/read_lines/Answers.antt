@@ -1,6 +1,24 @@
-use Rattle.epx_merge.proofs.ReadPieceLemmas.{reading_none}
+use Rattle.std.proofs.Common.{◌≡◌, [], ◌∷◌, rules}
+use Rattle.epx_merge.specs.LogLines.{bad_lines_at}
+use Rattle.epx_merge.specs.inner.ReadPieces.{SkipsOrReads, HasEntries}
+use Rattle.epx_merge.proofs.ReadPieceLemmas.{reading_more, reading_bad}
 use Rattle.epx_merge.proofs.pieces.read_lines.Goals as goal
 
-pub loop-line-init : goal.loop-line-init
-loop-line-init c = reading_none c.args.lines.now c.in_ok-entries.entries.items
-    c.in_ok-entries.ensures.items
+pub returns-in-Some : goal.returns-in-Some
+returns-in-Some c =
+    let line = c.line-item.result in
+    let bad = c.in-Some.bad in
+    let is_bad : bad_lines_at line.place line.meaning
+    ≡ record { place = bad.place; why = bad.why } ∷ [] = search rules in
+    reading_bad c.args.cache.now c.args.lines.now c.loop-line.line-index line
+    c.loop-line.piece.entries.items c.loop-line-test.true c.line-item.is c.loop-line.invariant
+    HasEntries bad is_bad
+
+pub loop-line-preserved : goal.loop-line-preserved
+loop-line-preserved c =
+    let line = c.line-item.result in
+    let next : SkipsOrReads c.args.cache.now line c.loop-line.piece.entries.items
+    c.read_if_fresh.new.piece.entries.items = search rules in
+    reading_more c.args.cache.now c.args.lines.now c.loop-line.line-index line
+    c.loop-line.piece.entries.items c.loop-line-test.true c.line-item.is c.loop-line.invariant _
+    next

@@ -1,7 +1,7 @@
 use Rattle.std.proofs.Common.{◌<◌, [], length, sym, subst, ◌∙◌, refl, arith, rules}
 use Rattle.std.proofs.lemmas.List.{nil_from_length}
 use Rattle.epx_merge.specs.LogLines.{meanings_of, bytes_of}
-use Rattle.epx_merge.specs.inner.ReadPieces.{AreRead, HasItems}
+use Rattle.epx_merge.specs.inner.ReadPieces.{AreRead, HasEntries}
 use Rattle.epx_merge.proofs.BatchLemmas.{is_some_length, so_far_first, so_far_next, so_far_less}
 use Rattle.epx_merge.proofs.BatchLemmas.{so_far_fault, so_far_over, fault_at_first}
 use Rattle.epx_merge.proofs.read.read_all.Goals as goal
@@ -9,20 +9,20 @@ use Rattle.epx_merge.proofs.read.read_all.Goals as goal
 pub loop-alloc-init : goal.loop-alloc-init
 loop-alloc-init g c =
     let all = meanings_of (bytes_of c.args.logs.now) in
-    let new = c.in_ok-start.start in
+    let start = c.new-start in
     let state = c.in_ok-state.state in
-    let unread = subst (λ pieces. AreRead HasItems [] pieces)
+    let unread = subst (λ pieces. AreRead HasEntries [] pieces)
     (sym c.new-2.ensures.items) refl in
-    so_far_first HasItems all new.walk state.walk
-    c.in_ok-state.lines.items c.new-read.result.items new.table state.table new.ledger
+    so_far_first HasEntries all start.result.walk state.walk
+    state.lines.items c.new-read.result.items c.in_ok-cache.cache start.result.ledger
     state.ledger
-    c.in_ok-start.ensures.walk c.in_ok-start.ensures.table c.in_ok-start.ensures.ledger
+    start.ensures.walk c.in_ok-cache.ensures start.ensures.ledger
     c.new-read.ensures.items (c.in_ok-state.ensures [] unread)
 
 pub returns-in_err-state : goal.returns-in_err-state
 returns-in_err-state g c =
     let all = meanings_of (bytes_of c.args.logs.now) in
-    let unread = subst (λ pieces. AreRead HasItems [] pieces)
+    let unread = subst (λ pieces. AreRead HasEntries [] pieces)
     (sym c.new-2.ensures.items) refl in
     let bad = fault_at_first all c.in_err-state.field-0.0 (c.in_err-state.ensures [] unread) in
     search (rules, bad)
@@ -31,8 +31,8 @@ pub returns-in_err-state-2 : goal.returns-in_err-state-2
 returns-in_err-state-2 g c =
     let all = meanings_of (bytes_of c.args.logs.now) in
     let h = c.loop-alloc.invariant in
-    let bad = so_far_fault HasItems all c.loop-alloc.state.walk
-    c.loop-alloc.lines.items c.loop-alloc.read.items c.loop-alloc.state.table
+    let bad = so_far_fault HasEntries all c.loop-alloc.state.walk
+    c.loop-alloc.state.lines.items c.loop-alloc.read.items c.loop-alloc.cache
     c.loop-alloc.state.ledger h c.in_err-state-2.field-0.0
     (c.in_err-state-2.ensures h.pending h.given) in
     search (rules, bad)
@@ -42,35 +42,34 @@ loop-alloc-smaller g c =
     let all = meanings_of (bytes_of c.args.logs.now) in
     let h = c.loop-alloc.invariant in
     let state = c.in_ok-state-2.field-0-0 in
-    let lines = c.in_ok-state-2.field-0-1 in
     let step = c.in_ok-state-2.ensures h.pending h.given in
-    let full = is_some_length c.loop-alloc.lines.len
+    let full = is_some_length c.loop-alloc.state.lines.len
     (sym c.is_empty.ensures ∙ c.loop-alloc-test.true) in
-    let some : 0 < length c.loop-alloc.lines.items =
-    omega (arith, full, c.loop-alloc.lines.ok.0) in
-    so_far_less HasItems all c.loop-alloc.state.walk
-    c.loop-alloc.lines.items c.loop-alloc.read.items c.loop-alloc.state.table
+    let some : 0 < length c.loop-alloc.state.lines.items =
+    omega (arith, full, c.loop-alloc.state.lines.ok.0) in
+    so_far_less HasEntries all c.loop-alloc.state.walk
+    c.loop-alloc.state.lines.items c.loop-alloc.read.items c.loop-alloc.cache
     c.loop-alloc.state.ledger h
-    state.walk lines.items state.table state.ledger step.0 some
+    state.walk state.lines.items state.ledger step.0 some
 
 pub loop-alloc-preserved : goal.loop-alloc-preserved
 loop-alloc-preserved g c =
     let all = meanings_of (bytes_of c.args.logs.now) in
     let h = c.loop-alloc.invariant in
     let state = c.in_ok-state-2.field-0-0 in
-    let lines = c.in_ok-state-2.field-0-1 in
     let step = c.in_ok-state-2.ensures h.pending h.given in
-    so_far_next HasItems all c.loop-alloc.state.walk
-    c.loop-alloc.lines.items c.loop-alloc.read.items c.loop-alloc.state.table
+    so_far_next HasEntries all c.loop-alloc.state.walk
+    c.loop-alloc.state.lines.items c.loop-alloc.read.items c.loop-alloc.cache
     c.loop-alloc.state.ledger h
-    state.walk lines.items state.table state.ledger step.0 c.in_ok-state-2.field-0-2.items step.1
+    state.walk state.lines.items state.ledger step.0 c.in_ok-state-2.field-0-2.items
+    c.in_ok-state-2.field-0-1 step.1
 
 pub returns-in_err-note_pieces : goal.returns-in_err-note_pieces
 returns-in_err-note_pieces g c =
     let all = meanings_of (bytes_of c.args.logs.now) in
     let h = c.loop-alloc.invariant in
-    let bad = so_far_fault HasItems all c.loop-alloc.state.walk
-    c.loop-alloc.lines.items c.loop-alloc.read.items c.loop-alloc.state.table
+    let bad = so_far_fault HasEntries all c.loop-alloc.state.walk
+    c.loop-alloc.state.lines.items c.loop-alloc.read.items c.loop-alloc.cache
     c.loop-alloc.state.ledger h c.in_err-note_pieces.field-0.0
     (c.in_err-note_pieces.ensures h.pending h.given) in
     search (rules, bad)
@@ -80,7 +79,7 @@ returns g c =
     let all = meanings_of (bytes_of c.args.logs.now) in
     let h = c.loop-alloc.invariant in
     let noted = c.in_ok-note_pieces.ensures h.pending h.given in
-    let none = nil_from_length c.loop-alloc.lines.items (search rules) in
-    so_far_over HasItems all c.loop-alloc.state.walk
-    c.loop-alloc.lines.items c.loop-alloc.read.items c.loop-alloc.state.table
+    let none = nil_from_length c.loop-alloc.state.lines.items (search rules) in
+    so_far_over HasEntries all c.loop-alloc.state.walk
+    c.loop-alloc.state.lines.items c.loop-alloc.read.items c.loop-alloc.cache
     c.loop-alloc.state.ledger h c.note_pieces.new.ledger none noted.0 noted.1

@@ -1,15 +1,19 @@
 use Rattle.std.proofs.Common.{rules}
 use Rattle.std.proofs.lemmas.Result.{IfOk-at_ok}
-use Rattle.epx_merge.specs.inner.ReadPieces.{AreRead, HasItems}
+use Rattle.epx_merge.specs.inner.ReadPieces.{IsBatchRead, HasEntries}
 use Rattle.epx_merge.specs.inner.ReadSteps.{IsReadStep}
 use Rattle.epx_merge.proofs.read.read_and_step.Goals as goal
 
 pub returns : goal.returns
 returns g c = λ done all.
-    let next = c.in_ok-state-2 in
-    let stepped : IsReadStep done c.args.state.ledger next.state.ledger c.args.state.walk
-    next.state.walk c.args.state.table next.state.table next.next.items = search rules in (
+    let next = c.in_ok-state-2.state in
+    let stepped : IsReadStep done c.args.state.ledger next.ledger c.args.state.walk next.walk
+    next.lines.items = search rules in (
       stepped,
-      IfOk-at_ok (λ v. AreRead HasItems c.args.lines.items
-          v.items) c.in_ok-read-2.was c.join-stepped.ensures.second,
+      IfOk-at_ok (λ v. IsBatchRead HasEntries c.args.batch.cache v.0 c.args.batch.lines.items
+          v.1.items) c.in_ok-cache-2.was c.join-stepped.ensures.second,
     )
+
+pub returns-in_err-cache-2 : goal.returns-in_err-cache-2
+returns-in_err-cache-2 g c = λ done all.
+    search (rules, c.from_residual-in_err-cache-2.ensures, c.in_err-cache-2.was)

@@ -10,5 +10,5 @@ returns-in-Some c = λ equal.
     let within : c.args.number < length lines = search rules in
     let is : c.in-Some.line.now ≡ get_or lines c.args.number c.in-Some.line.now = search rules in
     let bytes : c.in-Some.line.now.now ≡ c.args.bytes.now = search (rules, equal) in
-    subst (λ table. Contains table (meaning_of c.args.bytes.now)) same
+    subst (λ cache. Contains cache (meaning_of c.args.bytes.now)) same
     (found_in lines c.args.number c.in-Some.line.now c.args.bytes.now within is bytes)

@@ -1,5 +1,5 @@
 use Rattle.std.proofs.Common.{◌≡◌}
-use Rattle.epx_merge.proofs.line_cache.LineCache.find_or_keep.Given as goal
+use Rattle.epx_merge.proofs.line_cache.LineCache.insert.Given as goal
 
 abbrev pub invariant-loop-at : goal.invariant-loop-at
 invariant-loop-at l = l.self ≡ l.initial.self
