@@ -49,6 +49,16 @@ impl<'a> LineWalk<'a> {
         }
     }
 
+    /// The number of the log of the last line.
+    pub(crate) fn log(&self) -> usize {
+        self.log
+    }
+
+    /// Whether the last line is the last one of the first log.
+    pub(crate) fn ends_first_log(&self) -> bool {
+        self.log == 0 && self.rest.is_empty()
+    }
+
     /// The next line, if one is left.
     pub(crate) fn next_line(&mut self) -> Option<PlacedLine<'a>>
         ensures { MatchOption result ((self.old ≡ []) × (self.new ≡ []))
