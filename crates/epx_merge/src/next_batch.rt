@@ -22,14 +22,14 @@ const MIN_LINES_ALONE: usize = 1_024;
 /// batches are in memory: one is read while the next is cut.
 const MAX_BATCH_LINES: usize = 262_144;
 
-/// The number of lines in a batch of this log: four pieces for each worker, within the bounds.
-fn batch_len(plan: Plan, log: usize) -> usize
+/// The number of lines in a batch: four pieces for each worker, within the bounds.
+fn batch_len(plan: Plan, in_first_log: bool) -> usize
     ensures some { 0 < result }
     ensures few { result ≤ 262144 }
 {
     let least = if plan.workers() == 1 {
         MIN_LINES_ALONE
-    } else if log == 0 {
+    } else if in_first_log {
         MIN_LINES_EACH
     } else {
         MIN_LATER_LINES_EACH
@@ -49,7 +49,7 @@ pub(crate) fn next_batch<'a>(
     ensures last { IfOk result (λ v. v.items ≡ [] → walk.new ≡ []) }
     ensures few { IfOk result (λ v. length v.items ≤ 2 ^ 40) }
 {
-    let most = batch_len(plan, walk.log());
+    let most = batch_len(plan, walk.is_in_first_log());
     let mut lines = Vec::new(alloc);
     while lines.len() < most {
         let Some(line) = walk.next_line() else {

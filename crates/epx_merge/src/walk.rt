@@ -49,12 +49,12 @@ impl<'a> LineWalk<'a> {
         }
     }
 
-    /// The number of the log of the last line.
-    pub(crate) fn log(&self) -> usize {
-        self.log
+    /// Whether the next line is one of the first log.
+    pub(crate) fn is_in_first_log(&self) -> bool {
+        self.log == 0 && !self.rest.is_empty()
     }
 
-    /// Whether the last line is the last one of the first log.
+    /// Whether the last line was the last one of the first log.
     pub(crate) fn ends_first_log(&self) -> bool {
         self.log == 0 && self.rest.is_empty()
     }
