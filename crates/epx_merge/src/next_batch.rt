@@ -7,9 +7,12 @@ use crate::walk::LineWalk;
 use epx_types::{Memory, Plan};
 use std::alloc::Global;
 
-/// The least number of lines in a batch for each of several workers. Fewer are not worth a thread,
-/// since most of them may be repeats.
-const MIN_LINES_EACH: usize = 8_192;
+/// The least number of lines in a batch for each of several workers, in the first log. Fewer are
+/// not worth a thread.
+const MIN_LINES_EACH: usize = 4_096;
+
+/// The same in later logs. Most of their lines repeat earlier ones, and are skipped in little time.
+const MIN_LATER_LINES_EACH: usize = 16_384;
 
 /// The same for one worker, which starts no thread. So few lines stay in its cache until it reads
 /// them.
@@ -20,20 +23,23 @@ const MIN_LINES_ALONE: usize = 1_024;
 const MAX_BATCH_LINES: usize = 262_144;
 
 /// The number of lines in a batch: four pieces for each worker, within the bounds.
-fn batch_len(plan: Plan) -> usize
+fn batch_len(plan: Plan, in_first_log: bool) -> usize
     ensures some { 0 < result }
     ensures few { result ≤ 262144 }
 {
     let least = if plan.workers() == 1 {
         MIN_LINES_ALONE
-    } else {
+    } else if in_first_log {
         MIN_LINES_EACH
+    } else {
+        MIN_LATER_LINES_EACH
     };
     let each = (4 * plan.cut()).max(least);
     (plan.workers() * each).min(MAX_BATCH_LINES)
 }
 
-/// The next lines that are not blank. The batch is empty only if no line is left.
+/// The next lines that are not blank. The batch is empty only if no line is left. A batch of the
+/// first log ends with it, so that the cache has all its lines when later logs repeat them.
 pub(crate) fn next_batch<'a>(
     alloc: Global,
     plan: Plan,
@@ -43,7 +49,7 @@ pub(crate) fn next_batch<'a>(
     ensures last { IfOk result (λ v. v.items ≡ [] → walk.new ≡ []) }
     ensures few { IfOk result (λ v. length v.items ≤ 2 ^ 40) }
 {
-    let most = batch_len(plan);
+    let most = batch_len(plan, walk.is_in_first_log());
     let mut lines = Vec::new(alloc);
     while lines.len() < most {
         let Some(line) = walk.next_line() else {
@@ -51,6 +57,9 @@ pub(crate) fn next_batch<'a>(
         };
         if !line.is_blank() {
             lines.push(line)?;
+            if walk.ends_first_log() {
+                return Ok(lines);
+            }
         }
     }
     Ok(lines)

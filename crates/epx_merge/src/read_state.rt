@@ -20,6 +20,8 @@ use std::alloc::Global;
 pub(crate) struct ReadState<'a> {
     pub(crate) ledger: Ledger,
     pub(crate) walk: LineWalk<'a>,
+    // A field, and not a second result of `next_step`: `join` passes on what a closure ensures only
+    // if what it captures owns a list with the lifetime.
     pub(crate) lines: Vec<PlacedLine<'a>>,
 }
 

@@ -49,6 +49,16 @@ impl<'a> LineWalk<'a> {
         }
     }
 
+    /// Whether the next line is one of the first log.
+    pub(crate) fn is_in_first_log(&self) -> bool {
+        self.log == 0 && !self.rest.is_empty()
+    }
+
+    /// Whether the last line was the last one of the first log.
+    pub(crate) fn ends_first_log(&self) -> bool {
+        self.log == 0 && self.rest.is_empty()
+    }
+
     /// The next line, if one is left.
     pub(crate) fn next_line(&mut self) -> Option<PlacedLine<'a>>
         ensures { MatchOption result ((self.old ≡ []) × (self.new ≡ []))
