@@ -4,14 +4,14 @@ use Rattle.std.proofs.Common.{arith}
 use Rattle.epx_devices.specs.Transfers.{ConsumesUpTo}
 use Rattle.epx_tool.specs.Sources.{EachConsumesUpTo}
 
-module _ {S : Type 0} (remaining : S → Option (List ℕ)) (n : ℕ) where
-  nothing : (bytes : Option (List ℕ)) → ConsumesUpTo bytes bytes n
-  nothing None = ([], tt, omega arith)
-  nothing (Some bytes) = ([], refl, omega arith)
+pub nothing_consumed : (n : ℕ) (bytes : Option (List ℕ)) → ConsumesUpTo bytes bytes n
+nothing_consumed n None = ([], tt, omega arith)
+nothing_consumed n (Some bytes) = ([], refl, omega arith)
 
+module _ {S : Type 0} (remaining : S → Option (List ℕ)) (n : ℕ) where
   pub none_consumed : (first : List S) → EachConsumesUpTo remaining first first n
   none_consumed [] = tt
-  none_consumed (source ∷ first) = (nothing (remaining source), none_consumed first)
+  none_consumed (source ∷ first) = (nothing_consumed n (remaining source), none_consumed first)
 
   pub one_consumed : (first now : List S) (log : ℕ) (d later : S)
       → EachConsumesUpTo remaining first now n

@@ -3,6 +3,7 @@ mod SourceLemmas
 mod DeliveredLemmas
 mod UniqueAnswerLemmas
 mod LogsWithInputLemmas
+mod ReturnedFaultLemmas
 mod UniqueAnswerWithInputLemmas
 mod AnswerWithInputLemmas
 mod AnswerLemmas

@@ -66,7 +66,7 @@ module _ {S : Type 0} (remaining : S → Option (List ℕ)) (has_failed : S → 
       let b = slice_get-from_map Some logs n (remaining s) here in
       (b.0, b.1, sym b.2)
 
-  as_many_logs : (first : List S) (logs : List (List ℕ)) → AreBytesOf remaining first logs
+  pub as_many_logs : (first : List S) (logs : List (List ℕ)) → AreBytesOf remaining first logs
       → length logs ≡ length first
   as_many_logs first logs e = sym (length-map logs Some) ∙ sym (ap length e)
       ∙ length-map first remaining
@@ -181,6 +181,12 @@ module _ {S : Type 0} (remaining : S → Option (List ℕ)) (has_failed : S → 
     -- there is one log for each source
     pub each_read : length first ≤ n → length read ≡ length first
     each_read all = omega (arith, all, h.count, h.within)
+
+    -- the logs are the bytes of the sources, where these are known
+    pub all_known : length first ≤ n → (logs : List (List ℕ)) → AreBytesOf remaining first logs
+        → read ≡ logs
+    all_known all logs e =
+        h.known logs e ∙ take_all n logs (omega (arith, all, as_many_logs first logs e))
 
     -- all sources are at their ends
     pub all_ended : length first ≤ n → All (λ s. IsAtEnd (remaining s)) now

@@ -1,7 +1,10 @@
 //! The answer to logs.
-ghost use Rattle.std.specs.Prelude.{◌≡◌, ◌≤◌, length, map, IfOk, MatchResult, Ok, Err};
+ghost use Rattle.std.specs.Prelude.{◌≡◌, ◌≤◌, ◌^◌, length, map, IfOk, OnOk, MatchResult};
+ghost use Rattle.std.specs.Prelude.{Ok, Err};
 ghost use Rattle.epx_types.specs.CommittedMap.{instance_of};
+ghost use Rattle.epx_types.specs.Execution.{execute};
 ghost use Rattle.epx_types.specs.Ids.{IsRising};
+ghost use Rattle.epx_types.specs.Levels.{AreLevels};
 ghost use Rattle.epx_merge.specs.Limits.{max_instances};
 ghost use Rattle.epx_merge.specs.LogLines.{bytes_of};
 ghost use Rattle.epx_tool.specs.Answer.{Answers, IsAnswer};
@@ -16,7 +19,7 @@ ghost use Rattle.epx_picture.specs.Pictures.{IsPicture};
 use crate::ask::Ask;
 use crate::report::{level_report, order_report, report};
 use crate::verdict::audit_line;
-use epx_apply::{levels, run_order};
+use epx_apply::{LevelMap, levels, run_order};
 use epx_claims::FreeGate;
 use epx_graph::{Waiter, build, build_after, waiting};
 use epx_merge::{Merged, read_logs};
@@ -42,6 +45,34 @@ fn commands<'a>(alloc: Global, merged: &'a Merged, ids: &[Id]) -> Result<Vec<Com
         commands.push(Command { id: *id, ops })?;
     }
     Ok(commands)
+}
+
+/// The conflict levels of the commands of some instances.
+fn command_levels(alloc: Global, merged: &Merged, ids: &[Id]) -> Result<LevelMap, Memory>
+    ensures { IfOk result
+        (AreLevels (map (λ x. ops_found (instance_of merged.now x)) ids.now)) }
+{
+    let commands = commands(alloc, merged, ids)?;
+    levels(alloc, &commands)
+}
+
+/// Executes the commands of some instances on a store, and returns their replies.
+fn execute_all<R: Threads + RandomSource + Sync>(
+    rt: &R,
+    alloc: Global,
+    merged: &Merged,
+    ids: &[Id],
+    store: &mut Store,
+    plan: Plan,
+) -> Result<Vec<Reply>, Memory>
+    requires { length ids.now ≤ 2 ^ 40 }
+    ensures replies { IfOk result (λ replies. replies.items
+        ≡ (execute (map (λ x. ops_found (instance_of merged.now x)) ids.now) store.old).replies) }
+    ensures after { OnOk result (store.new
+        ≡ (execute (map (λ x. ops_found (instance_of merged.now x)) ids.now) store.old).final) }
+{
+    let commands = commands(alloc, merged, ids)?;
+    run_order(rt, alloc, store, &commands, plan, &FreeGate)
 }
 
 /// Writes the report of an execution. It does not need the map. With several workers another
@@ -94,9 +125,7 @@ pub(crate) fn report_of<R: Threads + RandomSource + Sync>(
     let order = order(rt, alloc, &merged, &graph)?;
     let waiters = waiting(alloc, &graph)?;
     drop(graph);
-    let commands = commands(alloc, &merged, order.ids())?;
-    let replies = run_order(rt, alloc, &mut store, &commands, plan, &FreeGate)?;
-    drop(commands);
+    let replies = execute_all(rt, alloc, &merged, order.ids(), &mut store, plan)?;
     write_report(
         rt, alloc, plan, merged, done, &order, &waiters, &replies, &store,
     )
@@ -142,8 +171,7 @@ fn levels_of<R: Threads + Sync>(
     let graph = build(rt, alloc, merged, plan)?;
     let order = order(rt, alloc, merged, &graph)?;
     let waiters = waiting(alloc, &graph)?;
-    let commands = commands(alloc, merged, order.ids())?;
-    let levels = levels(alloc, &commands)?;
+    let levels = command_levels(alloc, merged, order.ids())?;
     level_report(alloc, &order, &waiters, &levels)
 }
 

@@ -65,7 +65,14 @@ fn append_order(alloc: Global, text: &mut Vec<u8>, order: &OrderList) -> Result<
     let mut line = Vec::new(alloc);
     for (position, id) in order.ids().iter().enumerate() {
         let leader = order.component_of(position);
-        append_ranked(alloc, text, &mut line, *id, order.depth_of(position), leader)?;
+        append_ranked(
+            alloc,
+            text,
+            &mut line,
+            *id,
+            order.depth_of(position),
+            leader,
+        )?;
     }
     Ok(())
 }

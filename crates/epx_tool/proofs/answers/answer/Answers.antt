@@ -1,4 +1,3 @@
-
 use Rattle.epx_tool.proofs.AcceptedLogLemmas.{accepted_are_few}
 use Rattle.epx_tool.proofs.answers.answer.Goals as goal
 use Rattle.epx_merge.specs.LogLines.{bytes_of}

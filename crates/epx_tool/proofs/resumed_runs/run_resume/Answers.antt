@@ -1,101 +1,145 @@
-use Rattle.std.proofs.Common.{◌≡◌, Ok, Err, inl, inr, ap, sym, subst}
+use Rattle.std.proofs.Common.{Ok, length, inl, inr, sym, subst}
 use Rattle.std.proofs.lemmas.Result.{on_ok_weaker, IfErr-weaker}
 use Rattle.std.specs.Io.KnownBytes.{Appends}
-use Rattle.epx_types.specs.declared.fault.Fault.TheVariants.{LogTooLong, Read}
+use Rattle.epx_types.specs.declared.fault.Fault.TheVariants.{TooManyLogs, Read, Write}
 use Rattle.epx_base.specs.Bases.{IsBadBase}
 use Rattle.epx_devices.specs.Transfers.{AppendsPrefix}
-use Rattle.epx_tool.specs.RunsWithInput.{IsRunFaultWithInput}
-use Rattle.epx_tool.specs.Resumption.{IsResumedText, Resumes}
-use Rattle.epx_tool.proofs.KnownTextLemmas.{known_answer}
-use Rattle.epx_tool.proofs.LogsWithInputLemmas.{no_stop, run_fault_of_reading}
-use Rattle.epx_tool.proofs.resumed_runs.run_resume.Goals as goal
 use Rattle.epx_merge.specs.LogLines.{bytes_of}
+use Rattle.epx_tool.specs.Resumption.{IsResumedText, Resumes}
+use Rattle.epx_tool.specs.RunsWithInput.{IsRunFaultWithInput}
+use Rattle.epx_tool.proofs.KnownTextLemmas.{known_answer}
+use Rattle.epx_tool.proofs.LogsWithInputLemmas.{run_fault_of_reading}
+use Rattle.epx_tool.proofs.ReturnedFaultLemmas.{same_error, same_error_iff, same_stop}
+use Rattle.epx_tool.proofs.ReturnedFaultLemmas.{read_iff, too_many_iff, HasRead-written}
+use Rattle.epx_tool.proofs.ReturnedFaultLemmas.{HasRead-refused_with_input, neither}
+use Rattle.epx_tool.proofs.ReturnedFaultLemmas.{refusal_with_input_not_write}
+use Rattle.epx_tool.proofs.ReturnedFaultLemmas.{run_fault_of_refusal_with_input}
+use Rattle.epx_tool.proofs.ReturnedFaultLemmas.{written_iff, on_ok, keeps_itself}
+use Rattle.epx_tool.proofs.resumed_runs.run_resume.Goals as goal
 
-pub returns-in-Err-clause-base_untouched : goal.returns-in-Err-clause-base_untouched
-returns-in-Err-clause-base_untouched g c log (inl long) lower =
-    let named : c.in-Err.fault ≡ LogTooLong log = cc long in
-    c.in-Err.ensures.input_untouched log (inl (ap Err named)) lower
-returns-in-Err-clause-base_untouched g c log (inr unread) lower =
-    let named : c.in-Err.fault ≡ Read log = cc unread in
-    c.in-Err.ensures.input_untouched log (inr (ap Err named)) lower
+pub returns-in-Err : goal.returns-in-Err
+returns-in-Err g c =
+    let fault = c.in-Err.fault in
+    let read = c.in-Err.ensures in
+    record {
+      text = tt;
+      answered = tt;
+      flushed = tt;
+      refusal = λ given logs known are.
+          run_fault_of_reading logs given IsBadBase IsResumedText fault (read.refusal given logs known are);
+      refused = λ other. inl read.stopped;
+      nothing = λ other. keeps_itself (g.W.Sink.contents c.args.sink.now);
+      prefix = λ is. absurd (read.nothing_written (same_error fault Write is));
+      part = λ is. absurd (read.nothing_written (same_error fault Write is));
+      read = λ log source there. same_error_iff fault (Read log) _ (read.failed log source there);
+      base_read = same_error_iff fault (Read (length c.args.sources.now)) _ read.input_failed;
+      written = neither _ _ (λ is. read.nothing_written (same_error fault Write is))
+          c.requires.sink;
+      taken = read.taken;
+      base_taken = read.input_taken;
+      ended = tt;
+      base_ended = tt;
+      no_further = λ log stops. read.no_further log (same_stop fault log stops);
+      base_untouched = λ log stops lower.
+          read.input_untouched log (same_stop fault log stops) lower;
+      too_many = same_error_iff fault TooManyLogs _ read.too_many;
+      none_read = λ is. read.none_read (same_error fault TooManyLogs is);
+    }
 
-pub returns-in-Err-resume_owned-clause-no_further : goal.returns-in-Err-resume_owned-clause-no_further
-returns-in-Err-resume_owned-clause-no_further g c log stops =
-    absurd (no_stop (bytes_of c.in-Ok.read.1.items) c.in-Ok.read.0.items IsBadBase
-    c.in-Err-resume_owned.fault log c.in-Ok.ensures.fit c.in-Ok.ensures.short
-    c.in-Err-resume_owned.ensures stops)
+pub returns-in-Err-resume_owned : goal.returns-in-Err-resume_owned
+returns-in-Err-resume_owned g c =
+    let fault = c.in-Err-resume_owned.fault in
+    let refused = c.in-Err-resume_owned.ensures in
+    let input = c.in-Ok.read.0.items in
+    let logs = bytes_of c.in-Ok.read.1.items in
+    let read = c.in-Ok.ensures in
+    let has = HasRead-refused_with_input logs fault read.fit IsBadBase input read.short refused in record {
+      text = tt;
+      answered = tt;
+      flushed = tt;
+      refusal = λ given others known are. subst (λ ls. IsRunFaultWithInput IsBadBase IsResumedText given ls fault)
+          (read.bytes others are)
+          (subst (λ bytes. IsRunFaultWithInput IsBadBase IsResumedText bytes logs fault) (read.text given known)
+          (run_fault_of_refusal_with_input IsBadBase IsResumedText input logs fault refused));
+      refused = λ other. inr (record {
+        input = input;
+        logs = logs;
+        delivered = read.delivered;
+        refusal = refused;
+      });
+      nothing = λ other. keeps_itself (g.W.Sink.contents c.args.sink.now);
+      prefix = λ is. absurd (refusal_with_input_not_write IsBadBase input logs fault refused is);
+      part = λ is. absurd (refusal_with_input_not_write IsBadBase input logs fault refused is);
+      read = λ log source there. read_iff _ has _ _ log (read.failed log source there);
+      base_read = read_iff _ has _ _ (length c.args.sources.now) read.input_failed;
+      written = neither _ _ (refusal_with_input_not_write IsBadBase input logs fault refused)
+          c.requires.sink;
+      taken = read.taken;
+      base_taken = read.input_taken;
+      ended = tt;
+      base_ended = tt;
+      no_further = λ log stops. absurd (has.not_stopped log stops);
+      base_untouched = λ log stops lower. absurd (has.not_stopped log stops);
+      too_many = too_many_iff _ has _ _ read.too_many;
+      none_read = λ is. absurd (has.not_too_many is);
+    }
 
-pub returns-in-Err-resume_owned-clause-base_untouched : goal.returns-in-Err-resume_owned-clause-base_untouched
-returns-in-Err-resume_owned-clause-base_untouched g c log stops lower =
-    absurd (no_stop (bytes_of c.in-Ok.read.1.items) c.in-Ok.read.0.items IsBadBase
-    c.in-Err-resume_owned.fault log c.in-Ok.ensures.fit c.in-Ok.ensures.short
-    c.in-Err-resume_owned.ensures stops)
-
-pub returns-clause-text : goal.returns-clause-text
-returns-clause-text g c = on_ok_weaker c.write_out.result (λ written before logs known are. (
-  c.in-Ok-resume_owned.text.items,
-  known_answer Resumes c.in-Ok.read.0.items before (bytes_of c.in-Ok.read.1.items)
-      logs (Ok c.in-Ok-resume_owned.text.items) (c.in-Ok.ensures.text before known)
-      (c.in-Ok.ensures.bytes logs are) c.in-Ok-resume_owned.ensures,
-  subst (Appends _ _) c.deref.ensures.value written,
-)) c.write_out.ensures.bytes
-
-pub returns-clause-answered : goal.returns-clause-answered
-returns-clause-answered g c = on_ok_weaker c.write_out.result (λ written. record {
-  input = c.in-Ok.read.0.items;
-  logs = bytes_of c.in-Ok.read.1.items;
-  delivered = c.in-Ok.ensures.delivered;
-  text = c.in-Ok-resume_owned.text.items;
-  answer = c.in-Ok-resume_owned.ensures;
-  written = subst (Appends _ _) c.deref.ensures.value written;
-}) c.write_out.ensures.bytes
-
-pub returns-clause-refusal : goal.returns-clause-refusal
-returns-clause-refusal g c = IfErr-weaker c.write_out.result _ _ (λ fault is before logs known are.
-    subst (IsRunFaultWithInput IsBadBase IsResumedText before logs) (sym is) (
-      c.in-Ok-resume_owned.text.items,
-      known_answer Resumes c.in-Ok.read.0.items before
-          (bytes_of c.in-Ok.read.1.items) logs (Ok c.in-Ok-resume_owned.text.items)
-          (c.in-Ok.ensures.text before known) (c.in-Ok.ensures.bytes logs are)
-          c.in-Ok-resume_owned.ensures,
-    )) c.write_out.ensures.faults
-
-pub returns-clause-prefix : goal.returns-clause-prefix
-returns-clause-prefix g c is before logs known are = (
-  c.in-Ok-resume_owned.text.items,
-  known_answer Resumes c.in-Ok.read.0.items before (bytes_of c.in-Ok.read.1.items)
-      logs (Ok c.in-Ok-resume_owned.text.items) (c.in-Ok.ensures.text before known)
-      (c.in-Ok.ensures.bytes logs are) c.in-Ok-resume_owned.ensures,
-  subst (AppendsPrefix _ _) c.deref.ensures.value c.write_out.ensures.prefix,
-)
-
-pub returns-clause-part : goal.returns-clause-part
-returns-clause-part g c is = record {
-  input = c.in-Ok.read.0.items;
-  logs = bytes_of c.in-Ok.read.1.items;
-  delivered = c.in-Ok.ensures.delivered;
-  text = c.in-Ok-resume_owned.text.items;
-  answer = c.in-Ok-resume_owned.ensures;
-  written = subst (AppendsPrefix _ _) c.deref.ensures.value c.write_out.ensures.prefix;
-}
-
-pub returns-in-Err-clause-refused : goal.returns-in-Err-clause-refused
-returns-in-Err-clause-refused g c other = inl c.in-Err.ensures.stopped
-
-pub returns-in-Err-resume_owned-clause-refused : goal.returns-in-Err-resume_owned-clause-refused
-returns-in-Err-resume_owned-clause-refused g c other = inr (record {
-  input = c.in-Ok.read.0.items;
-  logs = bytes_of c.in-Ok.read.1.items;
-  delivered = c.in-Ok.ensures.delivered;
-  refusal = c.in-Err-resume_owned.ensures;
-})
-
-pub returns-clause-refused : goal.returns-clause-refused
-returns-clause-refused g c =
-    IfErr-weaker c.write_out.result _ _ (λ fault is other. absurd (other is))
-    c.write_out.ensures.faults
-
-pub returns-in-Err-clause-refusal : goal.returns-in-Err-clause-refusal
-returns-in-Err-clause-refusal g c before logs known are =
-    run_fault_of_reading logs before IsBadBase IsResumedText c.in-Err.fault
-    (c.in-Err.ensures.refusal before logs known are)
+pub returns : goal.returns
+returns g c =
+    let done = c.write_out.result in
+    let out = c.write_out.ensures in
+    let input = c.in-Ok.read.0.items in
+    let logs = bytes_of c.in-Ok.read.1.items in
+    let read = c.in-Ok.ensures in
+    let text = c.in-Ok-resume_owned.text.items in
+    let answer = c.in-Ok-resume_owned.ensures in
+    let has = HasRead-written done out.faults in record {
+      text = on_ok_weaker done (λ written given others known are. (
+        text,
+        known_answer Resumes input given logs others (Ok text) (read.text given known)
+            (read.bytes others are) answer,
+        subst (Appends _ _) c.deref.ensures.value written,
+      )) out.bytes;
+      answered = on_ok_weaker done (λ written. record {
+        input = input;
+        logs = logs;
+        delivered = read.delivered;
+        text = text;
+        answer = answer;
+        written = subst (Appends _ _) c.deref.ensures.value written;
+      }) out.bytes;
+      flushed = out.flushed;
+      refusal = IfErr-weaker done _ _ (λ fault is given others known are.
+          subst (IsRunFaultWithInput IsBadBase IsResumedText given others) (sym is) (
+            text,
+            known_answer Resumes input given logs others (Ok text) (read.text given known)
+                (read.bytes others are) answer,
+          )) out.faults;
+      refused = IfErr-weaker done _ _ (λ fault is other. absurd (other is)) out.faults;
+      nothing = IfErr-weaker done _ _ (λ fault is other. absurd (other is)) out.faults;
+      prefix = λ is given others known are. (
+        text,
+        known_answer Resumes input given logs others (Ok text) (read.text given known)
+            (read.bytes others are) answer,
+        subst (AppendsPrefix _ _) c.deref.ensures.value out.prefix,
+      );
+      part = λ is. record {
+        input = input;
+        logs = logs;
+        delivered = read.delivered;
+        text = text;
+        answer = answer;
+        written = subst (AppendsPrefix _ _) c.deref.ensures.value out.prefix;
+      };
+      read = λ log source there. read_iff done has _ _ log (read.failed log source there);
+      base_read = read_iff done has _ _ (length c.args.sources.now) read.input_failed;
+      written = written_iff done _ out.faults out.failed;
+      taken = read.taken;
+      base_taken = read.input_taken;
+      ended = on_ok done _ read.ended;
+      base_ended = on_ok done _ read.input_ended;
+      no_further = λ log stops. absurd (has.not_stopped log stops);
+      base_untouched = λ log stops lower. absurd (has.not_stopped log stops);
+      too_many = too_many_iff done has _ _ read.too_many;
+      none_read = λ is. absurd (has.not_too_many is);
+    }

@@ -1,4 +1,3 @@
-
 use Rattle.epx_base.proofs.DoneInstanceLemmas.{base_done_rise}
 use Rattle.epx_tool.proofs.AcceptedLogLemmas.{accepted_are_few}
 use Rattle.epx_tool.proofs.resumptions.resume.Goals as goal

@@ -1,4 +1,3 @@
-
 use Rattle.epx_tool.proofs.DeliveredLemmas.{AreDeliveredUpTo}
 use Rattle.epx_tool.proofs.sources.read_sources.Given as goal
 use Rattle.epx_merge.specs.LogLines.{bytes_of}

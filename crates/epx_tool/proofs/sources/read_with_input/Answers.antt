@@ -1,71 +1,130 @@
-use Rattle.std.proofs.Common.{◌≡◌, ◌+◌, ℕ, List, Option, length, Err, inl, inr, ap, subst}
-use Rattle.std.proofs.Common.{arith}
+use Rattle.std.proofs.Common.{◌≡◌, ◌+◌, ℕ, List, Option, length, inl, inr, refl, ap, sym, ◌∙◌, subst}
+use Rattle.std.specs.Prelude.{IfSome}
 use Rattle.std.proofs.lemmas.List.{length-map}
 use Rattle.std.proofs.lemmas.Option.{slice_get_within}
-use Rattle.epx_types.specs.declared.fault.Fault.TheVariants.{Read}
+use Rattle.epx_types.specs.declared.fault.Fault.TheVariants.{TooManyLogs, Read, Write}
 use Rattle.epx_devices.specs.Deliveries.{IsLogStop}
 use Rattle.epx_devices.specs.Transfers.{ConsumesExactly}
 use Rattle.epx_merge.specs.Limits.{max_log_bytes}
 use Rattle.epx_merge.specs.Refusals.{FitLimits}
 use Rattle.epx_merge.specs.LogLines.{bytes_of}
-use Rattle.epx_tool.proofs.LogsWithInputLemmas.{input_after_logs, reading_refusal_with_input}
+use Rattle.epx_tool.proofs.ConsumedLemmas.{nothing_consumed}
+use Rattle.epx_tool.proofs.LogsWithInputLemmas.{reading_refusal_with_input}
 use Rattle.epx_tool.proofs.LogsWithInputLemmas.{refusal_of_reading_with_input}
+use Rattle.epx_tool.proofs.ReturnedFaultLemmas.{same_error, same_error_iff, same_stop}
+use Rattle.epx_tool.proofs.ReturnedFaultLemmas.{neither, other_iff, ok_is_no_fault}
+use Rattle.epx_tool.proofs.ReturnedFaultLemmas.{ok_does_not_stop, ok_failed_iff}
+use Rattle.epx_tool.proofs.ReturnedFaultLemmas.{input_not_write, input_not_too_many}
+use Rattle.epx_tool.proofs.ReturnedFaultLemmas.{input_not_log, input_failed_iff}
+use Rattle.epx_tool.proofs.ReturnedFaultLemmas.{stops_at_input, no_log_below, same_past_end}
 use Rattle.epx_tool.proofs.sources.read_with_input.Goals as goal
 
-pub returns-in-Err-clause-input_failed : goal.returns-in-Err-clause-input_failed
-returns-in-Err-clause-input_failed g c = (
-  λ is.
-      let named : c.in-Err.fault ≡ Read (length c.args.sources.now) = cc is in
-      let within = c.in-Err.ensures.place (length c.args.sources.now) (inr (ap Err named)) in
-      absurd (omega (arith, within)),
-  λ bad. let well = c.requires.input in absurd (cc (well, bad)),
-)
+pub returns-in-Err : goal.returns-in-Err
+returns-in-Err g c =
+    let fault = c.in-Err.fault in
+    let read = c.in-Err.ensures in
+    let count = length c.args.sources.now in record {
+      text = tt;
+      bytes = tt;
+      each = tt;
+      short = tt;
+      fit = tt;
+      delivered = tt;
+      refusal = λ before logs known are.
+          reading_refusal_with_input logs before fault (read.refusal logs are);
+      stopped = inl read.stopped;
+      nothing_written = λ is. read.nothing_written (same_error fault Write is);
+      failed = λ log source there. same_error_iff fault (Read log) _ (read.failed log source there);
+      input_failed = neither _ _
+          (λ is. no_log_below count count count refl refl
+          (read.place count (inr (same_error fault (Read count) is))))
+          c.requires.input;
+      taken = read.taken;
+      input_taken = nothing_consumed (max_log_bytes + 1) (g.B.Source.remaining c.args.input.now);
+      ended = tt;
+      input_ended = tt;
+      no_further = λ log stops. read.no_further log (same_stop fault log stops);
+      input_untouched = λ log stops lower. refl;
+      too_many = same_error_iff fault TooManyLogs _ read.too_many;
+      none_read = λ is. (read.none_read (same_error fault TooManyLogs is), refl);
+    }
 
-pub returns-in-Err-read_log-clause-refusal : goal.returns-in-Err-read_log-clause-refusal
-returns-in-Err-read_log-clause-refusal g c before logs known are =
-    let same = c.in-Ok.ensures.bytes logs are in
-    let many : length c.read_sources.new.sources ≡ length logs =
-    omega (
-      arith,
-      c.read_sources.auto.sources,
-      c.in-Ok.ensures.each,
-      length-map c.in-Ok.logs.items (λ log. log.items),
-      ap length same,
-    ) in
-    refusal_of_reading_with_input logs before (length c.read_sources.new.sources)
-    (g.B.Source.remaining c.read_log.new.source) c.in-Err-read_log.fault many
-    (subst FitLimits same c.in-Ok.ensures.fit)
-    c.in-Err-read_log.ensures.faults
-    (λ is. subst (λ (o : Option (List ℕ)). ConsumesExactly o
-    (g.B.Source.remaining c.read_log.new.source) (max_log_bytes + 1)) known
-    (c.in-Err-read_log.ensures.too_long is))
-
-pub returns-in-Err-read_log-clause-failed : goal.returns-in-Err-read_log-clause-failed
-returns-in-Err-read_log-clause-failed g c log source there =
-    let here = c.in-Ok.ensures.failed log source there in (
-      λ is. absurd (input_after_logs (length c.read_sources.new.sources) c.in-Err-read_log.fault
-          log c.in-Err-read_log.ensures.faults (cc is)
-          (slice_get_within c.read_sources.new.sources log source there)),
-      λ bad. let never = here.1 bad in absurd (cc never),
-    )
-
-pub returns-in-Err-clause-stopped : goal.returns-in-Err-clause-stopped
-returns-in-Err-clause-stopped g c = inl c.in-Err.ensures.stopped
-
-pub returns-in-Err-read_log-clause-stopped : goal.returns-in-Err-read_log-clause-stopped
-returns-in-Err-read_log-clause-stopped g c =
-    let many : length c.read_sources.new.sources ≡ length c.args.sources.now =
-    omega (arith, c.read_sources.auto.sources) in
+pub returns-in-Err-read_log : goal.returns-in-Err-read_log
+returns-in-Err-read_log g c =
+    let read = c.in-Ok.ensures in
+    let fault = c.in-Err-read_log.fault in
+    let of_input = c.in-Err-read_log.ensures in
+    let old = c.args.sources.now in
+    let new = c.read_sources.new.sources in
+    let count = length new in
+    let many = c.read_sources.auto.sources in
     let StopsAt : ℕ → Type 0 = λ n.
-    IsLogStop g.B.Source.reads g.B.Source.fails n c.args.input.now c.read_log.new.source
-    c.in-Err-read_log.fault in
-    inr (record {
-      logs = bytes_of c.in-Ok.logs.items;
-      delivered = c.in-Ok.ensures.delivered;
-      short = c.in-Ok.ensures.fit.1;
-      stopped = subst StopsAt many c.in-Err-read_log.ensures.stops;
-    })
+    IsLogStop g.B.Source.reads g.B.Source.fails n c.args.input.now c.read_log.new.source fault in
+    record {
+      text = tt;
+      bytes = tt;
+      each = tt;
+      short = tt;
+      fit = tt;
+      delivered = tt;
+      refusal = λ before logs known are.
+          let same = read.bytes logs are in
+          let logs_many : count ≡ length logs =
+          many ∙ sym read.each ∙ sym (length-map c.in-Ok.logs.items (λ log. log.items))
+          ∙ ap length same in
+          refusal_of_reading_with_input logs before count
+          (g.B.Source.remaining c.read_log.new.source) fault logs_many
+          (subst FitLimits same read.fit) of_input.faults
+          (λ is. subst (λ (o : Option (List ℕ)). ConsumesExactly o
+          (g.B.Source.remaining c.read_log.new.source) (max_log_bytes + 1)) known
+          (of_input.too_long is));
+      stopped = inr (record {
+        logs = bytes_of c.in-Ok.logs.items;
+        delivered = read.delivered;
+        short = read.fit.1;
+        stopped = subst StopsAt many of_input.stops;
+      });
+      nothing_written = input_not_write count fault of_input.faults;
+      failed = λ log source there. other_iff _ _ (Read log) _
+          (input_not_log count fault of_input.faults log (slice_get_within new log source there))
+          (read.failed log source there);
+      input_failed = input_failed_iff fault count (length old) _ many of_input.failed;
+      taken = read.taken;
+      input_taken = of_input.no_further;
+      ended = tt;
+      input_ended = tt;
+      no_further = λ log stops. same_past_end new old log many
+          (stops_at_input count fault of_input.faults log stops);
+      input_untouched = λ log stops lower. absurd (no_log_below log count (length old)
+          (stops_at_input count fault of_input.faults log stops) many lower);
+      too_many = other_iff _ _ TooManyLogs _
+          (input_not_too_many count fault of_input.faults) read.too_many;
+      none_read = λ is. absurd (input_not_too_many count fault of_input.faults is);
+    }
 
-pub returns-in-Err-clause-refusal : goal.returns-in-Err-clause-refusal
-returns-in-Err-clause-refusal g c before logs known are =
-    reading_refusal_with_input logs before c.in-Err.fault (c.in-Err.ensures.refusal logs are)
+pub returns-in-Ok-read_log : goal.returns-in-Ok-read_log
+returns-in-Ok-read_log g c =
+    let read = c.in-Ok.ensures in
+    let of_input = c.in-Ok-read_log.ensures in record {
+      text = λ before known.
+          subst (λ o. IfSome o (λ all. c.in-Ok-read_log.text.items ≡ all)) known of_input.bytes;
+      bytes = read.bytes;
+      each = read.each;
+      short = of_input.fits;
+      fit = read.fit;
+      delivered = record { of_input = of_input.delivered; of_logs = read.delivered };
+      refusal = tt;
+      stopped = tt;
+      nothing_written = ok_is_no_fault _ Write;
+      failed = λ log source there. other_iff _ _ (Read log) _ (ok_is_no_fault _ (Read log))
+          (read.failed log source there);
+      input_failed = ok_failed_iff _ _ _ _ _ of_input.failed;
+      taken = read.taken;
+      input_taken = of_input.no_further;
+      ended = read.ended;
+      input_ended = of_input.end;
+      no_further = λ log stops. absurd (ok_does_not_stop _ log stops);
+      input_untouched = λ log stops lower. absurd (ok_does_not_stop _ log stops);
+      too_many = other_iff _ _ TooManyLogs _ (ok_is_no_fault _ TooManyLogs) read.too_many;
+      none_read = λ is. absurd (ok_is_no_fault _ TooManyLogs is);
+    }

@@ -1,0 +1,226 @@
+-- Faults that a run returns after its sources were read, or as reading them returned it.
+use Rattle.std.proofs.Common.{◌≡◌, ◌↔◌, ◌+◌, ◌<◌, ◌≤◌, ℕ, Bool, true, false, List, length, drop, Option}
+use Rattle.std.proofs.Common.{Some, None, Result, Ok, Err, IsErrOf, refl, sym, ap, ◌∙◌, subst, inl, inr}
+use Rattle.std.proofs.Common.{arith}
+use Rattle.std.proofs.lemmas.List.{drop_all}
+use Rattle.std.specs.Prelude.{OnOk, IfErr, IsErr}
+use Rattle.std.specs.Io.KnownBytes.{Keeps}
+use Rattle.epx_types.specs.declared.fault.Fault.{Fault}
+use Rattle.epx_types.specs.declared.fault.Fault.TheVariants.{Memory, TooManyLogs, LogTooLong}
+use Rattle.epx_types.specs.declared.fault.Fault.TheVariants.{Read, Write}
+use Rattle.epx_types.specs.Instances.{Instance}
+use Rattle.epx_merge.specs.Limits.{max_logs}
+use Rattle.epx_merge.specs.Refusals.{FitLimits, IsRefusal}
+use Rattle.epx_devices.specs.Transfers.{IsReadLogFault}
+use Rattle.epx_tool.specs.Runs.{IsReadingRefusal, IsRunFault}
+use Rattle.epx_tool.specs.RunsWithInput.{IsRunFaultWithInput}
+use Rattle.epx_tool.specs.Sources.{StopsAt}
+use Rattle.epx_tool.specs.WithInput.{IsShort, IsRefusalWithInput}
+use Rattle.epx_tool.proofs.LogsWithInputLemmas.{no_stop}
+
+-- ---- a fault that is returned again
+
+fault_in : {T : Type 0} → Result T Fault → Fault
+fault_in (Ok x) = Memory
+fault_in (Err fault) = fault
+
+pub fault_is : {T : Type 0} (fault other : Fault) → IsErrOf {T = T} (Err fault) other
+    → fault ≡ other
+unfolding fault_in
+fault_is fault other is = ap fault_in is
+
+pub ok_is_no_fault : {T : Type 0} (x : T) (other : Fault) → ¬ IsErrOf (Ok x) other
+ok_is_no_fault x other is = cc is
+
+pub ok_does_not_stop : {T : Type 0} (x : T) (log : ℕ) → ¬ StopsAt (Ok x) log
+ok_does_not_stop x log (inl is) = cc is
+ok_does_not_stop x log (inr is) = cc is
+
+pub differs : {T : Type 0} (fault other : Fault) → ¬ (fault ≡ other)
+    → ¬ IsErrOf {T = T} (Err fault) other
+differs fault other apart is = apart (fault_is fault other is)
+
+pub too_many_does_not_stop : {T : Type 0} (log : ℕ) → ¬ StopsAt {T = T} (Err TooManyLogs) log
+too_many_does_not_stop log (inl is) = cc is
+too_many_does_not_stop log (inr is) = cc is
+
+pub memory_does_not_stop : {T : Type 0} (log : ℕ) → ¬ StopsAt {T = T} (Err Memory) log
+memory_does_not_stop log (inl is) = cc is
+memory_does_not_stop log (inr is) = cc is
+
+module _ {T V : Type 0} (fault : Fault) where
+  pub same_error : (other : Fault) → IsErrOf {T = T} (Err fault) other
+      → IsErrOf {T = V} (Err fault) other
+  same_error other is = ap Err (fault_is fault other is)
+
+  pub same_stop : (log : ℕ) → StopsAt {T = T} (Err fault) log → StopsAt {T = V} (Err fault) log
+  same_stop log (inl is) = inl (ap Err (fault_is fault (LogTooLong log) is))
+  same_stop log (inr is) = inr (ap Err (fault_is fault (Read log) is))
+
+  pub same_error_iff : (other : Fault) (P : Type 0) → IsErrOf {T = T} (Err fault) other ↔ P
+      → IsErrOf {T = V} (Err fault) other ↔ P
+  same_error_iff other P h = (
+    λ is. h.0 (ap Err (fault_is fault other is)),
+    λ p. ap Err (fault_is fault other (h.1 p)),
+  )
+
+pub ok_failed_iff : {T V : Type 0} (x : T) (y : V) (fault other : Fault) (P : Type 0)
+    → IsErrOf (Ok x) fault ↔ P → IsErrOf (Ok y) other ↔ P
+ok_failed_iff x y fault other P h = (
+  λ is. absurd (ok_is_no_fault y other is),
+  λ p. absurd (ok_is_no_fault x fault (h.1 p)),
+)
+
+-- neither happens
+pub neither : (P : Type 0) (failed : Bool) → ¬ P → failed ≡ false → P ↔ (failed ≡ true)
+neither P failed never well = (λ p. absurd (never p), λ bad. absurd (cc (well, bad)))
+
+pub none_of_both : (P Q : Type 0) → ¬ P → ¬ Q → P ↔ Q
+none_of_both P Q never nor = (λ p. absurd (never p), λ q. absurd (nor q))
+
+pub few_are_not_many : (n : ℕ) → n ≤ max_logs → ¬ max_logs < n
+few_are_not_many n few many = omega (arith, few, many)
+
+-- a fault that this result is not, and that the call before it did not return
+pub other_iff : {T V : Type 0} (result : Result T Fault) (x : V) (fault : Fault) (P : Type 0)
+    → ¬ IsErrOf result fault → IsErrOf (Ok x) fault ↔ P → IsErrOf result fault ↔ P
+other_iff result x fault P other h = (
+  λ is. absurd (other is),
+  λ p. absurd (ok_is_no_fault x fault (h.1 p)),
+)
+
+-- ---- results after the sources were read
+
+-- this result is no fault of reading
+pub record HasRead {T : Type 0} (result : Result T Fault) : Type 0 where
+  pub not_stopped : (log : ℕ) → ¬ StopsAt result log
+  pub not_too_many : ¬ IsErrOf result TooManyLogs
+
+module _ {T V : Type 0} (result : Result T Fault) (has : HasRead result) (x : V) (P : Type 0) where
+  pub read_iff : (log : ℕ) → IsErrOf (Ok x) (Read log) ↔ P → IsErrOf result (Read log) ↔ P
+  read_iff log h = other_iff result x (Read log) P (λ is. has.not_stopped log (inr is)) h
+
+  pub too_many_iff : IsErrOf (Ok x) TooManyLogs ↔ P → IsErrOf result TooManyLogs ↔ P
+  too_many_iff h = other_iff result x TooManyLogs P has.not_too_many h
+
+-- the only fault of writing is `Write`
+pub HasRead-written : {T : Type 0} (result : Result T Fault) → IfErr result (λ f. f ≡ Write)
+    → HasRead result
+HasRead-written (Ok x) only = record {
+  not_stopped = λ log stops. elim stops [ inl is ↦ cc is | inr is ↦ cc is ];
+  not_too_many = λ is. cc is;
+}
+HasRead-written (Err fault) only = record {
+  not_stopped = λ log stops. elim stops [ inl is ↦ cc (is, only) | inr is ↦ cc (is, only) ];
+  not_too_many = λ is. cc (is, only);
+}
+
+module _ {T : Type 0} (logs : List (List ℕ)) (fault : Fault) (fits : FitLimits logs) where
+  -- a refusal of logs that fit
+  pub HasRead-refused : IsRefusal logs fault → HasRead {T = T} (Err fault)
+  HasRead-refused refused = record {
+    not_stopped = λ log stops. elim stops [
+      | inl is ↦
+          let first = (subst (IsRefusal logs) (fault_is fault (LogTooLong log) is) refused).1 in
+          omega (arith, fits.1 log first.long.0 first.long.1, first.long.2)
+      | inr is ↦ subst (IsRefusal logs) (fault_is fault (Read log) is) refused
+    ];
+    not_too_many = λ is.
+        omega (arith, fits.0, subst (IsRefusal logs) (fault_is fault TooManyLogs is) refused);
+  }
+
+  -- a refusal of logs and an extra input that fit
+  pub HasRead-refused_with_input : (IsBad : List ℕ → ℕ → Type 0) (input : List ℕ) → IsShort input
+      → IsRefusalWithInput IsBad input logs fault → HasRead {T = T} (Err fault)
+  HasRead-refused_with_input IsBad input short refused = record {
+    not_stopped = λ log. no_stop logs input IsBad fault log fits short refused;
+    not_too_many = λ is.
+        let named = fault_is fault TooManyLogs is in
+        omega (arith, fits.0, subst (IsRefusalWithInput IsBad input logs) named refused);
+  }
+
+-- ---- the faults of reading the extra input
+
+module _ {T : Type 0} (n : ℕ) (fault : Fault) (of_input : IsReadLogFault n fault) where
+  also : (other : Fault) → IsErrOf {T = T} (Err fault) other → IsReadLogFault n other
+  also other is = subst (IsReadLogFault n) (fault_is fault other is) of_input
+
+  pub input_not_write : ¬ IsErrOf {T = T} (Err fault) Write
+  input_not_write is = also Write is
+
+  pub input_not_too_many : ¬ IsErrOf {T = T} (Err fault) TooManyLogs
+  input_not_too_many is = also TooManyLogs is
+
+  -- the extra input comes after all logs
+  pub input_not_log : (log : ℕ) → log < n → ¬ IsErrOf {T = T} (Err fault) (Read log)
+  input_not_log log l is = let at : log ≡ n = also (Read log) is in omega (arith, at, l)
+
+  pub stops_at_input : (log : ℕ) → StopsAt {T = T} (Err fault) log → log ≡ n
+  stops_at_input log (inl is) = also (LogTooLong log) is
+  stops_at_input log (inr is) = also (Read log) is
+
+-- the number of the extra input is the number of logs
+pub input_failed_iff : {T V : Type 0} (fault : Fault) (n m : ℕ) (P : Type 0) → n ≡ m
+    → IsErrOf {T = T} (Err fault) (Read n) ↔ P → IsErrOf {T = V} (Err fault) (Read m) ↔ P
+input_failed_iff {T} fault n m P same h =
+    same_error_iff fault (Read m) P (subst (λ k. IsErrOf {T = T} (Err fault) (Read k) ↔ P) same h)
+
+pub no_log_below : (log n m : ℕ) → log ≡ n → n ≡ m → ¬ log < m
+no_log_below log n m at same l = omega (arith, at, same, l)
+
+-- both lists end before this position
+pub same_past_end : {S : Type 0} (new old : List S) (log : ℕ) → length new ≡ length old
+    → log ≡ length new → drop (log + 1) new ≡ drop (log + 1) old
+same_past_end new old log same at =
+    drop_all (log + 1) new (omega (arith, at)) ∙ sym
+    (drop_all (log + 1) old (omega (arith, same, at)))
+
+-- ---- the fault of the sink
+
+pub refusal_not_write : {T : Type 0} (logs : List (List ℕ)) (fault : Fault) → IsRefusal logs fault
+    → ¬ IsErrOf {T = T} (Err fault) Write
+refusal_not_write logs fault refused is =
+    subst (IsRefusal logs) (fault_is fault Write is) refused
+
+pub refusal_with_input_not_write : {T : Type 0} (IsBad : List ℕ → ℕ → Type 0) (input : List ℕ)
+    (logs : List (List ℕ)) (fault : Fault) → IsRefusalWithInput IsBad input logs fault
+    → ¬ IsErrOf {T = T} (Err fault) Write
+refusal_with_input_not_write IsBad input logs fault refused is =
+    (subst (IsRefusalWithInput IsBad input logs) (fault_is fault Write is) refused).1
+
+pub written_iff : {T : Type 0} (result : Result T Fault) (P : Type 0)
+    → IfErr result (λ f. f ≡ Write) → IsErr result ↔ P → IsErrOf result Write ↔ P
+written_iff (Ok x) P only h = (λ is. absurd (cc is), λ p. let never = h.1 p in absurd (cc never))
+written_iff (Err fault) P only h = (λ is. h.0 refl, λ p. ap Err only)
+
+pub on_ok : {T : Type 0} (result : Result T Fault) (P : Type 0) → P → OnOk result P
+on_ok (Ok x) P p = p
+on_ok (Err fault) P p = tt
+
+pub keeps_itself : (known : Option (List ℕ)) → Keeps known known
+keeps_itself None = tt
+keeps_itself (Some bytes) = refl
+
+-- ---- the faults of a run
+
+module _ (logs : List (List ℕ)) (Is : List Instance → List ℕ → Type 0) where
+  pub run_fault_of_sources : (fault : Fault) → IsReadingRefusal logs fault
+      → IsRunFault Is logs fault
+  run_fault_of_sources Memory h = h
+  run_fault_of_sources TooManyLogs h = h
+  run_fault_of_sources (LogTooLong log) h = h
+  run_fault_of_sources (Read log) h = h
+  run_fault_of_sources fault h = absurd h
+
+  pub run_fault_of_refusal : (fault : Fault) → IsRefusal logs fault → IsRunFault Is logs fault
+  run_fault_of_refusal (Read log) h = absurd h
+  run_fault_of_refusal Write h = absurd h
+  run_fault_of_refusal fault h = h
+
+pub run_fault_of_refusal_with_input : (IsBad : List ℕ → ℕ → Type 0)
+    (Is : List ℕ → List Instance → List ℕ → Type 0) (input : List ℕ) (logs : List (List ℕ))
+    (fault : Fault) → IsRefusalWithInput IsBad input logs fault
+    → IsRunFaultWithInput IsBad Is input logs fault
+run_fault_of_refusal_with_input IsBad Is input logs (Read log) h = absurd h.1
+run_fault_of_refusal_with_input IsBad Is input logs Write h = absurd h.1
+run_fault_of_refusal_with_input IsBad Is input logs fault h = h
