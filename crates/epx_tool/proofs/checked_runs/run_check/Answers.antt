@@ -26,7 +26,8 @@ returns-in-Err g c =
       answered = tt;
       flushed = tt;
       refusal = λ given logs known are.
-          run_fault_of_reading logs given IsBadList IsCheckText fault (read.refusal given logs known are);
+          run_fault_of_reading logs given IsBadList IsCheckText fault
+          (read.refusal given logs known are);
       refused = λ other. inl read.stopped;
       nothing = λ other. keeps_itself (g.W.Sink.contents c.args.sink.now);
       prefix = λ is. absurd (read.nothing_written (same_error fault Write is));
@@ -53,13 +54,16 @@ returns-in-Err-check_owned g c =
     let input = c.in-Ok.read.0.items in
     let logs = bytes_of c.in-Ok.read.1.items in
     let read = c.in-Ok.ensures in
-    let has = HasRead-refused_with_input logs fault read.fit IsBadList input read.short refused in record {
+    let has =
+    HasRead-refused_with_input logs fault read.fit IsBadList input read.short refused in record {
       text = tt;
       answered = tt;
       flushed = tt;
-      refusal = λ given others known are. subst (λ ls. IsRunFaultWithInput IsBadList IsCheckText given ls fault)
+      refusal = λ given others known are.
+          subst (λ ls. IsRunFaultWithInput IsBadList IsCheckText given ls fault)
           (read.bytes others are)
-          (subst (λ bytes. IsRunFaultWithInput IsBadList IsCheckText bytes logs fault) (read.text given known)
+          (subst (λ bytes. IsRunFaultWithInput IsBadList IsCheckText bytes logs fault)
+          (read.text given known)
           (run_fault_of_refusal_with_input IsBadList IsCheckText input logs fault refused));
       refused = λ other. inr (record {
         input = input;
