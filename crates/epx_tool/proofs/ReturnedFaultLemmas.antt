@@ -1,7 +1,8 @@
 -- Faults that a run returns after its sources were read, or as reading them returned it.
-use Rattle.std.proofs.Common.{◌≡◌, ◌↔◌, ◌+◌, ◌<◌, ◌≤◌, ℕ, Bool, true, false, List, length}
-use Rattle.std.proofs.Common.{drop, Option, Some, None, Result, Ok, Err, IsErrOf, refl, sym, ap}
-use Rattle.std.proofs.Common.{◌∙◌, subst, inl, inr, arith}
+use Rattle.std.proofs.Common.{◌≡◌, ◌↔◌, ◌+◌, ◌<◌, ◌≤◌, ℕ, Bool, true, false, List, length, drop}
+use Rattle.std.proofs.Common.{Option, Some, None, Result, Ok, Err, IsErrOf, refl, sym, ap, ◌∙◌}
+use Rattle.std.proofs.Common.{subst, inl, inr}
+use Rattle.std.proofs.Common.{arith}
 use Rattle.std.proofs.lemmas.List.{drop_all}
 use Rattle.std.specs.Prelude.{OnOk, IfErr, IsErr}
 use Rattle.std.specs.Io.KnownBytes.{Keeps}

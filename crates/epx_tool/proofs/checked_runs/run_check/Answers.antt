@@ -54,8 +54,8 @@ returns-in-Err-check_owned g c =
     let input = c.in-Ok.read.0.items in
     let logs = bytes_of c.in-Ok.read.1.items in
     let read = c.in-Ok.ensures in
-    let has =
-    HasRead-refused_with_input logs fault read.fit IsBadList input read.short refused in record {
+    let has = HasRead-refused_with_input logs fault read.fit IsBadList input read.short refused in
+    record {
       text = tt;
       answered = tt;
       flushed = tt;

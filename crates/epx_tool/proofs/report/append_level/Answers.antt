@@ -13,9 +13,10 @@ returns c =
     ∷ (id_tokens c.args.id ++ number (decimal c.args.level) ∷ []) in
     let same : last.tokens ≡ ts =
     c.in_ok-u64.ensures.ok ∙ ap (λ t. t ++ number (decimal c.args.level) ∷ [])
-    (c.in_ok-write_id_parts.ensures.tokens
-    ∙ ap (λ t. t ++ id_tokens c.args.id) c.in_ok-out.ensures.tokens) in
-    let kept : last.before ≡ [] = c.in_ok-u64.ensures.room.0
+    (c.in_ok-write_id_parts.ensures.tokens ∙ ap (λ t. t ++ id_tokens c.args.id)
+    c.in_ok-out.ensures.tokens) in
+    let kept : last.before ≡ [] =
+    c.in_ok-u64.ensures.room.0
     ∙ (c.in_ok-write_id_parts.ensures.before ∙ c.in_ok-out.ensures.before) in
     on_ok_weaker c.end_line.result
     (λ e. line_written (level_data c.args.id c.args.level) ts last.tokens c.args.text.now.items

@@ -14,10 +14,10 @@ returns c =
     let same : last.tokens ≡ ts =
     c.in_ok-write_id_parts-2.ensures.tokens ∙ ap (λ t. t ++ id_tokens c.args.leader)
     (c.in_ok-u64.ensures.ok ∙ ap (λ t. t ++ number (decimal c.args.depth) ∷ [])
-    (c.in_ok-write_id_parts.ensures.tokens
-    ∙ ap (λ t. t ++ id_tokens c.args.id) c.in_ok-out.ensures.tokens)) in
-    let kept : last.before ≡ [] = c.in_ok-write_id_parts-2.ensures.before
-    ∙ (c.in_ok-u64.ensures.room.0
+    (c.in_ok-write_id_parts.ensures.tokens ∙ ap (λ t. t ++ id_tokens c.args.id)
+    c.in_ok-out.ensures.tokens)) in
+    let kept : last.before ≡ [] =
+    c.in_ok-write_id_parts-2.ensures.before ∙ (c.in_ok-u64.ensures.room.0
     ∙ (c.in_ok-write_id_parts.ensures.before ∙ c.in_ok-out.ensures.before)) in
     on_ok_weaker c.end_line.result
     (λ e. line_written (order_data c.args.id c.args.depth c.args.leader) ts last.tokens

@@ -11,8 +11,8 @@ returns c =
     let last = c.write_id_parts.new.out in
     let ts = begin_array ∷ string (codes "missing") ∷ id_tokens c.args.id in
     let same : last.tokens ≡ ts =
-    c.in_ok-write_id_parts.ensures.tokens
-    ∙ ap (λ t. t ++ id_tokens c.args.id) c.in_ok-out.ensures.tokens in
+    c.in_ok-write_id_parts.ensures.tokens ∙ ap (λ t. t ++ id_tokens c.args.id)
+    c.in_ok-out.ensures.tokens in
     let kept : last.before ≡ [] =
     c.in_ok-write_id_parts.ensures.before ∙ c.in_ok-out.ensures.before in
     line_alone (fault_data (Missing c.args.id)) ts last.tokens c.new-text.result.items last.before
