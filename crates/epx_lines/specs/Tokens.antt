@@ -52,8 +52,7 @@ pub record HoldsParts (ms : Members) (p : Parts) : Type 0 where
   pub status : is_committed (get (codes "status") (object ms)) ≡ Some true
 
 -- the tokens begin with a value; if the old parts are those of an object, the new ones are those
--- of
--- the object with this value under the name
+-- of the object with this value under the name
 abbrev pub AddsMember : List ℕ → List Token → List Token → Parts → Parts → Type 0
 AddsMember name ts rest old new = (d : Data) × BeginsWith 2 ts d rest
     × ((ms : Members) → HoldsParts ms old → HoldsParts (put name d ms) new)
