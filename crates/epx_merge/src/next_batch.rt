@@ -12,7 +12,7 @@ use std::alloc::Global;
 const MIN_LINES_EACH: usize = 4_096;
 
 /// The same in later logs. Most of their lines repeat earlier ones, and are skipped in little time.
-const MIN_LATER_LINES_EACH: usize = 16_384;
+const MIN_LATER_LINES_EACH: usize = 8_192;
 
 /// The same for one worker, which starts no thread. So few lines stay in its cache until it reads
 /// them.
