@@ -1,16 +1,18 @@
 -- The results of all pieces, one after another.
-use Rattle.std.proofs.Common.{◌≡◌, ◌<◌, ◌≤◌, ◌+◌, ◌∙◌, ℕ, suc, List, [], ◌∷◌, ◌++◌, length, map}
+use Rattle.std.proofs.Common.{◌≡◌, ◌<◌, ◌≤◌, ◌+◌, ◌∙◌, ℕ, suc, List, [], ◌∷◌, ◌++◌, length}
 use Rattle.std.proofs.Common.{flat_map, drop, slice_get, Some, sym, ap, ap₂, inl, inr, arith}
 use Rattle.std.proofs.Math.ListN.{drop_of_length-le}
 use Rattle.std.proofs.lemmas.Bool.{cases_lt}
-use Rattle.std.proofs.lemmas.List.{map-append}
 use Rattle.std.proofs.lemmas.List.Folds.{drop_split}
 use Rattle.epx_types.specs.Pieces.{piece_count, piece_start, piece_end}
 use Rattle.epx_types.proofs.lists.PieceLemmas.{piece_count-above, piece_end-after_start}
 use Rattle.epx_apply.specs.inner.Effects.{items_of_piece}
 
-module _ {X Y Z : Type 0} (cut : ℕ) (fits : 1 ≤ cut) (f : X → Y) (xs : List X)
-    (inside : Z → List Y) where
+-- what is made of a list is made of its parts, one after another
+module _ {X Y Z : Type 0} (cut : ℕ) (fits : 1 ≤ cut) (made : List X → List Y)
+    (of_none : made [] ≡ [])
+    (of_both : (front back : List X) → made (front ++ back) ≡ made front ++ made back)
+    (xs : List X) (inside : Z → List Y) where
   -- the next piece begins at the end of a piece, if there is one
   drop-piece_end : (piece : ℕ) → drop (piece_end cut (length xs) piece) xs
       ≡ drop (piece_start cut (piece + 1)) xs
@@ -20,43 +22,43 @@ module _ {X Y Z : Type 0} (cut : ℕ) (fits : 1 ≤ cut) (f : X → Y) (xs : Lis
         | inr past ↦ drop_of_length-le xs (omega arith) ∙ sym (drop_of_length-le xs past)
       ]
 
-  -- a part is f of the items of its piece
+  -- a part is made of the items of its piece
   abbrev pub IsPart : ℕ → Z → Type 0
-  IsPart piece part = inside part ≡ map f (items_of_piece cut xs piece)
+  IsPart piece part = inside part ≡ made (items_of_piece cut xs piece)
 
   parts_from : (piece : ℕ) (parts : List Z) → length parts + piece ≡ piece_count cut (length xs)
       → ((i : ℕ) → i < length parts → (part : Z) × (slice_get parts i ≡ Some part)
-      × IsPart (piece + i) part) → flat_map inside parts ≡ map f (drop (piece_start cut piece) xs)
+      × IsPart (piece + i) part) → flat_map inside parts ≡ made (drop (piece_start cut piece) xs)
   parts_from piece [] len each =
-      sym (ap (map f) (drop_of_length-le xs (elim (cases_lt (piece_start cut piece) (length xs)) [
+      sym (ap made (drop_of_length-le xs (elim (cases_lt (piece_start cut piece) (length xs)) [
         | inl within ↦ let more = piece_count-above cut (length xs) fits piece within in
             absurd (omega (arith, more, len))
         | inr past ↦ past
-      ])))
+      ])) ∙ of_none)
   parts_from piece (part ∷ parts) len each =
       let first = each 0 (omega arith) in
       let same : first.0 ≡ part = cc (first.1) in
-      let here : inside part ≡ map f (items_of_piece cut xs piece) =
-      ap inside (sym same) ∙ first.2 ∙ ap (λ n. map f (items_of_piece cut xs n))
+      let here : inside part ≡ made (items_of_piece cut xs piece) =
+      ap inside (sym same) ∙ first.2 ∙ ap (λ n. made (items_of_piece cut xs n))
       (omega arith) in
       let order = piece_end-after_start cut (length xs) fits piece (omega (arith, len)) in
       let rest = parts_from (piece + 1) parts (omega (arith, len)) (λ i l.
       let next = each (suc i) (omega arith) in
-      (next.0, next.1, next.2 ∙ ap (λ n. map f (items_of_piece cut xs n)) (omega arith))) in
-      ap₂ (λ ys zs. ys ++ zs) here (rest ∙ ap (map f) (sym (drop-piece_end piece)))
-      ∙ sym (map-append f (items_of_piece cut xs piece)
+      (next.0, next.1, next.2 ∙ ap (λ n. made (items_of_piece cut xs n)) (omega arith))) in
+      ap₂ (λ ys zs. ys ++ zs) here (rest ∙ ap made (sym (drop-piece_end piece)))
+      ∙ sym (of_both (items_of_piece cut xs piece)
       (drop (piece_end cut (length xs) piece) xs))
-      ∙ ap (map f)
+      ∙ ap made
       (sym (drop_split xs (piece_start cut piece) (piece_end cut (length xs) piece)
       (omega (arith, order))))
 
-  -- the parts of all pieces one after another are f of all items
+  -- the parts of all pieces one after another are made of all items
   pub parts_joined : (parts : List Z) → length parts ≡ piece_count cut (length xs)
       → ((i : ℕ) → i < piece_count cut (length xs) → (part : Z) × (slice_get parts i ≡ Some part)
-      × IsPart i part) → flat_map inside parts ≡ map f xs
+      × IsPart i part) → flat_map inside parts ≡ made xs
   parts_joined parts len each =
       let begin : piece_start cut 0 ≡ 0 = omega arith in
       parts_from 0 parts (omega (arith, len)) (λ i l.
       let at = each i (omega (arith, len)) in
-      (at.0, at.1, at.2 ∙ ap (λ n. map f (items_of_piece cut xs n)) (omega arith)))
-      ∙ ap (λ n. map f (drop n xs)) begin
+      (at.0, at.1, at.2 ∙ ap (λ n. made (items_of_piece cut xs n)) (omega arith)))
+      ∙ ap (λ n. made (drop n xs)) begin

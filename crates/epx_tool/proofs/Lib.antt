@@ -8,6 +8,8 @@ mod UniqueAnswerWithInputLemmas
 mod AnswerWithInputLemmas
 mod AnswerLemmas
 mod OrderLengthLemmas
+mod PairRangeLemmas
+mod ReportPartsLemmas
 mod AcceptedLogLemmas
 mod OrderCommandLemmas
 mod RemainingCommandLemmas

@@ -1,5 +1,6 @@
 -- The commands of an order, found by Id.
-use Rattle.std.proofs.Common.{◌≡◌, List, [], ◌∷◌, map, refl, sym, ap, ◌∙◌}
+use Rattle.std.proofs.Common.{◌≡◌, List, [], ◌∷◌, ◌++◌, map, flat_map, refl, sym, ap, ◌∙◌}
+use Rattle.std.proofs.lemmas.List.{map-append}
 use Rattle.epx_types.specs.declared.id.Id.{Id}
 use Rattle.epx_types.specs.declared.op.Op.{Op}
 use Rattle.epx_types.specs.Instances.{Instance}
@@ -22,3 +23,10 @@ pub commands_are : (m : List Instance) (order : List Ranked) (ids : List Id)
     → commands ≡ commands_of m order
 commands_are m order ids commands e_ids e =
     e ∙ ap (commands_by_id m) e_ids ∙ sym (commands_of-by_id m order)
+
+-- what is taken of lists one after another is what is taken of each
+pub map-flat_map : {X Y Z : Type 0} (f : Y → Z) (g : X → List Y) (xs : List X)
+    → map f (flat_map g xs) ≡ flat_map (λ x. map f (g x)) xs
+map-flat_map f g [] = refl
+map-flat_map f g (x ∷ xs) =
+    map-append f (g x) (flat_map g xs) ∙ ap (λ rest. map f (g x) ++ rest) (map-flat_map f g xs)

@@ -22,6 +22,7 @@ use Rattle.epx_tool.specs.AuditText.{IsAuditText, covered_line, uncovered_line}
 use Rattle.epx_order.specs.Uncovered.{IsLeastUncovered}
 use Rattle.epx_types.specs.Conflicts.{IsCovered}
 use Rattle.epx_types.proofs.remaining.RemainingLemmas.{Contains-remaining_iff, remaining-nil}
+use Rattle.epx_types.proofs.commands.ExecutionLemmas.{length-replies}
 use Rattle.epx_types.proofs.orders.ExecutionOrderLemmas.{IsExecutionOrder-IsLawful}
 use Rattle.epx_tool.proofs.OrderLengthLemmas.{ordered_are_few}
 use Rattle.epx_tool.proofs.OrderCommandLemmas.{commands_by_id, commands_are}
@@ -30,6 +31,14 @@ use Rattle.epx_tool.proofs.RemainingCommandLemmas.{commands-left, length-remaini
 module _ (done : List Id) (m : List Instance) (order : List Ranked)
     (ordered : IsExecutionOrder (remaining done m) order) (ids : List Id)
     (are : ids ≡ ranked_ids order) where
+  pub few_ordered : length m ≤ max_instances → length order ≤ 2 ^ 40
+  few_ordered few = omega (
+    arith,
+    few,
+    ordered_are_few (remaining done m) order ordered,
+    length-remaining done m,
+  )
+
   pub few_commands : length m ≤ max_instances
       → {C : Type 0} (ops : C → List Op) (commands : List C)
       → map ops commands ≡ commands_by_id m ids → length commands ≤ 2 ^ 40
@@ -38,13 +47,16 @@ module _ (done : List Id) (m : List Instance) (order : List Ranked)
       sym (length-map commands ops) ∙ ap length e
       ∙ length-map ids (λ x. ops_found (instance_of m x))
       ∙ ap length are ∙ length-map order (λ (r : Ranked). r.id) in
-      omega (
-        arith,
-        many,
-        few,
-        ordered_are_few (remaining done m) order ordered,
-        length-remaining done m,
-      )
+      omega (arith, many, few_ordered few)
+
+  -- each executed instance has a reply
+  pub as_many_replies : (stored : Contents) (replies : List Reply)
+      → replies ≡ (execute (commands_by_id m ids) stored).replies
+      → length replies ≡ length order
+  as_many_replies stored replies e =
+      ap length e ∙ length-replies (commands_by_id m ids) stored
+      ∙ length-map ids (λ x. ops_found (instance_of m x))
+      ∙ ap length are ∙ length-map order (λ (r : Ranked). r.id)
 
   -- an instance that is executed is not done
   pub executed_is_left : (x : Id) → Contains ids x → ¬ Contains done x

@@ -29,3 +29,4 @@ pub use Rattle.epx_words.specs.App
 pub use Rattle.epx_words.specs.SubcommandRows
 pub use Rattle.epx_words.specs.Requests
 pub use Rattle.epx_words.specs.ExitStatus
+pub mod inner

@@ -1,6 +1,7 @@
 //! The answer to logs.
 ghost use Rattle.std.specs.Prelude.{◌≡◌, ◌≤◌, ◌^◌, length, map, IfOk, OnOk, MatchResult};
 ghost use Rattle.std.specs.Prelude.{Ok, Err};
+ghost use Rattle.std.specs.Thread.{IsSync};
 ghost use Rattle.epx_types.specs.CommittedMap.{instance_of};
 ghost use Rattle.epx_types.specs.Execution.{execute};
 ghost use Rattle.epx_types.specs.Ids.{IsRising};
@@ -17,6 +18,7 @@ ghost use Rattle.epx_tool.specs.Views.{IsViewText};
 ghost use Rattle.epx_picture.specs.Pictures.{IsPicture};
 
 use crate::ask::Ask;
+use crate::commands::{all_commands, commands};
 use crate::report::{level_report, order_report, report};
 use crate::verdict::audit_line;
 use epx_apply::{LevelMap, levels, run_order};
@@ -26,26 +28,10 @@ use epx_merge::{Merged, read_logs};
 use epx_order::{OrderList, audit, order};
 use epx_picture::picture;
 use epx_txn::Store;
-use epx_types::{Command, Fault, Id, Memory, Plan, Reply};
+use epx_types::{Fault, Id, Memory, Plan, Reply};
 use std::alloc::Global;
 use std::random::RandomSource;
 use std::thread::{Threads, join};
-
-/// The commands of some instances.
-fn commands<'a>(alloc: Global, merged: &'a Merged, ids: &[Id]) -> Result<Vec<Command<'a>>, Memory>
-    ensures { IfOk result (λ commands. map (λ c. c.ops.now) commands.items
-        ≡ map (λ x. ops_found (instance_of merged.now x)) ids.now) }
-{
-    let mut commands = Vec::with_capacity(alloc, ids.len())?;
-    for id in ids {
-        let ops = match merged.get(*id) {
-            Some(entry) => entry.ops(),
-            None => &[],
-        };
-        commands.push(Command { id: *id, ops })?;
-    }
-    Ok(commands)
-}
 
 /// The conflict levels of the commands of some instances.
 fn command_levels(alloc: Global, merged: &Merged, ids: &[Id]) -> Result<LevelMap, Memory>
@@ -71,7 +57,7 @@ fn execute_all<R: Threads + RandomSource + Sync>(
     ensures after { OnOk result (store.new
         ≡ (execute (map (λ x. ops_found (instance_of merged.now x)) ids.now) store.old).final) }
 {
-    let commands = commands(alloc, merged, ids)?;
+    let commands = all_commands(rt, alloc, merged, ids, plan)?;
     run_order(rt, alloc, store, &commands, plan, &FreeGate)
 }
 
@@ -88,21 +74,25 @@ fn write_report<R: Threads + Sync>(
     replies: &[Reply],
     store: &Store,
 ) -> Result<Vec<u8>, Memory>
+    requires few { length order.now ≤ 2 ^ 40 }
+    requires same { length replies.now ≡ length order.now }
     ensures { IfOk result (λ text. text.items ≡ resumed_text done.now order.now waiters.now
         (record { replies = replies.now; final = store.now })) }
 {
     if plan.workers() == 1 {
         drop(merged);
-        return report(alloc, done, order, waiters, replies, store);
+        return report(rt, alloc, done, order, waiters, replies, store, plan);
     }
     let (_, text) = join(
         rt,
         move || drop(merged),
         || -> Result<Vec<u8>, Memory>
+            requires { IsSync R.row × (length order.now ≤ 2 ^ 40)
+                × (length replies.now ≡ length order.now) }
             ensures { IfOk result (λ text.
                 text.items ≡ resumed_text done.entry.now order.entry.now waiters.entry.now
                 (record { replies = replies.entry.now; final = store.entry.now })) }
-        { report(alloc, done, order, waiters, replies, store) },
+        { report(rt, alloc, done, order, waiters, replies, store, plan) },
     );
     text
 }

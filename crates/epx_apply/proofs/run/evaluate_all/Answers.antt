@@ -1,4 +1,5 @@
-use Rattle.std.proofs.Common.{◌≡◌, ◌∙◌, sym, rules}
+use Rattle.std.proofs.Common.{◌≡◌, ◌∙◌, map, refl, sym, rules}
+use Rattle.std.proofs.lemmas.List.{map-append}
 use Rattle.std.proofs.lemmas.Result.{IfOk-weaker}
 use Rattle.epx_types.specs.Rearrangements.{commands_at}
 use Rattle.epx_apply.specs.inner.Effects.{op_lists_of, effects_over, items_of_piece}
@@ -15,8 +16,8 @@ returns g c =
     let done = c.in_ok-parts.ensures.ok in
     IfOk-weaker c.join_parts.result _ _ (λ v joined.
     joined
-    ∙ parts_joined cut c.pieces-pieces.ensures.fits.some_item (effect_at store ops) positions
-    (λ part. part.items) c.in_ok-parts.parts.items (done.len ∙ c.pieces-pieces.ensures.pieces)
+    ∙ parts_joined cut c.pieces-pieces.ensures.fits.some_item (map (effect_at store ops)) refl
+    (map-append (effect_at store ops)) positions (λ part. part.items) c.in_ok-parts.parts.items (done.len ∙ c.pieces-pieces.ensures.pieces)
     (λ i inside.
     let part = done.each i (rw c.pieces-pieces.ensures.pieces inside) in
     let answer = part.2 in

@@ -1,0 +1,32 @@
+use Rattle.std.proofs.Common.{◌≡◌, ◌++◌, ◌∙◌, map, flat_map, refl, ap, rules}
+use Rattle.std.proofs.lemmas.List.{map-append}
+use Rattle.epx_types.specs.declared.command.Command.{Command}
+use Rattle.epx_types.specs.CommittedMap.{instance_of}
+use Rattle.epx_apply.specs.inner.Effects.{items_of_piece}
+use Rattle.epx_apply.proofs.JoinedPieceLemmas.{parts_joined}
+use Rattle.epx_tool.specs.Report.{ops_found}
+use Rattle.epx_tool.proofs.OrderCommandLemmas.{commands_by_id, map-flat_map}
+use Rattle.epx_tool.proofs.commands.all_commands.Goals as goal
+
+pub returns : goal.returns
+returns g c =
+    let m = c.args.merged.now in
+    let ids = c.args.ids.now in
+    let cut = c.args.plan.cut in
+    let done = c.in_ok-parts.ensures.ok in
+    let count = c.pieces-pieces.ensures.pieces in
+    let joined = c.in_ok-append_parts.ensures
+    ∙ ap (λ front. front ++ flat_map (λ part. part.items) c.in_ok-parts.parts.items)
+    c.in_ok-all.ensures.items in
+    ap (map (λ (c : Command). c.ops.now)) joined
+    ∙ map-flat_map (λ (c : Command). c.ops.now) (λ part. part.items) c.in_ok-parts.parts.items
+    ∙ parts_joined cut c.pieces-pieces.ensures.fits.some_item (commands_by_id m) refl
+    (map-append (λ x. ops_found (instance_of m x))) ids
+    (λ part. map (λ (c : Command). c.ops.now) part.items) c.in_ok-parts.parts.items
+    (done.len ∙ count)
+    (λ i inside.
+    let part = done.each i (rw count inside) in
+    let answer = part.2 in
+    let is : map (λ (c : Command). c.ops.now) part.0.items
+    ≡ commands_by_id m (items_of_piece cut ids i) = search rules in
+    (part.0, part.1, is))

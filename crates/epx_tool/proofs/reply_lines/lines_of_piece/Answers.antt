@@ -1,0 +1,11 @@
+use Rattle.std.proofs.Common.{rules}
+use Rattle.epx_tool.proofs.PairRangeLemmas.{pairs_of_piece}
+use Rattle.epx_tool.proofs.reply_lines.lines_of_piece.Goals as goal
+
+pub returns : goal.returns
+returns c =
+    search (
+      rules,
+      pairs_of_piece c.args.plan.cut c.args.piece c.args.ids.now c.args.replies.now
+          c.requires.same,
+    )

@@ -1,0 +1,74 @@
+//! The commands of instances.
+ghost use Rattle.std.specs.Prelude.{◌≡◌, ◌<◌, ◌≤◌, ◌^◌, length, map, IfOk};
+ghost use Rattle.epx_types.specs.CommittedMap.{instance_of};
+ghost use Rattle.epx_types.specs.Pieces.{piece_count};
+ghost use Rattle.epx_apply.specs.inner.Effects.{items_of_piece};
+ghost use Rattle.epx_tool.specs.Report.{ops_found};
+
+use crate::parts::append_parts;
+use epx_claims::{FreeGate, claimed_map};
+use epx_merge::Merged;
+use epx_types::{Command, Id, Memory, Plan};
+use std::alloc::Global;
+use std::thread::Threads;
+
+/// The commands of some instances.
+pub(crate) fn commands<'a>(
+    alloc: Global,
+    merged: &'a Merged,
+    ids: &[Id],
+) -> Result<Vec<Command<'a>>, Memory>
+    ensures { IfOk result (λ commands. map (λ c. c.ops.now) commands.items
+        ≡ map (λ x. ops_found (instance_of merged.now x)) ids.now) }
+{
+    let mut commands = Vec::with_capacity(alloc, ids.len())?;
+    for id in ids {
+        let ops = match merged.get(*id) {
+            Some(entry) => entry.ops(),
+            None => &[],
+        };
+        commands.push(Command { id: *id, ops })?;
+    }
+    Ok(commands)
+}
+
+/// The commands of one of the pieces into which the plan cuts some instances.
+fn commands_of_piece<'a>(
+    alloc: Global,
+    merged: &'a Merged,
+    ids: &[Id],
+    plan: Plan,
+    piece: usize,
+) -> Result<Vec<Command<'a>>, Memory>
+    requires { piece < piece_count plan.cut (length ids.now) }
+    ensures { IfOk result (λ commands. map (λ c. c.ops.now) commands.items
+        ≡ map (λ x. ops_found (instance_of merged.now x))
+        (items_of_piece plan.cut ids.now piece)) }
+{
+    let (start, end) = plan.range(piece, ids.len());
+    commands(alloc, merged, &ids[start..end])
+}
+
+/// The commands of some instances. The plan's workers look the instances up, piece by piece.
+pub(crate) fn all_commands<'a, R: Threads + Sync>(
+    rt: &R,
+    alloc: Global,
+    merged: &'a Merged,
+    ids: &[Id],
+    plan: Plan,
+) -> Result<Vec<Command<'a>>, Memory>
+    requires { length ids.now ≤ 2 ^ 40 }
+    ensures { IfOk result (λ commands. map (λ c. c.ops.now) commands.items
+        ≡ map (λ x. ops_found (instance_of merged.now x)) ids.now) }
+{
+    if plan.workers() == 1 {
+        return commands(alloc, merged, ids);
+    }
+    let pieces = plan.pieces(ids.len());
+    let parts = claimed_map(rt, alloc, pieces, plan, &FreeGate, |piece| {
+        commands_of_piece(alloc, merged, ids, plan, piece)
+    })?;
+    let mut all = Vec::with_capacity(alloc, ids.len())?;
+    append_parts(&mut all, parts)?;
+    Ok(all)
+}

@@ -1,0 +1,56 @@
+//! Writes the reply lines of a report with several threads.
+ghost use Rattle.std.specs.Prelude.{◌≡◌, ◌<◌, ◌≤◌, ◌^◌, ◌++◌, length, flat_map, zip, IfOk, OnOk};
+ghost use Rattle.epx_types.specs.Pieces.{piece_count};
+ghost use Rattle.epx_apply.specs.inner.Effects.{items_of_piece};
+ghost use Rattle.epx_base.specs.ReportLines.{reply_line};
+
+use crate::parts::append_parts;
+use epx_base::append_replies;
+use epx_claims::{FreeGate, claimed_map};
+use epx_types::{Id, Memory, Plan, Reply};
+use std::alloc::Global;
+use std::thread::Threads;
+
+/// The reply lines of one of the pieces into which the plan cuts the instances.
+fn lines_of_piece(
+    alloc: Global,
+    ids: &[Id],
+    replies: &[Reply],
+    plan: Plan,
+    piece: usize,
+) -> Result<Vec<u8>, Memory>
+    requires same { length replies.now ≡ length ids.now }
+    requires piece { piece < piece_count plan.cut (length ids.now) }
+    ensures { IfOk result (λ text. text.items
+        ≡ flat_map reply_line (items_of_piece plan.cut (zip ids.now replies.now) piece)) }
+{
+    let (start, end) = plan.range(piece, ids.len());
+    let mut text = Vec::new(alloc);
+    append_replies(alloc, &mut text, &ids[start..end], &replies[start..end])?;
+    Ok(text)
+}
+
+/// Appends the reply lines of instances. The plan's workers write them piece by piece.
+pub(crate) fn append_all_replies<R: Threads + Sync>(
+    rt: &R,
+    alloc: Global,
+    text: &mut Vec<u8>,
+    ids: &[Id],
+    replies: &[Reply],
+    plan: Plan,
+) -> Result<(), Memory>
+    requires few { length ids.now ≤ 2 ^ 40 }
+    requires same { length replies.now ≡ length ids.now }
+    ensures { OnOk result (text.new.items ≡ text.old.items
+        ++ flat_map reply_line (zip ids.now replies.now)) }
+{
+    if plan.workers() == 1 {
+        append_replies(alloc, text, ids, replies)?;
+        return Ok(());
+    }
+    let pieces = plan.pieces(ids.len());
+    let parts = claimed_map(rt, alloc, pieces, plan, &FreeGate, |piece| {
+        lines_of_piece(alloc, ids, replies, plan, piece)
+    })?;
+    append_parts(text, parts)
+}
