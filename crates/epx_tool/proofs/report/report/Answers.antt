@@ -1,4 +1,4 @@
-use Rattle.std.proofs.Common.{◌≡◌, ◌++◌, ◌∙◌, flat_map, refl, rules}
+use Rattle.std.proofs.Common.{◌≡◌, ◌∙◌, flat_map, refl, rules}
 use Rattle.std.specs.FinMap as contents
 use Rattle.epx_base.specs.ReportLines.{store_line}
 use Rattle.epx_tool.specs.inner.ReportParts.{instance_text}
