@@ -118,7 +118,7 @@ fn write<'a>(draft: &mut Draft<'a>, key: &'a Key, value: Option<i64>) -> Result<
     Ok(Step::Done)
 }
 
-fn done_or_abort(holds: bool) -> Step
+pub(crate) fn done_or_abort(holds: bool) -> Step
     ensures { result ≡ (if holds then Step.Done else Step.Abort) }
 {
     if holds { Step::Done } else { Step::Abort }

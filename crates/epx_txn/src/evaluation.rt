@@ -6,6 +6,7 @@ ghost use Rattle.epx_types.specs.Writes.{writes_of};
 
 use crate::draft::{Draft, Step, operate};
 use crate::effect::{Effect, Writes};
+use crate::lone_op::apply_lone;
 use crate::store::Store;
 use epx_types::{Memory, Op, Reply, Values};
 use std::alloc::Global;
@@ -50,6 +51,9 @@ pub fn apply(alloc: Global, store: &mut Store, ops: &[Op]) -> Result<Reply, Memo
     ensures reply { IfOk result (λ r. r ≡ (command_on ops.now store.old).reply) }
     ensures after { OnOk result (store.new ≡ (command_on ops.now store.old).after) }
 {
+    if let [op] = ops {
+        return apply_lone(alloc, store, op);
+    }
     let (reply, draft) = operate_all(alloc, store, ops)?;
     draft.put_into(store)?;
     Ok(reply)

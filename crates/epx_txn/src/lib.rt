@@ -8,6 +8,7 @@ pub mod evaluation;
 mod few_writes;
 mod key_map;
 pub mod keys;
+mod lone_op;
 pub mod merge;
 mod routes;
 mod shards;

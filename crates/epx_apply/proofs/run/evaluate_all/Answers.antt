@@ -17,7 +17,8 @@ returns g c =
     IfOk-weaker c.join_parts.result _ _ (λ v joined.
     joined
     ∙ parts_joined cut c.pieces-pieces.ensures.fits.some_item (map (effect_at store ops)) refl
-    (map-append (effect_at store ops)) positions (λ part. part.items) c.in_ok-parts.parts.items (done.len ∙ c.pieces-pieces.ensures.pieces)
+    (map-append (effect_at store ops)) positions (λ part. part.items) c.in_ok-parts.parts.items
+    (done.len ∙ c.pieces-pieces.ensures.pieces)
     (λ i inside.
     let part = done.each i (rw c.pieces-pieces.ensures.pieces inside) in
     let answer = part.2 in
