@@ -1,0 +1,18 @@
+use Rattle.std.proofs.Common.{◌≡◌, ℕ, ◌^◌, ◌<◌, Option, None, Some, IfSome, option_and_then}
+use Rattle.std.proofs.Common.{refl, ap, ◌∙◌, arith, rules}
+use Rattle.std.proofs.lemmas.Bool.Decides.{nat_tests}
+use Rattle.epx_lines.specs.Elements.{below, whole}
+use Rattle.epx_lines.proofs.deps.read_number.Goals as goal
+
+-- a bound that a number keeps anyway changes nothing
+same_below : (bound : ℕ) (o : Option ℕ) → IfSome o (λ n. n < bound)
+    → o ≡ option_and_then (below bound) o
+same_below bound None h = refl
+same_below bound (Some n) h = grind (arith, nat_tests, h)
+
+pub returns : goal.returns
+unfolding whole
+returns c =
+    let fits : IfSome c.as_u64.result (λ n. n < 2 ^ 64) = search rules in
+    same_below (2 ^ 64) c.as_u64.result fits
+    ∙ ap (option_and_then (below (2 ^ 64))) c.as_u64.ensures
