@@ -16,6 +16,7 @@ use Rattle.epx_types.proofs.graph.WaitingLemmas.{Contains-Id_cases}
 use Rattle.epx_merge.specs.declared.ledger.Disagreement.{Disagreement}
 use Rattle.epx_merge.specs.Refusals.{AreNamedBy, IsDisagreementAt}
 use Rattle.epx_merge.specs.inner.Ledgers.{LedgerView, IsLineOf, IsLedgerOf}
+use Rattle.epx_merge.specs.inner.LeastDisagreement.{IsLeastDisagreement}
 use Rattle.epx_merge.specs.inner.LineOrder.{IsSortedByPlace}
 use Rattle.epx_merge.proofs.FirstWhereLemmas.{IsFirstWhere-contains, IsFirstWhere-holds}
 use Rattle.epx_merge.proofs.FirstWhereLemmas.{IsFirstWhere-earliest}
@@ -132,40 +133,28 @@ module _ (lines : List Placed) (noted : LedgerView) (ledger : IsLedgerOf lines n
         h.second_place,
       )
 
-  -- the same, after a sort
-  IsDisagreementAt-sorted : IsSortedByPlace lines
-      → (x : Id) (disagreement : Disagreement) (rest : List (Id × Disagreement))
-      → IsPermutation noted.disagreements ((x, disagreement) ∷ rest)
-      → IsSorted id_cmp (keys ((x, disagreement) ∷ rest))
-      → IsDisagreementAt lines x disagreement.first disagreement.second
-  IsDisagreementAt-sorted order x disagreement rest moved sorted =
-      let disagreements : List (Id × Disagreement) = (x, disagreement) ∷ rest in
-      IsDisagreementAt-least order x disagreement
-      (Contains-permutation disagreements noted.disagreements (x, disagreement)
-      (IsPermutation-sym noted.disagreements disagreements moved)
-      (Contains-head (x, disagreement) rest)) (λ y h.
-      let at = Contains-from_map (λ (d : Id × Disagreement). d.0) noted.disagreements y h in
-      let among = Contains-map (λ (d : Id × Disagreement). d.0) disagreements at.0
-      (Contains-permutation noted.disagreements disagreements at.0 moved at.1) in
-      first_is_least x (keys rest) sorted y (subst (Contains (keys disagreements)) at.2 among))
-
-  -- the same, for the first element of the list
-  pub first_disagreement : IsSortedByPlace lines
-      → (disagreements : List (Id × Disagreement)) (x : Id) (disagreement : Disagreement)
-      → slice_get disagreements 0 ≡ Some (x, disagreement)
-      → IsPermutation noted.disagreements disagreements → IsSorted id_cmp (keys disagreements)
-      → IsDisagreementAt lines x disagreement.first disagreement.second
-  first_disagreement order [] x disagreement at moved sorted = absurd (cc at)
-  first_disagreement order (e ∷ rest) x disagreement at moved sorted =
-      let first : ◌≡◌ {A = Id × Disagreement} e (x, disagreement) = cc at in
-      IsDisagreementAt-sorted order x disagreement rest
-      (subst (λ (d : Id × Disagreement). IsPermutation noted.disagreements (d ∷ rest)) first moved)
-      (subst (λ (d : Id × Disagreement). IsSorted id_cmp (keys (d ∷ rest))) first sorted)
+-- the first of sorted disagreements is the least of those before the sort
+pub first_disagreement : (before disagreements : List (Id × Disagreement)) (e : Id × Disagreement)
+    → slice_get disagreements 0 ≡ Some e → IsPermutation before disagreements
+    → IsSorted id_cmp (keys disagreements) → IsLeastDisagreement before (Some e)
+first_disagreement before [] e at moved sorted = absurd (cc at)
+first_disagreement before (d ∷ rest) e at moved sorted =
+    let first : ◌≡◌ {A = Id × Disagreement} d e = cc at in
+    let sorts : List (Id × Disagreement) = d ∷ rest in
+    subst (λ (f : Id × Disagreement). IsLeastDisagreement before (Some f)) first (
+      Contains-permutation sorts before d (IsPermutation-sym before sorts moved)
+          (Contains-head d rest),
+      λ y h.
+          let has = Contains-from_map (λ (f : Id × Disagreement). f.0) before y h in
+          let among = Contains-map (λ (f : Id × Disagreement). f.0) sorts has.0
+          (Contains-permutation before sorts has.0 moved has.1) in
+          first_is_least d.0 (keys rest) sorted y (subst (Contains (keys sorts)) has.2 among),
+    )
 
 -- a list without a first element has no key, nor had it before the sort
 pub no_disagreements : (before disagreements : List (Id × Disagreement))
-    → slice_get disagreements 0 ≡ None → IsPermutation before disagreements → (x : Id)
-    → ¬ Contains (keys before) x
+    → slice_get disagreements 0 ≡ None → IsPermutation before disagreements
+    → IsLeastDisagreement before None
 no_disagreements before [] none moved x h =
     let e = Contains-from_map (λ (d : Id × Disagreement). d.0) before x h in
     Contains-nil e.0 (Contains-permutation before [] e.0 moved e.1)

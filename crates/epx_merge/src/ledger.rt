@@ -1,7 +1,9 @@
 //! The first line of each instance, and the instances whose lines differ.
-ghost use Rattle.std.specs.Prelude.{◌≡◌, List, [], ◌∷◌, OnOk, MatchResult, Some, slice_get};
+ghost use Rattle.std.specs.Prelude.{◌≡◌, List, [], ◌∷◌, IfOk, OnOk, MatchResult, Some};
+ghost use Rattle.std.specs.Prelude.{slice_get};
 ghost use Rattle.epx_types.specs.PlacedLines.{Placed};
 ghost use Rattle.epx_merge.specs.inner.Ledgers.{IsLedgerOf, NotesLines};
+ghost use Rattle.epx_merge.specs.inner.LeastDisagreement.{IsLeastDisagreement};
 ghost use Rattle.epx_merge.specs.inner.LineOrder.{IsSortedByPlace};
 ghost use Rattle.epx_merge.specs.Steps.{IsMerged, IsMergeFault};
 
@@ -102,7 +104,7 @@ impl Ledger {
             alloc,
             names,
             firsts,
-            mut disagreements,
+            disagreements,
         } = self;
         let Ok(rows) = rows_of(alloc, names.as_slice()) else {
             return Err(Fault::Memory);
@@ -110,19 +112,32 @@ impl Ledger {
         let Ok(guesses) = guesses_of(alloc, &rows) else {
             return Err(Fault::Memory);
         };
-        let Ok(()) = disagreements.sort_unstable_keys() else {
+        let Ok(least) = least_of(disagreements) else {
             return Err(Fault::Memory);
         };
         if rows.len() > MAX_INSTANCES {
             return Err(Fault::TooManyInstances);
         }
-        match disagreements.first() {
+        match least {
             Some((id, disagreement)) => Err(Fault::Disagree {
-                id: *id,
+                id,
                 first: disagreement.first,
                 second: disagreement.second,
             }),
             None => Ok(Merged::new(firsts, rows, guesses)),
         }
+    }
+}
+
+/// The disagreement of the least Id, if there is any.
+fn least_of(
+    mut disagreements: IndexMap<Id, Disagreement, Seed>,
+) -> Result<Option<(Id, Disagreement)>, Memory>
+    ensures { IfOk result (IsLeastDisagreement disagreements.entries) }
+{
+    disagreements.sort_unstable_keys()?;
+    match disagreements.first() {
+        Some((id, disagreement)) => Ok(Some((*id, *disagreement))),
+        None => Ok(None),
     }
 }

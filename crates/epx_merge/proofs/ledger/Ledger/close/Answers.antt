@@ -5,8 +5,7 @@ use Rattle.epx_merge.specs.declared.rows.Row.{Row}
 use Rattle.epx_merge.specs.inner.Ledgers.{LedgerView, IsLedgerOf}
 use Rattle.epx_merge.specs.inner.LineRows.{with_ids, rows_of_ids}
 use Rattle.epx_merge.proofs.LineRowLemmas.{AreLineRows-moved, AreNamedBy-rows, IsCommittedBy-rows}
-use Rattle.epx_merge.proofs.LedgerCloseLemmas.{Agree-from_ledger, no_disagreements}
-use Rattle.epx_merge.proofs.LedgerCloseLemmas.{first_disagreement}
+use Rattle.epx_merge.proofs.LedgerCloseLemmas.{Agree-from_ledger, IsDisagreementAt-least}
 use Rattle.epx_merge.proofs.ledger.Ledger.close.Goals as goal
 
 pub returns-then-len-gt-MAX_INSTANCES : goal.returns-then-len-gt-MAX_INSTANCES
@@ -54,7 +53,8 @@ returns-in-Some c = λ lines order ledger.
     let named = AreNamedBy-rows c.self.inside.firsts.items c.self.inside.names.keys rows
     c.self.invariant moved c.as_slice.ensures.unique c.in-Ok.ensures.sorted lines
     noted.disagreements h in
-    let count : vec_len c.in-Ok.rows ≡ length rows = search rules in (
+    let count : vec_len c.in-Ok.rows ≡ length rows = search rules in
+    let least = rw c.in-Some.is at c.in-Ok-least_of.ensures in (
       (
         map (λ r. r.id) rows,
         named,
@@ -66,9 +66,8 @@ returns-in-Some c = λ lines order ledger.
           c.if-len-gt-MAX_INSTANCES.false,
         ),
       ),
-      first_disagreement lines noted h order c.sort_unstable_keys.new.self.entries c.in-Some.id.now
-          c.in-Some.disagreement.now (sym c.in-Some.ensures.entry)
-          c.in-Ok-sort_unstable_keys.ensures.reordered.0 c.in-Ok-sort_unstable_keys.ensures.sorted,
+      IsDisagreementAt-least lines noted h order c.in-Some.id c.in-Some.disagreement least.0
+          least.1,
     )
 
 pub returns : goal.returns
@@ -85,9 +84,8 @@ returns c = λ lines order ledger.
     c.self.invariant moved c.as_slice.ensures.unique c.in-Ok.ensures.sorted lines
     noted.disagreements h in
     let count : vec_len c.in-Ok.rows ≡ length rows = search rules in
-    let agree = Agree-from_ledger lines noted h
-    (no_disagreements noted.disagreements c.sort_unstable_keys.new.self.entries
-    (sym c.in-None.ensures.entry) c.in-Ok-sort_unstable_keys.ensures.reordered.0) in
+    let none = rw c.in-None.is at c.in-Ok-least_of.ensures in
+    let agree = Agree-from_ledger lines noted h none in
     rw c.new.ensures record {
       small = (
         map (λ r. r.id) rows,
