@@ -210,7 +210,8 @@ pub fn answer<R: Threads + RandomSource + Sync>(
         Ok(merged) => merged,
         Err(fault) => return Err(fault),
     };
-    Ok(whole_report(rt, alloc, merged, plan)?)
+    let text = whole_report(rt, alloc, merged, plan)?;
+    Ok(text)
 }
 
 /// Like `answer`, but it frees the logs when they are read.
@@ -229,8 +230,7 @@ pub(crate) fn answer_owned<R: Threads + RandomSource + Sync>(
         Err(fault) => return Err(fault),
     };
     drop(logs);
-    let text = whole_report(rt, alloc, merged, plan)?;
-    Ok(text)
+    Ok(whole_report(rt, alloc, merged, plan)?)
 }
 
 /// Like `answer`, but it returns a view instead of the report.

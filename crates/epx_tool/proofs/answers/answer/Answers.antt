@@ -5,3 +5,6 @@ use Rattle.epx_merge.specs.LogLines.{bytes_of}
 pub whole_report-requires-clause-few : goal.whole_report-requires-clause-few
 whole_report-requires-clause-few g c κs within =
     accepted_are_few (bytes_of c.args.logs.now) c.in-Ok.merged c.in-Ok.ensures
+
+pub returns : goal.returns
+returns g c = (c.in-Ok.merged, c.in-Ok.ensures, c.in_ok-text.ensures)

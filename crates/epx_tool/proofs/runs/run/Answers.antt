@@ -114,3 +114,6 @@ returns g c =
       too_many = too_many_iff done has _ _ read.too_many;
       none_read = λ is. absurd (has.not_too_many is);
     }
+
+pub write_out-requires : goal.write_out-requires
+write_out-requires g c = c.requires.sink
