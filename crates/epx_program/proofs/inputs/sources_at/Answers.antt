@@ -1,5 +1,6 @@
-use Rattle.std.proofs.Common.{◌≡◌, false, ◌∙◌, arith}
+use Rattle.std.proofs.Common.{◌≡◌, false, ◌∙◌, ap, map, arith}
 use Rattle.std.specs.Prelude.{string_bytes}
+use Rattle.std.proofs.lemmas.List.{take_all}
 use Rattle.std.proofs.lemmas.List.Elements.{All-push}
 use Rattle.epx_devices.specs.EitherSources.{value_by}
 use Rattle.epx_program.specs.Inputs.{path_of}
@@ -21,4 +22,14 @@ loop-path-preserved g c =
           before.paths
           (λ start hyphen. said.input c.args.input (c.as_str.ensures.value ∙ hyphen)
           (before.fresh start));
+    }
+
+pub returns : goal.returns
+returns g c =
+    let done = c.loop-path.invariant in
+    let all = ap (map string_bytes) (take_all c.loop-path.path-index c.args.paths.now
+    c.loop-path-test.false) in record {
+      paths = done.paths ∙ all;
+      failed = done.failed;
+      input = λ hyphen. done.given (all ∙ hyphen);
     }

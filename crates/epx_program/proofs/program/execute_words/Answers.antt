@@ -1,4 +1,5 @@
-use Rattle.std.proofs.Common.{◌≡◌, true, ◌∷◌, []}
+use Rattle.std.proofs.Common.{◌≡◌, true, ◌∷◌, [], ap, ◌∙◌}
+use Rattle.epx_program.specs.Endings.{status_of}
 use Rattle.epx_program.proofs.StatusLemmas.{failed_device, ends-as-done, is_status}
 use Rattle.epx_program.proofs.StatusLemmas.{unchanged_by_text, unchanged_by_work, of_done, of-text}
 use Rattle.epx_program.proofs.program.execute_words.Goals as goal
@@ -35,3 +36,11 @@ returns-in-Text-clause-nothing g c =
     _
     (g.W.Sink.has_failed c.print_text.new.output) c.print_text.ensures.refused
     c.print_text.ensures.status
+
+pub returns-in-Work-clause-flushed : goal.returns-in-Work-clause-flushed
+returns-in-Work-clause-flushed g c =
+    of_done c.do_task-done.result _ c.report_fault.ensures c.do_task-done.ensures.flushed
+
+pub returns-in-Work-clause-failed : goal.returns-in-Work-clause-failed
+returns-in-Work-clause-failed g c = λ bad.
+    c.report_fault.ensures ∙ ap status_of (c.do_task-done.ensures.written.1 bad)
