@@ -1,8 +1,6 @@
 -- Reading through a draft, and writing to it.
 use Rattle.std.proofs.Common.{◌≡◌, ℕ, ℤ, ◌∙◌, sym, ap, List, [], ◌∷◌, Option, Some, None}
-use Rattle.std.proofs.Common.{unwrap_or, map, subst, IfOk}
-use Rattle.std.specs.declared.result.Result.{Result}
-use Rattle.std.specs.declared.result.Result.TheVariants.{Ok, Err}
+use Rattle.std.proofs.Common.{unwrap_or, map, subst}
 use Rattle.std.specs.FinMap as contents
 use Rattle.std.specs.FinMap.{entries-insert}
 use Rattle.epx_types.specs.Keys.{add_keys}
@@ -10,11 +8,9 @@ use Rattle.epx_types.specs.Contents.{Contents, assign}
 use Rattle.epx_types.specs.Operations.{operate}
 use Rattle.epx_types.specs.CommandKeys.{written_by}
 use Rattle.epx_types.specs.declared.op.Op.{Op}
-use Rattle.epx_types.specs.declared.memory.Memory.{Memory}
 use Rattle.epx_types.proofs.keys.KeyListLemmas.{key_cmp_total}
 use Rattle.epx_types.proofs.keys.SortedEntryLemmas.{keys_of-put}
 use Rattle.epx_types.proofs.commands.WriteLemmas.{get-put_entries, put_entries-insert}
-use Rattle.epx_txn.specs.declared.draft.Step.{Step}
 use Rattle.epx_txn.specs.declared.draft.Step.TheVariants.{Done}
 use Rattle.epx_txn.specs.inner.Drafts.{Draft, contents_through, IsStepOf, AddsKeys}
 
@@ -37,17 +33,13 @@ adds_key op d k w one =
     ∙ ap (add_keys (contents.keys d)) (sym one)
 
 -- an operation that writes one key, after its write is in the draft
-pub written_step : (r : Result Step Memory) (op by : Op) (c : Contents) (d e : Draft) (k : List ℕ)
-    (w v : Option ℤ) → IfOk r (λ s. (s ≡ Done) × (e ≡ contents.insert d k w)) → op ≡ by
-    → written_by by ≡ k ∷ [] → operate by (contents_through d c)
-    ≡ Some (assign (contents_through d c) k v, []) → w ≡ v → IfOk r (λ s. IsStepOf s op c d e)
-written_step (Err x) op by c d e k w v h is one goes same = h
-written_step (Ok s) op by c d e k w v h is one goes same =
-    let Goal : Op → Step → Draft → Type 0 = λ o t f. IsStepOf t o c d f in
-    let step : IsStepOf Done by c d (contents.insert d k w) = (
-      goes ∙ ap (λ u. Some (assign (contents_through d c) k u, [])) (sym same)
-          ∙ ap (λ x. Some (x, [])) (sym (put_entries-insert d k w c)),
-      adds_key by d k w one,
-    ) in
-    subst (λ o. Goal o s e) (sym is)
-    (subst (λ t. Goal by t e) (sym h.0) (subst (λ f. Goal by Done f) (sym h.1) step))
+pub written_step : (op : Op) (c : Contents) (d e : Draft) (k : List ℕ) (v : Option ℤ)
+    → e ≡ contents.insert d k v
+    → (operate op (contents_through d c) ≡ Some (assign (contents_through d c) k v, []))
+    × (written_by op ≡ k ∷ [])
+    → IsStepOf Done op c d e
+written_step op c d e k v is writes =
+    subst (IsStepOf Done op c d) (sym is) (
+      writes.0 ∙ ap (λ x. Some (x, [])) (sym (put_entries-insert d k v c)),
+      adds_key op d k v writes.1,
+    )

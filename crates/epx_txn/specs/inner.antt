@@ -1,6 +1,6 @@
 -- Words of private clauses: no public contract speaks of them.
 pub mod Drafts
-pub mod LoneOps
+pub mod Actions
 pub mod KeySlots
 pub mod Shards
 pub mod Routes

@@ -1,9 +1,11 @@
 //! Runs the operations of a command over a borrowed store, and keeps its writes in a draft.
-ghost use Rattle.std.specs.Prelude.{◌≡◌, IfOk, OnOk, if◌then◌else◌};
+ghost use Rattle.std.specs.Prelude.{◌≡◌, IfOk, OnOk};
 ghost use Rattle.std.specs.FinMap as contents;
 ghost use Rattle.epx_types.specs.Writes.{apply_writes};
+ghost use Rattle.epx_txn.specs.inner.Actions.{value_used};
 ghost use Rattle.epx_txn.specs.inner.Drafts.{contents_through, IsStepOf};
 
+use crate::action::{Action, action_of, key_used};
 use crate::few_writes::FewWrites;
 use crate::key_map::KeyMap;
 use crate::store::Store;
@@ -109,40 +111,27 @@ fn read(draft: &Draft, store: &Store, key: &Key) -> Option<i64>
     }
 }
 
-/// Adds a write to the draft.
-fn write<'a>(draft: &mut Draft<'a>, key: &'a Key, value: Option<i64>) -> Result<Step, Memory>
-    ensures { IfOk result
-        (λ s. (s ≡ Step.Done) × (draft.new ≡ contents.insert draft.old key.now value)) }
+/// Returns the value that an operation of the command uses.
+fn read_used(draft: &Draft, store: &Store, op: &Op) -> Option<i64>
+    ensures { result ≡ value_used op.now (contents_through draft.now store.now) }
 {
-    draft.set(key, value)?;
-    Ok(Step::Done)
-}
-
-pub(crate) fn done_or_abort(holds: bool) -> Step
-    ensures { result ≡ (if holds then Step.Done else Step.Abort) }
-{
-    if holds { Step::Done } else { Step::Abort }
+    match key_used(op) {
+        Some(key) => read(draft, store, key),
+        None => None,
+    }
 }
 
 /// Runs one operation: reads through the draft and writes into it.
 pub(crate) fn operate<'a>(draft: &mut Draft<'a>, store: &Store, op: &'a Op) -> Result<Step, Memory>
     ensures { IfOk result (λ s. IsStepOf s op.now store.now draft.old draft.new) }
 {
-    match op {
-        Op::Get { key } => Ok(Step::Read(read(draft, store, key))),
-        Op::Put { key, value } => write(draft, key, Some(*value)),
-        Op::Del { key } => write(draft, key, None),
-        Op::Add { key, amount } => match read(draft, store, key).unwrap_or(0).checked_add(*amount) {
-            Some(sum) => write(draft, key, Some(sum)),
-            None => Ok(Step::Abort),
-        },
-        Op::Is { key, value } => Ok(done_or_abort(read(draft, store, key) == *value)),
-        Op::Floor { key, least } => Ok(done_or_abort(
-            read(draft, store, key).unwrap_or(0) >= *least,
-        )),
-        Op::Copy { source, target } => {
-            let value = read(draft, store, source);
-            write(draft, target, value)
+    match action_of(op, read_used(draft, store, op)) {
+        Action::Read(value) => Ok(Step::Read(value)),
+        Action::Write(key, value) => {
+            draft.set(key, value)?;
+            Ok(Step::Done)
         }
+        Action::Pass => Ok(Step::Done),
+        Action::Abort => Ok(Step::Abort),
     }
 }

@@ -2,6 +2,7 @@
 //! commands.
 #![tactic(auto)]
 
+mod action;
 mod draft;
 pub mod effect;
 pub mod evaluation;
