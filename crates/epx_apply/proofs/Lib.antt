@@ -1,5 +1,4 @@
 pub mod ReplyLemmas
-pub mod JoinedPieceLemmas
 pub mod LevelEffectLemmas
 pub mod LevelRunLemmas
 pub mod AccessLemmas

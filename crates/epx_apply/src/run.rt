@@ -1,7 +1,7 @@
 //! Executes commands level by level. The commands of one level do not conflict. Each is evaluated
 //! over the store before the level, which is only read. Then the writes of all of them are merged
 //! into the store.
-ghost use Rattle.std.specs.Prelude.{◌≡◌, ◌<◌, ◌≤◌, ◌^◌, ◌++◌, ◌∷◌, [], ℕ, length, map, flat_map};
+ghost use Rattle.std.specs.Prelude.{◌≡◌, ◌<◌, ◌≤◌, ◌^◌, ◌++◌, ◌∷◌, [], ℕ, length, map};
 ghost use Rattle.std.specs.Prelude.{slice_set, All, IfOk, IfSome, OnOk, OnErr};
 ghost use Rattle.epx_types.specs.Commands.{command_on};
 ghost use Rattle.epx_types.specs.Conflicts.{NoneConflict};
@@ -10,10 +10,11 @@ ghost use Rattle.epx_types.specs.Levels.{AreLevels};
 ghost use Rattle.epx_types.specs.Pieces.{piece_count};
 ghost use Rattle.epx_types.specs.Rearrangements.{commands_at};
 ghost use Rattle.epx_apply.specs.inner.Effects.{op_lists_of, effect_over, effects_over};
-ghost use Rattle.epx_apply.specs.inner.Effects.{items_of_piece, replies_in, put_replies};
+ghost use Rattle.epx_apply.specs.inner.Effects.{replies_in, put_replies};
+ghost use Rattle.epx_claims.specs.inner.PieceItems.{items_of_piece};
 
 use crate::level_map::{LevelMap, levels_below};
-use epx_claims::{Gate, claimed_map};
+use epx_claims::{Gate, append_parts, claimed_map};
 use epx_seed::Seed;
 use epx_txn::{Effect, Store, apply, eval, merge_effects};
 use epx_types::{Command, Memory, Op, Plan, Reply};
@@ -74,17 +75,6 @@ fn evaluate_piece(
     evaluate(alloc, store, commands, &positions[start..end])
 }
 
-/// Concatenates the effects of all parts. `count` is their expected number.
-fn join_parts(alloc: Global, parts: Vec<Vec<Effect>>, count: usize) -> Result<Vec<Effect>, Memory>
-    ensures { IfOk result (λ v. v.items ≡ flat_map (λ part. part.items) parts.items) }
-{
-    let mut effects = Vec::with_capacity(alloc, count)?;
-    for mut part in parts {
-        effects.append(&mut part)?;
-    }
-    Ok(effects)
-}
-
 /// Returns the effects of the commands at these positions, each over the same borrowed store. The
 /// plan's workers evaluate them piece by piece.
 fn evaluate_all<R: Threads + Sync, G: Gate + Sync>(
@@ -106,7 +96,9 @@ fn evaluate_all<R: Threads + Sync, G: Gate + Sync>(
     let parts = claimed_map(rt, alloc, pieces, plan, gate, |piece| {
         evaluate_piece(alloc, store, commands, positions, plan, piece)
     })?;
-    join_parts(alloc, parts, positions.len())
+    let mut effects = Vec::with_capacity(alloc, positions.len())?;
+    append_parts(&mut effects, parts)?;
+    Ok(effects)
 }
 
 /// Puts the reply of an effect at the position of its command.

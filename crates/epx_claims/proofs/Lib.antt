@@ -9,3 +9,4 @@ pub mod SlotLemmas
 pub mod SeatLemmas
 pub mod SumLemmas
 pub mod AnswerLemmas
+pub mod JoinedPieceLemmas

@@ -3,3 +3,4 @@ pub mod ClaimsFields
 pub mod Rule
 pub mod SeatFields
 pub mod WorkResult
+pub mod PieceItems

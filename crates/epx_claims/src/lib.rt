@@ -5,6 +5,7 @@
 mod claims;
 mod gate;
 mod map;
+mod parts;
 mod rule;
 mod seat;
 mod seat_state;
@@ -14,4 +15,5 @@ mod work;
 pub use claims::Claims;
 pub use gate::{FreeGate, Gate};
 pub use map::claimed_map;
+pub use parts::append_parts;
 pub use seat::ClaimSeat;

@@ -2,7 +2,7 @@
 use Rattle.std.proofs.Common.{◌≡◌, zero, suc, ◌-◌, ℕ, List, [], ◌∷◌, length, take, drop, zip}
 use Rattle.std.proofs.Common.{slice_range, refl, sym, ap, ◌∙◌, arith}
 use Rattle.epx_types.specs.Pieces.{piece_start, piece_end}
-use Rattle.epx_apply.specs.inner.Effects.{items_of_piece}
+use Rattle.epx_claims.specs.inner.PieceItems.{items_of_piece}
 
 pub length-zip : {X Y : Type 0} (xs : List X) (ys : List Y) → length ys ≡ length xs
     → length (zip xs ys) ≡ length xs

@@ -2,11 +2,10 @@
 ghost use Rattle.std.specs.Prelude.{◌≡◌, ◌<◌, ◌≤◌, ◌^◌, length, map, IfOk};
 ghost use Rattle.epx_types.specs.CommittedMap.{instance_of};
 ghost use Rattle.epx_types.specs.Pieces.{piece_count};
-ghost use Rattle.epx_apply.specs.inner.Effects.{items_of_piece};
+ghost use Rattle.epx_claims.specs.inner.PieceItems.{items_of_piece};
 ghost use Rattle.epx_tool.specs.Report.{ops_found};
 
-use crate::parts::append_parts;
-use epx_claims::{FreeGate, claimed_map};
+use epx_claims::{FreeGate, append_parts, claimed_map};
 use epx_merge::Merged;
 use epx_types::{Command, Id, Memory, Plan};
 use std::alloc::Global;

@@ -8,7 +8,6 @@ mod checked_runs;
 mod checks;
 mod commands;
 pub mod laws;
-mod parts;
 mod reply_lines;
 mod report;
 mod resumed_runs;

@@ -1,11 +1,10 @@
 -- The effects of commands over contents that they only read, and replies at positions.
-use Rattle.std.specs.Prelude.{ℕ, List, [], ◌∷◌, length, map, slice_range, slice_set}
+use Rattle.std.specs.Prelude.{ℕ, List, [], ◌∷◌, map, slice_set}
 use Rattle.epx_types.specs.declared.command.Command.{Command}
 use Rattle.epx_types.specs.declared.op.Op.{Op}
 use Rattle.epx_types.specs.declared.reply.Reply.{Reply}
 use Rattle.epx_types.specs.Contents.{Contents}
 use Rattle.epx_types.specs.Commands.{command_on}
-use Rattle.epx_types.specs.Pieces.{piece_start, piece_end}
 use Rattle.epx_types.specs.Writes.{writes_of}
 use Rattle.epx_txn.specs.declared.effect.Effect.{Effect}
 
@@ -29,8 +28,3 @@ abbrev pub put_replies : List ℕ → List Reply → List Reply → List Reply
 put_replies [] replies at = at
 put_replies (i ∷ positions) [] at = at
 put_replies (i ∷ positions) (r ∷ replies) at = put_replies positions replies (slice_set at i r)
-
--- the items of one piece of a list
-abbrev pub items_of_piece : {X : Type 0} → ℕ → List X → ℕ → List X
-items_of_piece cut items piece =
-    slice_range items (piece_start cut piece) (piece_end cut (length items) piece)

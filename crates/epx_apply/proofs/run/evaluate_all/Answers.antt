@@ -1,9 +1,9 @@
-use Rattle.std.proofs.Common.{◌≡◌, ◌∙◌, map, refl, sym, rules}
+use Rattle.std.proofs.Common.{◌≡◌, ◌∙◌, ◌++◌, map, flat_map, refl, sym, ap, rules}
 use Rattle.std.proofs.lemmas.List.{map-append}
-use Rattle.std.proofs.lemmas.Result.{IfOk-weaker}
 use Rattle.epx_types.specs.Rearrangements.{commands_at}
-use Rattle.epx_apply.specs.inner.Effects.{op_lists_of, effects_over, items_of_piece}
-use Rattle.epx_apply.proofs.JoinedPieceLemmas.{parts_joined}
+use Rattle.epx_claims.specs.inner.PieceItems.{items_of_piece}
+use Rattle.epx_claims.proofs.JoinedPieceLemmas.{parts_joined}
+use Rattle.epx_apply.specs.inner.Effects.{op_lists_of, effects_over}
 use Rattle.epx_apply.proofs.LevelEffectLemmas.{effect_at, effects_over-each}
 use Rattle.epx_apply.proofs.run.evaluate_all.Goals as goal
 
@@ -14,8 +14,9 @@ returns g c =
     let positions = c.args.positions.now in
     let cut = c.args.plan.cut in
     let done = c.in_ok-parts.ensures.ok in
-    IfOk-weaker c.join_parts.result _ _ (λ v joined.
-    joined
+    c.in_ok-append_parts.ensures
+    ∙ ap (λ front. front ++ flat_map (λ part. part.items) c.in_ok-parts.parts.items)
+    c.in_ok-effects.ensures.items
     ∙ parts_joined cut c.pieces-pieces.ensures.fits.some_item (map (effect_at store ops)) refl
     (map-append (effect_at store ops)) positions (λ part. part.items) c.in_ok-parts.parts.items
     (done.len ∙ c.pieces-pieces.ensures.pieces)
@@ -25,4 +26,4 @@ returns g c =
     let is : part.0.items ≡ effects_over store (commands_at ops (items_of_piece cut positions i)) =
     search rules in
     (part.0, part.1, is ∙ effects_over-each store ops (items_of_piece cut positions i)))
-    ∙ sym (effects_over-each store ops positions)) c.join_parts.ensures
+    ∙ sym (effects_over-each store ops positions)

@@ -1,16 +1,12 @@
-use Rattle.std.proofs.Common.{◌≡◌, ◌∙◌, ℕ, ◌∷◌, [], Err, IsErrOf, ap, length, map, subst, sym}
+use Rattle.std.proofs.Common.{◌≡◌, ◌∙◌, ◌∷◌, [], ap, length, map, subst, sym}
 use Rattle.std.specs.Prelude.{OnOk, string_bytes}
 use Rattle.std.proofs.lemmas.List.{length-map}
-use Rattle.epx_types.specs.declared.fault.Fault.TheVariants.{Memory, Read}
 use Rattle.epx_devices.specs.declared.either_source.EitherSource.TheVariants.{First, Second}
 use Rattle.epx_program.proofs.FailedInputLemmas.{alone, input_failed}
 use Rattle.epx_program.proofs.SourceListLemmas.{as_many}
 use Rattle.epx_program.specs.Endings.{AddsAnswer, AddsPart}
 use Rattle.epx_program.specs.Inputs.{OneHasFailedRead, path_of}
 use Rattle.epx_program.proofs.do_task.do_task.Goals as goal
-
-memory_is_no_read : {T : Type 0} (log : ℕ) → ¬ IsErrOf {T = T} (Err Memory) (Read log)
-memory_is_no_read log is = cc is
 
 pub returns-clause-answered : goal.returns-clause-answered
 returns-clause-answered g c =
@@ -45,4 +41,4 @@ returns-clause-unread g c = rw c.in-Some.is (λ log failed hyphen.
     input_failed _ _ g.I.Source.reads g.I.Source.fails _ _ c.args.input (alone _ _ _ one))
 
 pub returns-in_default-sources_at-clause-unread : goal.returns-in_default-sources_at-clause-unread
-returns-in_default-sources_at-clause-unread g c log unread = absurd (memory_is_no_read log unread)
+returns-in_default-sources_at-clause-unread g c log unread = absurd (cc unread)

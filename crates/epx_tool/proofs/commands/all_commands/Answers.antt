@@ -2,8 +2,8 @@ use Rattle.std.proofs.Common.{◌≡◌, ◌++◌, ◌∙◌, map, flat_map, ref
 use Rattle.std.proofs.lemmas.List.{map-append}
 use Rattle.epx_types.specs.declared.command.Command.{Command}
 use Rattle.epx_types.specs.CommittedMap.{instance_of}
-use Rattle.epx_apply.specs.inner.Effects.{items_of_piece}
-use Rattle.epx_apply.proofs.JoinedPieceLemmas.{parts_joined}
+use Rattle.epx_claims.specs.inner.PieceItems.{items_of_piece}
+use Rattle.epx_claims.proofs.JoinedPieceLemmas.{parts_joined}
 use Rattle.epx_tool.specs.Report.{ops_found}
 use Rattle.epx_tool.proofs.OrderCommandLemmas.{commands_by_id, map-flat_map}
 use Rattle.epx_tool.proofs.commands.all_commands.Goals as goal

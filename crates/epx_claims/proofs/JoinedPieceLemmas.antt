@@ -6,7 +6,7 @@ use Rattle.std.proofs.lemmas.Bool.{cases_lt}
 use Rattle.std.proofs.lemmas.List.Folds.{drop_split}
 use Rattle.epx_types.specs.Pieces.{piece_count, piece_start, piece_end}
 use Rattle.epx_types.proofs.lists.PieceLemmas.{piece_count-above, piece_end-after_start}
-use Rattle.epx_apply.specs.inner.Effects.{items_of_piece}
+use Rattle.epx_claims.specs.inner.PieceItems.{items_of_piece}
 
 -- what is made of a list is made of its parts, one after another
 module _ {X Y Z : Type 0} (cut : ℕ) (fits : 1 ≤ cut) (made : List X → List Y)

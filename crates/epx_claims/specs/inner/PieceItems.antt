@@ -1,0 +1,7 @@
+-- The items of one piece of a list.
+use Rattle.std.specs.Prelude.{ℕ, List, length, slice_range}
+use Rattle.epx_types.specs.Pieces.{piece_start, piece_end}
+
+abbrev pub items_of_piece : {X : Type 0} → ℕ → List X → ℕ → List X
+items_of_piece cut items piece =
+    slice_range items (piece_start cut piece) (piece_end cut (length items) piece)
