@@ -8,7 +8,7 @@ use Rattle.std.proofs.lemmas.Bool.Decides.{nat_tests}
 use Rattle.std.proofs.lemmas.List.{length-append, length_push, get_or_push, get_or_append_left}
 use Rattle.std.proofs.lemmas.List.Elements.{All-weaker, All-contains_itself}
 use Rattle.std.proofs.lemmas.List.Sorted.{Contains-permutation, IsPermutation-sym}
-use Rattle.std.proofs.lemmas.List.Sorted.{IsPermutation-map}
+use Rattle.std.proofs.lemmas.List.Sorted.{IsPermutation-map, length_permutation}
 use Rattle.std.proofs.lemmas.Map.Keys.{IsDistinct-IsPermutation}
 use Rattle.std.proofs.lemmas.Option.{slice_get-get_or, get_or_from_slice_get}
 use Rattle.epx_types.specs.declared.id.Id.{Id}
@@ -24,8 +24,8 @@ use Rattle.epx_merge.specs.declared.ledger.Disagreement.{Disagreement}
 use Rattle.epx_merge.specs.declared.rows.Row.{Row}
 use Rattle.epx_merge.specs.inner.Ledgers.{IsLedgerOf}
 use Rattle.epx_merge.specs.Refusals.{AreNamedBy}
-use Rattle.epx_merge.specs.inner.LineRows.{with_ids, rows_of_ids, instances_at, NamesItsLine}
-use Rattle.epx_merge.specs.inner.LineRows.{AreLineRows}
+use Rattle.epx_merge.specs.inner.LineRows.{with_ids, row_at, rows_of_lines, instances_at}
+use Rattle.epx_merge.specs.inner.LineRows.{NamesItsLine, AreLineRows}
 use Rattle.epx_merge.proofs.LedgerLemmas.{keys}
 use Rattle.epx_merge.proofs.LedgerMapLemmas.{same_id}
 use Rattle.epx_merge.proofs.RowLemmas.{names_of}
@@ -87,12 +87,11 @@ module _ (lines : List Placed) where
       ∙ ap (λ (q : Placed). Some q.instance)
       (get_or_from_slice_get lines r.line p default_line there)
 
--- ---- the rows of all Ids
+-- ---- the rows of all lines
 
 -- rows in the order of the lines name the lines in their order
 in_order : (before lines : List Placed)
-    → under_rows (before ++ lines) (rows_of_ids (length before) (map (λ p. p.instance.id) lines))
-    ≡ with_ids lines
+    → under_rows (before ++ lines) (rows_of_lines (length before) lines) ≡ with_ids lines
 in_order before [] = refl
 in_order before (p ∷ lines) =
     let all = before ++ p ∷ lines in
@@ -104,15 +103,13 @@ in_order before (p ∷ lines) =
     (length before) refl in
     let next : length (before ++ p ∷ []) ≡ length before + 1 =
     omega (arith, length_push before p) in
-    let rest : under_rows all (rows_of_ids (length before + 1) (map (λ q. q.instance.id) lines))
-    ≡ with_ids lines =
-    subst₂ (λ (l : List Placed) (n : ℕ). under_rows l
-    (rows_of_ids n (map (λ q. q.instance.id) lines)) ≡ with_ids lines) whole next
-    (in_order (before ++ p ∷ []) lines) in
+    let rest : under_rows all (rows_of_lines (length before + 1) lines) ≡ with_ids lines =
+    subst₂ (λ (l : List Placed) (n : ℕ). under_rows l (rows_of_lines n lines)
+    ≡ with_ids lines) whole next (in_order (before ++ p ∷ []) lines) in
     λ i. (p.instance.id, here i) ∷ rest i
 
 names_there : (before lines : List Placed) (r : Row)
-    → Contains (rows_of_ids (length before) (map (λ p. p.instance.id) lines)) r
+    → Contains (rows_of_lines (length before) lines) r
     → NamesItsLine (before ++ lines) r
 names_there before [] r h = absurd (Contains-nil r h)
 names_there before (p ∷ lines) r h =
@@ -120,9 +117,8 @@ names_there before (p ∷ lines) r h =
     let whole : (before ++ p ∷ []) ++ lines ≡ all = append_assoc before (p ∷ []) lines in
     let next : length (before ++ p ∷ []) ≡ length before + 1 =
     omega (arith, length_push before p) in
-    let first : Row = record { id = p.instance.id; line = length before } in
-    elim (Contains-cons_cases first
-    (rows_of_ids (length before + 1) (map (λ q. q.instance.id) lines)) r h) [
+    elim (Contains-cons_cases (row_at (length before) p)
+    (rows_of_lines (length before + 1) lines) r h) [
       | inl is ↦
           let at : get_or all (length before) p ≡ p =
           ap (λ (l : List Placed). get_or l (length before) p) (sym whole)
@@ -134,12 +130,12 @@ names_there before (p ∷ lines) r h =
             slice_get-get_or all (length before) p
                 (omega (arith, length-append before (p ∷ lines))) ∙ ap Some at,
             refl,
+            refl,
           )
       | inr rest ↦
           subst (λ (l : List Placed). NamesItsLine l r) whole
           (names_there (before ++ p ∷ []) lines r
-          (subst (λ (n : ℕ). Contains (rows_of_ids n (map (λ q. q.instance.id) lines)) r)
-          (sym next) rest))
+          (subst (λ (n : ℕ). Contains (rows_of_lines n lines) r) (sym next) rest))
     ]
 
 -- ---- rows in another order
@@ -147,34 +143,38 @@ names_there before (p ∷ lines) r h =
 same_flips : (x y : Id) → same_id x y ≡ same_id y x
 same_flips x y = grind (arith, nat_tests)
 
-module _ (lines : List Placed) (names : List Id) (rows : List Row)
-    (names_are : names ≡ map (λ p. p.instance.id) lines)
-    (moved : IsPermutation (rows_of_ids 0 names) rows) where
+module _ (lines : List Placed) (rows : List Row)
+    (moved : IsPermutation (rows_of_lines 0 lines) rows) where
   under_moved : IsPermutation (with_ids lines) (under_rows lines rows)
   under_moved =
-      let start = ap (λ (l : List Id). under_rows lines (rows_of_ids 0 l)) names_are
-      ∙ in_order [] lines in
-      subst (λ (l : List (Id × Placed)). IsPermutation l (under_rows lines rows)) start
-      (IsPermutation-map (under_row lines) (rows_of_ids 0 names) rows moved)
+      subst (λ (l : List (Id × Placed)). IsPermutation l (under_rows lines rows))
+      (in_order [] lines)
+      (IsPermutation-map (under_row lines) (rows_of_lines 0 lines) rows moved)
 
   named_moved : (r : Row) → Contains rows r → NamesItsLine lines r
   named_moved r h =
       names_there [] lines r
-      (subst (λ (l : List Id). Contains (rows_of_ids 0 l) r) names_are
-      (Contains-permutation rows (rows_of_ids 0 names) r
-      (IsPermutation-sym (rows_of_ids 0 names) rows moved) h))
+      (Contains-permutation rows (rows_of_lines 0 lines) r
+      (IsPermutation-sym (rows_of_lines 0 lines) rows moved) h)
 
   instances_moved : instances_at lines rows ≡ map (λ e. e.1.instance) (under_rows lines rows)
   instances_moved = instances_under lines rows named_moved
 
-  module _ (distinct : IsDistinct same_id names)
+  names_moved : IsPermutation (map (λ p. p.instance.id) lines) (map (λ r. r.id) rows)
+  names_moved =
+      let P : List Id → Type 0 = λ l. IsPermutation l (map (λ r. r.id) rows) in
+      subst P (names_of 0 lines)
+      (IsPermutation-map (λ (r : Row). r.id) (rows_of_lines 0 lines) rows moved)
+
+  pub as_many_names : length (map (λ r. r.id) rows) ≡ length (map (λ p. p.instance.id) lines)
+  as_many_names = length_permutation (map (λ p. p.instance.id) lines) (map (λ r. r.id) rows)
+      names_moved
+
+  module _ (distinct : IsDistinct same_id (map (λ p. p.instance.id) lines))
       (sorted : IsSorted id_cmp (map (λ r. r.id) rows)) where
     distinct_rows : IsDistinct same_id (map (λ r. r.id) rows)
-    distinct_rows =
-        let P : List Id → Type 0 = λ l. IsPermutation l (map (λ r. r.id) rows) in
-        let same = subst P (names_of 0 names)
-        (IsPermutation-map (λ (r : Row). r.id) (rows_of_ids 0 names) rows moved) in
-        IsDistinct-IsPermutation same_id same_flips names (map (λ r. r.id) rows) same distinct
+    distinct_rows = IsDistinct-IsPermutation same_id same_flips (map (λ p. p.instance.id) lines)
+        (map (λ r. r.id) rows) names_moved distinct
 
     distinct_keys : IsDistinct same_id (keys (under_rows lines rows))
     distinct_keys = subst (IsDistinct same_id) (sym (keys_under lines rows)) distinct_rows

@@ -12,6 +12,7 @@ use Rattle.epx_types.specs.CommittedMap.{ids_of, instance_of, position_of}
 use Rattle.epx_types.proofs.lists.MembershipLemmas.{Contains-map}
 use Rattle.epx_types.proofs.committed.AgreementLemmas.{instance_of_iff}
 use Rattle.epx_types.proofs.lists.ListPositionLemmas.{Contains-slice_get, slice_get-from_Contains}
+use Rattle.epx_types.proofs.lists.ListPositionLemmas.{slice_get-map}
 use Rattle.epx_types.proofs.committed.PositionLemmas.{position_of-instance, position_of-found}
 use Rattle.epx_merge.specs.declared.rows.Row.{Row}
 use Rattle.epx_merge.specs.inner.LineRows.{instances_at, NamesItsLine, AreLineRows}
@@ -44,6 +45,14 @@ module _ (lines : List Placed) (rows : List Row) (h : AreLineRows lines rows) wh
       × (slice_get (instances_at lines rows) k ≡ Some p.instance)
   stands_at k r within is = row_stands k r
       (slice_get_read rows (length rows) k r refl (omega (arith, length_at, within)) is)
+
+  -- a row and the instance at its position have the same sequence number
+  pub seq_stands : (k : ℕ) (r : Row) → slice_get rows k ≡ Some r
+      → slice_get (map (λ i. i.seq) (instances_at lines rows)) k ≡ Some r.seq
+  seq_stands k r at =
+      let p = named r (Contains-slice_get rows k r at) in
+      slice_get-map (λ (i : Instance). i.seq) (instances_at lines rows) k p.0.instance
+      (stands_under lines rows named k r p.0 at p.1) ∙ ap Some p.3
 
   pub found_position : (k : ℕ) (r : Row) (x : Id) → slice_get rows k ≡ Some r → r.id ≡ x
       → position_of (instances_at lines rows) x ≡ Some k

@@ -106,7 +106,7 @@ impl Ledger {
             firsts,
             disagreements,
         } = self;
-        let Ok(rows) = rows_of(alloc, names.as_slice()) else {
+        let Ok(rows) = rows_of(alloc, &firsts) else {
             return Err(Fault::Memory);
         };
         let Ok(guesses) = guesses_of(alloc, &rows) else {
@@ -115,7 +115,7 @@ impl Ledger {
         let Ok(least) = least_of(disagreements) else {
             return Err(Fault::Memory);
         };
-        if rows.len() > MAX_INSTANCES {
+        if names.len() > MAX_INSTANCES {
             return Err(Fault::TooManyInstances);
         }
         match least {

@@ -1,5 +1,5 @@
 //! The committed map.
-ghost use Rattle.std.specs.Prelude.{◌≡◌, ◌==◌, ◌<◌, IfSome, length, option_copied, slice_get};
+ghost use Rattle.std.specs.Prelude.{◌≡◌, ◌==◌, ◌<◌, IfSome, length, map, option_copied, slice_get};
 ghost use Rattle.std.specs.Prelude.{Some};
 ghost use Rattle.epx_types.specs.CommittedMap.{ids_of, instance_of, position_of};
 ghost use Rattle.epx_types.specs.Ids.{IsRising};
@@ -97,6 +97,14 @@ impl Merged {
         ensures { slice_get (ids_of self.now) position ≡ Some result }
     {
         self.rows[position].id
+    }
+
+    /// The sequence number of the instance at a position.
+    pub fn seq_at(&self, position: usize) -> u64
+        requires { position < length self.now }
+        ensures { slice_get (map (λ i. i.seq) self.now) position ≡ Some result }
+    {
+        self.rows[position].seq
     }
 
     /// The entry of the instance at a position.

@@ -5,6 +5,7 @@ ghost use Rattle.epx_types.specs.declared.id.Id.{Id};
 ghost use Rattle.epx_types.specs.CommittedMap.{IsCommitted};
 ghost use Rattle.epx_types.specs.Done.{remaining};
 ghost use Rattle.epx_types.specs.ExecutionOrder.{IsRanked};
+ghost use Rattle.epx_types.specs.Instances.{Instance};
 ghost use Rattle.epx_types.specs.Readiness.{IsReady};
 ghost use Rattle.epx_graph.specs.GraphOf.{IsGraphOfRest, IsGraphOf};
 ghost use Rattle.epx_order.specs.inner.Ranks.{ranked, AreReadyRanks};
@@ -14,7 +15,7 @@ use crate::rank::Rank;
 use epx_components::{NodeRank, NodeRanks};
 use epx_graph::Graph;
 use epx_merge::Merged;
-use epx_types::{Entry, Id, Memory};
+use epx_types::{Id, Memory};
 use std::alloc::Global;
 
 /// The ranks of the ready instances of the remaining map. The time is linear in the dependencies.
@@ -59,26 +60,22 @@ fn rank_of(merged: &Merged, graph: &Graph, node: usize, node_rank: NodeRank) -> 
     Some(Rank {
         depth: node_rank.depth,
         leader: graph.id(node_rank.leader),
-        seq: entry_of(merged, node, id).seq(),
+        seq: seq_of(merged, node, id),
         id,
     })
 }
 
-/// The entry of a committed instance. If nothing is done, the node is the position in the map, and
-/// no Id has to be searched for.
-fn entry_of(merged: &Merged, node: usize, id: Id) -> &Entry
+/// The sequence number of a committed instance. If nothing is done, the node is the position in the
+/// map, and no Id has to be searched for.
+fn seq_of(merged: &Merged, node: usize, id: Id) -> u64
     requires { IsCommitted merged.now id }
-    ensures among { Contains merged.now result.now }
-    ensures id { result.now.id ≡ id }
+    ensures { (i : Instance) × Contains merged.now i × (i.id ≡ id) × (i.seq ≡ result) }
 {
-    if node < merged.len() {
-        let entry = merged.entry_at(node);
-        if entry.id() == id {
-            return entry;
-        }
+    if node < merged.len() && merged.id_at(node) == id {
+        return merged.seq_at(node);
     }
     match merged.get(id) {
-        Some(entry) => entry,
+        Some(entry) => entry.seq(),
         None => unreachable!(),
     }
 }

@@ -12,8 +12,8 @@ returns-then-node_rank-clause-none c done x is at ready =
     node_from_ready (remaining done c.args.merged.now) c.args.graph.now is c.args.node x at ready
     (c.requires.node_rank.missing.0 c.if-node_rank.true)
 
-pub entry_of-requires : goal.entry_of-requires
-entry_of-requires c =
+pub seq_of-requires : goal.seq_of-requires
+seq_of-requires c =
     let m = c.args.merged.now in
     let done = c.requires.graph.0 in
     let left =
@@ -23,8 +23,8 @@ entry_of-requires c =
 
 pub returns-clause-rank : goal.returns-clause-rank
 returns-clause-rank c done is =
-    let e = c.entry_of.result.now in
-    rw c.seq.ensures (rank_left done c.args.merged.now c.args.graph.now is c.args.node
-    c.id-id.result e c.args.node_rank c.id.result c.id-id.ensures c.entry_of.ensures.among
-    c.entry_of.ensures.id c.requires.committed c.requires.node_rank
+    let i = c.seq_of.ensures in
+    rw (sym i.3) (rank_left done c.args.merged.now c.args.graph.now is c.args.node
+    c.id-id.result i.0 c.args.node_rank c.id.result c.id-id.ensures i.1 i.2
+    c.requires.committed c.requires.node_rank
     (λ waits. false≢true (sym c.if-node_rank.false ∙ waits)) c.id.ensures)
