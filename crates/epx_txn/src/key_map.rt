@@ -11,6 +11,9 @@ use std::alloc::Global;
 use std::collections::BTreeMap;
 use std::marker::Model;
 
+/// A key of at most this many bytes is copied without an allocation.
+const SHORT_KEY_BYTES: usize = 16;
+
 /// A map from keys to values, in the order of the keys. Contracts see it as one finite map.
 #[derive(Debug, Drop)]
 pub(crate) struct KeyMap<V> {
@@ -60,8 +63,20 @@ impl<V: Copy> KeyMap<V> {
         Ok(())
     }
 
-    /// As `insert`, with a borrowed key. The key is copied only if it is new.
+    /// As `insert`, with a borrowed key. A long key is copied only if it is new. To copy a short
+    /// one takes less time than to look for it first.
     pub(crate) fn set(&mut self, key: &Key, value: V) -> Result<(), Memory>
+        ensures ok { OnOk result (self.new ≡ contents.insert self.old key.now value) }
+        ensures err { OnErr result (self.new ≡ self.old) }
+    {
+        if key.text().len() > SHORT_KEY_BYTES {
+            return self.set_long(key, value);
+        }
+        self.insert(key.copy()?, value)
+    }
+
+    /// As `set`, for a key whose copy is allocated.
+    fn set_long(&mut self, key: &Key, value: V) -> Result<(), Memory>
         ensures ok { OnOk result (self.new ≡ contents.insert self.old key.now value) }
         ensures err { OnErr result (self.new ≡ self.old) }
     {
@@ -113,8 +128,7 @@ impl<V: Copy> KeyMap<V> {
 }
 
 impl KeyMap<i64> {
-    /// Puts the value under the key, or removes the key if there is no value. The key is copied
-    /// only if it is new.
+    /// Puts the value under the key, or removes the key if there is no value.
     pub(crate) fn assign(&mut self, key: &Key, value: Option<i64>) -> Result<(), Memory>
         ensures ok { OnOk result (self.new ≡ assign self.old key.now value) }
         ensures err { OnErr result (self.new ≡ self.old) }

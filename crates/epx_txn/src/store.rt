@@ -73,8 +73,7 @@ impl Store {
         self.shards[shard_of(&key)].insert(key, value)
     }
 
-    /// Puts the value under the key, or removes the key if there is no value. The key is copied
-    /// only if it is new.
+    /// Puts the value under the key, or removes the key if there is no value.
     pub(crate) fn write(&mut self, key: &Key, value: Option<i64>) -> Result<(), Memory>
         ensures ok { OnOk result (self.new ≡ assign self.old key.now value) }
         ensures err { OnErr result (self.new ≡ self.old) }

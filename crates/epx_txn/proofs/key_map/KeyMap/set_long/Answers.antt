@@ -1,7 +1,7 @@
 use Rattle.std.proofs.Common.{◌∙◌, ap, rules}
 use Rattle.std.specs.FinMap as contents
 use Rattle.epx_txn.proofs.TreeEntryLemmas.{from_entries-inserted}
-use Rattle.epx_txn.proofs.key_map.KeyMap.set.Goals as goal
+use Rattle.epx_txn.proofs.key_map.KeyMap.set_long.Goals as goal
 
 pub returns-in-Some-clause-ok : goal.returns-in-Some-clause-ok
 returns-in-Some-clause-ok g c =
