@@ -32,6 +32,16 @@ module _ (lines : List Placed) (rows : List Row) (h : AreLineRows lines rows) wh
   length_at = sym (length-map (instances_at lines rows) (λ (e : Instance). e.id))
       ∙ ap length ids_at ∙ length-map rows (λ (r : Row). r.id)
 
+  -- a position of the map is one of the rows
+  pub within_rows : (m : List Instance) → instances_at lines rows ≡ m → (k : ℕ) → k < length m
+      → k < length rows
+  within_rows m is k within = omega (arith, length_at, ap length is, within)
+
+  pub row_there : (m : List Instance) → instances_at lines rows ≡ m → (k : ℕ) (r : Row)
+      → k < length m → r ≡ get_or rows k r → slice_get rows k ≡ Some r
+  row_there m is k r within at =
+      slice_get_read rows (length rows) k r refl (within_rows m is k within) at
+
   row_stands : (k : ℕ) (r : Row) → slice_get rows k ≡ Some r
       → (p : Placed) × (slice_get lines r.line ≡ Some p) × (p.instance.id ≡ r.id)
       × (slice_get (instances_at lines rows) k ≡ Some p.instance)
@@ -40,11 +50,11 @@ module _ (lines : List Placed) (rows : List Row) (h : AreLineRows lines rows) wh
       (p.0, p.1, p.2, stands_under lines rows named k r p.0 at p.1)
 
   -- a row and the instance of its line have the same position
-  pub stands_at : (k : ℕ) (r : Row) → k < length (instances_at lines rows) → r ≡ get_or rows k r
+  pub stands_at : (m : List Instance) → instances_at lines rows ≡ m → (k : ℕ) (r : Row)
+      → k < length m → r ≡ get_or rows k r
       → (p : Placed) × (slice_get lines r.line ≡ Some p) × (p.instance.id ≡ r.id)
       × (slice_get (instances_at lines rows) k ≡ Some p.instance)
-  stands_at k r within is = row_stands k r
-      (slice_get_read rows (length rows) k r refl (omega (arith, length_at, within)) is)
+  stands_at m is k r within at = row_stands k r (row_there m is k r within at)
 
   -- a row and the instance at its position have the same sequence number
   pub seq_stands : (k : ℕ) (r : Row) → slice_get rows k ≡ Some r

@@ -1,14 +1,13 @@
 -- The pairs of two lists of one length, cut at the same places.
 use Rattle.std.proofs.Common.{◌≡◌, zero, suc, ◌-◌, ℕ, List, [], ◌∷◌, length, take, drop, zip}
 use Rattle.std.proofs.Common.{slice_range, refl, sym, ap, ◌∙◌, arith}
+use Rattle.std.proofs.lemmas.Slice.Zip.{length-zip}
 use Rattle.epx_types.specs.Pieces.{piece_start, piece_end}
 use Rattle.epx_claims.specs.inner.PieceItems.{items_of_piece}
 
-pub length-zip : {X Y : Type 0} (xs : List X) (ys : List Y) → length ys ≡ length xs
+pub as_many_pairs : {X Y : Type 0} (xs : List X) (ys : List Y) → length ys ≡ length xs
     → length (zip xs ys) ≡ length xs
-length-zip [] ys same = refl
-length-zip (x ∷ xs) [] same = absurd (omega (arith, same))
-length-zip (x ∷ xs) (y ∷ ys) same = ap suc (length-zip xs ys (omega (arith, same)))
+as_many_pairs xs ys same = omega (arith, length-zip xs ys, same)
 
 zip-take : {X Y : Type 0} (n : ℕ) (xs : List X) (ys : List Y)
     → zip (take n xs) (take n ys) ≡ take n (zip xs ys)
@@ -40,4 +39,4 @@ pub pairs_of_piece : {X Y : Type 0} (cut piece : ℕ) (xs : List X) (ys : List Y
 pairs_of_piece cut piece xs ys same =
     zip-range (piece_start cut piece) (piece_end cut (length xs) piece) xs ys same
     ∙ ap (λ n. slice_range (zip xs ys) (piece_start cut piece) (piece_end cut n piece))
-    (sym (length-zip xs ys same))
+    (sym (as_many_pairs xs ys same))

@@ -6,13 +6,11 @@ ghost use Rattle.epx_types.specs.Contents.{assign};
 ghost use Rattle.epx_types.specs.Writes.{apply_writes};
 
 use crate::store::Store;
+use epx_types::key::MAX_SHORT_KEY_BYTES;
 use epx_types::{Key, Memory};
 use std::alloc::Global;
 use std::collections::BTreeMap;
 use std::marker::Model;
-
-/// A key of at most this many bytes is copied without an allocation.
-const SHORT_KEY_BYTES: usize = 16;
 
 /// A map from keys to values, in the order of the keys. Contracts see it as one finite map.
 #[derive(Debug, Drop)]
@@ -69,7 +67,7 @@ impl<V: Copy> KeyMap<V> {
         ensures ok { OnOk result (self.new ≡ contents.insert self.old key.now value) }
         ensures err { OnErr result (self.new ≡ self.old) }
     {
-        if key.text().len() > SHORT_KEY_BYTES {
+        if key.text().len() > MAX_SHORT_KEY_BYTES {
             return self.set_long(key, value);
         }
         self.insert(key.copy()?, value)

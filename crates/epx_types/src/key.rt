@@ -13,6 +13,9 @@ use std::marker::Model;
 /// A key has at most this many bytes.
 pub const MAX_KEY_BYTES: usize = 64;
 
+/// A key of at most this many bytes is copied without an allocation.
+pub const MAX_SHORT_KEY_BYTES: usize = 16;
+
 /// A key of the store: a text of 1 to 64 bytes. Keys are ordered by bytes.
 #[derive(Debug, Drop)]
 pub struct Key {

@@ -2,17 +2,15 @@
 ghost use Rattle.std.specs.Prelude.{◌≡◌, IfOk};
 ghost use Rattle.epx_types.specs.inner.KeyTexts.{bytes_of};
 
+use crate::key::MAX_SHORT_KEY_BYTES;
 use crate::memory::Memory;
 use arrayvec::ArrayString;
 use std::alloc::Global;
 
-/// A text of at most this many bytes is stored without an allocation.
-const MAX_SHORT: usize = 16;
-
 /// A text, short or allocated.
 #[derive(Debug, Drop)]
 pub(crate) enum KeyText {
-    Short(ArrayString<MAX_SHORT>),
+    Short(ArrayString<MAX_SHORT_KEY_BYTES>),
     Long(String),
 }
 

@@ -5,7 +5,7 @@ use Rattle.epx_types.specs.Pieces.{piece_count}
 use Rattle.epx_claims.specs.inner.PieceItems.{items_of_piece}
 use Rattle.epx_claims.proofs.JoinedPieceLemmas.{parts_joined}
 use Rattle.epx_base.specs.ReportLines.{reply_line}
-use Rattle.epx_tool.proofs.PairRangeLemmas.{length-zip}
+use Rattle.epx_tool.proofs.PairRangeLemmas.{as_many_pairs}
 use Rattle.epx_tool.proofs.reply_lines.append_all_replies.Goals as goal
 
 pub returns : goal.returns
@@ -13,8 +13,8 @@ returns g c =
     let cut = c.args.plan.cut in
     let pairs = zip c.args.ids.now c.args.replies.now in
     let done = c.in_ok-parts.ensures.ok in
-    let count = c.pieces-pieces.ensures.pieces
-    ∙ ap (piece_count cut) (sym (length-zip c.args.ids.now c.args.replies.now c.requires.same)) in
+    let many = as_many_pairs c.args.ids.now c.args.replies.now c.requires.same in
+    let count = c.pieces-pieces.ensures.pieces ∙ ap (piece_count cut) (sym many) in
     on_ok_weaker c.append_parts.result (λ appended.
     appended ∙ ap (λ lines. c.args.text.now.items ++ lines)
     (parts_joined cut c.pieces-pieces.ensures.fits.some_item (flat_map reply_line) refl

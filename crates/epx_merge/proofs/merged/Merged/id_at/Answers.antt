@@ -1,10 +1,9 @@
-use Rattle.std.proofs.Common.{rules, ◌≡◌, length, slice_get, refl, sym, ap, ◌∙◌, arith}
+use Rattle.std.proofs.Common.{rules, ◌≡◌, length, slice_get, sym, ap, ◌∙◌, arith}
 use Rattle.std.specs.Vec.{vec_len}
-use Rattle.std.proofs.lemmas.Option.{slice_get_read}
 use Rattle.epx_types.specs.CommittedMap.{ids_of}
 use Rattle.epx_types.proofs.lists.ListPositionLemmas.{slice_get-map}
 use Rattle.epx_merge.specs.declared.rows.Row.{Row}
-use Rattle.epx_merge.proofs.MergedMapLemmas.{ids_at, length_at}
+use Rattle.epx_merge.proofs.MergedMapLemmas.{ids_at, within_rows, row_there}
 use Rattle.epx_merge.proofs.merged.Merged.id_at.Goals as goal
 
 pub index-requires : goal.index-requires
@@ -14,22 +13,16 @@ index-requires c =
     omega (
       arith,
       long,
-      length_at c.self.inside.lines.items rows.items c.self.invariant,
-      ap length c.self.view_is,
-      c.requires,
+      within_rows c.self.inside.lines.items rows.items c.self.invariant c.args.self.now
+          c.self.view_is c.args.position c.requires,
     )
 
 pub returns : goal.returns
 returns c =
     let lines = c.self.inside.lines.items in
     let rows = c.self.inside.rows.items in
-    let row = slice_get_read rows (length rows) c.args.position c.index.result.now refl
-    (omega (
-      arith,
-      length_at lines rows c.self.invariant,
-      ap length c.self.view_is,
-      c.requires,
-    )) c.index.ensures in
+    let row = row_there lines rows c.self.invariant c.args.self.now c.self.view_is
+    c.args.position c.index.result.now c.requires c.index.ensures in
     ap (λ m. slice_get (ids_of m) c.args.position) (sym c.self.view_is)
     ∙ ap (λ l. slice_get l c.args.position) (ids_at lines rows c.self.invariant)
     ∙ slice_get-map (λ (r : Row). r.id) rows c.args.position c.index.result.now row

@@ -1,8 +1,7 @@
-use Rattle.std.proofs.Common.{rules, ◌≡◌, length, map, slice_get, refl, sym, ap, ◌∙◌, arith}
+use Rattle.std.proofs.Common.{rules, ◌≡◌, length, map, slice_get, sym, ap, ◌∙◌, arith}
 use Rattle.std.specs.Vec.{vec_len}
-use Rattle.std.proofs.lemmas.Option.{slice_get_read}
 use Rattle.epx_types.specs.Instances.{Instance}
-use Rattle.epx_merge.proofs.MergedMapLemmas.{length_at, seq_stands}
+use Rattle.epx_merge.proofs.MergedMapLemmas.{within_rows, row_there, seq_stands}
 use Rattle.epx_merge.proofs.merged.Merged.seq_at.Goals as goal
 
 pub index-requires : goal.index-requires
@@ -12,21 +11,15 @@ index-requires c =
     omega (
       arith,
       long,
-      length_at c.self.inside.lines.items rows.items c.self.invariant,
-      ap length c.self.view_is,
-      c.requires,
+      within_rows c.self.inside.lines.items rows.items c.self.invariant c.args.self.now
+          c.self.view_is c.args.position c.requires,
     )
 
 pub returns : goal.returns
 returns c =
     let lines = c.self.inside.lines.items in
     let rows = c.self.inside.rows.items in
-    let row = slice_get_read rows (length rows) c.args.position c.index.result.now refl
-    (omega (
-      arith,
-      length_at lines rows c.self.invariant,
-      ap length c.self.view_is,
-      c.requires,
-    )) c.index.ensures in
+    let row = row_there lines rows c.self.invariant c.args.self.now c.self.view_is
+    c.args.position c.index.result.now c.requires c.index.ensures in
     ap (λ m. slice_get (map (λ (i : Instance). i.seq) m) c.args.position) (sym c.self.view_is)
     ∙ seq_stands lines rows c.self.invariant c.args.position c.index.result.now row
