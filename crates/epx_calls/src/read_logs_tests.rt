@@ -2,8 +2,9 @@
 //! refusals.
 use crate::fixtures::{PUT_AND_GET, expect_accepted, id, logs_of, merged_of, plan};
 use crate::gates::WaitingGate;
-use epx_merge::{Merged, read_logs};
-use epx_types::{Id, Plan};
+use epx_claims::FreeGate;
+use epx_merge::{Merged, read_logs, read_logs_during};
+use epx_types::{Fault, Id, Plan};
 use std::alloc::Global;
 use std::process::Abort;
 use std::random::RandomSource;
@@ -86,4 +87,51 @@ fn a_free_worker_reads_the_next_piece(rt: HostRuntime) -> Result<(), Fail> {
         reads_while_one_waits(&rt, rt.alloc(), waiter)?;
     }
     Ok(())
+}
+
+/// The later log, or the fault in place of the later logs.
+fn later_logs(alloc: Global, later: Option<&str>) -> Result<Vec<Vec<u8>>, Fault> {
+    let Some(later) = later else {
+        return Err(Fault::Read { log: 1 });
+    };
+    match logs_of(alloc, &[later]) {
+        Ok(logs) => Ok(logs),
+        Err(_) => Err(Fault::Memory),
+    }
+}
+
+/// Reads the lines of the first log while the later one comes.
+fn read_during<R: Abort + Threads + RandomSource + Sync>(
+    rt: &R,
+    alloc: Global,
+    first: &str,
+    later: Option<&str>,
+) -> Result<Merged, Fault> {
+    let mut more = || later_logs(alloc, later);
+    read_logs_during(rt, alloc, first.as_bytes(), &mut more, plan(rt), &FreeGate)
+}
+
+#[test]
+fn a_log_that_comes_later_is_merged(rt: HostRuntime) -> Result<(), Fail> {
+    let merged = expect_accepted(read_during(&rt, rt.alloc(), A, Some(LESS)))?;
+    assert!(rt; merged.len() == 2);
+    expect_position(&rt, &merged, id(0, 9), Some(0));
+    expect_position(&rt, &merged, id(1, 7), Some(1));
+    Ok(())
+}
+
+#[test]
+fn a_log_that_comes_later_has_its_number(rt: HostRuntime) {
+    match read_during(&rt, rt.alloc(), A, Some("[]")) {
+        Err(Fault::BadLine { place, .. }) => assert!(rt; place.log == 1 && place.line == 1),
+        _ => assert!(rt; false),
+    }
+}
+
+#[test]
+fn a_log_that_does_not_come_is_refused_before_a_bad_line(rt: HostRuntime) {
+    match read_during(&rt, rt.alloc(), "[]", None) {
+        Err(Fault::Read { log }) => assert!(rt; log == 1),
+        _ => assert!(rt; false),
+    }
 }

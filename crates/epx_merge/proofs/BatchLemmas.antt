@@ -11,68 +11,62 @@ use Rattle.epx_lines.specs.declared.Line.{Line}
 use Rattle.epx_merge.specs.declared.pieces.BadLine.{BadLine}
 use Rattle.epx_merge.specs.LogLines.{MeaningAt, placed_among, bad_lines_among}
 use Rattle.epx_merge.specs.inner.Ledgers.{LedgerView, IsLedgerOf, NotesLines}
+use Rattle.epx_merge.specs.inner.NotedLines.{AreNoted}
 use Rattle.epx_merge.specs.inner.ReadPieces.{AreRead, IsBatchRead}
 use Rattle.epx_merge.specs.Steps.{IsReadFault}
 use Rattle.epx_merge.specs.inner.RedundantLines.{IsRedundant, IsCacheOf, CachesSomeOf}
-use Rattle.epx_merge.specs.inner.RedundantLines.{DropsCached, IsNextBatch}
+use Rattle.epx_merge.specs.inner.RedundantLines.{DropsRedundant, DropsCached}
 use Rattle.epx_merge.specs.inner.ReadSteps.{IsReadStep}
 use Rattle.epx_merge.proofs.ReadFaultLemmas.{placed_among-append, bad_lines_among-append}
 use Rattle.epx_merge.proofs.ReadFaultLemmas.{fault_after}
 use Rattle.epx_merge.proofs.RedundantLineLemmas.{DropsRedundant-append, DropsRedundant-none}
-use Rattle.epx_merge.proofs.RedundantLineLemmas.{SameOutcome, SameOutcome-kept, SameOutcome-trans}
+use Rattle.epx_merge.proofs.RedundantLineLemmas.{SameOutcome-kept}
 use Rattle.epx_merge.proofs.DropsCachedLemmas.{length-uncached, IsRedundant-append}
-use Rattle.epx_merge.proofs.DropsCachedLemmas.{DropsRedundant-cached, redundant_of_line}
+use Rattle.epx_merge.proofs.DropsCachedLemmas.{DropsCached-trans, DropsRedundant-cached}
+use Rattle.epx_merge.proofs.DropsCachedLemmas.{redundant_of_line}
 
 pub is_some_length : (n : ℕ) → (n == 0) ≡ false → 0 < n
 is_some_length zero e = absurd (cc e)
 is_some_length (suc n) e = omega arith
 
--- ---- lines without those that a cache has
-
-module _ (cache : List (Result Line Why)) (before lines kept after : List MeaningAt)
-    (good : IsCacheOf before cache) (h : DropsCached cache lines kept) where
-  SameOutcome-uncached : SameOutcome ((before ++ kept) ++ after) ((before ++ lines) ++ after)
-  SameOutcome-uncached =
-      let some = (before ++ kept) ++ after in
-      let here = DropsRedundant-cached cache lines kept before good h in
-      let all = DropsRedundant-append lines after before (before ++ kept) some here
-      (DropsRedundant-none after (before ++ kept)) in
-      subst (SameOutcome some) (sym (append_assoc before lines after))
-      (SameOutcome-kept (lines ++ after) before some all)
-
-  -- the cache with some of the lines in addition
-  IsCacheOf-more : (cache' : List (Result Line Why)) → CachesSomeOf lines cache cache'
-      → IsCacheOf (before ++ kept) cache'
-  IsCacheOf-more cache' more m has =
-      elim (more m has) [
-        | inl older ↦ IsRedundant-append before kept m (good m older)
-        | inr some ↦ subst (IsRedundant (before ++ kept)) some.2
-            (redundant_of_line cache lines kept before some.0 good h some.1)
-      ]
-
 empty_cache : (kept : List MeaningAt) → IsCacheOf kept []
 empty_cache kept m has = absurd (Contains-nil m has)
 
--- the next batch has the outcome of the lines that are cut for it
-SameOutcome-batch : (kept walk walk' lines : List MeaningAt) → IsNextBatch walk walk' lines
-    → SameOutcome ((kept ++ lines) ++ walk') (kept ++ walk)
-SameOutcome-batch kept walk walk' lines h =
-    let is : (kept ++ h.gone) ++ walk' ≡ kept ++ walk =
-    append_assoc kept h.gone walk' ∙ ap (λ l. kept ++ l) (sym h.whole) in
-    subst (SameOutcome ((kept ++ lines) ++ walk')) is
-    (SameOutcome-uncached [] kept h.gone lines walk' (empty_cache kept) h.drops)
+-- the cache with some of the lines in addition
+IsCacheOf-more : (cache : List (Result Line Why)) (before lines kept : List MeaningAt)
+    → IsCacheOf before cache → DropsCached cache lines kept → (cache' : List (Result Line Why))
+    → CachesSomeOf lines cache cache' → IsCacheOf (before ++ kept) cache'
+IsCacheOf-more cache before lines kept good h cache' more m has =
+    elim (more m has) [
+      | inl older ↦ IsRedundant-append before kept m (good m older)
+      | inr some ↦ subst (IsRedundant (before ++ kept)) some.2
+          (redundant_of_line cache lines kept before some.0 good h some.1)
+    ]
+
+-- ---- lines that are noted
+
+-- none of the lines is bad, and the ledger is that of all of them
+pub noted_lines : (lines : List MeaningAt) (ledger : LedgerView) (cache : List (Result Line Why))
+    → AreNoted lines ledger cache
+    → (bad_lines_among lines ≡ []) × IsLedgerOf (placed_among lines) ledger
+noted_lines lines ledger cache h =
+    let same = SameOutcome-kept lines [] h.kept h.drops in
+    (same.clean h.clean, same.ledger ledger h.noted)
 
 -- ---- batch by batch
 
--- some lines are read and noted, then the pieces of the pending lines are read, then come those of
--- the batch, then those that are left. Together they have the outcome of all lines. The cache has
--- only lines that are read
+-- some lines are read, of which the pieces of the pending ones are not noted yet; then come those
+-- that were cut for the batch, then those that are left. The cache has only lines that are read
 pub record IsReadSoFar {E : Type 0} (holds : List Placed → E → Type 0)
     (all walk lines : List MeaningAt) (pieces : List (Result E BadLine))
     (cache : List (Result Line Why)) (ledger : LedgerView) : Type 0 where
+  pub seen : List MeaningAt
+  pub cut : List MeaningAt
+  pub whole : all ≡ (seen ++ cut) ++ walk
+  pub batch : DropsCached [] cut lines
   pub read : List MeaningAt
   pub pending : List MeaningAt
-  pub outcome : SameOutcome (((read ++ pending) ++ lines) ++ walk) all
+  pub drops : DropsRedundant seen [] (read ++ pending)
   pub clean : bad_lines_among read ≡ []
   pub noted : IsLedgerOf (placed_among read) ledger
   pub given : AreRead holds pending pieces
@@ -85,90 +79,114 @@ pub fault_at_first : (all : List MeaningAt) (f : Fault) → IsReadFault (bad_lin
     → IsReadFault (bad_lines_among all) f
 fault_at_first all f bad = fault_after [] [] all all f refl bad refl
 
-module _ {E : Type 0} (holds : List Placed → E → Type 0) (all : List MeaningAt) where
-  -- the first batch
-  pub so_far_first : (left walk lines : List MeaningAt) (pieces : List (Result E BadLine))
-      (cache : List (Result Line Why)) (new ledger : LedgerView) → left ≡ all → cache ≡ []
-      → IsLedgerOf [] new → pieces ≡ [] → IsReadStep [] new ledger left walk lines
-      → IsReadSoFar holds all walk lines pieces cache ledger
-  so_far_first left walk lines pieces cache new ledger whole none noted unread step = record {
-    read = [];
-    pending = [];
-    outcome = subst (SameOutcome (lines ++ walk)) whole
-        (SameOutcome-batch [] left walk lines step.batch);
-    clean = refl;
-    noted = step.noted [] noted;
-    given = subst (AreRead holds []) (sym unread) refl;
-    cached = subst (IsCacheOf []) (sym none) (empty_cache []);
-    last = step.last;
-    few = step.few;
-  }
+-- the first batch after the lines that are noted
+pub so_far_first : {E : Type 0} (holds : List Placed → E → Type 0)
+    (before left walk lines : List MeaningAt) (pieces : List (Result E BadLine))
+    (cache : List (Result Line Why)) (old ledger : LedgerView) → AreNoted before old cache
+    → AreRead holds [] pieces → IsReadStep [] old ledger left walk lines
+    → IsReadSoFar holds (before ++ left) walk lines pieces cache ledger
+so_far_first holds before left walk lines pieces cache old ledger h unread step =
+    let same : h.kept ≡ h.kept ++ [] = sym (append-nil h.kept) in
+    record {
+      seen = before;
+      cut = step.batch.gone;
+      whole = ap (λ l. before ++ l) step.batch.whole
+          ∙ sym (append_assoc before step.batch.gone walk);
+      batch = step.batch.drops;
+      read = h.kept;
+      pending = [];
+      drops = subst (DropsRedundant before []) same h.drops;
+      clean = h.clean;
+      noted = subst (λ l. IsLedgerOf l ledger) (append-nil (placed_among h.kept))
+          (step.noted (placed_among h.kept) h.noted);
+      given = unread;
+      cached = subst (λ l. IsCacheOf l cache) same h.cached;
+      last = step.last;
+      few = step.few;
+    }
 
-  module _ (walk lines : List MeaningAt) (pieces : List (Result E BadLine))
-      (cache : List (Result Line Why)) (ledger : LedgerView)
-      (h : IsReadSoFar holds all walk lines pieces cache ledger) where
-    -- the lines that are read, without some redundant ones
-    abbrev kept : List MeaningAt
-    kept = h.read ++ h.pending
+module _ {E : Type 0} (holds : List Placed → E → Type 0) (all walk lines : List MeaningAt)
+    (pieces : List (Result E BadLine)) (cache : List (Result Line Why)) (ledger : LedgerView)
+    (h : IsReadSoFar holds all walk lines pieces cache ledger) where
+  -- the lines that are read, without some redundant ones
+  abbrev kept : List MeaningAt
+  kept = h.read ++ h.pending
 
-    module _ (walk' lines' : List MeaningAt) (ledger' : LedgerView)
-        (step : IsReadStep h.pending ledger ledger' walk walk' lines') where
-      -- the batch is read while the pending lines are noted
-      pub so_far_next : (pieces' : List (Result E BadLine)) (cache' : List (Result Line Why))
-          → IsBatchRead holds cache cache' lines pieces'
-          → IsReadSoFar holds all walk' lines' pieces' cache' ledger'
-      so_far_next pieces' cache' batch =
-          let given = batch.read in
-          let now = kept ++ given.0 in
-          let cut = SameOutcome-batch now walk walk' lines' step.batch in
-          let reading = SameOutcome-uncached cache kept lines given.0 walk h.cached given.1 in
-          record {
-            read = kept;
-            pending = given.0;
-            outcome = SameOutcome-trans ((now ++ lines') ++ walk') (now ++ walk) all cut
-                (SameOutcome-trans (now ++ walk) ((kept ++ lines) ++ walk) all reading h.outcome);
-            clean = bad_lines_among-append h.read h.pending
-                ∙ ap (λ l. l ++ bad_lines_among h.pending) h.clean ∙ step.clean;
-            noted = subst (λ l. IsLedgerOf l ledger') (sym (placed_among-append h.read h.pending))
-                (step.noted (placed_among h.read) h.noted);
-            given = given.2;
-            cached = IsCacheOf-more cache kept lines given.0 walk h.cached given.1 cache'
-                batch.cached;
-            last = step.last;
-            few = step.few;
-          }
+  kept_clean : bad_lines_among h.pending ≡ [] → bad_lines_among kept ≡ []
+  kept_clean clean = bad_lines_among-append h.read h.pending
+      ∙ ap (λ l. l ++ bad_lines_among h.pending) h.clean ∙ clean
 
-      -- fewer lines are left then
-      pub so_far_less : 0 < length lines → length walk' + length lines'
-          < length walk + length lines
-      so_far_less some =
-          let few = length-uncached [] step.batch.gone lines' step.batch.drops in
-          let size = ap length step.batch.whole in
-          omega (arith, length-append step.batch.gone walk')
+  kept_noted : (ledger' : LedgerView) → NotesLines (placed_among h.pending) ledger ledger'
+      → IsLedgerOf (placed_among kept) ledger'
+  kept_noted ledger' noted =
+      subst (λ l. IsLedgerOf l ledger') (sym (placed_among-append h.read h.pending))
+      (noted (placed_among h.read) h.noted)
 
-    -- the first bad line of the pending lines is the first of all
-    pub so_far_fault : (f : Fault) → IsReadFault (bad_lines_among h.pending) f
-        → IsReadFault (bad_lines_among all) f
-    so_far_fault f bad =
-        let every = (kept ++ lines) ++ walk in
-        let same : h.read ++ (h.pending ++ (lines ++ walk)) ≡ every =
-        sym (append_assoc kept lines walk ∙ append_assoc h.read h.pending (lines ++ walk)) in
-        h.outcome.fault f (fault_after h.read h.pending (lines ++ walk) every f h.clean bad same)
+  module _ (walk' lines' : List MeaningAt) (ledger' : LedgerView)
+      (step : IsReadStep h.pending ledger ledger' walk walk' lines') where
+    -- the batch is read while the pending lines are noted
+    pub so_far_next : (pieces' : List (Result E BadLine)) (cache' : List (Result Line Why))
+        → IsBatchRead holds cache cache' lines pieces'
+        → IsReadSoFar holds all walk' lines' pieces' cache' ledger'
+    so_far_next pieces' cache' batch =
+        let given = batch.read in
+        let seen = h.seen ++ h.cut in
+        let uncached = DropsCached-trans cache h.cut lines given.0 h.batch given.1 in
+        record {
+          seen = seen;
+          cut = step.batch.gone;
+          whole = h.whole ∙ ap (λ l. seen ++ l) step.batch.whole
+              ∙ sym (append_assoc seen step.batch.gone walk');
+          batch = step.batch.drops;
+          read = kept;
+          pending = given.0;
+          drops = DropsRedundant-append h.seen h.cut [] kept (kept ++ given.0) h.drops
+              (DropsRedundant-cached cache h.cut given.0 kept h.cached uncached);
+          clean = kept_clean step.clean;
+          noted = kept_noted ledger' step.noted;
+          given = given.2;
+          cached = IsCacheOf-more cache kept lines given.0 h.cached given.1 cache' batch.cached;
+          last = step.last;
+          few = step.few;
+        }
 
-    -- no line is left, and the last lines that were read are noted
-    pub so_far_over : (ledger' : LedgerView) → lines ≡ [] → bad_lines_among h.pending ≡ []
-        → NotesLines (placed_among h.pending) ledger ledger'
-        → (bad_lines_among all ≡ []) × IsLedgerOf (placed_among all) ledger'
-    so_far_over ledger' none clean noted =
-        let every = (kept ++ lines) ++ walk in
-        let same : every ≡ kept = ap (λ l. (kept ++ lines) ++ l) (h.last none)
-        ∙ append-nil (kept ++ lines) ∙ ap (λ l. kept ++ l) none ∙ append-nil kept in
-        let no_bad_lines : bad_lines_among every ≡ [] =
-        ap bad_lines_among same ∙ bad_lines_among-append h.read h.pending
-        ∙ ap (λ l. l ++ bad_lines_among h.pending) h.clean ∙ clean in
-        let placed : placed_among every ≡ placed_among h.read ++ placed_among h.pending =
-        ap placed_among same ∙ placed_among-append h.read h.pending in (
-          h.outcome.clean no_bad_lines,
-          h.outcome.ledger ledger' (subst (λ l. IsLedgerOf l ledger') (sym placed)
-              (noted (placed_among h.read) h.noted)),
-        )
+    -- fewer lines are left then
+    pub so_far_less : 0 < length lines → length walk' + length lines'
+        < length walk + length lines
+    so_far_less some =
+        let few = length-uncached [] step.batch.gone lines' step.batch.drops in
+        let size = ap length step.batch.whole in
+        omega (arith, length-append step.batch.gone walk')
+
+  drops_cut : DropsRedundant (h.seen ++ h.cut) [] (kept ++ lines)
+  drops_cut = DropsRedundant-append h.seen h.cut [] kept (kept ++ lines) h.drops
+      (DropsRedundant-cached [] h.cut lines kept (empty_cache kept) h.batch)
+
+  -- the first bad line of the pending lines is the first of all
+  pub so_far_fault : (f : Fault) → IsReadFault (bad_lines_among h.pending) f
+      → IsReadFault (bad_lines_among all) f
+  so_far_fault f bad =
+      let every = (kept ++ lines) ++ walk in
+      let drops = DropsRedundant-append (h.seen ++ h.cut) walk [] (kept ++ lines) every drops_cut
+      (DropsRedundant-none walk (kept ++ lines)) in
+      let outcome = SameOutcome-kept all [] every
+      (subst (λ l. DropsRedundant l [] every) (sym h.whole) drops) in
+      let same : h.read ++ (h.pending ++ (lines ++ walk)) ≡ every =
+      sym (append_assoc kept lines walk ∙ append_assoc h.read h.pending (lines ++ walk)) in
+      outcome.fault f (fault_after h.read h.pending (lines ++ walk) every f h.clean bad same)
+
+  -- no line is left, and the last lines that were read are noted
+  pub so_far_over : (ledger' : LedgerView) → lines ≡ [] → bad_lines_among h.pending ≡ []
+      → NotesLines (placed_among h.pending) ledger ledger' → AreNoted all ledger' cache
+  so_far_over ledger' none clean noted =
+      let over : h.seen ++ h.cut ≡ all = sym (h.whole ∙ ap (λ l. (h.seen ++ h.cut) ++ l)
+      (h.last none) ∙ append-nil (h.seen ++ h.cut)) in
+      let same : kept ++ lines ≡ kept = ap (λ l. kept ++ l) none ∙ append-nil kept in
+      record {
+        kept = kept;
+        drops = subst (λ l. DropsRedundant l [] kept) over
+            (subst (DropsRedundant (h.seen ++ h.cut) []) same drops_cut);
+        clean = kept_clean clean;
+        noted = kept_noted ledger' noted;
+        cached = h.cached;
+      }

@@ -51,6 +51,20 @@ module _ (cache : List (Result Line Why)) where
   length-uncached (l ∷ lines) kept (inr h) =
       let rest = length-uncached lines kept h.1 in omega arith
 
+  -- the blank lines are dropped first
+  pub DropsCached-trans : (lines some kept : List MeaningAt) → DropsCached [] lines some
+      → DropsCached cache some kept → DropsCached cache lines kept
+  DropsCached-trans [] some kept h k = subst (λ l. DropsCached cache l kept) h k
+  DropsCached-trans (l ∷ lines) some kept (inl h) k =
+      elim (subst (λ x. DropsCached cache x kept) h.1 k) [
+        | inl more ↦ inl (more.0, more.1, DropsCached-trans lines h.0 more.0 h.2 more.2)
+        | inr less ↦ inr (less.0, DropsCached-trans lines h.0 kept h.2 less.1)
+      ]
+  DropsCached-trans (l ∷ lines) some kept (inr (inl blank, h)) k =
+      inr (inl blank, DropsCached-trans lines some kept h k)
+  DropsCached-trans (l ∷ lines) some kept (inr (inr has, h)) k =
+      absurd (Contains-nil l.meaning has)
+
   -- after the lines of the cache, what it drops is redundant
   pub DropsRedundant-cached : (lines kept before : List MeaningAt) → IsCacheOf before cache
       → DropsCached cache lines kept → DropsRedundant lines before (before ++ kept)

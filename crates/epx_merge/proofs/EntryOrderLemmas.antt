@@ -1,11 +1,11 @@
 -- The lines of entries in memory are sorted by place.
 use Rattle.std.proofs.Common.{◌≡◌, inl, inr, ℕ, suc, ◌≤◌, List, [], ◌∷◌, Contains, sym, ap, arith}
 use Rattle.epx_types.specs.Instances.{Instance}
-use Rattle.epx_types.specs.PlacedLines.{Placed, HaveDistinctPlaces}
+use Rattle.epx_types.specs.PlacedLines.{Placed}
 use Rattle.epx_types.proofs.lists.MembershipLemmas.{Contains-nil, Contains-cons_cases}
 use Rattle.epx_merge.specs.EntryLines.{entry_lines, entry_lines_from}
 use Rattle.epx_merge.specs.inner.LineOrder.{IsSortedByPlace}
-use Rattle.epx_merge.proofs.PlaceOrderLemmas.{earlier_line, distinct_places}
+use Rattle.epx_merge.proofs.PlaceOrderLemmas.{earlier_line}
 
 from_line : (n : ℕ) (es : List Instance) (p : Placed) → Contains (entry_lines_from n es) p
     → (p.place.log ≡ 0) × (n ≤ p.place.line)
@@ -30,7 +30,3 @@ in_order_from n (e ∷ es) = (
 
 pub entries_in_order : (es : List Instance) → IsSortedByPlace (entry_lines es)
 entries_in_order es = in_order_from 1 es
-
--- no two of them have the same place
-pub entries_apart : (es : List Instance) → HaveDistinctPlaces (entry_lines es)
-entries_apart es = distinct_places (entry_lines es) (entries_in_order es)

@@ -5,6 +5,7 @@ mod PieceLemmas
 mod LedgerLemmas
 mod RedundantLineLemmas
 mod DropsCachedLemmas
+mod LaterLogLemmas
 mod BatchLemmas
 mod LineCacheLemmas
 mod LedgerMapLemmas

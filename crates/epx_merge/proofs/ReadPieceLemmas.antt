@@ -2,7 +2,7 @@
 use Rattle.std.proofs.Common.{◌≡◌, inl, inr, ℕ, ◌+◌, ◌<◌, List, [], ◌∷◌, ◌++◌, length, get_or}
 use Rattle.std.proofs.Common.{drop, Result, Ok, Err, refl, sym, subst, ap, ◌∙◌, add-one}
 use Rattle.std.proofs.Common.{append_assoc, append-nil}
-use Rattle.std.proofs.Math.Seq.{drop-cons, drop-length}
+use Rattle.std.proofs.Math.Seq.{drop-cons}
 use Rattle.epx_types.specs.declared.fault.Why.{Why}
 use Rattle.epx_types.specs.PlacedLines.{Placed}
 use Rattle.epx_lines.specs.declared.Line.{Line}
@@ -32,17 +32,6 @@ rest_from lines i line within is = drop-cons lines i line within
     ∙ (λ j. sym is j ∷ drop (sym (add-one i) j) lines)
 
 module _ (cache : List (Result Line Why)) (lines : List MeaningAt) where
-  pub reading_none : (entries : List Placed) → entries ≡ []
-      → IsReading cache lines (drop 0 lines) entries
-  reading_none entries none = record {
-    done = [];
-    kept = [];
-    whole = refl;
-    drops = refl;
-    clean = refl;
-    placed = sym none;
-  }
-
   module _ (i : ℕ) (line : MeaningAt) (entries : List Placed) (within : i < length lines)
       (is : line ≡ get_or lines i line) (h : IsReading cache lines (drop i lines) entries) where
     whole_more : lines ≡ (h.done ++ line ∷ []) ++ drop (i + 1) lines
@@ -93,18 +82,6 @@ module _ (cache : List (Result Line Why)) (lines : List MeaningAt) where
                 ∙ ap bad_lines_among next ∙ ap (λ s. s ++ rest) is_bad,
           ),
         )
-
-  -- no line is left
-  pub reading_all : {E : Type 0} (holds : List Placed → E → Type 0) (entries : List Placed)
-      (held : E) → IsReading cache lines (drop (length lines) lines) entries → holds entries held
-      → IsReadBeside holds cache lines (Ok held)
-  reading_all holds entries held h good =
-      let all : h.done ≡ lines = sym (h.whole ∙ ap (λ l. h.done ++ l) (drop-length lines)
-      ∙ append-nil h.done) in (
-        h.kept,
-        subst (λ l. DropsCached cache l h.kept) all h.drops,
-        record { clean = h.clean; placed = subst (λ es. holds es held) (sym h.placed) good },
-      )
 
 -- ---- pieces gathered one after another
 

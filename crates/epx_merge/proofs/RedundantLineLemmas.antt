@@ -132,7 +132,7 @@ SameOutcome-same some all same = record {
   ledger = λ noted h. subst (λ l. IsLedgerOf (placed_among l) noted) same h;
 }
 
-pub SameOutcome-trans : (some more all : List MeaningAt) → SameOutcome some more
+SameOutcome-trans : (some more all : List MeaningAt) → SameOutcome some more
     → SameOutcome more all → SameOutcome some all
 SameOutcome-trans some more all h k = record {
   fault = λ f is. k.fault f (h.fault f is);

@@ -5,4 +5,5 @@ pub mod Acceptance
 pub mod LogLaws
 pub mod Steps
 pub mod EntryLines
+pub mod LaterLogs
 pub mod inner

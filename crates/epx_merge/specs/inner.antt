@@ -6,3 +6,4 @@ pub mod ReadPieces
 pub mod RedundantLines
 pub mod ReadSteps
 pub mod LineRows
+pub mod NotedLines

@@ -1,8 +1,7 @@
 //! The state between two steps of reading logs, and the next step.
-ghost use Rattle.std.specs.Prelude.{◌≡◌, List, [], MatchResult};
+ghost use Rattle.std.specs.Prelude.{List, MatchResult};
 ghost use Rattle.epx_merge.specs.inner.ReadSteps.{IsReadStep};
-ghost use Rattle.epx_merge.specs.inner.Ledgers.{IsLedgerOf};
-ghost use Rattle.epx_merge.specs.LogLines.{MeaningAt, meanings_of, bad_lines_among, bytes_of};
+ghost use Rattle.epx_merge.specs.LogLines.{MeaningAt, bad_lines_among};
 ghost use Rattle.epx_merge.specs.inner.ReadPieces.{AreRead, HasEntries};
 ghost use Rattle.epx_merge.specs.Steps.{IsReadFault};
 
@@ -11,7 +10,6 @@ use crate::line::PlacedLine;
 use crate::next_batch::next_batch;
 use crate::pieces::{Pieces, note_pieces};
 use crate::walk::LineWalk;
-use epx_seed::Seed;
 use epx_types::{Fault, Plan};
 use std::alloc::Global;
 
@@ -23,20 +21,6 @@ pub(crate) struct ReadState<'a> {
     // A field, and not a second result of `next_step`: `join` passes on what a closure ensures only
     // if what it captures owns a list with the lifetime.
     pub(crate) lines: Vec<PlacedLine<'a>>,
-}
-
-impl<'a> ReadState<'a> {
-    /// The state before the first batch. The ledger hashes with the seed.
-    pub(crate) fn new(alloc: Global, logs: &'a [Vec<u8>], seed: Seed) -> ReadState<'a>
-        ensures ledger { IsLedgerOf [] result.ledger }
-        ensures walk { result.walk ≡ meanings_of (bytes_of logs.now) }
-    {
-        ReadState {
-            ledger: Ledger::new(alloc, seed),
-            walk: LineWalk::new(logs),
-            lines: Vec::new(alloc),
-        }
-    }
 }
 
 /// Records the entries that were read, up to the first bad line, and cuts the next batch.

@@ -1,6 +1,6 @@
 //! Iterates over the lines of logs.
 ghost use Rattle.std.specs.Prelude.{◌≡◌, ◌∷◌, [], MatchOption};
-ghost use Rattle.epx_merge.specs.LogLines.{meanings_of, bytes_of};
+ghost use Rattle.epx_merge.specs.LogLines.{meanings_of, meanings_from, bytes_of};
 
 use crate::line::PlacedLine;
 use epx_lines::cut_line;
@@ -46,6 +46,30 @@ impl<'a> LineWalk<'a> {
                 rest: &[],
                 others: logs,
             },
+        }
+    }
+
+    /// The lines of the first log alone.
+    pub(crate) fn of_first(first: &'a [u8]) -> LineWalk<'a>
+        ensures { result ≡ meanings_of (first.now ∷ []) }
+    {
+        LineWalk {
+            log: 0,
+            line: 0,
+            rest: first,
+            others: &[],
+        }
+    }
+
+    /// The lines of the logs that follow the first one.
+    pub(crate) fn after_first(later: &'a [Vec<u8>]) -> LineWalk<'a>
+        ensures { result ≡ meanings_from 1 (bytes_of later.now) }
+    {
+        LineWalk {
+            log: 0,
+            line: 0,
+            rest: &[],
+            others: later,
         }
     }
 

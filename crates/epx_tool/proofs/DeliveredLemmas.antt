@@ -8,13 +8,7 @@ use Rattle.epx_merge.specs.Limits.{max_log_bytes}
 use Rattle.epx_merge.specs.Refusals.{NoneTooLong}
 use Rattle.epx_devices.specs.Deliveries.{FailRelation, ReadRelation, DeliversAll, IsLogStop}
 use Rattle.epx_tool.specs.Delivered.{FirstDeliver, StopsReading}
-use Rattle.epx_tool.proofs.SourceLemmas.{AreReadUpTo}
-
--- the first n sources are read, and delivered these logs
-pub record AreDeliveredUpTo {S : Type 0} (remaining : S → Option (List ℕ)) (reads : ReadRelation S)
-    (has_failed : S → Bool) (first now : List S) (n : ℕ) (logs : List (List ℕ)) : Type 0 where
-  pub read : AreReadUpTo remaining has_failed first now n logs
-  pub delivered : FirstDeliver reads first now logs
+use Rattle.epx_tool.specs.inner.SourceReadings.{AreDeliveredUpTo}
 
 module _ {S : Type 0} (reads : ReadRelation S) where
   -- one more source is read

@@ -1,9 +1,11 @@
 mod ConsumedLemmas
 mod SourceLemmas
+mod SourceReadingLemmas
 mod DeliveredLemmas
 mod UniqueAnswerLemmas
 mod LogsWithInputLemmas
 mod ReturnedFaultLemmas
+mod MergedSourceLemmas
 mod UniqueAnswerWithInputLemmas
 mod AnswerWithInputLemmas
 mod AnswerLemmas

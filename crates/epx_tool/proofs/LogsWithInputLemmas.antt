@@ -48,12 +48,6 @@ from_input logs input bytes k l there =
     elim (input_cases logs input bytes k there)
     [ inl among ↦ among | inr last ↦ absurd (omega (arith, l, last.0)) ]
 
--- the extra input comes after all logs
-pub input_after_logs : (n : ℕ) (fault : Fault) (log : ℕ) → IsReadLogFault n fault
-    → fault ≡ Read log → ¬ log < n
-input_after_logs n fault log of_text named l = let at : log ≡ n =
-    subst (IsReadLogFault n) named of_text in omega (arith, at, l)
-
 -- ---- the first text that is too long
 
 module _ (logs : List (List ℕ)) (input : List ℕ) where

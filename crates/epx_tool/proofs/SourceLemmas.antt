@@ -21,20 +21,8 @@ use Rattle.epx_merge.specs.Refusals.{FitLimits}
 use Rattle.epx_devices.specs.Transfers.{IsReadLogFault, ConsumesUpTo, ConsumesExactly}
 use Rattle.epx_tool.specs.Runs.{AreBytesOf, NoneTooLongBefore, IsReadingRefusal}
 use Rattle.epx_tool.specs.Sources.{EachConsumesUpTo}
+use Rattle.epx_tool.specs.inner.SourceReadings.{AreReadUpTo}
 use Rattle.epx_tool.proofs.ConsumedLemmas.{none_consumed, one_consumed}
-
--- the first n sources are read, and delivered these bytes
-pub record AreReadUpTo {S : Type 0} (remaining : S → Option (List ℕ)) (has_failed : S → Bool)
-    (first now : List S) (n : ℕ) (read : List (List ℕ)) : Type 0 where
-  pub as_many : length now ≡ length first
-  pub within : n ≤ length first
-  pub rest : drop n now ≡ drop n first
-  pub whole : All (λ s. has_failed s ≡ false) now
-  pub known : (logs : List (List ℕ)) → AreBytesOf remaining first logs → read ≡ take n logs
-  pub short : All (λ bytes. length bytes ≤ max_log_bytes) read
-  pub count : length read ≡ n
-  pub taken : EachConsumesUpTo remaining first now (max_log_bytes + 1)
-  pub ended : All (λ s. IsAtEnd (remaining s)) (take n now)
 
 -- bytes that begin with other bytes are at least as many
 pub longer : (later : Option (List ℕ)) (bytes start : List ℕ) → Consumes (Some bytes) later start
@@ -197,20 +185,6 @@ module _ {S : Type 0} (remaining : S → Option (List ℕ)) (has_failed : S → 
     pub none_failed : (k : ℕ) (s : S) → slice_get now k ≡ Some s → has_failed s ≡ false
     none_failed k s there = subst (λ t. has_failed t ≡ false)
         (get_or_from_slice_get now k s s there) (h.whole k s (slice_get_within now k s there))
-
-    pub none_failed_after : (later : S) → has_failed later ≡ false → (k : ℕ) (s : S)
-        → slice_get (set now n later) k ≡ Some s → has_failed s ≡ false
-    none_failed_after later well k s there =
-        subst (λ t. has_failed t ≡ false) (get_or_from_slice_get (set now n later) k s s there)
-        (All-set (λ s. has_failed s ≡ false) now n later well h.whole k s
-        (slice_get_within (set now n later) k s there))
-
-    pub none_named : {T : Type 0} (r : Result T Fault) → ((k : ℕ) → ¬ IsErrOf r (Read k))
-        → (k : ℕ) (s : S) → slice_get now k ≡ Some s → IsErrOf r (Read k) ↔ (has_failed s ≡ true)
-    none_named r not_read k s there = let well = none_failed k s there in (
-      λ is. absurd (not_read k is),
-      λ bad. absurd (cc (well, bad)),
-    )
 
     -- the fault names the source that failed
     pub one_failed : {T V : Type 0} → n < length first → (later : S) (f : Fault)

@@ -122,7 +122,7 @@ pub(crate) fn report_of<R: Threads + RandomSource + Sync>(
 }
 
 /// The report of a committed map of which nothing is done.
-fn whole_report<R: Threads + RandomSource + Sync>(
+pub(crate) fn whole_report<R: Threads + RandomSource + Sync>(
     rt: &R,
     alloc: Global,
     merged: Merged,
@@ -193,6 +193,24 @@ fn picture_of<R: Threads + Sync>(
     picture(alloc, merged, &graph)
 }
 
+/// A view of a committed map.
+pub(crate) fn view_of<R: Threads + Sync>(
+    rt: &R,
+    alloc: Global,
+    ask: Ask,
+    merged: &Merged,
+    plan: Plan,
+) -> Result<Vec<u8>, Memory>
+    ensures { IfOk result (λ text. IsViewText ask merged.now text.items) }
+{
+    match ask {
+        Ask::Order => order_of(rt, alloc, merged, plan),
+        Ask::Levels => levels_of(rt, alloc, merged, plan),
+        Ask::Audit => audit_of(rt, alloc, merged, plan),
+        Ask::Graph => picture_of(rt, alloc, merged, plan),
+    }
+}
+
 /// The report of the logs, or the first refusal, in this order: `TooManyLogs`, `LogTooLong`,
 /// `BadLine`, `TooManyInstances`, `Disagree`. `Memory` means out of memory, and it says nothing
 /// about the logs. The result is the same for every plan.
@@ -214,25 +232,6 @@ pub fn answer<R: Threads + RandomSource + Sync>(
     Ok(text)
 }
 
-/// Like `answer`, but it frees the logs when they are read.
-pub(crate) fn answer_owned<R: Threads + RandomSource + Sync>(
-    rt: &R,
-    alloc: Global,
-    logs: Vec<Vec<u8>>,
-    plan: Plan,
-) -> Result<Vec<u8>, Fault>
-    ensures { let bytes = bytes_of logs.items in
-        MatchResult result (λ text. IsAnswer bytes (Ok text.items))
-        (λ fault. IsAnswer bytes (Err fault)) }
-{
-    let merged = match read_logs(rt, alloc, &logs, plan, &FreeGate) {
-        Ok(merged) => merged,
-        Err(fault) => return Err(fault),
-    };
-    drop(logs);
-    Ok(whole_report(rt, alloc, merged, plan)?)
-}
-
 /// Like `answer`, but it returns a view instead of the report.
 pub fn view<R: Threads + RandomSource + Sync>(
     rt: &R,
@@ -249,10 +248,5 @@ pub fn view<R: Threads + RandomSource + Sync>(
         Ok(merged) => merged,
         Err(fault) => return Err(fault),
     };
-    match ask {
-        Ask::Order => Ok(order_of(rt, alloc, &merged, plan)?),
-        Ask::Levels => Ok(levels_of(rt, alloc, &merged, plan)?),
-        Ask::Audit => Ok(audit_of(rt, alloc, &merged, plan)?),
-        Ask::Graph => Ok(picture_of(rt, alloc, &merged, plan)?),
-    }
+    Ok(view_of(rt, alloc, ask, &merged, plan)?)
 }

@@ -8,6 +8,7 @@ mod checked_runs;
 mod checks;
 mod commands;
 pub mod laws;
+mod merged_sources;
 mod reply_lines;
 mod report;
 mod resumed_runs;

@@ -12,9 +12,9 @@ ghost use Rattle.epx_tool.specs.Sources.{EachConsumesUpTo, StopsAt};
 ghost use Rattle.epx_tool.specs.Delivered.{AnswersDelivered, EndsWithout};
 ghost use Rattle.epx_devices.specs.Transfers.{AppendsPrefix};
 
-use crate::answers::{answer_owned, view};
+use crate::answers::{view_of, whole_report};
 use crate::ask::Ask;
-use crate::sources::read_sources;
+use crate::merged_sources::merge_sources;
 use epx_devices::{Sink, Source, write_out};
 use epx_merge::MAX_LOGS;
 use epx_types::{Fault, Plan};
@@ -68,13 +68,12 @@ pub fn run<T: Threads + RandomSource + Sync, S: Source, W: Sink>(
     ensures too_many { IsErrOf result Fault.TooManyLogs ↔ (MAX_LOGS < length sources.old) }
     ensures none_read { IsErrOf result Fault.TooManyLogs → sources.new ≡ sources.old }
 {
-    let logs = match read_sources(alloc, sources) {
-        Ok(logs) => logs,
+    let merged = match merge_sources(rt, alloc, sources, plan) {
+        Ok(merged) => merged,
         Err(fault) => return Err(fault),
     };
-    let text = match answer_owned(rt, alloc, logs, plan) {
-        Ok(text) => text,
-        Err(fault) => return Err(fault),
+    let Ok(text) = whole_report(rt, alloc, merged, plan) else {
+        return Err(Fault::Memory);
     };
     write_out(&text, sink)
 }
@@ -124,13 +123,12 @@ pub fn show<T: Threads + RandomSource + Sync, S: Source, W: Sink>(
     ensures too_many { IsErrOf result Fault.TooManyLogs ↔ (MAX_LOGS < length sources.old) }
     ensures none_read { IsErrOf result Fault.TooManyLogs → sources.new ≡ sources.old }
 {
-    let logs = match read_sources(alloc, sources) {
-        Ok(logs) => logs,
+    let merged = match merge_sources(rt, alloc, sources, plan) {
+        Ok(merged) => merged,
         Err(fault) => return Err(fault),
     };
-    let text = match view(rt, alloc, ask, &logs, plan) {
-        Ok(text) => text,
-        Err(fault) => return Err(fault),
+    let Ok(text) = view_of(rt, alloc, ask, &merged, plan) else {
+        return Err(Fault::Memory);
     };
     write_out(&text, sink)
 }

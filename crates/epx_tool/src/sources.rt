@@ -1,56 +1,61 @@
-//! Reads sources to their ends before anything is done with the bytes.
-ghost use Rattle.std.specs.Prelude.{◌≡◌, ◌↔◌, ◌+◌, ◌<◌, ℕ, List, true, false, drop, length};
-ghost use Rattle.std.specs.Prelude.{All, Some, slice_get, IfOk, OnOk, IfErr, IsErrOf};
+//! Reads sources to their ends.
+ghost use Rattle.std.specs.Prelude.{◌≡◌, ◌↔◌, ◌+◌, ◌<◌, ◌≤◌, ◌++◌, ◌∷◌, ℕ, List, [], true, false};
+ghost use Rattle.std.specs.Prelude.{drop, length, All, Some, slice_get, IfOk, OnOk, IfErr};
+ghost use Rattle.std.specs.Prelude.{IsErrOf, MatchResult, Err};
 ghost use Rattle.std.specs.Io.KnownBytes.{IsAtEnd};
 ghost use Rattle.epx_devices.specs.Transfers.{ConsumesUpTo};
 ghost use Rattle.epx_merge.specs.Limits.{max_log_bytes};
 ghost use Rattle.epx_merge.specs.Refusals.{FitLimits};
 ghost use Rattle.epx_merge.specs.LogLines.{bytes_of};
-ghost use Rattle.epx_tool.specs.Runs.{AreBytesOf, IsReadingRefusal};
+ghost use Rattle.epx_tool.specs.Runs.{AreBytesOf};
 ghost use Rattle.epx_tool.specs.WithInput.{IsShort};
 ghost use Rattle.epx_tool.specs.RunsWithInput.{IsReadingRefusalWithInput};
 ghost use Rattle.epx_tool.specs.Sources.{EachConsumesUpTo, StopsAt};
-ghost use Rattle.epx_tool.specs.Delivered.{EachDelivers, StopsReading};
 ghost use Rattle.epx_tool.specs.DeliveredWithInput.{DeliversBoth, StopsReadingBoth};
+ghost use Rattle.epx_tool.specs.inner.SourceReadings.{AreDeliveredUpTo, EndsReading, logs_after};
 
 use epx_devices::{Source, read_log};
 use epx_merge::MAX_LOGS;
 use epx_types::Fault;
 use std::alloc::Global;
 
-/// The bytes of all sources, read in order.
-pub(crate) fn read_sources<S: Source>(
+/// The bytes of one source. The sources before it are read.
+pub(crate) fn read_next<S: Source>(
     alloc: Global,
+    log: usize,
+    sources: &mut [S],
+) -> Result<Vec<u8>, Fault>
+    requires within { log < length sources.old }
+    requires few { length sources.old ≤ MAX_LOGS }
+    requires well { All (λ s. S.has_failed s ≡ false) sources.old }
+    ensures { (first : _) (before : _)
+        → AreDeliveredUpTo S.remaining S.reads S.has_failed first sources.old log before
+        → MatchResult result
+        (λ bytes. AreDeliveredUpTo S.remaining S.reads S.has_failed first sources.new (log + 1)
+        (before ++ bytes.items ∷ []))
+        (λ fault. EndsReading S.remaining S.reads S.fails S.has_failed first sources.new
+        (Err fault)) }
+{
+    read_log(alloc, log, &mut sources[log])
+}
+
+/// The bytes of the sources from this number on, read in order. Those before it are read.
+pub(crate) fn read_onward<S: Source>(
+    alloc: Global,
+    start: usize,
     sources: &mut [S],
 ) -> Result<Vec<Vec<u8>>, Fault>
-    requires { All (λ s. S.has_failed s ≡ false) sources.old }
-    ensures bytes { IfOk result (λ v. (logs : _) → AreBytesOf S.remaining sources.old logs
-        → bytes_of v.items ≡ logs) }
-    ensures each { IfOk result (λ v. length v.items ≡ length sources.old) }
-    ensures delivered { IfOk result (λ v.
-        EachDelivers S.reads sources.old sources.new (bytes_of v.items)) }
-    ensures refusal { IfErr result (λ fault. (logs : _) → AreBytesOf S.remaining sources.old logs
-        → IsReadingRefusal logs fault) }
-    ensures stopped { IfErr result (StopsReading S.reads S.fails sources.old sources.new) }
-    ensures nothing_written { ¬ IsErrOf result Fault.Write }
-    ensures failed { (log : _) (source : _) → slice_get sources.new log ≡ Some source
-        → IsErrOf result (Fault.Read log) ↔ (S.has_failed source ≡ true) }
-    ensures place { (log : ℕ) → StopsAt result log → log < length sources.old }
-    ensures fit { IfOk result (λ v. FitLimits (bytes_of v.items)) }
-
-    ensures taken { EachConsumesUpTo S.remaining sources.old sources.new (max_log_bytes + 1) }
-    ensures ended { OnOk result (All (λ s. IsAtEnd (S.remaining s)) sources.new) }
-    ensures no_further { (log : ℕ) → StopsAt result log
-        → drop (log + 1) sources.new ≡ drop (log + 1) sources.old }
-    ensures too_many { IsErrOf result Fault.TooManyLogs ↔ (MAX_LOGS < length sources.old) }
-    ensures none_read { IsErrOf result Fault.TooManyLogs → sources.new ≡ sources.old }
+    requires few { length sources.old ≤ MAX_LOGS }
+    requires begun { (first : _) × (before : _)
+        × AreDeliveredUpTo S.remaining S.reads S.has_failed first sources.old start before }
+    ensures { (first : _) (before : _)
+        → AreDeliveredUpTo S.remaining S.reads S.has_failed first sources.old start before
+        → EndsReading S.remaining S.reads S.fails S.has_failed first sources.new
+        (logs_after before result) }
 {
-    if sources.len() > MAX_LOGS {
-        return Err(Fault::TooManyLogs);
-    }
     let mut logs = Vec::new(alloc);
-    for log in 0..sources.len() {
-        let bytes = match read_log(alloc, log, &mut sources[log]) {
+    for log in start..sources.len() {
+        let bytes = match read_next(alloc, log, sources) {
             Ok(bytes) => bytes,
             Err(fault) => return Err(fault),
         };
@@ -59,6 +64,21 @@ pub(crate) fn read_sources<S: Source>(
         };
     }
     Ok(logs)
+}
+
+/// The bytes of all sources, read in order.
+pub(crate) fn read_sources<S: Source>(
+    alloc: Global,
+    sources: &mut [S],
+) -> Result<Vec<Vec<u8>>, Fault>
+    requires { All (λ s. S.has_failed s ≡ false) sources.old }
+    ensures { EndsReading S.remaining S.reads S.fails S.has_failed sources.old sources.new
+        (logs_after [] result) }
+{
+    if sources.len() > MAX_LOGS {
+        return Err(Fault::TooManyLogs);
+    }
+    read_onward(alloc, 0, sources)
 }
 
 /// The bytes of an extra input and of all sources. The sources are read in order, then the input.

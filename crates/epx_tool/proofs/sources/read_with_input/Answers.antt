@@ -71,8 +71,7 @@ returns-in-Err-read_log g c =
       refusal = λ before logs known are.
           let same = read.bytes logs are in
           let logs_many : count ≡ length logs =
-          many ∙ sym read.each ∙ sym (length-map c.in-Ok.logs.items (λ log. log.items))
-          ∙ ap length same in
+          many ∙ sym read.delivered.as_many ∙ ap length same in
           refusal_of_reading_with_input logs before count
           (g.B.Source.remaining c.read_log.new.source) fault logs_many
           (subst FitLimits same read.fit) of_input.faults
@@ -110,7 +109,7 @@ returns-in-Ok-read_log g c =
       text = λ before known.
           subst (λ o. IfSome o (λ all. c.in-Ok-read_log.text.items ≡ all)) known of_input.bytes;
       bytes = read.bytes;
-      each = read.each;
+      each = sym (length-map c.in-Ok.logs.items (λ log. log.items)) ∙ read.delivered.as_many;
       short = of_input.fits;
       fit = read.fit;
       delivered = record { of_input = of_input.delivered; of_logs = read.delivered };

@@ -1,7 +1,7 @@
 use Rattle.std.proofs.Common.{◌≡◌, subst, rules}
 use Rattle.epx_merge.specs.inner.ReadPieces.{AreReadBeside, HasEntries}
 use Rattle.epx_merge.specs.inner.RedundantLines.{CachesSomeOf}
-use Rattle.epx_merge.proofs.read.read_batch.Goals as goal
+use Rattle.epx_merge.proofs.read_lines.read_batch.Goals as goal
 
 pub returns : goal.returns
 returns g c =

@@ -2,7 +2,7 @@ use Rattle.std.proofs.Common.{rules}
 use Rattle.std.proofs.lemmas.Result.{IfOk-at_ok}
 use Rattle.epx_merge.specs.inner.ReadPieces.{IsBatchRead, HasEntries}
 use Rattle.epx_merge.specs.inner.ReadSteps.{IsReadStep}
-use Rattle.epx_merge.proofs.read.read_and_step.Goals as goal
+use Rattle.epx_merge.proofs.read_lines.read_and_step.Goals as goal
 
 pub returns : goal.returns
 returns g c = λ done all.

@@ -1,0 +1,25 @@
+-- Lines that are read and noted.
+use Rattle.std.specs.Prelude.{◌≡◌, List, [], Result, MatchResult}
+use Rattle.epx_types.specs.declared.fault.Fault.{Fault}
+use Rattle.epx_types.specs.declared.fault.Why.{Why}
+use Rattle.epx_lines.specs.declared.Line.{Line}
+use Rattle.epx_merge.specs.declared.noted.Noted.{Noted}
+use Rattle.epx_merge.specs.LogLines.{MeaningAt, placed_among, bad_lines_among}
+use Rattle.epx_merge.specs.inner.Ledgers.{LedgerView, IsLedgerOf}
+use Rattle.epx_merge.specs.inner.RedundantLines.{DropsRedundant, IsCacheOf}
+use Rattle.epx_merge.specs.Steps.{IsReadFault}
+
+-- none of the lines is bad; the ledger has all but some redundant ones, and the cache recognizes
+-- only lines that the ledger has
+pub record AreNoted (lines : List MeaningAt) (ledger : LedgerView)
+    (cache : List (Result Line Why)) : Type 0 where
+  pub kept : List MeaningAt
+  pub drops : DropsRedundant lines [] kept
+  pub clean : bad_lines_among kept ≡ []
+  pub noted : IsLedgerOf (placed_among kept) ledger
+  pub cached : IsCacheOf kept cache
+
+-- the result of reading the lines: they are noted, or the first bad one
+abbrev pub IsNoting : List MeaningAt → Result Noted Fault → Type 0
+IsNoting lines result = MatchResult result (λ n. AreNoted lines n.ledger n.cache)
+    (IsReadFault (bad_lines_among lines))

@@ -1,7 +1,0 @@
-use Rattle.epx_tool.proofs.AcceptedLogLemmas.{accepted_are_few}
-use Rattle.epx_tool.proofs.answers.answer_owned.Goals as goal
-use Rattle.epx_merge.specs.LogLines.{bytes_of}
-
-pub whole_report-requires-clause-few : goal.whole_report-requires-clause-few
-whole_report-requires-clause-few g c κs within =
-    accepted_are_few (bytes_of c.deref.result.now) c.in-Ok.merged c.in-Ok.ensures

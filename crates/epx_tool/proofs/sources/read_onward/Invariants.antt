@@ -1,0 +1,13 @@
+use Rattle.std.proofs.Common.{◌≡◌, ◌++◌, ℕ, List, length}
+use Rattle.epx_merge.specs.LogLines.{bytes_of}
+use Rattle.epx_tool.specs.inner.SourceReadings.{AreDeliveredUpTo}
+use Rattle.epx_tool.proofs.sources.read_onward.Given as goal
+
+abbrev pub invariant-loop-log : goal.invariant-loop-log
+invariant-loop-log g l =
+    let S = g.S.Source in
+    (length l.sources ≡ length l.fn.sources)
+    × ((first : List g.row.S.Denot) (before : List (List ℕ))
+    → AreDeliveredUpTo S.remaining S.reads S.has_failed first l.fn.sources l.fn.start before
+    → AreDeliveredUpTo S.remaining S.reads S.has_failed first l.sources l.log
+    (before ++ bytes_of l.logs.items))

@@ -1,0 +1,73 @@
+-- Reading sources one after another: how far it is, and how it ends.
+use Rattle.std.specs.Prelude.{◌≡◌, ◌≤◌, ◌<◌, ◌+◌, ◌++◌, ◌⊎◌, ◌↔◌, ℕ, Bool, true, false, List}
+use Rattle.std.specs.Prelude.{length, take, drop, All, Option, Some, slice_get, Vec, Result, Ok}
+use Rattle.std.specs.Prelude.{Err, IfOk, OnOk, IfErr, IsErrOf}
+use Rattle.std.specs.declared.alloc.Global.{Global}
+use Rattle.std.specs.Io.KnownBytes.{IsAtEnd}
+use Rattle.epx_types.specs.declared.fault.Fault.{Fault}
+use Rattle.epx_types.specs.declared.fault.Fault.TheVariants.{TooManyLogs, Read, Write}
+use Rattle.epx_types.specs.Instances.{Instance}
+use Rattle.epx_devices.specs.Deliveries.{FailRelation, ReadRelation}
+use Rattle.epx_merge.specs.Acceptance.{IsAccepted}
+use Rattle.epx_merge.specs.Limits.{max_logs, max_log_bytes}
+use Rattle.epx_merge.specs.LogLines.{bytes_of}
+use Rattle.epx_merge.specs.Refusals.{FitLimits, IsRefusal}
+use Rattle.epx_tool.specs.Delivered.{EachDelivers, FirstDeliver, StopsReading}
+use Rattle.epx_tool.specs.Runs.{AreBytesOf, IsReadingRefusal}
+use Rattle.epx_tool.specs.Sources.{EachConsumesUpTo, StopsAt}
+
+-- the first n sources are read, and delivered these bytes
+pub record AreReadUpTo {S : Type 0} (remaining : S → Option (List ℕ)) (has_failed : S → Bool)
+    (first now : List S) (n : ℕ) (read : List (List ℕ)) : Type 0 where
+  pub as_many : length now ≡ length first
+  pub within : n ≤ length first
+  pub rest : drop n now ≡ drop n first
+  pub whole : All (λ s. has_failed s ≡ false) now
+  pub known : (logs : List (List ℕ)) → AreBytesOf remaining first logs → read ≡ take n logs
+  pub short : All (λ bytes. length bytes ≤ max_log_bytes) read
+  pub count : length read ≡ n
+  pub taken : EachConsumesUpTo remaining first now (max_log_bytes + 1)
+  pub ended : All (λ s. IsAtEnd (remaining s)) (take n now)
+
+-- the first n sources are read, and delivered these logs
+pub record AreDeliveredUpTo {S : Type 0} (remaining : S → Option (List ℕ)) (reads : ReadRelation S)
+    (has_failed : S → Bool) (first now : List S) (n : ℕ) (logs : List (List ℕ)) : Type 0 where
+  pub read : AreReadUpTo remaining has_failed first now n logs
+  pub delivered : FirstDeliver reads first now logs
+
+-- how reading all sources ends: with their logs, or with a fault
+pub record EndsReading {S : Type 0} (remaining : S → Option (List ℕ)) (reads : ReadRelation S)
+    (fails : FailRelation S) (has_failed : S → Bool) (old new : List S)
+    (result : Result (List (List ℕ)) Fault) : Type 0 where
+  pub bytes : IfOk result (λ logs. (given : List (List ℕ)) → AreBytesOf remaining old given
+      → logs ≡ given)
+  pub delivered : IfOk result (EachDelivers reads old new)
+  pub fit : IfOk result FitLimits
+  pub refusal : IfErr result (λ fault. (logs : List (List ℕ)) → AreBytesOf remaining old logs
+      → IsReadingRefusal logs fault)
+  pub stopped : IfErr result (StopsReading reads fails old new)
+  pub nothing_written : ¬ IsErrOf result Write
+  pub failed : (log : ℕ) (source : S) → slice_get new log ≡ Some source
+      → IsErrOf result (Read log) ↔ (has_failed source ≡ true)
+  pub place : (log : ℕ) → StopsAt result log → log < length old
+  pub taken : EachConsumesUpTo remaining old new (max_log_bytes + 1)
+  pub ended : OnOk result (All (λ s. IsAtEnd (remaining s)) new)
+  pub no_further : (log : ℕ) → StopsAt result log → drop (log + 1) new ≡ drop (log + 1) old
+  pub too_many : IsErrOf result TooManyLogs ↔ (max_logs < length old)
+  pub none_read : IsErrOf result TooManyLogs → new ≡ old
+
+-- the logs that were read before, and then those of the result
+abbrev pub logs_after : List (List ℕ) → Result (Vec (Vec ℕ Global) Global) Fault
+    → Result (List (List ℕ)) Fault
+logs_after before (Ok logs) = Ok (before ++ bytes_of logs.items)
+logs_after before (Err fault) = Err fault
+
+-- how reading all sources and merging their logs ends
+abbrev pub EndsMerging : {S : Type 0} → (S → Option (List ℕ)) → ReadRelation S → FailRelation S
+    → (S → Bool) → List S → List S → Result (List Instance) Fault → Type 0
+EndsMerging remaining reads fails has_failed old new (Ok m) = (logs : List (List ℕ))
+    × EndsReading remaining reads fails has_failed old new (Ok logs) × IsAccepted logs m
+EndsMerging remaining reads fails has_failed old new (Err fault) =
+    EndsReading remaining reads fails has_failed old new (Err fault)
+    ⊎ ((logs : List (List ℕ)) × EndsReading remaining reads fails has_failed old new (Ok logs)
+    × IsRefusal logs fault)

@@ -1,0 +1,62 @@
+//! Reads sources and merges their logs.
+ghost use Rattle.std.specs.Prelude.{◌≡◌, ◌<◌, ◌≤◌, false, length, All};
+ghost use Rattle.std.specs.Thread.{IsSync};
+ghost use Rattle.epx_tool.specs.inner.SourceReadings.{AreDeliveredUpTo, EndsReading, EndsMerging};
+ghost use Rattle.epx_tool.specs.inner.SourceReadings.{logs_after};
+
+use crate::sources::{read_next, read_onward, read_sources};
+use epx_claims::FreeGate;
+use epx_devices::Source;
+use epx_merge::{MAX_LOGS, Merged, read_logs, read_logs_during};
+use epx_types::{Fault, Plan};
+use std::alloc::Global;
+use std::random::RandomSource;
+use std::thread::Threads;
+
+/// As `merge_sources`, for several sources and workers. The later sources are read while the
+/// workers read the lines of the first one.
+fn merge_meanwhile<R: Threads + RandomSource + Sync, S: Source>(
+    rt: &R,
+    alloc: Global,
+    sources: &mut [S],
+    plan: Plan,
+) -> Result<Merged, Fault>
+    requires some { 0 < length sources.old }
+    requires few { length sources.old ≤ MAX_LOGS }
+    requires well { All (λ s. S.has_failed s ≡ false) sources.old }
+    ensures { EndsMerging S.remaining S.reads S.fails S.has_failed sources.old sources.new result }
+{
+    let first = match read_next(alloc, 0, sources) {
+        Ok(bytes) => bytes,
+        Err(fault) => return Err(fault),
+    };
+    let mut more = || -> Result<Vec<Vec<u8>>, Fault>
+        requires { (length sources.now ≤ MAX_LOGS) × ((first : _) × (before : _)
+            × AreDeliveredUpTo S.remaining S.reads S.has_failed first sources.now 1 before) }
+        ensures { (first : _) (before : _)
+            → AreDeliveredUpTo S.remaining S.reads S.has_failed first sources.entry.now 1 before
+            → EndsReading S.remaining S.reads S.fails S.has_failed first sources.exit.now
+            (logs_after before result) }
+    { read_onward(alloc, 1, sources) };
+    read_logs_during(rt, alloc, &first, &mut more, plan, &FreeGate)
+}
+
+/// The committed map of the logs of all sources, which are read in order.
+pub(crate) fn merge_sources<R: Threads + RandomSource + Sync, S: Source>(
+    rt: &R,
+    alloc: Global,
+    sources: &mut [S],
+    plan: Plan,
+) -> Result<Merged, Fault>
+    requires { All (λ s. S.has_failed s ≡ false) sources.old }
+    ensures { EndsMerging S.remaining S.reads S.fails S.has_failed sources.old sources.new result }
+{
+    if plan.workers() > 1 && sources.len() > 1 && sources.len() <= MAX_LOGS {
+        return merge_meanwhile(rt, alloc, sources, plan);
+    }
+    let logs = match read_sources(alloc, sources) {
+        Ok(logs) => logs,
+        Err(fault) => return Err(fault),
+    };
+    read_logs(rt, alloc, &logs, plan, &FreeGate)
+}
