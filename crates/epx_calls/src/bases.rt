@@ -1,7 +1,7 @@
 //! A report that is read as a base. The worked cases in scripts test which texts are bases.
 use crate::effects::expect_pairs;
 use crate::fixtures::id;
-use epx_base::{Base, BaseFault, read_base};
+use epx_report::{Base, BaseFault, read_base};
 use std::alloc::Global;
 use std::test::Fail;
 

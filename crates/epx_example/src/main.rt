@@ -8,7 +8,7 @@ mod run;
 
 use crate::entries::{first_entries, later_entries};
 use crate::run::{RunResult, run};
-use epx_base::read_base;
+use epx_report::read_base;
 use epx_txn::Store;
 use epx_types::{Fault, Memory, Plan, Reply};
 use std::alloc::{AllocError, Global};

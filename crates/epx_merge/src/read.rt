@@ -1,19 +1,16 @@
 //! Reads logs: returns their committed map, or the first refusal.
-ghost use Rattle.std.specs.Prelude.{◌≡◌, ◌∷◌, [], MatchResult};
+ghost use Rattle.std.specs.Prelude.{◌∷◌, ℕ, List, [], MatchResult};
 ghost use Rattle.std.specs.Thread.{IsSync};
 ghost use Rattle.epx_merge.specs.inner.NotedLines.{IsNoting};
-ghost use Rattle.epx_merge.specs.LogLines.{meanings_of, placed_of, bad_lines_of, bytes_of};
-ghost use Rattle.epx_merge.specs.inner.Ledgers.{IsLedgerOf};
-ghost use Rattle.epx_merge.specs.Steps.{IsReadFault};
+ghost use Rattle.epx_merge.specs.LogLines.{meanings_of, bytes_of};
 ghost use Rattle.epx_merge.specs.Acceptance.{IsAccepted};
 ghost use Rattle.epx_merge.specs.LaterLogs.{IsMergeWith};
-ghost use Rattle.epx_merge.specs.Refusals.{IsRefusal};
+ghost use Rattle.epx_merge.specs.Refusals.{FitLimits, IsRefusal};
 
-use crate::ledger::Ledger;
 use crate::limits::{MAX_LOGS, first_too_long, first_too_long_with};
 use crate::merged::Merged;
-use crate::noted::Noted;
-use crate::read_lines::read_lines;
+use crate::noted_lines::NotedLines;
+use crate::read_batches::read_batches;
 use crate::walk::LineWalk;
 use epx_claims::Gate;
 use epx_seed::Seed;
@@ -22,21 +19,14 @@ use std::alloc::Global;
 use std::random::RandomSource;
 use std::thread::{Threads, join_mut};
 
-/// Reads the lines of all logs into a ledger.
-fn read_all<R: Threads + RandomSource + Sync, G: Gate + Sync>(
-    rt: &R,
-    alloc: Global,
-    logs: &[Vec<u8>],
-    plan: Plan,
-    gate: &G,
-) -> Result<Ledger, Fault>
-    ensures { let bytes = bytes_of logs.now in MatchResult result
-        (λ ledger. (bad_lines_of bytes ≡ []) × IsLedgerOf (placed_of bytes) ledger)
-        (IsReadFault (bad_lines_of bytes)) }
+/// The committed map of logs whose lines are noted, or their first refusal. The logs are neither
+/// too many nor too long.
+fn merge_noted(noted: Result<NotedLines<'_>, Fault>) -> Result<Merged, Fault>
+    ensures { (logs : List (List ℕ)) → FitLimits logs → IsNoting (meanings_of logs) noted.entry
+        → MatchResult result (IsAccepted logs) (IsRefusal logs) }
 {
-    let none = Noted::new(alloc, logs.len(), Seed::draw(rt))?;
-    let Noted { ledger, .. } = read_lines(rt, alloc, plan, gate, none, LineWalk::new(logs))?;
-    Ok(ledger)
+    let NotedLines { ledger, .. } = noted?;
+    ledger.close()
 }
 
 /// The committed map of the logs, or their first refusal.
@@ -59,10 +49,8 @@ pub fn read_logs<R: Threads + RandomSource + Sync, G: Gate + Sync>(
     if let Some(log) = first_too_long(logs) {
         return Err(Fault::LogTooLong { log });
     }
-    match read_all(rt, alloc, logs, plan, gate) {
-        Ok(ledger) => ledger.close(),
-        Err(fault) => Err(fault),
-    }
+    let none = NotedLines::new(alloc, logs.len(), Seed::draw(rt))?;
+    merge_noted(read_batches(rt, alloc, plan, gate, none, LineWalk::new(logs)))
 }
 
 /// Reads the lines of the first of several logs.
@@ -72,11 +60,12 @@ fn read_first<'a, R: Threads + RandomSource + Sync, G: Gate + Sync>(
     first: &'a [u8],
     plan: Plan,
     gate: &G,
-) -> Result<Noted<'a>, Fault>
+) -> Result<NotedLines<'a>, Fault>
     ensures { IsNoting (meanings_of (first.now ∷ [])) result }
 {
-    let none = Noted::new(alloc, 2, Seed::draw(rt))?;
-    read_lines(rt, alloc, plan, gate, none, LineWalk::of_first(first))
+    // There are at least two logs, so lines may repeat.
+    let none = NotedLines::new(alloc, 2, Seed::draw(rt))?;
+    read_batches(rt, alloc, plan, gate, none, LineWalk::of_first(first))
 }
 
 /// The committed map of the first log, whose lines are read, and the later ones, or their first
@@ -85,7 +74,7 @@ fn merge_later<'a, R: Threads + Sync, G: Gate + Sync>(
     rt: &R,
     alloc: Global,
     first: &'a [u8],
-    noted: Result<Noted<'a>, Fault>,
+    noted: Result<NotedLines<'a>, Fault>,
     later: &'a [Vec<u8>],
     plan: Plan,
     gate: &G,
@@ -101,12 +90,12 @@ fn merge_later<'a, R: Threads + Sync, G: Gate + Sync>(
         return Err(Fault::LogTooLong { log });
     }
     let walk = LineWalk::after_first(later);
-    let Noted { ledger, .. } = read_lines(rt, alloc, plan, gate, noted?, walk)?;
-    ledger.close()
+    merge_noted(read_batches(rt, alloc, plan, gate, noted?, walk))
 }
 
-/// As `read_logs`, for logs of which only the first is there: `more` returns the later ones while
-/// other threads read the lines of the first. A fault of `more` is the result.
+/// As `read_logs`, for logs of which only the first is there. `more` returns the later ones: it is
+/// called once, on this thread, while other threads read the lines of the first. A fault of `more`
+/// is the result.
 pub fn read_logs_during<
     R: Threads + RandomSource + Sync,
     G: Gate + Sync,
@@ -115,7 +104,7 @@ pub fn read_logs_during<
     requires { M.pre more.old }
     ensures { (given : _) × M.step more.old given more.new × IsMergeWith first.now given result }
 {
-    let mut begin = || -> Result<Noted, Fault>
+    let mut begin = || -> Result<NotedLines, Fault>
         requires { IsSync R.row × IsSync G.row }
         ensures { IsNoting (meanings_of (first.entry.now ∷ [])) result }
     { read_first(rt, alloc, first, plan, gate) };

@@ -4,8 +4,8 @@ use Rattle.std.proofs.Common.{arith}
 use Rattle.std.proofs.lemmas.Bool.{cases_Bool, false≢true}
 use Rattle.epx_graph.specs.Graphs.{DependencyGraph, edges_of}
 use Rattle.epx_components.specs.Partitions.{ComponentParts, IsPartitionOf, number_for}
-use Rattle.epx_order.specs.declared.batch.Batch.{Batch}
-use Rattle.epx_order.specs.declared.doubtful_touches.DoubtfulTouch.{DoubtfulTouch}
+use Rattle.epx_order.specs.declared.audits.batch.Batch.{Batch}
+use Rattle.epx_order.specs.declared.audits.doubtful_touches.DoubtfulTouch.{DoubtfulTouch}
 use Rattle.epx_order.specs.inner.Batches.{IsBatch, IsWhole, IsReadyApart}
 use Rattle.epx_order.specs.inner.DoubtfulKeys.{IsRelatedOrFree}
 use Rattle.epx_order.specs.inner.ReadyMarks.{is_marked}

@@ -14,8 +14,8 @@ use Rattle.epx_types.proofs.committed.PositionLemmas.{position_of-found}
 use Rattle.epx_graph.specs.Graphs.{DependencyGraph, edges_of}
 use Rattle.epx_graph.specs.GraphOf.{IsGraphOf}
 use Rattle.epx_graph.proofs.MapPathLemmas.{committed_count, node_reaches}
-use Rattle.epx_order.specs.declared.doubtful_touches.DoubtfulTouch.{DoubtfulTouch}
-use Rattle.epx_order.specs.declared.touches.Touch.{Touch}
+use Rattle.epx_order.specs.declared.audits.doubtful_touches.DoubtfulTouch.{DoubtfulTouch}
+use Rattle.epx_order.specs.declared.audits.touches.Touch.{Touch}
 use Rattle.epx_order.specs.inner.RelatedTouches.{AreAllRelated}
 use Rattle.epx_order.specs.inner.DoubtfulKeys.{doubtful_touch, ShareKey, HoldAllConflicts}
 use Rattle.epx_order.specs.inner.ReadyMarks.{AreReadyMarks}

@@ -5,7 +5,7 @@ use Rattle.std.proofs.lemmas.Bool.{cases_lt}
 use Rattle.std.proofs.lemmas.Option.{slice_get_within}
 use Rattle.epx_types.specs.Instances.{Instance}
 use Rattle.epx_types.proofs.lists.ListPositionLemmas.{slice_get-from_map, slice_get-map}
-use Rattle.epx_order.specs.declared.doubtful_touches.DoubtfulTouch.{DoubtfulTouch}
+use Rattle.epx_order.specs.declared.audits.doubtful_touches.DoubtfulTouch.{DoubtfulTouch}
 use Rattle.epx_order.specs.inner.Batches.{IsReadyApart}
 use Rattle.epx_order.specs.inner.DoubtfulKeys.{HoldAllConflicts, IsRelatedOrFree}
 use Rattle.epx_order.specs.inner.NodeConflicts.{KeyLists, keys_of, KeysConflict, IsSettled}

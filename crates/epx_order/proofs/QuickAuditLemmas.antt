@@ -19,7 +19,7 @@ use Rattle.epx_graph.specs.Graphs.{DependencyGraph, edges_of}
 use Rattle.epx_graph.specs.GraphOf.{IsGraphOf}
 use Rattle.epx_graph.specs.NodePaths.{NodeReaches}
 use Rattle.epx_graph.proofs.MapPathLemmas.{committed_count, node_reaches}
-use Rattle.epx_order.specs.declared.touches.Touch.{Touch}
+use Rattle.epx_order.specs.declared.audits.touches.Touch.{Touch}
 use Rattle.epx_order.specs.inner.RelatedTouches.{touch_at, AreAllRelated}
 use Rattle.epx_order.specs.inner.Touches.{touch, HoldTouches}
 use Rattle.epx_order.specs.inner.ReachIndexes.{AreOrderNodes}

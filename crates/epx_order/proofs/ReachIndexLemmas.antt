@@ -9,8 +9,8 @@ use Rattle.std.proofs.lemmas.List.{get_or-set_same, get_or-set_other, get_or_app
 use Rattle.std.proofs.lemmas.List.{get_or_push, length_push}
 use Rattle.epx_graph.specs.Graphs.{DependencyGraph, edges_of}
 use Rattle.epx_graph.specs.NodePaths.{NodeReaches}
-use Rattle.epx_order.specs.declared.reach_index.Chain.{Chain}
-use Rattle.epx_order.specs.declared.reach_index.ReachIndex.{ReachIndex}
+use Rattle.epx_order.specs.declared.audits.reach_index.Chain.{Chain}
+use Rattle.epx_order.specs.declared.audits.reach_index.ReachIndex.{ReachIndex}
 use Rattle.epx_order.specs.inner.ReachIndexes.{IsChain, IsReachIndex}
 use Rattle.epx_components.proofs.NodePathLemmas.{reaches_itself, reaches_on}
 

@@ -2,7 +2,7 @@
 use Rattle.std.proofs.Common.{◌≡◌, ◌⊎◌, inl, inr, ℕ, ◌+◌, ◌<◌, ◌≤◌, List, Bool, IsTrue, refl, sym}
 use Rattle.std.proofs.Common.{subst, ap, ◌∙◌, arith}
 use Rattle.std.proofs.lemmas.Bool.{cases_Bool, cases_lt, false≢true}
-use Rattle.epx_order.specs.declared.touches.Touch.{Touch}
+use Rattle.epx_order.specs.declared.audits.touches.Touch.{Touch}
 use Rattle.epx_order.specs.inner.RelatedTouches.{touch_at, TouchReaches, AreAllRelated}
 use Rattle.epx_order.specs.inner.RelatedTouches.{IsRelatedBack, IsNextWriter}
 use Rattle.epx_components.proofs.NodePathLemmas.{reaches_on}

@@ -10,7 +10,7 @@ use Rattle.epx_types.specs.Instances.{Instance}
 use Rattle.epx_types.proofs.lists.TotalOrderLemmas.{below_irrefl, below_trans, below_cases}
 use Rattle.epx_types.proofs.lists.ComparisonLemmas.{id_cmp_total, id_cmp-IsAntisymmetric}
 use Rattle.epx_types.proofs.lists.ComparisonLemmas.{first_is_equal, second_is_equal}
-use Rattle.epx_order.specs.declared.sequence_key.SequenceKey.{SequenceKey}
+use Rattle.epx_order.specs.declared.check.sequence_key.SequenceKey.{SequenceKey}
 use Rattle.epx_components.specs.Partitions.{ComponentParts, component_of}
 use Rattle.epx_order.specs.inner.SequenceKeys.{sequence_key_of, sequence_key_cmp, ComesBefore}
 use Rattle.epx_order.specs.inner.SequenceKeys.{IsNodeEarlyAt, IsNodeOvertakenAt, AreNodesInOrder}

@@ -4,7 +4,7 @@ use Rattle.std.proofs.Common.{length, get_or, set, bit_or, Contains, IsTrue, IsF
 use Rattle.std.proofs.Common.{subst, ◌∙◌, arith}
 use Rattle.std.proofs.lemmas.Bool.{cases_Bool, cases_lt, false≢true}
 use Rattle.std.proofs.lemmas.List.{get_or_default}
-use Rattle.epx_order.specs.declared.doubtful_touches.DoubtfulTouch.{DoubtfulTouch}
+use Rattle.epx_order.specs.declared.audits.doubtful_touches.DoubtfulTouch.{DoubtfulTouch}
 use Rattle.epx_order.specs.inner.Batches.{AreSharing}
 use Rattle.epx_order.specs.inner.SourceBits.{has_bit, AreSourceMarks, HasBitsOf}
 use Rattle.epx_order.proofs.BitLemmas.{or_at}

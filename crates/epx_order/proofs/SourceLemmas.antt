@@ -6,7 +6,7 @@ use Rattle.std.proofs.lemmas.Bool.{cases_lt}
 use Rattle.std.proofs.lemmas.List.{get_or_default, get_or-take, get_or-drop}
 use Rattle.std.proofs.lemmas.List.Elements.{All-from_get_or}
 use Rattle.epx_types.specs.Instances.{Instance}
-use Rattle.epx_order.specs.declared.doubtful_touches.DoubtfulTouch.{DoubtfulTouch}
+use Rattle.epx_order.specs.declared.audits.doubtful_touches.DoubtfulTouch.{DoubtfulTouch}
 use Rattle.epx_order.specs.inner.DoubtfulKeys.{AreInRange, HoldAllConflicts}
 use Rattle.epx_order.specs.inner.NodeConflicts.{IsSettled}
 use Rattle.epx_order.specs.inner.ReadyMarks.{is_marked}

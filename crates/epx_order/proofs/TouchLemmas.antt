@@ -9,7 +9,7 @@ use Rattle.epx_types.proofs.keys.KeyListLemmas.{Contains-from_rising_keys}
 use Rattle.epx_types.proofs.lists.MembershipLemmas.{Contains-nil, Contains-head, Contains-cons}
 use Rattle.epx_types.proofs.lists.MembershipLemmas.{Contains-cons_cases, Contains-flat_map}
 use Rattle.epx_types.proofs.lists.MembershipLemmas.{Contains-from_flat_map}
-use Rattle.epx_order.specs.declared.touches.Touch.{Touch}
+use Rattle.epx_order.specs.declared.audits.touches.Touch.{Touch}
 use Rattle.epx_order.specs.inner.Touches.{touch, touches_by, touches_of}
 
 only_one : {X : Type 0} (y x : X) → Contains (y ∷ []) x → y ≡ x

@@ -7,14 +7,19 @@ ghost use Rattle.epx_order.specs.OrderFaults.{IsOrderFault};
 ghost use Rattle.epx_components.specs.Partitions.{parts};
 ghost use Rattle.epx_order.specs.inner.SequenceKeys.{ComesBefore, AreNodesInOrder, IsNodeFault};
 
-use crate::ends::{find_ends, find_ends_below};
-use crate::node_list::{first_unlisted, list_nodes, ready_nodes};
+mod ends;
+mod node_list;
+mod sequence_key;
+
 use crate::order_fault::OrderFault;
-use crate::sequence_key::SequenceKey;
+use crate::ready_nodes::ready_nodes;
+use ends::{find_ends, find_ends_below};
 use epx_components::{Partition, find_components};
 use epx_graph::Graph;
 use epx_merge::Merged;
 use epx_types::{Id, Memory};
+use node_list::{first_unlisted, list_nodes};
+use sequence_key::SequenceKey;
 use std::alloc::Global;
 
 /// Checks that a list is an order that the protocol allows. The time is linear in the instances

@@ -5,31 +5,19 @@
 //! they are, all orders that the protocol allows have the same replies and the same store.
 #![tactic(auto)]
 
-mod batch;
+mod audits;
 mod check;
-mod conflicts;
-mod doubtful_touches;
-mod ends;
 mod execution_order;
 pub mod laws;
-mod node_list;
 mod order_fault;
 mod order_list;
-mod quick_audit;
 mod rank;
-mod reach_index;
 mod ready;
-mod related;
-mod search;
-mod sequence_key;
-mod sharing_marks;
-mod source_marks;
-mod touches;
-mod uncovered_pair;
+mod ready_nodes;
 
+pub use audits::audit;
 pub use check::check_order;
 pub use epx_components::{ComponentMap, components};
 pub use execution_order::order;
 pub use order_fault::OrderFault;
 pub use order_list::OrderList;
-pub use uncovered_pair::audit;

@@ -9,8 +9,8 @@ use Rattle.epx_devices.specs.Transfers.{AppendsPrefix}
 use Rattle.epx_words.specs.declared.words.Task.{Task}
 use Rattle.epx_words.specs.declared.words.Task.TheVariants.{Run, Order, Levels, Graph, Resume}
 use Rattle.epx_words.specs.declared.words.Task.TheVariants.{Audit, Check}
-use Rattle.epx_base.specs.Bases.{IsBadBase}
-use Rattle.epx_base.specs.Lists.{IsBadList}
+use Rattle.epx_report.specs.Bases.{IsBadBase}
+use Rattle.epx_report.specs.Lists.{IsBadList}
 use Rattle.epx_tool.specs.Answer.{Answers}
 use Rattle.epx_tool.specs.RunsWithInput.{IsRunFaultWithInput}
 use Rattle.epx_tool.specs.CheckAnswers.{Checks, IsCheckText}

@@ -18,7 +18,8 @@ use Rattle.epx_tool.specs.declared.ask.Ask.TheVariants.{Order, Levels, Audit, Gr
 use Rattle.epx_tool.specs.Report.{IsReport, report_text, commands_of}
 use Rattle.epx_tool.specs.OrderText.{IsOrderText, order_text}
 use Rattle.epx_tool.specs.LevelText.{IsLevelText, level_text}
-use Rattle.epx_tool.specs.AuditText.{IsAuditText, covered_line, uncovered_line}
+use Rattle.epx_tool.specs.AuditText.{IsAuditText}
+use Rattle.epx_report.specs.ViewLines.{covered_line, uncovered_line}
 use Rattle.epx_tool.specs.Views.{IsViewText}
 use Rattle.epx_tool.specs.Answer.{Answers}
 

@@ -4,11 +4,12 @@ use Rattle.epx_types.specs.declared.id.Id.{Id}
 use Rattle.epx_types.specs.Ids.{IsRising}
 use Rattle.epx_types.specs.Instances.{Instance}
 use Rattle.epx_types.specs.CommittedMap.{ids_of}
-use Rattle.epx_base.specs.Lists.{IsBadList}
-use Rattle.epx_base.proofs.ListLemmas.{list_or_bad_list}
+use Rattle.epx_report.specs.Lists.{IsBadList}
+use Rattle.epx_report.proofs.ListLemmas.{list_or_bad_list}
 use Rattle.epx_tool.specs.CheckAnswers.{IsCheckText}
 use Rattle.epx_tool.specs.CheckLaws.{CheckExists, CheckIsOne}
-use Rattle.epx_tool.specs.Verdicts.{IsVerdict, lawful_text, order_fault_text}
+use Rattle.epx_tool.specs.Verdicts.{IsVerdict, order_fault_text}
+use Rattle.epx_report.specs.ViewLines.{lawful_line}
 use Rattle.epx_tool.proofs.AnswerWithInputLemmas.{answer_with_input_exists}
 use Rattle.epx_order.proofs.OrderFaultLemmas.{lawful_or_fault}
 use Rattle.epx_tool.proofs.UniqueAnswerWithInputLemmas.{AnswersWithInput-unique}
@@ -18,7 +19,7 @@ verdict_exists : (m : List Instance) (ids : List Id) → IsRising (ids_of m)
     → (text : List ℕ) × IsVerdict m ids text
 verdict_exists m ids rising =
     elim (lawful_or_fault m ids rising) [
-      | inl lawful ↦ (lawful_text, inl (lawful, refl))
+      | inl lawful ↦ (lawful_line, inl (lawful, refl))
       | inr fault ↦ (order_fault_text fault.0, inr (fault.0, fault.1, fault.2, refl))
     ]
 

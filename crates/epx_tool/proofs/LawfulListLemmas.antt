@@ -12,9 +12,9 @@ use Rattle.epx_types.proofs.orders.ExecutionOrderLemmas.{IsExecutionOrder-IsLawf
 use Rattle.epx_types.proofs.orders.LawfulExecutionLemmas.{final-lawful, reply-lawful}
 use Rattle.epx_merge.specs.Acceptance.{IsAccepted}
 use Rattle.epx_merge.proofs.UniquenessLemmas.{accepted_unique}
-use Rattle.epx_base.specs.Lists.{IsList}
+use Rattle.epx_report.specs.Lists.{IsList}
 use Rattle.epx_tool.specs.Report.{ops_found, commands_of}
-use Rattle.epx_tool.specs.Verdicts.{lawful_text}
+use Rattle.epx_report.specs.ViewLines.{lawful_line}
 use Rattle.epx_tool.specs.CheckAnswers.{Checks}
 use Rattle.epx_tool.specs.CheckLaws.{LawfulTextMeansLawful, LawfulListExecutesAlike}
 use Rattle.epx_tool.proofs.VerdictLemmas.{lawful-from_verdict}
@@ -22,7 +22,7 @@ use Rattle.epx_tool.proofs.VerdictLemmas.{lawful-from_verdict}
 -- ---- reported as lawful
 
 lawful_if_reported : (list : List ℕ) (logs : List (List ℕ)) (ids : List Id) (m : List Instance)
-    → IsList list ids → IsAccepted logs m → Checks list logs (Ok lawful_text) → IsLawful m ids
+    → IsList list ids → IsAccepted logs m → Checks list logs (Ok lawful_line) → IsLawful m ids
 lawful_if_reported list logs ids m is accepted said =
     let same : said.1.0 ≡ m = accepted_unique logs said.1.0 m said.1.1 accepted in
     let read = said.1.2.1 in

@@ -1,11 +1,15 @@
 -- How a run ends, by how reading its sources and merging their logs ended.
 use Rattle.std.proofs.Common.{◌≡◌, ◌+◌, ◌<◌, ◌↔◌, ℕ, Bool, true, List, length, drop, Option, Some}
 use Rattle.std.proofs.Common.{slice_get, Result, Ok, Err, IsErrOf, MatchResult, Vec, Global, inl}
-use Rattle.std.proofs.Common.{inr, [], ◌∷◌, sym, subst}
+use Rattle.std.proofs.Common.{inr, [], ◌∷◌, false, sym, subst}
+use Rattle.std.proofs.lemmas.Result.{on_ok_weaker, IfErr-weaker}
+use Rattle.std.specs.Io.KnownBytes.{Appends}
+use Rattle.std.specs.Prelude.{OnOk, IfErr, IsErr}
 use Rattle.epx_types.specs.declared.fault.Fault.{Fault}
 use Rattle.epx_types.specs.declared.fault.Fault.TheVariants.{Memory, TooManyLogs, Read, Write}
 use Rattle.epx_types.specs.Instances.{Instance}
 use Rattle.epx_devices.specs.Deliveries.{FailRelation, ReadRelation}
+use Rattle.epx_devices.specs.Transfers.{AppendsPrefix}
 use Rattle.epx_merge.specs.Acceptance.{IsAccepted}
 use Rattle.epx_merge.specs.LaterLogs.{IsMergeWith}
 use Rattle.epx_merge.specs.Limits.{max_logs, max_log_bytes}
@@ -15,10 +19,12 @@ use Rattle.epx_tool.specs.Answer.{Answers}
 use Rattle.epx_tool.specs.Delivered.{EndsWithout}
 use Rattle.epx_tool.specs.Runs.{AreBytesOf, IsRunFault}
 use Rattle.epx_tool.specs.Sources.{EachConsumesUpTo, StopsAt}
+use Rattle.epx_tool.specs.inner.RunEndings.{EndsRun}
 use Rattle.epx_tool.specs.inner.SourceReadings.{EndsReading, EndsMerging, logs_after}
 use Rattle.epx_tool.proofs.ReturnedFaultLemmas.{same_error, same_error_iff, same_stop}
 use Rattle.epx_tool.proofs.ReturnedFaultLemmas.{read_iff, too_many_iff, HasRead-refused}
-use Rattle.epx_tool.proofs.ReturnedFaultLemmas.{refusal_not_write}
+use Rattle.epx_tool.proofs.ReturnedFaultLemmas.{refusal_not_write, HasRead-written, neither}
+use Rattle.epx_tool.proofs.ReturnedFaultLemmas.{written_iff, on_ok, keeps_itself}
 use Rattle.epx_tool.proofs.ReturnedFaultLemmas.{run_fault_of_sources, run_fault_of_refusal}
 
 module _ {S : Type 0} (remaining : S → Option (List ℕ)) (reads : ReadRelation S)
@@ -112,3 +118,67 @@ module _ {S : Type 0} (remaining : S → Option (List ℕ)) (reads : ReadRelatio
         known = λ given are. subst (λ (ls : List (List ℕ)). Answers Is ls (Ok text))
             (h.1.bytes given are) answer;
       }
+
+  module _ (was : Option (List ℕ)) (is_flushed sink_failed : Bool) where
+    -- nothing was written to the sink
+    pub ends_unwritten : (fault : Fault) → sink_failed ≡ false
+        → EndsUnwritten remaining reads fails has_failed Is old new fault
+        → EndsRun remaining reads fails has_failed Is old new was was is_flushed sink_failed
+        (Err fault)
+    ends_unwritten fault well h = record {
+      text = tt;
+      answered = tt;
+      flushed = tt;
+      refusal = h.refusal;
+      refused = λ other. h.refused;
+      nothing = λ other. keeps_itself was;
+      prefix = λ is. absurd (h.not_written is);
+      part = λ is. absurd (h.not_written is);
+      read = h.read;
+      written = neither _ _ h.not_written well;
+      taken = h.taken;
+      ended = tt;
+      no_further = h.no_further;
+      too_many = h.too_many;
+      none_read = h.none_read;
+    }
+
+    -- the text was written, whole or in part
+    pub ends_written : (now : Option (List ℕ)) (text : List ℕ) (done : Result (Unit {0}) Fault)
+        → AreAnswered remaining reads fails has_failed Is old new text
+        → OnOk done (Appends was now text) → OnOk done (is_flushed ≡ true)
+        → IfErr done (λ fault. fault ≡ Write) → IsErr done ↔ (sink_failed ≡ true)
+        → AppendsPrefix was now text
+        → EndsRun remaining reads fails has_failed Is old new was now is_flushed sink_failed done
+    ends_written now text done h bytes flushed faults failed prefix =
+        let has = HasRead-written done faults in record {
+          text = on_ok_weaker done (λ written given are. (text, h.known given are, written)) bytes;
+          answered = on_ok_weaker done (λ written. record {
+            logs = h.logs;
+            delivered = h.read.delivered;
+            text = text;
+            answer = h.answer;
+            written = written;
+          }) bytes;
+          flushed = flushed;
+          refusal = IfErr-weaker done _ _ (λ fault is given are.
+              subst (IsRunFault Is given) (sym is) (text, h.known given are)) faults;
+          refused = IfErr-weaker done _ _ (λ fault is other. absurd (other is)) faults;
+          nothing = IfErr-weaker done _ _ (λ fault is other. absurd (other is)) faults;
+          prefix = λ is given are. (text, h.known given are, prefix);
+          part = λ is. record {
+            logs = h.logs;
+            delivered = h.read.delivered;
+            text = text;
+            answer = h.answer;
+            written = prefix;
+          };
+          read = λ log source there.
+              read_iff done has h.logs _ log (h.read.failed log source there);
+          written = written_iff done _ faults failed;
+          taken = h.read.taken;
+          ended = on_ok done _ h.read.ended;
+          no_further = λ log stops. absurd (has.not_stopped log stops);
+          too_many = too_many_iff done has h.logs _ h.read.too_many;
+          none_read = λ is. absurd (has.not_too_many is);
+        }

@@ -6,8 +6,8 @@ use Rattle.std.proofs.lemmas.Option.{slice_get_within, get_or_from_slice_get}
 use Rattle.epx_types.specs.declared.id.Id.{Id}
 use Rattle.epx_types.specs.ExecutionOrder.{Ranked, ranked_ids}
 use Rattle.epx_types.proofs.lists.ListPositionLemmas.{slice_get-map}
-use Rattle.epx_base.specs.ReportLines.{line_of}
-use Rattle.epx_tool.specs.OrderText.{order_data, order_line}
+use Rattle.epx_report.specs.ReportLines.{line_of}
+use Rattle.epx_report.specs.ViewLines.{order_data, order_line}
 
 -- the parts of a line, each looked up by its position, are those of one instance
 pub line_at : (order : List Ranked) (k : ℕ) (ids : List Id) (d : Id) (depth : ℕ) (leader : Id)

@@ -17,12 +17,12 @@ use Rattle.epx_types.proofs.remaining.RemainingLemmas.{Contains-remaining_iff, r
 use Rattle.epx_types.proofs.orders.ExecutionOrderLemmas.{IsExecutionOrder-IsLawful}
 use Rattle.epx_types.proofs.commands.ExecutionLemmas.{length-replies}
 use Rattle.epx_types.proofs.lists.MembershipLemmas.{Contains-from_map}
-use Rattle.epx_base.specs.Bases.{IsBase}
-use Rattle.epx_base.specs.ReportLines.{header_line, done_line, reply_line, waiting_line}
-use Rattle.epx_base.specs.ReportLines.{store_line}
-use Rattle.epx_base.specs.ReportBases.{replied_ids, AreLinesInOrder, AreDoneAfter}
-use Rattle.epx_base.specs.ReportReadings.{ReportData, text_of_report}
-use Rattle.epx_base.proofs.ReportBaseLemmas.{report_is_a_base}
+use Rattle.epx_report.specs.Bases.{IsBase}
+use Rattle.epx_report.specs.ReportLines.{header_line, done_line, reply_line, waiting_line}
+use Rattle.epx_report.specs.ReportLines.{store_line}
+use Rattle.epx_report.specs.ReportBases.{replied_ids, AreLinesInOrder, AreDoneAfter}
+use Rattle.epx_report.specs.ReportReadings.{ReportData, text_of_report}
+use Rattle.epx_report.proofs.ReportBaseLemmas.{report_is_a_base}
 use Rattle.epx_tool.specs.Report.{IsReport, commands_of, ops_found, report_text}
 use Rattle.epx_tool.specs.ResumedReport.{IsReportAfter}
 use Rattle.epx_tool.specs.ResumptionLaws.{ReportIsAfterNothing, ReportIsBase, reported_of, run_in}

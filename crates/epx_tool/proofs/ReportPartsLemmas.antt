@@ -7,8 +7,8 @@ use Rattle.epx_types.specs.declared.reply.Reply.{Reply}
 use Rattle.epx_types.specs.Contents.{Contents}
 use Rattle.epx_types.specs.ExecutionOrder.{Ranked, ranked_ids, component_count}
 use Rattle.epx_types.specs.WaitingLists.{Waiting}
-use Rattle.epx_base.specs.ReportLines.{header_line, done_line, reply_line, waiting_line}
-use Rattle.epx_base.specs.ReportLines.{store_line}
+use Rattle.epx_report.specs.ReportLines.{header_line, done_line, reply_line, waiting_line}
+use Rattle.epx_report.specs.ReportLines.{store_line}
 use Rattle.epx_tool.specs.ResumedReport.{resumed_text}
 use Rattle.epx_tool.specs.inner.ReportParts.{instance_text}
 

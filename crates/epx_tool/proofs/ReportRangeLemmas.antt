@@ -43,12 +43,12 @@ use Rattle.epx_lines.specs.declared.Line.TheVariants.{Blank, Entry}
 use Rattle.epx_merge.specs.Limits.{max_instances}
 use Rattle.epx_merge.specs.LogLines.{MeaningAt, meanings_in, meanings_from, meanings_of, placed_at}
 use Rattle.epx_merge.specs.Acceptance.{IsAccepted}
-use Rattle.epx_base.specs.ReportReadings.{FitsNumbers, FitsReply, FitsReportData}
-use Rattle.epx_base.proofs.JsonStringLemmas.{by_test}
-use Rattle.epx_base.proofs.LineRangeLemmas.{IsStoreKey, FitsCommand, FitsInstance, IfEntry}
-use Rattle.epx_base.proofs.LineRangeLemmas.{line_fits, of_all}
-use Rattle.epx_base.proofs.BaseRangeLemmas.{FitsBase}
-use Rattle.epx_base.proofs.ExecutionRangeLemmas.{execute_fits}
+use Rattle.epx_report.specs.ReportReadings.{FitsNumbers, FitsReply, FitsReportData}
+use Rattle.epx_report.proofs.JsonStringLemmas.{by_test}
+use Rattle.epx_report.proofs.LineRangeLemmas.{IsStoreKey, FitsCommand, FitsInstance, IfEntry}
+use Rattle.epx_report.proofs.LineRangeLemmas.{line_fits, of_all}
+use Rattle.epx_report.proofs.BaseRangeLemmas.{FitsBase}
+use Rattle.epx_report.proofs.ExecutionRangeLemmas.{execute_fits}
 use Rattle.epx_tool.specs.Report.{ops_found, commands_of}
 use Rattle.epx_tool.specs.ResumedReport.{IsReportAfter}
 use Rattle.epx_tool.specs.ResumptionLaws.{reported_of, run_in}

@@ -22,11 +22,11 @@ use Rattle.epx_types.proofs.remaining.ResumedExecutionLemmas.{IsSound-resumed, I
 use Rattle.epx_types.proofs.remaining.ResumedExecutionLemmas.{reply-resumed}
 use Rattle.epx_merge.specs.Acceptance.{IsAccepted}
 use Rattle.epx_merge.proofs.UniquenessLemmas.{accepted_unique}
-use Rattle.epx_base.specs.Bases.{IsBase}
-use Rattle.epx_base.proofs.BaseRangeLemmas.{FitsBase, base_fits, empty_fits}
-use Rattle.epx_base.proofs.RisingListLemmas.{same_ids}
-use Rattle.epx_base.proofs.DoneInstanceLemmas.{base_done_rise}
-use Rattle.epx_base.proofs.ReportBaseLemmas.{done_after_exists}
+use Rattle.epx_report.specs.Bases.{IsBase}
+use Rattle.epx_report.proofs.BaseRangeLemmas.{FitsBase, base_fits, empty_fits}
+use Rattle.epx_report.proofs.RisingListLemmas.{same_ids}
+use Rattle.epx_report.proofs.DoneInstanceLemmas.{base_done_rise}
+use Rattle.epx_report.proofs.ReportBaseLemmas.{done_after_exists}
 use Rattle.epx_tool.specs.Report.{commands_of}
 use Rattle.epx_tool.specs.ResumedReport.{IsReportAfter}
 use Rattle.epx_tool.specs.Resumption.{IsResumedText}

@@ -12,8 +12,8 @@ use Rattle.epx_types.proofs.orders.ExecutionOrderLemmas.{IsExecutionOrder-unique
 use Rattle.epx_types.proofs.graph.WaitingListLemmas.{IsWaitingList-unique}
 use Rattle.epx_types.proofs.orders.OrderExistenceLemmas.{execution_order_exists}
 use Rattle.epx_types.proofs.orders.OrderExistenceLemmas.{waiting_list_exists}
-use Rattle.epx_base.specs.Bases.{IsBadBase}
-use Rattle.epx_base.proofs.BaseLemmas.{base_or_bad_base}
+use Rattle.epx_report.specs.Bases.{IsBadBase}
+use Rattle.epx_report.proofs.BaseLemmas.{base_or_bad_base}
 use Rattle.epx_tool.specs.Report.{commands_of}
 use Rattle.epx_tool.specs.ResumedReport.{IsReportAfter, resumed_text}
 use Rattle.epx_tool.specs.Resumption.{IsResumedText}

@@ -15,7 +15,8 @@ use Rattle.epx_merge.proofs.UniquenessLemmas.{refusal_unique}
 use Rattle.epx_tool.specs.Report.{IsReport, report_text, commands_of}
 use Rattle.epx_tool.specs.OrderText.{IsOrderText, order_text}
 use Rattle.epx_tool.specs.LevelText.{IsLevelText, level_text}
-use Rattle.epx_tool.specs.AuditText.{IsAuditText, uncovered_line}
+use Rattle.epx_tool.specs.AuditText.{IsAuditText}
+use Rattle.epx_report.specs.ViewLines.{uncovered_line}
 use Rattle.epx_picture.proofs.UniquePictureLemmas.{picture_is_one}
 use Rattle.epx_order.proofs.UniquePairLemmas.{uncovered_not_covered, least_uncovered_is_one}
 use Rattle.epx_tool.specs.declared.ask.Ask.{Ask}

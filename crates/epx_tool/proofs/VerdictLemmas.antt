@@ -10,17 +10,18 @@ use Rattle.epx_order.specs.declared.order_fault.OrderFault.TheVariants.{Memory, 
 use Rattle.epx_order.specs.declared.order_fault.OrderFault.TheVariants.{Missing, Early, Sequence}
 use Rattle.epx_order.specs.OrderFaults.{IsOrderFault}
 use Rattle.epx_order.proofs.UniqueFaultLemmas.{fault_is_one, lawful_has_no_fault}
-use Rattle.epx_tool.specs.Verdicts.{lawful_text, order_fault_text, IsVerdict}
+use Rattle.epx_tool.specs.Verdicts.{order_fault_text, IsVerdict}
+use Rattle.epx_report.specs.ViewLines.{lawful_line}
 
 -- no fault has the text of a lawful order
-lawful_text-apart : (fault : OrderFault) → ¬ (lawful_text ≡ order_fault_text fault)
+lawful_line-apart : (fault : OrderFault) → ¬ (lawful_line ≡ order_fault_text fault)
 unfolding escape_byte
-lawful_text-apart Memory e = cc e
-lawful_text-apart (Stranger place) e = cc e
-lawful_text-apart (Repeat place) e = cc e
-lawful_text-apart (Missing x) e = cc e
-lawful_text-apart (Early place) e = cc e
-lawful_text-apart (Sequence place) e = cc e
+lawful_line-apart Memory e = cc e
+lawful_line-apart (Stranger place) e = cc e
+lawful_line-apart (Repeat place) e = cc e
+lawful_line-apart (Missing x) e = cc e
+lawful_line-apart (Early place) e = cc e
+lawful_line-apart (Sequence place) e = cc e
 
 module _ (m : List Instance) (ids : List Id) where
   pub IsVerdict-unique : (text other : List ℕ) → IsVerdict m ids text → IsVerdict m ids other
@@ -31,14 +32,14 @@ module _ (m : List Instance) (ids : List Id) where
   IsVerdict-unique text other (inr a) (inr b) =
       a.3 ∙ ap order_fault_text (fault_is_one m ids a.0 b.0 a.1 b.1 a.2 b.2) ∙ sym b.3
 
-  pub lawful-from_verdict : IsVerdict m ids lawful_text → IsLawful m ids
+  pub lawful-from_verdict : IsVerdict m ids lawful_line → IsLawful m ids
   lawful-from_verdict (inl a) = a.0
-  lawful-from_verdict (inr a) = absurd (lawful_text-apart a.0 a.3)
+  lawful-from_verdict (inr a) = absurd (lawful_line-apart a.0 a.3)
 
   -- the line of what a check found is the verdict
   pub IsVerdict-printed : {T : Type 0} (found : Result T OrderFault) (text : List ℕ)
       → MatchResult found (λ _. IsLawful m ids) (IsOrderFault m ids)
-      → MatchResult found (λ _. text ≡ lawful_text)
+      → MatchResult found (λ _. text ≡ lawful_line)
       (λ fault. (fault ≢ Memory) × (text ≡ order_fault_text fault))
       → IsVerdict m ids text
   IsVerdict-printed (Ok x) text lawful printed = inl (lawful, printed)

@@ -3,7 +3,7 @@ use Rattle.std.specs.Prelude.{ℕ, List, Result}
 use Rattle.epx_types.specs.declared.id.Id.{Id}
 use Rattle.epx_types.specs.declared.fault.Fault.{Fault}
 use Rattle.epx_types.specs.Instances.{Instance}
-use Rattle.epx_base.specs.Lists.{IsList, IsBadList}
+use Rattle.epx_report.specs.Lists.{IsList, IsBadList}
 use Rattle.epx_tool.specs.WithInput.{AnswersWithInput}
 use Rattle.epx_tool.specs.Verdicts.{IsVerdict}
 

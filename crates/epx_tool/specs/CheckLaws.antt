@@ -10,10 +10,10 @@ use Rattle.epx_types.specs.Execution.{execute, Execution}
 use Rattle.epx_types.specs.ExecutionOrder.{Ranked, IsExecutionOrder, ranked_ids}
 use Rattle.epx_types.specs.LawfulOrders.{IsLawful, commands_in}
 use Rattle.epx_merge.specs.Acceptance.{IsAccepted}
-use Rattle.epx_base.specs.Lists.{IsList}
+use Rattle.epx_report.specs.Lists.{IsList}
 use Rattle.epx_tool.specs.WithInput.{IsShort}
 use Rattle.epx_tool.specs.Report.{commands_of}
-use Rattle.epx_tool.specs.Verdicts.{lawful_text}
+use Rattle.epx_report.specs.ViewLines.{lawful_line}
 use Rattle.epx_tool.specs.CheckAnswers.{Checks}
 
 -- a list and logs have an answer other than out of memory
@@ -30,7 +30,7 @@ CheckIsOne = (list : List ℕ) (logs : List (List ℕ)) (a b : Result (List ℕ)
 abbrev pub LawfulTextMeansLawful : Type 0
 LawfulTextMeansLawful = (list : List ℕ) (logs : List (List ℕ)) (ids : List Id) (m : List Instance)
     → IsShort list → IsList list ids → IsAccepted logs m →
-    Checks list logs (Ok lawful_text) ↔ IsLawful m ids
+    Checks list logs (Ok lawful_line) ↔ IsLawful m ids
 
 -- two runs have the same final contents, and each instance has the same reply in both, at whatever
 -- positions the two orders have it
@@ -43,7 +43,7 @@ pub record ExecuteAlike (ids other : List Id) (run run' : Execution) : Type 0 wh
 -- the logs: from the empty store, with the same replies and the same final store
 abbrev pub LawfulListExecutesAlike : Type 0
 LawfulListExecutesAlike = (list : List ℕ) (logs : List (List ℕ))
-    → Checks list logs (Ok lawful_text) → (ids : List Id) (m : List Instance) → IsList list ids
+    → Checks list logs (Ok lawful_line) → (ids : List Id) (m : List Instance) → IsList list ids
     → IsAccepted logs m → IsCovered m →
     (order : List Ranked) → IsExecutionOrder m order
     → ExecuteAlike ids (ranked_ids order) (execute (commands_in m ids) contents.empty)

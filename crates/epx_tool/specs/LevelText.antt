@@ -1,21 +1,12 @@
 -- The text of the conflict levels.
-use Rattle.std.specs.Prelude.{◌≡◌, ℕ, List, [], ◌∷◌, ◌++◌, length, flat_map, zip, codes}
-use Rattle.serde_json.specs.Data.{Data, string}
-use Rattle.epx_types.specs.declared.id.Id.{Id}
+use Rattle.std.specs.Prelude.{◌≡◌, ℕ, List, ◌++◌, length, flat_map, zip}
 use Rattle.epx_types.specs.Instances.{Instance}
 use Rattle.epx_types.specs.ExecutionOrder.{Ranked, IsExecutionOrder, ranked_ids, component_count}
 use Rattle.epx_types.specs.Levels.{AreLevels}
 use Rattle.epx_types.specs.WaitingLists.{Waiting, IsWaitingList}
 use Rattle.epx_tool.specs.Report.{commands_of}
-use Rattle.epx_base.specs.ReportLines.{data_of_number, line_of, header_line, waiting_line}
-
--- an instance and the level of its command
-abbrev pub level_data : Id → ℕ → List Data
-level_data x level = string (codes "level") ∷ data_of_number x.replica ∷ data_of_number x.number
-    ∷ data_of_number level ∷ []
-
-abbrev pub level_line : Id × ℕ → List ℕ
-level_line p = line_of (level_data p.0 p.1)
+use Rattle.epx_report.specs.ReportLines.{header_line, waiting_line}
+use Rattle.epx_report.specs.ViewLines.{level_line}
 
 -- the header of the report, the ready instances in execution order with the levels of their
 -- commands, and the instances that wait

@@ -1,4 +1,4 @@
-pub use Rattle.epx_base.specs.ReportLines
+pub use Rattle.epx_report.specs.ReportLines
 pub mod Report
 pub mod ResumedReport
 pub mod OrderText

@@ -1,20 +1,10 @@
 -- The text of the execution order.
-use Rattle.std.specs.Prelude.{◌≡◌, ℕ, List, [], ◌∷◌, ◌++◌, length, flat_map, codes}
-use Rattle.serde_json.specs.Data.{Data, string}
-use Rattle.epx_types.specs.declared.id.Id.{Id}
+use Rattle.std.specs.Prelude.{◌≡◌, ℕ, List, ◌++◌, length, flat_map}
 use Rattle.epx_types.specs.Instances.{Instance}
 use Rattle.epx_types.specs.ExecutionOrder.{Ranked, IsExecutionOrder, component_count}
 use Rattle.epx_types.specs.WaitingLists.{Waiting, IsWaitingList}
-use Rattle.epx_base.specs.ReportLines.{data_of_number, line_of, header_line, waiting_line}
-
--- an instance, its depth and its leader
-abbrev pub order_data : Id → ℕ → Id → List Data
-order_data x depth leader = string (codes "order") ∷ data_of_number x.replica
-    ∷ data_of_number x.number ∷ data_of_number depth ∷ data_of_number leader.replica
-    ∷ data_of_number leader.number ∷ []
-
-abbrev pub order_line : Ranked → List ℕ
-order_line r = line_of (order_data r.id r.depth r.leader)
+use Rattle.epx_report.specs.ReportLines.{header_line, waiting_line}
+use Rattle.epx_report.specs.ViewLines.{order_line}
 
 -- the header of the report, the ready instances in execution order with depth and leader, and the
 -- instances that wait

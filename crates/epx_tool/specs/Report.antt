@@ -8,7 +8,7 @@ use Rattle.epx_types.specs.CommittedMap.{instance_of}
 use Rattle.epx_types.specs.Execution.{execute, Execution}
 use Rattle.epx_types.specs.ExecutionOrder.{Ranked, IsExecutionOrder, ranked_ids, component_count}
 use Rattle.epx_types.specs.WaitingLists.{Waiting, IsWaitingList}
-use Rattle.epx_base.specs.ReportLines.{header_line, reply_line, waiting_line, store_line}
+use Rattle.epx_report.specs.ReportLines.{header_line, reply_line, waiting_line, store_line}
 
 abbrev pub ops_found : Option Instance → List Op
 ops_found None = []

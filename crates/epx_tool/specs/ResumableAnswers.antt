@@ -14,7 +14,7 @@ use Rattle.epx_types.specs.ExecutionOrder.{Ranked, IsExecutionOrder, ranked_ids}
 use Rattle.epx_types.specs.Readiness.{IsReady}
 use Rattle.epx_types.specs.Sound.{IsSound, HasRemaining}
 use Rattle.epx_merge.specs.Acceptance.{IsAccepted}
-use Rattle.epx_base.specs.Bases.{IsBase}
+use Rattle.epx_report.specs.Bases.{IsBase}
 use Rattle.epx_tool.specs.Answer.{IsAnswer}
 use Rattle.epx_tool.specs.Report.{IsReport, commands_of}
 use Rattle.epx_tool.specs.ResumedReport.{IsReportAfter}

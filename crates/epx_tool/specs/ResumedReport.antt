@@ -8,8 +8,8 @@ use Rattle.epx_types.specs.Done.{remaining}
 use Rattle.epx_types.specs.Execution.{execute, Execution}
 use Rattle.epx_types.specs.ExecutionOrder.{Ranked, IsExecutionOrder, ranked_ids, component_count}
 use Rattle.epx_types.specs.WaitingLists.{Waiting, IsWaitingList}
-use Rattle.epx_base.specs.ReportLines.{header_line, done_line, reply_line, waiting_line}
-use Rattle.epx_base.specs.ReportLines.{store_line}
+use Rattle.epx_report.specs.ReportLines.{header_line, done_line, reply_line, waiting_line}
+use Rattle.epx_report.specs.ReportLines.{store_line}
 use Rattle.epx_tool.specs.Report.{commands_of}
 
 -- the header, the done instances, the replies in execution order, the instances that wait, and the

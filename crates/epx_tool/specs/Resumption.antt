@@ -4,7 +4,7 @@ use Rattle.epx_types.specs.declared.id.Id.{Id}
 use Rattle.epx_types.specs.declared.fault.Fault.{Fault}
 use Rattle.epx_types.specs.Contents.{Contents}
 use Rattle.epx_types.specs.Instances.{Instance}
-use Rattle.epx_base.specs.Bases.{IsBase, IsBadBase}
+use Rattle.epx_report.specs.Bases.{IsBase, IsBadBase}
 use Rattle.epx_tool.specs.ResumedReport.{IsReportAfter}
 use Rattle.epx_tool.specs.WithInput.{AnswersWithInput}
 

@@ -11,8 +11,8 @@ use Rattle.epx_types.specs.Done.{remaining}
 use Rattle.epx_types.specs.Execution.{execute, Execution}
 use Rattle.epx_types.specs.ExecutionOrder.{Ranked, ranked_ids, component_count}
 use Rattle.epx_types.specs.WaitingLists.{Waiting}
-use Rattle.epx_base.specs.Bases.{IsBase}
-use Rattle.epx_base.specs.ReportReadings.{ReportData, FitsReportData}
+use Rattle.epx_report.specs.Bases.{IsBase}
+use Rattle.epx_report.specs.ReportReadings.{ReportData, FitsReportData}
 use Rattle.epx_tool.specs.Report.{IsReport, commands_of}
 use Rattle.epx_tool.specs.ResumedReport.{IsReportAfter}
 use Rattle.epx_tool.specs.Resumption.{Resumes}

@@ -1,214 +1,38 @@
 //! The answer to logs.
-ghost use Rattle.std.specs.Prelude.{◌≡◌, ◌≤◌, ◌^◌, length, map, IfOk, OnOk, MatchResult};
-ghost use Rattle.std.specs.Prelude.{Ok, Err};
-ghost use Rattle.std.specs.Thread.{IsSync};
-ghost use Rattle.epx_types.specs.CommittedMap.{instance_of};
-ghost use Rattle.epx_types.specs.Execution.{execute};
-ghost use Rattle.epx_types.specs.Ids.{IsRising};
-ghost use Rattle.epx_types.specs.Levels.{AreLevels};
-ghost use Rattle.epx_merge.specs.Limits.{max_instances};
+ghost use Rattle.std.specs.Prelude.{MatchResult, Ok, Err};
 ghost use Rattle.epx_merge.specs.LogLines.{bytes_of};
 ghost use Rattle.epx_tool.specs.Answer.{Answers, IsAnswer};
-ghost use Rattle.epx_tool.specs.OrderText.{IsOrderText};
-ghost use Rattle.epx_tool.specs.LevelText.{IsLevelText};
-ghost use Rattle.epx_tool.specs.AuditText.{IsAuditText};
-ghost use Rattle.epx_tool.specs.Report.{ops_found, IsReport};
-ghost use Rattle.epx_tool.specs.ResumedReport.{resumed_text, IsReportAfter};
 ghost use Rattle.epx_tool.specs.Views.{IsViewText};
-ghost use Rattle.epx_picture.specs.Pictures.{IsPicture};
+ghost use Rattle.epx_tool.specs.inner.Questions.{IsTextOf};
 
 use crate::ask::Ask;
-use crate::commands::{all_commands, commands};
-use crate::report::{level_report, order_report, report};
-use crate::verdict::audit_line;
-use epx_apply::{LevelMap, levels, run_order};
+use crate::map_texts::text_of;
+use crate::question::Question;
 use epx_claims::FreeGate;
-use epx_graph::{Waiter, build, build_after, waiting};
-use epx_merge::{Merged, read_logs};
-use epx_order::{OrderList, audit, order};
-use epx_picture::picture;
-use epx_txn::Store;
-use epx_types::{Fault, Id, Memory, Plan, Reply};
+use epx_merge::read_logs;
+use epx_types::{Fault, Plan};
 use std::alloc::Global;
 use std::random::RandomSource;
-use std::thread::{Threads, join};
+use std::thread::Threads;
 
-/// The conflict levels of the commands of some instances.
-fn command_levels(alloc: Global, merged: &Merged, ids: &[Id]) -> Result<LevelMap, Memory>
-    ensures { IfOk result
-        (AreLevels (map (λ x. ops_found (instance_of merged.now x)) ids.now)) }
-{
-    let commands = commands(alloc, merged, ids)?;
-    levels(alloc, &commands)
-}
-
-/// Executes the commands of some instances on a store, and returns their replies.
-fn execute_all<R: Threads + RandomSource + Sync>(
+/// The answer to a question about logs in memory.
+fn answer_question<R: Threads + RandomSource + Sync>(
     rt: &R,
     alloc: Global,
-    merged: &Merged,
-    ids: &[Id],
-    store: &mut Store,
+    question: Question,
+    logs: &[Vec<u8>],
     plan: Plan,
-) -> Result<Vec<Reply>, Memory>
-    requires { length ids.now ≤ 2 ^ 40 }
-    ensures replies { IfOk result (λ replies. replies.items
-        ≡ (execute (map (λ x. ops_found (instance_of merged.now x)) ids.now) store.old).replies) }
-    ensures after { OnOk result (store.new
-        ≡ (execute (map (λ x. ops_found (instance_of merged.now x)) ids.now) store.old).final) }
+) -> Result<Vec<u8>, Fault>
+    ensures { let bytes = bytes_of logs.now in
+        MatchResult result (λ text. Answers (IsTextOf question) bytes (Ok text.items))
+        (λ fault. Answers (IsTextOf question) bytes (Err fault)) }
 {
-    let commands = all_commands(rt, alloc, merged, ids, plan)?;
-    run_order(rt, alloc, store, &commands, plan, &FreeGate)
-}
-
-/// Writes the report of an execution. It does not need the map. With several workers another
-/// thread frees the map at the same time.
-fn write_report<R: Threads + Sync>(
-    rt: &R,
-    alloc: Global,
-    plan: Plan,
-    merged: Merged,
-    done: &[Id],
-    order: &OrderList,
-    waiters: &[Waiter],
-    replies: &[Reply],
-    store: &Store,
-) -> Result<Vec<u8>, Memory>
-    requires few { length order.now ≤ 2 ^ 40 }
-    requires same { length replies.now ≡ length order.now }
-    ensures { IfOk result (λ text. text.items ≡ resumed_text done.now order.now waiters.now
-        (record { replies = replies.now; final = store.now })) }
-{
-    if plan.workers() == 1 {
-        drop(merged);
-        return report(rt, alloc, done, order, waiters, replies, store, plan);
-    }
-    let (_, text) = join(
-        rt,
-        move || drop(merged),
-        || -> Result<Vec<u8>, Memory>
-            requires { IsSync R.row × (length order.now ≤ 2 ^ 40)
-                × (length replies.now ≡ length order.now) }
-            ensures { IfOk result (λ text.
-                text.items ≡ resumed_text done.entry.now order.entry.now waiters.entry.now
-                (record { replies = replies.entry.now; final = store.entry.now })) }
-        { report(rt, alloc, done, order, waiters, replies, store, plan) },
-    );
-    text
-}
-
-/// Executes the remaining instances of a committed map from a store, and returns the report.
-/// `done` has the done instances by increasing Id.
-pub(crate) fn report_of<R: Threads + RandomSource + Sync>(
-    rt: &R,
-    alloc: Global,
-    merged: Merged,
-    done: &[Id],
-    mut store: Store,
-    plan: Plan,
-) -> Result<Vec<u8>, Memory>
-    requires few { length merged ≤ max_instances }
-    requires rising { IsRising done.now }
-    ensures { IfOk result (λ text. IsReportAfter done.now store merged text.items) }
-{
-    let graph = build_after(rt, alloc, &merged, done, plan)?;
-    let order = order(rt, alloc, &merged, &graph)?;
-    let waiters = waiting(alloc, &graph)?;
-    drop(graph);
-    let replies = execute_all(rt, alloc, &merged, order.ids(), &mut store, plan)?;
-    write_report(
-        rt, alloc, plan, merged, done, &order, &waiters, &replies, &store,
-    )
-}
-
-/// The report of a committed map of which nothing is done.
-pub(crate) fn whole_report<R: Threads + RandomSource + Sync>(
-    rt: &R,
-    alloc: Global,
-    merged: Merged,
-    plan: Plan,
-) -> Result<Vec<u8>, Memory>
-    requires few { length merged ≤ max_instances }
-    ensures { IfOk result (λ text. IsReport merged text.items) }
-{
-    report_of(rt, alloc, merged, &[], Store::new(alloc), plan)
-}
-
-/// The text of the execution order of a committed map.
-fn order_of<R: Threads + Sync>(
-    rt: &R,
-    alloc: Global,
-    merged: &Merged,
-    plan: Plan,
-) -> Result<Vec<u8>, Memory>
-    ensures { IfOk result (λ text. IsOrderText merged.now text.items) }
-{
-    let graph = build(rt, alloc, merged, plan)?;
-    let order = order(rt, alloc, merged, &graph)?;
-    let waiters = waiting(alloc, &graph)?;
-    order_report(alloc, &order, &waiters)
-}
-
-/// The text of the conflict levels of a committed map, in execution order.
-fn levels_of<R: Threads + Sync>(
-    rt: &R,
-    alloc: Global,
-    merged: &Merged,
-    plan: Plan,
-) -> Result<Vec<u8>, Memory>
-    ensures { IfOk result (λ text. IsLevelText merged.now text.items) }
-{
-    let graph = build(rt, alloc, merged, plan)?;
-    let order = order(rt, alloc, merged, &graph)?;
-    let waiters = waiting(alloc, &graph)?;
-    let levels = command_levels(alloc, merged, order.ids())?;
-    level_report(alloc, &order, &waiters, &levels)
-}
-
-/// The text of the audit of a committed map.
-fn audit_of<R: Threads + Sync>(
-    rt: &R,
-    alloc: Global,
-    merged: &Merged,
-    plan: Plan,
-) -> Result<Vec<u8>, Memory>
-    ensures { IfOk result (λ text. IsAuditText merged.now text.items) }
-{
-    let graph = build(rt, alloc, merged, plan)?;
-    let order = order(rt, alloc, merged, &graph)?;
-    let found = audit(alloc, merged, &graph, &order)?;
-    audit_line(alloc, found)
-}
-
-/// The picture of the dependency graph of a committed map.
-fn picture_of<R: Threads + Sync>(
-    rt: &R,
-    alloc: Global,
-    merged: &Merged,
-    plan: Plan,
-) -> Result<Vec<u8>, Memory>
-    ensures { IfOk result (λ text. IsPicture merged.now text.items) }
-{
-    let graph = build(rt, alloc, merged, plan)?;
-    picture(alloc, merged, &graph)
-}
-
-/// A view of a committed map.
-pub(crate) fn view_of<R: Threads + Sync>(
-    rt: &R,
-    alloc: Global,
-    ask: Ask,
-    merged: &Merged,
-    plan: Plan,
-) -> Result<Vec<u8>, Memory>
-    ensures { IfOk result (λ text. IsViewText ask merged.now text.items) }
-{
-    match ask {
-        Ask::Order => order_of(rt, alloc, merged, plan),
-        Ask::Levels => levels_of(rt, alloc, merged, plan),
-        Ask::Audit => audit_of(rt, alloc, merged, plan),
-        Ask::Graph => picture_of(rt, alloc, merged, plan),
-    }
+    let merged = match read_logs(rt, alloc, logs, plan, &FreeGate) {
+        Ok(merged) => merged,
+        Err(fault) => return Err(fault),
+    };
+    let text = text_of(rt, alloc, question, merged, plan)?;
+    Ok(text)
 }
 
 /// The report of the logs, or the first refusal, in this order: `TooManyLogs`, `LogTooLong`,
@@ -224,12 +48,7 @@ pub fn answer<R: Threads + RandomSource + Sync>(
         MatchResult result (λ text. IsAnswer bytes (Ok text.items))
         (λ fault. IsAnswer bytes (Err fault)) }
 {
-    let merged = match read_logs(rt, alloc, logs, plan, &FreeGate) {
-        Ok(merged) => merged,
-        Err(fault) => return Err(fault),
-    };
-    let text = whole_report(rt, alloc, merged, plan)?;
-    Ok(text)
+    answer_question(rt, alloc, Question::Report, logs, plan)
 }
 
 /// Like `answer`, but it returns a view instead of the report.
@@ -244,9 +63,5 @@ pub fn view<R: Threads + RandomSource + Sync>(
         MatchResult result (λ text. Answers (IsViewText ask) bytes (Ok text.items))
         (λ fault. Answers (IsViewText ask) bytes (Err fault)) }
 {
-    let merged = match read_logs(rt, alloc, logs, plan, &FreeGate) {
-        Ok(merged) => merged,
-        Err(fault) => return Err(fault),
-    };
-    Ok(view_of(rt, alloc, ask, &merged, plan)?)
+    answer_question(rt, alloc, Question::View(ask), logs, plan)
 }

@@ -3,7 +3,7 @@
 ghost use Rattle.std.specs.Prelude.{◌≡◌, ◌≢◌, ◌↔◌, ◌+◌, ◌<◌, ℕ, true, false, drop, length, All};
 ghost use Rattle.std.specs.Prelude.{Some, slice_get, Ok, OnOk, IfErr, IsErrOf};
 ghost use Rattle.std.specs.Io.KnownBytes.{Appends, Keeps, IsAtEnd};
-ghost use Rattle.epx_base.specs.Lists.{IsBadList};
+ghost use Rattle.epx_report.specs.Lists.{IsBadList};
 ghost use Rattle.epx_merge.specs.Limits.{max_log_bytes};
 ghost use Rattle.epx_tool.specs.CheckAnswers.{IsCheckText, Checks};
 ghost use Rattle.epx_tool.specs.Runs.{AreBytesOf};
@@ -12,9 +12,9 @@ ghost use Rattle.epx_tool.specs.Sources.{EachConsumesUpTo, StopsAt};
 ghost use Rattle.epx_tool.specs.DeliveredWithInput.{AnswersBoth, EndsWithoutBoth};
 ghost use Rattle.epx_devices.specs.Transfers.{AppendsPrefix, ConsumesUpTo};
 
-use crate::checks::check_owned;
-use crate::sources::read_with_input;
-use epx_devices::{Sink, Source, write_out};
+use crate::input_runs::run_with_input;
+use crate::question::InputQuestion;
+use epx_devices::{Sink, Source};
 use epx_merge::MAX_LOGS;
 use epx_types::{Fault, Plan};
 use std::alloc::Global;
@@ -84,13 +84,5 @@ pub fn run_check<T: Threads + RandomSource + Sync, L: Source, S: Source, W: Sink
     ensures none_read { IsErrOf result Fault.TooManyLogs → (sources.new ≡ sources.old)
         × (list.new ≡ list.old) }
 {
-    let (listed, logs) = match read_with_input(alloc, list, sources) {
-        Ok(read) => read,
-        Err(fault) => return Err(fault),
-    };
-    let text = match check_owned(rt, alloc, listed, logs, plan) {
-        Ok(text) => text,
-        Err(fault) => return Err(fault),
-    };
-    write_out(&text, sink)
+    run_with_input(rt, alloc, InputQuestion::Check, list, sources, plan, sink)
 }

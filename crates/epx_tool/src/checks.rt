@@ -1,6 +1,6 @@
 //! Checking a list of instances against the orders that the protocol allows.
 ghost use Rattle.std.specs.Prelude.{map, IfOk, MatchResult, Ok, Err};
-ghost use Rattle.epx_base.specs.Lists.{IsList, IsBadList};
+ghost use Rattle.epx_report.specs.Lists.{IsList, IsBadList};
 ghost use Rattle.epx_merge.specs.Acceptance.{IsAccepted};
 ghost use Rattle.epx_merge.specs.LogLines.{bytes_of};
 ghost use Rattle.epx_tool.specs.WithInput.{IsRefusalWithInput, IsShort};
@@ -9,10 +9,10 @@ ghost use Rattle.epx_tool.specs.Verdicts.{IsVerdict};
 
 use crate::verdict::verdict_line;
 use crate::with_input::merge_with_input;
-use epx_base::read_list;
 use epx_graph::build;
 use epx_merge::Merged;
 use epx_order::check_order;
+use epx_report::read_list;
 use epx_types::{Fault, Id, Memory, Plan};
 use std::alloc::Global;
 use std::random::RandomSource;

@@ -2,10 +2,10 @@
 ghost use Rattle.std.specs.Prelude.{◌≡◌, ◌<◌, ◌≤◌, ◌^◌, ◌++◌, length, flat_map, zip, IfOk, OnOk};
 ghost use Rattle.epx_types.specs.Pieces.{piece_count};
 ghost use Rattle.epx_claims.specs.inner.PieceItems.{items_of_piece};
-ghost use Rattle.epx_base.specs.ReportLines.{reply_line};
+ghost use Rattle.epx_report.specs.ReportLines.{reply_line};
 
-use epx_base::append_replies;
 use epx_claims::{FreeGate, append_parts, claimed_map};
+use epx_report::append_replies;
 use epx_types::{Id, Memory, Plan, Reply};
 use std::alloc::Global;
 use std::thread::Threads;

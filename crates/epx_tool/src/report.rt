@@ -2,56 +2,24 @@
 ghost use Rattle.std.specs.Prelude.{◌≡◌, ◌≤◌, ◌^◌, ◌++◌, length, flat_map, zip, OnOk, IfOk};
 ghost use Rattle.std.specs.FinMap as contents;
 ghost use Rattle.std.specs.Thread.{IsSync};
-ghost use Rattle.epx_base.specs.ReportLines.{line_of, store_line, waiting_line};
+ghost use Rattle.epx_report.specs.ReportLines.{store_line, waiting_line};
+ghost use Rattle.epx_report.specs.ViewLines.{order_line, level_line};
 ghost use Rattle.epx_tool.specs.ResumedReport.{resumed_text};
 ghost use Rattle.epx_tool.specs.inner.ReportParts.{instance_text};
-ghost use Rattle.epx_tool.specs.OrderText.{order_data, order_line, order_text};
-ghost use Rattle.epx_tool.specs.LevelText.{level_line, level_text};
+ghost use Rattle.epx_tool.specs.OrderText.{order_text};
+ghost use Rattle.epx_tool.specs.LevelText.{level_text};
 
 use crate::reply_lines::append_all_replies;
 use epx_apply::LevelMap;
-use epx_base::{
-    append_done, append_header, append_store, append_waiter, begin_line, end_line, write_id_parts,
-};
 use epx_graph::Waiter;
 use epx_order::OrderList;
+use epx_report::{
+    append_done, append_header, append_level, append_ranked, append_store, append_waiter,
+};
 use epx_txn::Store;
 use epx_types::{Id, Memory, Plan, Reply};
 use std::alloc::{AllocError, Global};
 use std::thread::{Threads, join};
-
-fn append_ranked(
-    alloc: Global,
-    text: &mut Vec<u8>,
-    line: &mut Vec<u8>,
-    id: Id,
-    depth: usize,
-    leader: Id,
-) -> Result<(), AllocError>
-    ensures { OnOk result (text.new.items ≡ text.old.items
-        ++ line_of (order_data id depth leader)) }
-{
-    let mut out = begin_line(alloc, line, "order")?;
-    write_id_parts(&mut out, id)?;
-    out.u64(depth as u64)?;
-    write_id_parts(&mut out, leader)?;
-    end_line(text, line, out)
-}
-
-fn append_level(
-    alloc: Global,
-    text: &mut Vec<u8>,
-    line: &mut Vec<u8>,
-    id: Id,
-    level: usize,
-) -> Result<(), AllocError>
-    ensures { OnOk result (text.new.items ≡ text.old.items ++ level_line (id, level)) }
-{
-    let mut out = begin_line(alloc, line, "level")?;
-    write_id_parts(&mut out, id)?;
-    out.u64(level as u64)?;
-    end_line(text, line, out)
-}
 
 fn append_waiting(alloc: Global, text: &mut Vec<u8>, waiters: &[Waiter]) -> Result<(), AllocError>
     ensures { OnOk result (text.new.items ≡ text.old.items ++ flat_map waiting_line waiters.now) }

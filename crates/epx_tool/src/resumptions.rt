@@ -1,7 +1,7 @@
 //! Resuming from an earlier report.
 ghost use Rattle.std.specs.Prelude.{◌≤◌, length, map, IfOk, IfErr, MatchResult, Ok, Err};
 ghost use Rattle.std.specs.Thread.{IsSync};
-ghost use Rattle.epx_base.specs.Bases.{IsBase, IsBadBase, IsBaseFault};
+ghost use Rattle.epx_report.specs.Bases.{IsBase, IsBadBase, IsBaseFault};
 ghost use Rattle.epx_types.specs.Ids.{IsRising};
 ghost use Rattle.epx_merge.specs.Acceptance.{IsAccepted};
 ghost use Rattle.epx_merge.specs.Limits.{max_instances};
@@ -10,10 +10,10 @@ ghost use Rattle.epx_tool.specs.WithInput.{IsRefusalWithInput, IsShort};
 ghost use Rattle.epx_tool.specs.ResumedReport.{IsReportAfter};
 ghost use Rattle.epx_tool.specs.Resumption.{Resumes};
 
-use crate::answers::report_of;
+use crate::map_texts::report_of;
 use crate::with_input::merge_with_input;
-use epx_base::{Base, BaseFault, read_base};
 use epx_merge::{MAX_LOG_BYTES, Merged};
+use epx_report::{Base, BaseFault, read_base};
 use epx_types::{Fault, Memory, Plan};
 use std::alloc::Global;
 use std::random::RandomSource;

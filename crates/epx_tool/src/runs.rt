@@ -10,17 +10,46 @@ ghost use Rattle.epx_tool.specs.Views.{IsViewText};
 ghost use Rattle.epx_tool.specs.Runs.{AreBytesOf, IsReadingRefusal, IsRunFault};
 ghost use Rattle.epx_tool.specs.Sources.{EachConsumesUpTo, StopsAt};
 ghost use Rattle.epx_tool.specs.Delivered.{AnswersDelivered, EndsWithout};
+ghost use Rattle.epx_tool.specs.inner.Questions.{IsTextOf};
+ghost use Rattle.epx_tool.specs.inner.RunEndings.{EndsRun};
 ghost use Rattle.epx_devices.specs.Transfers.{AppendsPrefix};
 
-use crate::answers::{view_of, whole_report};
 use crate::ask::Ask;
+use crate::map_texts::text_of;
 use crate::merged_sources::merge_sources;
+use crate::question::Question;
 use epx_devices::{Sink, Source, write_out};
 use epx_merge::MAX_LOGS;
 use epx_types::{Fault, Plan};
 use std::alloc::Global;
 use std::random::RandomSource;
 use std::thread::Threads;
+
+/// Reads the logs from the sources in order, and writes the answer to a question about them to the
+/// sink.
+fn run_question<T: Threads + RandomSource + Sync, S: Source, W: Sink>(
+    rt: &T,
+    alloc: Global,
+    question: Question,
+    sources: &mut [S],
+    plan: Plan,
+    sink: &mut W,
+) -> Result<(), Fault>
+    requires sources { All (λ s. S.has_failed s ≡ false) sources.old }
+    requires sink { W.has_failed sink.old ≡ false }
+    ensures { EndsRun S.remaining S.reads S.fails S.has_failed (IsTextOf question) sources.old
+        sources.new (W.contents sink.old) (W.contents sink.new) (W.is_flushed sink.new)
+        (W.has_failed sink.new) result }
+{
+    let merged = match merge_sources(rt, alloc, sources, plan) {
+        Ok(merged) => merged,
+        Err(fault) => return Err(fault),
+    };
+    let Ok(text) = text_of(rt, alloc, question, merged, plan) else {
+        return Err(Fault::Memory);
+    };
+    write_out(&text, sink)
+}
 
 /// Reads the logs from the sources in order, and writes their report to the sink. If there is a
 /// fault, nothing is written, except that a sink that fails has taken a prefix of the report.
@@ -68,14 +97,7 @@ pub fn run<T: Threads + RandomSource + Sync, S: Source, W: Sink>(
     ensures too_many { IsErrOf result Fault.TooManyLogs ↔ (MAX_LOGS < length sources.old) }
     ensures none_read { IsErrOf result Fault.TooManyLogs → sources.new ≡ sources.old }
 {
-    let merged = match merge_sources(rt, alloc, sources, plan) {
-        Ok(merged) => merged,
-        Err(fault) => return Err(fault),
-    };
-    let Ok(text) = whole_report(rt, alloc, merged, plan) else {
-        return Err(Fault::Memory);
-    };
-    write_out(&text, sink)
+    run_question(rt, alloc, Question::Report, sources, plan, sink)
 }
 
 /// Like `run`, but it writes a view instead of the report.
@@ -123,12 +145,5 @@ pub fn show<T: Threads + RandomSource + Sync, S: Source, W: Sink>(
     ensures too_many { IsErrOf result Fault.TooManyLogs ↔ (MAX_LOGS < length sources.old) }
     ensures none_read { IsErrOf result Fault.TooManyLogs → sources.new ≡ sources.old }
 {
-    let merged = match merge_sources(rt, alloc, sources, plan) {
-        Ok(merged) => merged,
-        Err(fault) => return Err(fault),
-    };
-    let Ok(text) = view_of(rt, alloc, ask, &merged, plan) else {
-        return Err(Fault::Memory);
-    };
-    write_out(&text, sink)
+    run_question(rt, alloc, Question::View(ask), sources, plan, sink)
 }

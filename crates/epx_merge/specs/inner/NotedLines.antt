@@ -3,7 +3,7 @@ use Rattle.std.specs.Prelude.{◌≡◌, List, [], Result, MatchResult}
 use Rattle.epx_types.specs.declared.fault.Fault.{Fault}
 use Rattle.epx_types.specs.declared.fault.Why.{Why}
 use Rattle.epx_lines.specs.declared.Line.{Line}
-use Rattle.epx_merge.specs.declared.noted.Noted.{Noted}
+use Rattle.epx_merge.specs.declared.noted_lines.NotedLines.{NotedLines}
 use Rattle.epx_merge.specs.LogLines.{MeaningAt, placed_among, bad_lines_among}
 use Rattle.epx_merge.specs.inner.Ledgers.{LedgerView, IsLedgerOf}
 use Rattle.epx_merge.specs.inner.RedundantLines.{DropsRedundant, IsCacheOf}
@@ -20,6 +20,6 @@ pub record AreNoted (lines : List MeaningAt) (ledger : LedgerView)
   pub cached : IsCacheOf kept cache
 
 -- the result of reading the lines: they are noted, or the first bad one
-abbrev pub IsNoting : List MeaningAt → Result Noted Fault → Type 0
+abbrev pub IsNoting : List MeaningAt → Result NotedLines Fault → Type 0
 IsNoting lines result = MatchResult result (λ n. AreNoted lines n.ledger n.cache)
     (IsReadFault (bad_lines_among lines))

@@ -4,8 +4,8 @@ use Rattle.std.specs.Prelude.{◌≡◌, ◌↔◌, ℕ, ◌<◌, ◌≤◌, Lis
 use Rattle.epx_graph.specs.Graphs.{DependencyGraph, edges_of}
 use Rattle.epx_graph.specs.NodePaths.{NodeReaches}
 use Rattle.epx_components.specs.Partitions.{ComponentParts, number_for}
-use Rattle.epx_order.specs.declared.batch.Batch.{Batch}
-use Rattle.epx_order.specs.declared.doubtful_touches.DoubtfulTouch.{DoubtfulTouch}
+use Rattle.epx_order.specs.declared.audits.batch.Batch.{Batch}
+use Rattle.epx_order.specs.declared.audits.doubtful_touches.DoubtfulTouch.{DoubtfulTouch}
 use Rattle.epx_order.specs.inner.DoubtfulKeys.{ShareKey}
 use Rattle.epx_order.specs.inner.ReadyMarks.{is_marked}
 use Rattle.epx_order.specs.inner.SourceBits.{has_bit}

@@ -5,8 +5,8 @@ use Rattle.epx_types.specs.Conflicts.{Conflict}
 use Rattle.epx_types.specs.Instances.{Instance}
 use Rattle.epx_graph.specs.Graphs.{DependencyGraph, edges_of}
 use Rattle.epx_graph.specs.NodePaths.{NodeReaches}
-use Rattle.epx_order.specs.declared.doubtful_touches.DoubtfulTouch.{DoubtfulTouch}
-use Rattle.epx_order.specs.declared.touches.Touch.{Touch}
+use Rattle.epx_order.specs.declared.audits.doubtful_touches.DoubtfulTouch.{DoubtfulTouch}
+use Rattle.epx_order.specs.declared.audits.touches.Touch.{Touch}
 use Rattle.epx_order.specs.inner.ReadyMarks.{is_marked, AreReadyMarks}
 
 -- a touch of a key, by the number of the key and the node at the position of the touch in an order

@@ -6,8 +6,8 @@ use Rattle.epx_types.specs.ExecutionOrder.{Ranked}
 use Rattle.epx_types.specs.Instances.{Instance}
 use Rattle.epx_graph.specs.Graphs.{DependencyGraph, edges_of}
 use Rattle.epx_graph.specs.NodePaths.{NodeReaches}
-use Rattle.epx_order.specs.declared.reach_index.Chain.{Chain}
-use Rattle.epx_order.specs.declared.reach_index.ReachIndex.{ReachIndex}
+use Rattle.epx_order.specs.declared.audits.reach_index.Chain.{Chain}
+use Rattle.epx_order.specs.declared.audits.reach_index.ReachIndex.{ReachIndex}
 
 -- the node at each position of an order
 pub record AreOrderNodes (m : List Instance) (order : List Ranked) (nodes : List ℕ) : Type 0 where

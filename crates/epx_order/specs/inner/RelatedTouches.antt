@@ -2,7 +2,7 @@
 use Rattle.std.specs.Prelude.{◌≡◌, ◌≢◌, ◌⊎◌, ℕ, ◌<◌, ◌≤◌, false, List, slice_index, slice_index_or}
 use Rattle.std.specs.Prelude.{IsTrue}
 use Rattle.epx_graph.specs.NodePaths.{NodeReaches}
-use Rattle.epx_order.specs.declared.touches.Touch.{Touch}
+use Rattle.epx_order.specs.declared.audits.touches.Touch.{Touch}
 
 abbrev pub touch_at : List Touch → ℕ → Touch
 touch_at touches i = slice_index_or touches i (record { hash = 0; position = 0; writes = false })

@@ -8,7 +8,7 @@ use Rattle.epx_types.specs.Instances.{Instance}
 use Rattle.epx_order.specs.declared.order_fault.OrderFault.{OrderFault}
 use Rattle.epx_order.specs.declared.order_fault.OrderFault.TheVariants.{Memory, Stranger, Repeat}
 use Rattle.epx_order.specs.declared.order_fault.OrderFault.TheVariants.{Missing, Early, Sequence}
-use Rattle.epx_order.specs.declared.sequence_key.SequenceKey.{SequenceKey}
+use Rattle.epx_order.specs.declared.check.sequence_key.SequenceKey.{SequenceKey}
 use Rattle.epx_components.specs.Partitions.{ComponentParts, component_of, number_for}
 
 abbrev pub sequence_key_of : Instance → SequenceKey

@@ -1,7 +1,7 @@
 -- The nodes from which an audit looks for uncovered pairs, in increasing order.
 use Rattle.std.specs.Prelude.{◌≡◌, ℕ, ◌<◌, List, Bool, length, slice_index, Contains, IsTrue}
 use Rattle.epx_types.specs.Instances.{Instance}
-use Rattle.epx_order.specs.declared.doubtful_touches.DoubtfulTouch.{DoubtfulTouch}
+use Rattle.epx_order.specs.declared.audits.doubtful_touches.DoubtfulTouch.{DoubtfulTouch}
 use Rattle.epx_order.specs.inner.NodeConflicts.{IsSettled, IsPartner}
 use Rattle.epx_order.specs.inner.ReadyMarks.{is_marked}
 

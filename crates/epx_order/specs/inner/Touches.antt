@@ -7,7 +7,7 @@ use Rattle.std.specs.Hash.DefaultHasher as sip
 use Rattle.epx_types.specs.declared.op.Op.{Op}
 use Rattle.epx_types.specs.declared.op.Op.TheVariants.{Get, Put, Del, Add, Is, Floor, Copy}
 use Rattle.epx_types.specs.Instances.{Instance}
-use Rattle.epx_order.specs.declared.touches.Touch.{Touch}
+use Rattle.epx_order.specs.declared.audits.touches.Touch.{Touch}
 
 -- the hash of a key, by a hasher whose state is the start
 abbrev pub hash_of : DefaultHasher → List ℕ → ℕ

@@ -4,7 +4,7 @@ use Rattle.epx_types.specs.declared.id.Id.{Id}
 use Rattle.epx_types.specs.declared.reply.Reply.{Reply}
 use Rattle.epx_types.specs.ExecutionOrder.{Ranked, ranked_ids, component_count}
 use Rattle.epx_types.specs.WaitingLists.{Waiting}
-use Rattle.epx_base.specs.ReportLines.{header_line, done_line, reply_line, waiting_line}
+use Rattle.epx_report.specs.ReportLines.{header_line, done_line, reply_line, waiting_line}
 
 -- the header, the done instances, the replies in execution order, and the instances that wait
 abbrev pub instance_text : List Id → List Ranked → List Waiting → List Reply → List ℕ

@@ -1,5 +1,5 @@
-use Rattle.epx_base.specs.Bases.{IsBadBase}
-use Rattle.epx_base.specs.Lists.{IsBadList}
+use Rattle.epx_report.specs.Bases.{IsBadBase}
+use Rattle.epx_report.specs.Lists.{IsBadList}
 use Rattle.epx_tool.specs.CheckAnswers.{IsCheckText}
 use Rattle.epx_tool.specs.Resumption.{IsResumedText}
 use Rattle.epx_words.specs.declared.words.Task.TheVariants.{Resume, Check}

@@ -1,4 +1,4 @@
-use Rattle.epx_base.specs.Lists.{IsBadList}
+use Rattle.epx_report.specs.Lists.{IsBadList}
 use Rattle.epx_merge.specs.LogLines.{bytes_of}
 use Rattle.epx_tool.proofs.LogsWithInputLemmas.{refusal_before}
 use Rattle.epx_tool.proofs.checks.read_sequentially.Goals as goal

@@ -4,7 +4,7 @@ use Rattle.std.proofs.lemmas.Result.{on_ok_weaker}
 use Rattle.epx_types.specs.Pieces.{piece_count}
 use Rattle.epx_claims.specs.inner.PieceItems.{items_of_piece}
 use Rattle.epx_claims.proofs.JoinedPieceLemmas.{parts_joined}
-use Rattle.epx_base.specs.ReportLines.{reply_line}
+use Rattle.epx_report.specs.ReportLines.{reply_line}
 use Rattle.epx_tool.proofs.PairRangeLemmas.{as_many_pairs}
 use Rattle.epx_tool.proofs.reply_lines.append_all_replies.Goals as goal
 

@@ -1,5 +1,5 @@
 use Rattle.std.proofs.Common.{◌≡◌, ◌++◌, flat_map, zip, drop}
-use Rattle.epx_tool.specs.LevelText.{level_line}
+use Rattle.epx_report.specs.ViewLines.{level_line}
 use Rattle.epx_tool.proofs.report.append_levels.Given as goal
 
 abbrev pub invariant-loop-position : goal.invariant-loop-position

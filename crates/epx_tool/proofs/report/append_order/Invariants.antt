@@ -1,5 +1,5 @@
 use Rattle.std.proofs.Common.{◌≡◌, ◌++◌, flat_map, drop}
-use Rattle.epx_tool.specs.OrderText.{order_line}
+use Rattle.epx_report.specs.ViewLines.{order_line}
 use Rattle.epx_tool.proofs.report.append_order.Given as goal
 
 abbrev pub invariant-loop-position : goal.invariant-loop-position

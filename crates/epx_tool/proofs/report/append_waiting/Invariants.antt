@@ -1,5 +1,5 @@
 use Rattle.std.proofs.Common.{◌≡◌, ◌++◌, flat_map, drop}
-use Rattle.epx_base.specs.ReportLines.{waiting_line}
+use Rattle.epx_report.specs.ReportLines.{waiting_line}
 use Rattle.epx_tool.proofs.report.append_waiting.Given as goal
 
 abbrev pub invariant-loop-waiter : goal.invariant-loop-waiter

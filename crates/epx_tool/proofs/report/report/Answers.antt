@@ -1,6 +1,6 @@
 use Rattle.std.proofs.Common.{◌≡◌, ◌∙◌, flat_map, refl, rules}
 use Rattle.std.specs.FinMap as contents
-use Rattle.epx_base.specs.ReportLines.{store_line}
+use Rattle.epx_report.specs.ReportLines.{store_line}
 use Rattle.epx_tool.specs.inner.ReportParts.{instance_text}
 use Rattle.epx_tool.proofs.ReportPartsLemmas.{resumed_text-parts}
 use Rattle.epx_tool.proofs.report.report.Goals as goal

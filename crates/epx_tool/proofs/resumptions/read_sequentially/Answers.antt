@@ -1,4 +1,4 @@
-use Rattle.epx_base.specs.Bases.{IsBadBase}
+use Rattle.epx_report.specs.Bases.{IsBadBase}
 use Rattle.epx_merge.specs.LogLines.{bytes_of}
 use Rattle.epx_tool.proofs.LogsWithInputLemmas.{refusal_before}
 use Rattle.epx_tool.proofs.resumptions.read_sequentially.Goals as goal

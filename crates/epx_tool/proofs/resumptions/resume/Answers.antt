@@ -1,4 +1,4 @@
-use Rattle.epx_base.proofs.DoneInstanceLemmas.{base_done_rise}
+use Rattle.epx_report.proofs.DoneInstanceLemmas.{base_done_rise}
 use Rattle.epx_tool.proofs.AcceptedLogLemmas.{accepted_are_few}
 use Rattle.epx_tool.proofs.resumptions.resume.Goals as goal
 use Rattle.epx_merge.specs.LogLines.{bytes_of}

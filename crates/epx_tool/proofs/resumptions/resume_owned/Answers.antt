@@ -1,8 +1,8 @@
 use Rattle.std.proofs.Common.{subst}
 use Rattle.epx_merge.specs.Acceptance.{IsAccepted}
 use Rattle.epx_merge.specs.LogLines.{bytes_of}
-use Rattle.epx_base.specs.Bases.{IsBase}
-use Rattle.epx_base.proofs.DoneInstanceLemmas.{base_done_rise}
+use Rattle.epx_report.specs.Bases.{IsBase}
+use Rattle.epx_report.proofs.DoneInstanceLemmas.{base_done_rise}
 use Rattle.epx_tool.specs.WithInput.{IsShort}
 use Rattle.epx_tool.proofs.AcceptedLogLemmas.{accepted_are_few}
 use Rattle.epx_tool.proofs.resumptions.resume_owned.Goals as goal

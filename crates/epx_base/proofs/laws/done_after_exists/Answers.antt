@@ -1,5 +1,0 @@
-use Rattle.epx_base.proofs.ReportBaseLemmas.{done_after_exists}
-use Rattle.epx_base.proofs.laws.done_after_exists.Goals as goal
-
-pub returns : goal.returns
-returns c = done_after_exists

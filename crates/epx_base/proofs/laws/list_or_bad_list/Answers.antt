@@ -1,5 +1,0 @@
-use Rattle.epx_base.proofs.ListLemmas.{list_or_bad_list}
-use Rattle.epx_base.proofs.laws.list_or_bad_list.Goals as goal
-
-pub returns : goal.returns
-returns c = list_or_bad_list

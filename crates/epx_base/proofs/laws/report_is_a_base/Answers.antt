@@ -1,5 +1,0 @@
-use Rattle.epx_base.proofs.ReportBaseLemmas.{report_is_a_base}
-use Rattle.epx_base.proofs.laws.report_is_a_base.Goals as goal
-
-pub returns : goal.returns
-returns c = report_is_a_base

@@ -1,5 +1,0 @@
-use Rattle.epx_base.proofs.ReportReadingLemmas.{report_is_read_as_it_says}
-use Rattle.epx_base.proofs.laws.report_is_read_as_it_says.Goals as goal
-
-pub returns : goal.returns
-returns c = report_is_read_as_it_says

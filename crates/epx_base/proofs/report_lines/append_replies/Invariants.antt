@@ -1,8 +1,0 @@
-use Rattle.std.proofs.Common.{◌≡◌, ◌++◌, flat_map, zip}
-use Rattle.epx_base.specs.ReportLines.{reply_line}
-use Rattle.epx_base.proofs.report_lines.append_replies.Given as goal
-
-abbrev pub invariant-loop-id : goal.invariant-loop-id
-invariant-loop-id l =
-    l.text.items ++ flat_map reply_line (zip l.id-iterator.a.rest.now l.id-iterator.b.rest.now)
-    ≡ l.fn.text.items ++ flat_map reply_line (zip l.fn.ids l.fn.replies)

@@ -1,2 +1,0 @@
--- Words of private clauses: no public contract speaks of them.
-pub mod IdSets

@@ -1,0 +1,421 @@
+-- The rising and the late Ids of a set.
+use Rattle.std.proofs.Common.{◌≡◌, ◌⊎◌, inl, inr, ℕ, ◌+◌, ◌<◌, true, false, cond, nat_lt, not}
+use Rattle.std.proofs.Common.{◌==◌, ◌&&◌, Bool, Ordering, Less, Equal, Greater, is_lt, List, []}
+use Rattle.std.proofs.Common.{◌∷◌, ◌++◌, length, get_or, Contains, Some, refl, sym, ap, ap₂, ◌∙◌}
+use Rattle.std.proofs.Common.{subst, arith}
+use Rattle.std.specs.BTreeSet.{insert_key}
+use Rattle.std.specs.List.{HoldsAt, dedup, AllByRecursion}
+use Rattle.std.specs.List.Retain.{IsFiltered, DiffersFromLast}
+use Rattle.std.specs.List.Sorted.{IsSorted, IsPermutation, IsNonDecreasingBy, IsPartitionPoint}
+use Rattle.std.specs.List.Sorted.{IsStrictlySortedBy}
+use Rattle.std.specs.Ordering.{is_eq, nat_cmp, ordering_then, eq_by_cmp, ordering_index}
+use Rattle.std.specs.Cmp.{tied_itself, eq_by_cmp_equiv, IsEquivalence}
+use Rattle.std.proofs.lemmas.Bool.{cases_lt, cases_Bool}
+use Rattle.std.proofs.lemmas.Bool.Decides.{nat_tests}
+use Rattle.std.proofs.lemmas.List.Elements.{Contains-append_left, Contains-append_right}
+use Rattle.std.proofs.lemmas.List.Elements.{Contains-append_cases, Contains-push}
+use Rattle.std.proofs.lemmas.List.Elements.{Contains-push_cases}
+use Rattle.std.proofs.lemmas.List.Filters.{dedup_is}
+use Rattle.std.proofs.lemmas.List.Kept.{Contains-dedup, Contains-from_dedup}
+use Rattle.std.proofs.lemmas.List.Kept.{IsStrictlySortedBy-dedup}
+use Rattle.std.proofs.lemmas.List.Sorted.{searchable_from_sorted, Contains-permutation}
+use Rattle.std.proofs.lemmas.List.Sorted.{IsPermutation-sym}
+use Rattle.epx_types.specs.declared.id.Id.{Id}
+use Rattle.epx_types.specs.Ids.{id_cmp, Below, BelowAll, IsRising}
+use Rattle.epx_types.specs.Done.{is_among}
+use Rattle.epx_types.proofs.lists.MembershipLemmas.{Contains-nil, Contains-head, Contains-cons}
+use Rattle.epx_types.proofs.lists.MembershipLemmas.{Contains-cons_cases}
+use Rattle.epx_types.proofs.lists.ComparisonLemmas.{id_cmp_total, id_cmp-IsAntisymmetric}
+use Rattle.epx_types.proofs.lists.TotalOrderLemmas.{below_irrefl, below_trans, below_asymm}
+use Rattle.epx_types.proofs.lists.RisingIdLemmas.{AllPairs-from_IsRising, BelowAll-from_each}
+use Rattle.epx_types.proofs.remaining.RemainingLemmas.{is_among_cases}
+use Rattle.epx_lines.proofs.EntryLemmas.{IsRising-insert, IsRising-fold}
+use Rattle.epx_report.specs.Seen.{last, is_after_last}
+use Rattle.epx_report.specs.inner.IdSets.{with_late, AreRisingAndLate}
+use Rattle.epx_report.proofs.RisingListLemmas.{Contains-insert_itself, Contains-insert_other}
+use Rattle.epx_report.proofs.RisingListLemmas.{Contains-insert_cases, same_ids, last-cons}
+
+-- ---- which Ids are among them
+
+pub Contains-with_rising : (rising late : List Id) (x : Id) → Contains rising x
+    → Contains (with_late rising late) x
+Contains-with_rising rising [] x h = h
+Contains-with_rising rising (y ∷ late) x h =
+    Contains-with_rising (insert_key id_cmp rising y) late x (Contains-insert_other rising y x h)
+
+pub Contains-with_late : (rising late : List Id) (x : Id) → Contains late x
+    → Contains (with_late rising late) x
+Contains-with_late rising [] x h = absurd (Contains-nil x h)
+Contains-with_late rising (y ∷ late) x h =
+    elim (Contains-cons_cases y late x h) [
+      | inl same ↦ Contains-with_rising (insert_key id_cmp rising y) late x
+          (subst (Contains (insert_key id_cmp rising y)) same (Contains-insert_itself rising y))
+      | inr rest ↦ Contains-with_late (insert_key id_cmp rising y) late x rest
+    ]
+
+pub Contains-with_cases : (rising late : List Id) (x : Id) → Contains (with_late rising late) x
+    → Contains rising x ⊎ Contains late x
+Contains-with_cases rising [] x h = inl h
+Contains-with_cases rising (y ∷ late) x h =
+    elim (Contains-with_cases (insert_key id_cmp rising y) late x h) [
+      | inl among ↦ elim (Contains-insert_cases rising y x among) [
+        | inl same ↦ inr (subst (Contains (y ∷ late)) same (Contains-head y late))
+        | inr was ↦ inl was
+      ]
+      | inr rest ↦ inr (Contains-cons y late x rest)
+    ]
+
+not_among : (xs : List Id) (x : Id) → ¬ Contains xs x → is_among xs x ≡ false
+not_among xs x h = elim (is_among_cases xs x)
+    [ inl found ↦ absurd (h found.1) | inr missed ↦ missed.0 ]
+
+among : (xs : List Id) (x : Id) → Contains xs x → is_among xs x ≡ true
+among xs x h = elim (is_among_cases xs x)
+    [ inl found ↦ found.0 | inr missed ↦ absurd (missed.1 h) ]
+
+contained : (xs : List Id) (x : Id) → is_among xs x ≡ true → Contains xs x
+contained xs x e = elim (is_among_cases xs x)
+    [ inl found ↦ found.1 | inr missed ↦ absurd (cc (e, missed.0)) ]
+
+-- ---- the last one
+
+pub last-push : (xs : List Id) (x : Id) → last (xs ++ x ∷ []) ≡ Some x
+last-push [] x = refl
+last-push (y ∷ []) x = refl
+last-push (y ∷ z ∷ zs) x = last-cons y z (zs ++ x ∷ []) ∙ last-push (z ∷ zs) x
+
+above_each : (xs : List Id) (x y : Id) → IsRising xs → is_after_last id_cmp (last xs) x ≡ true
+    → Contains xs y → Below y x
+above_each [] x y rising past h = absurd (Contains-nil y h)
+above_each (z ∷ []) x y rising past h =
+    elim (Contains-cons_cases z [] y h) [
+      | inl same ↦ subst (λ w. Below w x) same past
+      | inr none ↦ absurd (Contains-nil y none)
+    ]
+above_each (z ∷ w ∷ ws) x y rising past h =
+    let further : is_after_last id_cmp (last (w ∷ ws)) x ≡ true =
+    ap (λ o. is_after_last id_cmp o x) (sym (last-cons z w ws)) ∙ past in
+    elim (Contains-cons_cases z (w ∷ ws) y h) [
+      | inl same ↦ subst (λ v. Below v x) same
+          (below_trans id_cmp_total z w x rising.0.0
+          (above_each (w ∷ ws) x w rising.1 further (Contains-head w ws)))
+      | inr rest ↦ above_each (w ∷ ws) x y rising.1 further rest
+    ]
+
+-- no Id of a rising list is greater than all of them
+within_not_above : (xs : List Id) (x : Id) → IsRising xs → Contains xs x
+    → is_after_last id_cmp (last xs) x ≡ false
+within_not_above xs x rising h =
+    elim (cases_Bool (is_after_last id_cmp (last xs) x)) [
+      | inl past ↦ absurd (below_irrefl id_cmp_total x (above_each xs x x rising past h))
+      | inr level ↦ level
+    ]
+
+IsRising-push : (xs : List Id) (x : Id) → IsRising xs → ((y : Id) → Contains xs y → Below y x)
+    → IsRising (xs ++ x ∷ [])
+IsRising-push [] x rising each = (tt, tt)
+IsRising-push (y ∷ xs) x rising each = (
+  BelowAll-from_each y (xs ++ x ∷ []) (λ z h. elim (Contains-push_cases xs x z h) [
+    | inl was ↦ below_of y xs z rising.0 was
+    | inr same ↦ subst (Below y) same (each y (Contains-head y xs))
+  ]),
+  IsRising-push xs x rising.1 (λ z h. each z (Contains-cons y xs z h)),
+)
+  where
+    below_of : (y : Id) (xs : List Id) (z : Id) → BelowAll y xs → Contains xs z → Below y z
+    below_of y [] z h within = absurd (Contains-nil z within)
+    below_of y (x ∷ xs) z h within = elim (Contains-cons_cases x xs z within)
+        [ inl same ↦ subst (Below y) same h.0 | inr rest ↦ below_of y xs z h.1 rest ]
+
+-- an Id of a rising list is its last one if no Id of the list is greater
+last_is : (xs : List Id) (l : Id) → IsRising xs → Contains xs l
+    → ((x : Id) → Contains xs x → is_after_last id_cmp (Some l) x ≡ false) → last xs ≡ Some l
+last_is [] l rising h level = absurd (Contains-nil l h)
+last_is (x ∷ []) l rising h level =
+    elim (Contains-cons_cases x [] l h) [
+      | inl same ↦ ap Some same
+      | inr none ↦ absurd (Contains-nil l none)
+    ]
+last_is (x ∷ y ∷ ys) l rising h level =
+    last-cons x y ys ∙ elim (Contains-cons_cases x (y ∷ ys) l h) [
+      | inl same ↦
+          let up : is_after_last id_cmp (Some l) y ≡ true =
+          subst (λ z. is_after_last id_cmp (Some z) y ≡ true) same rising.0.0 in
+          absurd (cc (up, level y (Contains-cons x (y ∷ ys) y (Contains-head y ys))))
+      | inr rest ↦ last_is (y ∷ ys) l rising.1 rest (λ z k. level z (Contains-cons x (y ∷ ys) z k))
+    ]
+
+last_of : (xs : List Id) → (xs ≡ []) ⊎ ((l : Id) × (last xs ≡ Some l) × Contains xs l)
+last_of [] = inl refl
+last_of (x ∷ []) = inr (x, refl, Contains-head x [])
+last_of (x ∷ y ∷ ys) =
+    elim (last_of (y ∷ ys)) [
+      | inl none ↦ absurd (cc none)
+      | inr some ↦ inr (some.0, last-cons x y ys ∙ some.1, Contains-cons x (y ∷ ys) some.0 some.2)
+    ]
+
+module _ (rising late : List Id) (h : AreRisingAndLate rising late) where
+  none_above_last : (x : Id) → Contains (with_late rising late) x
+      → is_after_last id_cmp (last rising) x ≡ false
+  none_above_last x k = elim (Contains-with_cases rising late x k)
+      [ inl was ↦ within_not_above rising x h.rises was | inr rest ↦ h.not_past x rest ]
+
+  pub IsRising-with_late : IsRising (with_late rising late)
+  IsRising-with_late = IsRising-fold rising late h.rises
+
+  pub last-with_late : last rising ≡ last (with_late rising late)
+  last-with_late =
+      elim (last_of rising) [
+        | inl none ↦ elim (last_of (with_late rising late)) [
+          | inl all ↦ ap last (none ∙ sym all)
+          | inr some ↦ let level : true ≡ false =
+              sym (ap (λ xs. is_after_last id_cmp (last xs) some.0) none)
+              ∙ none_above_last some.0 some.2 in absurd (cc level)
+        ]
+        | inr some ↦
+            some.1 ∙ sym (last_is (with_late rising late) some.0 IsRising-with_late
+            (Contains-with_rising rising late some.0 some.2)
+            (λ x k. ap (λ o. is_after_last id_cmp o x) (sym some.1) ∙ none_above_last x k))
+      ]
+
+  -- ---- an Id greater than all others
+
+  module _ (x : Id) (past : is_after_last id_cmp (last rising) x ≡ true) where
+    pub above_is_new : true ≡ not (is_among (with_late rising late) x)
+    above_is_new =
+        sym (ap not (not_among (with_late rising late) x
+        (λ k. let level = none_above_last x k in absurd (cc (past, level)))))
+
+    rising_pushed : IsRising (rising ++ x ∷ [])
+    rising_pushed = IsRising-push rising x h.rises (λ y k. above_each rising x y h.rises past k)
+
+    pub pushed : AreRisingAndLate (rising ++ x ∷ []) late
+    pushed = record {
+      rises = rising_pushed;
+      not_past = λ y k. elim (cases_Bool (is_after_last id_cmp (last (rising ++ x ∷ [])) y)) [
+        | inl up ↦
+            let above : Below x y = sym (ap (λ o. is_after_last id_cmp o y) (last-push rising x))
+            ∙ up in
+            elim (last_of rising) [
+              | inl none ↦ let level = ap (λ xs. is_after_last id_cmp (last xs) y) (sym none)
+                  ∙ h.not_past y k in absurd (cc level)
+              | inr some ↦
+                  let first : Below some.0 x = above_each rising x some.0 h.rises past some.2 in
+                  let level : is_lt (id_cmp some.0 y) ≡ false =
+                  ap (λ o. is_after_last id_cmp o y) (sym some.1) ∙ h.not_past y k in
+                  let whole = below_trans id_cmp_total some.0 x y first above in
+                  absurd (cc (level, whole))
+            ]
+        | inr level ↦ level
+      ];
+    }
+
+    pub with_late-pushed : with_late (rising ++ x ∷ []) late
+        ≡ insert_key id_cmp (with_late rising late) x
+    with_late-pushed =
+        same_ids (with_late (rising ++ x ∷ []) late) (insert_key id_cmp (with_late rising late) x)
+        (IsRising-fold (rising ++ x ∷ []) late rising_pushed)
+        (IsRising-insert x (with_late rising late) IsRising-with_late)
+        (λ y k. elim (Contains-with_cases (rising ++ x ∷ []) late y k) [
+          | inl front ↦ elim (Contains-push_cases rising x y front) [
+            | inl was ↦ Contains-insert_other (with_late rising late) x y
+                (Contains-with_rising rising late y was)
+            | inr same ↦ subst (Contains (insert_key id_cmp (with_late rising late) x)) same
+                (Contains-insert_itself (with_late rising late) x)
+          ]
+          | inr rest ↦ Contains-insert_other (with_late rising late) x y
+              (Contains-with_late rising late y rest)
+        ])
+        (λ y k. elim (Contains-insert_cases (with_late rising late) x y k) [
+          | inl same ↦ Contains-with_rising (rising ++ x ∷ []) late y
+              (subst (Contains (rising ++ x ∷ [])) same (Contains-push rising x))
+          | inr was ↦ elim (Contains-with_cases rising late y was) [
+            | inl front ↦ Contains-with_rising (rising ++ x ∷ []) late y
+                (Contains-append_left rising (x ∷ []) y front)
+            | inr rest ↦ Contains-with_late (rising ++ x ∷ []) late y rest
+          ]
+        ])
+
+  -- ---- an Id that is in the set
+
+  module _ (x : Id) where
+    pub found_rising : is_among rising x ≡ true → is_among (with_late rising late) x ≡ true
+    found_rising e = among (with_late rising late) x
+        (Contains-with_rising rising late x (contained rising x e))
+
+    pub found_late : is_among rising x ≡ false
+        → is_among late x ≡ is_among (with_late rising late) x
+    found_late e =
+        let missed : ¬ Contains rising x = λ k. let found = among rising x k in
+        absurd (cc (e, found)) in
+        elim (is_among_cases late x) [
+          | inl found ↦ found.0 ∙ sym
+              (among (with_late rising late) x (Contains-with_late rising late x found.1))
+          | inr none ↦ none.0 ∙ sym
+              (not_among (with_late rising late) x
+              (λ k. elim (Contains-with_cases rising late x k)
+              [ inl front ↦ missed front | inr rest ↦ none.1 rest ]))
+        ]
+
+    pub already_there : is_among rising x ≡ true
+        → with_late rising late ≡ insert_key id_cmp (with_late rising late) x
+    already_there e =
+        let k : Contains (with_late rising late) x =
+        Contains-with_rising rising late x (contained rising x e) in
+        same_ids (with_late rising late) (insert_key id_cmp (with_late rising late) x)
+        IsRising-with_late (IsRising-insert x (with_late rising late) IsRising-with_late)
+        (λ y j. Contains-insert_other (with_late rising late) x y j)
+        (λ y j. elim (Contains-insert_cases (with_late rising late) x y j)
+        [ inl same ↦ subst (Contains (with_late rising late)) same k | inr was ↦ was ])
+
+    -- ---- an Id that is late
+
+    pub late_inserted : is_after_last id_cmp (last rising) x ≡ false
+        → AreRisingAndLate rising (insert_key id_cmp late x)
+    late_inserted level = record {
+      rises = h.rises;
+      not_past = λ y k. elim (Contains-insert_cases late x y k) [
+        | inl same ↦ subst (λ z. is_after_last id_cmp (last rising) z ≡ false) same level
+        | inr was ↦ h.not_past y was
+      ];
+    }
+
+    pub with_late-inserted : with_late rising (insert_key id_cmp late x)
+        ≡ insert_key id_cmp (with_late rising late) x
+    with_late-inserted =
+        same_ids (with_late rising (insert_key id_cmp late x))
+        (insert_key id_cmp (with_late rising late) x)
+        (IsRising-fold rising (insert_key id_cmp late x) h.rises)
+        (IsRising-insert x (with_late rising late) IsRising-with_late)
+        (λ y k. elim (Contains-with_cases rising (insert_key id_cmp late x) y k) [
+          | inl front ↦ Contains-insert_other (with_late rising late) x y
+              (Contains-with_rising rising late y front)
+          | inr rest ↦ elim (Contains-insert_cases late x y rest) [
+            | inl same ↦ subst (Contains (insert_key id_cmp (with_late rising late) x)) same
+                (Contains-insert_itself (with_late rising late) x)
+            | inr was ↦ Contains-insert_other (with_late rising late) x y
+                (Contains-with_late rising late y was)
+          ]
+        ])
+        (λ y k. elim (Contains-insert_cases (with_late rising late) x y k) [
+          | inl same ↦ Contains-with_late rising (insert_key id_cmp late x) y
+              (subst (Contains (insert_key id_cmp late x)) same (Contains-insert_itself late x))
+          | inr was ↦ elim (Contains-with_cases rising late y was) [
+            | inl front ↦ Contains-with_rising rising (insert_key id_cmp late x) y front
+            | inr rest ↦ Contains-with_late rising (insert_key id_cmp late x) y
+                (Contains-insert_other late x y rest)
+          ]
+        ])
+
+-- ---- the binary search
+
+sorted_from_rising : (xs : List Id) → IsRising xs → IsSorted id_cmp xs
+sorted_from_rising xs rising k d low l =
+    let below : Below (get_or xs k d) (get_or xs (k + 1) d) =
+    AllPairs-from_IsRising xs rising k (k + 1) d (omega arith) l in
+    elim (cases_Bool (is_lt (id_cmp (get_or xs (k + 1) d) (get_or xs k d)))) [
+      | inl back ↦ absurd
+          (below_asymm id_cmp_total (get_or xs k d) (get_or xs (k + 1) d) below back)
+      | inr level ↦ level
+    ]
+
+-- no element is equal if all before a position are less and all others greater
+absent : (xs : List Id) (x : Id) (i : ℕ) → IsRising xs
+    → (IsNonDecreasingBy (λ y. ordering_index (id_cmp y x)) xs
+    → IsPartitionPoint (λ y. id_cmp y x ≡ Less) (λ y. id_cmp y x ≡ Greater) xs i) → ¬ Contains xs x
+absent xs x i rising parts h =
+    let point =
+    parts (searchable_from_sorted id_cmp_total (λ (y : Id). y) xs x
+    (sorted_from_rising xs rising)) in
+    let tie : id_cmp (get_or xs h.0 x) x ≡ Equal =
+    ap (λ y. id_cmp y x) h.2 ∙ tied_itself id_cmp_total x in
+    elim (cases_lt h.0 i) [
+      | inl l ↦ let less = point.0 h.0 x (omega arith) l in absurd (cc (less, tie))
+      | inr m ↦ let more = point.1 h.0 x m h.1 in absurd (cc (more, tie))
+    ]
+
+pub present : (xs : List Id) (x : Id) (i : ℕ) → i < length xs
+    → HoldsAt (λ y. id_cmp y x ≡ Equal) xs i → true ≡ is_among xs x
+present xs x i within h =
+    let same : get_or xs i x ≡ x = id_cmp-IsAntisymmetric (get_or xs i x) x (h x) in
+    sym (among xs x (i, within, same))
+
+pub missing : (xs : List Id) (x : Id) (i : ℕ) → IsRising xs
+    → (IsNonDecreasingBy (λ y. ordering_index (id_cmp y x)) xs
+    → IsPartitionPoint (λ y. id_cmp y x ≡ Less) (λ y. id_cmp y x ≡ Greater) xs i)
+    → false ≡ is_among xs x
+missing xs x i rising parts = sym (not_among xs x (absent xs x i rising parts))
+
+-- ---- the Ids as a vector
+
+rising_from_strict : (xs : List Id) → IsStrictlySortedBy id_cmp xs → IsRising xs
+unfolding IsStrictlySortedBy
+rising_from_strict [] h = tt
+rising_from_strict (x ∷ xs) h = (below_all x xs h.0, rising_from_strict xs h.1)
+  where
+    below_all : (x : Id) (ys : List Id) → AllByRecursion (λ y. id_cmp x y ≡ Less) ys
+        → BelowAll x ys
+    below_all x [] k = tt
+    below_all x (y ∷ ys) k = (ap is_lt k.0, below_all x ys k.1)
+
+tie_then : (r o : Ordering) → is_eq (ordering_then r o) ≡ (is_eq r && is_eq o)
+tie_then Less o = refl
+tie_then Equal o = refl
+tie_then Greater o = refl
+
+tie_nat : (a b : ℕ) → is_eq (nat_cmp a b) ≡ (a == b)
+tie_nat a b =
+    elim (nat_lt a b) as (λ t. nat_lt a b ≡ t
+    → is_eq (cond t Less (cond (a == b) Equal Greater)) ≡ (a == b)) [
+      | true ↦ λ e. let other : (a == b) ≡ false = grind (arith, nat_tests) in sym other
+      | false ↦ λ e. elim (a == b) as (λ t. is_eq (cond t Equal Greater) ≡ t)
+          [ true ↦ refl | false ↦ refl ]
+    ] refl
+
+-- two Ids are equal exactly if their order is equal
+pub id_eq_by_cmp : (x y : Id) → ((x.replica == y.replica) && (x.number == y.number))
+    ≡ eq_by_cmp id_cmp x y
+id_eq_by_cmp x y = ap₂ (λ a b. a && b) (sym (tie_nat x.replica y.replica))
+    (sym (tie_nat x.number y.number)) ∙ sym
+    (tie_then (nat_cmp x.replica y.replica) (nat_cmp x.number y.number))
+
+-- the rising and the late Ids, sorted and without repeats
+pub into_vec_ids : (eq : Id → Id → Bool) (ties : (x y : Id) → eq x y ≡ eq_by_cmp id_cmp x y)
+    (rising late both sorted ids : List Id) → AreRisingAndLate rising late → both ≡ rising ++ late
+    → IsPermutation both sorted → IsSorted id_cmp sorted
+    → IsFiltered (DiffersFromLast eq) [] sorted ids → ids ≡ with_late rising late
+into_vec_ids eq ties rising late both sorted ids h is moved up kept =
+    let left : ids ≡ dedup eq sorted = dedup_is eq sorted ids kept in
+    let strict : IsRising (dedup eq sorted) =
+    rising_from_strict (dedup eq sorted)
+    (IsStrictlySortedBy-dedup id_cmp_total ties sorted up) in
+    let exact : (x y : Id) → eq x y ≡ true → x ≡ y =
+    λ x y e. id_cmp-IsAntisymmetric x y (tie (id_cmp x y) (sym (ties x y) ∙ e)) in
+    left ∙ same_ids (dedup eq sorted) (with_late rising late) strict
+    (IsRising-fold rising late h.rises)
+    (λ x k.
+    let among = subst (λ xs. Contains xs x) is
+    (Contains-permutation sorted both x (IsPermutation-sym both sorted moved)
+    (Contains-from_dedup eq sorted x k)) in
+    elim (Contains-append_cases rising late x among) [
+      | inl front ↦ Contains-with_rising rising late x front
+      | inr rest ↦ Contains-with_late rising late x rest
+    ])
+    (λ x k.
+    let among : Contains (rising ++ late) x =
+    elim (Contains-with_cases rising late x k) [
+      | inl front ↦ Contains-append_left rising late x front
+      | inr rest ↦ Contains-append_right rising late x rest
+    ] in
+    Contains-dedup (subst IsEquivalence (sym (same_tests eq ties)) (eq_by_cmp_equiv id_cmp_total))
+    exact sorted x (Contains-permutation both sorted x moved
+    (subst (λ xs. Contains xs x) (sym is) among)))
+  where
+    tie : (o : Ordering) → is_eq o ≡ true → o ≡ Equal
+    tie Less e = absurd (cc e)
+    tie Equal e = refl
+    tie Greater e = absurd (cc e)
+
+    same_tests : (eq : Id → Id → Bool) → ((x y : Id) → eq x y ≡ eq_by_cmp id_cmp x y)
+        → eq ≡ eq_by_cmp id_cmp
+    same_tests eq ties = λ i x y. ties x y i

@@ -1,0 +1,91 @@
+-- Rising lists of Ids and of keys, with one more inserted.
+use Rattle.std.proofs.Common.{◌≡◌, ◌⊎◌, inl, inr, ℕ, suc, ◌-◌, true, false, T, Bool, Less, Equal}
+use Rattle.std.proofs.Common.{Greater, is_lt, ℤ, List, [], ◌∷◌, ◌++◌, Contains, length, slice_get}
+use Rattle.std.proofs.Common.{option_map, refl, sym, ap, ◌∙◌, subst, arith}
+use Rattle.std.specs.BTreeSet.{insert_key}
+use Rattle.std.specs.FinMap.{is_sorted}
+use Rattle.epx_types.specs.declared.id.Id.{Id}
+use Rattle.epx_types.specs.Ids.{id_cmp, Below, IsRising}
+use Rattle.epx_types.specs.Keys.{key_cmp}
+use Rattle.epx_types.proofs.lists.MembershipLemmas.{Contains-nil, Contains-head, Contains-cons}
+use Rattle.epx_types.proofs.lists.MembershipLemmas.{Contains-cons_cases}
+use Rattle.epx_types.proofs.lists.ComparisonLemmas.{id_cmp_total, id_cmp-IsAntisymmetric}
+use Rattle.epx_types.proofs.lists.TotalOrderLemmas.{below_irrefl, below_trans, same_rising}
+use Rattle.epx_types.proofs.lists.RisingIdLemmas.{AllPairs-from_IsRising}
+use Rattle.epx_types.proofs.keys.SortedEntryLemmas.{first_of, second_of}
+use Rattle.epx_report.specs.Seen.{last, is_after_last}
+
+-- ---- an inserted Id
+
+pub Contains-insert_itself : (xs : List Id) (x : Id) → Contains (insert_key id_cmp xs x) x
+Contains-insert_itself [] x = Contains-head x []
+Contains-insert_itself (y ∷ xs) x =
+    elim (id_cmp x y) as (λ r. id_cmp x y ≡ r → Contains (insert_key id_cmp (y ∷ xs) x) x) [
+      | Less ↦ λ e. rw e (Contains-head x (y ∷ xs))
+      | Equal ↦ λ e. rw e
+          (subst (Contains (y ∷ xs)) (sym (id_cmp-IsAntisymmetric x y e)) (Contains-head y xs))
+      | Greater ↦ λ e. rw e
+          (Contains-cons y (insert_key id_cmp xs x) x (Contains-insert_itself xs x))
+    ] refl
+
+pub Contains-insert_other : (xs : List Id) (x z : Id) → Contains xs z
+    → Contains (insert_key id_cmp xs x) z
+Contains-insert_other [] x z h = absurd (Contains-nil z h)
+Contains-insert_other (y ∷ xs) x z h =
+    elim (id_cmp x y) as (λ r. id_cmp x y ≡ r → Contains (insert_key id_cmp (y ∷ xs) x) z) [
+      | Less ↦ λ e. rw e (Contains-cons x (y ∷ xs) z h)
+      | Equal ↦ λ e. rw e h
+      | Greater ↦ λ e. rw e (elim (Contains-cons_cases y xs z h) [
+        | inl same ↦ subst (Contains (y ∷ insert_key id_cmp xs x)) same
+            (Contains-head y (insert_key id_cmp xs x))
+        | inr rest ↦ Contains-cons y (insert_key id_cmp xs x) z (Contains-insert_other xs x z rest)
+      ])
+    ] refl
+
+pub Contains-insert_cases : (xs : List Id) (x z : Id) → Contains (insert_key id_cmp xs x) z
+    → (x ≡ z) ⊎ Contains xs z
+Contains-insert_cases [] x z h = Contains-cons_cases x [] z h
+Contains-insert_cases (y ∷ xs) x z h =
+    elim (id_cmp x y) as (λ r. id_cmp x y ≡ r → (x ≡ z) ⊎ Contains (y ∷ xs) z) [
+      | Less ↦ λ e. Contains-cons_cases x (y ∷ xs) z (rw e at h)
+      | Equal ↦ λ e. inr (rw e at h)
+      | Greater ↦ λ e. elim (Contains-cons_cases y (insert_key id_cmp xs x) z (rw e at h)) [
+        | inl same ↦ inr (subst (Contains (y ∷ xs)) same (Contains-head y xs))
+        | inr rest ↦ elim (Contains-insert_cases xs x z rest)
+            [ inl same ↦ inl same | inr within ↦ inr (Contains-cons y xs z within) ]
+      ]
+    ] refl
+
+-- a rising list is determined by which Ids it has
+pub same_ids : (xs ys : List Id) → IsRising xs → IsRising ys
+    → ((x : Id) → Contains xs x → Contains ys x) → ((x : Id) → Contains ys x → Contains xs x)
+    → xs ≡ ys
+same_ids xs ys h k there back =
+    same_rising Below (below_irrefl id_cmp_total) (below_trans id_cmp_total) xs ys
+    (AllPairs-from_IsRising xs h) (AllPairs-from_IsRising ys k) there back
+
+-- ---- the next one is greater than the last one
+
+pub last-cons : {X : Type 0} (x z : X) (zs : List X) → last (x ∷ z ∷ zs) ≡ last (z ∷ zs)
+last-cons x z zs =
+    let front : suc (suc (length zs)) - 1 ≡ suc (length zs) = omega arith in
+    let back : suc (length zs) - 1 ≡ length zs = omega arith in
+    ap (slice_get (x ∷ z ∷ zs)) front ∙ sym (ap (slice_get (z ∷ zs)) back)
+
+pub above_last : (xs : List Id) (y : Id) (ys : List Id) → IsRising (xs ++ y ∷ ys)
+    → is_after_last id_cmp (last xs) y ≡ true
+above_last [] y ys h = refl
+above_last (x ∷ []) y ys h = h.0.0
+above_last (x ∷ z ∷ zs) y ys h = rw (last-cons x z zs) (above_last (z ∷ zs) y ys h.1)
+
+is_true : (b : Bool) → T b → b ≡ true
+is_true true h = refl
+is_true false h = absurd h
+
+pub above_last_key : (es : List (List ℕ × ℤ)) (e : List ℕ × ℤ) (fs : List (List ℕ × ℤ))
+    → T (is_sorted key_cmp (es ++ e ∷ fs))
+    → is_after_last key_cmp (option_map (λ p. p.0) (last es)) e.0 ≡ true
+above_last_key [] e fs h = refl
+above_last_key (d ∷ []) e fs h = is_true (is_lt (key_cmp d.0 e.0)) (first_of _ _ (first_of _ _ h))
+above_last_key (d ∷ c ∷ es) e fs h =
+    rw (last-cons d c es) (above_last_key (c ∷ es) e fs (second_of _ _ h))

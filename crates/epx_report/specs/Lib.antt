@@ -1,0 +1,12 @@
+pub mod Forms
+pub mod Seen
+pub mod Bases
+pub mod Laws
+pub mod Lists
+pub mod ListLaws
+pub mod ReportLines
+pub mod ViewLines
+pub mod ReportReadings
+pub mod ReportBases
+pub mod DoneAndStored
+pub mod inner

@@ -1,0 +1,74 @@
+-- A report, and the result of reading it as a base.
+use Rattle.std.specs.Prelude.{◌≡◌, ℕ, ℤ, ◌+◌, ◌^◌, ◌<◌, ◌≤◌, List, [], ◌∷◌, ◌++◌, length, map}
+use Rattle.std.specs.Prelude.{flat_map, All, Option, IfSome, IsUtf8, Result, Ok, Err}
+use Rattle.std.specs.Prelude.{if◌then◌else◌}
+use Rattle.std.specs.Int.{w64}
+use Rattle.std.specs.Int.RustNames.{FitsSigned}
+use Rattle.epx_types.specs.declared.id.Id.{Id}
+use Rattle.epx_types.specs.declared.reply.Reply.{Reply}
+use Rattle.epx_types.specs.declared.reply.Reply.TheVariants.{Values, Abort}
+use Rattle.epx_types.specs.WaitingLists.{Waiting}
+use Rattle.epx_types.specs.Keys.{FitsKey}
+use Rattle.epx_report.specs.declared.form.BaseLine.{BaseLine}
+use Rattle.epx_report.specs.declared.form.BaseLine.TheVariants as line
+use Rattle.epx_report.specs.Seen.{Seen, nothing_seen, after, is_complete}
+use Rattle.epx_report.specs.Bases.{or_line_number, base_reading}
+use Rattle.epx_report.specs.ReportLines.{header_line, done_line, reply_line, waiting_line}
+use Rattle.epx_report.specs.ReportLines.{store_line}
+
+-- ---- a report
+
+-- the data that a report is written from
+pub record ReportData : Type 0 where
+  pub components : ℕ
+  pub done : List Id
+  pub replies : List (Id × Reply)
+  pub waiting : List Waiting
+  pub stored : List (List ℕ × ℤ)
+
+abbrev pub text_of_report : ReportData → List ℕ
+text_of_report r =
+    header_line (length r.replies) (length r.waiting) r.components
+    ++ (flat_map done_line r.done
+    ++ (flat_map reply_line r.replies
+    ++ (flat_map waiting_line r.waiting ++ flat_map store_line r.stored)))
+
+-- what the lines of a report say, in order
+abbrev pub said : ReportData → List BaseLine
+said r =
+    line.Header (record { executed = length r.replies; waiting = length r.waiting })
+    ∷ (map line.Done r.done
+    ++ (map (λ p. line.Reply p.0) r.replies
+    ++ (map (λ w. line.Waiting w.id) r.waiting ++ map (λ p. line.Store p.0 p.1) r.stored)))
+
+-- ---- the numbers and texts of a report are within their limits
+
+abbrev pub FitsNumbers : Id → Type 0
+FitsNumbers x = (x.replica < 256) × (x.number < 2 ^ 64)
+
+abbrev pub FitsOptional : Option ℤ → Type 0
+FitsOptional o = IfSome o (FitsSigned w64)
+
+abbrev pub FitsReply : Reply → Type 0
+FitsReply (Values vs) = (length vs ≤ 64) × All FitsOptional vs
+FitsReply (Abort j) = j < 64
+
+pub record FitsReportData (r : ReportData) : Type 0 where
+  pub replies_counted : length r.replies < 2 ^ 64
+  pub waiting_counted : length r.waiting < 2 ^ 64
+  pub few_components : r.components ≤ length r.replies
+  pub done_fit : All FitsNumbers r.done
+  pub replies_fit : All (λ p. FitsNumbers p.0 × FitsReply p.1) r.replies
+  pub waiting_fit : All (λ w. FitsNumbers w.id × FitsNumbers w.missing) r.waiting
+  pub stored_fit : All (λ p. FitsKey p.0 × IsUtf8 p.0 × FitsSigned w64 p.1) r.stored
+
+-- ---- reading lines with known meanings
+
+abbrev pub read_base_lines : Seen → ℕ → List BaseLine → Result Seen ℕ
+read_base_lines s n [] = if is_complete s then Ok s else Err n
+read_base_lines s n (l ∷ ls) = or_line_number n (after s l) (λ t. read_base_lines t (n + 1) ls)
+
+-- reading the text of a report yields what its lines say
+abbrev pub ReportIsReadAsItSays : Type 0
+ReportIsReadAsItSays = (r : ReportData) → FitsReportData r
+    → base_reading (text_of_report r) ≡ read_base_lines nothing_seen 1 (said r)

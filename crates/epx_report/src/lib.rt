@@ -1,0 +1,26 @@
+//! Writes the lines of all answers, and reads bases and lists of instances. A base is an earlier
+//! report, read for its done instances and its store. `specs/` defines each of their lines.
+#![tactic(auto)]
+
+mod base;
+mod direct;
+mod form;
+mod id_set;
+mod laws;
+mod list;
+mod progress;
+mod read;
+mod report_lines;
+mod view_lines;
+
+pub use base::{Base, BaseFault, read_base};
+pub use laws::{
+    bad_base_is_bad_at_one_line, bad_list_is_bad_at_one_line, base_is_no_bad_base,
+    base_or_bad_base, base_says_one_thing, done_after_exists, list_is_no_bad_list,
+    list_names_one_list, list_or_bad_list, report_is_a_base, report_is_read_as_it_says,
+};
+pub use list::read_list;
+pub use report_lines::{append_done, append_header, append_replies, append_store, append_waiter};
+pub use view_lines::{
+    append_level, append_ranked, missing_line, name_line, position_line, uncovered_line,
+};

@@ -1,0 +1,28 @@
+-- What is asked of logs, alone or with an extra input.
+use Rattle.std.specs.Prelude.{ℕ, List}
+use Rattle.epx_types.specs.Instances.{Instance}
+use Rattle.epx_report.specs.Bases.{IsBadBase}
+use Rattle.epx_report.specs.Lists.{IsBadList}
+use Rattle.epx_tool.specs.declared.question.InputQuestion.{InputQuestion}
+use Rattle.epx_tool.specs.declared.question.InputQuestion.TheVariants.{Resume, Check}
+use Rattle.epx_tool.specs.declared.question.Question.{Question}
+use Rattle.epx_tool.specs.declared.question.Question.TheVariants.{Report, View}
+use Rattle.epx_tool.specs.CheckAnswers.{IsCheckText}
+use Rattle.epx_tool.specs.Report.{IsReport}
+use Rattle.epx_tool.specs.Resumption.{IsResumedText}
+use Rattle.epx_tool.specs.Views.{IsViewText}
+
+-- the text that a committed map has for this question
+abbrev pub IsTextOf : Question → List Instance → List ℕ → Type 0
+IsTextOf Report = IsReport
+IsTextOf (View ask) = IsViewText ask
+
+-- the input has a bad line, and this is the first
+abbrev pub IsBadInput : InputQuestion → List ℕ → ℕ → Type 0
+IsBadInput Resume = IsBadBase
+IsBadInput Check = IsBadList
+
+-- the text that an input and a committed map have for this question
+abbrev pub IsTextWith : InputQuestion → List ℕ → List Instance → List ℕ → Type 0
+IsTextWith Resume = IsResumedText
+IsTextWith Check = IsCheckText
