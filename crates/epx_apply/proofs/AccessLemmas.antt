@@ -1,33 +1,23 @@
 -- The accesses of a command are exactly its touched keys, and its write accesses are exactly its
 -- written keys.
-use Rattle.std.proofs.Common.{◌≡◌, ℕ, Bool, true, false, List, [], ◌∷◌, ◌++◌, map, flat_map}
-use Rattle.std.proofs.Common.{Contains, refl, sym, ap, ap₂, subst, ◌∙◌, true≢false, inl, inr}
+use Rattle.std.proofs.Common.{◌≡◌, ℕ, Bool, true, List, [], ◌∷◌, ◌++◌, map, filter, flat_map}
+use Rattle.std.proofs.Common.{Contains, refl, sym, ap, subst, ◌∙◌, inl, inr}
 use Rattle.std.proofs.lemmas.List.{map-append}
 use Rattle.std.proofs.lemmas.List.Elements.{Contains-append_left, Contains-append_right}
 use Rattle.std.proofs.lemmas.List.Elements.{Contains-append_cases}
 use Rattle.epx_types.specs.declared.op.Op.{Op}
-use Rattle.epx_types.specs.declared.op.Op.TheVariants.{Get, Put, Del, Add, Is, Floor, Copy}
-use Rattle.epx_types.specs.CommandKeys.{touched_by, written_by}
-use Rattle.epx_types.proofs.lists.MembershipLemmas.{Contains-nil, Contains-cons}
-use Rattle.epx_types.proofs.lists.MembershipLemmas.{Contains-cons_cases, Contains-map}
-use Rattle.epx_types.proofs.lists.MembershipLemmas.{Contains-from_map}
-use Rattle.epx_apply.specs.inner.KeyTables.{accesses_of, touched_in, written_in}
+use Rattle.epx_types.specs.CommandKeys.{accesses_of, touched_by, written_by}
+use Rattle.epx_types.proofs.lists.MembershipLemmas.{Contains-nil, Contains-map, Contains-from_map}
+use Rattle.epx_types.proofs.lists.MembershipLemmas.{Contains-filter, Contains-from_filter}
+use Rattle.epx_types.proofs.lists.MembershipLemmas.{passes-from_filter}
+use Rattle.epx_apply.specs.inner.KeyTables.{touched_in, written_in}
 
 -- ---- touched keys
 
 touched_is : (ops : List Op) → touched_in ops ≡ map (λ a. a.0) (flat_map accesses_of ops)
 touched_is [] = refl
-touched_is (op ∷ ops) = ap₂ (λ xs ys. xs ++ ys) (by op) (touched_is ops)
+touched_is (op ∷ ops) = ap (λ ys. touched_by op ++ ys) (touched_is ops)
     ∙ sym (map-append (λ (a : List ℕ × Bool). a.0) (accesses_of op) (flat_map accesses_of ops))
-  where
-    by : (op : Op) → touched_by op ≡ map (λ (a : List ℕ × Bool). a.0) (accesses_of op)
-    by (Get k) = refl
-    by (Put k v) = refl
-    by (Del k) = refl
-    by (Add k n) = refl
-    by (Is k v) = refl
-    by (Floor k least) = refl
-    by (Copy k j) = refl
 
 -- a touched key is accessed
 pub current-from_touched : (ops : List Op) (k : List ℕ) → Contains (touched_in ops) k
@@ -57,47 +47,21 @@ Contains-flat_map_carried f g a b carry (x ∷ xs) h =
           (Contains-flat_map_carried f g a b carry xs later)
     ]
 
--- a touched key is accessed, as a write or as a read
-abbrev HasAccess : List (List ℕ × Bool) → List ℕ → Bool → Type 0
-HasAccess current k w = Contains current (k, w)
-
 module _ (k : List ℕ) where
-  one : (key : List ℕ) → Contains (key ∷ []) k → HasAccess ((key, true) ∷ []) k true
-  one key h = Contains-map (λ (q : List ℕ). (q, true)) (key ∷ []) k h
+  there_by : (op : Op) → Contains (written_by op) k → Contains (accesses_of op) (k, true)
+  there_by op h =
+      let from = Contains-from_map (λ (a : List ℕ × Bool). a.0)
+      (filter (λ a. a.1) (accesses_of op)) k h in
+      let writes = passes-from_filter (λ (a : List ℕ × Bool). a.1) (accesses_of op) from.0 from.1 in
+      let here = Contains-from_filter (λ (a : List ℕ × Bool). a.1) (accesses_of op) from.0 from.1 in
+      subst (λ q. Contains (accesses_of op) (q, true)) from.2
+      (subst (λ w. Contains (accesses_of op) (from.0.0, w)) writes here)
 
-  back : (key : List ℕ) → HasAccess ((key, true) ∷ []) k true → Contains (key ∷ []) k
-  back key h = Contains-map (λ (a : List ℕ × Bool). a.0) ((key, true) ∷ []) (k, true) h
-
-  none : HasAccess [] k true → ⊥
-  none h = let e : List ℕ × Bool = (k, true) in Contains-nil e h
-
-  -- a key that is only read is not written
-  read : (key : List ℕ) (rest : List (List ℕ × Bool)) → HasAccess ((key, false) ∷ rest) k true
-      → HasAccess rest k true
-  read key rest h =
-      elim (Contains-cons_cases (key, false) rest (k, true) h) [
-        | inl same ↦ absurd (true≢false (sym (ap (λ (a : List ℕ × Bool). a.1) same)))
-        | inr later ↦ later
-      ]
-
-  there_by : (op : Op) → Contains (written_by op) k → HasAccess (accesses_of op) k true
-  there_by (Get key) h = absurd (Contains-nil k h)
-  there_by (Put key v) h = one key h
-  there_by (Del key) h = one key h
-  there_by (Add key n) h = one key h
-  there_by (Is key v) h = absurd (Contains-nil k h)
-  there_by (Floor key least) h = absurd (Contains-nil k h)
-  there_by (Copy key j) h = let first : List ℕ × Bool = (key, false) in
-      let it : List ℕ × Bool = (k, true) in Contains-cons first ((j, true) ∷ []) it (one j h)
-
-  back_by : (op : Op) → HasAccess (accesses_of op) k true → Contains (written_by op) k
-  back_by (Get key) h = absurd (none (read key [] h))
-  back_by (Put key v) h = back key h
-  back_by (Del key) h = back key h
-  back_by (Add key n) h = back key h
-  back_by (Is key v) h = absurd (none (read key [] h))
-  back_by (Floor key least) h = absurd (none (read key [] h))
-  back_by (Copy key j) h = back j (read key ((j, true) ∷ []) h)
+  back_by : (op : Op) → Contains (accesses_of op) (k, true) → Contains (written_by op) k
+  back_by op h =
+      let access : List ℕ × Bool = (k, true) in
+      Contains-map (λ (a : List ℕ × Bool). a.0) (filter (λ a. a.1) (accesses_of op)) access
+      (Contains-filter (λ (a : List ℕ × Bool). a.1) (accesses_of op) access h refl)
 
 -- a written key has a write access
 pub current-from_written : (ops : List Op) (k : List ℕ) → Contains (written_in ops) k

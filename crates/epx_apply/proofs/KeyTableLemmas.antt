@@ -13,10 +13,10 @@ use Rattle.epx_types.specs.Conflicts.{Conflict}
 use Rattle.epx_types.proofs.lists.MembershipLemmas.{Contains-nil, Contains-map, Contains-from_map}
 use Rattle.epx_types.proofs.lists.MembershipLemmas.{map-agree}
 use Rattle.epx_types.proofs.keys.KeyListLemmas.{Contains-rising_keys, Contains-from_rising_keys}
-use Rattle.epx_types.specs.CommandKeys.{touched_by, written_by}
+use Rattle.epx_types.specs.CommandKeys.{accesses_of, touched_by, written_by}
 use Rattle.epx_apply.specs.declared.key_table.KeyLevels.{KeyLevels}
 use Rattle.epx_apply.specs.declared.key_table.Access.{Access}
-use Rattle.epx_apply.specs.inner.KeyTables.{Table, no_levels, key_levels_at, key_at, accesses_of}
+use Rattle.epx_apply.specs.inner.KeyTables.{Table, no_levels, key_levels_at, key_at}
 use Rattle.epx_apply.specs.inner.KeyTables.{touched_in, written_in, IsLevelAbove, IsKeyTableOf}
 use Rattle.epx_apply.specs.inner.KeyTables.{AddsAccesses, level_for, raise, IsNextLevel}
 use Rattle.epx_apply.proofs.AccessLemmas.{current-from_touched, touched-from_accesses}

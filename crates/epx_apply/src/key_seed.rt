@@ -5,17 +5,10 @@ use std::hash::{DefaultHasher, Hash};
 
 /// Hashes the keys of an operation.
 fn hash_keys(op: &Op, keys: &mut DefaultHasher) {
-    match op {
-        Op::Get { key }
-        | Op::Is { key, .. }
-        | Op::Floor { key, .. }
-        | Op::Put { key, .. }
-        | Op::Del { key }
-        | Op::Add { key, .. } => key.text().hash(keys),
-        Op::Copy { source, target } => {
-            source.text().hash(keys);
-            target.text().hash(keys);
-        }
+    let (first, second) = op.accesses();
+    first.key.text().hash(keys);
+    if let Some(access) = second {
+        access.key.text().hash(keys);
     }
 }
 

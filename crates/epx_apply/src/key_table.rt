@@ -3,7 +3,8 @@ ghost use Rattle.std.specs.Prelude.{◌≡◌, ◌<◌, ◌^◌, ◌+◌, ℕ, L
 ghost use Rattle.std.specs.Prelude.{fold, All, IfOk, OnOk};
 ghost use Rattle.epx_types.specs.declared.op.Op.{Op};
 ghost use Rattle.epx_apply.specs.inner.KeyTables.{IsKeyTableOf, AddsAccesses, AddsCommand};
-ghost use Rattle.epx_apply.specs.inner.KeyTables.{accesses_of, level_for, raise};
+ghost use Rattle.epx_apply.specs.inner.KeyTables.{level_for, raise};
+ghost use Rattle.epx_types.specs.CommandKeys.{accesses_of};
 
 use epx_seed::Seed;
 use epx_types::{Key, Memory, Op};
@@ -121,17 +122,11 @@ impl<'a> KeyTable<'a> {
     fn add_accesses(&mut self, op: &'a Op) -> Result<(), Memory>
         ensures { OnOk result (AddsAccesses (accesses_of op.now) self.old self.new) }
     {
-        match op {
-            Op::Get { key } | Op::Is { key, .. } | Op::Floor { key, .. } => self.add_access(
-                key, false,
-            ),
-            Op::Put { key, .. } | Op::Del { key } | Op::Add { key, .. } => self.add_access(
-                key, true,
-            ),
-            Op::Copy { source, target } => {
-                self.add_access(source, false)?;
-                self.add_access(target, true)
-            }
+        let (first, second) = op.accesses();
+        self.add_access(first.key, first.writes)?;
+        match second {
+            Some(access) => self.add_access(access.key, access.writes),
+            None => Ok(()),
         }
     }
 

@@ -1,5 +1,4 @@
 -- Sources of one of two types.
-use Rattle.std.specs.Prelude.{ℕ, List}
 use Rattle.epx_devices.specs.Deliveries.{FailRelation, ReadRelation}
 use Rattle.epx_devices.specs.declared.either_source.EitherSource.{EitherSource}
 use Rattle.epx_devices.specs.declared.either_source.EitherSource.TheVariants.{First, Second}

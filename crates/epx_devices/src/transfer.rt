@@ -7,11 +7,9 @@ ghost use Rattle.epx_devices.specs.Transfers.{IsReadLogFault, ConsumesUpTo, Cons
 ghost use Rattle.epx_devices.specs.Transfers.{AppendsPrefix};
 
 use crate::device::{Sink, Source};
+use epx_types::limits::MAX_LOG_BYTES;
 use epx_types::{Fault, Memory};
 use std::alloc::Global;
-
-/// A log has at most this many bytes.
-pub const MAX_LOG_BYTES: usize = 67_108_864;
 
 /// One read has room for at most this many bytes.
 const PART_BYTES: usize = 65_536;

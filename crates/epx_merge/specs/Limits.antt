@@ -1,11 +1,12 @@
 -- Limits of logs.
 use Rattle.std.specs.Prelude.{ℕ}
+use Rattle.epx_types.specs.declared.limits.TheConstants.{MAX_LOGS, MAX_LOG_BYTES, MAX_INSTANCES}
 
 abbrev pub max_logs : ℕ
-max_logs = 64
+max_logs = MAX_LOGS
 
 abbrev pub max_log_bytes : ℕ
-max_log_bytes = 67108864
+max_log_bytes = MAX_LOG_BYTES
 
 abbrev pub max_instances : ℕ
-max_instances = 1048576
+max_instances = MAX_INSTANCES

@@ -7,12 +7,12 @@ ghost use Rattle.epx_merge.specs.inner.LeastDisagreement.{IsLeastDisagreement};
 ghost use Rattle.epx_merge.specs.inner.LineOrder.{IsSortedByPlace};
 ghost use Rattle.epx_merge.specs.Steps.{IsMerged, IsMergeFault};
 
-use crate::limits::MAX_INSTANCES;
 use crate::merged::Merged;
 use crate::placed::PlacedEntry;
 use crate::rows::{guesses_of, rows_of};
 use crate::same_entry::same_entry;
 use epx_seed::Seed;
+use epx_types::limits::MAX_INSTANCES;
 use epx_types::{Fault, Id, Memory, Place};
 use indexmap::{IndexMap, IndexSet};
 use std::alloc::Global;

@@ -22,7 +22,8 @@ mod same_entry;
 mod walk;
 
 pub use entries::from_entries;
+pub use epx_types::limits::{MAX_INSTANCES, MAX_LOG_BYTES, MAX_LOGS};
 pub use guesses::Guesses;
-pub use limits::{MAX_INSTANCES, MAX_LOG_BYTES, MAX_LOGS, first_too_long};
+pub use limits::first_too_long;
 pub use merged::Merged;
 pub use read::{read_logs, read_logs_during};

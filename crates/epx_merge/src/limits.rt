@@ -1,16 +1,9 @@
-//! Limits of logs.
+//! Logs that are too long.
 ghost use Rattle.std.specs.Prelude.{◌∷◌, MatchOption};
 ghost use Rattle.epx_merge.specs.Refusals.{IsFirstTooLong, NoneTooLong};
 ghost use Rattle.epx_merge.specs.LogLines.{bytes_of};
 
-/// The greatest number of logs.
-pub const MAX_LOGS: usize = 64;
-
-/// The greatest length of a log, in bytes.
-pub const MAX_LOG_BYTES: usize = 67_108_864;
-
-/// The greatest number of distinct instances that logs may name.
-pub const MAX_INSTANCES: usize = 1_048_576;
+use epx_types::limits::MAX_LOG_BYTES;
 
 /// The first log that is longer than `MAX_LOG_BYTES`, if any is.
 pub fn first_too_long(logs: &[Vec<u8>]) -> Option<usize>

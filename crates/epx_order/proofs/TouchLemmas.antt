@@ -1,57 +1,40 @@
 -- The touches of commands are those of their keys.
-use Rattle.std.proofs.Common.{◌≡◌, inl, inr, ℕ, Bool, true, false, List, [], ◌∷◌, refl, subst}
-use Rattle.std.proofs.Common.{Contains}
+use Rattle.std.proofs.Common.{◌≡◌, ℕ, Bool, true, List, filter, refl, subst, Contains}
 use Rattle.std.specs.declared.hash.DefaultHasher.{DefaultHasher}
 use Rattle.epx_types.specs.declared.op.Op.{Op}
-use Rattle.epx_types.specs.declared.op.Op.TheVariants.{Get, Put, Del, Add, Is, Floor, Copy}
-use Rattle.epx_types.specs.CommandKeys.{touched_by, written_by, touched_keys, written_keys}
+use Rattle.epx_types.specs.CommandKeys.{accesses_of, touched_by, written_by, touched_keys}
+use Rattle.epx_types.specs.CommandKeys.{written_keys}
 use Rattle.epx_types.proofs.keys.KeyListLemmas.{Contains-from_rising_keys}
-use Rattle.epx_types.proofs.lists.MembershipLemmas.{Contains-nil, Contains-head, Contains-cons}
-use Rattle.epx_types.proofs.lists.MembershipLemmas.{Contains-cons_cases, Contains-flat_map}
+use Rattle.epx_types.proofs.lists.MembershipLemmas.{Contains-map, Contains-from_map}
+use Rattle.epx_types.proofs.lists.MembershipLemmas.{Contains-from_filter}
+use Rattle.epx_types.proofs.lists.MembershipLemmas.{passes-from_filter, Contains-flat_map}
 use Rattle.epx_types.proofs.lists.MembershipLemmas.{Contains-from_flat_map}
 use Rattle.epx_order.specs.declared.audits.touches.Touch.{Touch}
 use Rattle.epx_order.specs.inner.Touches.{touch, touches_by, touches_of}
 
-only_one : {X : Type 0} (y x : X) → Contains (y ∷ []) x → y ≡ x
-only_one y x h = elim (Contains-cons_cases y [] x h)
-    [ inl same ↦ same | inr none ↦ absurd (Contains-nil x none) ]
-
 module _ (start : DefaultHasher) (position : ℕ) where
-  first : (k q : List ℕ) (w : Bool) (others : List Touch) → k ≡ q
-      → Contains (touch start position k w ∷ others) (touch start position q w)
-  first k q w others same =
-      subst (λ x. Contains (touch start position k w ∷ others) (touch start position x w)) same
-      (Contains-head (touch start position k w) others)
+  abbrev touch_by : List ℕ × Bool → Touch
+  touch_by a = touch start position a.0 a.1
 
   by_touched : (op : Op) (q : List ℕ) → Contains (touched_by op) q
       → (w : Bool) × Contains (touches_by start position op) (touch start position q w)
-  by_touched (Get k) q h = (false, first k q false [] (only_one k q h))
-  by_touched (Put k v) q h = (true, first k q true [] (only_one k q h))
-  by_touched (Del k) q h = (true, first k q true [] (only_one k q h))
-  by_touched (Add k n) q h = (true, first k q true [] (only_one k q h))
-  by_touched (Is k v) q h = (false, first k q false [] (only_one k q h))
-  by_touched (Floor k least) q h = (false, first k q false [] (only_one k q h))
-  by_touched (Copy k j) q h = elim (Contains-cons_cases k (j ∷ []) q h) [
-    | inl same ↦ (false, first k q false (touch start position j true ∷ []) same)
-    | inr later ↦ (
-      true,
-      Contains-cons (touch start position k false)
-          (touch start position j true ∷ []) (touch start position q true)
-          (first j q true [] (only_one j q later)),
-    )
-  ]
+  by_touched op q h =
+      let a = Contains-from_map (λ (a : List ℕ × Bool). a.0) (accesses_of op) q h in (
+        a.0.1,
+        subst (λ k. Contains (touches_by start position op) (touch start position k a.0.1)) a.2
+            (Contains-map touch_by (accesses_of op) a.0 a.1),
+      )
 
   by_written : (op : Op) (q : List ℕ) → Contains (written_by op) q
       → Contains (touches_by start position op) (touch start position q true)
-  by_written (Get k) q h = absurd (Contains-nil q h)
-  by_written (Put k v) q h = first k q true [] (only_one k q h)
-  by_written (Del k) q h = first k q true [] (only_one k q h)
-  by_written (Add k n) q h = first k q true [] (only_one k q h)
-  by_written (Is k v) q h = absurd (Contains-nil q h)
-  by_written (Floor k least) q h = absurd (Contains-nil q h)
-  by_written (Copy k j) q h = Contains-cons (touch start position k false)
-      (touch start position j true ∷ []) (touch start position q true)
-      (first j q true [] (only_one j q h))
+  by_written op q h =
+      let writes : List ℕ × Bool → Bool = λ a. a.1 in
+      let a = Contains-from_map (λ (a : List ℕ × Bool). a.0) (filter writes (accesses_of op)) q h in
+      let here = Contains-from_filter writes (accesses_of op) a.0 a.1 in
+      let w = passes-from_filter writes (accesses_of op) a.0 a.1 in
+      subst (λ k. Contains (touches_by start position op) (touch start position k true)) a.2
+      (subst (λ b. Contains (touches_by start position op) (touch start position a.0.0 b)) w
+      (Contains-map touch_by (accesses_of op) a.0 here))
 
   -- a touched key has a touch, and a written one a touch that writes
   pub touch_of_touched : (ops : List Op) (q : List ℕ) → Contains (touched_keys ops) q
@@ -71,25 +54,10 @@ module _ (start : DefaultHasher) (position : ℕ) where
       Contains-flat_map (touches_by start position) ops f.0 (touch start position q true) f.1
       (by_written f.0 q f.2)
 
-  one_place : (k : List ℕ) (w : Bool) (t : Touch) → Contains (touch start position k w ∷ []) t
-      → t.position ≡ position
-  one_place k w t h = subst (λ t. t.position ≡ position) (only_one (touch start position k w) t h)
-      refl
-
   place_by : (op : Op) (t : Touch) → Contains (touches_by start position op) t
       → t.position ≡ position
-  place_by (Get k) t h = one_place k false t h
-  place_by (Put k v) t h = one_place k true t h
-  place_by (Del k) t h = one_place k true t h
-  place_by (Add k n) t h = one_place k true t h
-  place_by (Is k v) t h = one_place k false t h
-  place_by (Floor k least) t h = one_place k false t h
-  place_by (Copy k j) t h =
-      elim (Contains-cons_cases (touch start position k false) (touch start position j true ∷ []) t
-      h) [
-        | inl same ↦ subst (λ t. t.position ≡ position) same refl
-        | inr later ↦ one_place j true t later
-      ]
+  place_by op t h = let a = Contains-from_map touch_by (accesses_of op) t h in
+      subst (λ t. t.position ≡ position) a.2 refl
 
   -- each touch is at the position of the command
   pub touch_place : (ops : List Op) (t : Touch) → Contains (touches_of start position ops) t

@@ -15,7 +15,7 @@ ghost use Rattle.epx_devices.specs.Transfers.{AppendsPrefix, ConsumesUpTo};
 use crate::input_runs::run_with_input;
 use crate::question::InputQuestion;
 use epx_devices::{Sink, Source};
-use epx_merge::MAX_LOGS;
+use epx_types::limits::MAX_LOGS;
 use epx_types::{Fault, Plan};
 use std::alloc::Global;
 use std::random::RandomSource;

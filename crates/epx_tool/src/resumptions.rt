@@ -12,8 +12,9 @@ ghost use Rattle.epx_tool.specs.Resumption.{Resumes};
 
 use crate::map_texts::report_of;
 use crate::with_input::merge_with_input;
-use epx_merge::{MAX_LOG_BYTES, Merged};
+use epx_merge::Merged;
 use epx_report::{Base, BaseFault, read_base};
+use epx_types::limits::MAX_LOG_BYTES;
 use epx_types::{Fault, Memory, Plan};
 use std::alloc::Global;
 use std::random::RandomSource;

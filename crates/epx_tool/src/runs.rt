@@ -19,7 +19,7 @@ use crate::map_texts::text_of;
 use crate::merged_sources::merge_sources;
 use crate::question::Question;
 use epx_devices::{Sink, Source, write_out};
-use epx_merge::MAX_LOGS;
+use epx_types::limits::MAX_LOGS;
 use epx_types::{Fault, Plan};
 use std::alloc::Global;
 use std::random::RandomSource;

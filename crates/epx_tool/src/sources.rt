@@ -15,8 +15,8 @@ ghost use Rattle.epx_tool.specs.DeliveredWithInput.{DeliversBoth, StopsReadingBo
 ghost use Rattle.epx_tool.specs.inner.SourceReadings.{AreDeliveredUpTo, EndsReading, logs_after};
 
 use epx_devices::{Source, read_log};
-use epx_merge::MAX_LOGS;
 use epx_types::Fault;
+use epx_types::limits::MAX_LOGS;
 use std::alloc::Global;
 
 /// The bytes of one source. The sources before it are read.

@@ -5,7 +5,8 @@ ghost use Rattle.epx_merge.specs.LogLines.{bytes_of};
 ghost use Rattle.epx_tool.specs.WithInput.{IsShort, IsRefusalWithInput};
 
 use epx_claims::FreeGate;
-use epx_merge::{MAX_LOG_BYTES, MAX_LOGS, Merged, first_too_long, read_logs};
+use epx_merge::{Merged, first_too_long, read_logs};
+use epx_types::limits::{MAX_LOG_BYTES, MAX_LOGS};
 use epx_types::{Fault, Plan};
 use std::alloc::Global;
 use std::random::RandomSource;

@@ -1,10 +1,10 @@
 //! The keys that operations touch and write, by the text of the operations.
-ghost use Rattle.std.specs.Prelude.{◌≡◌, IfOk, OnOk, map};
+ghost use Rattle.std.specs.Prelude.{◌≡◌, ◌∷◌, [], if◌then◌else◌, IfOk, OnOk, map};
 ghost use Rattle.std.specs.BTreeSet.{insert_key};
 ghost use Rattle.epx_types.specs.Keys.{key_cmp, add_keys};
 ghost use Rattle.epx_types.specs.CommandKeys.{touched_by, written_by, touched_keys, written_keys};
 
-use epx_types::{Key, Memory, Op};
+use epx_types::{Access, Key, Memory, Op};
 use std::alloc::Global;
 use std::collections::BTreeSet;
 
@@ -22,18 +22,25 @@ fn add_touched<'a>(keys: &mut BTreeSet<&'a Key>, op: &'a Op) -> Result<(), Memor
         (map (λ k. k.now) keys.new.keys ≡
         add_keys (map (λ k. k.now) keys.old.keys) (touched_by op.now)) }
 {
-    match op {
-        Op::Get { key }
-        | Op::Put { key, .. }
-        | Op::Del { key }
-        | Op::Add { key, .. }
-        | Op::Is { key, .. }
-        | Op::Floor { key, .. } => add(keys, key),
-        Op::Copy { source, target } => {
-            add(keys, source)?;
-            add(keys, target)
-        }
+    let (first, second) = op.accesses();
+    add(keys, first.key)?;
+    match second {
+        Some(access) => add(keys, access.key),
+        None => Ok(()),
     }
+}
+
+/// Adds the key of an access if the access writes it.
+fn add_if_written<'a>(keys: &mut BTreeSet<&'a Key>, access: Access<'a>) -> Result<(), Memory>
+    ensures { OnOk result
+        (map (λ k. k.now) keys.new.keys ≡
+        add_keys (map (λ k. k.now) keys.old.keys)
+        (if access.entry.writes then access.entry.key.now ∷ [] else [])) }
+{
+    if access.writes {
+        add(keys, access.key)?;
+    }
+    Ok(())
 }
 
 fn add_written<'a>(keys: &mut BTreeSet<&'a Key>, op: &'a Op) -> Result<(), Memory>
@@ -41,10 +48,11 @@ fn add_written<'a>(keys: &mut BTreeSet<&'a Key>, op: &'a Op) -> Result<(), Memor
         (map (λ k. k.now) keys.new.keys ≡
         add_keys (map (λ k. k.now) keys.old.keys) (written_by op.now)) }
 {
-    match op {
-        Op::Get { .. } | Op::Is { .. } | Op::Floor { .. } => Ok(()),
-        Op::Put { key, .. } | Op::Del { key } | Op::Add { key, .. } => add(keys, key),
-        Op::Copy { target, .. } => add(keys, target),
+    let (first, second) = op.accesses();
+    add_if_written(keys, first)?;
+    match second {
+        Some(access) => add_if_written(keys, access),
+        None => Ok(()),
     }
 }
 

@@ -1,3 +1,2 @@
 pub mod AgreementLemmas
-pub mod LargerMapLemmas
 pub mod PositionLemmas

@@ -1,4 +1,3 @@
-pub mod ComponentCountLemmas
 pub mod ExecutionOrderLemmas
 pub mod LawfulExecutionLemmas
 pub mod LawfulOrderLemmas

@@ -1,26 +1,24 @@
 -- The keys that a command touches and writes, by the text of its operations alone.
-use Rattle.std.specs.Prelude.{ℕ, List, [], ◌∷◌, flat_map}
+use Rattle.std.specs.Prelude.{ℕ, Bool, true, false, List, [], ◌∷◌, map, filter, flat_map}
 use Rattle.epx_types.specs.declared.op.Op.{Op}
 use Rattle.epx_types.specs.declared.op.Op.TheVariants.{Get, Put, Del, Add, Is, Floor, Copy}
 use Rattle.epx_types.specs.Keys.{rising_keys}
 
+-- the keys of an operation; each is marked true if the operation writes it
+abbrev pub accesses_of : Op → List (List ℕ × Bool)
+accesses_of (Get k) = (k, false) ∷ []
+accesses_of (Put k v) = (k, true) ∷ []
+accesses_of (Del k) = (k, true) ∷ []
+accesses_of (Add k n) = (k, true) ∷ []
+accesses_of (Is k v) = (k, false) ∷ []
+accesses_of (Floor k least) = (k, false) ∷ []
+accesses_of (Copy k j) = (k, false) ∷ (j, true) ∷ []
+
 abbrev pub touched_by : Op → List (List ℕ)
-touched_by (Get k) = k ∷ []
-touched_by (Put k v) = k ∷ []
-touched_by (Del k) = k ∷ []
-touched_by (Add k n) = k ∷ []
-touched_by (Is k v) = k ∷ []
-touched_by (Floor k least) = k ∷ []
-touched_by (Copy k j) = k ∷ j ∷ []
+touched_by op = map (λ a. a.0) (accesses_of op)
 
 abbrev pub written_by : Op → List (List ℕ)
-written_by (Get k) = []
-written_by (Put k v) = k ∷ []
-written_by (Del k) = k ∷ []
-written_by (Add k n) = k ∷ []
-written_by (Is k v) = []
-written_by (Floor k least) = []
-written_by (Copy k j) = j ∷ []
+written_by op = map (λ a. a.0) (filter (λ a. a.1) (accesses_of op))
 
 abbrev pub touched_keys : List Op → List (List ℕ)
 touched_keys ops = rising_keys (flat_map touched_by ops)

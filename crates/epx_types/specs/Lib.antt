@@ -6,6 +6,7 @@ pub mod Contents
 pub mod Operations
 pub mod Commands
 pub mod CommandKeys
+pub mod Accesses
 pub mod Writes
 pub mod Execution
 pub mod PlacedLines

@@ -1,9 +1,8 @@
 -- Tables with the levels of the commands so far that touch each key and that write it.
-use Rattle.std.specs.Prelude.{◌≡◌, ◌⊎◌, ℕ, suc, max, ◌<◌, Bool, true, false, List, [], ◌∷◌, ◌++◌}
+use Rattle.std.specs.Prelude.{◌≡◌, ◌⊎◌, ℕ, suc, max, ◌<◌, Bool, List, [], ◌∷◌, ◌++◌}
 use Rattle.std.specs.Prelude.{if◌then◌else◌, length, map, flat_map, slice_index_or, slice_set}
 use Rattle.std.specs.Prelude.{Contains}
 use Rattle.epx_types.specs.declared.op.Op.{Op}
-use Rattle.epx_types.specs.declared.op.Op.TheVariants.{Get, Put, Del, Add, Is, Floor, Copy}
 use Rattle.epx_types.specs.CommandKeys.{touched_by, written_by}
 use Rattle.epx_types.specs.Conflicts.{Conflict}
 use Rattle.epx_apply.specs.declared.key_table.KeyLevels.{KeyLevels}
@@ -23,16 +22,6 @@ key_levels_at key_levels x = slice_index_or key_levels x no_levels
 
 abbrev pub key_at : List (List ℕ) → ℕ → List ℕ
 key_at keys x = slice_index_or keys x []
-
--- the keys of an operation; each is marked true if the operation writes it
-abbrev pub accesses_of : Op → List (List ℕ × Bool)
-accesses_of (Get k) = (k, false) ∷ []
-accesses_of (Put k v) = (k, true) ∷ []
-accesses_of (Del k) = (k, true) ∷ []
-accesses_of (Add k n) = (k, true) ∷ []
-accesses_of (Is k v) = (k, false) ∷ []
-accesses_of (Floor k least) = (k, false) ∷ []
-accesses_of (Copy k j) = (k, false) ∷ (j, true) ∷ []
 
 abbrev pub touched_in : List Op → List (List ℕ)
 touched_in ops = flat_map touched_by ops

@@ -1,11 +1,11 @@
 -- Which keys commands touch. Keys are distinguished by their hashes alone.
-use Rattle.std.specs.Prelude.{◌≡◌, ℕ, ◌<◌, Bool, true, false, List, [], ◌∷◌, fold, flat_map}
+use Rattle.std.specs.Prelude.{◌≡◌, ℕ, ◌<◌, Bool, List, map, fold, flat_map}
 use Rattle.std.specs.Prelude.{slice_get, slice_index, Some, Contains}
 use Rattle.std.specs.declared.hash.DefaultHasher.{DefaultHasher}
 use Rattle.std.specs.Hash as fed
 use Rattle.std.specs.Hash.DefaultHasher as sip
 use Rattle.epx_types.specs.declared.op.Op.{Op}
-use Rattle.epx_types.specs.declared.op.Op.TheVariants.{Get, Put, Del, Add, Is, Floor, Copy}
+use Rattle.epx_types.specs.CommandKeys.{accesses_of}
 use Rattle.epx_types.specs.Instances.{Instance}
 use Rattle.epx_order.specs.declared.audits.touches.Touch.{Touch}
 
@@ -19,14 +19,7 @@ touch start position key writes =
     record { hash = hash_of start key; position = position; writes = writes }
 
 abbrev pub touches_by : DefaultHasher → ℕ → Op → List Touch
-touches_by start position (Get k) = touch start position k false ∷ []
-touches_by start position (Put k v) = touch start position k true ∷ []
-touches_by start position (Del k) = touch start position k true ∷ []
-touches_by start position (Add k n) = touch start position k true ∷ []
-touches_by start position (Is k v) = touch start position k false ∷ []
-touches_by start position (Floor k least) = touch start position k false ∷ []
-touches_by start position (Copy k j) =
-    touch start position k false ∷ touch start position j true ∷ []
+touches_by start position op = map (λ a. touch start position a.0 a.1) (accesses_of op)
 
 abbrev pub touches_of : DefaultHasher → ℕ → List Op → List Touch
 touches_of start position ops = flat_map (touches_by start position) ops

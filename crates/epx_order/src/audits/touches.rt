@@ -57,17 +57,11 @@ fn add_operation(
     ensures { OnOk result (touches.new.items ≡ touches.old.items
         ++ touches_by start position op.now) }
 {
-    match op {
-        Op::Get { key } | Op::Is { key, .. } | Op::Floor { key, .. } => {
-            add_key(touches, start, position, key, false)
-        }
-        Op::Put { key, .. } | Op::Del { key } | Op::Add { key, .. } => {
-            add_key(touches, start, position, key, true)
-        }
-        Op::Copy { source, target } => {
-            add_key(touches, start, position, source, false)?;
-            add_key(touches, start, position, target, true)
-        }
+    let (first, second) = op.accesses();
+    add_key(touches, start, position, first.key, first.writes)?;
+    match second {
+        Some(access) => add_key(touches, start, position, access.key, access.writes),
+        None => Ok(()),
     }
 }
 

@@ -1,4 +1,4 @@
-use Rattle.epx_types.proofs.remaining.RemainingReadinessLemmas.{remaining_is_ready_alike}
+use Rattle.epx_laws.proofs.RemainingReadinessLemmas.{remaining_is_ready_alike}
 use Rattle.epx_laws.proofs.done.remaining_is_ready_alike.Goals as goal
 
 pub returns : goal.returns

@@ -1,4 +1,4 @@
-use Rattle.epx_types.proofs.committed.LargerMapLemmas.{reply-in_more}
+use Rattle.epx_laws.proofs.LargerMapLemmas.{reply-in_more}
 use Rattle.epx_laws.proofs.growth.replies_stay.Goals as goal
 
 pub returns : goal.returns

@@ -1,6 +1,6 @@
-use Rattle.epx_types.proofs.orders.ComponentCountLemmas.{leaders_of, length-leaders_of}
-use Rattle.epx_types.proofs.orders.ComponentCountLemmas.{AllPairs-leaders_of, leaders_of-lead}
-use Rattle.epx_types.proofs.orders.ComponentCountLemmas.{Contains-leaders_of}
+use Rattle.epx_laws.proofs.ComponentCountLemmas.{leaders_of, length-leaders_of}
+use Rattle.epx_laws.proofs.ComponentCountLemmas.{AllPairs-leaders_of, leaders_of-lead}
+use Rattle.epx_laws.proofs.ComponentCountLemmas.{Contains-leaders_of}
 use Rattle.epx_laws.proofs.order.components_are_counted.Goals as goal
 
 pub returns : goal.returns

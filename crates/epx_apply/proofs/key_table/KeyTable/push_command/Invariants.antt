@@ -1,5 +1,6 @@
 use Rattle.std.proofs.Common.{take, flat_map}
-use Rattle.epx_apply.specs.inner.KeyTables.{AddsAccesses, accesses_of}
+use Rattle.epx_types.specs.CommandKeys.{accesses_of}
+use Rattle.epx_apply.specs.inner.KeyTables.{AddsAccesses}
 use Rattle.epx_apply.proofs.key_table.KeyTable.push_command.Given as goal
 
 -- the keys of the operations so far are added

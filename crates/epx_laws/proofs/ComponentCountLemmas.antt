@@ -3,7 +3,6 @@ use Rattle.std.proofs.Common.{◌≡◌, ◌≢◌, Bool, true, List, map, filte
 use Rattle.std.proofs.Common.{is_eq, sym, ap, ◌∙◌, subst}
 use Rattle.std.specs.Cmp.{Equal-is, tied_itself}
 use Rattle.std.proofs.lemmas.List.{length-map}
-use Rattle.std.proofs.lemmas.List.Elements.{All-contains, filter_passes}
 use Rattle.std.proofs.lemmas.List.Kept.{AllPairs-filter}
 use Rattle.std.proofs.lemmas.List.Sums.{length-filter}
 use Rattle.epx_types.specs.declared.id.Id.{Id}
@@ -13,6 +12,7 @@ use Rattle.epx_types.specs.ExecutionOrder.{Ranked, ranked_ids, IsExecutionOrder,
 use Rattle.epx_types.proofs.lists.ComparisonLemmas.{id_cmp_total, id_cmp-IsAntisymmetric}
 use Rattle.epx_types.proofs.lists.MembershipLemmas.{Contains-map, Contains-from_map}
 use Rattle.epx_types.proofs.lists.MembershipLemmas.{Contains-filter, Contains-from_filter}
+use Rattle.epx_types.proofs.lists.MembershipLemmas.{passes-from_filter}
 use Rattle.epx_types.proofs.lists.ListPositionLemmas.{slice_get-map, slice_get-from_map}
 use Rattle.epx_types.proofs.lists.ListPositionLemmas.{AllPairs-slice_get, AllPairs-from_slice_get}
 use Rattle.epx_types.proofs.orders.ExecutionOrderLemmas.{IsExecutionOrder-once}
@@ -55,8 +55,7 @@ module _ (m : List Instance) (order : List Ranked) (h : IsExecutionOrder m order
   unfolding leaders_of
   leaders_of-lead x in_leaders =
       let r = Contains-from_map (λ (r : Ranked). r.id) (filter leads order) x in_leaders in
-      let passes : leads r.0 ≡ true = All-contains (λ r. leads r ≡ true) (filter leads order) r.0
-      (filter_passes leads order) r.1 in (
+      let passes = passes-from_filter leads order r.0 r.1 in (
         r.0,
         Contains-from_filter leads order r.0 r.1,
         sym (id_cmp-IsAntisymmetric r.0.id r.0.leader

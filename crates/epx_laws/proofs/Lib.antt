@@ -1,0 +1,3 @@
+mod ComponentCountLemmas
+mod LargerMapLemmas
+mod RemainingReadinessLemmas
