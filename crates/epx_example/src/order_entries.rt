@@ -3,11 +3,11 @@ ghost use Rattle.std.specs.Prelude.{MatchResult};
 ghost use Rattle.epx_types.specs.Done.{remaining};
 ghost use Rattle.epx_types.specs.ExecutionOrder.{IsExecutionOrder};
 ghost use Rattle.epx_types.specs.Ids.{IsRising};
-ghost use Rattle.epx_merge.specs.EntryLines.{entry_lines};
-ghost use Rattle.epx_merge.specs.Steps.{IsMerged, IsMergeFault};
+ghost use Rattle.epx_committed.specs.EntryLines.{entry_lines};
+ghost use Rattle.epx_committed.specs.MergedLines.{IsMerged, IsMergeFault};
 
+use epx_committed::{Merged, from_entries};
 use epx_graph::{Graph, build_after};
-use epx_merge::{Merged, from_entries};
 use epx_order::{OrderList, order};
 use epx_types::{Entry, Fault, Id, Plan};
 use std::alloc::Global;

@@ -13,7 +13,7 @@ use crate::find_id::find_id;
 use crate::graph::Graph;
 use crate::left::Remainder;
 use crate::rows::Rows;
-use epx_merge::Merged;
+use epx_committed::Merged;
 use epx_types::{Id, Memory, Plan};
 use std::alloc::Global;
 use std::thread::Threads;

@@ -7,7 +7,7 @@ ghost use Rattle.epx_types.specs.Ids.{IsRising};
 ghost use Rattle.epx_graph.specs.inner.Remainder.{IsIdStateOf, IsAtPosition, left_of};
 
 use crate::find_id::{find_id, is_absent};
-use epx_merge::{Guesses, Merged};
+use epx_committed::{Guesses, Merged};
 use epx_types::{Entry, Id, Memory};
 use std::alloc::Global;
 use std::marker::Model;

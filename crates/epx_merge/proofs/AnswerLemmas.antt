@@ -9,7 +9,8 @@ use Rattle.epx_types.specs.Instances.{Instance}
 use Rattle.epx_merge.specs.LogLines.{placed_of, bad_lines_of}
 use Rattle.epx_merge.specs.Refusals.{FitLimits, AreWellFormed, IsRefusal}
 use Rattle.epx_merge.specs.Acceptance.{IsAccepted}
-use Rattle.epx_merge.specs.Steps.{IsMerged, IsMergeFault, IsReadFault}
+use Rattle.epx_committed.specs.MergedLines.{IsMerged, IsMergeFault}
+use Rattle.epx_merge.specs.inner.ReadFaults.{IsReadFault}
 
 pub fault_refuses : (logs : List (List ℕ)) → AreWellFormed logs → (f : Fault)
     → IsMergeFault (placed_of logs) f → IsRefusal logs f

@@ -10,10 +10,10 @@ use Rattle.epx_types.proofs.lists.MembershipLemmas.{Contains-nil}
 use Rattle.epx_lines.specs.declared.Line.{Line}
 use Rattle.epx_merge.specs.declared.pieces.BadLine.{BadLine}
 use Rattle.epx_merge.specs.LogLines.{MeaningAt, placed_among, bad_lines_among}
-use Rattle.epx_merge.specs.inner.Ledgers.{LedgerView, IsLedgerOf, NotesLines}
+use Rattle.epx_committed.specs.Ledgers.{LedgerView, IsLedgerOf, NotesLines}
 use Rattle.epx_merge.specs.inner.NotedLines.{AreNoted}
 use Rattle.epx_merge.specs.inner.ReadPieces.{AreRead, IsBatchRead}
-use Rattle.epx_merge.specs.Steps.{IsReadFault}
+use Rattle.epx_merge.specs.inner.ReadFaults.{IsReadFault}
 use Rattle.epx_merge.specs.inner.RedundantLines.{IsRedundant, IsCacheOf, CachesSomeOf}
 use Rattle.epx_merge.specs.inner.RedundantLines.{DropsRedundant, DropsCached}
 use Rattle.epx_merge.specs.inner.ReadSteps.{IsReadStep}

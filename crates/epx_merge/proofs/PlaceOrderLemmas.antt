@@ -1,43 +1,26 @@
 -- The lines of logs are sorted by place.
-use Rattle.std.proofs.Common.{◌≡◌, ◌⊎◌, inl, inr, ℕ, suc, ◌<◌, ◌≤◌, List, [], ◌∷◌, ◌++◌, flat_map}
-use Rattle.std.proofs.Common.{Contains, Result, Ok, Err, sym, ap, subst, subst₂, ◌∙◌, arith}
+use Rattle.std.proofs.Common.{◌≡◌, ◌⊎◌, inl, inr, ℕ, suc, ◌<◌, ◌≤◌, List, [], ◌∷◌, flat_map}
+use Rattle.std.proofs.Common.{Contains, Result, Ok, Err, sym, ap, subst, subst₂, arith}
 use Rattle.std.proofs.lemmas.Bool.Decides.{nat_tests}
 use Rattle.std.proofs.lemmas.List.Elements.{Contains-append_cases}
 use Rattle.epx_types.specs.declared.place.Place.{Place}
 use Rattle.epx_types.specs.declared.fault.Why.{Why}
 use Rattle.epx_types.specs.PlacedLines.{Placed, Earlier, HaveDistinctPlaces}
-use Rattle.epx_types.proofs.lists.ComparisonLemmas.{place_cmp_total}
 use Rattle.epx_types.proofs.lists.MembershipLemmas.{Contains-nil, Contains-head, Contains-cons}
 use Rattle.epx_types.proofs.lists.MembershipLemmas.{Contains-cons_cases}
-use Rattle.epx_types.proofs.lists.TotalOrderLemmas.{below_irrefl}
 use Rattle.epx_lines.specs.Lines.{lines_of}
 use Rattle.epx_lines.specs.declared.Line.{Line}
 use Rattle.epx_lines.specs.declared.Line.TheVariants.{Blank, Entry}
 use Rattle.epx_merge.specs.LogLines.{MeaningAt, meaning_at, meanings_in, meanings_from}
 use Rattle.epx_merge.specs.LogLines.{meanings_of, placed_at, placed_of, BadLineAt, bad_lines_at}
 use Rattle.epx_merge.specs.LogLines.{bad_lines_of}
-use Rattle.epx_merge.specs.inner.LineOrder.{AreSortedBy, IsSortedByPlace}
+use Rattle.epx_committed.specs.LineOrder.{AreSortedBy, IsSortedByPlace}
+use Rattle.epx_committed.proofs.LineOrderLemmas.{earlier_line, AreSortedBy-append}
+use Rattle.epx_committed.proofs.LineOrderLemmas.{distinct_places}
 use Rattle.epx_merge.specs.Refusals.{IsFirstBadLine}
 
 earlier_log : (p q : Place) → p.log < q.log → Earlier p q
 earlier_log p q h = grind (arith, nat_tests)
-
-pub earlier_line : (p q : Place) → p.log ≡ q.log → p.line < q.line → Earlier p q
-earlier_line p q e h = grind (arith, nat_tests)
-
--- ---- two sorted lists, where all of the first is before all of the second
-
-AreSortedBy-append : {X : Type 0} (at : X → Place) (xs ys : List X) → AreSortedBy at xs
-    → AreSortedBy at ys → ((x y : X) → Contains xs x → Contains ys y → Earlier (at x) (at y))
-    → AreSortedBy at (xs ++ ys)
-AreSortedBy-append at [] ys a b before = b
-AreSortedBy-append at (x ∷ xs) ys a b before = (
-  (λ y h. elim (Contains-append_cases xs ys y h) [
-    | inl c ↦ a.0 y c
-    | inr c ↦ before x y (Contains-head x xs) c
-  ]),
-  AreSortedBy-append at xs ys a.1 b (λ z y hz hy. before z y (Contains-cons x xs z hz) hy),
-)
 
 -- ---- the items of each line, at its own place
 
@@ -128,26 +111,6 @@ placed_in_order logs =
     AreSortedBy-flat_map (λ (p : Placed). p.place) (λ l. placed_at l.place l.meaning)
     (λ l. placed_there l.place l.meaning) (λ l. placed_one l.place l.meaning)
     (meanings_of logs) (logs_in_order 0 logs)
-
-pub distinct_places : (lines : List Placed) → IsSortedByPlace lines → HaveDistinctPlaces lines
-distinct_places [] order p q in_p in_q same = absurd (Contains-nil p in_p)
-distinct_places (x ∷ lines) order p q in_p in_q same =
-    elim (Contains-cons_cases x lines p in_p) [
-      | inl is_p ↦ elim (Contains-cons_cases x lines q in_q) [
-        | inl is_q ↦ sym is_p ∙ is_q
-        | inr rest ↦ absurd
-            (below_irrefl place_cmp_total q.place
-            (subst (λ (at : Place). Earlier at q.place) (ap (λ (l : Placed). l.place) is_p ∙ same)
-            (order.0 q rest)))
-      ]
-      | inr rest_p ↦ elim (Contains-cons_cases x lines q in_q) [
-        | inl is_q ↦ absurd
-            (below_irrefl place_cmp_total p.place
-            (subst (λ (at : Place). Earlier at p.place)
-            (ap (λ (l : Placed). l.place) is_q ∙ sym same) (order.0 p rest_p)))
-        | inr rest_q ↦ distinct_places lines order.1 p q rest_p rest_q same
-      ]
-    ]
 
 -- no two of them have the same place
 pub placed_apart : (logs : List (List ℕ)) → HaveDistinctPlaces (placed_of logs)

@@ -1,7 +1,6 @@
 -- Logs are never both accepted and refused. They have at most one refusal except out of memory,
 -- and commit at most one map.
-use Rattle.std.proofs.Common.{◌≡◌, ◌≢◌, ℕ, ◌<◌, List, ◌∷◌, length, Contains, refl, sym, ap, subst}
-use Rattle.std.proofs.Common.{◌∙◌, arith}
+use Rattle.std.proofs.Common.{◌≡◌, ◌≢◌, ℕ, ◌<◌, List, ◌∷◌, refl, sym, ap, ◌∙◌, arith}
 use Rattle.epx_types.specs.declared.id.Id.{Id}
 use Rattle.epx_types.specs.declared.place.Place.{Place}
 use Rattle.epx_types.specs.declared.fault.Fault.{Fault}
@@ -9,35 +8,16 @@ use Rattle.epx_types.specs.declared.fault.Fault.TheVariants.{Memory, TooManyLogs
 use Rattle.epx_types.specs.declared.fault.Fault.TheVariants.{BadLine, TooManyInstances, Disagree}
 use Rattle.epx_types.specs.declared.fault.Fault.TheVariants.{Read, Write, BadBase}
 use Rattle.epx_types.specs.declared.fault.Why.{Why}
-use Rattle.epx_types.specs.Ids.{Below}
 use Rattle.epx_types.specs.Instances.{Instance}
 use Rattle.epx_types.specs.PlacedLines.{Placed}
 use Rattle.epx_types.proofs.committed.AgreementLemmas.{IsCommittedBy-unique}
 use Rattle.epx_types.proofs.committed.AgreementLemmas.{IsFirstDisagreement-unique}
-use Rattle.epx_types.proofs.lists.ComparisonLemmas.{id_cmp_total}
-use Rattle.epx_types.proofs.lists.RisingIdLemmas.{AllPairs-from_IsRising}
-use Rattle.epx_types.proofs.lists.TotalOrderLemmas.{below_irrefl, below_trans, same_rising}
+use Rattle.epx_committed.specs.MergedLines.{IsDisagreementAt}
+use Rattle.epx_committed.proofs.InstanceCountLemmas.{not_few_and_many}
 use Rattle.epx_merge.specs.LogLines.{placed_of, BadLineAt, bad_lines_of}
-use Rattle.epx_merge.specs.Refusals.{IsFirstTooLong, NoneTooLong, IsFirstBadLine, AreNamedBy}
-use Rattle.epx_merge.specs.Refusals.{FewInstances, ManyInstances, IsDisagreementAt, IsRefusal}
+use Rattle.epx_merge.specs.Refusals.{IsFirstTooLong, NoneTooLong, IsFirstBadLine, IsRefusal}
 use Rattle.epx_merge.specs.Acceptance.{IsAccepted}
 use Rattle.epx_merge.proofs.PlaceOrderLemmas.{placed_apart}
-
-named_within : (lines : List Placed) (xs ys : List Id) → AreNamedBy lines xs → AreNamedBy lines ys
-    → (z : Id) → Contains xs z → Contains ys z
-named_within lines xs ys a b z h = let p = a.named z h in subst (Contains ys) p.2 (b.whole p.0 p.1)
-
--- lines have one list of distinct Ids
-named_unique : (lines : List Placed) (xs ys : List Id) → AreNamedBy lines xs → AreNamedBy lines ys
-    → xs ≡ ys
-named_unique lines xs ys a b =
-    same_rising Below (below_irrefl id_cmp_total) (below_trans id_cmp_total) xs ys
-    (AllPairs-from_IsRising xs a.rising) (AllPairs-from_IsRising ys b.rising)
-    (named_within lines xs ys a b) (named_within lines ys xs b a)
-
-not_small_and_large : (lines : List Placed) → FewInstances lines → ¬ ManyInstances lines
-not_small_and_large lines few many =
-    omega (arith, few.2, many.2, ap length (named_unique lines few.0 many.0 few.1 many.1))
 
 none_and_first_too_long : (logs : List (List ℕ)) (log : ℕ) → NoneTooLong logs
     → ¬ IsFirstTooLong logs log
@@ -59,7 +39,7 @@ accepted_not_refused logs m (LogTooLong log) a r =
 accepted_not_refused logs m (BadLine place why) a r = let none = a.whole.1 in let some = r.1.1 in
     cc
 accepted_not_refused logs m TooManyInstances a r =
-    absurd (not_small_and_large (placed_of logs) a.small r.1)
+    absurd (not_few_and_many (placed_of logs) a.small r.1)
 accepted_not_refused logs m (Disagree id first second) a r = let d = r.2.2 in
     absurd (d.differ.1 (a.agree r.2.0 r.2.1 d.has_first d.has_second d.differ.0))
 accepted_not_refused logs m (Read log) a r = absurd r
@@ -149,7 +129,7 @@ refusal_unique logs TooManyInstances (BadLine n how) nf ng a b = let some = b.1.
     let none = a.0.1 in cc
 refusal_unique logs TooManyInstances TooManyInstances nf ng a b = refl
 refusal_unique logs TooManyInstances (Disagree y r s) nf ng a b =
-    absurd (not_small_and_large (placed_of logs) b.1 a.1)
+    absurd (not_few_and_many (placed_of logs) b.1 a.1)
 refusal_unique logs (Disagree x p q) Memory nf ng a b = absurd (ng refl)
 refusal_unique logs (Disagree x p q) (Read log) nf ng a b = absurd b
 refusal_unique logs (Disagree x p q) Write nf ng a b = absurd b
@@ -160,6 +140,6 @@ refusal_unique logs (Disagree x p q) (LogTooLong k) nf ng a b =
 refusal_unique logs (Disagree x p q) (BadLine n how) nf ng a b = let some = b.1.1 in
     let none = a.0.1 in cc
 refusal_unique logs (Disagree x p q) TooManyInstances nf ng a b =
-    absurd (not_small_and_large (placed_of logs) a.1 b.1)
+    absurd (not_few_and_many (placed_of logs) a.1 b.1)
 refusal_unique logs (Disagree x p q) (Disagree y r s) nf ng a b =
     same_disagreement logs x y p q r s a.2 b.2

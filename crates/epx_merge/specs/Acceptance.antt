@@ -4,7 +4,8 @@ use Rattle.epx_types.specs.Instances.{Instance}
 use Rattle.epx_types.specs.Agreement.{Agree}
 use Rattle.epx_types.specs.CommittedMap.{IsCommittedBy}
 use Rattle.epx_merge.specs.LogLines.{placed_of}
-use Rattle.epx_merge.specs.Refusals.{AreWellFormed, FewInstances}
+use Rattle.epx_committed.specs.InstanceCounts.{FewInstances}
+use Rattle.epx_merge.specs.Refusals.{AreWellFormed}
 
 pub record IsAccepted (logs : List (List ℕ)) (m : List Instance) : Type 0 where
   pub whole : AreWellFormed logs

@@ -3,7 +3,5 @@ pub mod LogLines
 pub mod Refusals
 pub mod Acceptance
 pub mod LogLaws
-pub mod Steps
-pub mod EntryLines
 pub mod LaterLogs
 pub mod inner

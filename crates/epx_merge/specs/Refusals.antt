@@ -1,16 +1,14 @@
 -- The refusals of logs, in their order.
-use Rattle.std.specs.Prelude.{◌≡◌, ℕ, ◌<◌, ◌≤◌, List, [], ◌∷◌, length, Contains, slice_get, Some}
-use Rattle.epx_types.specs.declared.id.Id.{Id}
+use Rattle.std.specs.Prelude.{◌≡◌, ℕ, ◌<◌, ◌≤◌, List, [], ◌∷◌, length, slice_get, Some}
 use Rattle.epx_types.specs.declared.place.Place.{Place}
 use Rattle.epx_types.specs.declared.fault.Fault.{Fault}
 use Rattle.epx_types.specs.declared.fault.Fault.TheVariants.{Memory, TooManyLogs, LogTooLong}
 use Rattle.epx_types.specs.declared.fault.Fault.TheVariants.{BadLine, TooManyInstances, Disagree}
 use Rattle.epx_types.specs.declared.fault.Fault.TheVariants.{Read, Write, BadBase}
 use Rattle.epx_types.specs.declared.fault.Why.{Why}
-use Rattle.epx_types.specs.Ids.{IsRising}
-use Rattle.epx_types.specs.PlacedLines.{Placed}
-use Rattle.epx_types.specs.Agreement.{IsFirstDisagreement}
-use Rattle.epx_merge.specs.Limits.{max_logs, max_log_bytes, max_instances}
+use Rattle.epx_committed.specs.InstanceCounts.{FewInstances, ManyInstances}
+use Rattle.epx_committed.specs.MergedLines.{IsDisagreementAt}
+use Rattle.epx_merge.specs.Limits.{max_logs, max_log_bytes}
 use Rattle.epx_merge.specs.LogLines.{placed_of, BadLineAt, bad_lines_of}
 
 -- ---- the least log that is too long
@@ -38,28 +36,6 @@ IsFirstBadLine lines place why = (rest : List BadLineAt)
 -- the logs fit, and no line is bad
 abbrev pub AreWellFormed : List (List ℕ) → Type 0
 AreWellFormed logs = FitLimits logs × (bad_lines_of logs ≡ [])
-
--- ---- too many instances
-
--- the distinct Ids of the lines, by rising Id
-pub record AreNamedBy (lines : List Placed) (ids : List Id) : Type 0 where
-  pub rising : IsRising ids
-  pub whole : (p : Placed) → Contains lines p → Contains ids p.instance.id
-  pub named : (x : Id) → Contains ids x → (p : Placed) × Contains lines p × (p.instance.id ≡ x)
-
-abbrev pub FewInstances : List Placed → Type 0
-FewInstances lines = (ids : List Id) × AreNamedBy lines ids × (length ids ≤ max_instances)
-
-abbrev pub ManyInstances : List Placed → Type 0
-ManyInstances lines = (ids : List Id) × AreNamedBy lines ids × (max_instances < length ids)
-
--- ---- the first disagreement
-
--- the least instance with two lines that differ, the place of its first line, and of the first
--- later line that differs from that one
-abbrev pub IsDisagreementAt : List Placed → Id → Place → Place → Type 0
-IsDisagreementAt lines id first second = (p q : Placed) × IsFirstDisagreement lines id p q
-    × (p.place ≡ first) × (q.place ≡ second)
 
 -- ---- all of them
 

@@ -1,9 +1,6 @@
 -- Words of private clauses: no public contract speaks of them.
-pub mod Ledgers
-pub mod LeastDisagreement
-pub mod LineOrder
+pub mod ReadFaults
 pub mod ReadPieces
 pub mod RedundantLines
 pub mod ReadSteps
-pub mod LineRows
 pub mod NotedLines

@@ -2,8 +2,8 @@
 ghost use Rattle.std.specs.Prelude.{[], IfOk};
 ghost use Rattle.epx_merge.specs.inner.NotedLines.{AreNoted};
 
-use crate::ledger::Ledger;
 use crate::line_cache::LineCache;
+use epx_committed::Ledger;
 use epx_seed::Seed;
 use epx_types::Memory;
 use std::alloc::Global;

@@ -6,14 +6,13 @@ ghost use Rattle.epx_merge.specs.LogLines.{MeaningAt, placed_at, placed_among, b
 ghost use Rattle.epx_merge.specs.LogLines.{bad_lines_among};
 ghost use Rattle.epx_merge.specs.inner.ReadPieces.{AreRead, IsReadBeside, SkipsOrReads};
 ghost use Rattle.epx_merge.specs.inner.ReadPieces.{lines_of_piece, HasEntries};
-ghost use Rattle.epx_merge.specs.inner.Ledgers.{NotesLines};
-ghost use Rattle.epx_merge.specs.Steps.{IsReadFault};
+ghost use Rattle.epx_committed.specs.Ledgers.{NotesLines};
+ghost use Rattle.epx_merge.specs.inner.ReadFaults.{IsReadFault};
 
 use crate::fresh_line::FreshLine;
-use crate::ledger::Ledger;
 use crate::line::PlacedLine;
 use crate::line_cache::LineCache;
-use crate::placed::PlacedEntry;
+use epx_committed::{Ledger, PlacedEntry};
 use epx_lines::{Line, LineFault, LineReader};
 use epx_types::{Fault, Memory, Place, Plan, Why};
 use std::alloc::Global;

@@ -8,11 +8,11 @@ ghost use Rattle.epx_merge.specs.LaterLogs.{IsMergeWith};
 ghost use Rattle.epx_merge.specs.Refusals.{FitLimits, IsRefusal};
 
 use crate::limits::{first_too_long, first_too_long_with};
-use crate::merged::Merged;
 use crate::noted_lines::NotedLines;
 use crate::read_batches::read_batches;
 use crate::walk::LineWalk;
 use epx_claims::Gate;
+use epx_committed::Merged;
 use epx_seed::Seed;
 use epx_types::limits::MAX_LOGS;
 use epx_types::{Fault, Plan};

@@ -5,7 +5,7 @@ ghost use Rattle.epx_merge.specs.inner.NotedLines.{AreNoted, IsNoting};
 ghost use Rattle.epx_merge.specs.inner.ReadSteps.{IsReadStep};
 ghost use Rattle.epx_merge.specs.inner.ReadPieces.{AreRead, AreReadBeside, IsBatchRead, HasEntries};
 ghost use Rattle.epx_merge.specs.LogLines.{MeaningAt, bad_lines_among};
-ghost use Rattle.epx_merge.specs.Steps.{IsReadFault};
+ghost use Rattle.epx_merge.specs.inner.ReadFaults.{IsReadFault};
 
 use crate::fresh_line::cache_batch;
 use crate::line::PlacedLine;

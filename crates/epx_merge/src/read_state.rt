@@ -3,13 +3,13 @@ ghost use Rattle.std.specs.Prelude.{List, MatchResult};
 ghost use Rattle.epx_merge.specs.inner.ReadSteps.{IsReadStep};
 ghost use Rattle.epx_merge.specs.LogLines.{MeaningAt, bad_lines_among};
 ghost use Rattle.epx_merge.specs.inner.ReadPieces.{AreRead, HasEntries};
-ghost use Rattle.epx_merge.specs.Steps.{IsReadFault};
+ghost use Rattle.epx_merge.specs.inner.ReadFaults.{IsReadFault};
 
-use crate::ledger::Ledger;
 use crate::line::PlacedLine;
 use crate::next_batch::next_batch;
 use crate::pieces::{Pieces, note_pieces};
 use crate::walk::LineWalk;
+use epx_committed::Ledger;
 use epx_types::{Fault, Plan};
 use std::alloc::Global;
 

@@ -8,8 +8,8 @@ ghost use Rattle.epx_graph.specs.GraphOf.{IsGraphOfRest, IsGraphOf};
 
 use crate::order_list::OrderList;
 use crate::ready::ready_ranks;
+use epx_committed::Merged;
 use epx_graph::Graph;
-use epx_merge::Merged;
 use epx_types::Memory;
 use rayon::prelude::*;
 use std::alloc::Global;

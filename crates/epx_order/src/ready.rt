@@ -12,9 +12,9 @@ ghost use Rattle.epx_order.specs.inner.Ranks.{ranked, AreReadyRanks};
 ghost use Rattle.epx_components.specs.NodeRanks.{IsNodeRank};
 
 use crate::rank::Rank;
+use epx_committed::Merged;
 use epx_components::{NodeRank, NodeRanks};
 use epx_graph::Graph;
-use epx_merge::Merged;
 use epx_types::{Id, Memory};
 use std::alloc::Global;
 

@@ -11,9 +11,9 @@ ghost use Rattle.epx_picture.specs.Pictures.{IsPicture};
 use crate::cluster::{cluster_of, mark_leaders};
 use crate::node_box::NodeBox;
 use crate::picture_writer::write_picture;
+use epx_committed::Merged;
 use epx_components::{NodeRank, NodeRanks};
 use epx_graph::Graph;
-use epx_merge::Merged;
 use epx_types::Memory;
 use std::alloc::Global;
 

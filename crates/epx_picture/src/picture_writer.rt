@@ -4,7 +4,7 @@ ghost use Rattle.epx_picture.specs.PictureText.{arrow_line, arrow_lines, box_lin
 ghost use Rattle.epx_picture.specs.PictureText.{picture_text};
 
 use crate::node_box::NodeBox;
-use epx_merge::Merged;
+use epx_committed::Merged;
 use epx_types::{Entry, Id, Memory};
 use std::alloc::{AllocError, Global};
 

@@ -10,9 +10,9 @@ use Rattle.epx_types.proofs.lists.MembershipLemmas.{Contains-map, Contains-from_
 use Rattle.epx_types.proofs.lists.RisingIdLemmas.{AllPairs-from_IsRising}
 use Rattle.epx_types.proofs.lists.TotalOrderLemmas.{below_irrefl, below_trans, same_rising}
 use Rattle.epx_types.proofs.lists.ComparisonLemmas.{id_cmp_total}
-use Rattle.epx_merge.specs.Limits.{max_instances}
+use Rattle.epx_committed.specs.InstanceCounts.{max_instances}
 use Rattle.epx_merge.specs.LogLines.{placed_of}
-use Rattle.epx_merge.specs.Refusals.{AreNamedBy}
+use Rattle.epx_committed.specs.InstanceCounts.{AreNamedBy}
 use Rattle.epx_merge.specs.Acceptance.{IsAccepted}
 
 -- the Ids that lines name are those of the committed instances

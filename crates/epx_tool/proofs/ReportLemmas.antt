@@ -14,7 +14,7 @@ use Rattle.epx_types.specs.Execution.{execute}
 use Rattle.epx_types.specs.ExecutionOrder.{Ranked, IsExecutionOrder, ranked_ids}
 use Rattle.epx_types.specs.WaitingLists.{Waiting, IsWaitingList}
 use Rattle.epx_types.specs.Levels.{AreLevels}
-use Rattle.epx_merge.specs.Limits.{max_instances}
+use Rattle.epx_committed.specs.InstanceCounts.{max_instances}
 use Rattle.epx_tool.specs.Report.{IsReport, ops_found, commands_of, report_text}
 use Rattle.epx_tool.specs.ResumedReport.{IsReportAfter, resumed_text}
 use Rattle.epx_tool.specs.LevelText.{IsLevelText, level_text}

@@ -40,7 +40,7 @@ use Rattle.epx_lines.specs.Lines.{lines_of}
 use Rattle.epx_lines.specs.Meaning.{meaning_of}
 use Rattle.epx_lines.specs.declared.Line.{Line}
 use Rattle.epx_lines.specs.declared.Line.TheVariants.{Blank, Entry}
-use Rattle.epx_merge.specs.Limits.{max_instances}
+use Rattle.epx_committed.specs.InstanceCounts.{max_instances}
 use Rattle.epx_merge.specs.LogLines.{MeaningAt, meanings_in, meanings_from, meanings_of, placed_at}
 use Rattle.epx_merge.specs.Acceptance.{IsAccepted}
 use Rattle.epx_report.specs.ReportReadings.{FitsNumbers, FitsReply, FitsReportData}

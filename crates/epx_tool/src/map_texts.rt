@@ -5,7 +5,7 @@ ghost use Rattle.epx_types.specs.CommittedMap.{instance_of};
 ghost use Rattle.epx_types.specs.Execution.{execute};
 ghost use Rattle.epx_types.specs.Ids.{IsRising};
 ghost use Rattle.epx_types.specs.Levels.{AreLevels};
-ghost use Rattle.epx_merge.specs.Limits.{max_instances};
+ghost use Rattle.epx_committed.specs.InstanceCounts.{max_instances};
 ghost use Rattle.epx_tool.specs.OrderText.{IsOrderText};
 ghost use Rattle.epx_tool.specs.LevelText.{IsLevelText};
 ghost use Rattle.epx_tool.specs.AuditText.{IsAuditText};

@@ -4,7 +4,7 @@ ghost use Rattle.std.specs.Thread.{IsSync};
 ghost use Rattle.epx_report.specs.Bases.{IsBase, IsBadBase, IsBaseFault};
 ghost use Rattle.epx_types.specs.Ids.{IsRising};
 ghost use Rattle.epx_merge.specs.Acceptance.{IsAccepted};
-ghost use Rattle.epx_merge.specs.Limits.{max_instances};
+ghost use Rattle.epx_committed.specs.InstanceCounts.{max_instances};
 ghost use Rattle.epx_merge.specs.LogLines.{bytes_of};
 ghost use Rattle.epx_tool.specs.WithInput.{IsRefusalWithInput, IsShort};
 ghost use Rattle.epx_tool.specs.ResumedReport.{IsReportAfter};

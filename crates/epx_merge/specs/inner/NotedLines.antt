@@ -5,9 +5,9 @@ use Rattle.epx_types.specs.declared.fault.Why.{Why}
 use Rattle.epx_lines.specs.declared.Line.{Line}
 use Rattle.epx_merge.specs.declared.noted_lines.NotedLines.{NotedLines}
 use Rattle.epx_merge.specs.LogLines.{MeaningAt, placed_among, bad_lines_among}
-use Rattle.epx_merge.specs.inner.Ledgers.{LedgerView, IsLedgerOf}
+use Rattle.epx_committed.specs.Ledgers.{LedgerView, IsLedgerOf}
 use Rattle.epx_merge.specs.inner.RedundantLines.{DropsRedundant, IsCacheOf}
-use Rattle.epx_merge.specs.Steps.{IsReadFault}
+use Rattle.epx_merge.specs.inner.ReadFaults.{IsReadFault}
 
 -- none of the lines is bad; the ledger has all but some redundant ones, and the cache recognizes
 -- only lines that the ledger has

@@ -3,7 +3,7 @@ ghost use Rattle.std.specs.Prelude.{◌≡◌, ◌↔◌, ℕ, List, map, Contai
 ghost use Rattle.epx_types.specs.CommandKeys.{touched_keys, written_keys};
 ghost use Rattle.epx_order.specs.inner.NodeConflicts.{keys_of, KeysConflict};
 
-use epx_merge::Merged;
+use epx_committed::Merged;
 use epx_txn::{touched, written};
 use epx_types::{Key, Memory, Op};
 use std::alloc::Global;

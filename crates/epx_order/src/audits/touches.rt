@@ -3,7 +3,7 @@ ghost use Rattle.std.specs.Prelude.{◌≡◌, ◌<◌, [], ◌∷◌, ◌++◌,
 ghost use Rattle.epx_order.specs.inner.Touches.{hash_of, touch, touches_by, touches_of, ArePlaced};
 ghost use Rattle.epx_order.specs.inner.Touches.{HoldTouches};
 
-use epx_merge::Merged;
+use epx_committed::Merged;
 use epx_seed::Seed;
 use epx_types::{Key, Memory, Op};
 use std::alloc::Global;

@@ -1,7 +1,7 @@
 use Rattle.std.proofs.Common.{[], ◌∷◌, ◌∙◌, sym, subst}
 use Rattle.std.proofs.lemmas.List.{nil_from_length}
-use Rattle.epx_merge.specs.inner.Ledgers.{NotesLines}
-use Rattle.epx_merge.proofs.LedgerLemmas.{NotesLines-nil, NotesLines-append}
+use Rattle.epx_committed.specs.Ledgers.{NotesLines}
+use Rattle.epx_committed.proofs.LedgerLemmas.{NotesLines-nil, NotesLines-append}
 use Rattle.epx_merge.proofs.pieces.note_entries.Goals as goal
 
 pub loop-entry-preserved : goal.loop-entry-preserved

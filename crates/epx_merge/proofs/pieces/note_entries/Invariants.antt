@@ -1,4 +1,4 @@
-use Rattle.epx_merge.specs.inner.Ledgers.{LedgerView, NotesLines}
+use Rattle.epx_committed.specs.Ledgers.{LedgerView, NotesLines}
 use Rattle.epx_merge.proofs.pieces.note_entries.Given as goal
 
 -- noting the rest notes all entries

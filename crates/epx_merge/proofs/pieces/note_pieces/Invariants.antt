@@ -1,5 +1,5 @@
 use Rattle.std.proofs.Common.{List}
-use Rattle.epx_merge.specs.inner.Ledgers.{NotesLines}
+use Rattle.epx_committed.specs.Ledgers.{NotesLines}
 use Rattle.epx_merge.specs.LogLines.{MeaningAt}
 use Rattle.epx_merge.specs.inner.ReadPieces.{AreRead, HasEntries}
 use Rattle.epx_merge.proofs.ReadPieceLemmas.{IsGathering}

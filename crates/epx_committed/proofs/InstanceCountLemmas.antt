@@ -1,0 +1,53 @@
+-- Lines have one list of distinct Ids.
+use Rattle.std.proofs.Common.{◌≡◌, ◌⊎◌, inl, inr, List, map, length, Contains, ap, subst}
+use Rattle.std.proofs.Common.{arith}
+use Rattle.std.proofs.lemmas.Bool.{cases_lt}
+use Rattle.epx_types.specs.declared.id.Id.{Id}
+use Rattle.epx_types.specs.Ids.{Below}
+use Rattle.epx_types.specs.PlacedLines.{Placed}
+use Rattle.epx_types.proofs.lists.ComparisonLemmas.{id_cmp_total, id_cmp-IsAntisymmetric}
+use Rattle.epx_types.proofs.lists.MembershipLemmas.{Contains-map, Contains-from_map}
+use Rattle.epx_types.proofs.lists.RisingIdLemmas.{AllPairs-from_IsRising, IsRising-from_AllPairs}
+use Rattle.epx_types.proofs.lists.RisingListLemmas.{rising_list}
+use Rattle.epx_types.proofs.lists.TotalOrderLemmas.{below_irrefl, below_trans, same_rising}
+use Rattle.epx_committed.specs.InstanceCounts.{max_instances, AreNamedBy, FewInstances}
+use Rattle.epx_committed.specs.InstanceCounts.{ManyInstances}
+
+named_within : (lines : List Placed) (xs ys : List Id) → AreNamedBy lines xs → AreNamedBy lines ys
+    → (z : Id) → Contains xs z → Contains ys z
+named_within lines xs ys a b z h = let p = a.named z h in subst (Contains ys) p.2 (b.whole p.0 p.1)
+
+-- there is at most one
+named_unique : (lines : List Placed) (xs ys : List Id) → AreNamedBy lines xs → AreNamedBy lines ys
+    → xs ≡ ys
+named_unique lines xs ys a b =
+    same_rising Below (below_irrefl id_cmp_total) (below_trans id_cmp_total) xs ys
+    (AllPairs-from_IsRising xs a.rising) (AllPairs-from_IsRising ys b.rising)
+    (named_within lines xs ys a b) (named_within lines ys xs b a)
+
+pub not_few_and_many : (lines : List Placed) → FewInstances lines → ¬ ManyInstances lines
+not_few_and_many lines few many =
+    omega (arith, few.2, many.2, ap length (named_unique lines few.0 many.0 few.1 many.1))
+
+-- there is one
+named_ids : (lines : List Placed) → (ids : List Id) × AreNamedBy lines ids
+named_ids lines =
+    let ids = rising_list id_cmp_total id_cmp-IsAntisymmetric (λ _. Unit {0}) (λ _. inl tt)
+    (map (λ (p : Placed). p.instance.id) lines) in (
+      ids.0,
+      record {
+        rising = IsRising-from_AllPairs ids.0 ids.1.elements_rise;
+        whole = λ p h. ids.1.elements_all p.instance.id
+            (Contains-map (λ (q : Placed). q.instance.id) lines p h) tt;
+        named = λ x h. Contains-from_map (λ (p : Placed). p.instance.id) lines x
+            (ids.1.elements_only x h).0;
+      },
+    )
+
+pub few_or_many : (lines : List Placed) → FewInstances lines ⊎ ManyInstances lines
+few_or_many lines =
+    let ids = named_ids lines in
+    elim (cases_lt max_instances (length ids.0)) [
+      | inl many ↦ inr (ids.0, ids.1, many)
+      | inr few ↦ inl (ids.0, ids.1, few)
+    ]

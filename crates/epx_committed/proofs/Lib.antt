@@ -1,0 +1,13 @@
+mod EqualityLemmas
+mod FirstWhereLemmas
+pub mod LedgerLemmas
+mod LedgerMapLemmas
+mod SortedKeyLemmas
+mod LedgerCloseLemmas
+mod RowLemmas
+mod LineRowLemmas
+mod MergedMapLemmas
+pub mod LineOrderLemmas
+mod EntryOrderLemmas
+pub mod InstanceCountLemmas
+pub mod MergedLinesLemmas

@@ -1,0 +1,106 @@
+-- The committed map, from rows that name its lines.
+use Rattle.std.proofs.Common.{◌≡◌, ◌<◌, ℕ, get_or, arith, List, map, length, MatchOption, Option}
+use Rattle.std.proofs.Common.{None, Some, slice_get, Contains, refl, sym, ap, subst, subst₂, ◌∙◌}
+use Rattle.std.proofs.lemmas.List.{length-map}
+use Rattle.std.proofs.lemmas.List.Elements.{All-contains}
+use Rattle.std.proofs.lemmas.Option.{slice_get_read}
+use Rattle.epx_types.specs.declared.id.Id.{Id}
+use Rattle.epx_types.specs.Ids.{IsRising}
+use Rattle.epx_types.specs.Instances.{Instance}
+use Rattle.epx_types.specs.PlacedLines.{Placed}
+use Rattle.epx_types.specs.CommittedMap.{ids_of, instance_of, position_of}
+use Rattle.epx_types.proofs.lists.MembershipLemmas.{Contains-map}
+use Rattle.epx_types.proofs.committed.AgreementLemmas.{instance_of_iff}
+use Rattle.epx_types.proofs.lists.ListPositionLemmas.{Contains-slice_get, slice_get-from_Contains}
+use Rattle.epx_types.proofs.lists.ListPositionLemmas.{slice_get-map}
+use Rattle.epx_types.proofs.committed.PositionLemmas.{position_of-instance, position_of-found}
+use Rattle.epx_committed.specs.declared.rows.Row.{Row}
+use Rattle.epx_committed.specs.inner.LineRows.{instances_at, NamesItsLine, AreLineRows}
+use Rattle.epx_committed.proofs.LineRowLemmas.{instances_under, ids_under, stands_under}
+
+module _ (lines : List Placed) (rows : List Row) (h : AreLineRows lines rows) where
+  named : (r : Row) → Contains rows r → NamesItsLine lines r
+  named r has = All-contains (NamesItsLine lines) rows r h.named has
+
+  pub ids_at : ids_of (instances_at lines rows) ≡ map (λ r. r.id) rows
+  ids_at = ap ids_of (instances_under lines rows named) ∙ ids_under lines rows named
+
+  pub rising_at : IsRising (ids_of (instances_at lines rows))
+  rising_at = subst IsRising (sym ids_at) h.rising
+
+  pub length_at : length (instances_at lines rows) ≡ length rows
+  length_at = sym (length-map (instances_at lines rows) (λ (e : Instance). e.id))
+      ∙ ap length ids_at ∙ length-map rows (λ (r : Row). r.id)
+
+  -- a position of the map is one of the rows
+  pub within_rows : (m : List Instance) → instances_at lines rows ≡ m → (k : ℕ) → k < length m
+      → k < length rows
+  within_rows m is k within = omega (arith, length_at, ap length is, within)
+
+  pub row_there : (m : List Instance) → instances_at lines rows ≡ m → (k : ℕ) (r : Row)
+      → k < length m → r ≡ get_or rows k r → slice_get rows k ≡ Some r
+  row_there m is k r within at =
+      slice_get_read rows (length rows) k r refl (within_rows m is k within) at
+
+  row_stands : (k : ℕ) (r : Row) → slice_get rows k ≡ Some r
+      → (p : Placed) × (slice_get lines r.line ≡ Some p) × (p.instance.id ≡ r.id)
+      × (slice_get (instances_at lines rows) k ≡ Some p.instance)
+  row_stands k r at =
+      let p = named r (Contains-slice_get rows k r at) in
+      (p.0, p.1, p.2, stands_under lines rows named k r p.0 at p.1)
+
+  -- a row and the instance of its line have the same position
+  pub stands_at : (m : List Instance) → instances_at lines rows ≡ m → (k : ℕ) (r : Row)
+      → k < length m → r ≡ get_or rows k r
+      → (p : Placed) × (slice_get lines r.line ≡ Some p) × (p.instance.id ≡ r.id)
+      × (slice_get (instances_at lines rows) k ≡ Some p.instance)
+  stands_at m is k r within at = row_stands k r (row_there m is k r within at)
+
+  -- a row and the instance at its position have the same sequence number
+  pub seq_stands : (k : ℕ) (r : Row) → slice_get rows k ≡ Some r
+      → slice_get (map (λ i. i.seq) (instances_at lines rows)) k ≡ Some r.seq
+  seq_stands k r at =
+      let p = named r (Contains-slice_get rows k r at) in
+      slice_get-map (λ (i : Instance). i.seq) (instances_at lines rows) k p.0.instance
+      (stands_under lines rows named k r p.0 at p.1) ∙ ap Some p.3
+
+  pub found_position : (k : ℕ) (r : Row) (x : Id) → slice_get rows k ≡ Some r → r.id ≡ x
+      → position_of (instances_at lines rows) x ≡ Some k
+  found_position k r x at is =
+      let p = row_stands k r at in
+      position_of-found (instances_at lines rows) rising_at x k p.0.instance p.3 (p.2 ∙ is)
+
+  nowhere_at : (x : Id) → ¬ Contains (map (λ r. r.id) rows) x → (o : Option ℕ)
+      → position_of (instances_at lines rows) x ≡ o → o ≡ None
+  nowhere_at x none None at = refl
+  nowhere_at x none (Some k) at =
+      let e = position_of-instance (instances_at lines rows) x k at in
+      let has = Contains-map (λ (i : Instance). i.id) (instances_at lines rows) e.0
+      (Contains-slice_get (instances_at lines rows) k e.0 e.1) in
+      absurd (none (subst₂ (λ (l : List Id) (y : Id). Contains l y) ids_at e.2 has))
+
+  no_position : (x : Id) → ¬ Contains (map (λ r. r.id) rows) x
+      → position_of (instances_at lines rows) x ≡ None
+  no_position x none = nowhere_at x none (position_of (instances_at lines rows) x) refl
+
+  -- the position that a search of the rows finds
+  pub position_among : (x : Id) (o : Option ℕ)
+      → MatchOption o (¬ Contains (map (λ r. r.id) rows) x)
+      (λ k. (r : Row) × (slice_get rows k ≡ Some r) × (r.id ≡ x))
+      → o ≡ position_of (instances_at lines rows) x
+  position_among x None none = sym (no_position x none)
+  position_among x (Some k) r = sym (found_position k r.0 x r.1 r.2)
+
+-- an Id without a position is not found
+module _ (m : List Instance) (rising : IsRising (ids_of m)) (x : Id)
+    (none : position_of m x ≡ None) where
+  not_found : (o : Option Instance) → instance_of m x ≡ o → None ≡ o
+  not_found None found = refl
+  not_found (Some e) found =
+      let has = (instance_of_iff m rising x e).0 found in
+      let at = slice_get-from_Contains m e has.0 in
+      let position = position_of-found m rising x at.0 e at.1 has.1 in
+      absurd (cc (none, position))
+
+  pub instance_nowhere : None ≡ instance_of m x
+  instance_nowhere = not_found (instance_of m x) refl

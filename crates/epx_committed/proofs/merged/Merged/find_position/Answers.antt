@@ -1,0 +1,32 @@
+use Rattle.std.proofs.Common.{rules, ◌≡◌, length, sym, ap, subst, ◌∙◌}
+use Rattle.std.specs.Vec.{vec_len}
+use Rattle.std.proofs.lemmas.Option.{slice_get_read}
+use Rattle.epx_types.specs.Ids.{IsRising}
+use Rattle.epx_types.specs.CommittedMap.{ids_of, position_of}
+use Rattle.epx_committed.proofs.EqualityLemmas.{ids_decide}
+use Rattle.epx_committed.proofs.MergedMapLemmas.{rising_at, found_position, position_among}
+use Rattle.epx_committed.proofs.merged.Merged.find_position.Goals as goal
+
+pub returns-then-eq-clause-position : goal.returns-then-eq-clause-position
+returns-then-eq-clause-position c =
+    let same = (ids_decide c.index.result.now.id c.args.id).0 (sym c.eq.ensures ∙ c.if-eq.true) in
+    let long : vec_len c.self.inside.rows ≡ length c.self.inside.rows.items = search rules in
+    let row = slice_get_read c.self.inside.rows.items c.len.result c.in-Some.position
+    c.index.result.now (c.len.ensures ∙ long) c.if-position-len.true c.index.ensures in
+    sym (found_position c.self.inside.lines.items c.self.inside.rows.items c.self.invariant
+    c.in-Some.position c.index.result.now c.args.id row same)
+    ∙ ap (λ m. position_of m c.args.id) c.self.view_is
+
+pub returns-then-eq-clause-rising : goal.returns-then-eq-clause-rising
+returns-then-eq-clause-rising c = subst (λ m. IsRising (ids_of m)) c.self.view_is
+    (rising_at c.self.inside.lines.items c.self.inside.rows.items c.self.invariant)
+
+pub returns-clause-position : goal.returns-clause-position
+returns-clause-position c =
+    position_among c.self.inside.lines.items c.self.inside.rows.items c.self.invariant c.args.id
+    c.find_row.result (rw (← c.deref.ensures.value) c.find_row.ensures)
+    ∙ ap (λ m. position_of m c.args.id) c.self.view_is
+
+pub returns-clause-rising : goal.returns-clause-rising
+returns-clause-rising c = subst (λ m. IsRising (ids_of m)) c.self.view_is
+    (rising_at c.self.inside.lines.items c.self.inside.rows.items c.self.invariant)

@@ -1,0 +1,28 @@
+use Rattle.std.proofs.Common.{rules, ◌≡◌, length, slice_get, sym, ap, ◌∙◌, arith}
+use Rattle.std.specs.Vec.{vec_len}
+use Rattle.epx_types.specs.CommittedMap.{ids_of}
+use Rattle.epx_types.proofs.lists.ListPositionLemmas.{slice_get-map}
+use Rattle.epx_committed.specs.declared.rows.Row.{Row}
+use Rattle.epx_committed.proofs.MergedMapLemmas.{ids_at, within_rows, row_there}
+use Rattle.epx_committed.proofs.merged.Merged.id_at.Goals as goal
+
+pub index-requires : goal.index-requires
+index-requires c =
+    let rows = c.self.inside.rows in
+    let long : vec_len rows ≡ length rows.items = search rules in
+    omega (
+      arith,
+      long,
+      within_rows c.self.inside.lines.items rows.items c.self.invariant c.args.self.now
+          c.self.view_is c.args.position c.requires,
+    )
+
+pub returns : goal.returns
+returns c =
+    let lines = c.self.inside.lines.items in
+    let rows = c.self.inside.rows.items in
+    let row = row_there lines rows c.self.invariant c.args.self.now c.self.view_is
+    c.args.position c.index.result.now c.requires c.index.ensures in
+    ap (λ m. slice_get (ids_of m) c.args.position) (sym c.self.view_is)
+    ∙ ap (λ l. slice_get l c.args.position) (ids_at lines rows c.self.invariant)
+    ∙ slice_get-map (λ (r : Row). r.id) rows c.args.position c.index.result.now row

@@ -1,0 +1,17 @@
+use Rattle.std.proofs.Common.{rules, ◌≡◌, length, sym, ap, subst, ◌∙◌}
+use Rattle.std.specs.Vec.{vec_len}
+use Rattle.epx_types.specs.Ids.{IsRising}
+use Rattle.epx_types.specs.CommittedMap.{ids_of}
+use Rattle.epx_committed.proofs.MergedMapLemmas.{length_at, rising_at}
+use Rattle.epx_committed.proofs.merged.Merged.len.Goals as goal
+
+pub returns-clause-len : goal.returns-clause-len
+returns-clause-len c =
+    let long : vec_len c.self.inside.rows ≡ length c.self.inside.rows.items = search rules in
+    c.len.ensures ∙ long ∙ sym
+    (length_at c.self.inside.lines.items c.self.inside.rows.items c.self.invariant)
+    ∙ ap length c.self.view_is
+
+pub returns-clause-rising : goal.returns-clause-rising
+returns-clause-rising c = subst (λ m. IsRising (ids_of m)) c.self.view_is
+    (rising_at c.self.inside.lines.items c.self.inside.rows.items c.self.invariant)

@@ -1,0 +1,25 @@
+use Rattle.std.proofs.Common.{rules, ◌≡◌, length, map, slice_get, sym, ap, ◌∙◌, arith}
+use Rattle.std.specs.Vec.{vec_len}
+use Rattle.epx_types.specs.Instances.{Instance}
+use Rattle.epx_committed.proofs.MergedMapLemmas.{within_rows, row_there, seq_stands}
+use Rattle.epx_committed.proofs.merged.Merged.seq_at.Goals as goal
+
+pub index-requires : goal.index-requires
+index-requires c =
+    let rows = c.self.inside.rows in
+    let long : vec_len rows ≡ length rows.items = search rules in
+    omega (
+      arith,
+      long,
+      within_rows c.self.inside.lines.items rows.items c.self.invariant c.args.self.now
+          c.self.view_is c.args.position c.requires,
+    )
+
+pub returns : goal.returns
+returns c =
+    let lines = c.self.inside.lines.items in
+    let rows = c.self.inside.rows.items in
+    let row = row_there lines rows c.self.invariant c.args.self.now c.self.view_is
+    c.args.position c.index.result.now c.requires c.index.ensures in
+    ap (λ m. slice_get (map (λ (i : Instance). i.seq) m) c.args.position) (sym c.self.view_is)
+    ∙ seq_stands lines rows c.self.invariant c.args.position c.index.result.now row

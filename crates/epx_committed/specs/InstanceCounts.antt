@@ -1,0 +1,21 @@
+-- How many distinct instances lines have, and whether they are too many.
+use Rattle.std.specs.Prelude.{◌≡◌, ℕ, ◌<◌, ◌≤◌, List, length, Contains}
+use Rattle.epx_types.specs.declared.id.Id.{Id}
+use Rattle.epx_types.specs.declared.limits.TheConstants.{MAX_INSTANCES}
+use Rattle.epx_types.specs.Ids.{IsRising}
+use Rattle.epx_types.specs.PlacedLines.{Placed}
+
+abbrev pub max_instances : ℕ
+max_instances = MAX_INSTANCES
+
+-- the distinct Ids of the lines, by rising Id
+pub record AreNamedBy (lines : List Placed) (ids : List Id) : Type 0 where
+  pub rising : IsRising ids
+  pub whole : (p : Placed) → Contains lines p → Contains ids p.instance.id
+  pub named : (x : Id) → Contains ids x → (p : Placed) × Contains lines p × (p.instance.id ≡ x)
+
+abbrev pub FewInstances : List Placed → Type 0
+FewInstances lines = (ids : List Id) × AreNamedBy lines ids × (length ids ≤ max_instances)
+
+abbrev pub ManyInstances : List Placed → Type 0
+ManyInstances lines = (ids : List Id) × AreNamedBy lines ids × (max_instances < length ids)

@@ -1,0 +1,18 @@
+//! The committed map of entries: lines are noted one by one, and give the map that they commit, or
+//! the fault for which they commit none.
+#![tactic(auto)]
+
+mod entries;
+mod guesses;
+mod ledger;
+mod merged;
+mod placed;
+mod rows;
+mod same_entry;
+
+pub use entries::from_entries;
+pub use epx_types::limits::MAX_INSTANCES;
+pub use guesses::Guesses;
+pub use ledger::Ledger;
+pub use merged::Merged;
+pub use placed::PlacedEntry;

@@ -1,0 +1,117 @@
+//! The committed map.
+ghost use Rattle.std.specs.Prelude.{◌≡◌, ◌==◌, ◌<◌, IfSome, length, map, option_copied, slice_get};
+ghost use Rattle.std.specs.Prelude.{Some};
+ghost use Rattle.epx_types.specs.CommittedMap.{ids_of, instance_of, position_of};
+ghost use Rattle.epx_types.specs.Ids.{IsRising};
+ghost use Rattle.epx_committed.specs.inner.LineRows.{AreLineRows, instances_at};
+
+use crate::guesses::Guesses;
+use crate::placed::PlacedEntry;
+use crate::rows::{Row, find_row};
+use epx_types::{Entry, Id};
+use std::marker::Model;
+
+/// The committed instances of logs that agree. Contracts see the instances by rising Id.
+#[derive(Debug, Drop)]
+pub struct Merged {
+    lines: Vec<PlacedEntry>,
+    /// The indices of the lines, by rising Id.
+    rows: Vec<Row>,
+    guesses: Guesses,
+}
+
+impl Model for Merged {
+    ghost use Rattle.std.specs.Prelude.{List};
+    ghost use Rattle.epx_types.specs.Instances.{Instance};
+    ghost use Rattle.epx_committed.specs.inner.LineRows.{instances_at, AreLineRows};
+
+    ghost Value = { List Instance };
+
+    ghost view = { λ m. instances_at m.lines.items m.rows.items };
+
+    ghost invariant = { λ m. AreLineRows m.lines.items m.rows.items };
+}
+
+impl Merged {
+    pub(crate) fn new(lines: Vec<PlacedEntry>, rows: Vec<Row>, guesses: Guesses) -> Merged
+        requires { AreLineRows lines.items rows.items }
+        ensures { result ≡ instances_at lines.items rows.items }
+    {
+        Merged {
+            lines,
+            rows,
+            guesses,
+        }
+    }
+
+    /// The position of an instance. Its guess is usually right; otherwise a binary search finds
+    /// it.
+    fn find_position(&self, id: Id) -> Option<usize>
+        ensures position { result ≡ position_of self.now id }
+        ensures rising { IsRising (ids_of self.now) }
+    {
+        if let Some(position) = self.guesses.guess(id) {
+            if position < self.rows.len() && self.rows[position].id == id {
+                return Some(position);
+            }
+        }
+        find_row(&self.rows, id)
+    }
+
+    /// How many instances are committed.
+    pub fn len(&self) -> usize
+        ensures len { result ≡ length self.now }
+        ensures rising { IsRising (ids_of self.now) }
+    {
+        self.rows.len()
+    }
+
+    /// Whether no instance is committed.
+    pub fn is_empty(&self) -> bool
+        ensures { result ≡ (length self.now == 0) }
+    {
+        self.len() == 0
+    }
+
+    /// The entry of an instance, if it is committed. Takes at most logarithmic time.
+    pub fn get(&self, id: Id) -> Option<&Entry>
+        ensures { option_copied result ≡ instance_of self.now id }
+    {
+        match self.find_position(id) {
+            Some(position) => Some(self.entry_at(position)),
+            None => None,
+        }
+    }
+
+    /// The position of an instance, if it is committed: how many committed instances have a lower
+    /// Id. Takes at most logarithmic time.
+    pub fn position(&self, id: Id) -> Option<usize>
+        ensures { result ≡ position_of self.now id }
+    {
+        self.find_position(id)
+    }
+
+    /// The Id of the instance at a position.
+    pub fn id_at(&self, position: usize) -> Id
+        requires { position < length self.now }
+        ensures { slice_get (ids_of self.now) position ≡ Some result }
+    {
+        self.rows[position].id
+    }
+
+    /// The sequence number of the instance at a position.
+    pub fn seq_at(&self, position: usize) -> u64
+        requires { position < length self.now }
+        ensures { slice_get (map (λ i. i.seq) self.now) position ≡ Some result }
+    {
+        self.rows[position].seq
+    }
+
+    /// The entry of the instance at a position.
+    pub fn entry_at(&self, position: usize) -> &Entry
+        requires { position < length self.now }
+        ensures { slice_get self.now position ≡ Some result.now }
+    {
+        self.lines[self.rows[position].line].entry()
+    }
+}
