@@ -28,13 +28,13 @@ same_id = id_eq.eq-value.it
 
 module _ {V : Type 0} where
   -- a look-up finds an entry
-  pub entry_found : (x : Id) (v : V) (es : List (Id × V)) → lookup (same_id x) es ≡ Some v
+  entry_found : (x : Id) (v : V) (es : List (Id × V)) → lookup (same_id x) es ≡ Some v
       → Contains es (x, v)
   entry_found x v es e = Contains-from_lookup {eq = same_id} (λ y z t. (ids_decide y z).0 t) x v es
       e
 
   -- if it finds none there is no entry
-  pub no_entry : (x : Id) (es : List (Id × V)) → lookup (same_id x) es ≡ None
+  no_entry : (x : Id) (es : List (Id × V)) → lookup (same_id x) es ≡ None
       → ¬ Contains (keys es) x
   no_entry x [] none h = Contains-nil x h
   no_entry x (e ∷ es) none h =
@@ -51,7 +51,7 @@ module _ {V : Type 0} where
   by_look_up x es None e t = absurd (cc t)
   by_look_up x es (Some v) e t = key_of_entry es x v (entry_found x v es e)
 
-  pub key_found : (x : Id) (es : List (Id × V)) → is_some (lookup (same_id x) es) ≡ true
+  key_found : (x : Id) (es : List (Id × V)) → is_some (lookup (same_id x) es) ≡ true
       → Contains (keys es) x
   key_found x es t = by_look_up x es (lookup (same_id x) es) refl t
 
@@ -66,7 +66,7 @@ module _ {V : Type 0} where
 
 -- ---- lines with the Ids of their instances
 
-pub names_under : (lines : List Placed) → keys (with_ids lines) ≡ map (λ p. p.instance.id) lines
+names_under : (lines : List Placed) → keys (with_ids lines) ≡ map (λ p. p.instance.id) lines
 names_under [] = refl
 names_under (p ∷ lines) = ap (λ l. p.instance.id ∷ l) (names_under lines)
 

@@ -1,6 +1,6 @@
 -- Rows name lines: the same lines in another order.
-use Rattle.std.proofs.Common.{◌≡◌, inl, inr, ℕ, ◌+◌, List, [], ◌∷◌, ◌++◌, map, length, get_or}
-use Rattle.std.proofs.Common.{Contains, Some, slice_get, IsPermutation, refl, sym, ap, subst}
+use Rattle.std.proofs.Common.{◌≡◌, inl, inr, ℕ, ◌+◌, ◌<◌, ◌≤◌, List, [], ◌∷◌, ◌++◌, map}
+use Rattle.std.proofs.Common.{length, get_or, Contains, Some, slice_get, IsPermutation, refl, sym, ap, subst}
 use Rattle.std.proofs.Common.{subst₂, ◌∙◌, append_assoc, arith}
 use Rattle.std.specs.List.{IsDistinct}
 use Rattle.std.specs.List.Sorted.{IsSorted}
@@ -15,21 +15,23 @@ use Rattle.epx_types.specs.declared.id.Id.{Id}
 use Rattle.epx_types.specs.Ids.{id_cmp}
 use Rattle.epx_types.specs.Instances.{Instance}
 use Rattle.epx_types.specs.PlacedLines.{Placed}
-use Rattle.epx_types.specs.Agreement.{Agree}
 use Rattle.epx_types.specs.CommittedMap.{ids_of, IsCommittedBy}
 use Rattle.epx_types.proofs.lists.MembershipLemmas.{Contains-nil, Contains-head, Contains-cons}
 use Rattle.epx_types.proofs.lists.MembershipLemmas.{Contains-cons_cases}
 use Rattle.epx_types.proofs.lists.ListPositionLemmas.{slice_get-map}
 use Rattle.epx_committed.specs.declared.ledger.Disagreement.{Disagreement}
 use Rattle.epx_committed.specs.declared.rows.Row.{Row}
-use Rattle.epx_committed.specs.Ledgers.{IsLedgerOf}
-use Rattle.epx_committed.specs.InstanceCounts.{AreNamedBy}
+use Rattle.epx_committed.specs.InstanceCounts.{max_instances, AreNamedBy, FewInstances}
+use Rattle.epx_committed.specs.InstanceCounts.{ManyInstances}
+use Rattle.epx_committed.specs.Ledgers.{LedgerView, IsLedgerOf}
+use Rattle.epx_committed.specs.MergedLines.{IsMerged}
 use Rattle.epx_committed.specs.inner.LineRows.{with_ids, row_at, rows_of_lines, instances_at}
 use Rattle.epx_committed.specs.inner.LineRows.{NamesItsLine, AreLineRows}
 use Rattle.epx_committed.proofs.LedgerLemmas.{keys}
 use Rattle.epx_committed.proofs.LedgerMapLemmas.{same_id}
 use Rattle.epx_committed.proofs.RowLemmas.{names_of}
 use Rattle.epx_committed.proofs.LedgerCloseLemmas.{AreNamedBy-sorted, IsCommittedBy-sorted}
+use Rattle.epx_committed.proofs.LedgerCloseLemmas.{Agree-from_ledger}
 use Rattle.epx_committed.proofs.SortedKeyLemmas.{rising_from_sorted}
 
 -- a default line, read past the end of the list
@@ -46,7 +48,7 @@ under_row lines r = (r.id, get_or lines r.line default_line)
 abbrev pub under_rows : List Placed → List Row → List (Id × Placed)
 under_rows lines rows = map (under_row lines) rows
 
-pub keys_under : (lines : List Placed) (rows : List Row)
+keys_under : (lines : List Placed) (rows : List Row)
     → keys (under_rows lines rows) ≡ map (λ r. r.id) rows
 keys_under lines [] = refl
 keys_under lines (r ∷ rows) = ap (λ l. r.id ∷ l) (keys_under lines rows)
@@ -140,71 +142,99 @@ names_there before (p ∷ lines) r h =
 
 -- ---- rows in another order
 
+-- the rows of the lines, sorted by Id, where no two lines have the same Id
+pub record AreRowsOf (lines : List Placed) (rows : List Row) : Type 0 where
+  moved : IsPermutation (rows_of_lines 0 lines) rows
+  distinct : IsDistinct same_id (map (λ p. p.instance.id) lines)
+  sorted : IsSorted id_cmp (map (λ r. r.id) rows)
+
+-- the same of lines and names that are read from the ledger
+pub AreRowsOf-read : {read lines : List Placed} {names : List Id} (rows : List Row)
+    → read ≡ lines → names ≡ map (λ p. p.instance.id) lines
+    → IsPermutation (rows_of_lines 0 read) rows → IsDistinct same_id names
+    → IsSorted id_cmp (map (λ r. r.id) rows) → AreRowsOf lines rows
+AreRowsOf-read rows same named moved distinct sorted = record {
+  moved = subst (λ l. IsPermutation (rows_of_lines 0 l) rows) same moved;
+  distinct = subst (IsDistinct same_id) named distinct;
+  sorted = sorted;
+}
+
 same_flips : (x y : Id) → same_id x y ≡ same_id y x
 same_flips x y = grind (arith, nat_tests)
 
-module _ (lines : List Placed) (rows : List Row)
-    (moved : IsPermutation (rows_of_lines 0 lines) rows) where
+module _ (lines : List Placed) (rows : List Row) (are : AreRowsOf lines rows) where
   under_moved : IsPermutation (with_ids lines) (under_rows lines rows)
   under_moved =
       subst (λ (l : List (Id × Placed)). IsPermutation l (under_rows lines rows))
       (in_order [] lines)
-      (IsPermutation-map (under_row lines) (rows_of_lines 0 lines) rows moved)
+      (IsPermutation-map (under_row lines) (rows_of_lines 0 lines) rows are.moved)
 
   named_moved : (r : Row) → Contains rows r → NamesItsLine lines r
   named_moved r h =
       names_there [] lines r
       (Contains-permutation rows (rows_of_lines 0 lines) r
-      (IsPermutation-sym (rows_of_lines 0 lines) rows moved) h)
-
-  instances_moved : instances_at lines rows ≡ map (λ e. e.1.instance) (under_rows lines rows)
-  instances_moved = instances_under lines rows named_moved
+      (IsPermutation-sym (rows_of_lines 0 lines) rows are.moved) h)
 
   names_moved : IsPermutation (map (λ p. p.instance.id) lines) (map (λ r. r.id) rows)
   names_moved =
       let P : List Id → Type 0 = λ l. IsPermutation l (map (λ r. r.id) rows) in
       subst P (names_of 0 lines)
-      (IsPermutation-map (λ (r : Row). r.id) (rows_of_lines 0 lines) rows moved)
+      (IsPermutation-map (λ (r : Row). r.id) (rows_of_lines 0 lines) rows are.moved)
 
-  pub as_many_names : length (map (λ r. r.id) rows) ≡ length (map (λ p. p.instance.id) lines)
+  as_many_names : length (map (λ r. r.id) rows) ≡ length (map (λ p. p.instance.id) lines)
   as_many_names = length_permutation (map (λ p. p.instance.id) lines) (map (λ r. r.id) rows)
       names_moved
 
-  module _ (distinct : IsDistinct same_id (map (λ p. p.instance.id) lines))
-      (sorted : IsSorted id_cmp (map (λ r. r.id) rows)) where
-    distinct_rows : IsDistinct same_id (map (λ r. r.id) rows)
-    distinct_rows = IsDistinct-IsPermutation same_id same_flips (map (λ p. p.instance.id) lines)
-        (map (λ r. r.id) rows) names_moved distinct
+  distinct_rows : IsDistinct same_id (map (λ r. r.id) rows)
+  distinct_rows = IsDistinct-IsPermutation same_id same_flips (map (λ p. p.instance.id) lines)
+      (map (λ r. r.id) rows) names_moved are.distinct
 
-    distinct_keys : IsDistinct same_id (keys (under_rows lines rows))
-    distinct_keys = subst (IsDistinct same_id) (sym (keys_under lines rows)) distinct_rows
+  distinct_keys : IsDistinct same_id (keys (under_rows lines rows))
+  distinct_keys = subst (IsDistinct same_id) (sym (keys_under lines rows)) distinct_rows
 
-    sorted_keys : IsSorted id_cmp (keys (under_rows lines rows))
-    sorted_keys = subst (IsSorted id_cmp) (sym (keys_under lines rows)) sorted
+  sorted_keys : IsSorted id_cmp (keys (under_rows lines rows))
+  sorted_keys = subst (IsSorted id_cmp) (sym (keys_under lines rows)) are.sorted
 
-    pub AreLineRows-moved : AreLineRows lines rows
-    AreLineRows-moved = record {
-      named = All-weaker (Contains rows) (NamesItsLine lines) named_moved rows
-          (All-contains_itself rows);
-      rising = rising_from_sorted (map (λ r. r.id) rows) sorted distinct_rows;
-    }
+  pub AreLineRows-moved : AreLineRows lines rows
+  AreLineRows-moved = record {
+    named = All-weaker (Contains rows) (NamesItsLine lines) named_moved rows
+        (All-contains_itself rows);
+    rising = rising_from_sorted (map (λ r. r.id) rows) are.sorted distinct_rows;
+  }
 
-    -- ---- what the rows say of all noted lines
+  -- ---- what the rows say of all noted lines
 
-    module _ (all : List Placed) (disagreements : List (Id × Disagreement))
-        (ledger : IsLedgerOf all
-        (record { firsts = with_ids lines; disagreements = disagreements })) where
-      -- the Ids of the rows are the distinct Ids of the lines
-      pub AreNamedBy-rows : AreNamedBy all (map (λ r. r.id) rows)
-      AreNamedBy-rows = subst (AreNamedBy all) (keys_under lines rows)
-          (AreNamedBy-sorted all
-          (record { firsts = with_ids lines; disagreements = disagreements }) ledger
-          (under_rows lines rows) under_moved sorted_keys distinct_keys)
+  module _ (all : List Placed) (disagreements : List (Id × Disagreement))
+      (ledger : IsLedgerOf all
+      (record { firsts = with_ids lines; disagreements = disagreements })) where
+    abbrev noted : LedgerView
+    noted = record { firsts = with_ids lines; disagreements = disagreements }
 
-      -- if the lines agree, they commit the instances that the rows name
-      pub IsCommittedBy-rows : Agree all → IsCommittedBy all (instances_at lines rows)
-      IsCommittedBy-rows agree =
-          subst (IsCommittedBy all) (sym instances_moved)
-          (IsCommittedBy-sorted all
-          (record { firsts = with_ids lines; disagreements = disagreements }) ledger
-          (under_rows lines rows) under_moved sorted_keys distinct_keys agree)
+    -- the Ids of the rows are the distinct Ids of the lines
+    AreNamedBy-rows : AreNamedBy all (map (λ r. r.id) rows)
+    AreNamedBy-rows = subst (AreNamedBy all) (keys_under lines rows)
+        (AreNamedBy-sorted all noted ledger (under_rows lines rows) under_moved sorted_keys
+        distinct_keys)
+
+    pub ManyInstances-rows : max_instances < length (map (λ p. p.instance.id) lines)
+        → ManyInstances all
+    ManyInstances-rows many =
+        (map (λ r. r.id) rows, AreNamedBy-rows, omega (arith, as_many_names, many))
+
+    pub FewInstances-rows : length (map (λ p. p.instance.id) lines) ≤ max_instances
+        → FewInstances all
+    FewInstances-rows few =
+        (map (λ r. r.id) rows, AreNamedBy-rows, omega (arith, as_many_names, few))
+
+    -- few lines without a disagreement commit the instances that the rows name
+    pub IsMerged-rows : length (map (λ p. p.instance.id) lines) ≤ max_instances
+        → ((x : Id) → ¬ Contains (keys disagreements) x) → IsMerged all (instances_at lines rows)
+    IsMerged-rows few none =
+        let agree = Agree-from_ledger all noted ledger none in
+        record {
+          small = FewInstances-rows few;
+          agree = agree;
+          committed = subst (IsCommittedBy all) (sym (instances_under lines rows named_moved))
+              (IsCommittedBy-sorted all noted ledger (under_rows lines rows) under_moved
+              sorted_keys distinct_keys agree);
+        }
