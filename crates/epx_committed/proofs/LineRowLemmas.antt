@@ -1,7 +1,7 @@
 -- Rows name lines: the same lines in another order.
 use Rattle.std.proofs.Common.{◌≡◌, inl, inr, ℕ, ◌+◌, ◌<◌, ◌≤◌, List, [], ◌∷◌, ◌++◌, map}
-use Rattle.std.proofs.Common.{length, get_or, Contains, Some, slice_get, IsPermutation, refl, sym, ap, subst}
-use Rattle.std.proofs.Common.{subst₂, ◌∙◌, append_assoc, arith}
+use Rattle.std.proofs.Common.{length, get_or, Contains, Some, slice_get, IsPermutation, refl}
+use Rattle.std.proofs.Common.{sym, ap, subst, subst₂, ◌∙◌, append_assoc, arith}
 use Rattle.std.specs.List.{IsDistinct}
 use Rattle.std.specs.List.Sorted.{IsSorted}
 use Rattle.std.proofs.lemmas.Bool.Decides.{nat_tests}
