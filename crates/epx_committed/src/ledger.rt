@@ -62,7 +62,8 @@ impl Ledger {
         }
     }
 
-    /// Records one more line. Lines must come by rising place.
+    /// Records one more line. Lines must come by rising place. If it runs out of memory, the line
+    /// may be recorded or not, and the ledger is of no more use.
     pub fn note(&mut self, line: PlacedEntry) -> Result<(), Memory>
         ensures { OnOk result (NotesLines (line ∷ []) self.old self.new) }
     {
@@ -95,7 +96,8 @@ impl Ledger {
         Ok(())
     }
 
-    /// The map that the noted lines commit, or the fault for which they commit none.
+    /// The map that the noted lines commit, or the fault for which they commit none, as in
+    /// `from_entries`.
     pub fn close(self) -> Result<Merged, Fault>
         ensures { (lines : List Placed) → IsSortedByPlace lines → IsLedgerOf lines self
             → MatchResult result (IsMerged lines) (IsMergeFault lines) }
@@ -106,15 +108,9 @@ impl Ledger {
             firsts,
             disagreements,
         } = self;
-        let Ok(rows) = rows_of(alloc, &firsts) else {
-            return Err(Fault::Memory);
-        };
-        let Ok(guesses) = guesses_of(alloc, &rows) else {
-            return Err(Fault::Memory);
-        };
-        let Ok(least) = least_of(disagreements) else {
-            return Err(Fault::Memory);
-        };
+        let rows = rows_of(alloc, &firsts)?;
+        let guesses = guesses_of(alloc, &rows)?;
+        let least = least_of(disagreements)?;
         if names.len() > MAX_INSTANCES {
             return Err(Fault::TooManyInstances);
         }

@@ -8,9 +8,9 @@ use Rattle.epx_committed.proofs.ledger.Ledger.close.Goals as goal
 
 pub returns-then-len-gt-MAX_INSTANCES : goal.returns-then-len-gt-MAX_INSTANCES
 returns-then-len-gt-MAX_INSTANCES c = λ lines order ledger.
-    let rows = c.in-Ok.rows.items in
-    let are = AreRowsOf-read rows c.deref.ensures.value c.self.invariant c.in-Ok.ensures.moved
-    c.len.ensures.unique c.in-Ok.ensures.sorted in
+    let rows = c.in_ok-rows.rows.items in
+    let are = AreRowsOf-read rows c.deref.ensures.value c.self.invariant c.in_ok-rows.ensures.moved
+    c.len.ensures.unique c.in_ok-rows.ensures.sorted in
     ManyInstances-rows c.self.inside.firsts.items rows are lines
     c.self.inside.disagreements.entries (subst (IsLedgerOf lines) (sym c.self.view_is) ledger)
     (omega (
@@ -22,17 +22,17 @@ returns-then-len-gt-MAX_INSTANCES c = λ lines order ledger.
 
 pub new-requires : goal.new-requires
 new-requires c =
-    let rows = c.in-Ok.rows.items in
+    let rows = c.in_ok-rows.rows.items in
     AreLineRows-moved c.self.inside.firsts.items rows (AreRowsOf-read rows c.deref.ensures.value
-    c.self.invariant c.in-Ok.ensures.moved c.len.ensures.unique c.in-Ok.ensures.sorted)
+    c.self.invariant c.in_ok-rows.ensures.moved c.len.ensures.unique c.in_ok-rows.ensures.sorted)
 
 pub returns-in-Some : goal.returns-in-Some
 returns-in-Some c = λ lines order ledger.
-    let rows = c.in-Ok.rows.items in
-    let are = AreRowsOf-read rows c.deref.ensures.value c.self.invariant c.in-Ok.ensures.moved
-    c.len.ensures.unique c.in-Ok.ensures.sorted in
+    let rows = c.in_ok-rows.rows.items in
+    let are = AreRowsOf-read rows c.deref.ensures.value c.self.invariant c.in_ok-rows.ensures.moved
+    c.len.ensures.unique c.in_ok-rows.ensures.sorted in
     let h = subst (IsLedgerOf lines) (sym c.self.view_is) ledger in
-    let least = rw c.in-Some.is at c.in-Ok-least_of.ensures in (
+    let least = rw c.in-Some.is at c.in_ok-least.ensures in (
       FewInstances-rows c.self.inside.firsts.items rows are lines
           c.self.inside.disagreements.entries h
           (omega (
@@ -46,9 +46,9 @@ returns-in-Some c = λ lines order ledger.
 
 pub returns : goal.returns
 returns c = λ lines order ledger.
-    let rows = c.in-Ok.rows.items in
-    let are = AreRowsOf-read rows c.deref.ensures.value c.self.invariant c.in-Ok.ensures.moved
-    c.len.ensures.unique c.in-Ok.ensures.sorted in
+    let rows = c.in_ok-rows.rows.items in
+    let are = AreRowsOf-read rows c.deref.ensures.value c.self.invariant c.in_ok-rows.ensures.moved
+    c.len.ensures.unique c.in_ok-rows.ensures.sorted in
     rw c.new.ensures (IsMerged-rows c.self.inside.firsts.items rows are lines
     c.self.inside.disagreements.entries (subst (IsLedgerOf lines) (sym c.self.view_is) ledger)
     (omega (
@@ -56,4 +56,4 @@ returns c = λ lines order ledger.
       ap length c.self.invariant,
       c.len.ensures.len,
       c.if-len-gt-MAX_INSTANCES.false,
-    )) (rw c.in-None.is at c.in-Ok-least_of.ensures))
+    )) (rw c.in-None.is at c.in_ok-least.ensures))
