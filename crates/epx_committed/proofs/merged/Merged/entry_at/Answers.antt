@@ -1,5 +1,4 @@
-use Rattle.std.proofs.Common.{rules, ◌≡◌, length, slice_get, Some, sym, ap, ◌∙◌, arith}
-use Rattle.std.specs.Vec.{vec_len}
+use Rattle.std.proofs.Common.{slice_get, Some, sym, ap, ◌∙◌, arith}
 use Rattle.std.proofs.lemmas.Option.{slice_get_within, get_or_from_slice_get}
 use Rattle.epx_types.specs.PlacedLines.{Placed}
 use Rattle.epx_committed.proofs.MergedMapLemmas.{within_rows, stands_at}
@@ -8,10 +7,9 @@ use Rattle.epx_committed.proofs.merged.Merged.entry_at.Goals as goal
 pub index-requires : goal.index-requires
 index-requires c =
     let rows = c.self.inside.rows in
-    let long : vec_len rows ≡ length rows.items = search rules in
     omega (
       arith,
-      long,
+      rows.ok.0,
       within_rows c.self.inside.lines.items rows.items c.self.invariant c.args.self.now
           c.self.view_is c.args.position c.requires,
     )
@@ -21,8 +19,7 @@ index-requires-2 c =
     let lines = c.self.inside.lines in
     let at = stands_at lines.items c.self.inside.rows.items c.self.invariant c.args.self.now
     c.self.view_is c.args.position c.index.result.now c.requires c.index.ensures in
-    let long : vec_len lines ≡ length lines.items = search rules in
-    omega (arith, long, slice_get_within lines.items c.index.result.now.line at.0 at.1)
+    omega (arith, lines.ok.0, slice_get_within lines.items c.index.result.now.line at.0 at.1)
 
 pub returns : goal.returns
 returns c =

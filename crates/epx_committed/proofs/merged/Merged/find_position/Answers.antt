@@ -1,5 +1,4 @@
-use Rattle.std.proofs.Common.{rules, ◌≡◌, length, sym, ap, subst, ◌∙◌}
-use Rattle.std.specs.Vec.{vec_len}
+use Rattle.std.proofs.Common.{sym, ap, subst, ◌∙◌}
 use Rattle.std.proofs.lemmas.Option.{slice_get_read}
 use Rattle.epx_types.specs.Ids.{IsRising}
 use Rattle.epx_types.specs.CommittedMap.{ids_of, position_of}
@@ -10,11 +9,11 @@ use Rattle.epx_committed.proofs.merged.Merged.find_position.Goals as goal
 pub returns-then-eq-clause-position : goal.returns-then-eq-clause-position
 returns-then-eq-clause-position c =
     let same = (ids_decide c.index.result.now.id c.args.id).0 (sym c.eq.ensures ∙ c.if-eq.true) in
-    let long : vec_len c.self.inside.rows ≡ length c.self.inside.rows.items = search rules in
-    let row = slice_get_read c.self.inside.rows.items c.len.result c.in-Some.position
-    c.index.result.now (c.len.ensures ∙ long) c.if-position-len.true c.index.ensures in
-    sym (found_position c.self.inside.lines.items c.self.inside.rows.items c.self.invariant
-    c.in-Some.position c.index.result.now c.args.id row same)
+    let rows = c.self.inside.rows in
+    let row = slice_get_read rows.items c.len.result c.in-Some.position c.index.result.now
+    (c.len.ensures ∙ rows.ok.0) c.if-position-len.true c.index.ensures in
+    sym (found_position c.self.inside.lines.items rows.items c.self.invariant c.in-Some.position
+    c.index.result.now c.args.id row same)
     ∙ ap (λ m. position_of m c.args.id) c.self.view_is
 
 pub returns-then-eq-clause-rising : goal.returns-then-eq-clause-rising

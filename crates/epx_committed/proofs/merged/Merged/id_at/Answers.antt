@@ -1,5 +1,4 @@
-use Rattle.std.proofs.Common.{rules, ◌≡◌, length, slice_get, sym, ap, ◌∙◌, arith}
-use Rattle.std.specs.Vec.{vec_len}
+use Rattle.std.proofs.Common.{slice_get, sym, ap, ◌∙◌, arith}
 use Rattle.epx_types.specs.CommittedMap.{ids_of}
 use Rattle.epx_types.proofs.lists.ListPositionLemmas.{slice_get-map}
 use Rattle.epx_committed.specs.declared.rows.Row.{Row}
@@ -9,10 +8,9 @@ use Rattle.epx_committed.proofs.merged.Merged.id_at.Goals as goal
 pub index-requires : goal.index-requires
 index-requires c =
     let rows = c.self.inside.rows in
-    let long : vec_len rows ≡ length rows.items = search rules in
     omega (
       arith,
-      long,
+      rows.ok.0,
       within_rows c.self.inside.lines.items rows.items c.self.invariant c.args.self.now
           c.self.view_is c.args.position c.requires,
     )

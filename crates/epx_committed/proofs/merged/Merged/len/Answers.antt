@@ -1,5 +1,4 @@
-use Rattle.std.proofs.Common.{rules, ◌≡◌, length, sym, ap, subst, ◌∙◌}
-use Rattle.std.specs.Vec.{vec_len}
+use Rattle.std.proofs.Common.{length, sym, ap, subst, ◌∙◌}
 use Rattle.epx_types.specs.Ids.{IsRising}
 use Rattle.epx_types.specs.CommittedMap.{ids_of}
 use Rattle.epx_committed.proofs.MergedMapLemmas.{length_at, rising_at}
@@ -7,8 +6,7 @@ use Rattle.epx_committed.proofs.merged.Merged.len.Goals as goal
 
 pub returns-clause-len : goal.returns-clause-len
 returns-clause-len c =
-    let long : vec_len c.self.inside.rows ≡ length c.self.inside.rows.items = search rules in
-    c.len.ensures ∙ long ∙ sym
+    c.len.ensures ∙ c.self.inside.rows.ok.0 ∙ sym
     (length_at c.self.inside.lines.items c.self.inside.rows.items c.self.invariant)
     ∙ ap length c.self.view_is
 

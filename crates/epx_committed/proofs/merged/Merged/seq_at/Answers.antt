@@ -1,5 +1,4 @@
-use Rattle.std.proofs.Common.{rules, ◌≡◌, length, map, slice_get, sym, ap, ◌∙◌, arith}
-use Rattle.std.specs.Vec.{vec_len}
+use Rattle.std.proofs.Common.{map, slice_get, sym, ap, ◌∙◌, arith}
 use Rattle.epx_types.specs.Instances.{Instance}
 use Rattle.epx_committed.proofs.MergedMapLemmas.{within_rows, row_there, seq_stands}
 use Rattle.epx_committed.proofs.merged.Merged.seq_at.Goals as goal
@@ -7,10 +6,9 @@ use Rattle.epx_committed.proofs.merged.Merged.seq_at.Goals as goal
 pub index-requires : goal.index-requires
 index-requires c =
     let rows = c.self.inside.rows in
-    let long : vec_len rows ≡ length rows.items = search rules in
     omega (
       arith,
-      long,
+      rows.ok.0,
       within_rows c.self.inside.lines.items rows.items c.self.invariant c.args.self.now
           c.self.view_is c.args.position c.requires,
     )
