@@ -18,7 +18,7 @@ use Rattle.epx_types.proofs.lists.ListPositionLemmas.{slice_get-from_map, Contai
 use Rattle.epx_types.proofs.graph.DependencyLemmas.{DependsOn-listed, DependsOn-committed}
 use Rattle.epx_graph.specs.Graphs.{edges_of, IsGraph, graph_over}
 use Rattle.epx_graph.specs.GraphOf.{IsGraphOf}
-use Rattle.epx_graph.specs.inner.Rows.{row_of, AreTransposed}
+use Rattle.epx_rows.specs.Rows.{row_of, AreTransposed}
 use Rattle.epx_graph.specs.inner.Nodes.{AreNodesOf, AreRowsOf}
 use Rattle.epx_graph.proofs.GraphNodeLemmas.{committed_node, node_is_one}
 use Rattle.epx_graph.proofs.MapNodeLemmas.{nodes_long}

@@ -15,7 +15,7 @@ use Rattle.epx_types.specs.CommittedMap.{position_of, IsCommitted}
 use Rattle.epx_types.proofs.lists.MembershipLemmas.{Contains-nil, Contains-flat_map}
 use Rattle.epx_types.proofs.lists.ListPositionLemmas.{Contains-slice_get, slice_get-map}
 use Rattle.epx_types.proofs.lists.RisingIdLemmas.{AllPairs-from_IsRising}
-use Rattle.epx_graph.specs.inner.Rows.{row_of}
+use Rattle.epx_rows.specs.Rows.{row_of}
 use Rattle.epx_graph.specs.inner.Nodes.{positions_of, missing_of, all_positions, all_missing_of}
 use Rattle.epx_graph.specs.inner.Nodes.{AreNodesOf, ArePositionsOf, AreRowsOf, IsGathered}
 use Rattle.epx_graph.proofs.MissingIdLemmas.{lacking_missing}

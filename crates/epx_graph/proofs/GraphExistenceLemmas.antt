@@ -24,7 +24,7 @@ use Rattle.epx_types.proofs.lists.RisingListLemmas.{AreThose, rising_list}
 use Rattle.epx_graph.specs.Graphs.{DependencyGraph, graph_over}
 use Rattle.epx_graph.specs.GraphOf.{IsGraphOf}
 use Rattle.epx_graph.specs.inner.Nodes.{AreMissingIds, AreNodesOf, ArePositionsOf, AreRowsOf}
-use Rattle.epx_graph.specs.inner.Rows.{row_of}
+use Rattle.epx_rows.specs.Rows.{row_of}
 use Rattle.epx_graph.proofs.BuildLemmas.{graph_built}
 
 -- ---- the positions of Ids

@@ -2,9 +2,6 @@ mod RisingPositionLemmas
 pub mod GraphNodeLemmas
 pub mod MapPathLemmas
 pub mod GraphUniquenessLemmas
-mod RowLemmas
-mod RowAppendLemmas
-mod TransposeLemmas
 mod FindLemmas
 mod MissingIdLemmas
 mod RemainderLemmas

@@ -9,7 +9,7 @@ use Rattle.epx_types.specs.Ids.{IsRising}
 use Rattle.epx_types.specs.Instances.{Instance}
 use Rattle.epx_types.specs.CommittedMap.{ids_of, IsCommitted}
 use Rattle.epx_types.proofs.lists.ListPositionLemmas.{Contains-slice_get}
-use Rattle.epx_graph.specs.inner.Rows.{row_of}
+use Rattle.epx_rows.specs.Rows.{row_of}
 use Rattle.epx_graph.specs.inner.Nodes.{AreMissingIds, AreNodesOf, ArePositionsOf, AreRowsOf}
 use Rattle.epx_graph.proofs.RisingPositionLemmas.{slice_get-take}
 

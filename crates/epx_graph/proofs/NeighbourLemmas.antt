@@ -1,6 +1,6 @@
 -- An Id between two neighbours in a list by rising Id is not in the list.
 use Rattle.std.proofs.Common.{◌≡◌, ◌-◌, ◌<◌, ◌≤◌, ℕ, List, length, true, get_or, Contains, Some}
-use Rattle.std.proofs.Common.{Ordering, Less, Equal, Greater, is_lt, inl, inr, sym, subst, ◌∙◌}
+use Rattle.std.proofs.Common.{Ordering, Less, Equal, Greater, is_lt, inl, inr, subst}
 use Rattle.std.proofs.Common.{arith}
 use Rattle.std.specs.Ordering.{ordering_then, partial_ordering_then, is_some_and}
 use Rattle.std.proofs.lemmas.Bool.{cases_lt}

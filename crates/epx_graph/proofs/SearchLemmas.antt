@@ -17,11 +17,11 @@ use Rattle.epx_types.proofs.lists.MembershipLemmas.{Contains-cons_cases}
 use Rattle.epx_graph.specs.Graphs.{DependencyGraph, edges_of, IsGraph}
 use Rattle.epx_graph.specs.NodePaths.{IsNodePath, NodeReaches}
 use Rattle.epx_graph.specs.inner.LeastMissing.{IsLeastMissing, mark_of, AreMarksOf}
-use Rattle.epx_graph.specs.inner.Rows.{row_of, AreTransposed}
+use Rattle.epx_rows.specs.Rows.{row_of, AreTransposed}
 use Rattle.epx_graph.specs.inner.Searches.{SearchView, IsMarked, steps_left, IsVisit}
 use Rattle.epx_graph.specs.inner.Searches.{IsMissingSearch, IsSpreadFrom, BeginsFrom}
 use Rattle.epx_graph.proofs.GraphNodeLemmas.{edge_from_committed}
-use Rattle.epx_graph.proofs.RowLemmas.{same_or_other}
+use Rattle.std.proofs.lemmas.Bool.{cases_eq}
 
 -- ---- marks of nodes
 
@@ -86,7 +86,7 @@ module _ (nodes : List ℕ) (root : ℕ) (old new : SearchView) (x : ℕ)
 
     still : (k z : ℕ) → mark_of new.marks k ≡ Some z → IsMarked (set new.marks x (Some root)) k
     still k z h =
-        elim (same_or_other k x) [
+        elim (cases_eq k x) [
           | inl same ↦ (root, ap (mark_of (set new.marks x (Some root))) same ∙ now)
           | inr other ↦ (z, get_or-set_other new.marks x k (Some root) None other ∙ h)
         ]
@@ -95,7 +95,7 @@ module _ (nodes : List ℕ) (root : ℕ) (old new : SearchView) (x : ℕ)
         → mark_of (set new.marks x (Some root)) k ≡ Some z
     kept k z h =
         let had = is.kept k z h in
-        elim (same_or_other k x) [
+        elim (cases_eq k x) [
           | inl same ↦ let at : mark_of new.marks k ≡ None = ap (mark_of new.marks) same ∙ none in
               absurd (cc (had, at))
           | inr other ↦ get_or-set_other new.marks x k (Some root) None other ∙ had
@@ -112,7 +112,7 @@ module _ (nodes : List ℕ) (root : ℕ) (old new : SearchView) (x : ℕ)
         ⊎ ((mark_of old.marks k ≡ None) × Contains (nodes ++ x ∷ []) k × (z ≡ root)
         × Contains (new.stack ++ x ∷ []) k)
     marked k z h =
-        elim (same_or_other k x) [
+        elim (cases_eq k x) [
           | inl same ↦
               let one : Some root ≡ Some z =
               sym now ∙ ap (mark_of (set new.marks x (Some root))) (sym same) ∙ h in

@@ -7,7 +7,7 @@ ghost use Rattle.epx_graph.specs.inner.Nodes.{missing_of, positions_of, IsGather
 
 use crate::left::{IdState, Remainder};
 use crate::part::Part;
-use crate::rows::Rows;
+use epx_rows::{OpenRow, Rows};
 use epx_types::{Id, Memory, Plan};
 use std::alloc::Global;
 use std::thread::{Threads, join};
@@ -30,15 +30,16 @@ pub(crate) struct Gathered {
     pub(crate) missing: Vec<Id>,
 }
 
-/// Appends the position of each Id that is left, and each missing Id.
+/// Appends the position of each Id that is left to a row, and each missing Id to `missing`.
 fn gather(
     left: &Remainder,
     deps: &[Id],
-    numbers: &mut Vec<usize>,
+    row: &mut OpenRow,
     missing: &mut Vec<Id>,
 ) -> Result<(), Memory>
-    ensures numbers { OnOk result
-        (numbers.new.items ≡ numbers.old.items ++ positions_of (left_of left.now)
+    ensures rows { OnOk result (row.new.rows ≡ row.old.rows) }
+    ensures row { OnOk result
+        (row.new.row ≡ row.old.row ++ positions_of (left_of left.now)
         (remaining_ids left.now.done deps.now)) }
     ensures missing { OnOk result
         (missing.new.items ≡ missing.old.items ++ missing_of (left_of left.now)
@@ -46,7 +47,7 @@ fn gather(
 {
     for id in deps {
         match left.look_up(*id) {
-            IdState::Left(index) => numbers.push(index)?,
+            IdState::Left(index) => row.push(index)?,
             IdState::Done => {}
             IdState::Missing => missing.push(*id)?,
         }
@@ -54,30 +55,24 @@ fn gather(
     Ok(())
 }
 
-impl Rows {
-    /// Appends a row: the positions of the dependencies that are left. Missing dependencies are
-    /// appended to `missing`.
-    fn push_committed(
-        self,
-        left: &Remainder,
-        deps: &[Id],
-        missing: &mut Vec<Id>,
-    ) -> Result<Rows, Memory>
-        ensures rows { IfOk result
-            (λ rows. rows ≡ self ++ positions_of (left_of left.now)
-            (remaining_ids left.now.done deps.now) ∷ []) }
-        ensures missing { OnOk result
-            (missing.new.items ≡ missing.old.items ++ missing_of (left_of left.now)
-            (remaining_ids left.now.done deps.now)) }
-    {
-        let Rows {
-            mut ends,
-            mut numbers,
-        } = self;
-        gather(left, deps, &mut numbers, missing)?;
-        ends.push(numbers.len())?;
-        Ok(Rows { ends, numbers })
-    }
+/// Appends a row: the positions of the dependencies that are left. Missing dependencies are
+/// appended to `missing`.
+fn push_committed(
+    rows: Rows,
+    left: &Remainder,
+    deps: &[Id],
+    missing: &mut Vec<Id>,
+) -> Result<Rows, Memory>
+    ensures rows { IfOk result
+        (λ pushed. pushed ≡ rows ++ positions_of (left_of left.now)
+        (remaining_ids left.now.done deps.now) ∷ []) }
+    ensures missing { OnOk result
+        (missing.new.items ≡ missing.old.items ++ missing_of (left_of left.now)
+        (remaining_ids left.now.done deps.now)) }
+{
+    let mut row = rows.open_row();
+    gather(left, deps, &mut row, missing)?;
+    row.close()
 }
 
 impl Gathered {
@@ -107,7 +102,7 @@ fn gather_part(alloc: Global, left: &Remainder, part: Part) -> Result<Gathered, 
     let mut rows = part.room(alloc)?;
     let mut missing = Vec::new(alloc);
     for index in part.start..part.end {
-        rows = rows.push_committed(left, left.entry_at(index).deps(), &mut missing)?;
+        rows = push_committed(rows, left, left.entry_at(index).deps(), &mut missing)?;
     }
     Ok(Gathered { rows, missing })
 }

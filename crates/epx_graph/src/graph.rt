@@ -2,10 +2,10 @@
 ghost use Rattle.std.specs.Prelude.{◌≡◌, ◌==◌, ◌↔◌, ◌<◌, length, Contains, IfOk, IsTrue};
 ghost use Rattle.std.specs.Prelude.{MatchOption, Some, slice_get};
 ghost use Rattle.epx_graph.specs.Graphs.{edges_of, graph_over, missing_ids, IsGraph};
-ghost use Rattle.epx_graph.specs.inner.Rows.{AreTransposed};
+ghost use Rattle.epx_rows.specs.Rows.{AreTransposed};
 
 use crate::find_id::find_id;
-use crate::rows::Rows;
+use epx_rows::Rows;
 use epx_types::{Id, Memory};
 use std::alloc::Global;
 use std::marker::Model;

@@ -9,9 +9,7 @@ mod graph;
 pub mod laws;
 mod left;
 mod part;
-mod rows;
 mod search;
-mod transpose;
 mod waiters;
 
 pub use build_graph::{build, build_after};

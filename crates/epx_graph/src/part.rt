@@ -1,7 +1,7 @@
 //! Parts of the remaining instances.
 ghost use Rattle.std.specs.Prelude.{◌≡◌, ◌≤◌, [], IfOk};
 
-use crate::rows::Rows;
+use epx_rows::Rows;
 use epx_types::Memory;
 use std::alloc::Global;
 

@@ -3,11 +3,11 @@ ghost use Rattle.std.specs.Prelude.{◌≡◌, ◌+◌, ◌<◌, ◌≤◌, [], 
 ghost use Rattle.std.specs.Prelude.{OnOk};
 ghost use Rattle.epx_graph.specs.Graphs.{DependencyGraph, IsGraph};
 ghost use Rattle.epx_graph.specs.inner.LeastMissing.{AreMarksOf};
-ghost use Rattle.epx_graph.specs.inner.Rows.{AreTransposed};
+ghost use Rattle.epx_rows.specs.Rows.{AreTransposed};
 ghost use Rattle.epx_graph.specs.inner.Searches.{IsVisit, BeginsFrom};
 
 use crate::graph::Graph;
-use crate::rows::Rows;
+use epx_rows::Rows;
 use epx_types::Memory;
 use std::alloc::Global;
 use std::marker::Model;

@@ -3,7 +3,7 @@ use Rattle.std.specs.Prelude.{◌≡◌, ◌⊎◌, ℕ, ◌+◌, ◌<◌, ◌�
 use Rattle.std.specs.Prelude.{Option, Some, None, not, is_some, count_by}
 use Rattle.epx_graph.specs.Graphs.{DependencyGraph, edges_of, IsGraph}
 use Rattle.epx_graph.specs.NodePaths.{NodeReaches}
-use Rattle.epx_graph.specs.inner.Rows.{AreTransposed}
+use Rattle.epx_rows.specs.Rows.{AreTransposed}
 use Rattle.epx_graph.specs.inner.LeastMissing.{IsLeastMissing, mark_of}
 
 -- the mark of each committed node, and the nodes whose sources are to be visited

@@ -6,7 +6,8 @@ use Rattle.epx_graph.proofs.committed.gather.Given as goal
 
 abbrev pub invariant-loop-id : goal.invariant-loop-id
 invariant-loop-id l = record {
-  numbers : l.numbers.items ≡ l.fn.numbers.items
+  rows : l.row.rows ≡ l.fn.row.rows;
+  row : l.row.row ≡ l.fn.row.row
       ++ positions_of (left_of l.left) (remaining_ids l.left.done (take l.id-index l.deps));
   missing : l.missing.items ≡ l.fn.missing.items
       ++ missing_of (left_of l.left) (remaining_ids l.left.done (take l.id-index l.deps));

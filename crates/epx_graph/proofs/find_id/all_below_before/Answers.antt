@@ -1,4 +1,4 @@
-use Rattle.std.proofs.Common.{◌≡◌, ◌-◌, ◌<◌, get_or, is_lt, true, nat_cmp, sym, subst, ◌∙◌, arith}
+use Rattle.std.proofs.Common.{◌-◌, get_or, nat_cmp, sym, subst, ◌∙◌, arith}
 use Rattle.epx_types.specs.declared.id.Id.{Id}
 use Rattle.epx_types.specs.Ids.{Below}
 use Rattle.epx_graph.proofs.NeighbourLemmas.{is_lt-from_lt, other_default, below_before}

@@ -1,4 +1,4 @@
-use Rattle.std.proofs.Common.{◌≡◌, get_or, sym, ◌∙◌}
+use Rattle.std.proofs.Common.{get_or, sym, ◌∙◌}
 use Rattle.epx_types.specs.declared.id.Id.{Id}
 use Rattle.epx_graph.proofs.NeighbourLemmas.{other_default, same_from_eq}
 use Rattle.epx_graph.proofs.left.is_at.Goals as goal

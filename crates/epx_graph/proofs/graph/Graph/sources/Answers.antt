@@ -1,7 +1,7 @@
 use Rattle.std.proofs.Common.{◌-◌, length, subst}
 use Rattle.std.proofs.lemmas.Result.{IfOk-weaker}
 use Rattle.epx_graph.specs.Graphs.{DependencyGraph}
-use Rattle.epx_graph.specs.inner.Rows.{AreTransposed}
+use Rattle.epx_rows.specs.Rows.{AreTransposed}
 use Rattle.epx_graph.proofs.BuildLemmas.{transpose_padded}
 use Rattle.epx_graph.proofs.graph.Graph.sources.Goals as goal
 

@@ -3,7 +3,7 @@ use Rattle.std.proofs.Common.{sym, ap, subst, ◌∙◌, arith}
 use Rattle.std.proofs.lemmas.Bool.{cases_lt}
 use Rattle.std.proofs.lemmas.List.{nil_from_length}
 use Rattle.std.proofs.lemmas.List.Elements.{All-contains, Contains-push}
-use Rattle.epx_graph.specs.inner.Rows.{row_of}
+use Rattle.epx_rows.specs.Rows.{row_of}
 use Rattle.epx_graph.specs.inner.Searches.{SearchView, IsVisit, IsMissingSearch, IsSpreadFrom}
 use Rattle.epx_graph.proofs.SearchLemmas.{spreading_first, spreading_step, search_next}
 use Rattle.epx_graph.proofs.search.MissingSearch.spread.Goals as goal

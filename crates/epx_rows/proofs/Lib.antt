@@ -1,0 +1,6 @@
+mod RowLemmas
+mod RowAppendLemmas
+mod SlotLemmas
+mod SlotCountLemmas
+mod TransposeLemmas
+mod PositionGroupLemmas

@@ -1,0 +1,12 @@
+use Rattle.std.proofs.Common.{ap, length, arith}
+use Rattle.epx_rows.proofs.RowLemmas.{length_rows}
+use Rattle.epx_rows.proofs.rows.Rows.len.Goals as goal
+
+pub returns : goal.returns
+returns c = omega (
+  arith,
+  c.len.ensures,
+  c.self.inside.ends.ok.0,
+  length_rows 0 c.self.inside.ends.items c.self.inside.numbers.items,
+  ap length c.self.view_is,
+)

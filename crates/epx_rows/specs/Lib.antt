@@ -1,0 +1,4 @@
+pub mod Rows
+pub mod OpenRows
+pub mod PositionGroups
+pub mod inner
