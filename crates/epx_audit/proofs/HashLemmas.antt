@@ -1,11 +1,12 @@
 -- Strictly increasing lists of numbers.
-use Rattle.std.proofs.Common.{◌≡◌, ◌⊎◌, inl, inr, ℕ, zero, suc, ◌+◌, ◌-◌, ◌<◌, ◌≤◌, List, [], ◌∷◌}
+use Rattle.std.proofs.Common.{◌≡◌, ◌⊎◌, inl, inr, ℕ, ◌<◌, ◌≤◌, List, [], ◌∷◌}
 use Rattle.std.proofs.Common.{Option, Some, None, true, length, get_or, Contains, MatchOption}
 use Rattle.std.proofs.Common.{is_some, subst, ap, ◌∙◌, arith}
 use Rattle.std.specs.List.Sorted.{IsStrictlyIncreasing}
 use Rattle.std.proofs.lemmas.Bool.{cases_eq, cases_lt, false≢true}
 use Rattle.std.proofs.lemmas.List.{get_or_default}
 use Rattle.std.proofs.lemmas.List.Elements.{Contains-get_or}
+use Rattle.std.proofs.lemmas.List.Kept.{AllPairs-from_increasing}
 use Rattle.epx_types.proofs.lists.MembershipLemmas.{Contains-nil, Contains-head}
 use Rattle.epx_types.proofs.lists.MembershipLemmas.{Contains-cons_cases, Contains-cons}
 
@@ -21,19 +22,8 @@ contains_or_not (y ∷ ys) x = elim (cases_eq y x) [
 ]
 
 module _ (xs : List ℕ) (rising : IsStrictlyIncreasing xs) where
-  rises_by : (i n : ℕ) → i + n + 1 < length xs → get_or xs i 0 < get_or xs (i + n + 1) 0
-  rises_by i zero l =
-      let at : i + 1 ≡ i + 0 + 1 = omega arith in
-      subst (λ j. get_or xs i 0 < get_or xs j 0) at (rising i (omega arith))
-  rises_by i (suc n) l =
-      let next = rising (i + n + 1) (omega arith) in
-      let at : i + n + 1 + 1 ≡ i + suc n + 1 = omega arith in
-      omega (arith, rises_by i n (omega arith), next, ap (λ i. get_or xs i 0) at)
-
   pub rises : (i j : ℕ) → i < j → j < length xs → get_or xs i 0 < get_or xs j 0
-  rises i j below l =
-      let at : i + (j - i - 1) + 1 ≡ j = omega arith in
-      subst (λ j. get_or xs i 0 < get_or xs j 0) at (rises_by i (j - i - 1) (omega arith))
+  rises i j below l = AllPairs-from_increasing xs rising i j 0 below l
 
   -- each number is at one index only
   pub one_index : (i j : ℕ) → i < length xs → j < length xs → get_or xs i 0 ≡ get_or xs j 0 → i ≡ j

@@ -69,16 +69,6 @@ module _ (m : List Instance) (g : DependencyGraph) (is : IsGraphOf m g) (ready :
         ]
       ]
 
-  -- both are nodes of the graph
-  pub pair_within : (k j : ℕ) → IsPartner m (edges_of g) ready k j
-      → (k < length g.ids) × (j < length g.ids)
-  pair_within k j partner =
-      let (d, e, at, to, conflict) = partner.unsettled.conflict in
-      let count = committed_count m g is in (
-        omega (arith, slice_get_within m k d at, count, is.graph.committed_nodes),
-        omega (arith, slice_get_within m j e to, count, is.graph.committed_nodes),
-      )
-
   -- if the nodes of two instances are settled, they are no uncovered pair
   not_uncovered : (k j : ℕ) (x y : Id) → slice_get g.ids k ≡ Some x → slice_get g.ids j ≡ Some y
       → k < g.committed → j < g.committed → IsSettled m (edges_of g) ready k j

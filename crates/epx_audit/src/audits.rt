@@ -1,6 +1,6 @@
 //! Whether any two ready instances that conflict are related.
 ghost use Rattle.std.specs.Prelude.{◌≡◌, ℕ, ◌<◌, ◌≤◌, List, length, map, slice_index, All};
-ghost use Rattle.std.specs.Prelude.{Contains, IsTrue, IfOk, MatchOption};
+ghost use Rattle.std.specs.Prelude.{Contains, IsTrue, IfOk, IfSome, MatchOption};
 ghost use Rattle.epx_types.specs.Conflicts.{IsCovered};
 ghost use Rattle.epx_types.specs.Instances.{Instance};
 ghost use Rattle.epx_types.specs.ExecutionOrder.{IsExecutionOrder};
@@ -71,7 +71,9 @@ fn find_pair<'a>(
     requires ready { length ready.now ≡ length graph.now.ids }
     requires nodes { length keys.now ≤ length graph.now.ids }
     requires doubtful { AreInRange (length keys.now) doubtful.now.keys doubtful.now.touches.items }
-    ensures { IfOk result (λ found. (m : List Instance) → keys.now ≡ map keys_of m →
+    ensures in_range { IfOk result (λ found. IfSome found (λ pair.
+        (pair.0 < length keys.now) × (pair.1 < length keys.now))) }
+    ensures least { IfOk result (λ found. (m : List Instance) → keys.now ≡ map keys_of m →
         HoldAllConflicts m (edges_of graph.now) ready.now doubtful.now.touches.items →
         MatchOption found
         ((k j : ℕ) → k < j → IsSettled m (edges_of graph.now) ready.now k j)
@@ -128,7 +130,9 @@ fn first_pair<'a>(
     requires few { length sources.now ≤ 64 }
     requires in_range { All (λ k. k < length keys.now) sources.now }
     requires sources { All (λ k. IsTrue (is_marked ready.now k)) sources.now }
-    ensures { IfOk result (λ found. (m : List Instance) → keys.now ≡ map keys_of m →
+    ensures in_range { IfOk result (λ found. IfSome found (λ pair.
+        (pair.0 < length keys.now) × (pair.1 < length keys.now))) }
+    ensures first { IfOk result (λ found. (m : List Instance) → keys.now ≡ map keys_of m →
         HoldAllConflicts m (edges_of graph.now) ready.now doubtful.now.touches.items →
         MatchOption found
         (AreSettled m (edges_of graph.now) ready.now sources.now (length sources.now))
@@ -162,14 +166,15 @@ fn first_partner<'a>(
     requires bit { bit < 64 }
     requires source { source < length keys.now }
     requires ready { IsTrue (is_marked ready.now source) }
-    ensures { (m : List Instance) (g : DependencyGraph) (touches : List DoubtfulTouch)
+    ensures in_range { IfSome result (λ j. j < length keys.now) }
+    ensures partner { (m : List Instance) (g : DependencyGraph) (touches : List DoubtfulTouch)
         (sources : List ℕ) →
         keys.now ≡ map keys_of m → HoldAllConflicts m (edges_of g) ready.now touches →
         IsBatch g (parts partition.now) touches sources batch.now →
         bit < length sources → slice_index sources bit ≡ source →
         MatchOption result
         ((j : ℕ) → source < j → IsSettled m (edges_of g) ready.now source j)
-        (λ j. (j < length keys.now) × IsPartner m (edges_of g) ready.now source j) }
+        (IsPartner m (edges_of g) ready.now source) }
 {
     for other in source + 1..keys.len() {
         if has_bit(batch.candidates(partition, ready, other), bit)

@@ -5,7 +5,6 @@ use Rattle.epx_audit.specs.inner.NodeConflicts.{keys_of}
 use Rattle.epx_components.specs.ReadyMarks.{AreReadyMarks}
 use Rattle.epx_audit.specs.inner.Sources.{IsLeastPair}
 use Rattle.epx_audit.proofs.UncoveredPairLemmas.{covered_from_settled, least_from_partner}
-use Rattle.epx_audit.proofs.UncoveredPairLemmas.{pair_within}
 use Rattle.epx_audit.proofs.audits.audit.Goals as goal
 
 pub find_pair-requires-clause-doubtful : goal.find_pair-requires-clause-doubtful
@@ -20,32 +19,6 @@ find_pair-requires-clause-doubtful c t h =
       in_range.1,
     )
 
-pub id-requires : goal.id-requires
-id-requires c =
-    let m = c.args.merged.now in
-    let g = c.args.graph.now in
-    let ready = c.deref.result.now in
-    let marks : AreReadyMarks g ready =
-    subst (AreReadyMarks g) (sym c.deref.ensures.value) c.in_ok-ready.ensures in
-    let hold = c.in_ok-doubtful.ensures.whole ready marks in
-    let pair : IsLeastPair m (edges_of g) ready c.in-Some.node c.in-Some.other =
-    rw c.in-Some.is at (c.in_ok-node.ensures m (c.deref-2.ensures.value ∙ c.in_ok-keys.ensures)
-    hold) in
-    (pair_within m g c.requires.graph ready marks c.in-Some.node c.in-Some.other pair.partner).0
-
-pub id-requires-in-Some : goal.id-requires-in-Some
-id-requires-in-Some c =
-    let m = c.args.merged.now in
-    let g = c.args.graph.now in
-    let ready = c.deref.result.now in
-    let marks : AreReadyMarks g ready =
-    subst (AreReadyMarks g) (sym c.deref.ensures.value) c.in_ok-ready.ensures in
-    let hold = c.in_ok-doubtful.ensures.whole ready marks in
-    let pair : IsLeastPair m (edges_of g) ready c.in-Some.node c.in-Some.other =
-    rw c.in-Some.is at (c.in_ok-node.ensures m (c.deref-2.ensures.value ∙ c.in_ok-keys.ensures)
-    hold) in
-    (pair_within m g c.requires.graph ready marks c.in-Some.node c.in-Some.other pair.partner).1
-
 pub returns-in-Some : goal.returns-in-Some
 returns-in-Some c =
     let m = c.args.merged.now in
@@ -55,8 +28,8 @@ returns-in-Some c =
     subst (AreReadyMarks g) (sym c.deref.ensures.value) c.in_ok-ready.ensures in
     let hold = c.in_ok-doubtful.ensures.whole ready marks in
     let pair : IsLeastPair m (edges_of g) ready c.in-Some.node c.in-Some.other =
-    rw c.in-Some.is at (c.in_ok-node.ensures m (c.deref-2.ensures.value ∙ c.in_ok-keys.ensures)
-    hold) in
+    rw c.in-Some.is at
+    (c.in_ok-node.ensures.least m (c.deref-2.ensures.value ∙ c.in_ok-keys.ensures) hold) in
     least_from_partner m g c.requires.graph ready marks c.in-Some.node c.in-Some.other c.id.result
     c.id-in-Some.result c.id.ensures c.id-in-Some.ensures pair.before pair.partner
 
@@ -69,5 +42,5 @@ returns c =
     subst (AreReadyMarks g) (sym c.deref.ensures.value) c.in_ok-ready.ensures in
     let hold = c.in_ok-doubtful.ensures.whole ready marks in
     let none = rw c.in-None.is at
-    (c.in_ok-node.ensures m (c.deref-2.ensures.value ∙ c.in_ok-keys.ensures) hold) in
+    (c.in_ok-node.ensures.least m (c.deref-2.ensures.value ∙ c.in_ok-keys.ensures) hold) in
     covered_from_settled m g c.requires.graph ready marks (λ k j l above. none k j above)

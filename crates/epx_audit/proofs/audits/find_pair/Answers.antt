@@ -37,8 +37,8 @@ first_pair-requires-clause-sources c =
     (sym c.deref-in-loop-number.ensures.value)
     (part_ready ready touches sources are c.min-first.result n)
 
-pub returns-in-Some : goal.returns-in-Some
-returns-in-Some c m same hold =
+pub returns-in-Some-clause-least : goal.returns-in-Some-clause-least
+returns-in-Some-clause-least c m same hold =
     let edges = edges_of c.args.graph.now in
     let ready = c.args.ready.now in
     let touches = c.args.doubtful.now.touches.items in
@@ -48,7 +48,7 @@ returns-in-Some c m same hold =
     let first = c.min-first.result in
     let n = c.min-end.result - first in
     let found = rw (c.in-Some.is, c.deref-in-loop-number.ensures.value) at
-    (c.in_ok-pair.ensures m same hold) in
+    (c.in_ok-pair.ensures.first m same hold) in
     let count : min (length sources) (c.loop-number.number * 64) ≡ first =
     omega (arith, c.min-first.ensures, c.len.ensures) in
     let before : AreSettled m edges ready sources first =
@@ -66,7 +66,7 @@ loop-number-preserved c m same hold =
     let part = take n (drop first sources) in
     let none : AreSettled m edges ready part (length part) =
     rw (c.in_default.is, c.deref-in-loop-number.ensures.value) at
-    (c.in_ok-pair.ensures m same hold) in
+    (c.in_ok-pair.ensures.first m same hold) in
     let count : min (length sources) (c.loop-number.number * 64) ≡ first =
     omega (arith, c.min-first.ensures, c.len.ensures) in
     let before : AreSettled m edges ready sources first =
@@ -85,8 +85,8 @@ loop-number-preserved c m same hold =
     ) in
     subst (AreSettled m edges ready sources) reached done
 
-pub returns : goal.returns
-returns c m same hold k j above =
+pub returns-clause-least : goal.returns-clause-least
+returns-clause-least c m same hold k j above =
     let edges = edges_of c.args.graph.now in
     let ready = c.args.ready.now in
     let touches = c.args.doubtful.now.touches.items in

@@ -17,8 +17,8 @@ has_no_candidate-requires c =
           c.in_ok-batch.ensures c.requires.partition c.requires.ready;
     }
 
-pub returns-then-has_no_candidate : goal.returns-then-has_no_candidate
-returns-then-has_no_candidate c m same hold i j within above =
+pub returns-then-has_no_candidate-clause-first : goal.returns-then-has_no_candidate-clause-first
+returns-then-has_no_candidate-clause-first c m same hold i j within above =
     let edges = edges_of c.args.graph.now in
     let ready = c.args.ready.now in
     let touches = c.args.doubtful.now.touches.items in
@@ -44,15 +44,15 @@ first_partner-requires-clause-whole c =
     c.args.sources.now c.in_ok-batch.batch c.args.ready.now c.in_ok-batch.ensures
     c.requires.partition c.requires.ready
 
-pub returns-in-Some : goal.returns-in-Some
-returns-in-Some c m same hold =
-    let found = c.in-Some.ensures m c.args.graph.now c.args.doubtful.now.touches.items
+pub returns-in-Some-clause-first : goal.returns-in-Some-clause-first
+returns-in-Some-clause-first c m same hold =
+    let found = c.in-Some.ensures.partner m c.args.graph.now c.args.doubtful.now.touches.items
     c.args.sources.now same hold c.in_ok-batch.ensures c.loop-bit-test.true refl in
     record {
       at = c.loop-bit.bit;
       source = (c.loop-bit-test.true, refl);
       before = c.loop-bit.invariant m same hold;
-      partner = found.1;
+      partner = found;
     }
 
 pub loop-bit-preserved : goal.loop-bit-preserved
@@ -60,8 +60,8 @@ loop-bit-preserved c m same hold i j below above =
     let edges = edges_of c.args.graph.now in
     let ready = c.args.ready.now in
     let sources = c.args.sources.now in
-    let none = c.in_default.ensures m c.args.graph.now c.args.doubtful.now.touches.items sources
-    same hold c.in_ok-batch.ensures c.loop-bit-test.true refl in
+    let none = c.in_default.ensures.partner m c.args.graph.now c.args.doubtful.now.touches.items
+    sources same hold c.in_ok-batch.ensures c.loop-bit-test.true refl in
     elim (cases_lt i c.loop-bit.bit) [
       | inl past ↦ c.loop-bit.invariant m same hold i j past above
       | inr here ↦

@@ -12,8 +12,8 @@ use Rattle.epx_audit.proofs.audits.first_partner.Goals as goal
 use Rattle.epx_audit.proofs.audits.first_partner.Goals.{else-has_bit-via-then-has_bit+else-conflict}
 use Rattle.epx_audit.proofs.audits.first_partner.Goals.{else-has_bit-via-else-has_bit}
 
-pub returns-then-conflict : goal.returns-then-conflict
-returns-then-conflict c m g touches sources same hold batch within source =
+pub returns-then-conflict-clause-partner : goal.returns-then-conflict-clause-partner
+returns-then-conflict-clause-partner c m g touches sources same hold batch within source =
     let edges = edges_of g in
     let ready = c.args.ready.now in
     let keys = c.args.keys.now in
@@ -28,13 +28,11 @@ returns-then-conflict c m g touches sources same hold batch within source =
     let bit : IsTrue (has_bit c.args.bit c.candidates.result) =
     sym c.has_bit.ensures ∙ c.if-has_bit.true in
     let apart = subst (λ k. IsReadyApart edges ready k j) source
-    (c.candidates.ensures.apart g touches sources c.args.bit batch within bit) in (
-      c.loop-other-test.true,
-      partner_found m edges ready k keys same j c.index-keys-source.result
-          c.index-keys-other.result (omega (arith, c.loop-other.auto.other)) c.requires.ready at to
-          apart (c.conflict.ensures.0 c.if-conflict.true)
-          (c.loop-other.invariant m g touches sources same hold batch within source),
-    )
+    (c.candidates.ensures.apart g touches sources c.args.bit batch within bit) in
+    partner_found m edges ready k keys same j c.index-keys-source.result
+    c.index-keys-other.result (omega (arith, c.loop-other.auto.other)) c.requires.ready at to
+    apart (c.conflict.ensures.0 c.if-conflict.true)
+    (c.loop-other.invariant m g touches sources same hold batch within source)
 
 pub loop-other-preserved : goal.loop-other-preserved
 loop-other-preserved c m g touches sources same hold batch within source i above below =
@@ -63,8 +61,8 @@ loop-other-preserved c m g touches sources same hold batch within source i above
     (c.loop-other.invariant m g touches sources same hold batch within source) here i above
     below
 
-pub returns : goal.returns
-returns c m g touches sources same hold batch within source =
+pub returns-clause-partner : goal.returns-clause-partner
+returns-clause-partner c m g touches sources same hold batch within source =
     settled_past m (edges_of g) c.args.ready.now c.args.source c.args.keys.now same
     c.loop-other.other c.loop-other-test.false
     (c.loop-other.invariant m g touches sources same hold batch within source)

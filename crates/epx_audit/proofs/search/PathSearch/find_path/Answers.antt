@@ -1,6 +1,5 @@
 use Rattle.std.proofs.Common.{◌∷◌, [], inl, inr, Contains, sym, subst, ◌∙◌}
-use Rattle.std.proofs.lemmas.List.Elements.{Contains-append_left, Contains-append_right}
-use Rattle.epx_types.proofs.lists.MembershipLemmas.{Contains-head}
+use Rattle.std.proofs.lemmas.List.Elements.{Contains-append_left, Contains-push}
 use Rattle.epx_graph.specs.Graphs.{edges_of}
 use Rattle.epx_graph.proofs.GraphNodeLemmas.{edge_within}
 use Rattle.epx_components.proofs.NodePathLemmas.{reaches_edge, reaches_on}
@@ -11,7 +10,7 @@ open_targets-requires-clause-node c =
     let node = c.in-Some.node in
     (c.loop.invariant.opened node
     (subst (λ xs. Contains xs node) (sym c.in-Some.ensures.items)
-    (Contains-append_right c.pop.new.self.items (node ∷ []) node (Contains-head node [])))).0
+    (Contains-push c.pop.new.self.items node))).0
 
 pub returns-then-branch-clause-reaches : goal.returns-then-branch-clause-reaches
 returns-then-branch-clause-reaches c = λ yes.
@@ -19,8 +18,7 @@ returns-then-branch-clause-reaches c = λ yes.
     let from =
     (c.loop.invariant.opened node
     (subst (λ xs. Contains xs node) (sym c.in-Some.ensures.items)
-    (Contains-append_right c.pop.new.self.items (node ∷ []) node
-    (Contains-head node [])))).1 in
+    (Contains-push c.pop.new.self.items node))).1 in
     reaches_on (edges_of c.args.graph.now) c.args.from node _ from
     (c.in_ok-open_targets.ensures.reaches c.if-branch.true)
 
@@ -30,7 +28,7 @@ loop-preserved c =
     let node = c.in-Some.node in
     let popped = c.loop.invariant.opened node
     (subst (λ xs. Contains xs node) (sym c.in-Some.ensures.items)
-    (Contains-append_right c.pop.new.self.items (node ∷ []) node (Contains-head node []))) in
+    (Contains-push c.pop.new.self.items node)) in
     record {
       seen = c.in_ok-open_targets.ensures.seen ∙ c.loop.invariant.seen;
       opened = λ j h. elim (c.in_ok-open_targets.ensures.opened j h) [

@@ -1,7 +1,6 @@
-use Rattle.std.proofs.Common.{◌∷◌, [], inl, inr, Contains, length, length-set, get_or, subst, ap}
+use Rattle.std.proofs.Common.{inl, inr, Contains, length, length-set, get_or, subst, ap}
 use Rattle.std.proofs.Common.{◌∙◌}
-use Rattle.std.proofs.lemmas.List.Elements.{Contains-get_or, Contains-append_cases}
-use Rattle.epx_types.proofs.lists.MembershipLemmas.{Contains-cons_cases, Contains-nil}
+use Rattle.std.proofs.lemmas.List.Elements.{Contains-get_or, Contains-push_cases}
 use Rattle.epx_graph.specs.Graphs.{edges_of}
 use Rattle.epx_graph.proofs.GraphNodeLemmas.{edge_within}
 use Rattle.epx_components.proofs.NodePathLemmas.{reaches_edge, reaches_on}
@@ -37,15 +36,11 @@ loop-target-preserved c =
       | then-index-position+then-index-self+in_ok-push w ↦ record {
         seen = ap (λ v. length v.seen.items) w.self-is
             ∙ (length-set c.loop-target.self.seen.items _ _ ∙ old.seen);
-        opened = λ j h. elim (Contains-append_cases c.loop-target.self.opened.items (target ∷ []) j
+        opened = λ j h. elim (Contains-push_cases c.loop-target.self.opened.items target j
             (subst (λ xs. Contains xs j)
             (ap (λ v. v.opened.items) w.self-is ∙ w.in_ok-push.ensures.items) h)) [
               | inl was ↦ old.opened j was
-              | inr new ↦ elim (Contains-cons_cases target [] j new) [
-                | inl same ↦ inr (subst (λ i. Contains (edges_of c.args.graph.now node) i) same
-                    edge)
-                | inr none ↦ absurd (Contains-nil j none)
-              ]
+              | inr same ↦ inr (subst (Contains (edges_of c.args.graph.now node)) same edge)
             ];
       }
       | else-index-position w ↦ record {
