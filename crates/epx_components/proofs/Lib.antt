@@ -19,4 +19,6 @@ pub mod NodeRankLemmas
 pub mod ReadyNodeLemmas
 pub mod InstanceLeaderLemmas
 pub mod InstanceDepthLemmas
+pub mod ReadyMarkLemmas
 pub mod ReadyRankLemmas
+pub mod RankLemmas

@@ -2,6 +2,8 @@ pub mod NodeComponents
 pub mod NodeDepths
 pub mod MissingNodes
 pub mod NodeRanks
+pub mod Ranks
+pub mod ReadyMarks
 pub mod Partitions
 pub mod Targets
 pub mod inner

@@ -1,60 +1,15 @@
 -- The ends of the components in a list of nodes, and the greatest end below each.
 use Rattle.std.proofs.Common.{◌≡◌, ◌≢◌, ℕ, ◌+◌, ◌<◌, ◌≤◌, ◌⊎◌, inl, inr, max, List, [], ◌∷◌}
-use Rattle.std.proofs.Common.{length, get_or, set, replicate, sym, subst, ◌∙◌, ap, arith, Contains}
+use Rattle.std.proofs.Common.{length, get_or, set, sym, subst, ◌∙◌, ap, arith, Contains}
 use Rattle.std.proofs.lemmas.Bool.{cases_eq, cases_lt}
-use Rattle.std.proofs.lemmas.List.{get_or_default, length-set, length-replicate, get_or-replicate}
-use Rattle.std.proofs.lemmas.List.{get_or_past}
+use Rattle.std.proofs.lemmas.List.{get_or_default}
 use Rattle.std.proofs.lemmas.List.Elements.{Contains-get_or}
 use Rattle.epx_graph.specs.NodePaths.{IsNodePath, NodeReaches}
-use Rattle.epx_order.specs.inner.Ends.{AreEnds, IsEndBelow, IsGreatestEnd}
+use Rattle.epx_order.specs.inner.Ends.{IsEndBelow, IsGreatestEnd}
 use Rattle.epx_components.specs.Partitions.{ComponentParts, IsPartition, component_of, node_at}
 use Rattle.epx_components.specs.Partitions.{number_for}
 use Rattle.epx_components.proofs.NodePathLemmas.{reach_falls, reaches_edge, reaches_on}
 use Rattle.epx_components.proofs.PartitionLemmas.{node_below, value_after_set}
-
--- a list of zeros has 0 everywhere
-pub zero_everywhere : (n c : ℕ) → ◌≡◌ {A = ℕ} (get_or (replicate n 0) c 0) 0
-zero_everywhere n c =
-    elim (cases_lt c n) [
-      | inl l ↦ get_or-replicate n c 0 0 l
-      | inr past ↦ get_or_past (replicate n 0) c 0 (omega (arith, length-replicate {A = ℕ} n 0))
-    ]
-
-pub ends_none : (p : ComponentParts) (nodes : List ℕ) → AreEnds p nodes 0 (replicate p.count 0)
-ends_none p nodes = record {
-  whole = length-replicate {A = ℕ} p.count 0;
-  all = λ i l. absurd (omega arith);
-  one = λ k _. inl (zero_everywhere p.count (component_of p k));
-}
-
-pub ends_step : (p : ComponentParts) (nodes : List ℕ) (n : ℕ) (ends : List ℕ)
-    → component_of p (get_or nodes n 0) < length ends → AreEnds p nodes n ends
-    → AreEnds p nodes (n + 1) (set ends (component_of p (get_or nodes n 0)) (n + 1))
-ends_step p nodes n ends in' old =
-    let b = get_or nodes n 0 in
-    let own = component_of p b in
-    let new = set ends own (n + 1) in
-    let at : (k : ℕ) → ((component_of p k ≡ own) × (number_for p new k ≡ n + 1))
-    ⊎ ((component_of p k ≢ own) × (number_for p new k ≡ number_for p ends k)) =
-    value_after_set 0 p ends b (n + 1) in' in
-    record {
-      whole = length-set ends own (n + 1) ∙ old.whole;
-      all = λ i l. elim (at (get_or nodes i 0)) [
-        | inl here ↦ omega (arith, here.1)
-        | inr there ↦ elim (cases_lt i n) [
-          | inl past ↦ omega (arith, there.1, old.all i past)
-          | inr now ↦ let same : i ≡ n = omega arith in
-              absurd (there.0 (ap (λ x. component_of p (get_or nodes x 0)) same))
-        ]
-      ];
-      one = λ k l. elim (at k) [
-        | inl here ↦ inr (n, omega arith, sym here.0, here.1)
-        | inr there ↦ elim (old.one k l) [
-          | inl none ↦ inl (there.1 ∙ none)
-          | inr some ↦ inr (some.0, omega (arith, some.1), some.2, there.1 ∙ some.3)
-        ]
-      ];
-    }
 
 -- ---- the targets of a node
 
@@ -135,13 +90,6 @@ pub record AreEndsBelow (edges : ℕ → List ℕ) (p : ComponentParts) (ends be
       → component_of p j ≢ component_of p (node_at p q)
       → (number_for p ends j ≤ number_for p below (node_at p q))
       × (number_for p below j ≤ number_for p below (node_at p q))
-
-pub ends_below_none : (edges : ℕ → List ℕ) (p : ComponentParts) (ends : List ℕ)
-    → AreEndsBelow edges p ends (replicate p.count 0) 0
-ends_below_none edges p ends = record {
-  reason = λ k l. inl (zero_everywhere p.count (component_of p k));
-  above = λ q j l. absurd (omega arith);
-}
 
 module _ (edges : ℕ → List ℕ) (p : ComponentParts) (is : IsPartition edges p) (ends : List ℕ) where
   -- one step down an edge, from a node of the same component

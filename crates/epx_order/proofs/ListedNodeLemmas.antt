@@ -14,9 +14,9 @@ use Rattle.epx_graph.proofs.MapPathLemmas.{committed_count, node_committed, node
 use Rattle.epx_graph.proofs.MapPathLemmas.{node_order}
 use Rattle.epx_order.specs.inner.NodeLists.{AreListed, IsListedIfReady}
 use Rattle.epx_order.specs.OrderFaults.{HasAllReady, IsOrderFault, ReadyOnce}
-use Rattle.epx_order.specs.inner.ReadyMarks.{is_marked, AreReadyMarks}
+use Rattle.epx_components.specs.ReadyMarks.{is_marked, AreReadyMarks}
 use Rattle.epx_order.specs.declared.order_fault.OrderFault.TheVariants.{Missing}
-use Rattle.epx_order.proofs.ReadyMarkLemmas.{ready_from_mark, mark_from_ready}
+use Rattle.epx_components.proofs.ReadyMarkLemmas.{ready_from_mark, mark_from_ready}
 
 module _ (m : List Instance) (g : DependencyGraph) (is : IsGraphOf m g) (ids : List Id)
     (nodes : List ℕ) (marks : List Bool) (listed : AreListed g ids (length ids) nodes marks) where

@@ -12,7 +12,7 @@ use Rattle.epx_graph.specs.Graphs.{DependencyGraph, IsGraph}
 use Rattle.epx_graph.proofs.GraphNodeLemmas.{node_is_one}
 use Rattle.epx_order.specs.inner.NodeLists.{AreListed}
 use Rattle.epx_order.specs.OrderFaults.{ReadyOnce}
-use Rattle.epx_order.specs.inner.ReadyMarks.{is_marked}
+use Rattle.epx_components.specs.ReadyMarks.{is_marked}
 
 module _ (g : DependencyGraph) (is : IsGraph g) (ids : List Id) (n : ℕ) (nodes : List ℕ)
     (marks : List Bool) (old : AreListed g ids n nodes marks) (x : Id)

@@ -14,8 +14,9 @@ use Rattle.epx_graph.specs.Graphs.{DependencyGraph, IsGraph}
 use Rattle.epx_graph.specs.GraphOf.{IsGraphOf}
 use Rattle.epx_graph.proofs.GraphNodeLemmas.{node_is_one}
 use Rattle.epx_graph.proofs.MapPathLemmas.{node_of_committed}
-use Rattle.epx_order.specs.inner.Ranks.{ranked, AreReadyRanks}
-use Rattle.epx_order.specs.declared.rank.Rank.{Rank}
+use Rattle.epx_components.specs.Ranks.{ranked}
+use Rattle.epx_order.specs.inner.ReadyRanks.{AreReadyRanks}
+use Rattle.epx_components.specs.declared.rank.Rank.{Rank}
 
 -- the ranks of the ready instances among the first n nodes, each once
 pub record AreGathered (m : List Instance) (g : DependencyGraph) (n : ℕ) (ranks : List Rank) : Type

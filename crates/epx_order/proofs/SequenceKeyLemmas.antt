@@ -1,11 +1,11 @@
 -- The greatest sequence key of each component, among the nodes of a list.
 use Rattle.std.proofs.Common.{◌≡◌, ◌≢◌, ℕ, ◌+◌, ◌<◌, ◌⊎◌, inl, inr, List, length, get_or, set}
-use Rattle.std.proofs.Common.{replicate, slice_get, Option, Some, None, true, refl, sym, subst}
+use Rattle.std.proofs.Common.{slice_get, Option, Some, None, true, refl, sym, subst}
 use Rattle.std.proofs.Common.{◌∙◌, ap, arith, is_lt}
 use Rattle.std.specs.Cmp.{IsTotalOrder, nat_cmp_total, on_total, then_total}
 use Rattle.std.specs.FinMap.{IsAntisymmetric, nat_cmp-IsAntisymmetric}
 use Rattle.std.proofs.lemmas.Bool.{cases_lt}
-use Rattle.std.proofs.lemmas.List.{length-set, length-replicate, get_or-replicate, get_or_past}
+use Rattle.std.proofs.lemmas.List.{length-set}
 use Rattle.epx_types.specs.Instances.{Instance}
 use Rattle.epx_types.proofs.lists.TotalOrderLemmas.{below_irrefl, below_trans, below_cases}
 use Rattle.epx_types.proofs.lists.ComparisonLemmas.{id_cmp_total, id_cmp-IsAntisymmetric}
@@ -49,21 +49,6 @@ before_later a b c lower not =
       | inr (inl same) ↦ subst (λ t. is_lt (sequence_key_cmp a t) ≡ true) (sym same) lower
       | inr (inr l) ↦ below_trans sequence_key_cmp_total a b c lower l
     ]
-
-pub latest_none : (m : List Instance) (p : ComponentParts) (nodes : List ℕ)
-    → AreLatest m p nodes 0 (replicate p.count None)
-latest_none m p nodes = record {
-  whole = length-replicate {A = Option SequenceKey} p.count None;
-  from = λ k t h. let none = none_everywhere (component_of p k) in absurd (cc (h, none));
-  over = λ j e l. absurd (omega arith);
-} where
-  none_everywhere : (c : ℕ) → ◌≡◌ {A = Option SequenceKey} (get_or (replicate p.count None) c None)
-      None
-  none_everywhere c = elim (cases_lt c p.count) [
-    | inl l ↦ get_or-replicate p.count c None None l
-    | inr past ↦ get_or_past (replicate p.count None) c None
-        (omega (arith, length-replicate {A = Option SequenceKey} p.count None))
-  ]
 
 module _ (m : List Instance) (p : ComponentParts) (nodes : List ℕ) (n : ℕ)
     (latest : List (Option SequenceKey)) (old : AreLatest m p nodes n latest) (e : Instance)

@@ -22,8 +22,9 @@ use Rattle.epx_types.proofs.lists.MembershipLemmas.{Contains-filter}
 use Rattle.epx_types.proofs.lists.ListPositionLemmas.{slice_get-from_map, Contains-slice_get}
 use Rattle.epx_types.proofs.lists.ListPositionLemmas.{AllPairs-head, AllPairs-tail}
 use Rattle.epx_types.proofs.lists.ListPositionLemmas.{AllPairs-from_slice_get}
-use Rattle.epx_order.specs.inner.Ranks.{ranked, ranked_all, AreReadyRanks}
-use Rattle.epx_order.specs.declared.rank.Rank.{Rank}
+use Rattle.epx_components.specs.Ranks.{ranked, ranked_all}
+use Rattle.epx_order.specs.inner.ReadyRanks.{AreReadyRanks}
+use Rattle.epx_components.specs.declared.rank.Rank.{Rank}
 
 -- if R holds of any two filtered elements in order, it holds of two elements that pass the test
 pair_passes : {X : Type 0} (R : X → X → Type 0) (p : X → Bool) (xs : List X)

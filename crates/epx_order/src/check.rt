@@ -12,10 +12,9 @@ mod node_list;
 mod sequence_key;
 
 use crate::order_fault::OrderFault;
-use crate::ready_nodes::ready_nodes;
 use ends::{find_ends, find_ends_below};
 use epx_committed::Merged;
-use epx_components::{Partition, find_components};
+use epx_components::{Partition, find_components, ready_nodes};
 use epx_graph::Graph;
 use epx_types::{Id, Memory};
 use node_list::{first_unlisted, list_nodes};

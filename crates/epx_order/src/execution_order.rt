@@ -6,9 +6,9 @@ ghost use Rattle.epx_types.specs.ExecutionOrder.{ranked_ids, IsExecutionOrder};
 ghost use Rattle.epx_types.specs.LawfulOrders.{IsLawful};
 ghost use Rattle.epx_graph.specs.GraphOf.{IsGraphOfRest, IsGraphOf};
 
-use crate::order_list::OrderList;
 use crate::ready::ready_ranks;
 use epx_committed::Merged;
+use epx_components::OrderList;
 use epx_graph::Graph;
 use epx_types::Memory;
 use rayon::prelude::*;

@@ -8,12 +8,12 @@ ghost use Rattle.epx_types.specs.ExecutionOrder.{IsRanked};
 ghost use Rattle.epx_types.specs.Instances.{Instance};
 ghost use Rattle.epx_types.specs.Readiness.{IsReady};
 ghost use Rattle.epx_graph.specs.GraphOf.{IsGraphOfRest, IsGraphOf};
-ghost use Rattle.epx_order.specs.inner.Ranks.{ranked, AreReadyRanks};
+ghost use Rattle.epx_components.specs.Ranks.{ranked};
+ghost use Rattle.epx_order.specs.inner.ReadyRanks.{AreReadyRanks};
 ghost use Rattle.epx_components.specs.NodeRanks.{IsNodeRank};
 
-use crate::rank::Rank;
 use epx_committed::Merged;
-use epx_components::{NodeRank, NodeRanks};
+use epx_components::{NodeRank, NodeRanks, Rank};
 use epx_graph::Graph;
 use epx_types::{Id, Memory};
 use std::alloc::Global;

@@ -11,7 +11,7 @@ use Rattle.epx_types.proofs.orders.OrderExistenceLemmas.{execution_order_exists}
 use Rattle.epx_types.proofs.orders.OrderExistenceLemmas.{waiting_list_exists}
 use Rattle.epx_types.proofs.levels.LevelExistenceLemmas.{levels_exist}
 use Rattle.epx_merge.proofs.ExistenceLemmas.{answered_always}
-use Rattle.epx_order.proofs.LeastUncoveredLemmas.{covered_or_not}
+use Rattle.epx_audit.proofs.LeastUncoveredLemmas.{covered_or_not}
 use Rattle.epx_picture.proofs.PictureLemmas.{picture_exists}
 use Rattle.epx_tool.specs.declared.ask.Ask.{Ask}
 use Rattle.epx_tool.specs.declared.ask.Ask.TheVariants.{Order, Levels, Audit, Graph}

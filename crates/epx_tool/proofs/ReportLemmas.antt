@@ -20,7 +20,7 @@ use Rattle.epx_tool.specs.ResumedReport.{IsReportAfter, resumed_text}
 use Rattle.epx_tool.specs.LevelText.{IsLevelText, level_text}
 use Rattle.epx_tool.specs.AuditText.{IsAuditText}
 use Rattle.epx_report.specs.ViewLines.{covered_line, uncovered_line}
-use Rattle.epx_order.specs.Uncovered.{IsLeastUncovered}
+use Rattle.epx_audit.specs.Uncovered.{IsLeastUncovered}
 use Rattle.epx_types.specs.Conflicts.{IsCovered}
 use Rattle.epx_types.proofs.remaining.RemainingLemmas.{Contains-remaining_iff, remaining-nil}
 use Rattle.epx_types.proofs.commands.ExecutionLemmas.{length-replies}

@@ -18,7 +18,7 @@ use Rattle.epx_tool.specs.LevelText.{IsLevelText, level_text}
 use Rattle.epx_tool.specs.AuditText.{IsAuditText}
 use Rattle.epx_report.specs.ViewLines.{uncovered_line}
 use Rattle.epx_picture.proofs.UniquePictureLemmas.{picture_is_one}
-use Rattle.epx_order.proofs.UniquePairLemmas.{uncovered_not_covered, least_uncovered_is_one}
+use Rattle.epx_audit.proofs.UniquePairLemmas.{uncovered_not_covered, least_uncovered_is_one}
 use Rattle.epx_tool.specs.declared.ask.Ask.{Ask}
 use Rattle.epx_tool.specs.declared.ask.Ask.TheVariants.{Order, Levels, Audit, Graph}
 use Rattle.epx_tool.specs.Views.{IsViewText}

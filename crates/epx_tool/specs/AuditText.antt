@@ -4,7 +4,7 @@ use Rattle.epx_types.specs.declared.id.Id.{Id}
 use Rattle.epx_types.specs.Instances.{Instance}
 use Rattle.epx_types.specs.Conflicts.{IsCovered}
 use Rattle.epx_report.specs.ViewLines.{covered_line, uncovered_line}
-use Rattle.epx_order.specs.Uncovered.{IsLeastUncovered}
+use Rattle.epx_audit.specs.Uncovered.{IsLeastUncovered}
 
 -- one line: the map is covered, or the least two instances that are not
 abbrev pub IsAuditText : List Instance → List ℕ → Type 0

@@ -3,7 +3,7 @@ use Rattle.std.specs.Prelude.{◌≡◌, ◌↔◌, ℕ, ◌<◌, List, Bool, le
 use Rattle.std.specs.Prelude.{IsTrue}
 use Rattle.epx_types.specs.declared.id.Id.{Id}
 use Rattle.epx_graph.specs.Graphs.{DependencyGraph}
-use Rattle.epx_order.specs.inner.ReadyMarks.{is_marked}
+use Rattle.epx_components.specs.ReadyMarks.{is_marked}
 
 -- the nodes of the first n instances of a list, and for each node whether it is one of them
 pub record AreListed (g : DependencyGraph) (ids : List Id) (n : ℕ) (nodes : List ℕ)

@@ -8,10 +8,10 @@ ghost use Rattle.epx_graph.specs.GraphOf.{IsGraphOf};
 ghost use Rattle.epx_order.specs.inner.NodeLists.{AreListed, IsListedIfReady};
 ghost use Rattle.epx_order.specs.OrderFaults.{ReadyOnce, IsOrderFault};
 ghost use Rattle.epx_components.specs.Partitions.{parts, IsPartitionOf};
-ghost use Rattle.epx_order.specs.inner.ReadyMarks.{is_marked, AreReadyMarks};
+ghost use Rattle.epx_components.specs.ReadyMarks.{is_marked, AreReadyMarks};
 
 use crate::order_fault::OrderFault;
-use crate::ready_nodes::ready_node;
+use epx_components::ready_node;
 use epx_graph::Graph;
 use epx_types::{Id, Memory};
 use std::alloc::Global;

@@ -7,7 +7,8 @@ use Rattle.epx_types.proofs.remaining.RemainingLemmas.{remaining-nil}
 use Rattle.epx_types.proofs.orders.ExecutionOrderLemmas.{IsExecutionOrder-IsLawful}
 use Rattle.epx_graph.specs.GraphOf.{IsGraphOf}
 use Rattle.epx_order.proofs.SortedRankLemmas.{order_from_sort}
-use Rattle.epx_order.specs.inner.Ranks.{ranked_all, AreReadyRanks}
+use Rattle.epx_components.specs.Ranks.{ranked_all}
+use Rattle.epx_order.specs.inner.ReadyRanks.{AreReadyRanks}
 use Rattle.epx_order.proofs.execution_order.order.Goals as goal
 
 pub returns-clause-order : goal.returns-clause-order

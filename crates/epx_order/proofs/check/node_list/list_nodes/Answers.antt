@@ -4,7 +4,7 @@ use Rattle.std.proofs.lemmas.List.{get_or_read}
 use Rattle.std.proofs.lemmas.Option.{slice_get_within, slice_get-get_or}
 use Rattle.epx_order.proofs.NodeListLemmas.{earlier_from_mark, listed_step, ready_once_step}
 use Rattle.epx_order.specs.inner.NodeLists.{AreListed}
-use Rattle.epx_order.specs.inner.ReadyMarks.{is_marked}
+use Rattle.epx_components.specs.ReadyMarks.{is_marked}
 use Rattle.epx_order.proofs.check.node_list.list_nodes.Goals as goal
 
 pub returns-in_default-clause-sound : goal.returns-in_default-clause-sound

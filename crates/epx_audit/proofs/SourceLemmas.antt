@@ -1,0 +1,111 @@
+-- What is settled when some of the sources are settled.
+use Rattle.std.proofs.Common.{◌≡◌, inl, inr, ℕ, ◌+◌, ◌-◌, ◌<◌, ◌≤◌, List, Bool, All, length}
+use Rattle.std.proofs.Common.{length-take, length-drop, take, drop, get_or, IsTrue, sym, subst, ap}
+use Rattle.std.proofs.Common.{◌∙◌, arith}
+use Rattle.std.proofs.lemmas.Bool.{cases_lt}
+use Rattle.std.proofs.lemmas.List.{get_or_default, get_or-take, get_or-drop}
+use Rattle.std.proofs.lemmas.List.Elements.{All-from_get_or}
+use Rattle.epx_types.specs.Instances.{Instance}
+use Rattle.epx_audit.specs.declared.doubtful_touches.DoubtfulTouch.{DoubtfulTouch}
+use Rattle.epx_audit.specs.inner.DoubtfulKeys.{AreInRange, HoldAllConflicts}
+use Rattle.epx_audit.specs.inner.NodeConflicts.{IsSettled}
+use Rattle.epx_components.specs.ReadyMarks.{is_marked}
+use Rattle.epx_audit.specs.inner.Sources.{AreSources, AreSettled, IsFirstPair, IsLeastPair}
+
+module _ (m : List Instance) (edges : ℕ → List ℕ) (ready : List Bool)
+    (touches : List DoubtfulTouch) (sources : List ℕ) (are : AreSources ready touches sources)
+    (hold : HoldAllConflicts m edges ready touches) where
+  -- a node that is none of the later sources
+  pub settled_below : (n : ℕ) → AreSettled m edges ready sources n → (k j : ℕ)
+      → ((i : ℕ) → i < length sources → get_or sources i 0 ≡ k → i < n) → k < j
+      → IsSettled m edges ready k j
+  settled_below n done k j early above d e at to k_ready j_ready conflict =
+      elim (hold k j d e above at to k_ready j_ready conflict) [
+        | inl related ↦ related
+        | inr share ↦
+            let marked = subst (λ k. IsTrue (is_marked ready k)) (sym share.nodes.0) k_ready in
+            let found = are.whole share.mine share.held.0 marked in
+            let is : get_or sources found.0 0 ≡ k =
+            get_or_default sources found.0 0 _ found.1 ∙ found.2 ∙ share.nodes.0 in
+            let here = done found.0 j (early found.0 found.1 is) (omega (arith, is, above)) in
+            (subst (λ k. IsSettled m edges ready k j) is here) d e at to k_ready j_ready conflict
+      ]
+
+  -- a node below a source
+  pub early_below : (n : ℕ) → n < length sources → (k : ℕ) → k < get_or sources n 0 → (i : ℕ)
+      → i < length sources → get_or sources i 0 ≡ k → i < n
+  early_below n l k below i li is = elim (cases_lt i n) [
+    | inl early ↦ early
+    | inr not ↦ elim (cases_lt n i) [
+      | inl late ↦ absurd (omega (arith, are.rising n i late li, is, below))
+      | inr neither ↦
+          let same : i ≡ n = omega arith in
+          absurd (omega (arith, subst (λ i. get_or sources i 0 ≡ k) same is, below))
+    ]
+  ]
+
+-- the sources of a batch come after the first n sources
+pub settled_batch : (m : List Instance) (edges : ℕ → List ℕ) (ready : List Bool)
+    (sources batch : List ℕ) (first n : ℕ)
+    → ((i : ℕ) → i < length batch → get_or batch i 0 ≡ get_or sources (first + i) 0)
+    → n ≤ length batch → AreSettled m edges ready sources first → AreSettled m edges ready batch n
+    → AreSettled m edges ready sources (first + n)
+settled_batch m edges ready sources batch first n same within before now i j l above =
+    elim (cases_lt i first) [
+      | inl past ↦ before i j past above
+      | inr here ↦
+          let at : first + (i - first) ≡ i = omega arith in
+          let is : get_or batch (i - first) 0 ≡ get_or sources i 0 =
+          same (i - first) (omega arith) ∙ ap (λ i. get_or sources i 0) at in
+          subst (λ k. IsSettled m edges ready k j) is
+          (now (i - first) j (omega arith) (omega (arith, is, above)))
+    ]
+
+-- a sublist
+module _ (xs : List ℕ) (first n : ℕ) where
+  pub part_within : (i : ℕ) → i < length (take n (drop first xs))
+      → (i < n) × (first + i < length xs)
+  part_within i l = (
+    omega (arith, l, length-take n (drop first xs)),
+    omega (arith, l, length-take n (drop first xs), length-drop first xs),
+  )
+
+  pub part_at : (i : ℕ) → i < length (take n (drop first xs))
+      → get_or (take n (drop first xs)) i 0 ≡ get_or xs (first + i) 0
+  part_at i l = get_or-take n (drop first xs) i 0 (part_within i l).0 ∙ get_or-drop first xs i 0
+
+module _ (ready : List Bool) (touches : List DoubtfulTouch) (sources : List ℕ)
+    (are : AreSources ready touches sources) (first n : ℕ) where
+  pub part_ready : All (λ k. IsTrue (is_marked ready k)) (take n (drop first sources))
+  part_ready = All-from_get_or (λ k. IsTrue (is_marked ready k)) (take n (drop first sources)) 0
+      (λ i l. subst (λ k. IsTrue (is_marked ready k)) (sym (part_at sources first n i l))
+      (are.each (first + i) (part_within sources first n i l).1).0)
+
+  pub part_in_range : (nodes keys : ℕ) → AreInRange nodes keys touches
+      → All (λ k. k < nodes) (take n (drop first sources))
+  part_in_range nodes keys within =
+      All-from_get_or (λ k. k < nodes) (take n (drop first sources)) 0 (λ i l.
+      let e = (are.each (first + i) (part_within sources first n i l).1).1 in
+      omega (arith, part_at sources first n i l, (within e.0 e.1).0, e.2))
+
+module _ (m : List Instance) (edges : ℕ → List ℕ) (ready : List Bool)
+    (touches : List DoubtfulTouch) (sources : List ℕ) (are : AreSources ready touches sources)
+    (hold : HoldAllConflicts m edges ready touches) (first n : ℕ)
+    (before : AreSettled m edges ready sources first) where
+  pub least_from_first : (k j : ℕ) → IsFirstPair m edges ready (take n (drop first sources)) k j
+      → IsLeastPair m edges ready k j
+  least_from_first k j pair =
+      let part = take n (drop first sources) in
+      let l : pair.at < length part = pair.source.0 in
+      let at = first + pair.at in
+      let within : at < length sources = (part_within sources first n pair.at l).1 in
+      let is : get_or sources at 0 ≡ k = sym (part_at sources first n pair.at l) ∙ pair.source.1 in
+      let done : AreSettled m edges ready sources at =
+      settled_batch m edges ready sources part first pair.at (part_at sources first n)
+      (omega (arith, l)) before pair.before in
+      record {
+        before = λ i o below above. settled_below m edges ready touches sources are hold at done i
+            o (early_below m edges ready touches sources are hold at within i
+            (omega (arith, is, below))) above;
+        partner = pair.partner;
+      }

@@ -1,0 +1,63 @@
+-- Words to which the targets of edges are added, and words that are collected from the targets.
+use Rattle.std.proofs.Common.{◌≡◌, ◌↔◌, ◌⊎◌, inl, inr, ℕ, ◌+◌, ◌<◌, List, length, get_or, set}
+use Rattle.std.proofs.Common.{bit_or, IsTrue, subst, ap, ◌∙◌, arith}
+use Rattle.std.proofs.lemmas.Bool.{cases_lt}
+use Rattle.epx_audit.specs.inner.SourceBits.{has_bit}
+use Rattle.epx_audit.proofs.BitLemmas.{or_bit, or_at}
+
+module _ (component targets : List ℕ) where
+  -- the word is added to the components of the first n targets
+  abbrev pub AreAdded : List ℕ → List ℕ → ℕ → ℕ → Type 0
+  AreAdded words new word n = (b c : ℕ) → IsTrue (has_bit b (get_or new c 0))
+      ↔ (IsTrue (has_bit b (get_or words c 0))
+      ⊎ (IsTrue (has_bit b word) × (i : ℕ) × (i < n)
+      × (get_or component (get_or targets i 0) 0 ≡ c)))
+
+  pub added_more : (words new : List ℕ) (word n : ℕ)
+      → get_or component (get_or targets n 0) 0 < length new → AreAdded words new word n
+      → AreAdded words (set new (get_or component (get_or targets n 0) 0)
+      (bit_or (get_or new (get_or component (get_or targets n 0) 0) 0) word)) word (n + 1)
+  added_more words new word n within old b c =
+      let changed = or_at new (get_or component (get_or targets n 0) 0) word within b c in (
+        λ h. elim (changed.0 h) [
+          | inl was ↦ elim ((old b c).0 was) [
+            | inl first ↦ inl first
+            | inr (has, i, below, at) ↦ inr (has, i, omega (arith, below), at)
+          ]
+          | inr (at, has) ↦ inr (has, n, omega arith, at)
+        ],
+        λ h. changed.1 (elim h [
+          | inl first ↦ inl ((old b c).1 (inl first))
+          | inr (has, i, below, at) ↦ elim (cases_lt i n) [
+            | inl past ↦ inl ((old b c).1 (inr (has, i, past, at)))
+            | inr here ↦
+                let same : n ≡ i = omega (arith, below) in
+                inr (ap (λ i. get_or component (get_or targets i 0) 0) same ∙ at, has)
+          ]
+        ]),
+      )
+
+  -- the bits of the words of the first n targets
+  abbrev pub AreJoined : List ℕ → ℕ → ℕ → Type 0
+  AreJoined words over n = (b : ℕ) → IsTrue (has_bit b over)
+      ↔ ((i : ℕ) × (i < n)
+      × IsTrue (has_bit b (get_or words (get_or component (get_or targets i 0) 0) 0)))
+
+  pub joined_more : (words : List ℕ) (over n : ℕ) → AreJoined words over n
+      → AreJoined words (bit_or over (get_or words (get_or component (get_or targets n 0) 0) 0))
+      (n + 1)
+  joined_more words over n old b =
+      let both = or_bit b over (get_or words (get_or component (get_or targets n 0) 0) 0) in (
+        λ h. elim (both.0 h) [
+          | inl was ↦ let f = (old b).0 was in (f.0, omega (arith, f.1), f.2)
+          | inr now ↦ (n, omega arith, now)
+        ],
+        λ f. both.1 (elim (cases_lt f.0 n) [
+          | inl past ↦ inl ((old b).1 (f.0, past, f.2))
+          | inr here ↦
+              let same : f.0 ≡ n = omega (arith, f.1) in
+              inr (subst
+              (λ i. IsTrue
+              (has_bit b (get_or words (get_or component (get_or targets i 0) 0) 0))) same f.2)
+        ]),
+      )

@@ -1,0 +1,163 @@
+-- Nodes that are not settled are those of an uncovered pair.
+use Rattle.std.proofs.Common.{◌≡◌, ◌⊎◌, inl, inr, ℕ, ◌<◌, List, Bool, length, slice_get, Some}
+use Rattle.std.proofs.Common.{Contains, refl, sym, subst, ap, ◌∙◌, arith}
+use Rattle.std.proofs.lemmas.Bool.{cases_lt}
+use Rattle.std.proofs.lemmas.Option.{slice_get_within}
+use Rattle.epx_types.specs.declared.id.Id.{Id}
+use Rattle.epx_types.specs.Ids.{IsRising}
+use Rattle.epx_types.specs.Instances.{Instance}
+use Rattle.epx_types.specs.Conflicts.{Conflict, IsCovered}
+use Rattle.epx_types.specs.Reaching.{Reaches}
+use Rattle.epx_types.specs.Readiness.{IsReady}
+use Rattle.epx_types.proofs.committed.AgreementLemmas.{IsRising-same}
+use Rattle.epx_types.proofs.commands.ConflictLemmas.{Conflict-symm}
+use Rattle.epx_types.proofs.lists.ListPositionLemmas.{Contains-slice_get}
+use Rattle.epx_graph.specs.Graphs.{DependencyGraph, edges_of}
+use Rattle.epx_graph.specs.GraphOf.{IsGraphOf}
+use Rattle.epx_graph.proofs.MapPathLemmas.{committed_count, node_instance, node_of_committed}
+use Rattle.epx_graph.proofs.MapPathLemmas.{node_order, node_reaches}
+use Rattle.epx_audit.specs.inner.NodeConflicts.{IsSettled, IsUnsettled, IsPartner}
+use Rattle.epx_components.specs.ReadyMarks.{AreReadyMarks}
+use Rattle.epx_audit.specs.Uncovered.{IsUncovered, IsLeastUncovered}
+use Rattle.epx_components.proofs.ReadyMarkLemmas.{ready_from_mark, mark_from_ready}
+use Rattle.epx_components.proofs.ReadyRankLemmas.{node_of_place}
+
+module _ (m : List Instance) (g : DependencyGraph) (is : IsGraphOf m g) (ready : List Bool)
+    (marked : AreReadyMarks g ready) where
+  -- the instance at the position of its node
+  instance_at : (k : ℕ) (x : Id) (d : Instance) → slice_get g.ids k ≡ Some x → k < g.committed
+      → Contains m d → d.id ≡ x → slice_get m k ≡ Some d
+  instance_at k x d at l in_d same =
+      let rising = subst IsRising is.committed is.graph.committed_rise in
+      let f = node_instance m g is k x at l in
+      f.1 ∙ ap Some (IsRising-same m rising f.0 d (Contains-slice_get m k f.0 f.1) in_d
+      (f.2 ∙ sym same))
+
+  -- if the nodes of two instances that conflict are settled, one instance reaches the other
+  related : (k j : ℕ) (x y : Id) (d e : Instance) → slice_get g.ids k ≡ Some x
+      → slice_get g.ids j ≡ Some y → k < g.committed → j < g.committed → Contains m d
+      → Contains m e → d.id ≡ x → e.id ≡ y → IsReady m x → IsReady m y → Conflict d.ops e.ops
+      → IsSettled m (edges_of g) ready k j → Reaches m x y ⊎ Reaches m y x
+  related k j x y d e at to l n in_d in_e is_x is_y x_ready y_ready conflict settled =
+      elim (settled d e (instance_at k x d at l in_d is_x) (instance_at j y e to n in_e is_y)
+      (mark_from_ready m g is ready marked k x at x_ready)
+      (mark_from_ready m g is ready marked j y to y_ready) conflict) [
+        | inl there ↦ inl ((node_reaches m g is k j x y at to).0 there)
+        | inr back ↦ inr ((node_reaches m g is j k y x to at).0 back)
+      ]
+
+  pub covered_from_settled : ((k j : ℕ) → k < length m → k < j
+      → IsSettled m (edges_of g) ready k j) → IsCovered m
+  covered_from_settled settled d e in_d in_e differ d_ready e_ready conflict =
+      let k = node_of_committed m g is d.id d_ready.committed in
+      let j = node_of_committed m g is e.id e_ready.committed in
+      let count = committed_count m g is in
+      elim (cases_lt k.0 j.0) [
+        | inl lower ↦ related k.0 j.0 d.id e.id d e k.2 j.2 k.1 j.1 in_d in_e refl refl d_ready
+            e_ready conflict (settled k.0 j.0 (omega (arith, count, k.1)) lower)
+        | inr upto ↦ elim (cases_lt j.0 k.0) [
+          | inl lower ↦ elim (related j.0 k.0 e.id d.id e d j.2 k.2 j.1 k.1 in_e in_d refl refl
+              e_ready d_ready (Conflict-symm d.ops e.ops conflict)
+              (settled j.0 k.0 (omega (arith, count, j.1)) lower)) [
+                | inl there ↦ inr there
+                | inr back ↦ inl back
+              ]
+          | inr other ↦
+              let one : k.0 ≡ j.0 = omega arith in
+              let same : Some d.id ≡ Some e.id = sym k.2 ∙ ap (slice_get g.ids) one ∙ j.2 in
+              absurd (differ (cc same))
+        ]
+      ]
+
+  -- if the nodes of two instances are settled, they are no uncovered pair
+  not_uncovered : (k j : ℕ) (x y : Id) → slice_get g.ids k ≡ Some x → slice_get g.ids j ≡ Some y
+      → k < g.committed → j < g.committed → IsSettled m (edges_of g) ready k j
+      → ¬ IsUncovered m x y
+  not_uncovered k j x y at to l n settled bad =
+      let (d, e, in_d, in_e, is_x, is_y, conflict) = bad.conflict in
+      elim (related k j x y d e at to l n in_d in_e is_x is_y bad.ready.0 bad.ready.1 conflict
+      settled) [
+        | inl there ↦ bad.apart.0 there
+        | inr back ↦ bad.apart.1 back
+      ]
+
+  pub least_from_partner : (k j : ℕ) (x y : Id) → slice_get g.ids k ≡ Some x
+      → slice_get g.ids j ≡ Some y
+      → ((i n : ℕ) → i < k → i < n → IsSettled m (edges_of g) ready i n)
+      → IsPartner m (edges_of g) ready k j → IsLeastUncovered m x y
+  least_from_partner k j x y at to before partner = record {
+    rises = (node_order m g is k j x y at to l n).0 partner.above;
+    uncovered = record {
+      ready = (
+        ready_from_mark m g is ready marked k x at bad.both_ready.0,
+        ready_from_mark m g is ready marked j y to bad.both_ready.1,
+      );
+      conflict = (
+        d,
+        e,
+        Contains-slice_get m k d at_d,
+        Contains-slice_get m j e at_e,
+        is_x,
+        is_y,
+        bad.conflict.4,
+      );
+      apart = (
+        (λ there. bad.apart.0 ((node_reaches m g is k j x y at to).1 there)),
+        (λ back. bad.apart.1 ((node_reaches m g is j k y x to at).1 back)),
+      );
+    };
+    least = λ v w below other.
+        let i = node_of_committed m g is v other.ready.0.committed in
+        let q = node_of_committed m g is w other.ready.1.committed in
+        let rises = (node_order m g is i.0 q.0 v w i.2 q.2 i.1 q.1).1 below in
+        elim (cases_lt i.0 k) [
+          | inl lower ↦ absurd
+              (not_uncovered i.0 q.0 v w i.2 q.2 i.1 q.1 (before i.0 q.0 lower rises) other)
+          | inr not_lower ↦ elim (cases_lt k i.0) [
+            | inl higher ↦ inl ((node_order m g is k i.0 x v at i.2 l i.1).0 higher)
+            | inr not_higher ↦
+                let one : i.0 ≡ k = omega arith in
+                let first : Some x ≡ Some v = sym at ∙ ap (slice_get g.ids) (sym one) ∙ i.2 in
+                elim (cases_lt q.0 j) [
+                  | inl less ↦ absurd
+                      (not_uncovered i.0 q.0 v w i.2 q.2 i.1 q.1
+                      (subst (λ k. IsSettled m (edges_of g) ready k q.0) (sym one)
+                      (partner.least q.0 (omega arith) less)) other)
+                  | inr not_less ↦ elim (cases_lt j q.0) [
+                    | inl more ↦ inr
+                        (cc first, inr ((node_order m g is j q.0 y w to q.2 n q.1).0 more))
+                    | inr not_more ↦
+                        let two : j ≡ q.0 = omega arith in
+                        let second : Some y ≡ Some w = sym to ∙ ap (slice_get g.ids) two ∙ q.2 in
+                        inr (cc first, inl (cc second))
+                  ]
+                ]
+          ]
+        ];
+  } where
+    bad : IsUnsettled m (edges_of g) ready k j
+    bad = partner.unsettled
+
+    d : Instance
+    d = bad.conflict.0
+
+    e : Instance
+    e = bad.conflict.1
+
+    at_d : slice_get m k ≡ Some d
+    at_d = bad.conflict.2
+
+    at_e : slice_get m j ≡ Some e
+    at_e = bad.conflict.3
+
+    l : k < g.committed
+    l = omega (arith, slice_get_within m k d at_d, committed_count m g is)
+
+    n : j < g.committed
+    n = omega (arith, slice_get_within m j e at_e, committed_count m g is)
+
+    is_x : d.id ≡ x
+    is_x = let same : Some d.id ≡ Some x = sym (node_of_place m g is k d at_d l) ∙ at in cc same
+
+    is_y : e.id ≡ y
+    is_y = let same : Some e.id ≡ Some y = sym (node_of_place m g is j e at_e n) ∙ to in cc same

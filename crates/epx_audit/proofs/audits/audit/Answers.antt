@@ -1,0 +1,46 @@
+use Rattle.std.proofs.Common.{length, sym, subst, ap, ◌∙◌, arith}
+use Rattle.std.proofs.lemmas.List.{length-map}
+use Rattle.epx_graph.specs.Graphs.{edges_of}
+use Rattle.epx_audit.specs.inner.NodeConflicts.{keys_of}
+use Rattle.epx_components.specs.ReadyMarks.{AreReadyMarks}
+use Rattle.epx_audit.specs.inner.Sources.{IsLeastPair}
+use Rattle.epx_audit.proofs.UncoveredPairLemmas.{covered_from_settled, least_from_partner}
+use Rattle.epx_audit.proofs.audits.audit.Goals as goal
+
+pub find_pair-requires-clause-doubtful : goal.find_pair-requires-clause-doubtful
+find_pair-requires-clause-doubtful c t h =
+    let in_range = c.in_ok-doubtful.ensures.in_range t h in (
+      omega (
+        arith,
+        in_range.0,
+        ap length (c.deref-2.ensures.value ∙ c.in_ok-keys.ensures),
+        length-map c.args.merged.now keys_of,
+      ),
+      in_range.1,
+    )
+
+pub returns-in-Some : goal.returns-in-Some
+returns-in-Some c =
+    let m = c.args.merged.now in
+    let g = c.args.graph.now in
+    let ready = c.deref.result.now in
+    let marks : AreReadyMarks g ready =
+    subst (AreReadyMarks g) (sym c.deref.ensures.value) c.in_ok-ready.ensures in
+    let hold = c.in_ok-doubtful.ensures.whole ready marks in
+    let pair : IsLeastPair m (edges_of g) ready c.in-Some.node c.in-Some.other =
+    rw c.in-Some.is at
+    (c.in_ok-node.ensures.least m (c.deref-2.ensures.value ∙ c.in_ok-keys.ensures) hold) in
+    least_from_partner m g c.requires.graph ready marks c.in-Some.node c.in-Some.other c.id.result
+    c.id-in-Some.result c.id.ensures c.id-in-Some.ensures pair.before pair.partner
+
+pub returns : goal.returns
+returns c =
+    let m = c.args.merged.now in
+    let g = c.args.graph.now in
+    let ready = c.deref.result.now in
+    let marks : AreReadyMarks g ready =
+    subst (AreReadyMarks g) (sym c.deref.ensures.value) c.in_ok-ready.ensures in
+    let hold = c.in_ok-doubtful.ensures.whole ready marks in
+    let none = rw c.in-None.is at
+    (c.in_ok-node.ensures.least m (c.deref-2.ensures.value ∙ c.in_ok-keys.ensures) hold) in
+    covered_from_settled m g c.requires.graph ready marks (λ k j l above. none k j above)

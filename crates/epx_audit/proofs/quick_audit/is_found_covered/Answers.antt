@@ -1,0 +1,50 @@
+use Rattle.std.proofs.Common.{◌<◌, All, Contains, IsTrue, length, sym, subst, ap, arith}
+use Rattle.std.proofs.lemmas.Result.{IfOk-weaker}
+use Rattle.epx_types.specs.Conflicts.{IsCovered}
+use Rattle.epx_graph.specs.Graphs.{edges_of}
+use Rattle.epx_audit.specs.inner.RelatedTouches.{AreAllRelated}
+use Rattle.epx_audit.specs.inner.Touches.{HoldTouches}
+use Rattle.epx_audit.proofs.QuickAuditLemmas.{covered_from_related}
+use Rattle.epx_audit.proofs.OrderNodeLemmas.{nodes_in_map, nodes_in_graph, leaders_join}
+use Rattle.epx_audit.proofs.quick_audit.is_found_covered.Goals as goal
+
+pub find_touches-requires : goal.find_touches-requires
+find_touches-requires c =
+    let m = c.args.merged.now in
+    subst (All (λ k. k < length m)) (sym c.deref.ensures.value)
+    (nodes_in_map m c.args.order.now c.in_ok-nodes.nodes.items c.in_ok-nodes.ensures)
+
+pub of-requires-clause-in_range : goal.of-requires-clause-in_range
+of-requires-clause-in_range c = nodes_in_graph c.args.merged.now c.args.order.now
+    c.in_ok-nodes.nodes.items c.in_ok-nodes.ensures c.args.graph.now c.requires.graph
+
+pub of-requires-clause-joined : goal.of-requires-clause-joined
+of-requires-clause-joined c = leaders_join c.args.merged.now c.args.order.now
+    c.in_ok-nodes.nodes.items c.in_ok-nodes.ensures c.args.graph.now c.requires.graph
+    c.requires.order
+
+pub are_all_related-requires-clause-placed : goal.are_all_related-requires-clause-placed
+are_all_related-requires-clause-placed c t h =
+    let placed = c.in_ok-touches.ensures.placed t
+    (subst (λ ts. Contains ts t) c.deref-2.ensures.value h) in
+    omega (arith, placed, ap length c.deref.ensures.value, ap length c.in_ok-reach.ensures.nodes)
+
+pub returns : goal.returns
+returns c = IfOk-weaker c.are_all_related.result
+    (λ yes. IsTrue yes → AreAllRelated (edges_of c.args.graph.now) c.in_ok-reach.reach.nodes.items
+    c.deref-2.result.now (length c.deref-2.result.now))
+    (λ yes. IsTrue yes → IsCovered c.args.merged.now) (λ yes linked sure.
+    let m = c.args.merged.now in
+    let g = c.args.graph.now in
+    let start = c.args.start in
+    let nodes = c.in_ok-nodes.nodes.items in
+    let reach = c.in_ok-reach.reach.nodes.items in
+    let touches = c.in_ok-touches.touches.items in
+    let hold = subst (λ ns. HoldTouches start m ns (length ns) touches) c.deref.ensures.value
+    c.in_ok-touches.ensures.whole in
+    let on = subst (λ ts. AreAllRelated (edges_of g) reach ts (length ts)) c.deref-2.ensures.value
+    (linked sure) in
+    let all = subst (λ ns. AreAllRelated (edges_of g) ns touches (length touches))
+    c.in_ok-reach.ensures.nodes on in
+    covered_from_related m g c.requires.graph c.args.order.now c.requires.order nodes
+    c.in_ok-nodes.ensures start touches all hold) c.are_all_related.ensures

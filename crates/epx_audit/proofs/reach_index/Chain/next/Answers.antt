@@ -1,0 +1,36 @@
+use Rattle.std.proofs.Common.{◌≡◌, ◌-◌, get_or, sym, ◌∙◌, refl, arith}
+use Rattle.epx_graph.specs.Graphs.{edges_of}
+use Rattle.epx_graph.specs.NodePaths.{NodeReaches}
+use Rattle.epx_components.proofs.NodePathLemmas.{reaches_itself, reaches_edge, reaches_on}
+use Rattle.epx_audit.proofs.ReachIndexLemmas.{equal_ids, chain_next, chain_on}
+use Rattle.epx_audit.proofs.reach_index.Chain.next.Goals as goal
+
+pub returns-then-eq : goal.returns-then-eq
+returns-then-eq c =
+    let edges = edges_of c.args.graph.now in
+    let nodes = c.args.nodes.now in
+    let n = c.args.position in
+    let chain = c.args.self in
+    let r = c.component_of.ensures in
+    let s = c.component_of-2.ensures in
+    let same : c.component_of.result ≡ c.component_of-2.result =
+    equal_ids c.component_of.result c.component_of-2.result
+    (sym c.eq.ensures ∙ c.if-eq.true) in
+    let leaders : r.0.leader ≡ s.0.leader = r.2 ∙ (same ∙ sym s.2) in
+    let up : NodeReaches edges (get_or nodes (n - 1) 0) (get_or nodes n 0) =
+    c.requires.joined (n - 1) n s.0 r.0 s.1 r.1 (sym leaders) in
+    let down : NodeReaches edges (get_or nodes n 0) (get_or nodes (n - 1) 0) =
+    c.requires.joined n (n - 1) r.0 s.0 r.1 s.1 leaders in
+    let old = c.requires.chain.start (omega (arith, c.if-position-eq0.false)) in
+    chain_next edges nodes n chain (omega (arith, old.0)) (reaches_on edges _ _ _ old.1 up)
+    (chain_on edges nodes n chain down c.requires.chain)
+
+pub returns-then-has_edge : goal.returns-then-has_edge
+returns-then-has_edge c =
+    let edges = edges_of c.args.graph.now in
+    let nodes = c.args.nodes.now in
+    let n = c.args.position in
+    let down : NodeReaches edges (get_or nodes n 0) (get_or nodes (n - 1) 0) =
+    reaches_edge edges _ _ (c.has_edge.ensures c.if-has_edge.true) in
+    chain_next edges nodes n (record { start = n; low = c.args.self.low }) (omega arith)
+    (reaches_itself edges _ _ refl) (chain_on edges nodes n c.args.self down c.requires.chain)

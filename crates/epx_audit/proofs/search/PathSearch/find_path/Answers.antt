@@ -1,0 +1,44 @@
+use Rattle.std.proofs.Common.{◌∷◌, [], inl, inr, Contains, sym, subst, ◌∙◌}
+use Rattle.std.proofs.lemmas.List.Elements.{Contains-append_left, Contains-push}
+use Rattle.epx_graph.specs.Graphs.{edges_of}
+use Rattle.epx_graph.proofs.GraphNodeLemmas.{edge_within}
+use Rattle.epx_components.proofs.NodePathLemmas.{reaches_edge, reaches_on}
+use Rattle.epx_audit.proofs.search.PathSearch.find_path.Goals as goal
+
+pub open_targets-requires-clause-node : goal.open_targets-requires-clause-node
+open_targets-requires-clause-node c =
+    let node = c.in-Some.node in
+    (c.loop.invariant.opened node
+    (subst (λ xs. Contains xs node) (sym c.in-Some.ensures.items)
+    (Contains-push c.pop.new.self.items node))).0
+
+pub returns-then-branch-clause-reaches : goal.returns-then-branch-clause-reaches
+returns-then-branch-clause-reaches c = λ yes.
+    let node = c.in-Some.node in
+    let from =
+    (c.loop.invariant.opened node
+    (subst (λ xs. Contains xs node) (sym c.in-Some.ensures.items)
+    (Contains-push c.pop.new.self.items node))).1 in
+    reaches_on (edges_of c.args.graph.now) c.args.from node _ from
+    (c.in_ok-open_targets.ensures.reaches c.if-branch.true)
+
+pub loop-preserved : goal.loop-preserved
+loop-preserved c =
+    let g = c.args.graph.now in
+    let node = c.in-Some.node in
+    let popped = c.loop.invariant.opened node
+    (subst (λ xs. Contains xs node) (sym c.in-Some.ensures.items)
+    (Contains-push c.pop.new.self.items node)) in
+    record {
+      seen = c.in_ok-open_targets.ensures.seen ∙ c.loop.invariant.seen;
+      opened = λ j h. elim (c.in_ok-open_targets.ensures.opened j h) [
+        | inl was ↦ c.loop.invariant.opened j
+            (subst (λ xs. Contains xs j) (sym c.in-Some.ensures.items)
+            (Contains-append_left c.pop.new.self.items (node ∷ []) j was))
+        | inr edge ↦ (
+          edge_within g c.len-end.ensures.fits node j edge,
+          reaches_on (edges_of g) c.args.from node j popped.1
+              (reaches_edge (edges_of g) node j edge),
+        )
+      ];
+    }

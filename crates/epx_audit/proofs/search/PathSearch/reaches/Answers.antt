@@ -1,0 +1,55 @@
+use Rattle.std.proofs.Common.{◌≡◌, ◌<◌, length, get_or, arith, IsTrue}
+use Rattle.std.proofs.lemmas.List.{get_or_read}
+use Rattle.std.proofs.lemmas.List.Elements.{All-get_or}
+use Rattle.std.proofs.lemmas.Result.{IfOk-weaker}
+use Rattle.epx_graph.specs.Graphs.{edges_of}
+use Rattle.epx_graph.specs.NodePaths.{NodeReaches}
+use Rattle.epx_components.proofs.NodePathLemmas.{reaches_edge, reaches_on}
+use Rattle.epx_audit.proofs.search.PathSearch.reaches.Goals as goal
+use Rattle.epx_audit.proofs.search.PathSearch.reaches.Goals.{then-reaches_by_chain-via-then-reaches_by_chain}
+use Rattle.epx_audit.proofs.search.PathSearch.reaches.Goals.{then-reaches_by_chain-via-else-reaches_by_chain+then-has_edge}
+
+pub returns-then-reaches_by_chain-clause-reaches : goal.returns-then-reaches_by_chain-clause-reaches
+returns-then-reaches_by_chain-clause-reaches c = λ yes.
+    let g = c.args.graph.now in
+    let edges = edges_of g in
+    let nodes = c.args.reach.now.nodes.items in
+    let later = c.args.later in
+    let earlier = c.args.earlier in
+    let node = get_or nodes later 0 in
+    let node_in : node < length g.ids =
+    All-get_or (λ k. k < length g.ids) nodes later 0 c.requires.later
+    c.requires.reach.in_range in
+    let read : c.index-node.result.now ≡ node =
+    get_or_read nodes _ _ c.requires.later c.index-node.ensures 0 in
+    elim c.then-reaches_by_chain.branch [
+      | then-reaches_by_chain-via-then-reaches_by_chain w ↦
+          let between = (rw read at c.reaches_by_chain.ensures) w.if-reaches_by_chain.true in
+          (c.requires.reach.down node earlier node_in between.0 between.1).1
+      | then-reaches_by_chain-via-else-reaches_by_chain+then-has_edge w ↦
+          let other : w.index.result.now ≡ get_or nodes earlier 0 =
+          get_or_read nodes _ _ c.requires.earlier w.index.ensures 0 in
+          reaches_edge edges node (get_or nodes earlier 0)
+          ((rw (read, other) at w.has_edge.ensures) w.if-has_edge.true)
+    ]
+
+pub returns-clause-reaches : goal.returns-clause-reaches
+returns-clause-reaches c =
+    let edges = edges_of c.args.graph.now in
+    let nodes = c.args.reach.now.nodes.items in
+    let starts = c.args.reach.now.starts.items in
+    let earlier = c.args.earlier in
+    let node = get_or nodes c.args.later 0 in
+    let start = get_or starts earlier 0 in
+    let read : c.index-node.result.now ≡ node =
+    get_or_read nodes _ _ c.requires.later c.index-node.ensures 0 in
+    let first : c.index-2.result.now ≡ start =
+    get_or_read starts _ _ (omega (arith, c.requires.earlier, c.requires.reach.each_place))
+    c.index-2.ensures 0 in
+    let on = (c.requires.reach.start earlier c.requires.earlier).1 in
+    IfOk-weaker c.find_path.result
+    (λ yes. IsTrue yes → NodeReaches edges node (get_or nodes start 0))
+    (λ yes. IsTrue yes → NodeReaches edges node (get_or nodes earlier 0))
+    (λ yes found true. reaches_on edges node (get_or nodes start 0) (get_or nodes earlier 0)
+    (found true) on)
+    (rw (read, first) at c.find_path.ensures.reaches)

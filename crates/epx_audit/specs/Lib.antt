@@ -1,0 +1,3 @@
+pub mod Uncovered
+pub mod UncoveredLaws
+pub mod inner

@@ -1,0 +1,28 @@
+-- The node of an instance is marked as ready exactly if the instance is ready.
+use Rattle.std.proofs.Common.{◌≡◌, ℕ, List, Bool, slice_get, Some, refl, inl, inr, IsTrue}
+use Rattle.std.proofs.lemmas.Bool.{cases_lt}
+use Rattle.std.proofs.lemmas.Option.{slice_get_within}
+use Rattle.epx_types.specs.declared.id.Id.{Id}
+use Rattle.epx_types.specs.Instances.{Instance}
+use Rattle.epx_types.specs.Readiness.{IsReady}
+use Rattle.epx_graph.specs.Graphs.{DependencyGraph, edges_of}
+use Rattle.epx_graph.specs.GraphOf.{IsGraphOf}
+use Rattle.epx_components.proofs.NodePathLemmas.{reaches_itself}
+use Rattle.epx_components.proofs.ReadyNodeLemmas.{ready_from_node, node_from_ready}
+use Rattle.epx_components.specs.ReadyMarks.{is_marked, AreReadyMarks}
+
+module _ (m : List Instance) (g : DependencyGraph) (is : IsGraphOf m g) (ready : List Bool)
+    (marks : AreReadyMarks g ready) where
+  pub ready_from_mark : (k : ℕ) (x : Id) → slice_get g.ids k ≡ Some x → IsTrue (is_marked ready k)
+      → IsReady m x
+  ready_from_mark k x at h =
+      let none = (marks.exact k (slice_get_within g.ids k x at)).0 h in
+      elim (cases_lt k g.committed) [
+        | inl l ↦ ready_from_node m g is k x at l none
+        | inr past ↦ absurd (none (k, past, reaches_itself (edges_of g) k k refl))
+      ]
+
+  pub mark_from_ready : (k : ℕ) (x : Id) → slice_get g.ids k ≡ Some x → IsReady m x
+      → IsTrue (is_marked ready k)
+  mark_from_ready k x at h = (marks.exact k (slice_get_within g.ids k x at)).1
+      (node_from_ready m g is k x at h)

@@ -1,8 +1,0 @@
-use Rattle.epx_order.proofs.DoubtfulTouchLemmas.{AreFound, HoldFound}
-use Rattle.epx_order.proofs.audits.doubtful_touches.doubtful_touches.Given as goal
-
-abbrev pub invariant-loop-touch : goal.invariant-loop-touch
-invariant-loop-touch l = record {
-  some : AreFound l.nodes l.hashes l.found.items;
-  all : HoldFound l.nodes l.touches l.hashes l.found.items l.touch-index;
-}

@@ -1,5 +1,0 @@
-use Rattle.epx_order.proofs.LeastUncoveredLemmas.{covered_or_not}
-use Rattle.epx_order.proofs.laws.covered_or_least_uncovered.Goals as goal
-
-pub returns : goal.returns
-returns c = covered_or_not
