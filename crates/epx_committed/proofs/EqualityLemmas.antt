@@ -1,50 +1,9 @@
--- The tests that compare two entries.
-use Rattle.std.proofs.Common.{◌≡◌, ◌≢◌, ◌⊎◌, inl, inr, ℕ, Bool, true, false, List, [], ◌∷◌, ap}
-use Rattle.std.proofs.Common.{arith, nat_cmp, is_eq, ℤ, refl, subst}
+-- The equality of two instances is decidable.
+use Rattle.std.proofs.Common.{◌≡◌, ◌≢◌, ◌⊎◌, inl, inr, Bool, List, [], ◌∷◌, ap, refl}
 use Rattle.std.specs.Bool.{Decides}
-use Rattle.std.specs.Cmp.Lexicographic.{slice_cmp}
-use Rattle.std.specs.Ordering.{int_eq}
-use Rattle.std.proofs.lemmas.Map.Text.{is_eq-slice_cmp}
-use Rattle.std.proofs.lemmas.Slice.Eq.{bytes_eq-Decides}
-use Rattle.std.proofs.lemmas.Bool.Decides.{Decides-int_eq, not_from_Decides, Decides-at, nat_tests}
 use Rattle.std.proofs.lemmas.Bool.{cases_eq}
-use Rattle.epx_types.specs.declared.op.Op.{Op}
 use Rattle.epx_types.specs.Instances.{Instance}
-use Rattle.epx_types.specs.contracts.op.OpPartialEq.TheImpl as op_eq
-use Rattle.epx_types.specs.declared.id.Id.{Id}
-use Rattle.epx_types.specs.contracts.id.IdPartialEq.TheImpl as id_eq
-
--- the cases of a test that decides a fact
-decided : {P : Type 0} (r : Bool) → Decides r P → ((r ≡ true) × P) ⊎ ((r ≡ false) × ¬ P)
-decided true d = inl (refl, d.0 refl)
-decided false d = inr (refl, not_from_Decides false d refl)
-
-keys_decide : (k j : List ℕ) → ((is_eq (slice_cmp nat_cmp k j) ≡ true) × (k ≡ j))
-    ⊎ ((is_eq (slice_cmp nat_cmp k j) ≡ false) × (k ≢ j))
-keys_decide k j = decided (is_eq (slice_cmp nat_cmp k j))
-    (Decides-at (is_eq (slice_cmp nat_cmp k j)) _ (is_eq-slice_cmp k j) (bytes_eq-Decides k j))
-
-numbers_decide : (m n : ℤ) → ((int_eq m n ≡ true) × (m ≡ n)) ⊎ ((int_eq m n ≡ false) × (m ≢ n))
-numbers_decide m n = decided (int_eq m n) (Decides-int_eq m n)
-
-op_true : (a b : Op) → op_eq.eq-value.it a b ≡ true → a ≡ b
-op_true a b h = grind (arith, keys_decide, numbers_decide)
-
-op_itself : (a : Op) → op_eq.eq-value.it a a ≡ true
-op_itself a = grind (arith, keys_decide, numbers_decide)
-
--- `==` decides the equality of operations, and of Ids
-pub ops_decide : (a b : Op) → Decides (op_eq.eq-value.it a b) (a ≡ b)
-ops_decide a b = (
-  op_true a b,
-  λ e. let P : Op → Type 0 = λ o. op_eq.eq-value.it a o ≡ true in
-      subst P e (op_itself a),
-)
-
-pub ids_decide : (a b : Id) → Decides (id_eq.eq-value.it a b) (a ≡ b)
-ids_decide a b = (λ h. grind (arith, nat_tests), λ e. grind (arith, nat_tests))
-
--- ---- the equality of two instances is decidable
+use Rattle.epx_types.proofs.commands.EqualityLemmas.{decided, ids_decide, ops_decide}
 
 by_test : {X : Type 0} (r : Bool) (x y : X) → Decides r (x ≡ y) → (x ≡ y) ⊎ (x ≢ y)
 by_test r x y d = elim (decided r d) [ inl holds ↦ inl holds.1 | inr fails ↦ inr fails.1 ]

@@ -18,7 +18,7 @@ use Rattle.epx_types.proofs.lists.ListPositionLemmas.{Contains-slice_get}
 use Rattle.epx_committed.specs.declared.ledger.Disagreement.{Disagreement}
 use Rattle.epx_committed.specs.Ledgers.{LedgerView, NotesLines}
 use Rattle.epx_committed.specs.inner.LineRows.{with_ids}
-use Rattle.epx_committed.proofs.EqualityLemmas.{ids_decide}
+use Rattle.epx_types.proofs.commands.EqualityLemmas.{ids_decide}
 use Rattle.epx_committed.proofs.LedgerLemmas.{keys, key_of_entry, NotesLines-new, NotesLines-known}
 use Rattle.epx_committed.proofs.LedgerLemmas.{NotesLines-disagreement}
 

@@ -11,7 +11,7 @@ use Rattle.epx_types.specs.Ids.{id_cmp, Below, UpTo, IsRising}
 use Rattle.epx_types.proofs.lists.ComparisonLemmas.{id_cmp_total, id_cmp-IsAntisymmetric}
 use Rattle.epx_types.proofs.lists.RisingIdLemmas.{IsRising-from_neighbours}
 use Rattle.epx_types.proofs.lists.TotalOrderLemmas.{below_cases}
-use Rattle.epx_committed.proofs.EqualityLemmas.{ids_decide}
+use Rattle.epx_types.proofs.commands.EqualityLemmas.{ids_decide}
 use Rattle.epx_committed.proofs.LedgerMapLemmas.{same_id}
 
 not_below : (xs : List Id) → IsSorted id_cmp xs → (i j : _) (d : Id) → i < j → j < length xs

@@ -2,7 +2,6 @@ mod RisingPositionLemmas
 pub mod GraphNodeLemmas
 pub mod MapPathLemmas
 pub mod GraphUniquenessLemmas
-mod FindLemmas
 mod MissingIdLemmas
 mod RemainderLemmas
 mod NeighbourLemmas

@@ -1,29 +1,22 @@
 -- The missing instances of a map, gathered, sorted and each kept once.
 use Rattle.std.proofs.Common.{◌≡◌, ◌↔◌, inl, inr, ℕ, ◌+◌, true, not, cond, List, [], ◌∷◌, ◌++◌}
 use Rattle.std.proofs.Common.{length, take, get_or, position, Option, Some, None, is_some}
-use Rattle.std.proofs.Common.{slice_get, Contains, nat_lt, Less, refl, sym, ap, subst, ◌∙◌}
+use Rattle.std.proofs.Common.{slice_get, Contains, nat_lt, refl, sym, ap, subst, ◌∙◌}
 use Rattle.std.proofs.Common.{append-nil, arith}
-use Rattle.std.specs.List.{position_or_len, AllByRecursion, dedup}
-use Rattle.std.specs.List.Sorted.{IsSorted, IsPermutation, IsStrictlySortedBy}
-use Rattle.std.specs.List.Retain.{IsFiltered, DiffersFromLast}
-use Rattle.std.specs.Ordering.{is_eq, is_lt, eq_by_cmp}
-use Rattle.std.specs.Cmp.{Equal-is, IsEquivalence, tied_itself, eq_by_cmp_equiv}
+use Rattle.std.specs.List.{position_or_len}
+use Rattle.std.specs.Ordering.{is_eq}
+use Rattle.std.specs.Cmp.{tied_itself}
 use Rattle.std.proofs.lemmas.Bool.{cases_lt}
 use Rattle.std.proofs.lemmas.Bool.Decides.{nat_tests}
 use Rattle.std.proofs.lemmas.List.{take_more, map_push}
 use Rattle.std.proofs.lemmas.List.Elements.{All-contains, filter_passes, filter-append}
-use Rattle.std.proofs.lemmas.List.Filters.{dedup_is}
-use Rattle.std.proofs.lemmas.List.Kept.{IsStrictlySortedBy-dedup, Contains-dedup}
-use Rattle.std.proofs.lemmas.List.Kept.{Contains-from_dedup}
-use Rattle.std.proofs.lemmas.List.Sorted.{Contains-permutation, IsPermutation-sym}
 use Rattle.std.proofs.lemmas.List.Sums.{fails_before_first}
 use Rattle.std.proofs.lemmas.Option.{slice_get_within, get_or_from_slice_get}
 use Rattle.epx_types.specs.declared.id.Id.{Id}
-use Rattle.epx_types.specs.contracts.id.IdPartialEq.TheImpl as id_eq
-use Rattle.epx_types.specs.Ids.{id_cmp, BelowAll, IsRising}
+use Rattle.epx_types.specs.Ids.{id_cmp, IsRising}
 use Rattle.epx_types.specs.Instances.{Instance}
 use Rattle.epx_types.specs.CommittedMap.{ids_of, position_of, IsCommitted}
-use Rattle.epx_types.proofs.lists.ComparisonLemmas.{id_cmp_total, id_cmp-IsAntisymmetric}
+use Rattle.epx_types.proofs.lists.ComparisonLemmas.{id_cmp_total}
 use Rattle.epx_types.proofs.lists.MembershipLemmas.{Contains-filter, Contains-from_filter}
 use Rattle.epx_types.proofs.lists.MembershipLemmas.{Contains-flat_map, Contains-from_flat_map}
 use Rattle.epx_types.proofs.lists.MembershipLemmas.{Contains-from_map}
@@ -117,53 +110,6 @@ lacking_take m xs x none =
     let p = λ (y : Id). not (is_some (position_of m y)) in
     filter-append p xs (x ∷ []) ∙ ap (λ o. missing_of m xs ++ cond (not (is_some o)) (x ∷ []) [])
     none
-
--- ---- sorted, and each once
-
-rising_from_strict : (xs : List Id) → IsStrictlySortedBy id_cmp xs → IsRising xs
-unfolding IsStrictlySortedBy
-rising_from_strict [] h = tt
-rising_from_strict (x ∷ xs) h = (below_all xs h.0, rising_from_strict xs h.1) where
-  below_all : (ys : List Id) → AllByRecursion (λ y. id_cmp x y ≡ Less) ys → BelowAll x ys
-  below_all [] k = tt
-  below_all (y ∷ ys) k = (ap is_lt k.0, below_all ys k.1)
-
-ids_tie : (x y : Id) → id_eq.eq-value.it x y ≡ eq_by_cmp id_cmp x y
-ids_tie x y = grind (arith, nat_tests)
-
--- the sorted Ids without equal neighbours
-pub each_kept : (gathered sorted ids : List Id) → IsPermutation gathered sorted
-    → IsSorted id_cmp sorted → IsFiltered (DiffersFromLast id_eq.eq-value.it) [] sorted ids
-    → IsRising ids × ((x : Id) → Contains ids x ↔ Contains gathered x)
-each_kept gathered sorted ids moved sorts filtered =
-    let E = id_eq.eq-value.it in
-    let kept : ids ≡ dedup E sorted = dedup_is E sorted ids filtered in (
-      subst IsRising (sym kept)
-          (rising_from_strict (dedup E sorted)
-          (IsStrictlySortedBy-dedup id_cmp_total {E = E} ids_tie sorted sorts)),
-      λ x. (
-        λ h. Contains-permutation sorted gathered x (IsPermutation-sym gathered sorted moved)
-            (Contains-from_dedup E sorted x (subst (λ (l : List Id). Contains l x) kept h)),
-        λ h. subst (λ (l : List Id). Contains l x) (sym kept)
-            (keeps sorted x (Contains-permutation gathered sorted x moved h)),
-      ),
-    )
-  where
-    same : (x y : Id) → id_eq.eq-value.it x y ≡ true → x ≡ y
-    same x y t = id_cmp-IsAntisymmetric x y ((Equal-is (id_cmp x y)).0 (sym (ids_tie x y) ∙ t))
-
-    equal : IsEquivalence id_eq.eq-value.it
-    equal =
-        let by_cmp = eq_by_cmp_equiv id_cmp_total in
-        record {
-          refl = λ x. ids_tie x x ∙ by_cmp.refl x;
-          symm = λ x y. ids_tie x y ∙ by_cmp.symm x y ∙ sym (ids_tie y x);
-          congr = λ x y z t. ids_tie x z ∙ by_cmp.congr x y z (sym (ids_tie x y) ∙ t)
-              ∙ sym (ids_tie y z);
-        }
-
-    keeps : (xs : List Id) (x : Id) → Contains xs x → Contains (dedup id_eq.eq-value.it xs) x
-    keeps xs x h = Contains-dedup {E = id_eq.eq-value.it} equal same xs x h
 
 -- if they are all that the instances lack, they are the missing ones
 pub missing_kept : (m : List Instance) (gathered ids : List Id) → gathered ≡ all_missing_of m m

@@ -9,26 +9,14 @@ ghost use Rattle.epx_graph.specs.inner.Remainder.{left_of};
 ghost use Rattle.epx_graph.specs.inner.Nodes.{AreNodesOf, ArePositionsOf, AreRowsOf, IsGathered};
 
 use crate::committed::{Gathered, committed_rows};
-use crate::find_id::find_id;
 use crate::graph::Graph;
 use crate::left::Remainder;
 use epx_committed::Merged;
 use epx_rows::Rows;
+use epx_types::id_list::{find_id, sort_unique};
 use epx_types::{Id, Memory, Plan};
 use std::alloc::Global;
 use std::thread::Threads;
-
-/// The Ids, each once, by rising Id.
-fn sort_unique(alloc: Global, ids: &[Id]) -> Result<Vec<Id>, Memory>
-    ensures rising { IfOk result (λ kept. IsRising kept.items) }
-    ensures exact { IfOk result (λ kept. (x : Id) → Contains kept.items x ↔ Contains ids.now x) }
-{
-    let mut kept = Vec::new(alloc);
-    kept.extend_from_slice(ids)?;
-    kept.sort_unstable();
-    kept.dedup();
-    Ok(kept)
-}
 
 /// The Ids of the instances that are left, with room for more.
 fn committed_ids(alloc: Global, left: &Remainder, more: usize) -> Result<Vec<Id>, Memory>

@@ -4,8 +4,8 @@ ghost use Rattle.std.specs.Prelude.{MatchOption, Some, slice_get};
 ghost use Rattle.epx_graph.specs.Graphs.{edges_of, graph_over, missing_ids, IsGraph};
 ghost use Rattle.epx_rows.specs.Rows.{AreTransposed};
 
-use crate::find_id::find_id;
 use epx_rows::Rows;
+use epx_types::id_list::find_id;
 use epx_types::{Id, Memory};
 use std::alloc::Global;
 use std::marker::Model;

@@ -6,8 +6,9 @@ ghost use Rattle.epx_types.specs.Done.{remaining_ids, without_deps};
 ghost use Rattle.epx_types.specs.Ids.{IsRising};
 ghost use Rattle.epx_graph.specs.inner.Remainder.{IsIdStateOf, IsAtPosition, left_of};
 
-use crate::find_id::{find_id, is_absent};
+use crate::neighbours::is_absent;
 use epx_committed::{Guesses, Merged};
+use epx_types::id_list::find_id;
 use epx_types::{Entry, Id, Memory};
 use std::alloc::Global;
 use std::marker::Model;

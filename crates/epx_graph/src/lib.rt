@@ -4,10 +4,10 @@
 
 mod build_graph;
 mod committed;
-mod find_id;
 mod graph;
 pub mod laws;
 mod left;
+mod neighbours;
 mod part;
 mod search;
 mod waiters;

@@ -12,7 +12,7 @@ use std::marker::Model;
 
 /// A line's place and bytes. Contracts see its place and its meaning.
 #[derive(Drop)]
-pub(crate) struct PlacedLine<'a> {
+pub struct PlacedLine<'a> {
     place: Place,
     bytes: &'a [u8],
 }
@@ -32,7 +32,7 @@ impl<'a> PlacedLine<'a> {
         PlacedLine { place, bytes }
     }
 
-    pub(crate) fn place(&self) -> Place
+    pub fn place(&self) -> Place
         ensures { result ≡ self.now.place }
     {
         self.place
@@ -51,7 +51,7 @@ impl<'a> PlacedLine<'a> {
         is_blank_line(self.bytes)
     }
 
-    pub(crate) fn read(&self, alloc: Global, reader: &mut LineReader) -> Result<Line, LineFault>
+    pub fn read(&self, alloc: Global, reader: &mut LineReader) -> Result<Line, LineFault>
         ensures line { IfOk result (λ l. self.now.meaning ≡ Ok l) }
         ensures fault { IfErr result (λ f. IsFaultOf f self.now.meaning) }
     {

@@ -9,7 +9,7 @@ use std::marker::Model;
 
 /// Iterates over the lines of logs by rising place. Contracts see the lines that are left.
 #[derive(Drop)]
-pub(crate) struct LineWalk<'a> {
+pub struct LineWalk<'a> {
     log: usize,
     line: usize,
     rest: &'a [u8],
@@ -30,7 +30,7 @@ impl<'a> Model for LineWalk<'a> {
 }
 
 impl<'a> LineWalk<'a> {
-    pub(crate) fn new(logs: &'a [Vec<u8>]) -> LineWalk<'a>
+    pub fn new(logs: &'a [Vec<u8>]) -> LineWalk<'a>
         ensures { result ≡ meanings_of (bytes_of logs.now) }
     {
         match logs.split_first() {
@@ -84,7 +84,7 @@ impl<'a> LineWalk<'a> {
     }
 
     /// The next line, if one is left.
-    pub(crate) fn next_line(&mut self) -> Option<PlacedLine<'a>>
+    pub fn next_line(&mut self) -> Option<PlacedLine<'a>>
         ensures { MatchOption result ((self.old ≡ []) × (self.new ≡ []))
             (λ line. self.old ≡ line ∷ self.new) }
     {

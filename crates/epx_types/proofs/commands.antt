@@ -6,3 +6,4 @@ pub mod ExecutionLemmas
 pub mod WriteLemmas
 pub mod RearrangedListLemmas
 pub mod RearrangementLemmas
+pub mod EqualityLemmas

@@ -7,3 +7,4 @@ pub mod RisingIdLemmas
 pub mod RisingListLemmas
 pub mod BeforeLemmas
 pub mod TotalOrderLemmas
+pub mod IdListLemmas

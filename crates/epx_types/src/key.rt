@@ -8,6 +8,7 @@ use crate::key_text::KeyText;
 use crate::memory::Memory;
 use std::alloc::Global;
 use std::cmp::Ordering;
+use std::hash::{Hash, Hasher};
 use std::marker::Model;
 
 /// A key has at most this many bytes.
@@ -167,5 +168,24 @@ impl Ord for Key {
         } else {
             self.head.cmp(&other.head)
         }
+    }
+}
+
+impl Hash for Key {
+    ghost use Rattle.std.specs.Hash as fed;
+    ghost use Rattle.std.specs.Ordering.{nat_cmp, is_eq};
+    ghost use Rattle.std.specs.Cmp.Lexicographic.{slice_cmp};
+    ghost use Rattle.std.proofs.Common.{ap};
+    ghost use Rattle.std.proofs.lemmas.Bool.Decides.{Decides-at};
+    ghost use Rattle.std.proofs.lemmas.Map.Text.{is_eq-slice_cmp};
+    ghost use Rattle.std.proofs.lemmas.Slice.Eq.{bytes_eq-Decides};
+
+    ghost hash_input = { λ k. fed.str k };
+
+    ghost respects_eq = { λ x y same. ap fed.str ((Decides-at (is_eq (slice_cmp nat_cmp x y)) _
+        (is_eq-slice_cmp x y) (bytes_eq-Decides x y)).0 same) };
+
+    fn hash<H: Hasher>(&self, state: &mut H) {
+        self.text().hash(state);
     }
 }

@@ -7,6 +7,7 @@ pub mod command;
 pub mod entry;
 pub mod fault;
 pub mod id;
+pub mod id_list;
 pub mod key;
 mod key_text;
 pub mod limits;

@@ -6,7 +6,7 @@ ghost use Rattle.epx_types.specs.CommandKeys.{accesses_of};
 use crate::key::Key;
 
 /// One operation on the store. If an operation aborts, the whole command is undone.
-#[derive(Debug, PartialEq, Eq, Drop)]
+#[derive(Debug, PartialEq, Eq, Hash, Drop)]
 pub enum Op {
     /// Adds the key's value to the reply, or None if the key is absent.
     Get { key: Key },

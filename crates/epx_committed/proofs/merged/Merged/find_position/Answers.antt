@@ -2,7 +2,7 @@ use Rattle.std.proofs.Common.{sym, ap, subst, ◌∙◌}
 use Rattle.std.proofs.lemmas.Option.{slice_get_read}
 use Rattle.epx_types.specs.Ids.{IsRising}
 use Rattle.epx_types.specs.CommittedMap.{ids_of, position_of}
-use Rattle.epx_committed.proofs.EqualityLemmas.{ids_decide}
+use Rattle.epx_types.proofs.commands.EqualityLemmas.{ids_decide}
 use Rattle.epx_committed.proofs.MergedMapLemmas.{rising_at, found_position, position_among}
 use Rattle.epx_committed.proofs.merged.Merged.find_position.Goals as goal
 

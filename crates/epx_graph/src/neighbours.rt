@@ -1,21 +1,10 @@
-//! Finds an Id in a list by rising Id.
+//! Whether the neighbours at a position of a list by rising Id show that an Id is not in the list.
 ghost use Rattle.std.specs.Prelude.{◌≡◌, ◌<◌, ◌≤◌, ℕ, length, Contains, IsTrue, MatchOption, Some};
 ghost use Rattle.std.specs.Prelude.{slice_get, slice_index_or};
 ghost use Rattle.epx_types.specs.declared.id.Id.{Id};
 ghost use Rattle.epx_types.specs.Ids.{Below, IsRising};
 
 use epx_types::Id;
-
-/// The position of an Id in a list by rising Id, by binary search.
-pub(crate) fn find_id(ids: &[Id], id: Id) -> Option<usize>
-    requires { IsRising ids.now }
-    ensures { MatchOption result (¬ Contains ids.now id) (λ k. slice_get ids.now k ≡ Some id) }
-{
-    match ids.binary_search(&id) {
-        Ok(index) => Some(index),
-        Err(_) => None,
-    }
-}
 
 /// Whether all Ids before a position are below this one. False says nothing.
 fn all_below_before(ids: &[Id], index: usize, id: Id) -> bool

@@ -2,7 +2,7 @@ use Rattle.std.proofs.Common.{◌-◌, get_or, nat_cmp, sym, subst, ◌∙◌, a
 use Rattle.epx_types.specs.declared.id.Id.{Id}
 use Rattle.epx_types.specs.Ids.{Below}
 use Rattle.epx_graph.proofs.NeighbourLemmas.{is_lt-from_lt, other_default, below_before}
-use Rattle.epx_graph.proofs.find_id.all_below_before.Goals as goal
+use Rattle.epx_graph.proofs.neighbours.all_below_before.Goals as goal
 
 pub returns-then-index-ids : goal.returns-then-index-ids
 returns-then-index-ids c = λ yes k d l.

@@ -1,6 +1,6 @@
 use Rattle.std.proofs.Common.{◌≡◌, ◌++◌, ap, ◌∙◌}
-use Rattle.epx_graph.proofs.MissingIdLemmas.{each_kept}
-use Rattle.epx_graph.proofs.build_graph.sort_unique.Goals as goal
+use Rattle.epx_types.proofs.lists.IdListLemmas.{each_kept}
+use Rattle.epx_types.proofs.id_list.sort_unique.Goals as goal
 
 pub returns-clause-rising : goal.returns-clause-rising
 returns-clause-rising c =
