@@ -187,9 +187,9 @@ module _ {S : Type 0} (remaining : S → Option (List ℕ)) (reads : ReadRelatio
               (adds_part_to_nothing old new task done comes bad);
           nothing = run.sink.nothing;
           unread = λ log bad. elim (unread_both m_reads m_fails [] after m_reads m_fails
-          (IsBadInput question) first last done run.sink.refused log bad) [
-            | inl bad ↦ absurd (never bad)
-            | inr one ↦ absurd (cc one.there)
-          ];
+              (IsBadInput question) first last done run.sink.refused log bad) [
+                | inl bad ↦ absurd (never bad)
+                | inr one ↦ absurd (cc one.there)
+              ];
           written = run.sink.written;
         }

@@ -8,8 +8,9 @@ ghost use Rattle.epx_program.specs.Inputs.{HasFailedRead, IsInputAlone, text_cou
 ghost use Rattle.epx_program.specs.inner.Outcomes.{TaskOutcome};
 
 use crate::inputs::sources_at;
-use epx_tool::{Ask, InputQuestion, MemorySource, Question, Sink, Source, Task};
-use epx_tool::{run_question, run_with_input};
+use epx_tool::{
+    Ask, InputQuestion, MemorySource, Question, Sink, Source, Task, run_question, run_with_input,
+};
 use epx_types::{Fault, Memory, Plan};
 use std::alloc::Global;
 use std::random::RandomSource;
