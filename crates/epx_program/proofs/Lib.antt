@@ -2,6 +2,5 @@ mod OutputLemmas
 mod WordLemmas
 mod SourceListLemmas
 mod StatusLemmas
-mod FirstTextLemmas
 mod FailedInputLemmas
 mod OutcomeLemmas

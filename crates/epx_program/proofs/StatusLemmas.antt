@@ -1,11 +1,10 @@
 -- The exit status of the program.
 use Rattle.std.proofs.Common.{◌≡◌, ◌≢◌, ◌⊎◌, ◌↔◌, ◌∙◌, ℕ, zero, suc, Bool, true, false, List}
-use Rattle.std.proofs.Common.{length, Option, Result, Ok, Err, IsErrOf, inl, inr, refl, arith, ap}
+use Rattle.std.proofs.Common.{Option, Result, Ok, Err, IsErrOf, inl, inr, refl, arith, ap}
 use Rattle.std.proofs.Common.{sym}
 use Rattle.std.specs.Prelude.{OnOk, IfErr}
-use Rattle.std.specs.Io.KnownBytes.{Appends, Keeps}
+use Rattle.std.specs.Io.KnownBytes.{Keeps}
 use Rattle.epx_types.specs.Faults.{fault_status}
-use Rattle.epx_types.specs.Instances.{Instance}
 use Rattle.epx_types.specs.declared.fault.Fault.{Fault}
 use Rattle.epx_types.specs.declared.fault.Fault.TheVariants.{Memory, TooManyLogs, LogTooLong}
 use Rattle.epx_types.specs.declared.fault.Fault.TheVariants.{BadLine, TooManyInstances, Disagree}
@@ -14,13 +13,9 @@ use Rattle.epx_words.specs.Requests.{IfText, IfWork}
 use Rattle.epx_words.specs.declared.words.Task.{Task}
 use Rattle.epx_words.specs.declared.words.Words.{Words}
 use Rattle.epx_words.specs.declared.words.Words.TheVariants.{Work, Text}
-use Rattle.epx_devices.specs.Deliveries.{ReadRelation}
-use Rattle.epx_devices.specs.Transfers.{AppendsPrefix}
-use Rattle.epx_tool.specs.Answer.{Answers}
-use Rattle.epx_tool.specs.Delivered.{AnswersDelivered}
 use Rattle.epx_program.specs.Calls.{EndsTask}
-use Rattle.epx_program.specs.Endings.{AddsAnswer, AddsPart, IsTaskResult, EndsWith, IsStatus}
-use Rattle.epx_program.specs.Endings.{IsTaskAnswer, status_of}
+use Rattle.epx_program.specs.Endings.{IsTaskResult, EndsWith, IsStatus}
+use Rattle.epx_program.specs.Endings.{status_of}
 use Rattle.epx_program.proofs.OutputLemmas.{contents_unchanged}
 
 -- the status of a task that succeeded or failed
@@ -29,28 +24,6 @@ pub ends-as-done : {A : Type 0} (task : Task) (logs : List (List ℕ)) (done : R
     → IsTaskResult task logs done old new → EndsWith task logs (status_of done) old new
 ends-as-done task logs (Ok x) old new written = inl (refl, written)
 ends-as-done task logs (Err fault) old new why = inr (fault, why, refl)
-
--- the answer to what the sources delivered is an answer to that number of texts
-pub adds_answer : {A S : Type 0} (reads : ReadRelation S) (task : Task)
-    (Is : List Instance → List ℕ → Type 0)
-    (answers : (logs : List (List ℕ)) (text : List ℕ) → Answers Is logs (Ok text)
-    → IsTaskAnswer task logs (Ok text))
-    (before after : List S) (old new : Option (List ℕ)) (done : Result A Fault)
-    → OnOk done (AnswersDelivered reads Is before after (Appends old new))
-    → OnOk done (AddsAnswer task (length before) old new)
-adds_answer reads task Is answers before after old new (Ok x) h =
-    (h.logs, h.delivered.as_many, (h.text, answers h.logs h.text h.answer, h.written))
-adds_answer reads task Is answers before after old new (Err fault) h = tt
-
-pub adds_part : {S : Type 0} (reads : ReadRelation S) (task : Task)
-    (Is : List Instance → List ℕ → Type 0)
-    (answers : (logs : List (List ℕ)) (text : List ℕ) → Answers Is logs (Ok text)
-    → IsTaskAnswer task logs (Ok text))
-    (before after : List S) (old new : Option (List ℕ))
-    → AnswersDelivered reads Is before after (AppendsPrefix old new)
-    → AddsPart task (length before) old new
-adds_part reads task Is answers before after old new h =
-    (h.logs, h.delivered.as_many, (h.text, answers h.logs h.text h.answer, h.written))
 
 no_fault_ends_well : (fault : Fault) → fault_status fault ≢ 0
 no_fault_ends_well Memory e = absurd (cc e)

@@ -9,51 +9,52 @@ use Rattle.epx_devices.specs.Transfers.{AppendsPrefix}
 use Rattle.epx_words.specs.declared.words.Task.{Task}
 use Rattle.epx_words.specs.declared.words.Task.TheVariants.{Run, Order, Levels, Graph, Resume}
 use Rattle.epx_words.specs.declared.words.Task.TheVariants.{Audit, Check}
-use Rattle.epx_report.specs.Bases.{IsBadBase}
-use Rattle.epx_report.specs.Lists.{IsBadList}
 use Rattle.epx_tool.specs.Answer.{Answers}
-use Rattle.epx_tool.specs.RunsWithInput.{IsRunFaultWithInput}
-use Rattle.epx_tool.specs.CheckAnswers.{Checks, IsCheckText}
-use Rattle.epx_tool.specs.Report.{IsReport}
-use Rattle.epx_tool.specs.Resumption.{IsResumedText, Resumes}
+use Rattle.epx_tool.specs.Questions.{IsBadInput, IsInputAnswer, IsTextOf, IsTextWith}
 use Rattle.epx_tool.specs.Runs.{IsRunFault}
-use Rattle.epx_tool.specs.Views.{IsViewText}
+use Rattle.epx_tool.specs.RunsWithInput.{IsRunFaultWithInput}
 use Rattle.epx_tool.specs.declared.ask.Ask.TheVariants as ask
-use Rattle.epx_program.specs.declared.do_task.FirstText.{FirstText}
-use Rattle.epx_program.specs.declared.do_task.FirstText.TheVariants as first
+use Rattle.epx_tool.specs.declared.question.InputQuestion.TheVariants as about
+use Rattle.epx_tool.specs.declared.question.Question.TheVariants.{Report, View}
+use Rattle.epx_program.specs.declared.do_task.Asked.{Asked}
+use Rattle.epx_program.specs.declared.do_task.Asked.TheVariants as asked
 
--- the task that reads this kind of text before its logs
-abbrev pub task_over : FirstText → Task
-task_over first.Base = Resume
-task_over first.List = Check
+-- what a task asks: a question about logs, or about a first text, a base or a list, and the logs
+-- after it
+abbrev pub asked_of : Task → Asked
+asked_of Run = asked.Logs Report
+asked_of Order = asked.Logs (View ask.Order)
+asked_of Levels = asked.Logs (View ask.Levels)
+asked_of Graph = asked.Logs (View ask.Graph)
+asked_of Audit = asked.Logs (View ask.Audit)
+asked_of Resume = asked.First about.Resume
+asked_of Check = asked.First about.Check
 
 -- the first of some texts and the logs after it; if there is no text, the first text is empty
 abbrev pub on_first_and_logs : (List ℕ → List (List ℕ) → Type 0) → List (List ℕ) → Type 0
 on_first_and_logs Is [] = Is [] []
 on_first_and_logs Is (text ∷ logs) = Is text logs
 
--- the answer of a task to the texts at its paths: to logs, or to a base or a list and the logs
--- after it
+-- the answer to what is asked of texts
+abbrev pub IsAnswerTo : Asked → List (List ℕ) → Result (List ℕ) Fault → Type 0
+IsAnswerTo (asked.Logs question) texts answer = Answers (IsTextOf question) texts answer
+IsAnswerTo (asked.First question) texts answer =
+    on_first_and_logs (λ input logs. IsInputAnswer question input logs answer) texts
+
+-- the faults of a run that writes it, with those of devices
+abbrev pub IsFaultOf : Asked → List (List ℕ) → Fault → Type 0
+IsFaultOf (asked.Logs question) texts fault = IsRunFault (IsTextOf question) texts fault
+IsFaultOf (asked.First question) texts fault = on_first_and_logs
+    (λ input logs. IsRunFaultWithInput (IsBadInput question) (IsTextWith question) input logs fault)
+    texts
+
+-- the answer of a task to the texts at its paths
 abbrev pub IsTaskAnswer : Task → List (List ℕ) → Result (List ℕ) Fault → Type 0
-IsTaskAnswer Run texts answer = Answers IsReport texts answer
-IsTaskAnswer Order texts answer = Answers (IsViewText ask.Order) texts answer
-IsTaskAnswer Levels texts answer = Answers (IsViewText ask.Levels) texts answer
-IsTaskAnswer Graph texts answer = Answers (IsViewText ask.Graph) texts answer
-IsTaskAnswer Audit texts answer = Answers (IsViewText ask.Audit) texts answer
-IsTaskAnswer Resume texts answer = on_first_and_logs (λ base logs. Resumes base logs answer) texts
-IsTaskAnswer Check texts answer = on_first_and_logs (λ list logs. Checks list logs answer) texts
+IsTaskAnswer task = IsAnswerTo (asked_of task)
 
 -- the faults of a task, with those of devices
 abbrev pub IsTaskFault : Task → List (List ℕ) → Fault → Type 0
-IsTaskFault Run texts fault = IsRunFault IsReport texts fault
-IsTaskFault Order texts fault = IsRunFault (IsViewText ask.Order) texts fault
-IsTaskFault Levels texts fault = IsRunFault (IsViewText ask.Levels) texts fault
-IsTaskFault Graph texts fault = IsRunFault (IsViewText ask.Graph) texts fault
-IsTaskFault Audit texts fault = IsRunFault (IsViewText ask.Audit) texts fault
-IsTaskFault Resume texts fault = on_first_and_logs
-    (λ base logs. IsRunFaultWithInput IsBadBase IsResumedText base logs fault) texts
-IsTaskFault Check texts fault = on_first_and_logs
-    (λ list logs. IsRunFaultWithInput IsBadList IsCheckText list logs fault) texts
+IsTaskFault task = IsFaultOf (asked_of task)
 
 -- the answer of the task to these texts is appended
 abbrev pub AppendsAnswer : Task → List (List ℕ) → Option (List ℕ) → Option (List ℕ) → Type 0

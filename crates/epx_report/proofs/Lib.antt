@@ -3,7 +3,6 @@ pub mod NamedFormLemmas
 pub mod ArrayLemmas
 pub mod BaseLemmas
 pub mod ListLemmas
-pub mod ReadingLemmas
 pub mod LineFeedLemmas
 pub mod WrittenDataLemmas
 pub mod ReportFormLemmas

@@ -1,6 +1,9 @@
 -- The text of a report's line is the text of its tokens.
 use Rattle.std.proofs.Common.{◌≡◌, ℕ, ℤ, pos, negsuc, List, [], ◌∷◌, ◌++◌, map, codes, Option}
-use Rattle.std.proofs.Common.{Some, None, refl, sym, ap, ◌∙◌}
+use Rattle.std.proofs.Common.{Some, None, Result, OnOk, flat_map, append_assoc, append-nil, refl}
+use Rattle.std.proofs.Common.{sym, ap, ◌∙◌}
+use Rattle.std.proofs.lemmas.Result.{on_ok_weaker}
+use Rattle.std.specs.declared.alloc.AllocError.{AllocError}
 use Rattle.json.specs.Token.{Token, begin_array, end_array, string}
 use Rattle.json.specs.Print.{print}
 use Rattle.json.specs.Tree.{json_tokens, items_tokens}
@@ -20,24 +23,35 @@ use Rattle.epx_report.specs.ReportLines.{line_feed, array_of, line_of, reply_dat
 abbrev pub tokens_of : Data → List Token
 tokens_of d = json_tokens (outline d)
 
--- the line of an array of which all tokens but the last are written
-pub line_written : (ds : List Data) (ts now : List Token) (text before whole : List ℕ) → now ≡ ts
-    → before ≡ [] → tokens_of (array_of ds) ≡ ts ++ end_array ∷ []
-    → whole ≡ text ++ ((before ++ print (now ++ end_array ∷ [])) ++ line_feed ∷ [])
-    → whole ≡ text ++ line_of ds
-line_written ds ts now text before whole same none is e =
-    e ∙ ap (λ b. text ++ ((b ++ print (now ++ end_array ∷ [])) ++ line_feed ∷ [])) none
-    ∙ ap (λ us. text ++ (print (us ++ end_array ∷ []) ++ line_feed ∷ [])) same
-    ∙ ap (λ all. text ++ (print all ++ line_feed ∷ [])) (sym is)
-    ∙ ap (λ t. text ++ (t ++ line_feed ∷ [])) (print-outline (array_of ds))
+-- the tokens of an array but the last
+abbrev pub open_tokens : List Data → List Token
+open_tokens ds = begin_array ∷ flat_map tokens_of ds
 
--- the same for a text that is only this line
-pub line_alone : (ds : List Data) (ts now : List Token) (text before whole : List ℕ) → text ≡ []
-    → now ≡ ts → before ≡ [] → tokens_of (array_of ds) ≡ ts ++ end_array ∷ []
-    → whole ≡ text ++ ((before ++ print (now ++ end_array ∷ [])) ++ line_feed ∷ [])
-    → whole ≡ line_of ds
-line_alone ds ts now text before whole empty same none is e =
-    line_written ds ts now text before whole same none is e ∙ ap (λ t. t ++ line_of ds) empty
+closed_tokens : (ds : List Data)
+    → items_tokens (items_outline (items_of ds)) ≡ flat_map tokens_of ds ++ end_array ∷ []
+closed_tokens [] = refl
+closed_tokens (d ∷ ds) = ap (λ ts. tokens_of d ++ ts) (closed_tokens ds)
+    ∙ sym (append_assoc (tokens_of d) (flat_map tokens_of ds) (end_array ∷ []))
+
+module _ (ds : List Data) (now : List Token) (before text whole : List ℕ) where
+  abbrev IsAdded : Type 0
+  IsAdded = whole ≡ text ++ ((before ++ print (now ++ end_array ∷ [])) ++ line_feed ∷ [])
+
+  line_added : now ≡ open_tokens ds → before ≡ [] → IsAdded → whole ≡ text ++ line_of ds
+  line_added same none e =
+      e ∙ ap (λ b. text ++ ((b ++ print (now ++ end_array ∷ [])) ++ line_feed ∷ [])) none
+      ∙ ap (λ us. text ++ (print (us ++ end_array ∷ []) ++ line_feed ∷ [])) same
+      ∙ ap (λ us. text ++ (print (begin_array ∷ us) ++ line_feed ∷ [])) (sym (closed_tokens ds))
+      ∙ ap (λ t. text ++ (t ++ line_feed ∷ [])) (print-outline (array_of ds))
+
+  -- the line of an array of which all tokens but the last are written
+  pub line_written : (result : Result (Unit {0}) AllocError) → now ≡ open_tokens ds → before ≡ []
+      → OnOk result IsAdded → OnOk result (whole ≡ text ++ line_of ds)
+  line_written result same none = on_ok_weaker result (line_added same none)
+
+  -- the same for a text that is only this line
+  pub line_alone : now ≡ open_tokens ds → before ≡ [] → text ≡ [] → IsAdded → whole ≡ line_of ds
+  line_alone same none empty e = line_added same none e ∙ ap (λ t. t ++ line_of ds) empty
 
 integer_tokens : (v : ℤ) → tokens_of (value.number (of_integer v)) ≡ value_token (Some v) ∷ []
 integer_tokens (pos n) = refl
@@ -55,20 +69,15 @@ list_tokens (v ∷ vs) =
     ap (λ ts. ts ++ items_tokens (items_outline (items_of (map data_of_value vs))))
     (value_tokens v) ∙ ap (λ ts. value_token v ∷ ts) (list_tokens vs)
 
-pub reply_line-tokens : (x : Id) (reply : Reply)
-    → tokens_of (array_of (reply_data x reply))
-    ≡ (begin_array ∷ string (codes "reply") ∷ (id_tokens x ++ reply_tokens reply)) ++ end_array
-    ∷ []
-reply_line-tokens x (Values vs) =
-    ap (λ ts. begin_array ∷ string (codes "reply")
-    ∷ (id_tokens x ++ (string (codes "ok") ∷ begin_array ∷ (ts ++ end_array ∷ []))))
-    (list_tokens vs)
+pub reply_line-tokens : (x : Id) (reply : Reply) → begin_array ∷ string (codes "reply")
+    ∷ (id_tokens x ++ reply_tokens reply) ≡ open_tokens (reply_data x reply)
+reply_line-tokens x (Values vs) = ap (λ ts. begin_array ∷ string (codes "reply")
+    ∷ (id_tokens x ++ (string (codes "ok") ∷ begin_array ∷ ts)))
+    (sym (append-nil (map value_token vs ++ end_array ∷ []))
+    ∙ ap (λ ts. ts ++ []) (sym (list_tokens vs)))
 reply_line-tokens x (Abort index) = refl
 
-pub store_line-tokens : (k : List ℕ) (v : ℤ)
-    → tokens_of (array_of (store_data (k, v)))
-    ≡ (begin_array ∷ string (codes "store") ∷ string k ∷ value_token (Some v) ∷ []) ++ end_array
-    ∷ []
+pub store_line-tokens : (k : List ℕ) (v : ℤ) → begin_array ∷ string (codes "store") ∷ string k
+    ∷ value_token (Some v) ∷ [] ≡ open_tokens (store_data (k, v))
 store_line-tokens k v =
-    ap (λ ts. begin_array ∷ string (codes "store") ∷ string k ∷ (ts ++ end_array ∷ []))
-    (integer_tokens v)
+    ap (λ ts. begin_array ∷ string (codes "store") ∷ string k ∷ (ts ++ [])) (sym (integer_tokens v))

@@ -11,14 +11,14 @@ use serde_json::Value;
 use std::alloc::Global;
 
 /// The numbers of executed and of waiting instances in a report.
-#[derive(Clone, Copy, Debug, PartialEq, Eq)]
+#[derive(Clone, Copy)]
 pub(crate) struct Counts {
     pub(crate) executed: u64,
     pub(crate) waiting: u64,
 }
 
 /// What one line of a base says.
-#[derive(Debug, Drop)]
+#[derive(Drop)]
 pub(crate) enum BaseLine {
     /// The first line.
     Header(Counts),

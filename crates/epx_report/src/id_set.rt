@@ -33,7 +33,7 @@ fn contains_id(rising: &[Id], id: &Id) -> bool
 
 /// A set of Ids. Contracts see it as the rising list of its Ids. To insert an Id that is greater
 /// than all others is only a push.
-#[derive(Debug, Drop)]
+#[derive(Drop)]
 pub(crate) struct IdSet {
     /// The Ids that were greater than all earlier ones.
     rising: Vec<Id>,

@@ -26,7 +26,7 @@ fn store_of(alloc: Global, pairs: Vec<(Key, i64)>) -> Result<Store, Memory>
 }
 
 /// What the lines so far say.
-#[derive(Debug, Drop)]
+#[derive(Drop)]
 pub(crate) struct Progress {
     /// The counts of the first line; None before it.
     counts: Option<Counts>,

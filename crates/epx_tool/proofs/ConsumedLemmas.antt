@@ -1,6 +1,7 @@
 -- How many bytes are taken from each source.
-use Rattle.std.proofs.Common.{ℕ, zero, suc, List, [], ◌∷◌, get_or, set, Option, None, Some, refl}
-use Rattle.std.proofs.Common.{arith}
+use Rattle.std.proofs.Common.{◌≡◌, ℕ, zero, suc, List, [], ◌∷◌, length, get_or, set, Option, None}
+use Rattle.std.proofs.Common.{Some, refl, sym, arith}
+use Rattle.std.proofs.lemmas.List.Elements.{length_all_zip}
 use Rattle.epx_devices.specs.Transfers.{ConsumesUpTo}
 use Rattle.epx_tool.specs.Sources.{EachConsumesUpTo}
 
@@ -12,6 +13,11 @@ module _ {S : Type 0} (remaining : S → Option (List ℕ)) (n : ℕ) where
   pub none_consumed : (first : List S) → EachConsumesUpTo remaining first first n
   none_consumed [] = tt
   none_consumed (source ∷ first) = (nothing_consumed n (remaining source), none_consumed first)
+
+  pub as_many_consumed : (old new : List S) → EachConsumesUpTo remaining old new n
+      → length new ≡ length old
+  as_many_consumed old new h = sym (length_all_zip
+      (λ before after. ConsumesUpTo (remaining before) (remaining after) n) old new h)
 
   pub one_consumed : (first now : List S) (log : ℕ) (d later : S)
       → EachConsumesUpTo remaining first now n

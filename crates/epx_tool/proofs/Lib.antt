@@ -5,9 +5,11 @@ mod DeliveredLemmas
 mod UniqueAnswerLemmas
 mod LogsWithInputLemmas
 mod ReturnedFaultLemmas
+mod RunEndingLemmas
 mod MergedSourceLemmas
 mod UniqueAnswerWithInputLemmas
 mod AnswerWithInputLemmas
+mod InputReadingLemmas
 mod AnswerLemmas
 mod OrderLengthLemmas
 mod PairRangeLemmas

@@ -1,7 +1,7 @@
 -- Logs and an extra input: which of these texts is the first too long one, and which refusal comes
 -- first.
 use Rattle.std.proofs.Common.{◌≡◌, ◌⊎◌, ◌<◌, ◌≤◌, ◌+◌, ◌++◌, ℕ, zero, suc, List, [], ◌∷◌, length}
-use Rattle.std.proofs.Common.{Some, Option, Result, Ok, Err, MatchResult, IsErrOf, slice_get, refl}
+use Rattle.std.proofs.Common.{Some, Option, Err, IsErrOf, slice_get, refl}
 use Rattle.std.proofs.Common.{sym, ap, ◌∙◌, subst, inl, inr, arith}
 use Rattle.std.proofs.lemmas.Option.{slice_get_within}
 use Rattle.epx_types.specs.declared.fault.Fault.{Fault}
@@ -11,7 +11,6 @@ use Rattle.epx_types.specs.declared.fault.Fault.TheVariants.{Read, Write, BadBas
 use Rattle.epx_types.specs.Instances.{Instance}
 use Rattle.epx_merge.specs.Limits.{max_log_bytes}
 use Rattle.epx_merge.specs.Refusals.{FitLimits, IsFirstTooLong, NoneTooLong, IsRefusal}
-use Rattle.epx_merge.specs.Acceptance.{IsAccepted}
 use Rattle.epx_devices.specs.Transfers.{IsReadLogFault, ConsumesExactly}
 use Rattle.epx_tool.specs.Runs.{NoneTooLongBefore, IsReadingRefusal}
 use Rattle.epx_tool.specs.WithInput.{IsShort, IsRefusalWithInput}
@@ -158,19 +157,6 @@ module _ (logs : List (List ℕ)) (input : List ℕ) where
     refusal_of_logs Write short h = (short, h)
     refusal_of_logs (BadBase line) short h = absurd h
 
-    -- the refusals before the lines of the extra input are read
-    pub refusal_before : (fault : Fault) → IsRefusalWithInput (λ _ _. ⊥) input logs fault
-        → IsRefusalWithInput IsBad input logs fault
-    refusal_before Memory h = h
-    refusal_before TooManyLogs h = h
-    refusal_before (LogTooLong log) h = h
-    refusal_before (BadLine place why) h = h
-    refusal_before TooManyInstances h = h
-    refusal_before (Disagree id first second) h = h
-    refusal_before (Read log) h = h
-    refusal_before Write h = h
-    refusal_before (BadBase line) h = absurd h.2
-
     -- if all texts fit, no refusal stops the reading
     pub no_stop : {T : Type 0} (fault : Fault) (log : ℕ) → FitLimits logs → IsShort input
         → IsRefusalWithInput IsBad input logs fault → ¬ StopsAt {T = T} (Err fault) log
@@ -182,10 +168,3 @@ module _ (logs : List (List ℕ)) (input : List ℕ) where
     no_stop fault log fits short h (inr unread) =
         let named : fault ≡ Read log = cc unread in
         (subst (IsRefusalWithInput IsBad input logs) named h).1
-
-    pub merged_with_input : (r : Result (List Instance) Fault) → IsShort input
-        → MatchResult r (IsAccepted logs) (IsRefusal logs)
-        → MatchResult r (λ m. IsShort input × IsAccepted logs m)
-        (IsRefusalWithInput IsBad input logs)
-    merged_with_input (Ok m) short h = (short, h)
-    merged_with_input (Err fault) short h = refusal_of_logs fault short h

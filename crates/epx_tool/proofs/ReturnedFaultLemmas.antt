@@ -92,39 +92,33 @@ other_iff result x fault P other h = (
 
 -- ---- results after the sources were read
 
--- this result is no fault of reading
-pub record HasRead {T : Type 0} (result : Result T Fault) : Type 0 where
-  pub not_stopped : (log : ℕ) → ¬ StopsAt result log
+-- this result is no fault of reading the first n sources
+pub record HasRead {T : Type 0} (n : ℕ) (result : Result T Fault) : Type 0 where
+  pub not_stopped : (log : ℕ) → StopsAt result log → n ≤ log
   pub not_too_many : ¬ IsErrOf result TooManyLogs
 
-module _ {T V : Type 0} (result : Result T Fault) (has : HasRead result) (x : V) (P : Type 0) where
-  pub read_iff : (log : ℕ) → IsErrOf (Ok x) (Read log) ↔ P → IsErrOf result (Read log) ↔ P
-  read_iff log h = other_iff result x (Read log) P (λ is. has.not_stopped log (inr is)) h
-
-  pub too_many_iff : IsErrOf (Ok x) TooManyLogs ↔ P → IsErrOf result TooManyLogs ↔ P
-  too_many_iff h = other_iff result x TooManyLogs P has.not_too_many h
-
 -- the only fault of writing is `Write`
-pub HasRead-written : {T : Type 0} (result : Result T Fault) → IfErr result (λ f. f ≡ Write)
-    → HasRead result
-HasRead-written (Ok x) only = record {
-  not_stopped = λ log stops. elim stops [ inl is ↦ cc is | inr is ↦ cc is ];
+pub HasRead-written : {T : Type 0} (n : ℕ) (result : Result T Fault)
+    → IfErr result (λ f. f ≡ Write) → HasRead n result
+HasRead-written n (Ok x) only = record {
+  not_stopped = λ log stops. absurd (ok_does_not_stop x log stops);
   not_too_many = λ is. cc is;
 }
-HasRead-written (Err fault) only = record {
+HasRead-written n (Err fault) only = record {
   not_stopped = λ log stops. elim stops [ inl is ↦ cc (is, only) | inr is ↦ cc (is, only) ];
   not_too_many = λ is. cc (is, only);
 }
 
-module _ {T : Type 0} (logs : List (List ℕ)) (fault : Fault) (fits : FitLimits logs) where
+module _ {T : Type 0} (n : ℕ) (logs : List (List ℕ)) (fault : Fault)
+    (fits : FitLimits logs) where
   -- a refusal of logs that fit
-  pub HasRead-refused : IsRefusal logs fault → HasRead {T = T} (Err fault)
+  pub HasRead-refused : IsRefusal logs fault → HasRead {T = T} n (Err fault)
   HasRead-refused refused = record {
     not_stopped = λ log stops. elim stops [
       | inl is ↦
           let first = (subst (IsRefusal logs) (fault_is fault (LogTooLong log) is) refused).1 in
           omega (arith, fits.1 log first.long.0 first.long.1, first.long.2)
-      | inr is ↦ subst (IsRefusal logs) (fault_is fault (Read log) is) refused
+      | inr is ↦ absurd (subst (IsRefusal logs) (fault_is fault (Read log) is) refused)
     ];
     not_too_many = λ is.
         omega (arith, fits.0, subst (IsRefusal logs) (fault_is fault TooManyLogs is) refused);
@@ -132,9 +126,10 @@ module _ {T : Type 0} (logs : List (List ℕ)) (fault : Fault) (fits : FitLimits
 
   -- a refusal of logs and an extra input that fit
   pub HasRead-refused_with_input : (IsBad : List ℕ → ℕ → Type 0) (input : List ℕ) → IsShort input
-      → IsRefusalWithInput IsBad input logs fault → HasRead {T = T} (Err fault)
+      → IsRefusalWithInput IsBad input logs fault → HasRead {T = T} n (Err fault)
   HasRead-refused_with_input IsBad input short refused = record {
-    not_stopped = λ log. no_stop logs input IsBad fault log fits short refused;
+    not_stopped = λ log stops.
+        absurd (no_stop logs input IsBad fault log fits short refused stops);
     not_too_many = λ is.
         let named = fault_is fault TooManyLogs is in
         omega (arith, fits.0, subst (IsRefusalWithInput IsBad input logs) named refused);
@@ -152,13 +147,16 @@ module _ {T : Type 0} (n : ℕ) (fault : Fault) (of_input : IsReadLogFault n fau
   pub input_not_too_many : ¬ IsErrOf {T = T} (Err fault) TooManyLogs
   input_not_too_many is = also TooManyLogs is
 
-  -- the extra input comes after all logs
-  pub input_not_log : (log : ℕ) → log < n → ¬ IsErrOf {T = T} (Err fault) (Read log)
-  input_not_log log l is = let at : log ≡ n = also (Read log) is in omega (arith, at, l)
-
   pub stops_at_input : (log : ℕ) → StopsAt {T = T} (Err fault) log → log ≡ n
   stops_at_input log (inl is) = also (LogTooLong log) is
   stops_at_input log (inr is) = also (Read log) is
+
+  -- the extra input comes after all logs
+  pub HasRead-input : HasRead {T = T} n (Err fault)
+  HasRead-input = record {
+    not_stopped = λ log stops. omega (arith, stops_at_input log stops);
+    not_too_many = input_not_too_many;
+  }
 
 -- the number of the extra input is the number of logs
 pub input_failed_iff : {T V : Type 0} (fault : Fault) (n m : ℕ) (P : Type 0) → n ≡ m
@@ -166,12 +164,9 @@ pub input_failed_iff : {T V : Type 0} (fault : Fault) (n m : ℕ) (P : Type 0) �
 input_failed_iff {T} fault n m P same h =
     same_error_iff fault (Read m) P (subst (λ k. IsErrOf {T = T} (Err fault) (Read k) ↔ P) same h)
 
-pub no_log_below : (log n m : ℕ) → log ≡ n → n ≡ m → ¬ log < m
-no_log_below log n m at same l = omega (arith, at, same, l)
-
 -- both lists end before this position
 pub same_past_end : {S : Type 0} (new old : List S) (log : ℕ) → length new ≡ length old
-    → log ≡ length new → drop (log + 1) new ≡ drop (log + 1) old
+    → length new ≤ log → drop (log + 1) new ≡ drop (log + 1) old
 same_past_end new old log same at =
     drop_all (log + 1) new (omega (arith, at)) ∙ sym
     (drop_all (log + 1) old (omega (arith, same, at)))

@@ -43,15 +43,17 @@ module _ {S : Type 0} (remaining : S → Option (List ℕ)) (reads : ReadRelatio
         subst (λ n. max_logs < n) (sym (as_many_logs remaining has_failed first logs are)) many;
     stopped = inl many;
     nothing_written = differs TooManyLogs Write (λ same. cc same);
-    failed = λ k source there. neither _ _ (differs TooManyLogs (Read k) (λ same. cc same))
-        (none_failed remaining has_failed _ _ _ _ (none_read remaining has_failed first well) k
-        source there);
     place = λ log stops. absurd (too_many_does_not_stop log stops);
-    taken = none_consumed remaining (max_log_bytes + 1) first;
-    ended = tt;
-    no_further = λ log stops. refl;
-    too_many = (λ is. many, λ more. refl);
-    none_read = λ is. refl;
+    sources = record {
+      read = λ k source there. neither _ _ (differs TooManyLogs (Read k) (λ same. cc same))
+          (none_failed remaining has_failed _ _ _ _ (none_read remaining has_failed first well) k
+          source there);
+      taken = none_consumed remaining (max_log_bytes + 1) first;
+      ended = tt;
+      no_further = λ log stops. refl;
+      too_many = (λ is. many, λ more. refl);
+      none_read = λ is. refl;
+    };
   }
 
   module _ (now : List S) (n : ℕ) (logs : List (List ℕ))
@@ -65,15 +67,17 @@ module _ {S : Type 0} (remaining : S → Option (List ℕ)) (reads : ReadRelatio
       refusal = λ logs are. tt;
       stopped = inl tt;
       nothing_written = differs Memory Write (λ same. cc same);
-      failed = λ k source there. neither _ _ (differs Memory (Read k) (λ same. cc same))
-          (none_failed remaining has_failed _ _ _ _ h.read k source there);
       place = λ log stops. absurd (memory_does_not_stop log stops);
-      taken = h.read.taken;
-      ended = tt;
-      no_further = λ log stops. absurd (memory_does_not_stop log stops);
-      too_many = none_of_both _ _ (differs Memory TooManyLogs (λ same. cc same))
-          (few_are_not_many (length first) few);
-      none_read = λ is. absurd (differs Memory TooManyLogs (λ same. cc same) is);
+      sources = record {
+        read = λ k source there. neither _ _ (differs Memory (Read k) (λ same. cc same))
+            (none_failed remaining has_failed _ _ _ _ h.read k source there);
+        taken = h.read.taken;
+        ended = tt;
+        no_further = λ log stops. absurd (memory_does_not_stop log stops);
+        too_many = none_of_both _ _ (differs Memory TooManyLogs (λ same. cc same))
+            (few_are_not_many (length first) few);
+        none_read = λ is. absurd (differs Memory TooManyLogs (λ same. cc same) is);
+      };
     }
 
     pub all_delivered : length first ≤ n
@@ -88,15 +92,17 @@ module _ {S : Type 0} (remaining : S → Option (List ℕ)) (reads : ReadRelatio
       refusal = tt;
       stopped = tt;
       nothing_written = ok_is_no_fault _ Write;
-      failed = λ k source there. neither _ _ (ok_is_no_fault _ (Read k))
-          (none_failed remaining has_failed _ _ _ _ h.read k source there);
       place = λ log stops. absurd (ok_does_not_stop _ log stops);
-      taken = h.read.taken;
-      ended = all_ended remaining has_failed _ _ _ _ h.read all;
-      no_further = λ log stops. absurd (ok_does_not_stop _ log stops);
-      too_many = none_of_both _ _ (ok_is_no_fault _ TooManyLogs)
-          (few_are_not_many (length first) few);
-      none_read = λ is. absurd (ok_is_no_fault _ TooManyLogs is);
+      sources = record {
+        read = λ k source there. neither _ _ (ok_is_no_fault _ (Read k))
+            (none_failed remaining has_failed _ _ _ _ h.read k source there);
+        taken = h.read.taken;
+        ended = all_ended remaining has_failed _ _ _ _ h.read all;
+        no_further = λ log stops. absurd (ok_does_not_stop _ log stops);
+        too_many = none_of_both _ _ (ok_is_no_fault _ TooManyLogs)
+            (few_are_not_many (length first) few);
+        none_read = λ is. absurd (ok_is_no_fault _ TooManyLogs is);
+      };
     }
 
     module _ (within : n < length first) (next later : S) where
@@ -137,18 +143,20 @@ module _ {S : Type 0} (remaining : S → Option (List ℕ)) (reads : ReadRelatio
         stopped = stops_reading remaining reads fails has_failed _ _ _ _ h within next later fault
             (same_next remaining has_failed _ _ _ _ h.read next) stops;
         nothing_written = input_not_write n fault of_log;
-        failed = one_failed remaining has_failed _ _ _ _ h.read within later fault of_log failed;
         place = λ k stops. subst (λ m. m < length first)
             (sym (stops_at_input n fault of_log k stops)) within;
-        taken = taken_further remaining has_failed _ _ _ _ h.read next later taken;
-        ended = tt;
-        no_further = λ k stops. subst
-            (λ m. drop (m + 1) (set now n later) ≡ drop (m + 1) first)
-            (sym (stops_at_input n fault of_log k stops))
-            (rest_after remaining has_failed _ _ _ _ h.read later);
-        too_many = none_of_both _ _ (input_not_too_many n fault of_log)
-            (few_are_not_many (length first) few);
-        none_read = λ is. absurd (input_not_too_many n fault of_log is);
+        sources = record {
+          read = one_failed remaining has_failed _ _ _ _ h.read within later fault of_log failed;
+          taken = taken_further remaining has_failed _ _ _ _ h.read next later taken;
+          ended = tt;
+          no_further = λ k stops. subst
+              (λ m. drop (m + 1) (set now n later) ≡ drop (m + 1) first)
+              (sym (stops_at_input n fault of_log k stops))
+              (rest_after remaining has_failed _ _ _ _ h.read later);
+          too_many = none_of_both _ _ (input_not_too_many n fault of_log)
+              (few_are_not_many (length first) few);
+          none_read = λ is. absurd (input_not_too_many n fault of_log is);
+        };
       }
 
       -- the result of reading the next source

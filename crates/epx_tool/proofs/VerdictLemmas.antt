@@ -1,6 +1,5 @@
 -- A list has only one verdict.
-use Rattle.std.proofs.Common.{◌≡◌, ◌≢◌, ℕ, List, Result, Ok, Err, MatchResult, sym, ap, ◌∙◌, inl}
-use Rattle.std.proofs.Common.{inr}
+use Rattle.std.proofs.Common.{◌≡◌, ℕ, List, sym, ap, ◌∙◌, inl, inr}
 use Rattle.json.specs.Print.{escape_byte}
 use Rattle.epx_types.specs.declared.id.Id.{Id}
 use Rattle.epx_types.specs.Instances.{Instance}
@@ -8,7 +7,6 @@ use Rattle.epx_types.specs.LawfulOrders.{IsLawful}
 use Rattle.epx_order.specs.declared.order_fault.OrderFault.{OrderFault}
 use Rattle.epx_order.specs.declared.order_fault.OrderFault.TheVariants.{Memory, Stranger, Repeat}
 use Rattle.epx_order.specs.declared.order_fault.OrderFault.TheVariants.{Missing, Early, Sequence}
-use Rattle.epx_order.specs.OrderFaults.{IsOrderFault}
 use Rattle.epx_order.proofs.UniqueFaultLemmas.{fault_is_one, lawful_has_no_fault}
 use Rattle.epx_tool.specs.Verdicts.{order_fault_text, IsVerdict}
 use Rattle.epx_report.specs.ViewLines.{lawful_line}
@@ -35,12 +33,3 @@ module _ (m : List Instance) (ids : List Id) where
   pub lawful-from_verdict : IsVerdict m ids lawful_line → IsLawful m ids
   lawful-from_verdict (inl a) = a.0
   lawful-from_verdict (inr a) = absurd (lawful_line-apart a.0 a.3)
-
-  -- the line of what a check found is the verdict
-  pub IsVerdict-printed : {T : Type 0} (found : Result T OrderFault) (text : List ℕ)
-      → MatchResult found (λ _. IsLawful m ids) (IsOrderFault m ids)
-      → MatchResult found (λ _. text ≡ lawful_line)
-      (λ fault. (fault ≢ Memory) × (text ≡ order_fault_text fault))
-      → IsVerdict m ids text
-  IsVerdict-printed (Ok x) text lawful printed = inl (lawful, printed)
-  IsVerdict-printed (Err fault) text is printed = inr (fault, printed.0, is, printed.1)

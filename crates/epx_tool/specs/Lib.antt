@@ -19,6 +19,8 @@ pub mod RunsWithInput
 pub mod Sources
 pub mod Delivered
 pub mod DeliveredWithInput
+pub mod Questions
+pub mod RunEndings
 pub use Rattle.epx_devices.specs.Devices
 pub use Rattle.epx_devices.specs.MemorySink
 pub use Rattle.epx_devices.specs.DeviceStates

@@ -3,7 +3,7 @@ ghost use Rattle.std.specs.Prelude.{MatchResult, Ok, Err};
 ghost use Rattle.epx_merge.specs.LogLines.{bytes_of};
 ghost use Rattle.epx_tool.specs.Answer.{Answers, IsAnswer};
 ghost use Rattle.epx_tool.specs.Views.{IsViewText};
-ghost use Rattle.epx_tool.specs.inner.Questions.{IsTextOf};
+ghost use Rattle.epx_tool.specs.Questions.{IsTextOf};
 
 use crate::ask::Ask;
 use crate::map_texts::text_of;

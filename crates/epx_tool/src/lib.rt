@@ -5,9 +5,11 @@
 mod answers;
 mod ask;
 mod checked_runs;
-mod checks;
 mod commands;
+mod input_answers;
+mod input_contents;
 mod input_runs;
+mod input_texts;
 pub mod laws;
 mod map_texts;
 mod merged_sources;
@@ -15,21 +17,20 @@ mod question;
 mod reply_lines;
 mod report;
 mod resumed_runs;
-mod resumptions;
 mod runs;
 mod sources;
 mod verdict;
-mod with_input;
 
 pub use answers::{answer, view};
 pub use ask::Ask;
 pub use checked_runs::run_check;
-pub use checks::check;
 pub use epx_devices::{
     DeviceFault, FuseSink, FuseSource, MemorySink, MemorySource, PathSource, Sink, Source, StdSink,
     StdSource, read_log, write_out,
 };
 pub use epx_words::{Task, Words, read_words};
+pub use input_answers::{check, resume};
+pub use input_runs::run_with_input;
+pub use question::{InputQuestion, Question};
 pub use resumed_runs::run_resume;
-pub use resumptions::resume;
-pub use runs::{run, show};
+pub use runs::{run, run_question, show};

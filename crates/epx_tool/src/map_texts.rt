@@ -12,7 +12,7 @@ ghost use Rattle.epx_tool.specs.AuditText.{IsAuditText};
 ghost use Rattle.epx_tool.specs.Report.{ops_found, IsReport};
 ghost use Rattle.epx_tool.specs.ResumedReport.{resumed_text, IsReportAfter};
 ghost use Rattle.epx_tool.specs.Views.{IsViewText};
-ghost use Rattle.epx_tool.specs.inner.Questions.{IsTextOf};
+ghost use Rattle.epx_tool.specs.Questions.{IsTextOf};
 ghost use Rattle.epx_picture.specs.Pictures.{IsPicture};
 
 use crate::ask::Ask;

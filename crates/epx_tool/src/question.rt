@@ -3,7 +3,7 @@ use crate::ask::Ask;
 
 /// What is asked of logs.
 #[derive(Clone, Copy, Debug, PartialEq, Eq)]
-pub(crate) enum Question {
+pub enum Question {
     /// The report.
     Report,
     /// A view.
@@ -12,7 +12,7 @@ pub(crate) enum Question {
 
 /// What is asked of logs and an extra input.
 #[derive(Clone, Copy, Debug, PartialEq, Eq)]
-pub(crate) enum InputQuestion {
+pub enum InputQuestion {
     /// The report that resumes from the input, a base.
     Resume,
     /// The verdict on the input, a list.

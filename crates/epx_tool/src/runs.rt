@@ -10,8 +10,8 @@ ghost use Rattle.epx_tool.specs.Views.{IsViewText};
 ghost use Rattle.epx_tool.specs.Runs.{AreBytesOf, IsReadingRefusal, IsRunFault};
 ghost use Rattle.epx_tool.specs.Sources.{EachConsumesUpTo, StopsAt};
 ghost use Rattle.epx_tool.specs.Delivered.{AnswersDelivered, EndsWithout};
-ghost use Rattle.epx_tool.specs.inner.Questions.{IsTextOf};
-ghost use Rattle.epx_tool.specs.inner.RunEndings.{EndsRun};
+ghost use Rattle.epx_tool.specs.Questions.{IsTextOf};
+ghost use Rattle.epx_tool.specs.RunEndings.{EndsRun};
 ghost use Rattle.epx_devices.specs.Transfers.{AppendsPrefix};
 
 use crate::ask::Ask;
@@ -26,8 +26,8 @@ use std::random::RandomSource;
 use std::thread::Threads;
 
 /// Reads the logs from the sources in order, and writes the answer to a question about them to the
-/// sink.
-fn run_question<T: Threads + RandomSource + Sync, S: Source, W: Sink>(
+/// sink. `run` and `show` are this call for one question each.
+pub fn run_question<T: Threads + RandomSource + Sync, S: Source, W: Sink>(
     rt: &T,
     alloc: Global,
     question: Question,

@@ -1,16 +1,12 @@
 //! Reads sources to their ends.
-ghost use Rattle.std.specs.Prelude.{◌≡◌, ◌↔◌, ◌+◌, ◌<◌, ◌≤◌, ◌++◌, ◌∷◌, ℕ, List, [], true, false};
-ghost use Rattle.std.specs.Prelude.{drop, length, All, Some, slice_get, IfOk, OnOk, IfErr};
-ghost use Rattle.std.specs.Prelude.{IsErrOf, MatchResult, Err};
-ghost use Rattle.std.specs.Io.KnownBytes.{IsAtEnd};
-ghost use Rattle.epx_devices.specs.Transfers.{ConsumesUpTo};
-ghost use Rattle.epx_merge.specs.Limits.{max_log_bytes};
+ghost use Rattle.std.specs.Prelude.{◌≡◌, ◌+◌, ◌<◌, ◌≤◌, ◌++◌, ◌∷◌, [], false, length, All, Some};
+ghost use Rattle.std.specs.Prelude.{IfOk, IfErr, IsErrOf, MatchResult, Err};
 ghost use Rattle.epx_merge.specs.Refusals.{FitLimits};
 ghost use Rattle.epx_merge.specs.LogLines.{bytes_of};
 ghost use Rattle.epx_tool.specs.Runs.{AreBytesOf};
 ghost use Rattle.epx_tool.specs.WithInput.{IsShort};
 ghost use Rattle.epx_tool.specs.RunsWithInput.{IsReadingRefusalWithInput};
-ghost use Rattle.epx_tool.specs.Sources.{EachConsumesUpTo, StopsAt};
+ghost use Rattle.epx_tool.specs.Sources.{LeavesInput, LeavesSources};
 ghost use Rattle.epx_tool.specs.DeliveredWithInput.{DeliversBoth, StopsReadingBoth};
 ghost use Rattle.epx_tool.specs.inner.SourceReadings.{AreDeliveredUpTo, EndsReading, logs_after};
 
@@ -94,7 +90,6 @@ pub(crate) fn read_with_input<B: Source, S: Source>(
         → v.0.items ≡ before) }
     ensures bytes { IfOk result (λ v. (logs : _) → AreBytesOf S.remaining sources.old logs
         → bytes_of v.1.items ≡ logs) }
-    ensures each { IfOk result (λ v. length v.1.items ≡ length sources.old) }
     ensures short { IfOk result (λ v. IsShort v.0.items) }
     ensures fit { IfOk result (λ v. FitLimits (bytes_of v.1.items)) }
     ensures delivered { IfOk result (λ v. DeliversBoth B.reads S.reads input.old input.new
@@ -105,23 +100,9 @@ pub(crate) fn read_with_input<B: Source, S: Source>(
     ensures stopped { IfErr result (StopsReadingBoth B.reads B.fails S.reads S.fails
         input.old input.new sources.old sources.new) }
     ensures nothing_written { ¬ IsErrOf result Fault.Write }
-    ensures failed { (log : _) (source : _) → slice_get sources.new log ≡ Some source
-        → IsErrOf result (Fault.Read log) ↔ (S.has_failed source ≡ true) }
-    ensures input_failed { IsErrOf result (Fault.Read (length sources.old))
-        ↔ (B.has_failed input.new ≡ true) }
-
-    ensures taken { EachConsumesUpTo S.remaining sources.old sources.new (max_log_bytes + 1) }
-    ensures input_taken { ConsumesUpTo (B.remaining input.old) (B.remaining input.new)
-        (max_log_bytes + 1) }
-    ensures ended { OnOk result (All (λ s. IsAtEnd (S.remaining s)) sources.new) }
-    ensures input_ended { OnOk result (IsAtEnd (B.remaining input.new)) }
-    ensures no_further { (log : ℕ) → StopsAt result log
-        → drop (log + 1) sources.new ≡ drop (log + 1) sources.old }
-    ensures input_untouched { (log : ℕ) → StopsAt result log → log < length sources.old
-        → input.new ≡ input.old }
-    ensures too_many { IsErrOf result Fault.TooManyLogs ↔ (MAX_LOGS < length sources.old) }
-    ensures none_read { IsErrOf result Fault.TooManyLogs → (sources.new ≡ sources.old)
-        × (input.new ≡ input.old) }
+    ensures sources_left { LeavesSources S.remaining S.has_failed sources.old sources.new result }
+    ensures input_left { LeavesInput B.remaining B.has_failed input.old input.new
+        (length sources.old) result }
 {
     let logs = match read_sources(alloc, sources) {
         Ok(logs) => logs,

@@ -5,20 +5,10 @@ use Rattle.std.specs.Io.KnownBytes.{Keeps}
 use Rattle.epx_types.specs.declared.fault.Fault.{Fault}
 use Rattle.epx_types.specs.declared.fault.Fault.TheVariants.{Read, Write}
 use Rattle.epx_words.specs.declared.words.Task.{Task}
-use Rattle.epx_words.specs.declared.words.Task.TheVariants.{Order, Levels, Graph, Audit}
 use Rattle.epx_devices.specs.Deliveries.{FailRelation, ReadRelation}
 use Rattle.epx_tool.specs.Runs.{AreBytesOf}
-use Rattle.epx_tool.specs.declared.ask.Ask.{Ask}
-use Rattle.epx_tool.specs.declared.ask.Ask.TheVariants as ask
 use Rattle.epx_program.specs.Endings.{AddsAnswer, AddsPart, IsTaskResult}
 use Rattle.epx_program.specs.Inputs.{OneHasFailedRead}
-
--- the task that writes this view
-abbrev pub task_showing : Ask → Task
-task_showing ask.Order = Order
-task_showing ask.Levels = Levels
-task_showing ask.Audit = Audit
-task_showing ask.Graph = Graph
 
 -- The outcome of a task over these sources. `old` and `new` are the contents of the output.
 pub record TaskOutcome {S A : Type 0} (remaining : S → Option (List ℕ)) (reads : ReadRelation S)

@@ -1,20 +1,19 @@
 -- Reading sources one after another: how far it is, and how it ends.
-use Rattle.std.specs.Prelude.{◌≡◌, ◌≤◌, ◌<◌, ◌+◌, ◌++◌, ◌⊎◌, ◌↔◌, ℕ, Bool, true, false, List}
-use Rattle.std.specs.Prelude.{length, take, drop, All, Option, Some, slice_get, Vec, Result, Ok}
-use Rattle.std.specs.Prelude.{Err, IfOk, OnOk, IfErr, IsErrOf}
+use Rattle.std.specs.Prelude.{◌≡◌, ◌≤◌, ◌<◌, ◌+◌, ◌++◌, ◌⊎◌, ℕ, Bool, false, List, length, take}
+use Rattle.std.specs.Prelude.{drop, All, Option, Vec, Result, Ok, Err, IfOk, IfErr, IsErrOf}
 use Rattle.std.specs.declared.alloc.Global.{Global}
 use Rattle.std.specs.Io.KnownBytes.{IsAtEnd}
 use Rattle.epx_types.specs.declared.fault.Fault.{Fault}
-use Rattle.epx_types.specs.declared.fault.Fault.TheVariants.{TooManyLogs, Read, Write}
+use Rattle.epx_types.specs.declared.fault.Fault.TheVariants.{Write}
 use Rattle.epx_types.specs.Instances.{Instance}
 use Rattle.epx_devices.specs.Deliveries.{FailRelation, ReadRelation}
 use Rattle.epx_merge.specs.Acceptance.{IsAccepted}
-use Rattle.epx_merge.specs.Limits.{max_logs, max_log_bytes}
+use Rattle.epx_merge.specs.Limits.{max_log_bytes}
 use Rattle.epx_merge.specs.LogLines.{bytes_of}
 use Rattle.epx_merge.specs.Refusals.{FitLimits, IsRefusal}
 use Rattle.epx_tool.specs.Delivered.{EachDelivers, FirstDeliver, StopsReading}
 use Rattle.epx_tool.specs.Runs.{AreBytesOf, IsReadingRefusal}
-use Rattle.epx_tool.specs.Sources.{EachConsumesUpTo, StopsAt}
+use Rattle.epx_tool.specs.Sources.{EachConsumesUpTo, LeavesSources, StopsAt}
 
 -- the first n sources are read, and delivered these bytes
 pub record AreReadUpTo {S : Type 0} (remaining : S → Option (List ℕ)) (has_failed : S → Bool)
@@ -47,14 +46,8 @@ pub record EndsReading {S : Type 0} (remaining : S → Option (List ℕ)) (reads
       → IsReadingRefusal logs fault)
   pub stopped : IfErr result (StopsReading reads fails old new)
   pub nothing_written : ¬ IsErrOf result Write
-  pub failed : (log : ℕ) (source : S) → slice_get new log ≡ Some source
-      → IsErrOf result (Read log) ↔ (has_failed source ≡ true)
   pub place : (log : ℕ) → StopsAt result log → log < length old
-  pub taken : EachConsumesUpTo remaining old new (max_log_bytes + 1)
-  pub ended : OnOk result (All (λ s. IsAtEnd (remaining s)) new)
-  pub no_further : (log : ℕ) → StopsAt result log → drop (log + 1) new ≡ drop (log + 1) old
-  pub too_many : IsErrOf result TooManyLogs ↔ (max_logs < length old)
-  pub none_read : IsErrOf result TooManyLogs → new ≡ old
+  pub sources : LeavesSources remaining has_failed old new result
 
 -- the logs that were read before, and then those of the result
 abbrev pub logs_after : List (List ℕ) → Result (Vec (Vec ℕ Global) Global) Fault

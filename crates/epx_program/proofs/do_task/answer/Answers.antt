@@ -1,22 +1,25 @@
+use Rattle.std.proofs.Common.{Some, ap, ◌∙◌, sym}
+use Rattle.epx_program.proofs.OutcomeLemmas.{outcome_of_logs, outcome_of_first, outcome_of_nothing}
 use Rattle.epx_program.proofs.do_task.answer.Goals as goal
 
-pub returns-in-Run : goal.returns-in-Run
-returns-in-Run g c = rw c.in-Run.is c.answer_report.ensures
+pub returns-in-Logs : goal.returns-in-Logs
+returns-in-Logs g c =
+    let S = g.S.Source in
+    outcome_of_logs S.remaining S.reads S.fails S.has_failed c.args.task c.args.sources.now _ _ _ _
+    c.run_question.result c.in-Logs.question _ (sym c.asked_by.ensures ∙ c.in-Logs.is)
+    c.run_question.ensures
 
-pub returns-in-Order : goal.returns-in-Order
-returns-in-Order g c = rw c.in-Order.is c.answer_view.ensures
+pub returns-in-Some : goal.returns-in-Some
+returns-in-Some g c =
+    let S = g.S.Source in
+    outcome_of_first S.remaining S.reads S.fails S.has_failed c.args.task c.args.sources.now _ _ _ _
+    c.run_with_input.result c.in-First.question (sym c.asked_by.ensures ∙ c.in-First.is) _ _ _ _
+    c.in-Some.ensures.cases.0 c.run_with_input.ensures
 
-pub returns-in-Levels : goal.returns-in-Levels
-returns-in-Levels g c = rw c.in-Levels.is c.answer_view-in-Levels.ensures
-
-pub returns-in-Graph : goal.returns-in-Graph
-returns-in-Graph g c = rw c.in-Graph.is c.answer_view-in-Graph.ensures
-
-pub returns-in-Audit : goal.returns-in-Audit
-returns-in-Audit g c = rw c.in-Audit.is c.answer_view-in-Audit.ensures
-
-pub returns-in-Resume : goal.returns-in-Resume
-returns-in-Resume g c = rw c.in-Resume.is c.answer_from_first.ensures
-
-pub returns-in-Check : goal.returns-in-Check
-returns-in-Check g c = rw c.in-Check.is c.answer_from_first-in-Check.ensures
+pub returns-in-None : goal.returns-in-None
+returns-in-None g c =
+    let S = g.S.Source in
+    outcome_of_nothing S.remaining S.reads S.fails S.has_failed c.args.task c.args.sources.now _ _ _
+    _ c.run_with_input-in-None.result c.in-First.question (sym c.asked_by.ensures ∙ c.in-First.is)
+    _ _ _ _ _ _ _ c.in-None.ensures.cases (ap Some c.new-first.ensures) (λ bad. bad.1.failed)
+    c.run_with_input-in-None.ensures

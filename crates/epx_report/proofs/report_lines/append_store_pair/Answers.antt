@@ -1,6 +1,5 @@
-use Rattle.std.proofs.Common.{◌≡◌, [], ◌∷◌, codes, Some, arith}
+use Rattle.std.proofs.Common.{◌≡◌, ◌∷◌, [], ◌∙◌, codes, Some, arith}
 use Rattle.std.proofs.lemmas.Grind.{common_steps}
-use Rattle.std.proofs.lemmas.Result.{on_ok_weaker}
 use Rattle.json.specs.Token.{begin_array, string}
 use Rattle.epx_report.specs.inner.LineTokens.{value_token}
 use Rattle.epx_report.specs.ReportLines.{store_data}
@@ -10,11 +9,10 @@ use Rattle.epx_report.proofs.report_lines.append_store_pair.Goals as goal
 pub returns : goal.returns
 returns c =
     let last = c.i64.new.self in
-    let ts = begin_array ∷ string (codes "store") ∷ string c.args.key.now
-    ∷ value_token (Some c.args.value.now) ∷ [] in
-    let same : last.tokens ≡ ts = grind (arith, common_steps) in
-    let kept : last.before ≡ [] = grind arith in
-    on_ok_weaker c.end_line.result
-    (λ e. line_written (store_data (c.args.key.now, c.args.value.now)) ts last.tokens
-    c.args.text.now.items last.before c.end_line.new.text.items same kept
-    (store_line-tokens c.args.key.now c.args.value.now) e) c.end_line.ensures
+    let key = c.args.key.now in
+    let value = c.args.value.now in
+    let same : last.tokens ≡ begin_array ∷ string (codes "store") ∷ string key
+    ∷ value_token (Some value) ∷ [] = grind (arith, common_steps) in
+    line_written (store_data (key, value)) last.tokens last.before c.args.text.now.items
+    c.end_line.new.text.items c.end_line.result (same ∙ store_line-tokens key value) (grind arith)
+    c.end_line.ensures

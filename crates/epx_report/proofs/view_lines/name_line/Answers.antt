@@ -1,5 +1,5 @@
-use Rattle.std.proofs.Common.{◌≡◌, [], ◌∷◌, refl}
-use Rattle.json.specs.Token.{begin_array, string}
+use Rattle.std.proofs.Common.{refl}
+use Rattle.std.proofs.Common.{◌∷◌, []}
 use Rattle.serde_json.specs.Data as value
 use Rattle.epx_report.proofs.LineTextLemmas.{line_alone}
 use Rattle.epx_report.proofs.view_lines.name_line.Goals as goal
@@ -7,10 +7,6 @@ use Rattle.epx_report.proofs.view_lines.name_line.Goals as goal
 pub returns : goal.returns
 returns c =
     let last = c.in_ok-out.out in
-    let ts = begin_array ∷ string c.args.name.now ∷ [] in
-    let same : last.tokens ≡ ts =
-    c.in_ok-out.ensures.tokens in
-    let kept : last.before ≡ [] = c.in_ok-out.ensures.before in
-    line_alone (value.string c.args.name.now ∷ []) ts last.tokens c.new-text.result.items
-    last.before c.end_line.new.text.items c.new-text.ensures.items same kept refl
-    c.in_ok-end_line.ensures
+    line_alone (value.string c.args.name.now ∷ []) last.tokens last.before c.new-text.result.items
+    c.end_line.new.text.items (rw (c.in_ok-out.ensures.tokens) refl)
+    (rw (c.in_ok-out.ensures.before) refl) c.new-text.ensures.items c.in_ok-end_line.ensures

@@ -1,5 +1,5 @@
 use Rattle.std.proofs.Common.{IfOk, sym, subst}
-use Rattle.epx_tool.specs.inner.Questions.{IsTextOf}
+use Rattle.epx_tool.specs.Questions.{IsTextOf}
 use Rattle.epx_tool.proofs.map_texts.text_of.Goals as goal
 
 pub returns-in-Report : goal.returns-in-Report

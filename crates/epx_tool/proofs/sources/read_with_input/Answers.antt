@@ -1,8 +1,6 @@
-use Rattle.std.proofs.Common.{◌≡◌, ◌+◌, ℕ, List, Option, length, inl, inr, refl, ap, sym}
-use Rattle.std.proofs.Common.{◌∙◌, subst}
+use Rattle.std.proofs.Common.{◌≡◌, ◌+◌, ℕ, List, Option, length, inl, inr, refl, ap}
+use Rattle.std.proofs.Common.{sym, ◌∙◌, subst, arith}
 use Rattle.std.specs.Prelude.{IfSome}
-use Rattle.std.proofs.lemmas.List.{length-map}
-use Rattle.std.proofs.lemmas.Option.{slice_get_within}
 use Rattle.epx_types.specs.declared.fault.Fault.TheVariants.{TooManyLogs, Read, Write}
 use Rattle.epx_devices.specs.Deliveries.{IsLogStop}
 use Rattle.epx_devices.specs.Transfers.{ConsumesExactly}
@@ -12,12 +10,12 @@ use Rattle.epx_merge.specs.LogLines.{bytes_of}
 use Rattle.epx_tool.proofs.ConsumedLemmas.{nothing_consumed}
 use Rattle.epx_tool.proofs.LogsWithInputLemmas.{reading_refusal_with_input}
 use Rattle.epx_tool.proofs.LogsWithInputLemmas.{refusal_of_reading_with_input}
-use Rattle.epx_tool.proofs.ReturnedFaultLemmas.{same_error, same_error_iff, same_stop}
-use Rattle.epx_tool.proofs.ReturnedFaultLemmas.{neither, other_iff, ok_is_no_fault}
+use Rattle.epx_tool.proofs.ReturnedFaultLemmas.{same_error, neither, ok_is_no_fault}
 use Rattle.epx_tool.proofs.ReturnedFaultLemmas.{ok_does_not_stop, ok_failed_iff}
 use Rattle.epx_tool.proofs.ReturnedFaultLemmas.{input_not_write, input_not_too_many}
-use Rattle.epx_tool.proofs.ReturnedFaultLemmas.{input_not_log, input_failed_iff}
-use Rattle.epx_tool.proofs.ReturnedFaultLemmas.{stops_at_input, no_log_below, same_past_end}
+use Rattle.epx_tool.proofs.ReturnedFaultLemmas.{input_failed_iff, stops_at_input}
+use Rattle.epx_tool.proofs.ReturnedFaultLemmas.{HasRead-input, HasRead-written}
+use Rattle.epx_tool.proofs.RunEndingLemmas.{leaves_again, leaves_after}
 use Rattle.epx_tool.proofs.sources.read_with_input.Goals as goal
 
 pub returns-in-Err : goal.returns-in-Err
@@ -27,7 +25,6 @@ returns-in-Err g c =
     let count = length c.args.sources.now in record {
       text = tt;
       bytes = tt;
-      each = tt;
       short = tt;
       fit = tt;
       delivered = tt;
@@ -35,19 +32,16 @@ returns-in-Err g c =
           reading_refusal_with_input logs before fault (read.refusal logs are);
       stopped = inl read.stopped;
       nothing_written = λ is. read.nothing_written (same_error fault Write is);
-      failed = λ log source there. same_error_iff fault (Read log) _ (read.failed log source there);
-      input_failed = neither _ _
-          (λ is. no_log_below count count count refl refl
-          (read.place count (inr (same_error fault (Read count) is))))
-          c.requires.input;
-      taken = read.taken;
-      input_taken = nothing_consumed (max_log_bytes + 1) (g.B.Source.remaining c.args.input.now);
-      ended = tt;
-      input_ended = tt;
-      no_further = λ log stops. read.no_further log (same_stop fault log stops);
-      input_untouched = λ log stops lower. refl;
-      too_many = same_error_iff fault TooManyLogs _ read.too_many;
-      none_read = λ is. (read.none_read (same_error fault TooManyLogs is), refl);
+      sources_left = leaves_again _ _ _ _ fault read.sources;
+      input_left = record {
+        read = neither _ _ (λ is.
+            let below = read.place count (inr (same_error fault (Read count) is)) in
+            omega (arith, below)) c.requires.input;
+        taken = nothing_consumed (max_log_bytes + 1) (g.B.Source.remaining c.args.input.now);
+        ended = tt;
+        untouched = λ log stops lower. refl;
+        none_read = λ is. refl;
+      };
     }
 
 pub returns-in-Err-read_log : goal.returns-in-Err-read_log
@@ -56,15 +50,13 @@ returns-in-Err-read_log g c =
     let fault = c.in-Err-read_log.fault in
     let of_input = c.in-Err-read_log.ensures in
     let old = c.args.sources.now in
-    let new = c.read_sources.new.sources in
-    let count = length new in
+    let count = length c.read_sources.new.sources in
     let many = c.read_sources.auto.sources in
     let StopsAt : ℕ → Type 0 = λ n.
     IsLogStop g.B.Source.reads g.B.Source.fails n c.args.input.now c.read_log.new.source fault in
     record {
       text = tt;
       bytes = tt;
-      each = tt;
       short = tt;
       fit = tt;
       delivered = tt;
@@ -85,21 +77,17 @@ returns-in-Err-read_log g c =
         stopped = subst StopsAt many of_input.stops;
       });
       nothing_written = input_not_write count fault of_input.faults;
-      failed = λ log source there. other_iff _ _ (Read log) _
-          (input_not_log count fault of_input.faults log (slice_get_within new log source there))
-          (read.failed log source there);
-      input_failed = input_failed_iff fault count (length old) _ many of_input.failed;
-      taken = read.taken;
-      input_taken = of_input.no_further;
-      ended = tt;
-      input_ended = tt;
-      no_further = λ log stops. same_past_end new old log many
-          (stops_at_input count fault of_input.faults log stops);
-      input_untouched = λ log stops lower. absurd (no_log_below log count (length old)
-          (stops_at_input count fault of_input.faults log stops) many lower);
-      too_many = other_iff _ _ TooManyLogs _
-          (input_not_too_many count fault of_input.faults) read.too_many;
-      none_read = λ is. absurd (input_not_too_many count fault of_input.faults is);
+      sources_left = leaves_after _ _ _ _ count _ _ (omega (arith, many))
+          (HasRead-input count fault of_input.faults) read.sources;
+      input_left = record {
+        read = input_failed_iff fault count (length old) _ many of_input.failed;
+        taken = of_input.no_further;
+        ended = tt;
+        untouched = λ log stops lower.
+            let at = stops_at_input count fault of_input.faults log stops in
+            absurd (omega (arith, at, many, lower));
+        none_read = λ is. absurd (input_not_too_many count fault of_input.faults is);
+      };
     }
 
 pub returns-in-Ok-read_log : goal.returns-in-Ok-read_log
@@ -109,22 +97,19 @@ returns-in-Ok-read_log g c =
       text = λ before known.
           subst (λ o. IfSome o (λ all. c.in-Ok-read_log.text.items ≡ all)) known of_input.bytes;
       bytes = read.bytes;
-      each = sym (length-map c.in-Ok.logs.items (λ log. log.items)) ∙ read.delivered.as_many;
       short = of_input.fits;
       fit = read.fit;
       delivered = record { of_input = of_input.delivered; of_logs = read.delivered };
       refusal = tt;
       stopped = tt;
       nothing_written = ok_is_no_fault _ Write;
-      failed = λ log source there. other_iff _ _ (Read log) _ (ok_is_no_fault _ (Read log))
-          (read.failed log source there);
-      input_failed = ok_failed_iff _ _ _ _ _ of_input.failed;
-      taken = read.taken;
-      input_taken = of_input.no_further;
-      ended = read.ended;
-      input_ended = of_input.end;
-      no_further = λ log stops. absurd (ok_does_not_stop _ log stops);
-      input_untouched = λ log stops lower. absurd (ok_does_not_stop _ log stops);
-      too_many = other_iff _ _ TooManyLogs _ (ok_is_no_fault _ TooManyLogs) read.too_many;
-      none_read = λ is. absurd (ok_is_no_fault _ TooManyLogs is);
+      sources_left = leaves_after _ _ _ _ (length c.args.sources.now) _ _ (omega arith)
+          (HasRead-written _ _ tt) read.sources;
+      input_left = record {
+        read = ok_failed_iff _ _ _ _ _ of_input.failed;
+        taken = of_input.no_further;
+        ended = of_input.end;
+        untouched = λ log stops lower. absurd (ok_does_not_stop _ log stops);
+        none_read = λ is. absurd (ok_is_no_fault _ TooManyLogs is);
+      };
     }

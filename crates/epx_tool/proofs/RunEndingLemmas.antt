@@ -1,0 +1,123 @@
+-- How a run ends, by how reading its sources ended and by what it wrote.
+use Rattle.std.proofs.Common.{◌≡◌, ◌↔◌, ◌<◌, ◌≤◌, ℕ, Bool, true, false, List, length, Option}
+use Rattle.std.proofs.Common.{Result, Ok, Err, IsErrOf, sym, subst, inr, arith}
+use Rattle.std.proofs.lemmas.Option.{slice_get_within}
+use Rattle.std.proofs.lemmas.Result.{on_ok_weaker, IfErr-weaker}
+use Rattle.std.specs.Io.KnownBytes.{Appends}
+use Rattle.std.specs.Prelude.{OnOk, IfErr, IsErr}
+use Rattle.epx_types.specs.declared.fault.Fault.{Fault}
+use Rattle.epx_types.specs.declared.fault.Fault.TheVariants.{TooManyLogs, Read, Write}
+use Rattle.epx_devices.specs.Transfers.{AppendsPrefix}
+use Rattle.epx_tool.specs.RunEndings.{WritesAnswer}
+use Rattle.epx_tool.specs.Sources.{LeavesSources, LeavesInput}
+use Rattle.epx_tool.proofs.ConsumedLemmas.{as_many_consumed}
+use Rattle.epx_tool.proofs.ReturnedFaultLemmas.{same_error, same_error_iff, same_stop, HasRead}
+use Rattle.epx_tool.proofs.ReturnedFaultLemmas.{neither, other_iff, same_past_end, written_iff}
+use Rattle.epx_tool.proofs.ReturnedFaultLemmas.{on_ok, keeps_itself}
+
+-- ---- the sources
+
+module _ {S T V : Type 0} (remaining : S → Option (List ℕ)) (has_failed : S → Bool)
+    (old new : List S) where
+  -- the fault of the reading is returned
+  pub leaves_again : (fault : Fault)
+      → LeavesSources {T = T} remaining has_failed old new (Err fault)
+      → LeavesSources {T = V} remaining has_failed old new (Err fault)
+  leaves_again fault h = record {
+    read = λ log source there. same_error_iff fault (Read log) _ (h.read log source there);
+    taken = h.taken;
+    ended = tt;
+    no_further = λ log stops. h.no_further log (same_stop fault log stops);
+    too_many = same_error_iff fault TooManyLogs _ h.too_many;
+    none_read = λ is. h.none_read (same_error fault TooManyLogs is);
+  }
+
+  -- the sources were read, and what is returned is no fault of theirs
+  pub leaves_after : (n : ℕ) (x : T) (result : Result V Fault) → length old ≤ n → HasRead n result
+      → LeavesSources remaining has_failed old new (Ok x)
+      → LeavesSources remaining has_failed old new result
+  leaves_after n x result all has h =
+      let many : length new ≡ length old = as_many_consumed remaining _ old new h.taken in record {
+        read = λ log source there. other_iff result x (Read log) _
+            (λ is. let far = has.not_stopped log (inr is) in
+            omega (arith, far, all, many, slice_get_within new log source there))
+            (h.read log source there);
+        taken = h.taken;
+        ended = on_ok result _ h.ended;
+        no_further = λ log stops. let far = has.not_stopped log stops in
+            same_past_end new old log many (omega (arith, far, all, many));
+        too_many = other_iff result x TooManyLogs _ has.not_too_many h.too_many;
+        none_read = λ is. absurd (has.not_too_many is);
+      }
+
+module _ {I T V : Type 0} (remaining : I → Option (List ℕ)) (has_failed : I → Bool)
+    (first last : I) (count : ℕ) where
+  pub input_again : (fault : Fault)
+      → LeavesInput {T = T} remaining has_failed first last count (Err fault)
+      → LeavesInput {T = V} remaining has_failed first last count (Err fault)
+  input_again fault h = record {
+    read = same_error_iff fault (Read count) _ h.read;
+    taken = h.taken;
+    ended = tt;
+    untouched = λ log stops lower. h.untouched log (same_stop fault log stops) lower;
+    none_read = λ is. h.none_read (same_error fault TooManyLogs is);
+  }
+
+  pub input_after : (n : ℕ) (x : T) (result : Result V Fault) → count < n → HasRead n result
+      → LeavesInput remaining has_failed first last count (Ok x)
+      → LeavesInput remaining has_failed first last count result
+  input_after n x result all has h = record {
+    read = other_iff result x (Read count) _
+        (λ is. let far = has.not_stopped count (inr is) in omega (arith, far, all)) h.read;
+    taken = h.taken;
+    ended = on_ok result _ h.ended;
+    untouched = λ log stops lower. let far = has.not_stopped log stops in
+        absurd (omega (arith, far, all, lower));
+    none_read = λ is. absurd (has.not_too_many is);
+  }
+
+-- ---- the sink
+
+module _ {Given : Type 0} (OfKnown : (Given → Type 0) → Type 0)
+    (Answer : Given → List ℕ → Type 0) (IsFault : Given → Fault → Type 0)
+    (Delivered : (List ℕ → Type 0) → Type 0) (Ends : Fault → Type 0) (was : Option (List ℕ))
+    (is_flushed sink_failed : Bool) where
+  -- nothing was written
+  pub writes_nothing : (fault : Fault) → sink_failed ≡ false
+      → ¬ IsErrOf {T = Unit {0}} (Err fault) Write → OfKnown (λ given. IsFault given fault)
+      → Ends fault
+      → WritesAnswer OfKnown Answer IsFault Delivered Ends was was is_flushed sink_failed
+      (Err fault)
+  writes_nothing fault well other refusal refused = record {
+    text = tt;
+    answered = tt;
+    flushed = tt;
+    refusal = refusal;
+    refused = λ _. refused;
+    nothing = λ _. keeps_itself was;
+    prefix = λ is. absurd (other is);
+    part = λ is. absurd (other is);
+    written = neither _ _ other well;
+  }
+
+  -- the text was written, whole or in part
+  pub writes_text : (now : Option (List ℕ)) (text : List ℕ) (done : Result (Unit {0}) Fault)
+      → ((P : Given → Type 0) → ((given : Given) → Answer given text → P given) → OfKnown P)
+      → ((Written : List ℕ → Type 0) → Written text → Delivered Written)
+      → ((given : Given) → Answer given text → IsFault given Write)
+      → OnOk done (Appends was now text) → OnOk done (is_flushed ≡ true)
+      → IfErr done (λ fault. fault ≡ Write) → IsErr done ↔ (sink_failed ≡ true)
+      → AppendsPrefix was now text
+      → WritesAnswer OfKnown Answer IsFault Delivered Ends was now is_flushed sink_failed done
+  writes_text now text done known delivered faulty bytes flushed faults failed prefix = record {
+    text = on_ok_weaker done (λ written. known _ (λ given is. (text, is, written))) bytes;
+    answered = on_ok_weaker done (λ written. delivered _ written) bytes;
+    flushed = flushed;
+    refusal = IfErr-weaker done _ _ (λ fault is. known _
+        (λ given answer. subst (IsFault given) (sym is) (faulty given answer))) faults;
+    refused = IfErr-weaker done _ _ (λ fault is other. absurd (other is)) faults;
+    nothing = IfErr-weaker done _ _ (λ fault is other. absurd (other is)) faults;
+    prefix = λ is. known _ (λ given answer. (text, answer, prefix));
+    part = λ is. delivered _ prefix;
+    written = written_iff done _ faults failed;
+  }
