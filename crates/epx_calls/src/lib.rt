@@ -12,6 +12,8 @@ mod bases;
 #[cfg(test)]
 mod claims;
 #[cfg(test)]
+mod comparisons;
+#[cfg(test)]
 mod devices;
 #[cfg(test)]
 mod effects;

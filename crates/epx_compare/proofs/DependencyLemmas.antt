@@ -1,0 +1,225 @@
+-- The dependencies of an instance, by its lines and by its versions.
+use Rattle.std.proofs.Common.{◌≡◌, ◌∙◌, ◌↔◌, inl, inr, ℕ, ◌<◌, Bool, true, false, not, ◌&&◌, List}
+use Rattle.std.proofs.Common.{[], ◌∷◌, length, map, filter, All, Contains, Option, Some, None}
+use Rattle.std.proofs.Common.{slice_get, refl, sym, ap, subst}
+use Rattle.std.specs.List.{list_any}
+use Rattle.std.specs.Cmp.{first_so, second_so}
+use Rattle.std.specs.Option.{option_map_or}
+use Rattle.std.proofs.lemmas.Bool.{cases_Bool}
+use Rattle.std.proofs.lemmas.List.Folds.{list_any_at}
+use Rattle.std.proofs.lemmas.List.Elements.{All-contains_itself, All-weaker}
+use Rattle.std.proofs.lemmas.Option.{slice_get_within}
+use Rattle.epx_rows.specs.Rows.{row_of}
+use Rattle.epx_types.specs.declared.id.Id.{Id}
+use Rattle.epx_types.specs.Ids.{IsRising}
+use Rattle.epx_types.specs.Instances.{Instance}
+use Rattle.epx_types.specs.PlacedLines.{Placed}
+use Rattle.epx_types.proofs.lists.ListPositionLemmas.{slice_get-from_Contains, Contains-slice_get}
+use Rattle.epx_types.proofs.lists.ListPositionLemmas.{slice_get-map, slice_get-from_map}
+use Rattle.epx_types.proofs.lists.MembershipLemmas.{Contains-nil, Contains-head, Contains-cons}
+use Rattle.epx_types.proofs.lists.MembershipLemmas.{Contains-cons_cases, Contains-filter}
+use Rattle.epx_types.proofs.lists.MembershipLemmas.{Contains-from_filter, Contains-flat_map}
+use Rattle.epx_types.proofs.lists.MembershipLemmas.{Contains-from_flat_map}
+use Rattle.epx_merge.specs.LogLines.{BadLineAt}
+use Rattle.epx_compare.proofs.IdPositionLemmas.{one_position}
+use Rattle.epx_compare.specs.declared.catalog.Catalog.{Catalog}
+use Rattle.epx_compare.specs.Differences.{versions_of}
+use Rattle.epx_compare.specs.SameInstances.{same_id, same_instance}
+use Rattle.epx_compare.specs.Unmet.{depends_on}
+use Rattle.epx_compare.specs.inner.Catalogs.{IsCatalogOf, version_ids}
+use Rattle.epx_compare.specs.inner.EqualVersions.{ids_decide, same_by_test}
+use Rattle.epx_compare.specs.inner.UnmetCounts.{is_unmet, deps_at, deps_of}
+
+-- ---- tests
+
+-- two tests that imply each other have the same answer
+pub same_answer : (a b : Bool) → (a ≡ true → b ≡ true) → (b ≡ true → a ≡ true) → a ≡ b
+same_answer true true f g = refl
+same_answer true false f g = sym (f refl)
+same_answer false true f g = g refl
+same_answer false false f g = refl
+
+-- an element that passes
+pub passing : {X : Type 0} (p : X → Bool) (xs : List X) → list_any p xs ≡ true
+    → (x : X) × Contains xs x × (p x ≡ true)
+passing p [] h = absurd (cc h)
+passing p (x ∷ xs) h =
+    elim (cases_Bool (p x)) [
+      | inl here ↦ (x, Contains-head x xs, here)
+      | inr other ↦ let rest = passing p xs (rw other at h) in
+          (rest.0, Contains-cons x xs rest.0 rest.1, rest.2)
+    ]
+
+pub from_passing : {X : Type 0} (p : X → Bool) (xs : List X) (x : X) → Contains xs x
+    → p x ≡ true → list_any p xs ≡ true
+from_passing p xs x h passes = list_any_at p xs h.0 x h.1 (ap p h.2 ∙ passes)
+
+-- the test whether an Id is in a list
+pub from_member : (x : Id) (ids : List Id) → Contains ids x
+    → list_any (λ d. same_id d x) ids ≡ true
+from_member x ids h = from_passing (λ d. same_id d x) ids x h ((ids_decide x x).1 refl)
+
+pub member : (x : Id) (ids : List Id) → list_any (λ d. same_id d x) ids ≡ true → Contains ids x
+member x ids h =
+    let found = passing (λ d. same_id d x) ids h in
+    subst (Contains ids) ((ids_decide found.0 x).0 found.2) found.1
+
+pub from_listed : (x : Id) (ids : List Id) → Contains ids x → list_any (same_id x) ids ≡ true
+from_listed x ids h = from_passing (same_id x) ids x h ((ids_decide x x).1 refl)
+
+pub listed : (x : Id) (ids : List Id) → list_any (same_id x) ids ≡ true → Contains ids x
+listed x ids h =
+    let found = passing (same_id x) ids h in
+    subst (Contains ids) (sym ((ids_decide x found.0).0 found.2)) found.1
+
+pub both_so : (a b : Bool) → a ≡ true → b ≡ true → (a && b) ≡ true
+both_so a b p q = cc
+
+-- lists with the same elements have the same dependencies
+pub same_unmet : (ids deps more : List Id) → ((x : Id) → Contains deps x ↔ Contains more x)
+    → (x : Id) → is_unmet ids deps x ≡ is_unmet ids more x
+same_unmet ids deps more same x = ap (λ b. not (list_any (same_id x) ids) && b)
+    (same_answer (list_any (λ d. same_id d x) deps) (list_any (λ d. same_id d x) more)
+    (λ h. from_member x more ((same x).0 (member x deps h)))
+    (λ h. from_member x deps ((same x).1 (member x more h))))
+
+-- ---- lines and what they commit
+
+-- a line commits each version
+pub line_of_version : (lines : List Placed) (e : Instance) → Contains (versions_of lines) e
+    → (p : Placed) × Contains lines p × (p.instance ≡ e)
+line_of_version [] e h = absurd (Contains-nil e h)
+line_of_version (p ∷ lines) e h =
+    let others = λ (d : Instance). not (same_instance p.instance d) in
+    elim (Contains-cons_cases p.instance (filter others (versions_of lines)) e h) [
+      | inl is ↦ (p, Contains-head p lines, is)
+      | inr rest ↦
+          let found = line_of_version lines e
+          (Contains-from_filter others (versions_of lines) e rest) in
+          (found.0, Contains-cons p lines found.0 found.1, found.2)
+    ]
+
+-- each line commits a version
+pub version_of_line : (lines : List Placed) (p : Placed) → Contains lines p
+    → Contains (versions_of lines) p.instance
+version_of_line [] p h = absurd (Contains-nil p h)
+version_of_line (q ∷ lines) p h =
+    let others = λ (d : Instance). not (same_instance q.instance d) in
+    let all : List Instance = q.instance ∷ filter others (versions_of lines) in
+    let first : Contains all q.instance =
+    Contains-head q.instance (filter others (versions_of lines)) in
+    elim (Contains-cons_cases q lines p h) [
+      | inl is ↦ subst (Contains all) (ap (λ (l : Placed). l.instance) is) first
+      | inr rest ↦ elim (cases_Bool (same_instance q.instance p.instance)) [
+        | inl same ↦ subst (Contains all) (same_by_test q.instance p.instance same) first
+        | inr other ↦ Contains-cons q.instance (filter others (versions_of lines)) p.instance
+            (Contains-filter others (versions_of lines) p.instance (version_of_line lines p rest)
+            (ap not other))
+      ]
+    ]
+
+-- ---- positions
+
+module _ (versions : List Instance) (n : ℕ) (x : Id) where
+  -- a dependency of a version
+  dep_at : (e : Instance) → slice_get versions n ≡ Some e → Contains e.deps x
+      → Contains (deps_at versions n) x
+  dep_at e is h =
+      let P : Option Instance → Type 0 = λ o. Contains (option_map_or (λ d. d.deps) o []) x in
+      subst P (sym is) h
+
+  at_dep : (o : Option Instance) → slice_get versions n ≡ o
+      → Contains (option_map_or (λ d. d.deps) o []) x
+      → (e : Instance) × (slice_get versions n ≡ Some e) × Contains e.deps x
+  at_dep None is h = absurd (Contains-nil x h)
+  at_dep (Some e) is h = (e, is, h)
+
+module _ (lines : List Placed) (bad : List BadLineAt) (c : Catalog)
+    (catalogs : IsCatalogOf lines bad c) where
+  -- the position of the instance of a version
+  version_position : (n : ℕ) (e : Instance) → slice_get (versions_of lines) n ≡ Some e
+      → (j : ℕ) × (slice_get c.positions.items n ≡ Some j) × (slice_get c.ids j ≡ Some e.id)
+  version_position n e is =
+      let id : slice_get (version_ids lines) n ≡ Some e.id =
+      slice_get-map (λ (d : Instance). d.id) (versions_of lines) n e is in
+      let some : slice_get (map (slice_get c.ids) c.positions.items) n ≡ Some (Some e.id) =
+      ap (λ l. slice_get l n) catalogs.positions
+      ∙ slice_get-map Some (version_ids lines) n e.id id in
+      slice_get-from_map (slice_get c.ids) c.positions.items n (Some e.id) some
+
+  -- the version at a position of an instance
+  position_version : (n j : ℕ) → slice_get c.positions.items n ≡ Some j
+      → (e : Instance) × (slice_get (versions_of lines) n ≡ Some e)
+      × (slice_get c.ids j ≡ Some e.id)
+  position_version n j is =
+      let found : slice_get (map Some (version_ids lines)) n ≡ Some (slice_get c.ids j) =
+      ap (λ l. slice_get l n) (sym catalogs.positions)
+      ∙ slice_get-map (slice_get c.ids) c.positions.items n j is in
+      let own = slice_get-from_map Some (version_ids lines) n (slice_get c.ids j) found in
+      let version = slice_get-from_map (λ (d : Instance). d.id) (versions_of lines) n own.0
+      own.1 in
+      (version.0, version.1, sym own.2 ∙ ap Some (sym version.2))
+
+  -- the numbers of an instance are of versions
+  pub numbers_known : (k : ℕ)
+      → All (λ n. n < length c.noted.versions.keys) (row_of c.versions k)
+  numbers_known k = All-weaker (Contains (row_of c.versions k))
+      (λ n. n < length c.noted.versions.keys)
+      (λ n h. let version = position_version n k ((catalogs.versions.exact k n).0 h) in
+      let within = slice_get_within (versions_of lines) n version.0 version.1 in
+      subst (λ (l : List Instance). n < length l) (sym catalogs.noted.versions) within)
+      (row_of c.versions k) (All-contains_itself (row_of c.versions k))
+
+  module _ (rising : IsRising c.ids) (k : ℕ) (y : Id) (here : slice_get c.ids k ≡ Some y)
+      (x : Id) where
+    from_line : depends_on lines x y ≡ true
+        → Contains (deps_of c.noted.versions.keys (row_of c.versions k)) x
+    from_line h =
+        let test = λ (p : Placed). same_id p.instance.id y
+        && list_any (λ d. same_id d x) p.instance.deps in
+        let found = passing test lines h in
+        let e = found.0.instance in
+        let id : e.id ≡ y = (ids_decide e.id y).0 (first_so (same_id e.id y) _ found.2) in
+        let dep : Contains e.deps x = member x e.deps (second_so (same_id e.id y) _ found.2) in
+        let at = slice_get-from_Contains (versions_of lines) e
+        (version_of_line lines found.0 found.1) in
+        let position = version_position at.0 e at.1 in
+        let same : position.0 ≡ k = one_position c.ids rising position.0 k y
+        (position.2 ∙ ap Some id) here in
+        let number : Contains (row_of c.versions k) at.0 =
+        (catalogs.versions.exact k at.0).1 (position.1 ∙ ap Some same) in
+        let keys : slice_get c.noted.versions.keys at.0 ≡ Some e =
+        ap (λ l. slice_get l at.0) catalogs.noted.versions ∙ at.1 in
+        Contains-flat_map (deps_at c.noted.versions.keys) (row_of c.versions k) at.0 x number
+        (dep_at c.noted.versions.keys at.0 x e keys dep)
+
+    to_line : Contains (deps_of c.noted.versions.keys (row_of c.versions k)) x
+        → depends_on lines x y ≡ true
+    to_line h =
+        let keys = c.noted.versions.keys in
+        let found = Contains-from_flat_map (deps_at keys) (row_of c.versions k) x h in
+        let n = found.0 in
+        let own = at_dep keys n x (slice_get keys n) refl found.2 in
+        let version = position_version n k ((catalogs.versions.exact k n).0 found.1) in
+        let same : Some own.0 ≡ Some version.0 = sym own.1
+        ∙ ap (λ l. slice_get l n) catalogs.noted.versions ∙ version.1 in
+        let is : own.0 ≡ version.0 = cc same in
+        let id : Some version.0.id ≡ Some y = sym version.2 ∙ here in
+        let named : version.0.id ≡ y = cc id in
+        let line = line_of_version lines version.0
+        (Contains-slice_get (versions_of lines) n version.0 version.1) in
+        let e = line.0.instance in
+        let whole : own.0 ≡ e = is ∙ sym line.2 in
+        let dep : Contains e.deps x = subst (λ (d : Instance). Contains d.deps x) whole own.2 in
+        let own_id : e.id ≡ y = ap (λ (d : Instance). d.id) line.2 ∙ named in
+        from_passing (λ p. same_id p.instance.id y && list_any (λ d. same_id d x) p.instance.deps)
+        lines line.0 line.1 (both_so (same_id e.id y) (list_any (λ d. same_id d x) e.deps)
+        ((ids_decide e.id y).1 own_id) (from_member x e.deps dep))
+
+    -- an instance depends on x exactly where its versions do
+    pub depends_here : depends_on lines x y
+        ≡ list_any (λ d. same_id d x) (deps_of c.noted.versions.keys (row_of c.versions k))
+    depends_here =
+        let deps = deps_of c.noted.versions.keys (row_of c.versions k) in
+        same_answer (depends_on lines x y) (list_any (λ d. same_id d x) deps)
+        (λ h. from_member x deps (from_line h)) (λ h. to_line (member x deps h))

@@ -1,0 +1,201 @@
+-- The versions and the places of a catalog, by instance and by version.
+use Rattle.std.proofs.Common.{◌≡◌, ◌∙◌, ◌+◌, ◌<◌, ◌==◌, ◌∷◌, ℕ, true, List, [], Option, Some, map}
+use Rattle.std.proofs.Common.{filter, length, slice_get, slice_index_or, All, Contains, refl, sym}
+use Rattle.std.proofs.Common.{ap, subst, arith}
+use Rattle.std.proofs.lemmas.Bool.Decides.{nat_tests}
+use Rattle.std.proofs.lemmas.List.{length-map, get_or_default}
+use Rattle.std.proofs.lemmas.List.Elements.{Contains-get_or}
+use Rattle.std.proofs.lemmas.Simd.{map-map}
+use Rattle.std.proofs.lemmas.Option.{slice_get_within, get_or_from_slice_get}
+use Rattle.epx_types.proofs.lists.ListPositionLemmas.{slice_get-map, slice_get-from_map}
+use Rattle.epx_types.proofs.lists.MembershipLemmas.{map-agree, passes-from_filter}
+use Rattle.epx_types.specs.declared.id.Id.{Id}
+use Rattle.epx_types.specs.Ids.{IsRising}
+use Rattle.epx_types.specs.Instances.{Instance}
+use Rattle.epx_types.specs.PlacedLines.{Placed}
+use Rattle.epx_merge.specs.LogLines.{BadLineAt}
+use Rattle.epx_rows.specs.PositionGroups.{AreGroupsOf}
+use Rattle.epx_rows.specs.Rows.{row_of}
+use Rattle.epx_compare.specs.declared.catalog.Catalog.{Catalog}
+use Rattle.epx_compare.specs.declared.noted.Row.{Row}
+use Rattle.epx_compare.specs.ComparisonLines.{group_data}
+use Rattle.epx_compare.specs.Differences.{lines_of_id, versions_of, places_of, groups_of}
+use Rattle.epx_compare.specs.SameInstances.{same_id}
+use Rattle.epx_compare.specs.inner.Catalogs.{IsCatalogOf, version_ids}
+use Rattle.epx_compare.specs.inner.EqualVersions.{ids_decide}
+use Rattle.epx_compare.specs.inner.NumberedVersions.{version_at, place_at}
+use Rattle.epx_compare.proofs.IdPositionLemmas.{one_position}
+use Rattle.epx_compare.proofs.DifferenceLemmas.{versions_of-own, places_by_number}
+use Rattle.epx_compare.proofs.DifferenceLemmas.{places_of-own}
+use Rattle.epx_compare.proofs.PositionLemmas.{at_passing}
+
+-- ---- values at positions
+
+-- the values at positions, also read with a default
+pub values_at : {X : Type 0} (xs : List X) (d : X) (ps : List ℕ) (ys : List X)
+    → map (slice_get xs) ps ≡ map Some ys → map (λ p. slice_index_or xs p d) ps ≡ ys
+values_at xs d [] [] h = refl
+values_at xs d [] (y ∷ ys) h = absurd (cc)
+values_at xs d (p ∷ ps) [] h = absurd (cc)
+values_at xs d (p ∷ ps) (y ∷ ys) h =
+    let front : slice_get xs p ≡ Some y = cc in
+    let rest : map (slice_get xs) ps ≡ map Some ys = cc in
+    let first = get_or_from_slice_get xs p y d front in
+    let later = values_at xs d ps ys rest in
+    λ i. first i ∷ later i
+
+-- what two functions say of the values
+pub agree_at : {X Y : Type 0} (xs : List X) (f : ℕ → Y) (g : X → Y)
+    → ((p : ℕ) (x : X) → slice_get xs p ≡ Some x → f p ≡ g x) → (ps : List ℕ) (ys : List X)
+    → map (slice_get xs) ps ≡ map Some ys → map f ps ≡ map g ys
+agree_at xs f g same [] [] h = refl
+agree_at xs f g same [] (y ∷ ys) h = absurd (cc)
+agree_at xs f g same (p ∷ ps) [] h = absurd (cc)
+agree_at xs f g same (p ∷ ps) (y ∷ ys) h =
+    let front : slice_get xs p ≡ Some y = cc in
+    let rest : map (slice_get xs) ps ≡ map Some ys = cc in
+    let first = same p y front in
+    let later = agree_at xs f g same ps ys rest in
+    λ i. first i ∷ later i
+
+-- the positions of each group are within the list
+pub groups_within : (numbers : List ℕ) (groups : List (List ℕ)) → AreGroupsOf numbers groups
+    → (j : ℕ) → All (λ p. p < length numbers) (row_of groups j)
+groups_within numbers groups are j k d within =
+    let p = slice_index_or (row_of groups j) k d in
+    slice_get_within numbers p j ((are.exact j p).0 (Contains-get_or (row_of groups j) k d within))
+
+-- ---- rows of a version
+
+pub rows_of_version : (rows : List Row) (groups : List (List ℕ))
+    → AreGroupsOf (map (λ r. r.version) rows) groups → (v : ℕ)
+    → map (slice_get rows) (row_of groups v) ≡ map Some (filter (λ r. r.version == v) rows)
+rows_of_version rows groups are v =
+    at_passing (slice_get rows) (λ r. r.version == v) rows 0 (row_of groups v)
+    (λ i. let e : 0 + i ≡ i = omega arith in ap (slice_get rows) e) (record {
+      rising = are.rising v;
+      only = λ p among.
+          let found = slice_get-from_map (λ r. r.version) rows p v ((are.exact v p).0 among) in
+          let n = found.2 in
+          let same : (found.0.version == v) ≡ true = grind (arith, nat_tests) in
+          ((omega arith), (found.0, found.1, same));
+      whole = λ p r from at_p same.
+          let n : r.version ≡ v = grind (arith, nat_tests) in
+          (are.exact v p).1 (slice_get-map (λ r. r.version) rows p r at_p ∙ ap Some n);
+    })
+
+-- the places of the rows of a version are those of the lines that commit it
+pub group_at : (lines : List Placed) (bad : List BadLineAt) (c : Catalog)
+    → IsCatalogOf lines bad c → (v : ℕ) (e : Instance) → slice_get (versions_of lines) v ≡ Some e
+    → map (place_at c.noted.rows.items) (row_of c.lines v) ≡ places_of lines e
+group_at lines bad c catalog v e at =
+    let rows : List Row = c.noted.rows.items in
+    let own : List Row = filter (λ r. r.version == v) rows in
+    let nothing : Row = record { place = record { log = 0; line = 0 }; version = 0 } in
+    agree_at rows (place_at rows) (λ r. r.place)
+    (λ p r here. ap (λ r. r.place) (get_or_from_slice_get rows p r nothing here))
+    (row_of c.lines v) own (rows_of_version rows c.lines catalog.rows v)
+    ∙ places_by_number lines v e at rows lines catalog.noted.rows
+
+-- ---- versions of an instance
+
+module _ (lines : List Placed) (bad : List BadLineAt) (c : Catalog)
+    (catalog : IsCatalogOf lines bad c) where
+  -- the instance of a version, by the position that the catalog has
+  at_version : (p : ℕ) → slice_get (map (slice_get c.ids) c.positions.items) p
+      ≡ slice_get (map Some (version_ids lines)) p
+  at_version p = ap (λ xs. slice_get xs p) catalog.positions
+
+  of_instance : (k : ℕ) (x : Id) → slice_get c.ids k ≡ Some x → (p : ℕ)
+      → slice_get c.positions.items p ≡ Some k
+      → (e : Instance) × (slice_get (versions_of lines) p ≡ Some e) × (same_id e.id x ≡ true)
+  of_instance k x at p here =
+      let some : slice_get (map Some (version_ids lines)) p ≡ Some (Some x) =
+      sym (at_version p) ∙ (slice_get-map (slice_get c.ids) c.positions.items p k here
+      ∙ ap Some at) in
+      let id = slice_get-from_map Some (version_ids lines) p (Some x) some in
+      let found = slice_get-from_map (λ e. e.id) (versions_of lines) p id.0 id.1 in
+      let inner : id.0 ≡ x = (let e = id.2 in cc) in
+      (found.0, found.1, (ids_decide found.0.id x).1 (found.2 ∙ inner))
+
+  is_listed : IsRising c.ids → (k : ℕ) (x : Id) → slice_get c.ids k ≡ Some x → (p : ℕ)
+      (e : Instance) → slice_get (versions_of lines) p ≡ Some e → same_id e.id x ≡ true
+      → slice_get c.positions.items p ≡ Some k
+  is_listed rising k x at p e here own =
+      let id : e.id ≡ x = (ids_decide e.id x).0 own in
+      let listed = slice_get-map (λ d. d.id) (versions_of lines) p e here ∙ ap Some id in
+      let some : slice_get (map (slice_get c.ids) c.positions.items) p ≡ Some (Some x) =
+      at_version p ∙ slice_get-map Some (version_ids lines) p x listed in
+      let found = slice_get-from_map (slice_get c.ids) c.positions.items p (Some x) some in
+      found.1 ∙ ap Some (one_position c.ids rising found.0 k x found.2 at)
+
+  -- the numbers of an instance's versions
+  pub numbers_of : IsRising c.ids → (k : ℕ) (x : Id) → slice_get c.ids k ≡ Some x
+      → map (slice_get (versions_of lines)) (row_of c.versions k)
+      ≡ map Some (versions_of (lines_of_id lines x))
+  numbers_of rising k x at =
+      at_passing (slice_get (versions_of lines)) (λ e. same_id e.id x) (versions_of lines) 0
+      (row_of c.versions k)
+      (λ i. let e : 0 + i ≡ i = omega arith in ap (slice_get (versions_of lines)) e) (record {
+        rising = catalog.versions.rising k;
+        only = λ p among. (
+          (omega arith),
+          of_instance k x at p ((catalog.versions.exact k p).0 among),
+        );
+        whole = λ p e from here own.
+            (catalog.versions.exact k p).1 (is_listed rising k x at p e here own);
+      })
+      ∙ ap (map Some) (sym (versions_of-own lines x))
+
+  -- the groups of an instance's lines
+  pub groups_are : IsRising c.ids → (k : ℕ) (x : Id) → slice_get c.ids k ≡ Some x
+      → map (λ v. group_data (map (place_at c.noted.rows.items) (row_of c.lines v)))
+      (row_of c.versions k) ≡ map group_data (groups_of (lines_of_id lines x))
+  groups_are rising k x at =
+      let own = lines_of_id lines x in
+      agree_at (versions_of lines)
+      (λ v. group_data (map (place_at c.noted.rows.items) (row_of c.lines v)))
+      (λ e. group_data (places_of lines e))
+      (λ v e here. ap group_data (group_at lines bad c catalog v e here))
+      (row_of c.versions k) (versions_of own) (numbers_of rising k x at)
+      ∙ (map-agree (λ e. group_data (places_of lines e)) (λ e. group_data (places_of own e))
+      (versions_of own) (λ e among. ap group_data (sym (places_of-own lines x e
+      (passes-from_filter (λ d. same_id d.id x) (versions_of lines) e
+      (subst (λ es. Contains es e) (versions_of-own lines x) among)))))
+      ∙ sym (map-map group_data (places_of own) (versions_of own)))
+
+  -- the versions with these numbers
+  pub versions_at : IsRising c.ids → (k : ℕ) (x : Id) → slice_get c.ids k ≡ Some x
+      → map (version_at c.noted.versions.keys) (row_of c.versions k)
+      ≡ versions_of (lines_of_id lines x)
+  versions_at rising k x at =
+      let nothing : Instance = record {
+        id = record { replica = 0; number = 0 };
+        seq = 0;
+        deps = [];
+        ops = [];
+      } in
+      ap (λ es. map (version_at es) (row_of c.versions k)) catalog.noted.versions
+      ∙ values_at (versions_of lines) nothing (row_of c.versions k)
+      (versions_of (lines_of_id lines x)) (numbers_of rising k x at)
+
+  positions_long : length c.positions.items ≡ length (versions_of lines)
+  positions_long =
+      let same = ap length catalog.positions in
+      let left = length-map c.positions.items (slice_get c.ids) in
+      let right = length-map {B = Option Id} (version_ids lines) Some in
+      let ids = length-map (versions_of lines) (λ e. e.id) in
+      cc
+
+  pub numbers_within : (k : ℕ) → All (λ v. v < length (versions_of lines)) (row_of c.versions k)
+  numbers_within k = subst (λ n. All (λ v. v < n) (row_of c.versions k)) positions_long
+      (groups_within c.positions.items c.versions catalog.versions k)
+
+  pub rows_within : All (All (λ index. index < length c.noted.rows.items)) c.lines
+  rows_within v d within =
+      let row : slice_index_or c.lines v d ≡ row_of c.lines v =
+      get_or_default c.lines v d [] within in
+      subst (All (λ index. index < length c.noted.rows.items)) (sym row)
+      (subst (λ n. All (λ index. index < n) (row_of c.lines v))
+      (length-map c.noted.rows.items (λ r. r.version))
+      (groups_within (map (λ r. r.version) c.noted.rows.items) c.lines catalog.rows v))

@@ -1,0 +1,17 @@
+mod IdPositionLemmas
+mod VersionLemmas
+mod GapLemmas
+mod CatalogLemmas
+mod LogTextLemmas
+mod MarkLemmas
+mod DependencyLemmas
+mod UnmetCountLemmas
+mod UnmetLemmas
+mod PositionLemmas
+mod DifferenceLemmas
+mod MemberLemmas
+mod GroupLemmas
+mod DifferenceTextLemmas
+mod NamedLemmas
+mod ComparisonLawLemmas
+mod NoDifferenceLemmas

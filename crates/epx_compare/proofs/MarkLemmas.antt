@@ -1,0 +1,73 @@
+-- The marks of a log say which instances it has lines of.
+use Rattle.std.proofs.Common.{◌≡◌, ◌∙◌, ◌==◌, ◌&&◌, ◌||◌, ℕ, List, [], ◌∷◌}
+use Rattle.std.proofs.Common.{zero, suc, map, Some, slice_get, slice_index, refl, sym, ap, arith}
+use Rattle.std.specs.List.{list_any, AllZip}
+use Rattle.std.specs.Bool.{Decides, one_answer}
+use Rattle.std.proofs.lemmas.Bool.Decides.{nat_tests}
+use Rattle.epx_types.specs.declared.id.Id.{Id}
+use Rattle.epx_types.specs.declared.place.Place.{Place}
+use Rattle.epx_types.specs.Ids.{IsRising}
+use Rattle.epx_types.specs.Instances.{Instance}
+use Rattle.epx_types.specs.PlacedLines.{Placed}
+use Rattle.epx_compare.proofs.IdPositionLemmas.{one_position}
+use Rattle.epx_compare.specs.declared.noted.Row.{Row}
+use Rattle.epx_compare.specs.Gaps.{has_line}
+use Rattle.epx_compare.specs.SameInstances.{same_id}
+use Rattle.epx_compare.specs.inner.EqualVersions.{ids_decide}
+use Rattle.epx_compare.specs.inner.LogMarks.{is_line_in}
+use Rattle.epx_compare.specs.inner.NotedRows.{IsRowOf}
+
+nat_eq_decides : (m n : ℕ) → Decides (m == n) (m ≡ n)
+nat_eq_decides m n = (λ h. grind (arith, nat_tests), λ h. grind (arith, nat_tests))
+
+-- the position of a version, and the Id there
+pub position_at : (ids : List Id) (versions : List Instance) (positions : List ℕ)
+    → map (slice_get ids) positions ≡ map Some (map (λ e. e.id) versions)
+    → (v : ℕ) (e : Instance) → slice_get versions v ≡ Some e
+    → slice_get ids (slice_index positions v) ≡ Some e.id
+position_at ids [] positions same v e at = absurd (cc at)
+position_at ids (d ∷ versions) [] same v e at = absurd (cc same)
+position_at ids (d ∷ versions) (k ∷ positions) same zero e at =
+    let here : slice_get ids k ≡ Some d.id = cc same in
+    let own : d ≡ e = cc at in
+    here ∙ ap (λ (i : Instance). Some i.id) own
+position_at ids (d ∷ versions) (k ∷ positions) same (suc v) e at =
+    let rest : map (slice_get ids) positions ≡ map Some (map (λ i. i.id) versions) = cc same in
+    position_at ids versions positions rest v e at
+
+module _ (ids : List Id) (rising : IsRising ids) where
+  module _ (versions : List Instance) (positions : List ℕ)
+      (same : map (slice_get ids) positions ≡ map Some (map (λ e. e.id) versions))
+      (log k : ℕ) (x : Id) (at : slice_get ids k ≡ Some x) where
+    -- a version has this position exactly if its instance has the Id there
+    position_decides : (v : ℕ) (e : Instance) → slice_get versions v ≡ Some e
+        → Decides (slice_index positions v == k) (e.id ≡ x)
+    position_decides v e found =
+        let own = position_at ids versions positions same v e found in (
+          λ h. let there : slice_index positions v ≡ k = (nat_eq_decides _ _).0 h in
+              let both : Some e.id ≡ Some x =
+              sym own ∙ (ap (slice_get ids) there ∙ at) in cc both,
+          λ e_is. (nat_eq_decides _ _).1
+              (one_position ids rising (slice_index positions v) k x (own ∙ ap Some e_is) at),
+        )
+
+    row_test : (row : Row) (p : Placed) → IsRowOf versions row p → is_line_in positions log k row
+        ≡ ((p.place.log == log) && same_id p.instance.id x)
+    row_test row p rel =
+        let decides = position_decides row.version p.instance rel.version in
+        let second = one_answer _ _ decides (ids_decide p.instance.id x) in
+        let first : (row.place.log == log) ≡ (p.place.log == log) =
+        ap (λ (at' : Place). at'.log == log) rel.place in
+        λ i. first i && second i
+
+    -- a row of the log and the instance is there exactly if a line is
+    pub marks_lines : (rows : List Row) (lines : List Placed)
+        → AllZip (IsRowOf versions) rows lines
+        → has_line lines log x ≡ list_any (is_line_in positions log k) rows
+    marks_lines [] [] rel = refl
+    marks_lines [] (p ∷ lines) rel = absurd rel
+    marks_lines (row ∷ rows) [] rel = absurd rel
+    marks_lines (row ∷ rows) (p ∷ lines) rel =
+        let here = row_test row p rel.0 in
+        let rest = marks_lines rows lines rel.1 in
+        λ i. sym here i || rest i

@@ -1,0 +1,51 @@
+use Rattle.std.proofs.Common.{◌≡◌, ◌∙◌, ◌<◌, ℕ, false, List, length, All}
+use Rattle.std.proofs.Common.{slice_get, slice_index_or, sym, ap, subst}
+use Rattle.std.proofs.lemmas.List.{length-map}
+use Rattle.std.specs.List.{list_any}
+use Rattle.epx_types.specs.declared.id.Id.{Id}
+use Rattle.epx_compare.specs.declared.noted.Row.{Row}
+use Rattle.epx_compare.specs.Differences.{versions_of}
+use Rattle.epx_compare.specs.Gaps.{gaps_of, has_line}
+use Rattle.epx_compare.specs.inner.Catalogs.{version_ids}
+use Rattle.epx_compare.specs.inner.LogMarks.{IsMarking, is_line_in}
+use Rattle.epx_compare.proofs.CatalogLemmas.{as_many, positions_within, rows_named}
+use Rattle.epx_compare.proofs.MarkLemmas.{marks_lines}
+use Rattle.epx_compare.proofs.gap_lines.gaps_in.Goals as goal
+
+pub mark_lines-requires-clause-versions : goal.mark_lines-requires-clause-versions
+mark_lines-requires-clause-versions c =
+    let lines = c.requires.0 in
+    let catalog = c.requires.2 in
+    let named = rows_named (versions_of lines) c.args.catalog.now.noted.rows.items lines
+    catalog.noted.rows in
+    let count : length c.deref-2.result.now ≡ length (versions_of lines) =
+    ap length c.deref-2.ensures.value ∙ (as_many c.args.catalog.now.ids _
+    (version_ids lines) catalog.positions ∙ length-map (versions_of lines) (λ e. e.id)) in
+    let P : List Row → ℕ → Type 0 = λ rows n. All (λ r. r.version < n) rows in
+    subst (λ rows. P rows (length c.deref-2.result.now)) (sym c.deref.ensures.value)
+    (subst (P c.args.catalog.now.noted.rows.items) (sym count) named)
+
+pub mark_lines-requires-clause-positions : goal.mark_lines-requires-clause-positions
+mark_lines-requires-clause-positions c =
+    let lines = c.requires.0 in
+    let held = positions_within c.args.catalog.now.ids c.args.catalog.now.positions.items
+    (version_ids lines) c.requires.2.positions in
+    let P : List ℕ → List Id → Type 0 = λ ks ids. All (λ j. j < length ids) ks in
+    subst (λ ks. P ks c.ids-ids.result.now) (sym c.deref-2.ensures.value)
+    (subst (P c.args.catalog.now.positions.items) (sym c.ids-ids.ensures.ids) held)
+
+pub returns : goal.returns
+returns c lines bad catalog =
+    let ids = c.args.catalog.now.ids in
+    let log = c.args.log in
+    let marked = c.in_ok-marks.ensures.each in
+    let marking : IsMarking (has_line lines log) c.ids-ids.result.now c.deref-3.result.now =
+    λ k x at. marks_lines ids c.ids-ids.ensures.rising (versions_of lines)
+    c.args.catalog.now.positions.items catalog.positions log k x
+    (ap (λ (xs : List Id). slice_get xs k) (sym c.ids-ids.ensures.ids) ∙ at)
+    c.args.catalog.now.noted.rows.items lines catalog.noted.rows
+    ∙ ((λ i. list_any (is_line_in (sym c.deref-2.ensures.value i) log k)
+    (sym c.deref.ensures.value i))
+    ∙ (sym (marked k) ∙ ap (λ m. slice_index_or m k false) (sym c.deref-3.ensures.value))) in
+    c.in_ok-runs.ensures (has_line lines log) marking
+    ∙ ap (gaps_of (has_line lines log)) c.ids-ids.ensures.ids

@@ -1,0 +1,27 @@
+-- The answer to logs that are compared: what they say against each other, or the first refusal.
+use Rattle.std.specs.Prelude.{ℕ, ◌<◌, ◌≤◌, List, length, Result, Ok, Err}
+use Rattle.epx_types.specs.declared.fault.Fault.{Fault}
+use Rattle.epx_types.specs.declared.fault.Fault.TheVariants.{Memory, TooManyLogs, LogTooLong}
+use Rattle.epx_types.specs.declared.fault.Fault.TheVariants.{TooManyInstances}
+use Rattle.epx_merge.specs.Limits.{max_logs}
+use Rattle.epx_merge.specs.LogLines.{placed_of}
+use Rattle.epx_committed.specs.InstanceCounts.{FewInstances, ManyInstances}
+use Rattle.epx_merge.specs.Refusals.{FitLimits, IsFirstTooLong}
+use Rattle.epx_compare.specs.Comparisons.{IsComparison}
+
+-- the refusals: none is of a bad line, or of lines that differ
+abbrev pub IsComparisonRefusal : List (List ℕ) → Fault → Type 0
+IsComparisonRefusal logs Memory = Unit {0}
+IsComparisonRefusal logs TooManyLogs = max_logs < length logs
+IsComparisonRefusal logs (LogTooLong log) = (length logs ≤ max_logs) × IsFirstTooLong logs log
+IsComparisonRefusal logs TooManyInstances = FitLimits logs × ManyInstances (placed_of logs)
+IsComparisonRefusal logs _ = ⊥
+
+pub record IsComparisonOf (logs : List (List ℕ)) (text : List ℕ) : Type 0 where
+  pub fit : FitLimits logs
+  pub few : FewInstances (placed_of logs)
+  pub compared : IsComparison logs text
+
+abbrev pub Compares : List (List ℕ) → Result (List ℕ) Fault → Type 0
+Compares logs (Ok text) = IsComparisonOf logs text
+Compares logs (Err fault) = IsComparisonRefusal logs fault

@@ -1,0 +1,25 @@
+-- Laws of what logs say against each other.
+use Rattle.std.specs.Prelude.{◌≡◌, ◌↔◌, ℕ, List, [], flat_map}
+use Rattle.epx_types.specs.declared.id.Id.{Id}
+use Rattle.epx_types.specs.Instances.{Instance}
+use Rattle.epx_committed.specs.InstanceCounts.{AreNamedBy, FewInstances}
+use Rattle.epx_merge.specs.Acceptance.{IsAccepted}
+use Rattle.epx_merge.specs.LogLines.{placed_of, bad_lines_of}
+use Rattle.epx_merge.specs.Refusals.{FitLimits}
+use Rattle.epx_compare.specs.Comparisons.{IsComparison, bad_text, difference_text}
+
+-- logs say one thing against each other
+abbrev pub ComparisonIsOne : Type 0
+ComparisonIsOne = (logs : List (List ℕ)) (a b : List ℕ) → IsComparison logs a
+    → IsComparison logs b → a ≡ b
+
+-- no bad line, and no line of an instance that lines commit differently
+abbrev pub SaysNothingDiffers : List (List ℕ) → List Id → Type 0
+SaysNothingDiffers logs ids = (bad_text (bad_lines_of logs) ≡ [])
+    × (flat_map (difference_text (placed_of logs)) ids ≡ [])
+
+-- a comparison shows no bad line and no difference exactly where the logs are accepted
+abbrev pub NothingDiffersWhereLogsAgree : Type 0
+NothingDiffersWhereLogsAgree = (logs : List (List ℕ)) (ids : List Id) → FitLimits logs
+    → FewInstances (placed_of logs) → AreNamedBy (placed_of logs) ids
+    → SaysNothingDiffers logs ids ↔ ((m : List Instance) × IsAccepted logs m)

@@ -1,0 +1,42 @@
+-- The lines of a comparison: each a JSON array in compact form, ended by a line feed.
+use Rattle.std.specs.Prelude.{ℕ, ◌∷◌, List, [], map, codes}
+use Rattle.serde_json.specs.Data.{Data, string}
+use Rattle.epx_types.specs.declared.id.Id.{Id}
+use Rattle.epx_types.specs.declared.place.Place.{Place}
+use Rattle.epx_types.specs.Faults.{why_text}
+use Rattle.epx_merge.specs.LogLines.{BadLineAt}
+use Rattle.epx_report.specs.ReportLines.{array_of, data_of_number}
+use Rattle.epx_compare.specs.Gaps.{Gap}
+
+-- a log, how many of its lines commit an instance, and how many are bad
+abbrev pub log_data : ℕ → ℕ → ℕ → List Data
+log_data log lines bad = string (codes "log") ∷ data_of_number log ∷ data_of_number lines
+    ∷ data_of_number bad ∷ []
+
+-- a bad line, and why it is bad
+abbrev pub bad_data : BadLineAt → List Data
+bad_data b = string (codes "bad") ∷ data_of_number b.place.log ∷ data_of_number b.place.line
+    ∷ string (why_text b.why) ∷ []
+
+abbrev pub place_data : Place → Data
+place_data p = array_of (data_of_number p.log ∷ data_of_number p.line ∷ [])
+
+abbrev pub group_data : List Place → Data
+group_data places = array_of (map place_data places)
+
+-- an instance that lines commit differently, in which members, and the places of its lines, those
+-- that commit the same together
+abbrev pub differs_data : Id → List (List ℕ) → List (List Place) → List Data
+differs_data x members groups = string (codes "differs") ∷ data_of_number x.replica
+    ∷ data_of_number x.number ∷ array_of (map string members)
+    ∷ array_of (map group_data groups) ∷ []
+
+-- a log, and instances of one replica that it lacks
+abbrev pub lacks_data : ℕ → Gap → List Data
+lacks_data log gap = string (codes "lacks") ∷ data_of_number log ∷ data_of_number gap.replica
+    ∷ data_of_number gap.from ∷ data_of_number gap.to ∷ []
+
+-- an instance that no log commits, and how many instances depend on it
+abbrev pub unmet_data : Id → ℕ → List Data
+unmet_data x count = string (codes "missing") ∷ data_of_number x.replica
+    ∷ data_of_number x.number ∷ data_of_number count ∷ []

@@ -1,0 +1,61 @@
+-- What logs say against each other, as text.
+use Rattle.std.specs.Prelude.{◌≡◌, ℕ, zero, suc, ◌∷◌, ◌++◌, List, [], length, flat_map}
+use Rattle.epx_types.specs.declared.id.Id.{Id}
+use Rattle.epx_types.specs.PlacedLines.{Placed}
+use Rattle.epx_merge.specs.LogLines.{BadLineAt, placed_of, bad_lines_of}
+use Rattle.epx_committed.specs.InstanceCounts.{AreNamedBy}
+use Rattle.epx_report.specs.ReportLines.{line_of}
+use Rattle.epx_compare.specs.ComparisonLines.{log_data, bad_data, differs_data, lacks_data}
+use Rattle.epx_compare.specs.ComparisonLines.{unmet_data}
+use Rattle.epx_compare.specs.Differences.{lines_of_id, differing_members, groups_of}
+use Rattle.epx_compare.specs.Gaps.{has_line, gaps_of}
+use Rattle.epx_compare.specs.LogCounts.{lines_in, bad_lines_in}
+use Rattle.epx_compare.specs.Unmet.{dependents_of, AreUnmet}
+
+-- `text` of each log number from this one on, for as many logs
+abbrev pub for_logs : ℕ → ℕ → (ℕ → List ℕ) → List ℕ
+for_logs first zero text = []
+for_logs first (suc count) text = text first ++ for_logs (suc first) count text
+
+-- a line for each log
+abbrev pub counts_text : ℕ → List Placed → List BadLineAt → List ℕ
+counts_text logs lines bad =
+    for_logs 0 logs (λ log. line_of (log_data log (lines_in lines log) (bad_lines_in bad log)))
+
+-- a line for each bad line
+abbrev pub bad_text : List BadLineAt → List ℕ
+bad_text bad = flat_map (λ b. line_of (bad_data b)) bad
+
+-- a line if the lines of the instance differ in some member
+abbrev pub difference_in : List (List ℕ) → Id → List Placed → List ℕ
+difference_in [] x own = []
+difference_in (member ∷ members) x own =
+    line_of (differs_data x (member ∷ members) (groups_of own))
+
+abbrev pub difference_text : List Placed → Id → List ℕ
+difference_text lines x = let own = lines_of_id lines x in
+    difference_in (differing_members own) x own
+
+-- a line for each gap of each log
+abbrev pub gaps_text : ℕ → List Placed → List Id → List ℕ
+gaps_text logs lines ids = for_logs 0 logs
+    (λ log. flat_map (λ gap. line_of (lacks_data log gap)) (gaps_of (has_line lines log) ids))
+
+-- a line for each dependency that is not committed
+abbrev pub unmet_text : List Placed → List Id → List Id → List ℕ
+unmet_text lines ids unmet =
+    flat_map (λ x. line_of (unmet_data x (dependents_of lines ids x))) unmet
+
+-- all parts; `ids` are the committed instances, and `unmet` the dependencies that are not
+abbrev pub comparison_text : ℕ → List Placed → List BadLineAt → List Id → List Id → List ℕ
+comparison_text logs lines bad ids unmet =
+    counts_text logs lines bad ++ (bad_text bad ++ (flat_map (difference_text lines) ids
+    ++ (gaps_text logs lines ids ++ unmet_text lines ids unmet)))
+
+-- what logs say against each other
+pub record IsComparison (logs : List (List ℕ)) (text : List ℕ) : Type 0 where
+  pub ids : List Id
+  pub unmet : List Id
+  pub named : AreNamedBy (placed_of logs) ids
+  pub open_ends : AreUnmet (placed_of logs) ids unmet
+  pub printed : text ≡ comparison_text (length logs) (placed_of logs) (bad_lines_of logs) ids unmet

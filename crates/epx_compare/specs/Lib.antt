@@ -1,0 +1,10 @@
+pub mod SameInstances
+pub mod LogCounts
+pub mod Differences
+pub mod Gaps
+pub mod Unmet
+pub mod ComparisonLines
+pub mod Comparisons
+pub mod ComparisonAnswers
+pub mod ComparisonLaws
+pub mod inner

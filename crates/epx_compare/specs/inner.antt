@@ -1,0 +1,7 @@
+-- Words of private clauses: no public contract speaks of them.
+pub mod Catalogs
+pub mod EqualVersions
+pub mod LogMarks
+pub mod NotedRows
+pub mod UnmetCounts
+pub mod NumberedVersions

@@ -1,0 +1,24 @@
+//! The lines of the bad lines.
+ghost use Rattle.std.specs.Prelude.{◌≡◌, ◌++◌, map, OnOk};
+ghost use Rattle.epx_compare.specs.Comparisons.{bad_text};
+ghost use Rattle.epx_compare.specs.inner.NotedRows.{bad_line_at};
+
+use crate::comparison_lines::append_bad;
+use crate::noted::BadLine;
+use epx_types::Memory;
+use std::alloc::Global;
+
+/// Appends a line for each bad line.
+pub(crate) fn append_bad_lines(
+    alloc: Global,
+    text: &mut Vec<u8>,
+    bad: &[BadLine],
+) -> Result<(), Memory>
+    ensures { OnOk result (text.new.items
+        ≡ text.old.items ++ bad_text (map bad_line_at bad.now)) }
+{
+    for line in bad {
+        append_bad(alloc, text, *line)?;
+    }
+    Ok(())
+}

@@ -1,0 +1,82 @@
+//! What logs say against each other, as text.
+ghost use Rattle.std.specs.Prelude.{◌≡◌, ◌<◌, ◌≤◌, List, length, IfOk, MatchResult, Ok, Err};
+ghost use Rattle.epx_types.specs.PlacedLines.{Placed};
+ghost use Rattle.epx_committed.specs.InstanceCounts.{AreNamedBy, max_instances};
+ghost use Rattle.epx_merge.specs.LogLines.{BadLineAt, bad_lines_of, bytes_of, placed_of};
+ghost use Rattle.epx_compare.specs.ComparisonAnswers.{Compares};
+ghost use Rattle.epx_compare.specs.inner.Catalogs.{IsCatalogOf, IsCatalogText};
+
+use crate::bad_lines::append_bad_lines;
+use crate::catalog::Catalog;
+use crate::counts::append_counts;
+use crate::differences::append_differences;
+use crate::gap_lines::append_gaps;
+use crate::note_lines::note_lines;
+use crate::unmet::append_all_unmet;
+use epx_merge::first_too_long;
+use epx_seed::Seed;
+use epx_types::limits::{MAX_INSTANCES, MAX_LOGS};
+use epx_types::{Fault, Memory};
+use std::alloc::Global;
+use std::random::RandomSource;
+
+/// The text of a catalog of the lines of some logs.
+fn text_of(alloc: Global, logs: usize, catalog: &Catalog, seed: Seed) -> Result<Vec<u8>, Memory>
+    requires { (lines : List Placed) × (bad : List BadLineAt) × IsCatalogOf lines bad catalog.now }
+    ensures { IfOk result (λ text. (lines : List Placed) (bad : List BadLineAt)
+        → IsCatalogOf lines bad catalog.now
+        → IsCatalogText logs lines bad catalog.now.ids text.items) }
+{
+    let mut text = Vec::new(alloc);
+    append_counts(alloc, &mut text, logs, &catalog.noted)?;
+    append_bad_lines(alloc, &mut text, &catalog.noted.bad)?;
+    append_differences(alloc, &mut text, catalog)?;
+    append_gaps(alloc, &mut text, logs, catalog)?;
+    append_all_unmet(alloc, &mut text, catalog, seed)?;
+    Ok(text)
+}
+
+/// The catalog of the lines of logs.
+fn catalog_of(alloc: Global, logs: &[Vec<u8>], seed: Seed) -> Result<Catalog, Memory>
+    ensures { let bytes = bytes_of logs.now in
+        IfOk result (IsCatalogOf (placed_of bytes) (bad_lines_of bytes)) }
+{
+    let noted = note_lines(alloc, logs, seed)?;
+    let catalog = Catalog::of(alloc, noted)?;
+    Ok(catalog)
+}
+
+/// What logs say against each other, as lines of JSON, in this order:
+///
+/// - `["log",L,lines,bad]` for each log: how many of its lines commit an instance, and how many are
+///   bad
+/// - `["bad",L,N,"WHY"]` for each bad line
+/// - `["differs",r,i,[MEMBER,..],[[[L,N],..],..]]` for each instance that two lines commit
+///   differently: the members in which they differ, and the places of its lines, those that commit
+///   the same together
+/// - `["lacks",L,r,from,to]` for each run of instances of a replica that log L lacks
+/// - `["missing",r,i,count]` for each dependency that no log commits, with the number of instances
+///   that depend on it
+///
+/// Bad lines and lines that differ are no faults here. The faults are `TooManyLogs`, `LogTooLong`
+/// and `TooManyInstances`, and `Memory`, which says nothing about the logs. Takes n log n time in
+/// the lines.
+pub fn compare<R: RandomSource>(rt: &R, alloc: Global, logs: &[Vec<u8>]) -> Result<Vec<u8>, Fault>
+    ensures { let bytes = bytes_of logs.now in
+        MatchResult result (λ text. Compares bytes (Ok text.items))
+        (λ fault. Compares bytes (Err fault)) }
+{
+    if logs.len() > MAX_LOGS {
+        return Err(Fault::TooManyLogs);
+    }
+    if let Some(log) = first_too_long(logs) {
+        return Err(Fault::LogTooLong { log });
+    }
+    let seed = Seed::draw(rt);
+    let catalog = catalog_of(alloc, logs, seed)?;
+    if catalog.ids.ids().len() > MAX_INSTANCES {
+        return Err(Fault::TooManyInstances);
+    }
+    let text = text_of(alloc, logs.len(), &catalog, seed)?;
+    Ok(text)
+}
