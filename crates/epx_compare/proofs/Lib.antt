@@ -15,3 +15,4 @@ mod DifferenceTextLemmas
 mod NamedLemmas
 mod ComparisonLawLemmas
 mod NoDifferenceLemmas
+mod ComparisonExistenceLemmas

@@ -8,7 +8,11 @@ use Rattle.epx_merge.specs.LogLines.{placed_of, bad_lines_of}
 use Rattle.epx_merge.specs.Refusals.{FitLimits}
 use Rattle.epx_compare.specs.Comparisons.{IsComparison, bad_text, difference_text}
 
--- logs say one thing against each other
+-- all logs say something against each other
+abbrev pub ComparisonExists : Type 0
+ComparisonExists = (logs : List (List ℕ)) → (text : List ℕ) × IsComparison logs text
+
+-- and one thing alone
 abbrev pub ComparisonIsOne : Type 0
 ComparisonIsOne = (logs : List (List ℕ)) (a b : List ℕ) → IsComparison logs a
     → IsComparison logs b → a ≡ b

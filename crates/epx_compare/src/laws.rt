@@ -1,5 +1,11 @@
 //! Laws of what logs say against each other: each function's contract is a law.
-ghost use Rattle.epx_compare.specs.ComparisonLaws.{ComparisonIsOne, NothingDiffersWhereLogsAgree};
+ghost use Rattle.epx_compare.specs.ComparisonLaws.{ComparisonExists, ComparisonIsOne};
+ghost use Rattle.epx_compare.specs.ComparisonLaws.{NothingDiffersWhereLogsAgree};
+
+/// All logs have a comparison.
+pub fn comparison_exists()
+    ensures { ComparisonExists }
+{}
 
 /// Logs have at most one comparison.
 pub fn comparison_is_one()

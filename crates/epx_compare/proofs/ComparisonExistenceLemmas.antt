@@ -1,0 +1,69 @@
+-- All logs have a comparison: the Ids that it prints exist.
+use Rattle.std.proofs.Common.{◌≡◌, ◌⊎◌, inl, inr, true, ℕ, List, Contains, length, flat_map, refl}
+use Rattle.std.specs.Cmp.{IsEquivalence, decided}
+use Rattle.std.specs.List.{list_any}
+use Rattle.std.proofs.lemmas.Bool.{cases_Bool}
+use Rattle.std.proofs.lemmas.Map.Views.{Contains-from_any, list_any-from_Contains}
+use Rattle.epx_types.specs.declared.id.Id.{Id}
+use Rattle.epx_types.specs.Ids.{Below, IsRising}
+use Rattle.epx_types.specs.PlacedLines.{Placed}
+use Rattle.epx_types.proofs.lists.ComparisonLemmas.{id_cmp_total, id_cmp-IsAntisymmetric}
+use Rattle.epx_types.proofs.lists.MembershipLemmas.{Contains-flat_map, Contains-from_flat_map}
+use Rattle.epx_types.proofs.lists.RisingIdLemmas.{IsRising-from_AllPairs}
+use Rattle.epx_types.proofs.lists.RisingListLemmas.{rising_list}
+use Rattle.epx_committed.specs.InstanceCounts.{AreNamedBy}
+use Rattle.epx_committed.proofs.InstanceCountLemmas.{few_or_many}
+use Rattle.epx_merge.specs.LogLines.{placed_of, bad_lines_of}
+use Rattle.epx_compare.specs.Comparisons.{IsComparison, comparison_text}
+use Rattle.epx_compare.specs.SameInstances.{same_id}
+use Rattle.epx_compare.specs.Unmet.{AreUnmet}
+use Rattle.epx_compare.specs.inner.EqualVersions.{ids_decide}
+
+same_id_equiv : IsEquivalence same_id
+same_id_equiv = decided same_id ids_decide
+
+lacks_or_has : (ids : List Id) (x : Id) → (¬ Contains ids x) ⊎ (¬ (¬ Contains ids x))
+lacks_or_has ids x = elim (cases_Bool (list_any (same_id x) ids)) [
+  | inl found ↦ inr (λ lacks.
+      lacks (Contains-from_any (λ y z. (ids_decide y z).0) x ids found))
+  | inr none ↦ inl (λ h. let found = list_any-from_Contains same_id_equiv x ids h in
+      absurd (cc (found, none)))
+]
+
+ids_exist : (lines : List Placed) → (ids : List Id) × AreNamedBy lines ids
+ids_exist lines = elim (few_or_many lines) [
+  | inl few ↦ (few.0, few.1)
+  | inr many ↦ (many.0, many.1)
+]
+
+unmet_exist : (lines : List Placed) (ids : List Id) → (unmet : List Id) × AreUnmet lines ids unmet
+unmet_exist lines ids =
+    let deps : Placed → List Id = λ p. p.instance.deps in
+    let found = rising_list id_cmp_total id_cmp-IsAntisymmetric (λ x. ¬ Contains ids x)
+    (lacks_or_has ids) (flat_map deps lines) in (
+      found.0,
+      record {
+        rising = IsRising-from_AllPairs found.0 found.1.elements_rise;
+        each = λ x. (
+          λ h. let was = found.1.elements_only x h in
+              (Contains-from_flat_map deps lines x was.0, was.1),
+          λ h. found.1.elements_all x (Contains-flat_map deps lines h.0.0 x h.0.1 h.0.2) h.1,
+        );
+      },
+    )
+
+pub comparison_existence : (logs : List (List ℕ)) → (text : List ℕ) × IsComparison logs text
+comparison_existence logs =
+    let lines = placed_of logs in
+    let bad = bad_lines_of logs in
+    let ids = ids_exist lines in
+    let unmet = unmet_exist lines ids.0 in (
+      comparison_text (length logs) lines bad ids.0 unmet.0,
+      record {
+        ids = ids.0;
+        unmet = unmet.0;
+        named = ids.1;
+        open_ends = unmet.1;
+        printed = refl;
+      },
+    )
