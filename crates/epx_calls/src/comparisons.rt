@@ -71,6 +71,7 @@ fn expect_text<R: Abort + RandomSource>(
             assert!(rt; text.as_slice() == wanted.as_bytes());
             Ok(())
         }
+        Err(Fault::Memory) => Err(Fail::from("out of memory")),
         Err(_) => Err(Fail::from("the logs are refused")),
     }
 }
