@@ -67,8 +67,8 @@ fn expect_text<R: Abort + RandomSource>(
 ) -> Result<(), Fail> {
     let logs = logs_of(alloc, texts)?;
     match compare(rt, alloc, &logs) {
-        Ok(text) => {
-            assert!(rt; text.as_slice() == wanted.as_bytes());
+        Ok(found) => {
+            assert!(rt; found.text.as_slice() == wanted.as_bytes());
             Ok(())
         }
         Err(Fault::Memory) => Err(Fail::from("out of memory")),

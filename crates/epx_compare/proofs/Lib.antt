@@ -16,3 +16,4 @@ mod NamedLemmas
 mod ComparisonLawLemmas
 mod NoDifferenceLemmas
 mod ComparisonExistenceLemmas
+pub mod ComparisonAnswerLemmas

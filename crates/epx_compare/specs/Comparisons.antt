@@ -1,5 +1,5 @@
 -- What logs say against each other, as text.
-use Rattle.std.specs.Prelude.{◌≡◌, ℕ, zero, suc, ◌∷◌, ◌++◌, List, [], length, flat_map}
+use Rattle.std.specs.Prelude.{◌≡◌, ◌≢◌, ℕ, zero, suc, ◌∷◌, ◌++◌, List, [], length, flat_map}
 use Rattle.epx_types.specs.declared.id.Id.{Id}
 use Rattle.epx_types.specs.PlacedLines.{Placed}
 use Rattle.epx_merge.specs.LogLines.{BadLineAt, placed_of, bad_lines_of}
@@ -46,11 +46,15 @@ abbrev pub unmet_text : List Placed → List Id → List Id → List ℕ
 unmet_text lines ids unmet =
     flat_map (λ x. line_of (unmet_data x (dependents_of lines ids x))) unmet
 
+-- the lines of what is wrong with the logs: bad lines, differences and gaps
+abbrev pub findings_text : ℕ → List Placed → List BadLineAt → List Id → List ℕ
+findings_text logs lines bad ids =
+    bad_text bad ++ (flat_map (difference_text lines) ids ++ gaps_text logs lines ids)
+
 -- all parts; `ids` are the committed instances, and `unmet` the dependencies that are not
 abbrev pub comparison_text : ℕ → List Placed → List BadLineAt → List Id → List Id → List ℕ
-comparison_text logs lines bad ids unmet =
-    counts_text logs lines bad ++ (bad_text bad ++ (flat_map (difference_text lines) ids
-    ++ (gaps_text logs lines ids ++ unmet_text lines ids unmet)))
+comparison_text logs lines bad ids unmet = counts_text logs lines bad
+    ++ (findings_text logs lines bad ids ++ unmet_text lines ids unmet)
 
 -- what logs say against each other
 pub record IsComparison (logs : List (List ℕ)) (text : List ℕ) : Type 0 where
@@ -59,3 +63,9 @@ pub record IsComparison (logs : List (List ℕ)) (text : List ℕ) : Type 0 wher
   pub named : AreNamedBy (placed_of logs) ids
   pub open_ends : AreUnmet (placed_of logs) ids unmet
   pub printed : text ≡ comparison_text (length logs) (placed_of logs) (bad_lines_of logs) ids unmet
+
+-- something is wrong with the logs
+pub record HasFindings (logs : List (List ℕ)) : Type 0 where
+  pub ids : List Id
+  pub named : AreNamedBy (placed_of logs) ids
+  pub some : findings_text (length logs) (placed_of logs) (bad_lines_of logs) ids ≢ []

@@ -1,10 +1,12 @@
 //! What logs say against each other, as text.
-ghost use Rattle.std.specs.Prelude.{◌≡◌, ◌<◌, ◌≤◌, List, length, IfOk, MatchResult, Ok, Err};
+ghost use Rattle.std.specs.Prelude.{◌≡◌, ◌↔◌, ◌<◌, ◌≤◌, ◌++◌, List, length, true, IfOk, OnOk};
+ghost use Rattle.std.specs.Prelude.{MatchResult, Ok, Err};
 ghost use Rattle.epx_types.specs.PlacedLines.{Placed};
 ghost use Rattle.epx_committed.specs.InstanceCounts.{AreNamedBy, max_instances};
 ghost use Rattle.epx_merge.specs.LogLines.{BadLineAt, bad_lines_of, bytes_of, placed_of};
 ghost use Rattle.epx_compare.specs.ComparisonAnswers.{Compares};
-ghost use Rattle.epx_compare.specs.inner.Catalogs.{IsCatalogOf, IsCatalogText};
+ghost use Rattle.epx_compare.specs.Comparisons.{HasFindings, findings_text};
+ghost use Rattle.epx_compare.specs.inner.Catalogs.{IsCatalogOf, IsCatalogComparison};
 
 use crate::bad_lines::append_bad_lines;
 use crate::catalog::Catalog;
@@ -20,20 +22,51 @@ use epx_types::{Fault, Memory};
 use std::alloc::Global;
 use std::random::RandomSource;
 
-/// The text of a catalog of the lines of some logs.
-fn text_of(alloc: Global, logs: usize, catalog: &Catalog, seed: Seed) -> Result<Vec<u8>, Memory>
+/// What logs say against each other.
+#[derive(Debug, Drop)]
+pub struct Comparison {
+    /// Lines of JSON.
+    pub text: Vec<u8>,
+    /// Whether there is a bad line, a difference or a gap.
+    pub has_findings: bool,
+}
+
+/// Appends the lines of what is wrong with the logs.
+fn append_findings(
+    alloc: Global,
+    text: &mut Vec<u8>,
+    logs: usize,
+    catalog: &Catalog,
+) -> Result<(), Memory>
     requires { (lines : List Placed) × (bad : List BadLineAt) × IsCatalogOf lines bad catalog.now }
-    ensures { IfOk result (λ text. (lines : List Placed) (bad : List BadLineAt)
+    ensures { OnOk result ((lines : List Placed) (bad : List BadLineAt)
         → IsCatalogOf lines bad catalog.now
-        → IsCatalogText logs lines bad catalog.now.ids text.items) }
+        → text.new.items ≡ text.old.items ++ findings_text logs lines bad catalog.now.ids) }
+{
+    append_bad_lines(alloc, text, &catalog.noted.bad)?;
+    append_differences(alloc, text, catalog)?;
+    append_gaps(alloc, text, logs, catalog)
+}
+
+/// The comparison of logs by the catalog of their lines.
+fn comparison_of(
+    alloc: Global,
+    logs: usize,
+    catalog: &Catalog,
+    seed: Seed,
+) -> Result<Comparison, Memory>
+    requires { (lines : List Placed) × (bad : List BadLineAt) × IsCatalogOf lines bad catalog.now }
+    ensures { IfOk result (λ c. (lines : List Placed) (bad : List BadLineAt)
+        → IsCatalogOf lines bad catalog.now
+        → IsCatalogComparison logs lines bad catalog.now.ids c) }
 {
     let mut text = Vec::new(alloc);
     append_counts(alloc, &mut text, logs, &catalog.noted)?;
-    append_bad_lines(alloc, &mut text, &catalog.noted.bad)?;
-    append_differences(alloc, &mut text, catalog)?;
-    append_gaps(alloc, &mut text, logs, catalog)?;
+    let start = text.len();
+    append_findings(alloc, &mut text, logs, catalog)?;
+    let has_findings = text.len() != start;
     append_all_unmet(alloc, &mut text, catalog, seed)?;
-    Ok(text)
+    Ok(Comparison { text, has_findings })
 }
 
 /// The catalog of the lines of logs.
@@ -61,10 +94,11 @@ fn catalog_of(alloc: Global, logs: &[Vec<u8>], seed: Seed) -> Result<Catalog, Me
 /// Bad lines and lines that differ are no faults here. The faults are `TooManyLogs`, `LogTooLong`
 /// and `TooManyInstances`, and `Memory`, which says nothing about the logs. Takes n log n time in
 /// the lines.
-pub fn compare<R: RandomSource>(rt: &R, alloc: Global, logs: &[Vec<u8>]) -> Result<Vec<u8>, Fault>
-    ensures { let bytes = bytes_of logs.now in
-        MatchResult result (λ text. Compares bytes (Ok text.items))
+pub fn compare<R: RandomSource>(rt: &R, alloc: Global, logs: &[Vec<u8>]) -> Result<Comparison, Fault>
+    ensures answer { let bytes = bytes_of logs.now in
+        MatchResult result (λ c. Compares bytes (Ok c.text.items))
         (λ fault. Compares bytes (Err fault)) }
+    ensures found { IfOk result (λ c. (c.has_findings ≡ true) ↔ HasFindings (bytes_of logs.now)) }
 {
     if logs.len() > MAX_LOGS {
         return Err(Fault::TooManyLogs);
@@ -77,6 +111,6 @@ pub fn compare<R: RandomSource>(rt: &R, alloc: Global, logs: &[Vec<u8>]) -> Resu
     if catalog.ids.ids().len() > MAX_INSTANCES {
         return Err(Fault::TooManyInstances);
     }
-    let text = text_of(alloc, logs.len(), &catalog, seed)?;
-    Ok(text)
+    let comparison = comparison_of(alloc, logs.len(), &catalog, seed)?;
+    Ok(comparison)
 }

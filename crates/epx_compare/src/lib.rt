@@ -18,4 +18,4 @@ mod noted;
 mod unmet;
 mod version;
 
-pub use comparison::compare;
+pub use comparison::{Comparison, compare};

@@ -1,5 +1,6 @@
 -- Which source failed, if a run returns that a source cannot be read.
-use Rattle.std.proofs.Common.{◌≡◌, ◌⊎◌, ℕ, zero, suc, List, [], ◌∷◌, Some, slice_get, Result, Err}
+use Rattle.std.proofs.Common.{◌≡◌, ◌⊎◌, ℕ, zero, suc, List, [], ◌∷◌, Option, Some, None}
+use Rattle.std.proofs.Common.{slice_get, Result, Err}
 use Rattle.std.proofs.Common.{IsErrOf, inl, inr, subst}
 use Rattle.std.specs.Prelude.{IfErr, ◌≢◌}
 use Rattle.epx_types.specs.declared.fault.Fault.{Fault}
@@ -8,9 +9,17 @@ use Rattle.epx_devices.specs.declared.either_source.EitherSource.TheVariants.{Fi
 use Rattle.epx_devices.specs.Deliveries.{FailRelation, ReadRelation}
 use Rattle.epx_devices.specs.EitherSources.{fails_by, reads_by}
 use Rattle.epx_devices.proofs.EitherSourceLemmas.{first_then_fails, second_then_fails}
-use Rattle.epx_tool.specs.Delivered.{EndsWithout, StopsAtSource}
+use Rattle.epx_tool.specs.Delivered.{EndsRefused, StopsAtSource}
 use Rattle.epx_tool.specs.DeliveredWithInput.{EndsWithoutBoth}
+use Rattle.epx_tool.specs.Questions.{AnswersBy}
+use Rattle.epx_tool.specs.declared.question.MapText.{MapText}
 use Rattle.epx_program.specs.Inputs.{HasFailedRead, OneHasFailedRead}
+
+-- no refusal of logs is a failed read
+not_unread : (answered : Option MapText) (logs : List (List ℕ)) (log : ℕ)
+    → ¬ AnswersBy answered logs (Err (Read log))
+not_unread (Some kind) logs log h = h
+not_unread None logs log h = h
 
 module _ {S : Type 0} (reads : ReadRelation S) (fails : FailRelation S)
     (before after : List S) where
@@ -19,21 +28,25 @@ module _ {S : Type 0} (reads : ReadRelation S) (fails : FailRelation S)
   at_source log h =
       record { log = h.log; source = h.first; there = h.was; failed = (h.last, h.stopped.1) }
 
-  unread_of : (log : ℕ) → EndsWithout reads fails before after (Read log)
-      → OneHasFailedRead reads fails before
-  unread_of log (inl (inl none)) = absurd none
-  unread_of log (inl (inr source)) = at_source log source
-  unread_of log (inr refused) = absurd refused.refusal
+  module _ (answered : Option MapText) where
+    abbrev EndsLogs : Fault → Type 0
+    EndsLogs fault = EndsRefused reads fails (λ logs why. AnswersBy answered logs (Err why)) before
+        after fault
 
-  -- a run over logs that ends this way has a source that failed
-  pub unread : {A : Type 0} (done : Result A Fault)
-      → IfErr done (λ fault. fault ≢ Write → EndsWithout reads fails before after fault)
-      → (log : ℕ) → IsErrOf done (Read log) → OneHasFailedRead reads fails before
-  unread (Err fault) h log is =
-      let named : fault ≡ Read log = cc is in
-      let Ends : Fault → Type 0 = λ f. f ≢ Write → EndsWithout reads fails before after f in
-      unread_of log (subst Ends named h (λ write. absurd (cc write)))
-  unread done h log is = absurd (cc is)
+    unread_of : (log : ℕ) → EndsLogs (Read log) → OneHasFailedRead reads fails before
+    unread_of log (inl (inl none)) = absurd none
+    unread_of log (inl (inr source)) = at_source log source
+    unread_of log (inr refused) = absurd (not_unread answered refused.logs log refused.refusal)
+
+    -- a run over logs that ends this way has a source that failed
+    pub unread : {A : Type 0} (done : Result A Fault)
+        → IfErr done (λ fault. fault ≢ Write → EndsLogs fault)
+        → (log : ℕ) → IsErrOf done (Read log) → OneHasFailedRead reads fails before
+    unread (Err fault) h log is =
+        let named : fault ≡ Read log = cc is in
+        let Ends : Fault → Type 0 = λ f. f ≢ Write → EndsLogs f in
+        unread_of log (subst Ends named h (λ write. absurd (cc write)))
+    unread done h log is = absurd (cc is)
 
   module _ {I : Type 0} (input_reads : ReadRelation I) (input_fails : FailRelation I)
       (IsBad : List ℕ → ℕ → Type 0) (first last : I) where

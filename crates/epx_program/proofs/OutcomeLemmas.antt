@@ -9,9 +9,9 @@ use Rattle.epx_types.specs.declared.fault.Fault.TheVariants.{Write}
 use Rattle.epx_words.specs.declared.words.Task.{Task}
 use Rattle.epx_devices.specs.Deliveries.{FailRelation, ReadRelation}
 use Rattle.epx_devices.specs.Transfers.{AppendsPrefix}
-use Rattle.epx_tool.specs.Delivered.{AnswersDelivered}
+use Rattle.epx_tool.specs.Delivered.{WritesDelivered}
 use Rattle.epx_tool.specs.DeliveredWithInput.{AnswersBoth}
-use Rattle.epx_tool.specs.Questions.{IsBadInput, IsTextOf, IsTextWith}
+use Rattle.epx_tool.specs.Questions.{AnswersQuestion, IsBadInput, IsTextWith, map_text_of}
 use Rattle.epx_tool.specs.RunEndings.{WritesAnswer, EndsRun, EndsRunWithInput}
 use Rattle.epx_tool.specs.Runs.{AreBytesOf}
 use Rattle.epx_tool.specs.declared.question.InputQuestion.{InputQuestion}
@@ -110,12 +110,12 @@ module _ {S : Type 0} (remaining : S → Option (List ℕ)) (reads : ReadRelatio
 
   pub outcome_of_logs : (question : Question) (after : List S)
       → asked_of task ≡ asked.Logs question
-      → EndsRun remaining reads fails has_failed (IsTextOf question) before after old new flushed
-      failed done
+      → EndsRun remaining reads fails has_failed (AnswersQuestion question) before after old new
+      flushed failed done
       → TaskOutcome remaining reads fails task before done flushed failed old new
   outcome_of_logs question after is run =
       let adds : (Written : List ℕ → Type 0)
-      → AnswersDelivered reads (IsTextOf question) before after Written
+      → WritesDelivered reads (AnswersQuestion question) before after Written
       → Adds (length before) Written = λ Written h. (
         h.logs,
         h.delivered.as_many,
@@ -128,7 +128,7 @@ module _ {S : Type 0} (remaining : S → Option (List ℕ)) (reads : ReadRelatio
         flushed = run.sink.flushed;
         part = λ bad. adds (AppendsPrefix old new) (run.sink.part bad);
         nothing = run.sink.nothing;
-        unread = unread reads fails before after done run.sink.refused;
+        unread = unread reads fails before after (map_text_of question) done run.sink.refused;
         written = run.sink.written;
       }
 

@@ -9,9 +9,8 @@ use Rattle.epx_devices.specs.Transfers.{AppendsPrefix}
 use Rattle.epx_words.specs.declared.words.Task.{Task}
 use Rattle.epx_words.specs.declared.words.Task.TheVariants.{Run, Order, Levels, Graph, Resume}
 use Rattle.epx_words.specs.declared.words.Task.TheVariants.{Audit, Check}
-use Rattle.epx_tool.specs.Answer.{Answers}
-use Rattle.epx_tool.specs.Questions.{IsBadInput, IsInputAnswer, IsTextOf, IsTextWith}
-use Rattle.epx_tool.specs.Runs.{IsRunFault}
+use Rattle.epx_tool.specs.Questions.{AnswersQuestion, IsBadInput, IsInputAnswer, IsTextWith}
+use Rattle.epx_tool.specs.Runs.{IsFaultOfRun}
 use Rattle.epx_tool.specs.RunsWithInput.{IsRunFaultWithInput}
 use Rattle.epx_tool.specs.declared.ask.Ask.TheVariants as ask
 use Rattle.epx_tool.specs.declared.question.InputQuestion.TheVariants as about
@@ -37,13 +36,13 @@ on_first_and_logs Is (text ∷ logs) = Is text logs
 
 -- the answer to what is asked of texts
 abbrev pub IsAnswerTo : Asked → List (List ℕ) → Result (List ℕ) Fault → Type 0
-IsAnswerTo (asked.Logs question) texts answer = Answers (IsTextOf question) texts answer
+IsAnswerTo (asked.Logs question) texts answer = AnswersQuestion question texts answer
 IsAnswerTo (asked.First question) texts answer =
     on_first_and_logs (λ input logs. IsInputAnswer question input logs answer) texts
 
 -- the faults of a run that writes it, with those of devices
 abbrev pub IsFaultOf : Asked → List (List ℕ) → Fault → Type 0
-IsFaultOf (asked.Logs question) texts fault = IsRunFault (IsTextOf question) texts fault
+IsFaultOf (asked.Logs question) texts fault = IsFaultOfRun (AnswersQuestion question) texts fault
 IsFaultOf (asked.First question) texts fault = on_first_and_logs
     (λ input logs. IsRunFaultWithInput (IsBadInput question) (IsTextWith question) input logs fault)
     texts

@@ -1,5 +1,5 @@
 -- Every committed map has a report and its views, and every list of logs has an answer.
-use Rattle.std.proofs.Common.{◌≢◌, ℕ, List, Result, Ok, Err, refl, inl, inr}
+use Rattle.std.proofs.Common.{◌≢◌, ℕ, List, Option, Some, None, Result, Ok, Err, refl, inl, inr}
 use Rattle.std.specs.FinMap as contents
 use Rattle.epx_types.specs.declared.fault.Fault.{Fault}
 use Rattle.epx_types.specs.declared.fault.Fault.TheVariants.{Memory}
@@ -13,14 +13,17 @@ use Rattle.epx_types.proofs.levels.LevelExistenceLemmas.{levels_exist}
 use Rattle.epx_merge.proofs.ExistenceLemmas.{answered_always}
 use Rattle.epx_audit.proofs.LeastUncoveredLemmas.{covered_or_not}
 use Rattle.epx_picture.proofs.PictureLemmas.{picture_exists}
-use Rattle.epx_tool.specs.declared.ask.Ask.{Ask}
-use Rattle.epx_tool.specs.declared.ask.Ask.TheVariants.{Order, Levels, Audit, Graph}
+use Rattle.epx_compare.proofs.ComparisonAnswerLemmas.{compares_exists}
+use Rattle.epx_tool.specs.declared.question.MapText.{MapText}
+use Rattle.epx_tool.specs.declared.question.MapText.TheVariants.{Report, Order, Levels, Audit}
+use Rattle.epx_tool.specs.declared.question.MapText.TheVariants.{Graph}
 use Rattle.epx_tool.specs.Report.{IsReport, report_text, commands_of}
 use Rattle.epx_tool.specs.OrderText.{IsOrderText, order_text}
 use Rattle.epx_tool.specs.LevelText.{IsLevelText, level_text}
 use Rattle.epx_tool.specs.AuditText.{IsAuditText}
 use Rattle.epx_report.specs.ViewLines.{covered_line, uncovered_line}
-use Rattle.epx_tool.specs.Views.{IsViewText}
+use Rattle.epx_tool.specs.MapTexts.{IsMapText}
+use Rattle.epx_tool.specs.Questions.{AnswersBy}
 use Rattle.epx_tool.specs.Answer.{Answers}
 
 module _ (m : List Instance) (rising : IsRising (ids_of m)) where
@@ -75,11 +78,12 @@ module _ (m : List Instance) (rising : IsRising (ids_of m)) where
     | inr pair ↦ (uncovered_line pair.0 pair.1, inr (pair.0, pair.1, pair.2, refl))
   ]
 
-  pub view_text_exists : (ask : Ask) → (text : List ℕ) × IsViewText ask m text
-  view_text_exists Order = order_text_exists
-  view_text_exists Levels = level_text_exists
-  view_text_exists Audit = audit_text_exists
-  view_text_exists Graph = picture_exists m rising
+  pub map_text_exists : (kind : MapText) → (text : List ℕ) × IsMapText kind m text
+  map_text_exists Report = report_exists
+  map_text_exists Order = order_text_exists
+  map_text_exists Levels = level_text_exists
+  map_text_exists Audit = audit_text_exists
+  map_text_exists Graph = picture_exists m rising
 
 -- if every committed map has a text, every list of logs has an answer
 pub answer_exists : (Is : List Instance → List ℕ → Type 0)
@@ -91,3 +95,9 @@ answer_exists Is text_of_map logs =
           (Ok text.0, (λ same. cc same), (accepted.0, accepted.1, text.1))
       | inr refused ↦ (Err refused.0, (λ same. refused.1 (cc same)), refused.2)
     ]
+
+pub answer_by_exists : (answered : Option MapText) (logs : List (List ℕ))
+    → (a : Result (List ℕ) Fault) × (a ≢ Err Memory) × AnswersBy answered logs a
+answer_by_exists (Some kind) =
+    answer_exists (IsMapText kind) (λ m rising. map_text_exists m rising kind)
+answer_by_exists None = compares_exists

@@ -9,29 +9,27 @@ use Rattle.epx_types.specs.declared.fault.Fault.TheVariants.{Write}
 use Rattle.epx_types.specs.Instances.{Instance}
 use Rattle.epx_devices.specs.Deliveries.{FailRelation, ReadRelation}
 use Rattle.epx_devices.specs.Transfers.{AppendsPrefix}
-use Rattle.epx_merge.specs.Acceptance.{IsAccepted}
 use Rattle.epx_merge.specs.LaterLogs.{IsMergeWith}
 use Rattle.epx_merge.specs.LogLines.{bytes_of}
-use Rattle.epx_merge.specs.Refusals.{IsRefusal}
-use Rattle.epx_tool.specs.Answer.{Answers}
-use Rattle.epx_tool.specs.Runs.{IsRunFault}
+use Rattle.epx_tool.specs.Runs.{IsFaultOfRun}
 use Rattle.epx_tool.specs.RunEndings.{EndsRun}
-use Rattle.epx_tool.specs.inner.SourceReadings.{EndsReading, EndsMerging, logs_after}
-use Rattle.epx_tool.proofs.ReturnedFaultLemmas.{same_error, HasRead-refused, HasRead-written}
-use Rattle.epx_tool.proofs.ReturnedFaultLemmas.{refusal_not_write}
-use Rattle.epx_tool.proofs.ReturnedFaultLemmas.{run_fault_of_sources, run_fault_of_refusal}
+use Rattle.epx_tool.specs.inner.SourceReadings.{EndsReading, EndsMaking, EndsMerging, IsMerging}
+use Rattle.epx_tool.specs.inner.SourceReadings.{logs_after}
+use Rattle.epx_tool.proofs.ReturnedFaultLemmas.{IsLogAnswer, same_error, HasRead-of_lines}
+use Rattle.epx_tool.proofs.ReturnedFaultLemmas.{HasRead-written, of_lines_not_write}
+use Rattle.epx_tool.proofs.ReturnedFaultLemmas.{run_fault_of_lines}
 use Rattle.epx_tool.proofs.RunEndingLemmas.{leaves_again, leaves_after}
 use Rattle.epx_tool.proofs.RunEndingLemmas.{writes_nothing, writes_text}
 
 module _ {S : Type 0} (remaining : S → Option (List ℕ)) (reads : ReadRelation S)
     (fails : FailRelation S) (has_failed : S → Bool) (old new : List S) where
-  -- all sources are read before their logs are merged
-  pub merged_after : (logs : List (List ℕ)) (result : Result (List Instance) Fault)
-      → EndsReading remaining reads fails has_failed old new (Ok logs)
-      → MatchResult result (IsAccepted logs) (IsRefusal logs)
-      → EndsMerging remaining reads fails has_failed old new result
-  merged_after logs (Ok m) read accepted = (logs, read, accepted)
-  merged_after logs (Err fault) read refused = inr (logs, read, refused)
+  -- all sources are read before something is made of their logs
+  pub made_after : {T : Type 0} (Made : List (List ℕ) → Result T Fault → Type 0)
+      (logs : List (List ℕ)) (result : Result T Fault)
+      → EndsReading remaining reads fails has_failed old new (Ok logs) → Made logs result
+      → EndsMaking remaining reads fails has_failed Made old new result
+  made_after Made logs (Ok made) read is = (logs, read, is)
+  made_after Made logs (Err fault) read is = inr (logs, read, is)
 
   -- the later sources are read while the lines of the first log are
   pub merged_with : (first : List ℕ) (later : Result (Vec (Vec ℕ Global) Global) Fault)
@@ -40,55 +38,56 @@ module _ {S : Type 0} (remaining : S → Option (List ℕ)) (reads : ReadRelatio
       → IsMergeWith first later result
       → EndsMerging remaining reads fails has_failed old new result
   merged_with first (Ok later) result read merged =
-      merged_after (first ∷ bytes_of later.items) result read merged
+      made_after IsMerging (first ∷ bytes_of later.items) result read merged
   merged_with first (Err fault) result read same =
       subst (EndsMerging remaining reads fails has_failed old new) (sym same) (inl read)
 
 module _ {S : Type 0} (remaining : S → Option (List ℕ)) (reads : ReadRelation S)
-    (fails : FailRelation S) (has_failed : S → Bool) (Is : List Instance → List ℕ → Type 0)
-    (old new : List S) (was : Option (List ℕ)) (is_flushed sink_failed : Bool) where
+    (fails : FailRelation S) (has_failed : S → Bool)
+    (Answer : List (List ℕ) → Result (List ℕ) Fault → Type 0) (old new : List S)
+    (was : Option (List ℕ)) (is_flushed sink_failed : Bool) where
   -- the sources could not be read, or their logs are refused
-  pub run_refused : (fault : Fault) → sink_failed ≡ false
-      → EndsMerging remaining reads fails has_failed old new (Err fault)
-      → EndsRun remaining reads fails has_failed Is old new was was is_flushed sink_failed
+  pub run_refused : (fault : Fault) → IsLogAnswer Answer → sink_failed ≡ false
+      → EndsMaking remaining reads fails has_failed Answer old new (Err fault)
+      → EndsRun remaining reads fails has_failed Answer old new was was is_flushed sink_failed
       (Err fault)
-  run_refused fault well (inl read) = record {
+  run_refused fault own well (inl read) = record {
     sink = writes_nothing _ _ _ _ _ _ _ _ fault well
         (λ is. read.nothing_written (same_error fault Write is))
-        (λ logs are. run_fault_of_sources logs Is fault (read.refusal logs are))
+        (λ logs are. own.of_reading logs fault (read.refusal logs are))
         (inl read.stopped);
     sources = leaves_again remaining has_failed old new fault read.sources;
   }
-  run_refused fault well (inr (logs, read, refused)) =
-      let has = HasRead-refused {T = Unit {0}} (length old) logs fault read.fit refused in record {
-        sink = writes_nothing _ _ _ _ _ _ _ _ fault well (refusal_not_write logs fault refused)
-            (λ given are. subst (λ ls. IsRunFault Is ls fault) (read.bytes given are)
-            (run_fault_of_refusal logs Is fault refused))
+  run_refused fault own well (inr (logs, read, refused)) =
+      let of_lines = own.of_lines logs fault read.fit refused in
+      let has = HasRead-of_lines {T = Unit {0}} (length old) fault of_lines in record {
+        sink = writes_nothing _ _ _ _ _ _ _ _ fault well
+            (of_lines_not_write (length old) fault of_lines)
+            (λ given are. subst (λ ls. IsFaultOfRun Answer ls fault) (read.bytes given are)
+            (run_fault_of_lines Answer logs fault of_lines refused))
             (inr (record { logs = logs; delivered = read.delivered; refusal = refused }));
         sources = leaves_after remaining has_failed old new (length old) logs (Err fault)
             (omega arith) has read.sources;
       }
 
   -- the text was written, whole or in part
-  pub run_written : (now : Option (List ℕ)) (m : List Instance) (text : List ℕ)
-      (done : Result (Unit {0}) Fault)
-      → EndsMerging remaining reads fails has_failed old new (Ok m) → Is m text
+  pub run_written : (now : Option (List ℕ)) (text : List ℕ) (done : Result (Unit {0}) Fault)
+      → EndsMaking remaining reads fails has_failed Answer old new (Ok text)
       → OnOk done (Appends was now text) → OnOk done (is_flushed ≡ true)
       → IfErr done (λ fault. fault ≡ Write) → IsErr done ↔ (sink_failed ≡ true)
       → AppendsPrefix was now text
-      → EndsRun remaining reads fails has_failed Is old new was now is_flushed sink_failed done
-  run_written now m text done (logs, read, accepted) is bytes flushed faults failed prefix =
-      let answer : Answers Is logs (Ok text) = (m, accepted, is) in record {
-        sink = writes_text _ _ _ _ _ _ _ _ now text done
-            (λ P known given are. known given
-            (subst (λ (ls : List (List ℕ)). Answers Is ls (Ok text)) (read.bytes given are) answer))
-            (λ Written written. record {
-              logs = logs;
-              delivered = read.delivered;
-              text = text;
-              answer = answer;
-              written = written;
-            }) (λ given answered. (text, answered)) bytes flushed faults failed prefix;
-        sources = leaves_after remaining has_failed old new (length old) logs done (omega arith)
-            (HasRead-written (length old) done faults) read.sources;
-      }
+      → EndsRun remaining reads fails has_failed Answer old new was now is_flushed sink_failed done
+  run_written now text done (logs, read, answer) bytes flushed faults failed prefix = record {
+    sink = writes_text _ _ _ _ _ _ _ _ now text done
+        (λ P known given are. known given
+        (subst (λ (ls : List (List ℕ)). Answer ls (Ok text)) (read.bytes given are) answer))
+        (λ Written written. record {
+          logs = logs;
+          delivered = read.delivered;
+          text = text;
+          answer = answer;
+          written = written;
+        }) (λ given answered. (text, answered)) bytes flushed faults failed prefix;
+    sources = leaves_after remaining has_failed old new (length old) logs done (omega arith)
+        (HasRead-written (length old) done faults) read.sources;
+  }

@@ -8,14 +8,19 @@ use Rattle.std.specs.Prelude.{OnOk, IfErr, IsErr}
 use Rattle.std.specs.Io.KnownBytes.{Keeps}
 use Rattle.epx_types.specs.declared.fault.Fault.{Fault}
 use Rattle.epx_types.specs.declared.fault.Fault.TheVariants.{Memory, TooManyLogs, LogTooLong}
+use Rattle.epx_types.specs.declared.fault.Fault.TheVariants.{BadLine, TooManyInstances, Disagree}
 use Rattle.epx_types.specs.declared.fault.Fault.TheVariants.{Read, Write}
 use Rattle.epx_types.specs.Instances.{Instance}
 use Rattle.epx_merge.specs.Limits.{max_logs}
+use Rattle.epx_compare.specs.ComparisonAnswers.{IsComparisonRefusal}
 use Rattle.epx_merge.specs.Refusals.{FitLimits, IsRefusal}
 use Rattle.epx_devices.specs.Transfers.{IsReadLogFault}
-use Rattle.epx_tool.specs.Runs.{IsReadingRefusal, IsRunFault}
+use Rattle.epx_tool.specs.Questions.{AnswersBy, AnswersQuestion, map_text_of}
+use Rattle.epx_tool.specs.Runs.{IsReadingRefusal, IsFaultOfRun}
 use Rattle.epx_tool.specs.RunsWithInput.{IsRunFaultWithInput}
 use Rattle.epx_tool.specs.Sources.{StopsAt}
+use Rattle.epx_tool.specs.declared.question.MapText.{MapText}
+use Rattle.epx_tool.specs.declared.question.Question.{Question}
 use Rattle.epx_tool.specs.WithInput.{IsShort, IsRefusalWithInput}
 use Rattle.epx_tool.proofs.LogsWithInputLemmas.{no_stop}
 
@@ -109,21 +114,32 @@ HasRead-written n (Err fault) only = record {
   not_too_many = λ is. cc (is, only);
 }
 
-module _ {T : Type 0} (n : ℕ) (logs : List (List ℕ)) (fault : Fault)
-    (fits : FitLimits logs) where
-  -- a refusal of logs that fit
-  pub HasRead-refused : IsRefusal logs fault → HasRead {T = T} n (Err fault)
-  HasRead-refused refused = record {
+-- a fault of lines: none of a device, and none of the number or the length of the logs
+abbrev pub IsOfLines : Fault → Type 0
+IsOfLines Memory = Unit {0}
+IsOfLines (BadLine place why) = Unit {0}
+IsOfLines TooManyInstances = Unit {0}
+IsOfLines (Disagree id first second) = Unit {0}
+IsOfLines _ = ⊥
+
+module _ {T : Type 0} (n : ℕ) (fault : Fault) (of_lines : IsOfLines fault) where
+  named : (other : Fault) → IsErrOf {T = T} (Err fault) other → IsOfLines other
+  named other is = subst IsOfLines (fault_is fault other is) of_lines
+
+  pub HasRead-of_lines : HasRead {T = T} n (Err fault)
+  HasRead-of_lines = record {
     not_stopped = λ log stops. elim stops [
-      | inl is ↦
-          let first = (subst (IsRefusal logs) (fault_is fault (LogTooLong log) is) refused).1 in
-          omega (arith, fits.1 log first.long.0 first.long.1, first.long.2)
-      | inr is ↦ absurd (subst (IsRefusal logs) (fault_is fault (Read log) is) refused)
+      | inl is ↦ absurd (named (LogTooLong log) is)
+      | inr is ↦ absurd (named (Read log) is)
     ];
-    not_too_many = λ is.
-        omega (arith, fits.0, subst (IsRefusal logs) (fault_is fault TooManyLogs is) refused);
+    not_too_many = λ is. absurd (named TooManyLogs is);
   }
 
+  pub of_lines_not_write : ¬ IsErrOf {T = T} (Err fault) Write
+  of_lines_not_write is = named Write is
+
+module _ {T : Type 0} (n : ℕ) (logs : List (List ℕ)) (fault : Fault)
+    (fits : FitLimits logs) where
   -- a refusal of logs and an extra input that fit
   pub HasRead-refused_with_input : (IsBad : List ℕ → ℕ → Type 0) (input : List ℕ) → IsShort input
       → IsRefusalWithInput IsBad input logs fault → HasRead {T = T} n (Err fault)
@@ -173,11 +189,6 @@ same_past_end new old log same at =
 
 -- ---- the fault of the sink
 
-pub refusal_not_write : {T : Type 0} (logs : List (List ℕ)) (fault : Fault) → IsRefusal logs fault
-    → ¬ IsErrOf {T = T} (Err fault) Write
-refusal_not_write logs fault refused is =
-    subst (IsRefusal logs) (fault_is fault Write is) refused
-
 pub refusal_with_input_not_write : {T : Type 0} (IsBad : List ℕ → ℕ → Type 0) (input : List ℕ)
     (logs : List (List ℕ)) (fault : Fault) → IsRefusalWithInput IsBad input logs fault
     → ¬ IsErrOf {T = T} (Err fault) Write
@@ -199,19 +210,64 @@ keeps_itself (Some bytes) = refl
 
 -- ---- the faults of a run
 
-module _ (logs : List (List ℕ)) (Is : List Instance → List ℕ → Type 0) where
-  pub run_fault_of_sources : (fault : Fault) → IsReadingRefusal logs fault
-      → IsRunFault Is logs fault
-  run_fault_of_sources Memory h = h
-  run_fault_of_sources TooManyLogs h = h
-  run_fault_of_sources (LogTooLong log) h = h
-  run_fault_of_sources (Read log) h = h
-  run_fault_of_sources fault h = absurd h
+-- what a run needs of the answer that it writes: the refusals of reading are among its own, and
+-- logs that fit are refused for their lines alone
+pub record IsLogAnswer (Answer : List (List ℕ) → Result (List ℕ) Fault → Type 0) : Type 0 where
+  pub of_reading : (logs : List (List ℕ)) (fault : Fault) → IsReadingRefusal logs fault
+      → IsFaultOfRun Answer logs fault
+  pub of_lines : (logs : List (List ℕ)) (fault : Fault) → FitLimits logs → Answer logs (Err fault)
+      → IsOfLines fault
 
-  pub run_fault_of_refusal : (fault : Fault) → IsRefusal logs fault → IsRunFault Is logs fault
-  run_fault_of_refusal (Read log) h = absurd h
-  run_fault_of_refusal Write h = absurd h
-  run_fault_of_refusal fault h = h
+merge_refusal_of_lines : (logs : List (List ℕ)) (fault : Fault) → FitLimits logs
+    → IsRefusal logs fault → IsOfLines fault
+merge_refusal_of_lines logs TooManyLogs fits h = omega (arith, fits.0, h)
+merge_refusal_of_lines logs (LogTooLong log) fits h = let first = h.1 in
+    omega (arith, fits.1 log first.long.0 first.long.1, first.long.2)
+merge_refusal_of_lines logs Memory fits h = tt
+merge_refusal_of_lines logs (BadLine place why) fits h = tt
+merge_refusal_of_lines logs TooManyInstances fits h = tt
+merge_refusal_of_lines logs (Disagree id first second) fits h = tt
+merge_refusal_of_lines logs fault fits h = absurd h
+
+comparison_refusal_of_lines : (logs : List (List ℕ)) (fault : Fault) → FitLimits logs
+    → IsComparisonRefusal logs fault → IsOfLines fault
+comparison_refusal_of_lines logs TooManyLogs fits h = omega (arith, fits.0, h)
+comparison_refusal_of_lines logs (LogTooLong log) fits h = let first = h.1 in
+    omega (arith, fits.1 log first.long.0 first.long.1, first.long.2)
+comparison_refusal_of_lines logs Memory fits h = tt
+comparison_refusal_of_lines logs TooManyInstances fits h = tt
+comparison_refusal_of_lines logs fault fits h = absurd h
+
+reading_refusal : (answered : Option MapText) (logs : List (List ℕ)) (fault : Fault)
+    → IsReadingRefusal logs fault → IsFaultOfRun (AnswersBy answered) logs fault
+reading_refusal (Some kind) logs Memory h = h
+reading_refusal None logs Memory h = h
+reading_refusal (Some kind) logs TooManyLogs h = h
+reading_refusal None logs TooManyLogs h = h
+reading_refusal (Some kind) logs (LogTooLong log) h = h
+reading_refusal None logs (LogTooLong log) h = h
+reading_refusal answered logs (Read log) h = h
+reading_refusal answered logs fault h = absurd h
+
+answer_by : (answered : Option MapText) → IsLogAnswer (AnswersBy answered)
+answer_by (Some kind) = record {
+  of_reading = reading_refusal (Some kind);
+  of_lines = merge_refusal_of_lines;
+}
+answer_by None = record {
+  of_reading = reading_refusal None;
+  of_lines = comparison_refusal_of_lines;
+}
+
+pub question_answer : (question : Question) → IsLogAnswer (AnswersQuestion question)
+question_answer question = answer_by (map_text_of question)
+
+pub run_fault_of_lines : (Answer : List (List ℕ) → Result (List ℕ) Fault → Type 0)
+    (logs : List (List ℕ)) (fault : Fault) → IsOfLines fault → Answer logs (Err fault)
+    → IsFaultOfRun Answer logs fault
+run_fault_of_lines Answer logs (Read log) of_lines h = absurd of_lines
+run_fault_of_lines Answer logs Write of_lines h = absurd of_lines
+run_fault_of_lines Answer logs fault of_lines h = h
 
 pub run_fault_of_refusal_with_input : (IsBad : List ℕ → ℕ → Type 0)
     (Is : List ℕ → List Instance → List ℕ → Type 0) (input : List ℕ) (logs : List (List ℕ))

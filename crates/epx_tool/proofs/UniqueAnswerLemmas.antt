@@ -1,6 +1,6 @@
 -- Logs have at most one answer.
 use Rattle.std.proofs.Common.{◌≡◌, ◌≢◌, ℕ, List, Result, Ok, Err, inl, inr, sym, ap, ap₂, ◌∙◌}
-use Rattle.std.proofs.Common.{subst}
+use Rattle.std.proofs.Common.{Option, Some, None, subst}
 use Rattle.std.specs.FinMap as contents
 use Rattle.epx_types.specs.declared.fault.Fault.{Fault}
 use Rattle.epx_types.specs.declared.fault.Fault.TheVariants.{Memory}
@@ -19,9 +19,12 @@ use Rattle.epx_tool.specs.AuditText.{IsAuditText}
 use Rattle.epx_report.specs.ViewLines.{uncovered_line}
 use Rattle.epx_picture.proofs.UniquePictureLemmas.{picture_is_one}
 use Rattle.epx_audit.proofs.UniquePairLemmas.{uncovered_not_covered, least_uncovered_is_one}
-use Rattle.epx_tool.specs.declared.ask.Ask.{Ask}
-use Rattle.epx_tool.specs.declared.ask.Ask.TheVariants.{Order, Levels, Audit, Graph}
-use Rattle.epx_tool.specs.Views.{IsViewText}
+use Rattle.epx_compare.proofs.ComparisonAnswerLemmas.{compares_unique}
+use Rattle.epx_tool.specs.declared.question.MapText.{MapText}
+use Rattle.epx_tool.specs.declared.question.MapText.TheVariants.{Report, Order, Levels, Audit}
+use Rattle.epx_tool.specs.declared.question.MapText.TheVariants.{Graph}
+use Rattle.epx_tool.specs.MapTexts.{IsMapText}
+use Rattle.epx_tool.specs.Questions.{AnswersBy}
 use Rattle.epx_tool.specs.Answer.{Answers}
 
 pub IsReport-unique : (m : List Instance) (text other : List ℕ) → IsReport m text
@@ -60,12 +63,13 @@ IsAuditText-unique m text other (inr p) (inr q) =
     let same = least_uncovered_is_one m p.0 p.1 q.0 q.1 p.2 q.2 in
     p.3 ∙ ap₂ uncovered_line same.0 same.1 ∙ sym q.3
 
-pub IsViewText-unique : (ask : Ask) (m : List Instance) (text other : List ℕ)
-    → IsViewText ask m text → IsViewText ask m other → text ≡ other
-IsViewText-unique Order = IsOrderText-unique
-IsViewText-unique Levels = IsLevelText-unique
-IsViewText-unique Audit = IsAuditText-unique
-IsViewText-unique Graph = picture_is_one
+IsMapText-unique : (kind : MapText) (m : List Instance) (text other : List ℕ)
+    → IsMapText kind m text → IsMapText kind m other → text ≡ other
+IsMapText-unique Report = IsReport-unique
+IsMapText-unique Order = IsOrderText-unique
+IsMapText-unique Levels = IsLevelText-unique
+IsMapText-unique Audit = IsAuditText-unique
+IsMapText-unique Graph = picture_is_one
 
 -- if each committed map has at most one text, logs have at most one answer, except for out of
 -- memory
@@ -82,3 +86,9 @@ module _ (Is : List Instance → List ℕ → Type 0)
       absurd (s (ap Err (accepted_not_refused logs q.0 fault q.1 p)))
   Answers-unique logs (Err fault) (Err other) s t p q =
       ap Err (refusal_unique logs fault other (λ e. s (ap Err e)) (λ e. t (ap Err e)) p q)
+
+pub AnswersBy-unique : (answered : Option MapText) (logs : List (List ℕ))
+    (a b : Result (List ℕ) Fault) → a ≢ Err Memory → b ≢ Err Memory → AnswersBy answered logs a
+    → AnswersBy answered logs b → a ≡ b
+AnswersBy-unique (Some kind) = Answers-unique (IsMapText kind) (IsMapText-unique kind)
+AnswersBy-unique None = compares_unique

@@ -6,22 +6,24 @@ use Rattle.epx_types.specs.Ids.{IsRising}
 use Rattle.epx_types.specs.Instances.{Instance}
 use Rattle.epx_types.specs.CommittedMap.{ids_of}
 use Rattle.epx_tool.specs.declared.ask.Ask.{Ask}
+use Rattle.epx_tool.specs.declared.question.MapText.{MapText}
 use Rattle.epx_tool.specs.Report.{IsReport}
 use Rattle.epx_tool.specs.OrderText.{IsOrderText}
 use Rattle.epx_tool.specs.LevelText.{IsLevelText}
 use Rattle.epx_tool.specs.AuditText.{IsAuditText}
-use Rattle.epx_tool.specs.Views.{IsViewText}
-use Rattle.epx_tool.specs.Answer.{Answers, IsAnswer}
+use Rattle.epx_tool.specs.MapTexts.{IsMapText}
+use Rattle.epx_tool.specs.Questions.{AnswersView}
+use Rattle.epx_tool.specs.Answer.{IsAnswer}
 
 -- a committed map has a report
 abbrev pub ReportExists : Type 0
 ReportExists = (m : List Instance) → IsRising (ids_of m) → (text : List ℕ) × IsReport m text
 
--- a committed map has a text of its execution order, a text of its conflict levels, a text of its
--- audit, and a picture
-abbrev pub ViewTextExists : Type 0
-ViewTextExists = (ask : Ask) (m : List Instance) → IsRising (ids_of m) → (text : List ℕ)
-    × IsViewText ask m text
+-- a committed map has a report, a text of its execution order, a text of its conflict levels, a
+-- text of its audit, and a picture
+abbrev pub MapTextExists : Type 0
+MapTextExists = (kind : MapText) (m : List Instance) → IsRising (ids_of m) → (text : List ℕ)
+    × IsMapText kind m text
 
 -- a committed map has at most one report
 abbrev pub ReportIsOne : Type 0
@@ -51,7 +53,7 @@ AnswerExists = (logs : List (List ℕ)) → (a : Result (List ℕ) Fault) × (a 
 -- every list of logs has an answer to each view other than out of memory
 abbrev pub ViewExists : Type 0
 ViewExists = (ask : Ask) (logs : List (List ℕ)) → (a : Result (List ℕ) Fault) × (a ≢ Err Memory)
-    × Answers (IsViewText ask) logs a
+    × AnswersView ask logs a
 
 -- logs have at most one answer, except for out of memory
 abbrev pub AnswerIsOne : Type 0
@@ -61,4 +63,4 @@ AnswerIsOne = (logs : List (List ℕ)) (a b : Result (List ℕ) Fault) → a ≢
 -- logs have at most one answer to each view, except for out of memory
 abbrev pub ViewIsOne : Type 0
 ViewIsOne = (ask : Ask) (logs : List (List ℕ)) (a b : Result (List ℕ) Fault) → a ≢ Err Memory
-    → b ≢ Err Memory → Answers (IsViewText ask) logs a → Answers (IsViewText ask) logs b → a ≡ b
+    → b ≢ Err Memory → AnswersView ask logs a → AnswersView ask logs b → a ≡ b

@@ -1,6 +1,7 @@
 -- How a run ends, by what its sources delivered in it. The bytes of the sources need not be known
 -- before the run.
-use Rattle.std.specs.Prelude.{◌≡◌, ◌⊎◌, ℕ, ◌<◌, List, [], ◌∷◌, length, slice_get, Some, Ok}
+use Rattle.std.specs.Prelude.{◌≡◌, ◌⊎◌, ℕ, ◌<◌, List, [], ◌∷◌, length, slice_get, Some}
+use Rattle.std.specs.Prelude.{Result, Ok}
 use Rattle.epx_types.specs.declared.fault.Fault.{Fault}
 use Rattle.epx_types.specs.declared.fault.Fault.TheVariants.{Memory, TooManyLogs}
 use Rattle.epx_types.specs.Instances.{Instance}
@@ -62,24 +63,34 @@ StopsReading reads fails old new fault =
 -- ---- how a run ends
 
 -- the logs that the sources delivered have an answer, and it was written as `Written` says
-pub record AnswersDelivered {S : Type 0} (reads : ReadRelation S)
-    (Is : List Instance → List ℕ → Type 0) (old new : List S)
+pub record WritesDelivered {S : Type 0} (reads : ReadRelation S)
+    (Answer : List (List ℕ) → Result (List ℕ) Fault → Type 0) (old new : List S)
     (Written : List ℕ → Type 0) : Type 0 where
   pub logs : List (List ℕ)
   pub delivered : EachDelivers reads old new logs
   pub text : List ℕ
-  pub answer : Answers Is logs (Ok text)
+  pub answer : Answer logs (Ok text)
   pub written : Written text
+
+-- the same for the text `Is` of the committed map
+abbrev pub AnswersDelivered : {S : Type 0} → ReadRelation S → (List Instance → List ℕ → Type 0)
+    → List S → List S → (List ℕ → Type 0) → Type 0
+AnswersDelivered reads Is = WritesDelivered reads (Answers Is)
 
 -- the sources delivered logs, and the fault is the refusal of these logs
 pub record RefusesDelivered {S : Type 0} (reads : ReadRelation S)
-    (old new : List S) (fault : Fault) : Type 0 where
+    (Refuses : List (List ℕ) → Fault → Type 0) (old new : List S) (fault : Fault) : Type 0 where
   pub logs : List (List ℕ)
   pub delivered : EachDelivers reads old new logs
-  pub refusal : IsRefusal logs fault
+  pub refusal : Refuses logs fault
 
 -- a run ends with this fault: reading stopped with it, or it is the refusal of the delivered logs
+abbrev pub EndsRefused : {S : Type 0} → ReadRelation S → FailRelation S
+    → (List (List ℕ) → Fault → Type 0) → List S → List S → Fault → Type 0
+EndsRefused reads fails Refuses old new fault =
+    StopsReading reads fails old new fault ⊎ RefusesDelivered reads Refuses old new fault
+
+-- the same for the refusals of logs that are merged
 abbrev pub EndsWithout : {S : Type 0} → ReadRelation S → FailRelation S
     → List S → List S → Fault → Type 0
-EndsWithout reads fails old new fault =
-    StopsReading reads fails old new fault ⊎ RefusesDelivered reads old new fault
+EndsWithout reads fails = EndsRefused reads fails IsRefusal

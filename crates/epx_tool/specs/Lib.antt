@@ -4,7 +4,7 @@ pub mod ResumedReport
 pub mod OrderText
 pub mod LevelText
 pub mod AuditText
-pub mod Views
+pub mod MapTexts
 pub mod Answer
 pub mod WithInput
 pub mod Resumption

@@ -1,16 +1,15 @@
 -- How a run ends: what it writes, and how it leaves its sources.
 use Rattle.std.specs.Prelude.{◌≡◌, ◌≢◌, ◌↔◌, ℕ, Bool, true, List, length, Option, Some, Result}
-use Rattle.std.specs.Prelude.{Ok, OnOk, IfErr, IsErrOf}
+use Rattle.std.specs.Prelude.{Ok, Err, OnOk, IfErr, IsErrOf}
 use Rattle.std.specs.Io.KnownBytes.{Appends, Keeps}
 use Rattle.epx_types.specs.declared.fault.Fault.{Fault}
 use Rattle.epx_types.specs.declared.fault.Fault.TheVariants.{Write}
 use Rattle.epx_types.specs.Instances.{Instance}
 use Rattle.epx_devices.specs.Deliveries.{FailRelation, ReadRelation}
 use Rattle.epx_devices.specs.Transfers.{AppendsPrefix}
-use Rattle.epx_tool.specs.Answer.{Answers}
-use Rattle.epx_tool.specs.Delivered.{AnswersDelivered, EndsWithout}
+use Rattle.epx_tool.specs.Delivered.{WritesDelivered, EndsRefused}
 use Rattle.epx_tool.specs.DeliveredWithInput.{AnswersBoth, EndsWithoutBoth}
-use Rattle.epx_tool.specs.Runs.{AreBytesOf, IsRunFault}
+use Rattle.epx_tool.specs.Runs.{AreBytesOf, IsFaultOfRun}
 use Rattle.epx_tool.specs.RunsWithInput.{IsRunFaultWithInput}
 use Rattle.epx_tool.specs.Sources.{LeavesSources, LeavesInput}
 use Rattle.epx_tool.specs.WithInput.{AnswersWithInput}
@@ -34,15 +33,17 @@ pub record WritesAnswer {Given : Type 0} (OfKnown : (Given → Type 0) → Type 
   pub part : IsErrOf result Write → Delivered (AppendsPrefix was now)
   pub written : IsErrOf result Write ↔ (sink_failed ≡ true)
 
--- a run over logs whose text `Is` describes ends with this result
+-- a run over logs that writes this answer ends with this result
 pub record EndsRun {S : Type 0} (remaining : S → Option (List ℕ)) (reads : ReadRelation S)
-    (fails : FailRelation S) (has_failed : S → Bool) (Is : List Instance → List ℕ → Type 0)
-    (old new : List S) (was now : Option (List ℕ)) (is_flushed sink_failed : Bool)
+    (fails : FailRelation S) (has_failed : S → Bool)
+    (Answer : List (List ℕ) → Result (List ℕ) Fault → Type 0) (old new : List S)
+    (was now : Option (List ℕ)) (is_flushed sink_failed : Bool)
     (result : Result (Unit {0}) Fault) : Type 0 where
   pub sink : WritesAnswer
       (λ P. (logs : List (List ℕ)) → AreBytesOf remaining old logs → P logs)
-      (λ logs text. Answers Is logs (Ok text)) (IsRunFault Is)
-      (AnswersDelivered reads Is old new) (EndsWithout reads fails old new)
+      (λ logs text. Answer logs (Ok text)) (IsFaultOfRun Answer)
+      (WritesDelivered reads Answer old new)
+      (EndsRefused reads fails (λ logs fault. Answer logs (Err fault)) old new)
       was now is_flushed sink_failed result
   pub sources : LeavesSources remaining has_failed old new result
 

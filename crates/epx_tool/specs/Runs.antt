@@ -1,11 +1,12 @@
 -- A run: logs are read from sources, and the answer to them is written to a sink.
-use Rattle.std.specs.Prelude.{◌≡◌, ℕ, ◌<◌, ◌≤◌, List, map, length, slice_get, Option, Some, Ok}
+use Rattle.std.specs.Prelude.{◌≡◌, ℕ, ◌<◌, ◌≤◌, List, map, length, slice_get, Option, Some}
+use Rattle.std.specs.Prelude.{Result, Ok, Err}
 use Rattle.epx_types.specs.declared.fault.Fault.{Fault}
 use Rattle.epx_types.specs.declared.fault.Fault.TheVariants.{Memory, TooManyLogs, LogTooLong, Read}
 use Rattle.epx_types.specs.declared.fault.Fault.TheVariants.{Write}
 use Rattle.epx_types.specs.Instances.{Instance}
 use Rattle.epx_merge.specs.Limits.{max_logs, max_log_bytes}
-use Rattle.epx_merge.specs.Refusals.{IsFirstTooLong, IsRefusal}
+use Rattle.epx_merge.specs.Refusals.{IsFirstTooLong}
 use Rattle.epx_tool.specs.Answer.{Answers}
 
 -- the bytes that each source has left to deliver
@@ -27,9 +28,14 @@ IsReadingRefusal logs (Read log) = (length logs ≤ max_logs) × (log < length l
     × NoneTooLongBefore logs log
 IsReadingRefusal logs _ = ⊥
 
--- the faults of a run whose text `Is` describes: the refusal of the logs, or the fault of a device
-abbrev pub IsRunFault : (List Instance → List ℕ → Type 0) → List (List ℕ) → Fault → Type 0
-IsRunFault Is logs (Read log) = (length logs ≤ max_logs) × (log < length logs)
+-- the faults of a run that writes this answer: the refusal of the logs, or the fault of a device
+abbrev pub IsFaultOfRun : (List (List ℕ) → Result (List ℕ) Fault → Type 0) → List (List ℕ) → Fault
+    → Type 0
+IsFaultOfRun Answer logs (Read log) = (length logs ≤ max_logs) × (log < length logs)
     × NoneTooLongBefore logs log
-IsRunFault Is logs Write = (text : List ℕ) × Answers Is logs (Ok text)
-IsRunFault Is logs fault = IsRefusal logs fault
+IsFaultOfRun Answer logs Write = (text : List ℕ) × Answer logs (Ok text)
+IsFaultOfRun Answer logs fault = Answer logs (Err fault)
+
+-- those of a run that writes the text `Is` of the committed map
+abbrev pub IsRunFault : (List Instance → List ℕ → Type 0) → List (List ℕ) → Fault → Type 0
+IsRunFault Is = IsFaultOfRun (Answers Is)

@@ -1,14 +1,14 @@
 //! The answer to logs.
 ghost use Rattle.std.specs.Prelude.{MatchResult, Ok, Err};
 ghost use Rattle.epx_merge.specs.LogLines.{bytes_of};
-ghost use Rattle.epx_tool.specs.Answer.{Answers, IsAnswer};
-ghost use Rattle.epx_tool.specs.Views.{IsViewText};
-ghost use Rattle.epx_tool.specs.Questions.{IsTextOf};
+ghost use Rattle.epx_tool.specs.Answer.{IsAnswer};
+ghost use Rattle.epx_tool.specs.Questions.{AnswersQuestion, AnswersView};
 
 use crate::ask::Ask;
 use crate::map_texts::text_of;
 use crate::question::Question;
 use epx_claims::FreeGate;
+use epx_compare::compare;
 use epx_merge::read_logs;
 use epx_types::{Fault, Plan};
 use std::alloc::Global;
@@ -24,14 +24,17 @@ fn answer_question<R: Threads + RandomSource + Sync>(
     plan: Plan,
 ) -> Result<Vec<u8>, Fault>
     ensures { let bytes = bytes_of logs.now in
-        MatchResult result (λ text. Answers (IsTextOf question) bytes (Ok text.items))
-        (λ fault. Answers (IsTextOf question) bytes (Err fault)) }
+        MatchResult result (λ text. AnswersQuestion question bytes (Ok text.items))
+        (λ fault. AnswersQuestion question bytes (Err fault)) }
 {
+    let Some(kind) = question.map_text() else {
+        return Ok(compare(rt, alloc, logs)?.text);
+    };
     let merged = match read_logs(rt, alloc, logs, plan, &FreeGate) {
         Ok(merged) => merged,
         Err(fault) => return Err(fault),
     };
-    let text = text_of(rt, alloc, question, merged, plan)?;
+    let text = text_of(rt, alloc, kind, merged, plan)?;
     Ok(text)
 }
 
@@ -51,7 +54,8 @@ pub fn answer<R: Threads + RandomSource + Sync>(
     answer_question(rt, alloc, Question::Report, logs, plan)
 }
 
-/// Like `answer`, but it returns a view instead of the report.
+/// Like `answer`, but it returns a view instead of the report. `Ask::Compare` has no refusal
+/// `BadLine` or `Disagree`.
 pub fn view<R: Threads + RandomSource + Sync>(
     rt: &R,
     alloc: Global,
@@ -60,8 +64,8 @@ pub fn view<R: Threads + RandomSource + Sync>(
     plan: Plan,
 ) -> Result<Vec<u8>, Fault>
     ensures { let bytes = bytes_of logs.now in
-        MatchResult result (λ text. Answers (IsViewText ask) bytes (Ok text.items))
-        (λ fault. Answers (IsViewText ask) bytes (Err fault)) }
+        MatchResult result (λ text. AnswersView ask bytes (Ok text.items))
+        (λ fault. AnswersView ask bytes (Err fault)) }
 {
     answer_question(rt, alloc, Question::View(ask), logs, plan)
 }

@@ -11,4 +11,7 @@ pub enum Ask {
     Audit,
     /// The dependency graph, as a picture in DOT.
     Graph,
+    /// What the logs say against each other. Bad lines and disagreements are lines of this view,
+    /// and no faults.
+    Compare,
 }

@@ -1,6 +1,6 @@
 //! Laws of answers: these definitions mean what they should. Each function has an empty body, and
 //! its contract is the law.
-ghost use Rattle.epx_tool.specs.AnswerLaws.{ReportExists, ViewTextExists, ReportIsOne};
+ghost use Rattle.epx_tool.specs.AnswerLaws.{ReportExists, MapTextExists, ReportIsOne};
 ghost use Rattle.epx_tool.specs.AnswerLaws.{OrderTextIsOne, LevelTextIsOne, AuditTextIsOne};
 ghost use Rattle.epx_tool.specs.AnswerLaws.{AnswerExists, ViewExists, AnswerIsOne, ViewIsOne};
 ghost use Rattle.epx_tool.specs.CheckLaws.{CheckExists, CheckIsOne, LawfulTextMeansLawful};
@@ -19,8 +19,8 @@ pub fn report_exists()
 
 /// A committed map has a text of its execution order, a text of its conflict levels, a text of its
 /// audit, and a picture.
-pub fn view_text_exists()
-    ensures { ViewTextExists }
+pub fn map_text_exists()
+    ensures { MapTextExists }
 {}
 
 /// A committed map has at most one report.

@@ -31,6 +31,6 @@ pub use epx_devices::{
 pub use epx_words::{Task, Words, read_words};
 pub use input_answers::{check, resume};
 pub use input_runs::run_with_input;
-pub use question::{InputQuestion, Question};
+pub use question::{InputQuestion, MapText, Question};
 pub use resumed_runs::run_resume;
 pub use runs::{run, run_question, show};

@@ -11,13 +11,11 @@ ghost use Rattle.epx_tool.specs.LevelText.{IsLevelText};
 ghost use Rattle.epx_tool.specs.AuditText.{IsAuditText};
 ghost use Rattle.epx_tool.specs.Report.{ops_found, IsReport};
 ghost use Rattle.epx_tool.specs.ResumedReport.{resumed_text, IsReportAfter};
-ghost use Rattle.epx_tool.specs.Views.{IsViewText};
-ghost use Rattle.epx_tool.specs.Questions.{IsTextOf};
+ghost use Rattle.epx_tool.specs.MapTexts.{IsMapText};
 ghost use Rattle.epx_picture.specs.Pictures.{IsPicture};
 
-use crate::ask::Ask;
 use crate::commands::{all_commands, commands};
-use crate::question::Question;
+use crate::question::MapText;
 use crate::report::{level_report, order_report, report};
 use crate::verdict::audit_line;
 use epx_apply::{LevelMap, levels, run_order};
@@ -192,37 +190,22 @@ fn picture_of<R: Threads + Sync>(
     picture(alloc, merged, &graph)
 }
 
-/// A view of a committed map.
-fn view_of<R: Threads + Sync>(
-    rt: &R,
-    alloc: Global,
-    ask: Ask,
-    merged: &Merged,
-    plan: Plan,
-) -> Result<Vec<u8>, Memory>
-    ensures { IfOk result (λ text. IsViewText ask merged.now text.items) }
-{
-    match ask {
-        Ask::Order => order_of(rt, alloc, merged, plan),
-        Ask::Levels => levels_of(rt, alloc, merged, plan),
-        Ask::Audit => audit_of(rt, alloc, merged, plan),
-        Ask::Graph => picture_of(rt, alloc, merged, plan),
-    }
-}
-
-/// The text that a committed map has for a question.
+/// A text of a committed map.
 pub(crate) fn text_of<R: Threads + RandomSource + Sync>(
     rt: &R,
     alloc: Global,
-    question: Question,
+    kind: MapText,
     merged: Merged,
     plan: Plan,
 ) -> Result<Vec<u8>, Memory>
     requires few { length merged ≤ max_instances }
-    ensures { IfOk result (λ text. IsTextOf question merged text.items) }
+    ensures { IfOk result (λ text. IsMapText kind merged text.items) }
 {
-    match question {
-        Question::Report => whole_report(rt, alloc, merged, plan),
-        Question::View(ask) => view_of(rt, alloc, ask, &merged, plan),
+    match kind {
+        MapText::Report => whole_report(rt, alloc, merged, plan),
+        MapText::Order => order_of(rt, alloc, &merged, plan),
+        MapText::Levels => levels_of(rt, alloc, &merged, plan),
+        MapText::Audit => audit_of(rt, alloc, &merged, plan),
+        MapText::Graph => picture_of(rt, alloc, &merged, plan),
     }
 }

@@ -1,4 +1,7 @@
 //! The questions that are asked of logs, alone or with an extra input.
+ghost use Rattle.std.specs.Prelude.{◌≡◌};
+ghost use Rattle.epx_tool.specs.Questions.{map_text_of};
+
 use crate::ask::Ask;
 
 /// What is asked of logs.
@@ -8,6 +11,32 @@ pub enum Question {
     Report,
     /// A view.
     View(Ask),
+}
+
+/// A text of the map that logs commit.
+#[derive(Clone, Copy, Debug, PartialEq, Eq)]
+pub enum MapText {
+    Report,
+    Order,
+    Levels,
+    Audit,
+    Graph,
+}
+
+impl Question {
+    /// The text of the committed map that answers the question. A comparison is not one of a map.
+    pub(crate) fn map_text(self) -> Option<MapText>
+        ensures { result ≡ map_text_of self }
+    {
+        match self {
+            Question::Report => Some(MapText::Report),
+            Question::View(Ask::Order) => Some(MapText::Order),
+            Question::View(Ask::Levels) => Some(MapText::Levels),
+            Question::View(Ask::Audit) => Some(MapText::Audit),
+            Question::View(Ask::Graph) => Some(MapText::Graph),
+            Question::View(Ask::Compare) => None,
+        }
+    }
 }
 
 /// What is asked of logs and an extra input.

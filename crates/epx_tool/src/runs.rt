@@ -1,29 +1,85 @@
 //! A run: it reads logs from sources, and writes the answer to a sink.
 ghost use Rattle.std.specs.Prelude.{◌≡◌, ◌≢◌, ◌↔◌, ◌+◌, ◌<◌, ℕ, true, false, map, drop, length};
-ghost use Rattle.std.specs.Prelude.{All, Some, slice_get, Ok, IfOk, OnOk, IfErr, IsErrOf};
+ghost use Rattle.std.specs.Prelude.{All, Some, slice_get, Ok, Err, IfOk, OnOk, IfErr, IsErrOf};
+ghost use Rattle.std.specs.Prelude.{MatchResult};
 ghost use Rattle.std.specs.Io.KnownBytes.{Appends, Keeps, IsAtEnd};
 ghost use Rattle.epx_merge.specs.Limits.{max_log_bytes};
 ghost use Rattle.epx_merge.specs.Refusals.{FitLimits};
 ghost use Rattle.epx_tool.specs.Answer.{Answers};
 ghost use Rattle.epx_tool.specs.Report.{IsReport};
-ghost use Rattle.epx_tool.specs.Views.{IsViewText};
-ghost use Rattle.epx_tool.specs.Runs.{AreBytesOf, IsReadingRefusal, IsRunFault};
+ghost use Rattle.epx_tool.specs.Runs.{AreBytesOf, IsFaultOfRun, IsReadingRefusal, IsRunFault};
 ghost use Rattle.epx_tool.specs.Sources.{EachConsumesUpTo, StopsAt};
-ghost use Rattle.epx_tool.specs.Delivered.{AnswersDelivered, EndsWithout};
-ghost use Rattle.epx_tool.specs.Questions.{IsTextOf};
+ghost use Rattle.epx_tool.specs.Delivered.{AnswersDelivered, EndsRefused, EndsWithout};
+ghost use Rattle.epx_tool.specs.Delivered.{WritesDelivered};
+ghost use Rattle.epx_tool.specs.Questions.{AnswersQuestion, AnswersView};
 ghost use Rattle.epx_tool.specs.RunEndings.{EndsRun};
+ghost use Rattle.epx_tool.specs.inner.SourceReadings.{EndsMaking};
+ghost use Rattle.epx_compare.specs.ComparisonAnswers.{Compares};
 ghost use Rattle.epx_devices.specs.Transfers.{AppendsPrefix};
 
 use crate::ask::Ask;
 use crate::map_texts::text_of;
 use crate::merged_sources::merge_sources;
 use crate::question::Question;
+use crate::sources::read_sources;
+use epx_compare::compare;
 use epx_devices::{Sink, Source, write_out};
 use epx_types::limits::MAX_LOGS;
-use epx_types::{Fault, Plan};
+use epx_types::{Fault, Memory, Plan};
 use std::alloc::Global;
 use std::random::RandomSource;
 use std::thread::Threads;
+
+/// The comparison of the logs of all sources, which are read in order.
+fn compare_sources<R: RandomSource, S: Source>(
+    rt: &R,
+    alloc: Global,
+    sources: &mut [S],
+) -> Result<Vec<u8>, Fault>
+    requires { All (λ s. S.has_failed s ≡ false) sources.old }
+    ensures { MatchResult result
+        (λ text. EndsMaking S.remaining S.reads S.fails S.has_failed Compares sources.old sources.new
+        (Ok text.items))
+        (λ fault. EndsMaking S.remaining S.reads S.fails S.has_failed Compares sources.old
+        sources.new (Err fault)) }
+{
+    let logs = match read_sources(alloc, sources) {
+        Ok(logs) => logs,
+        Err(fault) => return Err(fault),
+    };
+    match compare(rt, alloc, &logs) {
+        Ok(comparison) => Ok(comparison.text),
+        Err(fault) => Err(fault),
+    }
+}
+
+/// The answer to a question about the logs of all sources, which are read in order.
+fn answer_sources<R: Threads + RandomSource + Sync, S: Source>(
+    rt: &R,
+    alloc: Global,
+    question: Question,
+    sources: &mut [S],
+    plan: Plan,
+) -> Result<Vec<u8>, Fault>
+    requires { All (λ s. S.has_failed s ≡ false) sources.old }
+    ensures { MatchResult result
+        (λ text. EndsMaking S.remaining S.reads S.fails S.has_failed (AnswersQuestion question)
+        sources.old sources.new (Ok text.items))
+        (λ fault. EndsMaking S.remaining S.reads S.fails S.has_failed (AnswersQuestion question)
+        sources.old sources.new (Err fault)) }
+{
+    let Some(kind) = question.map_text() else {
+        return compare_sources(rt, alloc, sources);
+    };
+    let merged = match merge_sources(rt, alloc, sources, plan) {
+        Ok(merged) => merged,
+        Err(fault) => return Err(fault),
+    };
+    match text_of(rt, alloc, kind, merged, plan) {
+        Ok(text) => Ok(text),
+        Err(Memory) => Err(Fault::Memory),
+    }
+}
 
 /// Reads the logs from the sources in order, and writes the answer to a question about them to the
 /// sink. `run` and `show` are this call for one question each.
@@ -37,16 +93,13 @@ pub fn run_question<T: Threads + RandomSource + Sync, S: Source, W: Sink>(
 ) -> Result<(), Fault>
     requires sources { All (λ s. S.has_failed s ≡ false) sources.old }
     requires sink { W.has_failed sink.old ≡ false }
-    ensures { EndsRun S.remaining S.reads S.fails S.has_failed (IsTextOf question) sources.old
-        sources.new (W.contents sink.old) (W.contents sink.new) (W.is_flushed sink.new)
+    ensures { EndsRun S.remaining S.reads S.fails S.has_failed (AnswersQuestion question)
+        sources.old sources.new (W.contents sink.old) (W.contents sink.new) (W.is_flushed sink.new)
         (W.has_failed sink.new) result }
 {
-    let merged = match merge_sources(rt, alloc, sources, plan) {
-        Ok(merged) => merged,
+    let text = match answer_sources(rt, alloc, question, sources, plan) {
+        Ok(text) => text,
         Err(fault) => return Err(fault),
-    };
-    let Ok(text) = text_of(rt, alloc, question, merged, plan) else {
-        return Err(Fault::Memory);
     };
     write_out(&text, sink)
 }
@@ -113,25 +166,26 @@ pub fn show<T: Threads + RandomSource + Sync, S: Source, W: Sink>(
     requires sink { W.has_failed sink.old ≡ false }
 
     ensures text { OnOk result ((logs : _) → AreBytesOf S.remaining sources.old logs →
-        (text : _) × Answers (IsViewText ask) logs (Ok text)
+        (text : _) × AnswersView ask logs (Ok text)
         × Appends (W.contents sink.old) (W.contents sink.new) text) }
     ensures answered { OnOk result
-        (AnswersDelivered S.reads (IsViewText ask) sources.old sources.new
+        (WritesDelivered S.reads (AnswersView ask) sources.old sources.new
         (Appends (W.contents sink.old) (W.contents sink.new))) }
     ensures flushed { OnOk result (W.is_flushed sink.new ≡ true) }
 
     ensures refusal { IfErr result (λ fault. (logs : _) → AreBytesOf S.remaining sources.old logs
-        → IsRunFault (IsViewText ask) logs fault) }
+        → IsFaultOfRun (AnswersView ask) logs fault) }
     ensures refused { IfErr result (λ fault. fault ≢ Fault.Write →
-        EndsWithout S.reads S.fails sources.old sources.new fault) }
+        EndsRefused S.reads S.fails (λ logs why. AnswersView ask logs (Err why)) sources.old
+        sources.new fault) }
     ensures nothing { IfErr result (λ fault. fault ≢ Fault.Write
         → Keeps (W.contents sink.old) (W.contents sink.new)) }
     ensures prefix { IsErrOf result Fault.Write → (logs : _)
         → AreBytesOf S.remaining sources.old logs →
-        (text : _) × Answers (IsViewText ask) logs (Ok text)
+        (text : _) × AnswersView ask logs (Ok text)
         × AppendsPrefix (W.contents sink.old) (W.contents sink.new) text }
     ensures part { IsErrOf result Fault.Write →
-        AnswersDelivered S.reads (IsViewText ask) sources.old sources.new
+        WritesDelivered S.reads (AnswersView ask) sources.old sources.new
         (AppendsPrefix (W.contents sink.old) (W.contents sink.new)) }
 
     ensures read { (log : _) (source : _) → slice_get sources.new log ≡ Some source

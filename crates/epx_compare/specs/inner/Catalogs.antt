@@ -1,11 +1,12 @@
 -- Noted lines by instance and by version.
-use Rattle.std.specs.Prelude.{◌≡◌, ◌↔◌, ℕ, List, map, length, Contains, Some, slice_get}
+use Rattle.std.specs.Prelude.{◌≡◌, ◌≢◌, ◌↔◌, true, ℕ, List, [], map, length, Contains, Some, slice_get}
 use Rattle.epx_types.specs.declared.id.Id.{Id}
 use Rattle.epx_types.specs.PlacedLines.{Placed}
 use Rattle.epx_merge.specs.LogLines.{BadLineAt}
 use Rattle.epx_rows.specs.PositionGroups.{AreGroupsOf}
 use Rattle.epx_compare.specs.declared.catalog.Catalog.{Catalog}
-use Rattle.epx_compare.specs.Comparisons.{comparison_text}
+use Rattle.epx_compare.specs.declared.comparison.Comparison.{Comparison}
+use Rattle.epx_compare.specs.Comparisons.{comparison_text, findings_text}
 use Rattle.epx_compare.specs.Differences.{versions_of}
 use Rattle.epx_compare.specs.Unmet.{AreUnmet}
 use Rattle.epx_compare.specs.inner.NotedRows.{AreNoted}
@@ -27,9 +28,10 @@ pub record IsCatalogOf (lines : List Placed) (bad : List BadLineAt) (c : Catalog
   pub rows : AreGroupsOf (map (λ r. r.version) c.noted.rows.items) c.lines
   pub each_version : length c.lines ≡ length (versions_of lines)
 
--- the text of lines and bad lines of logs; `ids` are the instances that the lines commit
-pub record IsCatalogText (logs : ℕ) (lines : List Placed) (bad : List BadLineAt) (ids : List Id)
-    (text : List ℕ) : Type 0 where
+-- the comparison of lines and bad lines of logs; `ids` are the instances that the lines commit
+pub record IsCatalogComparison (logs : ℕ) (lines : List Placed) (bad : List BadLineAt)
+    (ids : List Id) (c : Comparison) : Type 0 where
   pub unmet : List Id
   pub open_ends : AreUnmet lines ids unmet
-  pub printed : text ≡ comparison_text logs lines bad ids unmet
+  pub printed : c.text.items ≡ comparison_text logs lines bad ids unmet
+  pub found : (c.has_findings ≡ true) ↔ (findings_text logs lines bad ids ≢ [])

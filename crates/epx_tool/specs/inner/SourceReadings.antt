@@ -1,6 +1,7 @@
 -- Reading sources one after another: how far it is, and how it ends.
 use Rattle.std.specs.Prelude.{◌≡◌, ◌≤◌, ◌<◌, ◌+◌, ◌++◌, ◌⊎◌, ℕ, Bool, false, List, length, take}
 use Rattle.std.specs.Prelude.{drop, All, Option, Vec, Result, Ok, Err, IfOk, IfErr, IsErrOf}
+use Rattle.std.specs.Prelude.{MatchResult}
 use Rattle.std.specs.declared.alloc.Global.{Global}
 use Rattle.std.specs.Io.KnownBytes.{IsAtEnd}
 use Rattle.epx_types.specs.declared.fault.Fault.{Fault}
@@ -55,12 +56,22 @@ abbrev pub logs_after : List (List ℕ) → Result (Vec (Vec ℕ Global) Global)
 logs_after before (Ok logs) = Ok (before ++ bytes_of logs.items)
 logs_after before (Err fault) = Err fault
 
+-- how reading all sources ends, and what is then made of their logs
+abbrev pub EndsMaking : {S T : Type 0} → (S → Option (List ℕ)) → ReadRelation S → FailRelation S
+    → (S → Bool) → (List (List ℕ) → Result T Fault → Type 0) → List S → List S → Result T Fault
+    → Type 0
+EndsMaking remaining reads fails has_failed Made old new (Ok made) = (logs : List (List ℕ))
+    × EndsReading remaining reads fails has_failed old new (Ok logs) × Made logs (Ok made)
+EndsMaking remaining reads fails has_failed Made old new (Err fault) =
+    EndsReading remaining reads fails has_failed old new (Err fault)
+    ⊎ ((logs : List (List ℕ)) × EndsReading remaining reads fails has_failed old new (Ok logs)
+    × Made logs (Err fault))
+
+-- what merging logs comes to
+abbrev pub IsMerging : List (List ℕ) → Result (List Instance) Fault → Type 0
+IsMerging logs result = MatchResult result (IsAccepted logs) (IsRefusal logs)
+
 -- how reading all sources and merging their logs ends
 abbrev pub EndsMerging : {S : Type 0} → (S → Option (List ℕ)) → ReadRelation S → FailRelation S
     → (S → Bool) → List S → List S → Result (List Instance) Fault → Type 0
-EndsMerging remaining reads fails has_failed old new (Ok m) = (logs : List (List ℕ))
-    × EndsReading remaining reads fails has_failed old new (Ok logs) × IsAccepted logs m
-EndsMerging remaining reads fails has_failed old new (Err fault) =
-    EndsReading remaining reads fails has_failed old new (Err fault)
-    ⊎ ((logs : List (List ℕ)) × EndsReading remaining reads fails has_failed old new (Ok logs)
-    × IsRefusal logs fault)
+EndsMerging remaining reads fails has_failed = EndsMaking remaining reads fails has_failed IsMerging

@@ -1,6 +1,7 @@
-use Rattle.epx_tool.specs.Views.{IsViewText}
-use Rattle.epx_tool.proofs.AnswerLemmas.{view_text_exists, answer_exists}
+use Rattle.epx_tool.specs.Questions.{map_text_of}
+use Rattle.epx_tool.specs.declared.question.Question.TheVariants.{View}
+use Rattle.epx_tool.proofs.AnswerLemmas.{answer_by_exists}
 use Rattle.epx_tool.proofs.laws.view_exists.Goals as goal
 
 pub returns : goal.returns
-returns c = λ ask. answer_exists (IsViewText ask) (λ m rising. view_text_exists m rising ask)
+returns c = λ ask. answer_by_exists (map_text_of (View ask))

@@ -1,13 +1,28 @@
 use Rattle.std.proofs.Common.{IfOk, sym, subst}
-use Rattle.epx_tool.specs.Questions.{IsTextOf}
+use Rattle.epx_tool.specs.MapTexts.{IsMapText}
 use Rattle.epx_tool.proofs.map_texts.text_of.Goals as goal
 
 pub returns-in-Report : goal.returns-in-Report
 returns-in-Report g c =
-    subst (λ q. IfOk c.whole_report.result (λ text. IsTextOf q c.args.merged text.items))
+    subst (λ kind. IfOk c.whole_report.result (λ text. IsMapText kind c.args.merged text.items))
     (sym c.in-Report.is) c.whole_report.ensures
 
-pub returns-in-View : goal.returns-in-View
-returns-in-View g c =
-    subst (λ q. IfOk c.view_of.result (λ text. IsTextOf q c.args.merged text.items))
-    (sym c.in-View.is) c.view_of.ensures
+pub returns-in-Order : goal.returns-in-Order
+returns-in-Order g c =
+    subst (λ kind. IfOk c.order_of.result (λ text. IsMapText kind c.args.merged text.items))
+    (sym c.in-Order.is) c.order_of.ensures
+
+pub returns-in-Levels : goal.returns-in-Levels
+returns-in-Levels g c =
+    subst (λ kind. IfOk c.levels_of.result (λ text. IsMapText kind c.args.merged text.items))
+    (sym c.in-Levels.is) c.levels_of.ensures
+
+pub returns-in-Audit : goal.returns-in-Audit
+returns-in-Audit g c =
+    subst (λ kind. IfOk c.audit_of.result (λ text. IsMapText kind c.args.merged text.items))
+    (sym c.in-Audit.is) c.audit_of.ensures
+
+pub returns-in-Graph : goal.returns-in-Graph
+returns-in-Graph g c =
+    subst (λ kind. IfOk c.picture_of.result (λ text. IsMapText kind c.args.merged text.items))
+    (sym c.in-Graph.is) c.picture_of.ensures

@@ -1,0 +1,19 @@
+-- The texts of a committed map.
+use Rattle.std.specs.Prelude.{ℕ, List}
+use Rattle.epx_types.specs.Instances.{Instance}
+use Rattle.epx_tool.specs.declared.question.MapText.{MapText}
+use Rattle.epx_tool.specs.declared.question.MapText.TheVariants.{Report, Order, Levels, Audit}
+use Rattle.epx_tool.specs.declared.question.MapText.TheVariants.{Graph}
+use Rattle.epx_tool.specs.Report.{IsReport}
+use Rattle.epx_tool.specs.OrderText.{IsOrderText}
+use Rattle.epx_tool.specs.LevelText.{IsLevelText}
+use Rattle.epx_tool.specs.AuditText.{IsAuditText}
+use Rattle.epx_picture.specs.Pictures.{IsPicture}
+
+-- this text of a committed map
+abbrev pub IsMapText : MapText → List Instance → List ℕ → Type 0
+IsMapText Report = IsReport
+IsMapText Order = IsOrderText
+IsMapText Levels = IsLevelText
+IsMapText Audit = IsAuditText
+IsMapText Graph = IsPicture
