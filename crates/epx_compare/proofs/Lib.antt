@@ -3,6 +3,7 @@ mod VersionLemmas
 mod GapLemmas
 mod CatalogLemmas
 mod LogTextLemmas
+mod LogCountLemmas
 mod MarkLemmas
 mod DependencyLemmas
 mod UnmetCountLemmas

@@ -2,6 +2,7 @@
 ghost use Rattle.std.specs.Prelude.{◌≡◌, ◌<◌, ◌≤◌, List, length, IfOk, MatchResult, Ok, Err};
 ghost use Rattle.epx_types.specs.PlacedLines.{Placed};
 ghost use Rattle.epx_committed.specs.InstanceCounts.{AreNamedBy, max_instances};
+ghost use Rattle.epx_merge.specs.Limits.{max_logs};
 ghost use Rattle.epx_merge.specs.LogLines.{BadLineAt, bad_lines_of, bytes_of, placed_of};
 ghost use Rattle.epx_compare.specs.ComparisonAnswers.{Compares};
 ghost use Rattle.epx_compare.specs.inner.Catalogs.{IsCatalogOf, IsCatalogText};
@@ -22,7 +23,9 @@ use std::random::RandomSource;
 
 /// The text of a catalog of the lines of some logs.
 fn text_of(alloc: Global, logs: usize, catalog: &Catalog, seed: Seed) -> Result<Vec<u8>, Memory>
-    requires { (lines : List Placed) × (bad : List BadLineAt) × IsCatalogOf lines bad catalog.now }
+    requires logs { logs ≤ max_logs }
+    requires catalog { (lines : List Placed) × (bad : List BadLineAt)
+        × IsCatalogOf lines bad catalog.now }
     ensures { IfOk result (λ text. (lines : List Placed) (bad : List BadLineAt)
         → IsCatalogOf lines bad catalog.now
         → IsCatalogText logs lines bad catalog.now.ids text.items) }

@@ -12,6 +12,7 @@ mod differences;
 mod gap_lines;
 mod gaps;
 pub mod laws;
+mod log_set;
 mod members;
 mod note_lines;
 mod noted;
