@@ -1,5 +1,7 @@
 mod IdPositionLemmas
 mod VersionLemmas
+mod KnownLineLemmas
+mod NotedBatchLemmas
 mod GapLemmas
 mod CatalogLemmas
 mod LogTextLemmas

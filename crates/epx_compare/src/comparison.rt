@@ -17,9 +17,10 @@ use crate::unmet::append_all_unmet;
 use epx_merge::first_too_long;
 use epx_seed::Seed;
 use epx_types::limits::{MAX_INSTANCES, MAX_LOGS};
-use epx_types::{Fault, Memory};
+use epx_types::{Fault, Memory, Plan};
 use std::alloc::Global;
 use std::random::RandomSource;
+use std::thread::Threads;
 
 /// The text of a catalog of the lines of some logs.
 fn text_of(alloc: Global, logs: usize, catalog: &Catalog, seed: Seed) -> Result<Vec<u8>, Memory>
@@ -40,11 +41,17 @@ fn text_of(alloc: Global, logs: usize, catalog: &Catalog, seed: Seed) -> Result<
 }
 
 /// The catalog of the lines of logs.
-fn catalog_of(alloc: Global, logs: &[Vec<u8>], seed: Seed) -> Result<Catalog, Memory>
+fn catalog_of<R: Threads + Sync>(
+    rt: &R,
+    alloc: Global,
+    logs: &[Vec<u8>],
+    seed: Seed,
+    plan: Plan,
+) -> Result<Catalog, Memory>
     ensures { let bytes = bytes_of logs.now in
         IfOk result (IsCatalogOf (placed_of bytes) (bad_lines_of bytes)) }
 {
-    let noted = note_lines(alloc, logs, seed)?;
+    let noted = note_lines(rt, alloc, logs, seed, plan)?;
     let catalog = Catalog::of(alloc, noted)?;
     Ok(catalog)
 }
@@ -64,7 +71,14 @@ fn catalog_of(alloc: Global, logs: &[Vec<u8>], seed: Seed) -> Result<Catalog, Me
 /// Bad lines and lines that differ are no faults here. The faults are `TooManyLogs`, `LogTooLong`
 /// and `TooManyInstances`, and `Memory`, which says nothing about the logs. Takes n log n time in
 /// the lines.
-pub fn compare<R: RandomSource>(rt: &R, alloc: Global, logs: &[Vec<u8>]) -> Result<Vec<u8>, Fault>
+///
+/// The plan's workers read the lines. The text is the same for every plan.
+pub fn compare<R: Threads + RandomSource + Sync>(
+    rt: &R,
+    alloc: Global,
+    logs: &[Vec<u8>],
+    plan: Plan,
+) -> Result<Vec<u8>, Fault>
     ensures { let bytes = bytes_of logs.now in
         MatchResult result (λ text. Compares bytes (Ok text.items))
         (λ fault. Compares bytes (Err fault)) }
@@ -76,7 +90,7 @@ pub fn compare<R: RandomSource>(rt: &R, alloc: Global, logs: &[Vec<u8>]) -> Resu
         return Err(Fault::LogTooLong { log });
     }
     let seed = Seed::draw(rt);
-    let catalog = catalog_of(alloc, logs, seed)?;
+    let catalog = catalog_of(rt, alloc, logs, seed, plan)?;
     if catalog.ids.ids().len() > MAX_INSTANCES {
         return Err(Fault::TooManyInstances);
     }
