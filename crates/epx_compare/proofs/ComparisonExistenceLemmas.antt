@@ -1,11 +1,10 @@
 -- All logs have a comparison: the Ids that it prints exist.
-use Rattle.std.proofs.Common.{◌≡◌, ◌⊎◌, inl, inr, true, ℕ, List, Contains, length, flat_map, refl}
+use Rattle.std.proofs.Common.{◌⊎◌, inl, inr, ℕ, List, Contains, length, flat_map, refl}
 use Rattle.std.specs.Cmp.{IsEquivalence, decided}
 use Rattle.std.specs.List.{list_any}
 use Rattle.std.proofs.lemmas.Bool.{cases_Bool}
 use Rattle.std.proofs.lemmas.Map.Views.{Contains-from_any, list_any-from_Contains}
 use Rattle.epx_types.specs.declared.id.Id.{Id}
-use Rattle.epx_types.specs.Ids.{Below, IsRising}
 use Rattle.epx_types.specs.PlacedLines.{Placed}
 use Rattle.epx_types.proofs.lists.ComparisonLemmas.{id_cmp_total, id_cmp-IsAntisymmetric}
 use Rattle.epx_types.proofs.lists.MembershipLemmas.{Contains-flat_map, Contains-from_flat_map}

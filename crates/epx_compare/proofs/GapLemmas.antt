@@ -5,8 +5,9 @@ use Rattle.std.proofs.Common.{if◌then◌else◌, ◌&&◌, ◌==◌}
 use Rattle.std.proofs.Math.Seq.{drop-cons}
 use Rattle.std.proofs.lemmas.Option.{slice_get-get_or}
 use Rattle.epx_types.specs.declared.id.Id.{Id}
+use Rattle.epx_compare.specs.declared.log_set.LogSet.{LogSet}
 use Rattle.epx_compare.specs.Gaps.{gaps_of, goes_on, widened}
-use Rattle.epx_compare.specs.inner.LogMarks.{IsMarking}
+use Rattle.epx_compare.specs.inner.LogMarks.{IsMarking, is_marked}
 
 module _ (has : Id → Bool) (ids : List Id) (n : ℕ) (d : Id) (within : n < length ids) where
   from_here : drop n ids ≡ get_or ids n d ∷ drop (n + 1) ids
@@ -53,6 +54,6 @@ module _ (has : Id → Bool) (ids : List Id) (n : ℕ) (d : Id) (within : n < le
   goes_on_here replica = ap (goes_on has replica) from_here
 
   -- the mark of an Id
-  pub marked_here : (marks : List Bool) → IsMarking has ids marks
-      → has (get_or ids n d) ≡ get_or marks n false
-  marked_here marks marking = marking n (get_or ids n d) (slice_get-get_or ids n d within)
+  pub marked_here : (log : ℕ) (marks : List LogSet) → IsMarking has log ids marks
+      → has (get_or ids n d) ≡ is_marked log marks n
+  marked_here log marks marking = marking n (get_or ids n d) (slice_get-get_or ids n d within)

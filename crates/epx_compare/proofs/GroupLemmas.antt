@@ -71,7 +71,8 @@ pub rows_of_version : (rows : List Row) (groups : List (List ℕ))
     → AreGroupsOf (map (λ r. r.version) rows) groups → (v : ℕ)
     → map (slice_get rows) (row_of groups v) ≡ map Some (filter (λ r. r.version == v) rows)
 rows_of_version rows groups are v =
-    at_passing (slice_get rows) (λ r. r.version == v) rows 0 (row_of groups v)
+    at_passing (slice_get rows) (λ r. r.version == v) rows
+    0 (row_of groups v)
     (λ i. let e : 0 + i ≡ i = omega arith in ap (slice_get rows) e) (record {
       rising = are.rising v;
       only = λ p among.

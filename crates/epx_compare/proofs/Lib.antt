@@ -1,8 +1,11 @@
 mod IdPositionLemmas
 mod VersionLemmas
+mod KnownLineLemmas
+mod NotedBatchLemmas
 mod GapLemmas
 mod CatalogLemmas
 mod LogTextLemmas
+mod LogCountLemmas
 mod MarkLemmas
 mod DependencyLemmas
 mod UnmetCountLemmas

@@ -1,7 +1,7 @@
 -- What lines commit, after one more line.
 use Rattle.std.proofs.Common.{◌≡◌, ◌∙◌, ℕ, zero, suc, Bool, true, false, cond, not, ◌||◌}
 use Rattle.std.proofs.Common.{◌&&◌, List, [], ◌∷◌, ◌++◌, Some, refl, sym, ap}
-use Rattle.std.proofs.Common.{slice_get, filter, append-nil}
+use Rattle.std.proofs.Common.{slice_get, filter, append-nil, append_assoc}
 use Rattle.std.specs.List.{list_any, AllZip, Contains}
 use Rattle.std.proofs.lemmas.List.Elements.{filter-append}
 use Rattle.std.proofs.lemmas.Map.Views.{any-filter_same, list_any-from_Contains}
@@ -78,6 +78,24 @@ keeps_numbers : (b : Bool) (ks : List Instance) (x e : Instance) (i : ℕ)
 keeps_numbers true ks x e i h = h
 keeps_numbers false ks x e i h = slice_get-grown ks (x ∷ []) i e h
 
+-- one more line leaves the numbers of the versions
+numbers_kept : (lines : List Placed) (p : Placed) (i : ℕ) (e : Instance)
+    → slice_get (versions_of lines) i ≡ Some e
+    → slice_get (versions_of (lines ++ p ∷ [])) i ≡ Some e
+numbers_kept lines p i e h = ap (λ ks. slice_get ks i) (versions_of-snoc lines p)
+    ∙ keeps_numbers (list_any (same_instance p.instance) (versions_of lines))
+    (versions_of lines) p.instance e i h
+
+-- more lines leave the numbers of the versions
+pub versions_of-grows : (lines more : List Placed) (i : ℕ) (e : Instance)
+    → slice_get (versions_of lines) i ≡ Some e
+    → slice_get (versions_of (lines ++ more)) i ≡ Some e
+versions_of-grows lines [] i e h =
+    ap (λ ls. slice_get (versions_of ls) i) (append-nil lines) ∙ h
+versions_of-grows lines (p ∷ more) i e h =
+    ap (λ ls. slice_get (versions_of ls) i) (sym (append_assoc lines (p ∷ []) more))
+    ∙ versions_of-grows (lines ++ p ∷ []) more i e (numbers_kept lines p i e h)
+
 rows_kept : (old new : List Instance)
     → ((i : ℕ) (e : Instance) → slice_get old i ≡ Some e → slice_get new i ≡ Some e)
     → (rows : List Row) (lines : List Placed) → AllZip (IsRowOf old) rows lines
@@ -97,10 +115,6 @@ pub rows-snoc : (rows : List Row) (lines : List Placed) (row : Row) (p : Placed)
     → AllZip (IsRowOf (versions_of (lines ++ p ∷ []))) (rows ++ row ∷ []) (lines ++ p ∷ [])
 rows-snoc rows lines row p rel place version =
     let all = versions_of (lines ++ p ∷ []) in
-    let kept : (i : ℕ) (e : Instance) → slice_get (versions_of lines) i ≡ Some e
-    → slice_get all i ≡ Some e = λ i e h. ap (λ ks. slice_get ks i) (versions_of-snoc lines p)
-    ∙ keeps_numbers (list_any (same_instance p.instance) (versions_of lines))
-    (versions_of lines) p.instance e i h in
     AllZip-push (IsRowOf all) rows lines row p
-    (rows_kept (versions_of lines) all kept rows lines rel)
+    (rows_kept (versions_of lines) all (numbers_kept lines p) rows lines rel)
     (record { place = place; version = version })

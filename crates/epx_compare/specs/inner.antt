@@ -1,5 +1,6 @@
 -- Words of private clauses: no public contract speaks of them.
 pub mod Catalogs
+pub mod KnownLines
 pub mod EqualVersions
 pub mod LogMarks
 pub mod NotedRows

@@ -3,6 +3,7 @@ ghost use Rattle.std.specs.Prelude.{◌≡◌, ◌↔◌, ◌<◌, ◌≤◌, �
 ghost use Rattle.std.specs.Prelude.{MatchResult, Ok, Err};
 ghost use Rattle.epx_types.specs.PlacedLines.{Placed};
 ghost use Rattle.epx_committed.specs.InstanceCounts.{AreNamedBy, max_instances};
+ghost use Rattle.epx_merge.specs.Limits.{max_logs};
 ghost use Rattle.epx_merge.specs.LogLines.{BadLineAt, bad_lines_of, bytes_of, placed_of};
 ghost use Rattle.epx_compare.specs.ComparisonAnswers.{Compares};
 ghost use Rattle.epx_compare.specs.Comparisons.{HasFindings, findings_text};
@@ -18,9 +19,10 @@ use crate::unmet::append_all_unmet;
 use epx_merge::first_too_long;
 use epx_seed::Seed;
 use epx_types::limits::{MAX_INSTANCES, MAX_LOGS};
-use epx_types::{Fault, Memory};
+use epx_types::{Fault, Memory, Plan};
 use std::alloc::Global;
 use std::random::RandomSource;
+use std::thread::Threads;
 
 /// What logs say against each other.
 #[derive(Debug, Drop)]
@@ -38,7 +40,9 @@ fn append_findings(
     logs: usize,
     catalog: &Catalog,
 ) -> Result<(), Memory>
-    requires { (lines : List Placed) × (bad : List BadLineAt) × IsCatalogOf lines bad catalog.now }
+    requires logs { logs ≤ max_logs }
+    requires catalog { (lines : List Placed) × (bad : List BadLineAt)
+        × IsCatalogOf lines bad catalog.now }
     ensures { OnOk result ((lines : List Placed) (bad : List BadLineAt)
         → IsCatalogOf lines bad catalog.now
         → text.new.items ≡ text.old.items ++ findings_text logs lines bad catalog.now.ids) }
@@ -55,7 +59,9 @@ fn comparison_of(
     catalog: &Catalog,
     seed: Seed,
 ) -> Result<Comparison, Memory>
-    requires { (lines : List Placed) × (bad : List BadLineAt) × IsCatalogOf lines bad catalog.now }
+    requires logs { logs ≤ max_logs }
+    requires catalog { (lines : List Placed) × (bad : List BadLineAt)
+        × IsCatalogOf lines bad catalog.now }
     ensures { IfOk result (λ c. (lines : List Placed) (bad : List BadLineAt)
         → IsCatalogOf lines bad catalog.now
         → IsCatalogComparison logs lines bad catalog.now.ids c) }
@@ -70,11 +76,17 @@ fn comparison_of(
 }
 
 /// The catalog of the lines of logs.
-fn catalog_of(alloc: Global, logs: &[Vec<u8>], seed: Seed) -> Result<Catalog, Memory>
+fn catalog_of<R: Threads + Sync>(
+    rt: &R,
+    alloc: Global,
+    logs: &[Vec<u8>],
+    seed: Seed,
+    plan: Plan,
+) -> Result<Catalog, Memory>
     ensures { let bytes = bytes_of logs.now in
         IfOk result (IsCatalogOf (placed_of bytes) (bad_lines_of bytes)) }
 {
-    let noted = note_lines(alloc, logs, seed)?;
+    let noted = note_lines(rt, alloc, logs, seed, plan)?;
     let catalog = Catalog::of(alloc, noted)?;
     Ok(catalog)
 }
@@ -94,7 +106,14 @@ fn catalog_of(alloc: Global, logs: &[Vec<u8>], seed: Seed) -> Result<Catalog, Me
 /// Bad lines and lines that differ are no faults here. The faults are `TooManyLogs`, `LogTooLong`
 /// and `TooManyInstances`, and `Memory`, which says nothing about the logs. Takes n log n time in
 /// the lines.
-pub fn compare<R: RandomSource>(rt: &R, alloc: Global, logs: &[Vec<u8>]) -> Result<Comparison, Fault>
+///
+/// The plan's workers read the lines. The result is the same for every plan.
+pub fn compare<R: Threads + RandomSource + Sync>(
+    rt: &R,
+    alloc: Global,
+    logs: &[Vec<u8>],
+    plan: Plan,
+) -> Result<Comparison, Fault>
     ensures answer { let bytes = bytes_of logs.now in
         MatchResult result (λ c. Compares bytes (Ok c.text.items))
         (λ fault. Compares bytes (Err fault)) }
@@ -107,7 +126,7 @@ pub fn compare<R: RandomSource>(rt: &R, alloc: Global, logs: &[Vec<u8>]) -> Resu
         return Err(Fault::LogTooLong { log });
     }
     let seed = Seed::draw(rt);
-    let catalog = catalog_of(alloc, logs, seed)?;
+    let catalog = catalog_of(rt, alloc, logs, seed, plan)?;
     if catalog.ids.ids().len() > MAX_INSTANCES {
         return Err(Fault::TooManyInstances);
     }

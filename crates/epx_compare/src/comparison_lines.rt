@@ -5,10 +5,9 @@ ghost use Rattle.serde_json.specs.Written.{has_float, compact_text};
 ghost use Rattle.epx_merge.specs.LogLines.{BadLineAt};
 ghost use Rattle.epx_report.specs.ReportLines.{array_of, line_feed, line_of};
 ghost use Rattle.epx_compare.specs.ComparisonLines.{log_data, bad_data, lacks_data, unmet_data};
-ghost use Rattle.epx_compare.specs.inner.LogMarks.{gap_at};
 ghost use Rattle.epx_compare.specs.inner.NotedRows.{bad_line_at};
 
-use crate::gaps::LackedRun;
+use crate::gaps::Gap;
 use crate::noted::BadLine;
 use epx_types::{Id, Memory};
 use serde_json::{Value, json};
@@ -34,11 +33,11 @@ fn log_value(alloc: Global, log: u64, lines: u64, bad: u64) -> Result<Value, All
     json!(in alloc; ["log", log, lines, bad])
 }
 
-fn lacks_value(alloc: Global, log: u64, run: LackedRun) -> Result<Value, AllocError>
-    ensures data { IfOk result (λ v. view v ≡ array_of (lacks_data log (gap_at run))) }
+fn lacks_value(alloc: Global, log: u64, gap: Gap) -> Result<Value, AllocError>
+    ensures data { IfOk result (λ v. view v ≡ array_of (lacks_data log gap)) }
     ensures whole { IfOk result (λ v. has_float (view v) ≡ false) }
 {
-    let LackedRun { replica, from, to } = run;
+    let Gap { replica, from, to } = gap;
     json!(in alloc; ["lacks", log, replica, from, to])
 }
 
@@ -89,12 +88,12 @@ pub(crate) fn append_lacks(
     alloc: Global,
     text: &mut Vec<u8>,
     log: usize,
-    run: LackedRun,
+    gap: Gap,
 ) -> Result<(), Memory>
     ensures { OnOk result (text.new.items
-        ≡ text.old.items ++ line_of (lacks_data log (gap_at run))) }
+        ≡ text.old.items ++ line_of (lacks_data log gap)) }
 {
-    append_line(alloc, text, &lacks_value(alloc, log as u64, run)?)
+    append_line(alloc, text, &lacks_value(alloc, log as u64, gap)?)
 }
 
 /// Appends the line of a dependency that no log commits.

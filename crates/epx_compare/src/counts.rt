@@ -1,5 +1,6 @@
 //! How many lines of each log commit an instance, and how many are bad.
-ghost use Rattle.std.specs.Prelude.{◌≡◌, ◌==◌, ◌++◌, List, count_by, OnOk};
+ghost use Rattle.std.specs.Prelude.{◌≡◌, ◌==◌, ◌<◌, ◌++◌, ℕ, List, count_by, length, slice_index};
+ghost use Rattle.std.specs.Prelude.{IfOk, OnOk};
 ghost use Rattle.epx_types.specs.PlacedLines.{Placed};
 ghost use Rattle.epx_merge.specs.LogLines.{BadLineAt};
 ghost use Rattle.epx_compare.specs.Comparisons.{counts_text};
@@ -10,30 +11,36 @@ use crate::noted::{BadLine, Noted, Row};
 use epx_types::Memory;
 use std::alloc::Global;
 
-/// How many of the rows are of a log.
-fn rows_in(rows: &[Row], log: usize) -> usize
-    ensures { result ≡ count_by (λ r. r.place.log == log) rows.now }
+/// How many of the rows are of each log.
+fn count_rows(alloc: Global, rows: &[Row], logs: usize) -> Result<Vec<usize>, Memory>
+    ensures len { IfOk result (λ counts. length counts.items ≡ logs) }
+    ensures each { IfOk result (λ counts. (log : ℕ) → log < logs
+        → slice_index counts.items log ≡ count_by (λ r. r.place.log == log) rows.now) }
 {
-    let mut count = 0;
+    let mut counts = vec![in alloc; 0; logs]?;
     for row in rows {
-        if row.place.log == log {
-            count += 1;
+        let log = row.place.log;
+        if log < logs {
+            counts[log] += 1;
         }
     }
-    count
+    Ok(counts)
 }
 
-/// How many of the bad lines are of a log.
-fn bad_in(bad: &[BadLine], log: usize) -> usize
-    ensures { result ≡ count_by (λ b. b.place.log == log) bad.now }
+/// How many of the bad lines are of each log.
+fn count_bad(alloc: Global, bad: &[BadLine], logs: usize) -> Result<Vec<usize>, Memory>
+    ensures len { IfOk result (λ counts. length counts.items ≡ logs) }
+    ensures each { IfOk result (λ counts. (log : ℕ) → log < logs
+        → slice_index counts.items log ≡ count_by (λ b. b.place.log == log) bad.now) }
 {
-    let mut count = 0;
+    let mut counts = vec![in alloc; 0; logs]?;
     for line in bad {
-        if line.place.log == log {
-            count += 1;
+        let log = line.place.log;
+        if log < logs {
+            counts[log] += 1;
         }
     }
-    count
+    Ok(counts)
 }
 
 /// Appends a line for each log.
@@ -47,9 +54,10 @@ pub(crate) fn append_counts(
         → AreNoted lines bad noted.now
         → text.new.items ≡ text.old.items ++ counts_text logs lines bad) }
 {
+    let lines = count_rows(alloc, &noted.rows, logs)?;
+    let bad = count_bad(alloc, &noted.bad, logs)?;
     for log in 0..logs {
-        let (lines, bad) = (rows_in(&noted.rows, log), bad_in(&noted.bad, log));
-        append_log(alloc, text, log, lines, bad)?;
+        append_log(alloc, text, log, lines[log], bad[log])?;
     }
     Ok(())
 }

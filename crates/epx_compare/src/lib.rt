@@ -11,10 +11,14 @@ mod counts;
 mod differences;
 mod gap_lines;
 mod gaps;
+mod known_lines;
 pub mod laws;
+mod log_set;
 mod members;
+mod next_batch;
 mod note_lines;
 mod noted;
+mod read_lines;
 mod unmet;
 mod version;
 

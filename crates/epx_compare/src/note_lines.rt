@@ -1,48 +1,90 @@
 //! Notes the lines of logs.
-ghost use Rattle.std.specs.Prelude.{◌≡◌, ◌++◌, List, IfOk, OnOk};
+ghost use Rattle.std.specs.Prelude.{◌≡◌, ◌≤◌, ◌^◌, ◌++◌, List, IfOk, OnOk, Some, length, map};
 ghost use Rattle.epx_types.specs.PlacedLines.{Placed};
-ghost use Rattle.epx_merge.specs.LogLines.{BadLineAt, bad_lines_at, bad_lines_of, bytes_of};
-ghost use Rattle.epx_merge.specs.LogLines.{placed_at, placed_of};
+ghost use Rattle.epx_merge.specs.LogLines.{BadLineAt, bad_lines_among, bad_lines_at, bad_lines_of};
+ghost use Rattle.epx_merge.specs.LogLines.{bytes_of, placed_among, placed_at, placed_of};
+ghost use Rattle.epx_compare.specs.Differences.{versions_of};
+ghost use Rattle.epx_compare.specs.inner.KnownLines.{AreKnown, meaning_in};
 ghost use Rattle.epx_compare.specs.inner.NotedRows.{AreNoted};
 
+use crate::known_lines::KnownLines;
+use crate::next_batch::next_batch;
 use crate::noted::Noted;
-use epx_lines::{Line, LineFault, LineReader};
+use crate::read_lines::{ReadLine, read_batch};
 use epx_merge::{LineWalk, PlacedLine};
 use epx_seed::Seed;
-use epx_types::Memory;
+use epx_types::{Memory, Plan};
 use std::alloc::Global;
+use std::thread::Threads;
 
-/// Notes what a line means.
-fn note_line(
-    alloc: Global,
-    reader: &mut LineReader,
+/// Notes what was read of a line.
+fn note_line<'a>(
     noted: &mut Noted,
-    line: &PlacedLine<'_>,
+    known: &mut KnownLines<'a>,
+    line: &PlacedLine<'a>,
+    read: ReadLine,
 ) -> Result<(), Memory>
     ensures { OnOk result ((lines : List Placed) (bad : List BadLineAt)
         → AreNoted lines bad noted.old
-        → AreNoted (lines ++ placed_at line.now.place line.now.meaning)
-        (bad ++ bad_lines_at line.now.place line.now.meaning) noted.new) }
+        → AreKnown (versions_of lines) known.old.cache known.old.versions.items
+        → meaning_in (versions_of lines) read ≡ Some line.now.meaning
+        → (let all = lines ++ placed_at line.now.place line.now.meaning in
+        AreNoted all (bad ++ bad_lines_at line.now.place line.now.meaning) noted.new
+        × AreKnown (versions_of all) known.new.cache known.new.versions.items)) }
 {
-    match line.read(alloc, reader) {
-        Ok(Line::Blank) => {}
-        Ok(Line::Entry(entry)) => noted.note_entry(line.place(), entry)?,
-        Err(LineFault::Memory) => return Err(Memory),
-        Err(LineFault::Bad(why)) => noted.note_bad(line.place(), why)?,
+    let place = line.place();
+    match read {
+        ReadLine::Blank => {}
+        ReadLine::Fresh(entry, hash) => {
+            let version = noted.note_entry(place, entry)?;
+            known.insert(hash, line.bytes(), version)?;
+        }
+        ReadLine::Repeat(version) => noted.note_version(place, version)?,
+        ReadLine::Bad(why) => noted.note_bad(place, why)?,
+    }
+    Ok(())
+}
+
+/// Notes what was read of the lines of a batch, in order.
+fn note_batch<'a>(
+    noted: &mut Noted,
+    known: &mut KnownLines<'a>,
+    batch: &[PlacedLine<'a>],
+    reads: Vec<ReadLine>,
+) -> Result<(), Memory>
+    ensures { OnOk result ((lines : List Placed) (bad : List BadLineAt)
+        → AreNoted lines bad noted.old
+        → AreKnown (versions_of lines) known.old.cache known.old.versions.items
+        → map (meaning_in (versions_of lines)) reads.items ≡ map (λ l. Some l.meaning) batch.now
+        → (let all = lines ++ placed_among batch.now in
+        AreNoted all (bad ++ bad_lines_among batch.now) noted.new
+        × AreKnown (versions_of all) known.new.cache known.new.versions.items)) }
+{
+    for (line, read) in batch.iter().zip(reads) {
+        note_line(noted, known, line, read)?;
     }
     Ok(())
 }
 
 /// What is noted of all lines of logs.
-pub(crate) fn note_lines(alloc: Global, logs: &[Vec<u8>], seed: Seed) -> Result<Noted, Memory>
+pub(crate) fn note_lines<R: Threads + Sync>(
+    rt: &R,
+    alloc: Global,
+    logs: &[Vec<u8>],
+    seed: Seed,
+    plan: Plan,
+) -> Result<Noted, Memory>
     ensures { let bytes = bytes_of logs.now in
         IfOk result (AreNoted (placed_of bytes) (bad_lines_of bytes)) }
 {
     let mut noted = Noted::new(alloc, seed);
-    let mut reader = LineReader::new(alloc);
+    let mut known = KnownLines::new(alloc, logs.len())?;
     let mut walk = LineWalk::new(logs);
-    while let Some(line) = walk.next_line() {
-        note_line(alloc, &mut reader, &mut noted, &line)?;
+    let mut batch = next_batch(alloc, plan, &mut walk)?;
+    while !batch.is_empty() {
+        let reads = read_batch(rt, alloc, plan, &known, &batch)?;
+        note_batch(&mut noted, &mut known, &batch, reads)?;
+        batch = next_batch(alloc, plan, &mut walk)?;
     }
     Ok(noted)
 }

@@ -1,5 +1,5 @@
 //! What is noted of the lines of logs.
-ghost use Rattle.std.specs.Prelude.{◌≡◌, ◌∷◌, ◌++◌, [], List, Some, OnOk, slice_get};
+ghost use Rattle.std.specs.Prelude.{◌≡◌, ◌∷◌, ◌++◌, [], List, Some, IfOk, OnOk, slice_get};
 ghost use Rattle.epx_types.specs.Instances.{Instance};
 ghost use Rattle.epx_types.specs.PlacedLines.{Placed};
 ghost use Rattle.epx_merge.specs.LogLines.{BadLineAt};
@@ -45,15 +45,17 @@ impl Noted {
         }
     }
 
-    /// Notes a line that commits an instance.
-    pub(crate) fn note_entry(&mut self, place: Place, entry: Entry) -> Result<(), Memory>
-        ensures { OnOk result ((lines : List Placed) (bad : List BadLineAt)
+    /// Notes a line that commits an instance. Returns the number of its version.
+    pub(crate) fn note_entry(&mut self, place: Place, entry: Entry) -> Result<usize, Memory>
+        ensures noted { OnOk result ((lines : List Placed) (bad : List BadLineAt)
             → AreNoted lines bad self.old
             → AreNoted (lines ++ record { place = place; instance = entry } ∷ []) bad self.new) }
+        ensures number { IfOk result
+            (λ version. slice_get self.new.versions.keys version ≡ Some entry) }
     {
         let (version, _) = self.versions.insert_full(Version::new(entry))?;
         self.rows.push(Row { place, version })?;
-        Ok(())
+        Ok(version)
     }
 
     /// Notes a line that commits the version with this number.

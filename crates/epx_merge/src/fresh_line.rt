@@ -20,7 +20,7 @@ fn cache_line<'a>(fresh: FreshLine, lines: &[PlacedLine<'a>], cache: &mut LineCa
     let Some(line) = lines.get(fresh.index) else {
         return;
     };
-    cache.insert(fresh.hash, line.bytes());
+    let _kept = cache.insert(fresh.hash, line.bytes());
 }
 
 /// Puts the fresh lines of a piece into the cache.

@@ -18,5 +18,6 @@ pub use epx_committed::{Guesses, Merged, from_entries};
 pub use epx_types::limits::{MAX_INSTANCES, MAX_LOG_BYTES, MAX_LOGS};
 pub use limits::first_too_long;
 pub use line::PlacedLine;
+pub use line_cache::LineCache;
 pub use read::{read_logs, read_logs_during};
 pub use walk::LineWalk;

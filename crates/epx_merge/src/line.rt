@@ -38,7 +38,7 @@ impl<'a> PlacedLine<'a> {
         self.place
     }
 
-    pub(crate) fn bytes(&self) -> &'a [u8]
+    pub fn bytes(&self) -> &'a [u8]
         ensures { meaning_of result.now ≡ self.now.meaning }
     {
         self.bytes

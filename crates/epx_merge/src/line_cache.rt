@@ -1,7 +1,7 @@
 //! A cache of lines, which recognizes repeated lines by their bytes.
-ghost use Rattle.std.specs.Prelude.{◌≡◌, [], IsTrue, IfOk, Contains};
+ghost use Rattle.std.specs.Prelude.{◌≡◌, ◌∷◌, ◌++◌, [], IsTrue, IfOk, IfSome, Contains, Some};
+ghost use Rattle.std.specs.Prelude.{if◌then◌else◌, slice_get};
 ghost use Rattle.epx_lines.specs.Meaning.{meaning_of};
-ghost use Rattle.epx_merge.specs.inner.RedundantLines.{CachesAfter};
 
 use epx_types::Memory;
 use std::alloc::Global;
@@ -21,9 +21,9 @@ type LineHasher = FoldHasher;
 /// A slot without a line.
 const FREE_SLOT: u64 = u64::MAX;
 
-/// The bytes of lines in a cache. Contracts see what the lines mean.
+/// The bytes of lines in a cache, each with a number from 0. Contracts see what the lines mean.
 #[derive(Drop)]
-pub(crate) struct LineCache<'a> {
+pub struct LineCache<'a> {
     /// A slot holds the upper half of a line's hash, and the index of the line in `kept`. It is at
     /// the hash or soon after. So other lines are seldom compared, and most slots stay in a
     /// processor's cache. A slot is only a hint: the bytes are compared.
@@ -47,7 +47,7 @@ impl<'a> Model for LineCache<'a> {
 impl<'a> LineCache<'a> {
     /// An empty cache for the lines of this many logs. A single log needs no slots: its lines are
     /// not compared with each other.
-    pub(crate) fn new(alloc: Global, logs: usize) -> Result<LineCache<'a>, Memory>
+    pub fn new(alloc: Global, logs: usize) -> Result<LineCache<'a>, Memory>
         ensures { IfOk result (λ cache. cache ≡ []) }
     {
         if logs < 2 {
@@ -82,7 +82,7 @@ impl<'a> LineCache<'a> {
     }
 
     /// The hash of a line, by which it is found. A cache without slots needs none, and returns 0.
-    pub(crate) fn hash_of(&self, bytes: &[u8]) -> u64 {
+    pub fn hash_of(&self, bytes: &[u8]) -> u64 {
         if !self.has_slots() {
             return 0;
         }
@@ -95,9 +95,9 @@ impl<'a> LineCache<'a> {
         self.slots.get(at).copied()
     }
 
-    /// Whether the line at this index has these bytes.
+    /// Whether the line with this number has these bytes.
     fn holds(&self, number: usize, bytes: &[u8]) -> bool
-        ensures { IsTrue result → Contains self.now (meaning_of bytes.now) }
+        ensures { IsTrue result → slice_get self.now number ≡ Some (meaning_of bytes.now) }
     {
         match self.kept.get(number) {
             Some(line) => *line == bytes,
@@ -105,54 +105,64 @@ impl<'a> LineCache<'a> {
         }
     }
 
-    /// Stores a line in a slot. If out of memory, the slot stays free.
-    fn keep(&mut self, at: usize, mark: u64, bytes: &'a [u8])
-        ensures { CachesAfter self.old (meaning_of bytes.now) self.new }
+    /// Stores a line in a slot, and returns whether it did. If out of memory, the slot stays free.
+    fn keep(&mut self, at: usize, mark: u64, bytes: &'a [u8]) -> bool
+        ensures { self.new ≡ if result then self.old ++ meaning_of bytes.now ∷ [] else self.old }
     {
         let number = self.kept.len() as u64;
         if at < self.slots.len() && self.kept.push(bytes).is_ok() {
             self.slots[at] = (mark << 32) | number;
+            return true;
         }
+        false
+    }
+
+    /// The number of a line with these bytes, which have this hash.
+    pub fn find(&self, hash: u64, bytes: &[u8]) -> Option<usize>
+        ensures { IfSome result
+            (λ number. slice_get self.now number ≡ Some (meaning_of bytes.now)) }
+    {
+        let mark = hash >> 32;
+        let start = (hash % SLOTS) as usize;
+        for at in start..start + PROBES {
+            let slot = self.slot(at)?;
+            if slot == FREE_SLOT {
+                return None;
+            }
+            let number = (slot & 0xFFFF_FFFF) as usize;
+            if slot >> 32 == mark && self.holds(number, bytes) {
+                return Some(number);
+            }
+        }
+        None
     }
 
     /// Whether the cache has a line with these bytes, which have this hash.
     pub(crate) fn contains(&self, hash: u64, bytes: &[u8]) -> bool
         ensures { IsTrue result → Contains self.now (meaning_of bytes.now) }
     {
-        let mark = hash >> 32;
-        let start = (hash % SLOTS) as usize;
-        for at in start..start + PROBES {
-            let Some(slot) = self.slot(at) else {
-                return false;
-            };
-            if slot == FREE_SLOT {
-                return false;
-            }
-            if slot >> 32 == mark && self.holds((slot & 0xFFFF_FFFF) as usize, bytes) {
-                return true;
-            }
-        }
-        false
+        self.find(hash, bytes).is_some()
     }
 
-    /// Keeps a line with this hash if a slot is free. A slot with the same half of the hash counts
-    /// as this line: so a line that comes twice in a batch is kept once, and none is compared.
-    pub(crate) fn insert(&mut self, hash: u64, bytes: &'a [u8])
-        ensures { CachesAfter self.old (meaning_of bytes.now) self.new }
+    /// Keeps a line with this hash if a slot is free, and returns whether it did: its number is then
+    /// how many lines were kept before. A slot with the same half of the hash counts as this line: so
+    /// a line that comes twice in a batch is kept once, and none is compared.
+    pub fn insert(&mut self, hash: u64, bytes: &'a [u8]) -> bool
+        ensures { self.new ≡ if result then self.old ++ meaning_of bytes.now ∷ [] else self.old }
     {
         let mark = hash >> 32;
         let start = (hash % SLOTS) as usize;
         for at in start..start + PROBES {
             let Some(slot) = self.slot(at) else {
-                return;
+                return false;
             };
             if slot == FREE_SLOT {
-                self.keep(at, mark, bytes);
-                return;
+                return self.keep(at, mark, bytes);
             }
             if slot >> 32 == mark {
-                return;
+                return false;
             }
         }
+        false
     }
 }

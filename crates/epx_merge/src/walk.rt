@@ -83,6 +83,11 @@ impl<'a> LineWalk<'a> {
         self.log == 0 && self.rest.is_empty()
     }
 
+    /// Whether the last line was the last one of its log.
+    pub fn ends_log(&self) -> bool {
+        self.rest.is_empty()
+    }
+
     /// The next line, if one is left.
     pub fn next_line(&mut self) -> Option<PlacedLine<'a>>
         ensures { MatchOption result ((self.old ≡ []) × (self.new ≡ []))

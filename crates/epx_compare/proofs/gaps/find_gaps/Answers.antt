@@ -1,9 +1,8 @@
-use Rattle.std.proofs.Common.{◌≡◌, ◌∙◌, ◌+◌, ◌-◌, ◌<◌, ◌∷◌, Bool, List, length, drop, get_or, ap}
+use Rattle.std.proofs.Common.{◌≡◌, ◌∙◌, ◌+◌, ◌-◌, ◌<◌, ◌∷◌, Bool, List, length, drop, get_or, reverse, ap}
 use Rattle.std.proofs.Common.{sym}
 use Rattle.std.proofs.Common.{if◌then◌else◌, arith}
 use Rattle.epx_types.specs.declared.id.Id.{Id}
 use Rattle.epx_compare.specs.Gaps.{Gap, gaps_of, goes_on, widened}
-use Rattle.epx_compare.specs.inner.LogMarks.{gaps_before}
 use Rattle.epx_compare.proofs.GapLemmas.{gaps_lacked, gaps_had, marked_here}
 use Rattle.epx_compare.proofs.gaps.find_gaps.Goals as goal
 
@@ -21,12 +20,12 @@ loop-index-preserved-in-Continue-1 c has marking =
     let within : n < length ids = omega arith in
     let next : c.loop-index.index ≡ n + 1 = omega arith in
     let later = c.loop-index.invariant has marking ∙ ap (λ m. gaps_of has (drop m ids)) next in
-    let marked = marked_here has ids n zero within c.args.marks.now marking in
+    let marked = marked_here has ids n zero within c.args.log c.args.marks.now marking in
     c.in_ok-add_before.ensures
-    ∙ (ap (λ g. with_front x g (gaps_before c.loop-index.runs.items))
-    (c.goes_on_at.ensures has marking)
+    ∙ (ap (λ g. with_front x g (reverse c.loop-index.gaps.items))
+    (c.goes_on_at-goes_on.ensures has marking)
     ∙ (ap (with_front x (goes_on has x.replica (drop (n + 1) ids))) later
-    ∙ sym (gaps_lacked has ids n zero within (marked ∙ c.if-not-marks-index.true))))
+    ∙ sym (gaps_lacked has ids n zero within (marked ∙ (sym c.contains.ensures ∙ c.if-not-contains.true)))))
 
 pub loop-index-preserved : goal.loop-index-preserved
 loop-index-preserved c has marking =
@@ -35,6 +34,6 @@ loop-index-preserved c has marking =
     let n = c.loop-index.index - 1 in
     let within : n < length ids = omega arith in
     let next : c.loop-index.index ≡ n + 1 = omega arith in
-    let marked = marked_here has ids n zero within c.args.marks.now marking in
+    let marked = marked_here has ids n zero within c.args.log c.args.marks.now marking in
     c.loop-index.invariant has marking ∙ (ap (λ m. gaps_of has (drop m ids)) next
-    ∙ sym (gaps_had has ids n zero within (marked ∙ c.if-not-marks-index.false)))
+    ∙ sym (gaps_had has ids n zero within (marked ∙ (sym c.contains.ensures ∙ c.if-not-contains.false))))

@@ -13,8 +13,8 @@ returns-then-ids-index c has marking =
     let ids = c.args.ids.now in
     let n = c.args.index in
     let within : n < length ids = omega arith in
-    let marked = marked_here has ids n zero within c.args.marks.now marking in
+    let marked = marked_here has ids n zero within c.args.log c.args.marks.now marking in
     let same : ((get_or ids n zero).replica == c.args.replica) ≡ true =
     nat_eq-true (get_or ids n zero).replica c.args.replica c.if-ids-index.true in
     sym (goes_on_here has ids n zero within c.args.replica
-    ∙ (λ i. same i && not (marked i)))
+    ∙ (λ i. same i && not ((marked ∙ sym c.contains.ensures) i)))

@@ -1,30 +1,80 @@
-use Rattle.std.proofs.Common.{◌≡◌, ◌∙◌, ◌++◌, ◌∷◌, [], List, sym, ap, subst, append_assoc}
-use Rattle.std.proofs.Common.{append-nil}
-use Rattle.std.proofs.lemmas.List.Concat.{flat_map-append}
-use Rattle.epx_merge.specs.LogLines.{MeaningAt, bad_lines_among, bad_lines_at, placed_among}
-use Rattle.epx_merge.specs.LogLines.{placed_at}
+use Rattle.std.proofs.Common.{◌≡◌, ◌∙◌, ◌<◌, ◌++◌, [], List, Option, Some, Result, length}
+use Rattle.std.proofs.Common.{map, sym, ap, subst, append_assoc, append-nil, length-append, arith}
+use Rattle.std.proofs.Common.{rules}
+use Rattle.std.proofs.lemmas.Bool.Decides.{nat_tests}
+use Rattle.std.proofs.lemmas.List.{nil_from_length}
+use Rattle.epx_types.specs.declared.fault.Why.{Why}
+use Rattle.epx_lines.specs.declared.Line.{Line}
+use Rattle.epx_merge.specs.LogLines.{MeaningAt, bad_lines_among, bytes_of, meanings_of}
+use Rattle.epx_merge.specs.LogLines.{placed_among}
+use Rattle.epx_compare.specs.Differences.{versions_of}
+use Rattle.epx_compare.specs.inner.KnownLines.{AreKnown}
 use Rattle.epx_compare.specs.inner.NotedRows.{AreNoted}
+use Rattle.epx_compare.proofs.NotedBatchLemmas.{lines_after, bad_after, noted_both}
 use Rattle.epx_compare.proofs.note_lines.note_lines.Goals as goal
 
-pub loop-line-preserved : goal.loop-line-preserved
-loop-line-preserved c =
-    let before = c.loop-line.invariant in
-    let done : List MeaningAt = before.0 in
-    let line : MeaningAt = c.in-Some.line in
-    let new = c.note_line.new.noted in
-    let placed : placed_among (done ++ line ∷ [])
-    ≡ placed_among done ++ placed_at line.place line.meaning =
-    flat_map-append (λ (l : MeaningAt). placed_at l.place l.meaning) done (line ∷ [])
-    ∙ ap (λ ps. placed_among done ++ ps) (append-nil (placed_at line.place line.meaning)) in
-    let bads : bad_lines_among (done ++ line ∷ [])
-    ≡ bad_lines_among done ++ bad_lines_at line.place line.meaning =
-    flat_map-append (λ (l : MeaningAt). bad_lines_at l.place l.meaning) done (line ∷ [])
-    ∙ ap (λ bs. bad_lines_among done ++ bs) (append-nil (bad_lines_at line.place line.meaning)) in (
-      done ++ line ∷ [],
-      before.1 ∙ (ap (λ rest. done ++ rest) c.in-Some.ensures
-          ∙ sym (append_assoc done (line ∷ []) c.next_line.new.self)),
-      subst (λ ps. AreNoted ps (bad_lines_among (done ++ line ∷ [])) new) (sym placed)
-          (subst (λ bs. AreNoted (placed_among done ++ placed_at line.place line.meaning) bs new)
-          (sym bads) (c.in_ok-note_line.ensures (placed_among done) (bad_lines_among done)
-          before.2)),
-    )
+pub loop-walk-init : goal.loop-walk-init
+loop-walk-init g c = record {
+  last = c.in_ok-batch.ensures.last;
+  few = c.in_ok-batch.ensures.few;
+  done = (
+    [],
+    sym c.new-walk.ensures ∙ c.in_ok-batch.ensures.lines,
+    record { rows = c.new-noted.ensures; texts = c.in_ok-known.ensures (versions_of []) },
+  );
+}
+
+pub loop-walk-preserved : goal.loop-walk-preserved
+loop-walk-preserved g c =
+    let before = c.loop-walk.invariant in
+    let done : List MeaningAt = before.done.0 in
+    let batch : List MeaningAt = c.loop-walk.batch.items in
+    let next : List MeaningAt = c.in_ok-batch-2.batch.items ++ c.next_batch-in-loop-walk.new.walk in
+    let texts = before.done.2.texts in
+    let says : MeaningAt → Option (Result Line Why) = λ l. Some l.meaning in
+    let is : c.deref-in-loop-walk.result.now ≡ batch = c.deref-in-loop-walk.ensures.value in
+    let said = c.in_ok-reads.ensures (versions_of (placed_among done)) texts
+    ∙ ap (map says) (c.deref.ensures.value ∙ sym is) in
+    let after = c.in_ok-note_batch.ensures (placed_among done) (bad_lines_among done)
+    before.done.2.rows texts said in
+    let new = c.note_batch.new in
+    record {
+      last = c.in_ok-batch-2.ensures.last;
+      few = c.in_ok-batch-2.ensures.few;
+      done = (
+        done ++ batch,
+        before.done.1 ∙ (ap (λ w. done ++ (batch ++ w)) c.in_ok-batch-2.ensures.lines
+            ∙ sym (append_assoc done batch next)),
+        noted_both done batch new.noted new.known.cache new.known.versions.items
+            (subst (λ b. AreNoted (lines_after (placed_among done) b)
+            (bad_after (bad_lines_among done) b) new.noted) is after.0)
+            (subst (λ b. AreKnown (versions_of (lines_after (placed_among done) b))
+            new.known.cache new.known.versions.items) is after.1),
+      );
+    }
+
+pub loop-walk-smaller : goal.loop-walk-smaller
+loop-walk-smaller g c =
+    let batch : List MeaningAt = c.loop-walk.batch.items in
+    let some : 0 < length batch = grind (
+      arith,
+      nat_tests,
+      c.is_empty.ensures,
+      c.loop-walk-test.true,
+      c.loop-walk.batch.ok.0,
+    ) in
+    let size = ap length c.in_ok-batch-2.ensures.lines in
+    omega (arith, some, size, length-append batch c.loop-walk.walk)
+
+pub returns : goal.returns
+returns g c =
+    let meanings = meanings_of (bytes_of c.args.logs.now) in
+    let h = c.loop-walk.invariant in
+    let done : List MeaningAt = h.done.0 in
+    let none : c.loop-walk.batch.items ≡ [] =
+    nil_from_length c.loop-walk.batch.items (search rules) in
+    let last : c.loop-walk.walk ≡ [] = h.last none in
+    let all : meanings ≡ done = h.done.1 ∙ ((λ i. done ++ (none i ++ last i))
+    ∙ append-nil done) in
+    subst (λ ms. AreNoted (placed_among ms) (bad_lines_among ms) c.loop-walk.noted) (sym all)
+    h.done.2.rows

@@ -1,5 +1,6 @@
 use Rattle.std.proofs.Common.{◌≡◌, ◌<◌, Contains, length, get_or, subst, sym, rules}
 use Rattle.epx_merge.specs.inner.RedundantLines.{CachesAfter}
+use Rattle.epx_merge.proofs.LineCacheLemmas.{CachesAfter-kept}
 use Rattle.epx_merge.proofs.DropsCachedLemmas.{CachesSomeOf-line}
 use Rattle.epx_merge.proofs.fresh_line.cache_line.Goals as goal
 
@@ -10,7 +11,8 @@ returns c =
     let within : c.args.fresh.index < length lines = search rules in
     let is : line ≡ get_or lines c.args.fresh.index line = search rules in
     let among : Contains lines line = (c.args.fresh.index, within, sym is) in
-    let cached : CachesAfter c.args.cache.now line.meaning c.insert.new.self =
-    subst (λ m. CachesAfter c.args.cache.now m c.insert.new.self) c.bytes.ensures
-    c.insert.ensures in
-    CachesSomeOf-line lines line c.args.cache.now c.insert.new.self among cached
+    let cached : CachesAfter c.args.cache.now line.meaning c.insert-kept.new.self =
+    subst (λ m. CachesAfter c.args.cache.now m c.insert-kept.new.self) c.bytes.ensures
+    (CachesAfter-kept c.insert-kept.result c.args.cache.now c.insert-kept.new.self _
+    c.insert-kept.ensures) in
+    CachesSomeOf-line lines line c.args.cache.now c.insert-kept.new.self among cached

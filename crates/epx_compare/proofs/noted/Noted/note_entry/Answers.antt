@@ -10,8 +10,8 @@ use Rattle.indexmap.specs.IndexSet.{insert_key}
 use Rattle.epx_compare.specs.SameInstances.{same_instance}
 use Rattle.epx_compare.proofs.noted.Noted.note_entry.Goals as goal
 
-pub returns : goal.returns
-returns c lines bad noted =
+pub returns-clause-noted : goal.returns-clause-noted
+returns-clause-noted c lines bad noted =
     let p : Placed = record { place = c.args.place; instance = c.args.entry } in
     let inserted = c.in_ok-version.ensures in
     let keys : c.insert_full.new.self.keys ≡ versions_of (lines ++ p ∷ []) = inserted.keys
@@ -30,3 +30,8 @@ returns c lines bad noted =
           (rows-snoc c.args.self.now.rows.items lines row p noted.rows refl version);
       bad_lines = noted.bad_lines;
     }
+
+pub returns-clause-number : goal.returns-clause-number
+returns-clause-number c =
+    let found = c.in_ok-version.ensures.stored in
+    found.1 ∙ ap Some (sym (same_by_test c.new.result found.0 found.2) ∙ c.new.ensures)

@@ -1,6 +1,10 @@
-use Rattle.std.proofs.Common.{◌≡◌, ◌<◌, map, length, get_or, Contains, subst, rules}
+use Rattle.std.proofs.Common.{◌≡◌, ◌∙◌, ◌<◌, List, Result, map, length, get_or, slice_get}
+use Rattle.std.proofs.Common.{ap, rules}
+use Rattle.std.proofs.Common.{sym}
+use Rattle.epx_types.specs.declared.fault.Why.{Why}
 use Rattle.epx_lines.specs.Meaning.{meaning_of}
-use Rattle.epx_merge.proofs.LineCacheLemmas.{found_in}
+use Rattle.epx_lines.specs.declared.Line.{Line}
+use Rattle.epx_merge.proofs.LineCacheLemmas.{found_at}
 use Rattle.epx_merge.proofs.line_cache.LineCache.holds.Goals as goal
 
 pub returns-in-Some : goal.returns-in-Some
@@ -10,5 +14,5 @@ returns-in-Some c = λ equal.
     let within : c.args.number < length lines = search rules in
     let is : c.in-Some.line.now ≡ get_or lines c.args.number c.in-Some.line.now = search rules in
     let bytes : c.in-Some.line.now.now ≡ c.args.bytes.now = search (rules, equal) in
-    subst (λ cache. Contains cache (meaning_of c.args.bytes.now)) same
-    (found_in lines c.args.number c.in-Some.line.now c.args.bytes.now within is bytes)
+    ap (λ (cache : List (Result Line Why)). slice_get cache c.args.number) (sym same)
+    ∙ found_at lines c.args.number c.in-Some.line.now c.args.bytes.now within is bytes

@@ -1,16 +1,16 @@
-use Rattle.std.proofs.Common.{◌≡◌, ◌∙◌, ◌<◌, ℕ, false, List, length, All}
-use Rattle.std.proofs.Common.{slice_get, slice_index_or, sym, ap, subst}
+use Rattle.std.proofs.Common.{◌≡◌, ◌∙◌, ◌<◌, ℕ, List, length, All}
+use Rattle.std.proofs.Common.{sym, ap, subst}
 use Rattle.std.proofs.lemmas.List.{length-map}
+use Rattle.std.proofs.lemmas.Result.{IfOk-weaker}
 use Rattle.std.specs.List.{list_any}
 use Rattle.epx_types.specs.declared.id.Id.{Id}
 use Rattle.epx_compare.specs.declared.noted.Row.{Row}
 use Rattle.epx_compare.specs.Differences.{versions_of}
-use Rattle.epx_compare.specs.Gaps.{gaps_of, has_line}
 use Rattle.epx_compare.specs.inner.Catalogs.{version_ids}
-use Rattle.epx_compare.specs.inner.LogMarks.{IsMarking, is_line_in}
+use Rattle.epx_compare.specs.inner.LogMarks.{is_line_in}
 use Rattle.epx_compare.proofs.CatalogLemmas.{as_many, positions_within, rows_named}
 use Rattle.epx_compare.proofs.MarkLemmas.{marks_lines}
-use Rattle.epx_compare.proofs.gap_lines.gaps_in.Goals as goal
+use Rattle.epx_compare.proofs.gap_lines.marks_of.Goals as goal
 
 pub mark_lines-requires-clause-versions : goal.mark_lines-requires-clause-versions
 mark_lines-requires-clause-versions c =
@@ -31,21 +31,15 @@ mark_lines-requires-clause-positions c =
     let held = positions_within c.args.catalog.now.ids c.args.catalog.now.positions.items
     (version_ids lines) c.requires.2.positions in
     let P : List ℕ → List Id → Type 0 = λ ks ids. All (λ j. j < length ids) ks in
-    subst (λ ks. P ks c.ids-ids.result.now) (sym c.deref-2.ensures.value)
-    (subst (P c.args.catalog.now.positions.items) (sym c.ids-ids.ensures.ids) held)
+    subst (λ ks. P ks c.ids-instances.result.now) (sym c.deref-2.ensures.value)
+    (subst (P c.args.catalog.now.positions.items) (sym c.ids-instances.ensures.ids) held)
 
-pub returns : goal.returns
-returns c lines bad catalog =
-    let ids = c.args.catalog.now.ids in
-    let log = c.args.log in
-    let marked = c.in_ok-marks.ensures.each in
-    let marking : IsMarking (has_line lines log) c.ids-ids.result.now c.deref-3.result.now =
-    λ k x at. marks_lines ids c.ids-ids.ensures.rising (versions_of lines)
-    c.args.catalog.now.positions.items catalog.positions log k x
-    (ap (λ (xs : List Id). slice_get xs k) (sym c.ids-ids.ensures.ids) ∙ at)
+pub returns-clause-each : goal.returns-clause-each
+returns-clause-each c = IfOk-weaker c.mark_lines.result _ _
+    (λ marks marked lines bad catalog log few k x at.
+    marks_lines c.args.catalog.now.ids c.ids-instances.ensures.rising (versions_of lines)
+    c.args.catalog.now.positions.items catalog.positions log k x at
     c.args.catalog.now.noted.rows.items lines catalog.noted.rows
     ∙ ((λ i. list_any (is_line_in (sym c.deref-2.ensures.value i) log k)
     (sym c.deref.ensures.value i))
-    ∙ (sym (marked k) ∙ ap (λ m. slice_index_or m k false) (sym c.deref-3.ensures.value))) in
-    c.in_ok-runs.ensures (has_line lines log) marking
-    ∙ ap (gaps_of (has_line lines log)) c.ids-ids.ensures.ids
+    ∙ sym (marked k log few))) c.mark_lines.ensures.each

@@ -1,0 +1,52 @@
+-- Counts of items by log, after one more item.
+use Rattle.std.proofs.Common.{◌≡◌, ◌∙◌, ◌+◌, ◌<◌, ◌≤◌, ◌≢◌, ◌==◌, ℕ, true, false, List}
+use Rattle.std.proofs.Common.{length, take, get_or, count_by, set, inl, inr, sym, ap, subst, arith}
+use Rattle.std.proofs.Common.{get_or-set_same, get_or-set_other}
+use Rattle.std.proofs.lemmas.Bool.{cases_Bool}
+use Rattle.std.proofs.lemmas.Bool.Decides.{nat_tests}
+use Rattle.std.proofs.lemmas.List.{length-take-le}
+use Rattle.std.proofs.lemmas.List.Sums.{count_by-le-length, count_by_more_no, count_by_more_yes}
+
+same_log : (m n : ℕ) → (m == n) ≡ true → m ≡ n
+same_log m n e = grind (arith, nat_tests)
+
+other_log : (m n : ℕ) → m ≢ n → (m == n) ≡ false
+other_log m n e = grind (arith, nat_tests)
+
+module _ {X : Type 0} (log_of : X → ℕ) (xs : List X) (i : ℕ) (d : X) (within : i < length xs)
+    (counts : List ℕ) (logs : ℕ)
+    (counted : (l : ℕ) → l < logs
+    → get_or counts l 0 ≡ count_by (λ x. log_of x == l) (take i xs)) where
+  -- no count is greater than the number of items
+  pub count_small : (l : ℕ) → l < logs → get_or counts l 0 ≤ i
+  count_small l inside =
+      let few = count_by-le-length (λ x. log_of x == l) (take i xs) in
+      omega (arith, counted l inside, length-take-le i xs (omega arith))
+
+  -- the count of the item's log is one more
+  pub count_more : (log : ℕ) → log_of (get_or xs i d) ≡ log → log < length counts → (l : ℕ)
+      → l < logs → get_or (set counts log (get_or counts log 0 + 1)) l 0
+      ≡ count_by (λ x. log_of x == l) (take (i + 1) xs)
+  count_more log own room l inside =
+      elim (cases_Bool (log == l)) [
+        | inl same ↦
+            let is : log ≡ l = same_log log l same in
+            let passes = ap (λ n. n == l) own ∙ same in
+            subst (λ k. get_or (set counts log (get_or counts log 0 + 1)) k 0
+            ≡ count_by (λ x. log_of x == l) (take (i + 1) xs)) is
+            (get_or-set_same counts log (get_or counts log 0 + 1) 0 room
+            ∙ (ap (λ k. get_or counts k 0 + 1) is ∙ (ap (λ n. n + 1) (counted l inside)
+            ∙ sym (count_by_more_yes (λ x. log_of x == l) xs i d within passes))))
+        | inr other ↦
+            let apart : l ≢ log = grind (arith, nat_tests) in
+            get_or-set_other counts log l (get_or counts log 0 + 1) 0 apart
+            ∙ (counted l inside ∙ sym (count_by_more_no (λ x. log_of x == l) xs i d within
+            (ap (λ n. n == l) own ∙ other)))
+      ]
+
+  -- an item of another log changes no count
+  pub count_same : logs ≤ log_of (get_or xs i d) → (l : ℕ) → l < logs
+      → get_or counts l 0 ≡ count_by (λ x. log_of x == l) (take (i + 1) xs)
+  count_same past l inside = counted l inside
+      ∙ sym (count_by_more_no (λ x. log_of x == l) xs i d within
+      (other_log (log_of (get_or xs i d)) l (omega arith)))
