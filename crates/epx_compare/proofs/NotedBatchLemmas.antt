@@ -140,7 +140,8 @@ module _ (lines : List Placed) (bad : List BadLineAt) (batch : List MeaningAt) w
 -- the lines of a batch after those of earlier ones
 pub noted_both : (done batch : List MeaningAt) (noted : Noted) (cache : List (Result Line Why))
     (numbers : List ℕ)
-    → AreNoted (lines_after (placed_among done) batch) (bad_after (bad_lines_among done) batch) noted
+    → AreNoted (lines_after (placed_among done) batch)
+    (bad_after (bad_lines_among done) batch) noted
     → AreKnown (versions_of (lines_after (placed_among done) batch)) cache numbers
     → AreNotedKnown (placed_among (done ++ batch)) (bad_lines_among (done ++ batch)) noted cache
     numbers

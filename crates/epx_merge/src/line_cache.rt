@@ -144,9 +144,9 @@ impl<'a> LineCache<'a> {
         self.find(hash, bytes).is_some()
     }
 
-    /// Keeps a line with this hash if a slot is free, and returns whether it did: its number is then
-    /// how many lines were kept before. A slot with the same half of the hash counts as this line: so
-    /// a line that comes twice in a batch is kept once, and none is compared.
+    /// Keeps a line with this hash if a slot is free, and returns whether it did. Its number is
+    /// then the count of lines kept before. A slot with the same half of the hash counts as this
+    /// line, so a line that comes twice in a batch is kept once, and none is compared.
     pub fn insert(&mut self, hash: u64, bytes: &'a [u8]) -> bool
         ensures { self.new ≡ if result then self.old ++ meaning_of bytes.now ∷ [] else self.old }
     {

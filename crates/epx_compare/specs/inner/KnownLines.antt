@@ -1,5 +1,6 @@
 -- What lines say by the numbers of what they commit, and the lines that are known.
-use Rattle.std.specs.Prelude.{◌≡◌, ℕ, List, Option, Some, Result, Ok, Err, map, slice_get, option_map}
+use Rattle.std.specs.Prelude.{◌≡◌, ℕ, List, Option, Some, Result, Ok, Err, map, slice_get}
+use Rattle.std.specs.Prelude.{option_map}
 use Rattle.epx_types.specs.declared.fault.Why.{Why}
 use Rattle.epx_types.specs.Instances.{Instance}
 use Rattle.epx_lines.specs.declared.Line.{Line}

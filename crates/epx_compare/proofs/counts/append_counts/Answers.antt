@@ -32,7 +32,8 @@ loop-log-preserved c lines bad noted =
     ∙ (bad_count log c.args.noted.now.bad.items
     ∙ ap (λ bs. bad_lines_in bs log) noted.bad_lines)))) in
     c.in_ok-append_log.ensures
-    ∙ (ap (λ t. t ++ line_of (log_data log own_lines own_bad)) (c.loop-log.invariant lines bad noted)
+    ∙ (ap (λ t. t ++ line_of (log_data log own_lines own_bad))
+    (c.loop-log.invariant lines bad noted)
     ∙ (append_assoc c.args.text.now.items (counts_text log lines bad) _
     ∙ ((λ i. c.args.text.now.items ++ (counts_text log lines bad
     ++ line_of (log_data log (rows i) (bads i))))

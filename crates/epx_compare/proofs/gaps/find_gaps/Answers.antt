@@ -1,5 +1,5 @@
-use Rattle.std.proofs.Common.{◌≡◌, ◌∙◌, ◌+◌, ◌-◌, ◌<◌, ◌∷◌, Bool, List, length, drop, get_or, reverse, ap}
-use Rattle.std.proofs.Common.{sym}
+use Rattle.std.proofs.Common.{◌≡◌, ◌∙◌, ◌+◌, ◌-◌, ◌<◌, ◌∷◌, Bool, List, length, drop, get_or, ap}
+use Rattle.std.proofs.Common.{reverse, sym}
 use Rattle.std.proofs.Common.{if◌then◌else◌, arith}
 use Rattle.epx_types.specs.declared.id.Id.{Id}
 use Rattle.epx_compare.specs.Gaps.{Gap, gaps_of, goes_on, widened}
@@ -25,7 +25,8 @@ loop-index-preserved-in-Continue-1 c has marking =
     ∙ (ap (λ g. with_front x g (reverse c.loop-index.gaps.items))
     (c.goes_on_at-goes_on.ensures has marking)
     ∙ (ap (with_front x (goes_on has x.replica (drop (n + 1) ids))) later
-    ∙ sym (gaps_lacked has ids n zero within (marked ∙ (sym c.contains.ensures ∙ c.if-not-contains.true)))))
+    ∙ sym (gaps_lacked has ids n zero within
+    (marked ∙ (sym c.contains.ensures ∙ c.if-not-contains.true)))))
 
 pub loop-index-preserved : goal.loop-index-preserved
 loop-index-preserved c has marking =
@@ -36,4 +37,5 @@ loop-index-preserved c has marking =
     let next : c.loop-index.index ≡ n + 1 = omega arith in
     let marked = marked_here has ids n zero within c.args.log c.args.marks.now marking in
     c.loop-index.invariant has marking ∙ (ap (λ m. gaps_of has (drop m ids)) next
-    ∙ sym (gaps_had has ids n zero within (marked ∙ (sym c.contains.ensures ∙ c.if-not-contains.false))))
+    ∙ sym (gaps_had has ids n zero within
+    (marked ∙ (sym c.contains.ensures ∙ c.if-not-contains.false))))

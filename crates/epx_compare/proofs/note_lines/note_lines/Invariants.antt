@@ -1,5 +1,6 @@
 use Rattle.std.proofs.Common.{◌≡◌, ◌≤◌, ◌^◌, ◌++◌, [], List, length}
-use Rattle.epx_merge.specs.LogLines.{MeaningAt, bad_lines_among, bytes_of, meanings_of, placed_among}
+use Rattle.epx_merge.specs.LogLines.{MeaningAt, bad_lines_among, bytes_of, meanings_of}
+use Rattle.epx_merge.specs.LogLines.{placed_among}
 use Rattle.epx_compare.proofs.NotedBatchLemmas.{AreNotedKnown}
 use Rattle.epx_compare.proofs.note_lines.note_lines.Given as goal
 
