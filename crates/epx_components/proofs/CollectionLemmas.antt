@@ -1,5 +1,5 @@
 -- What components collect: step by step, and in terms of what their nodes reach.
-use Rattle.std.proofs.Common.{◌≡◌, ◌≢◌, ◌↔◌, ◌⊎◌, inl, inr, ℕ, zero, suc, ◌+◌, ◌<◌, ◌≤◌, List, []}
+use Rattle.std.proofs.Common.{◌≡◌, ◌≢◌, ◌↔◌, ◌⊎◌, inl, inr, ℕ, zero, suc, ◌+◌, ◌<◌, List, []}
 use Rattle.std.proofs.Common.{◌∷◌, length, get_or, replicate, refl, sym, subst, ◌∙◌, ap, arith}
 use Rattle.std.proofs.Common.{Contains}
 use Rattle.std.proofs.lemmas.Bool.{cases_eq, cases_lt}
@@ -12,32 +12,29 @@ use Rattle.epx_components.proofs.NodePathLemmas.{reach_falls, reaches_edge, reac
 use Rattle.epx_components.proofs.NodePathLemmas.{reaches_on}
 use Rattle.epx_components.proofs.PartitionLemmas.{node_below}
 
+-- one thing more
+pub or_more : (F A A' D D' X : Type 0) → A ↔ (F ⊎ D) → D' ↔ (D ⊎ X) → A' ↔ (A ⊎ X)
+    → A' ↔ (F ⊎ D')
+or_more F A A' D D' X old more new = grind arith
+
 -- after one more target
 pub leads_out_more : (component : List ℕ) (own : ℕ) (targets : List ℕ) (n : ℕ) (P : ℕ → Type 0)
-    (First Old New : Type 0)
-    → Old ↔ (First ⊎ LeadsOut component own targets n P)
-    → New ↔ (Old ⊎ ((get_or component (get_or targets n 0) 0 ≢ own)
+    → LeadsOut component own targets (n + 1) P ↔ (LeadsOut component own targets n P
+    ⊎ ((get_or component (get_or targets n 0) 0 ≢ own)
     × P (get_or component (get_or targets n 0) 0)))
-    → New ↔ (First ⊎ LeadsOut component own targets (n + 1) P)
-leads_out_more component own targets n P First Old New old new = (
-  λ h. elim (new.0 h) [
-    | inl was ↦ elim (old.0 was) [
-      | inl first ↦ inl first
-      | inr (i, l, ne, holds) ↦ inr (i, omega (arith, l), ne, holds)
-    ]
-    | inr now ↦ inr (n, omega arith, now.0, now.1)
+leads_out_more component own targets n P = (
+  λ (i, l, ne, holds). elim (cases_lt i n) [
+    | inl past ↦ inl (i, past, ne, holds)
+    | inr here ↦
+        let same : i ≡ n = omega (arith, l) in
+        let Out : ℕ → Type 0 = λ i. (get_or component (get_or targets i 0) 0 ≢ own)
+        × P (get_or component (get_or targets i 0) 0) in
+        inr (subst Out same (ne, holds))
   ],
-  λ h. new.1 (elim h [
-    | inl first ↦ inl (old.1 (inl first))
-    | inr (i, l, ne, holds) ↦ elim (cases_lt i n) [
-      | inl past ↦ inl (old.1 (inr (i, past, ne, holds)))
-      | inr here ↦
-          let same : i ≡ n = omega (arith, l) in
-          let Out : ℕ → Type 0 = λ i. (get_or component (get_or targets i 0) 0 ≢ own)
-          × P (get_or component (get_or targets i 0) 0) in
-          inr (subst Out same (ne, holds))
-    ]
-  ]),
+  λ h. elim h [
+    | inl (i, l, ne, holds) ↦ (i, omega (arith, l), ne, holds)
+    | inr (ne, holds) ↦ (n, omega arith, ne, holds)
+  ],
 )
 
 pub none_at_first : (first : List ℕ) (n t c : ℕ) → first ≡ replicate n 0
@@ -57,93 +54,74 @@ none_at_first first n t c zeros h = elim (cases_lt c n) [
 ]
 
 module _ (edges : ℕ → List ℕ) (p : ComponentParts) (is : IsPartition edges p) where
-  target_falls : (k i : ℕ) → i < length (edges k)
-      → component_of p (get_or (edges k) i 0) ≤ component_of p k
-  target_falls k i l = is.falls k _ (Contains-get_or (edges k) i 0 l)
-
   -- after one more node, by which the value of its component alone has changed
-  pub collected_more : {A : Type 0} (H : A → Type 0) (G : ℕ → A → Type 0) (First : ℕ → Type 0)
-      (old new : ℕ → A) (n : ℕ) → n < length p.order
-      → ((c : ℕ) → c ≢ component_of p (node_at p n) → new c ≡ old c)
-      → H (new (component_of p (node_at p n)))
-      ↔ (H (old (component_of p (node_at p n)))
-      ⊎ LeadsOut p.component (component_of p (node_at p n)) (edges (node_at p n))
-      (length (edges (node_at p n))) (λ c. G c (old c)))
-      → AreCollected edges p n First (λ c. G c (old c)) (λ c. H (old c))
-      → AreCollected edges p (n + 1) First (λ c. G c (new c)) (λ c. H (new c))
-  collected_more H G First old new n l same now was c = elim (cases_eq c own) [
-    | inl here ↦ subst (λ c. H (new c) ↔ (First c ⊎ LeadsDown edges p (n + 1) Gives c))
-        (sym here) at_own
-    | inr there ↦ (
-      λ h. elim ((was c).0 (subst H (same c there) h)) [
-        | inl first ↦ inl first
-        | inr (q, lq, at, (i, li, ne, g)) ↦ inr (
-          q,
-          omega (arith, lq),
-          at,
-          (i, li, ne, subst (G _) (sym (same _ (lower q i at there li (omega (arith, lq))))) g),
-        )
-      ],
-      λ h. subst H (sym (same c there)) ((was c).1 (elim h [
-        | inl first ↦ inl first
-        | inr (q, lq, at, (i, li, ne, g)) ↦ inr (
-          q,
-          past q at there lq,
-          at,
-          (i, li, ne, subst (G _) (same _ (lower q i at there li lq)) g),
-        )
-      ])),
-    )
-  ] where
-    own : ℕ
-    own = component_of p (node_at p n)
+  module _ {A : Type 0} (G : ℕ → A → Type 0) (old new : ℕ → A) (n : ℕ) (l : n < length p.order)
+      (same : (c : ℕ) → c ≢ component_of p (node_at p n) → new c ≡ old c) where
+    abbrev pub Added : ℕ → Type 0
+    Added c = (component_of p (node_at p n) ≡ c)
+        × LeadsOut p.component c (edges (node_at p n)) (length (edges (node_at p n)))
+        (λ c. G c (old c))
 
-    Gives : ℕ → Type 0
-    Gives c = G c (new c)
-
-    lower : {c : ℕ} (q i : ℕ) → component_of p (node_at p q) ≡ c → c ≢ own
-        → i < length (edges (node_at p q)) → q < n + 1
-        → component_of p (get_or (edges (node_at p q)) i 0) ≢ own
-    lower q i at ne li lq here = ne (omega (
+    -- a component below one that was met has its old value
+    lower : {c : ℕ} (q i : ℕ) → q < n + 1 → component_of p (node_at p q) ≡ c
+        → i < length (edges (node_at p q)) → component_of p (get_or (edges (node_at p q)) i 0) ≢ c
+        → new (component_of p (get_or (edges (node_at p q)) i 0))
+        ≡ old (component_of p (get_or (edges (node_at p q)) i 0))
+    lower q i lq at li ne = same _ (λ here. ne (omega (
       arith,
       at,
       here,
-      target_falls (node_at p q) i li,
+      is.falls (node_at p q) _ (Contains-get_or (edges (node_at p q)) i 0 li),
       is.sorted q n (omega (arith, lq)) l,
-    ))
+    )))
 
-    past : {c : ℕ} (q : ℕ) → component_of p (node_at p q) ≡ c → c ≢ own → q < n + 1 → q < n
-    past q at ne lq = elim (cases_lt q n) [
-      | inl before ↦ before
-      | inr here ↦
-          let this : q ≡ n = omega (arith, lq) in
-          absurd (ne (sym at ∙ ap (λ q. component_of p (node_at p q)) this))
-    ]
-
-    at_own : H (new own) ↔ (First own ⊎ LeadsDown edges p (n + 1) Gives own)
-    at_own = (
-      λ h. elim (now.0 h) [
-        | inl before ↦ elim ((was own).0 before) [
-          | inl first ↦ inl first
-          | inr (q, lq, at, (i, li, ne, g)) ↦
-              inr (q, omega (arith, lq), at, (i, li, ne, subst (G _) (sym (same _ ne)) g))
-        ]
-        | inr (i, li, ne, g) ↦
-            inr (n, omega arith, refl, (i, li, ne, subst (G _) (sym (same _ ne)) g))
+    leads_down_more : (c : ℕ) → LeadsDown edges p (n + 1) (λ c. G c (new c)) c
+        ↔ (LeadsDown edges p n (λ c. G c (old c)) c ⊎ Added c)
+    leads_down_more c = (
+      λ (q, lq, at, (i, li, ne, g)).
+          let was = subst (G _) (lower q i lq at li ne) g in
+          elim (cases_lt q n) [
+            | inl past ↦ inl (q, past, at, (i, li, ne, was))
+            | inr here ↦
+                let this : q ≡ n = omega (arith, lq) in
+                let Out : ℕ → Type 0 = λ q. (component_of p (node_at p q) ≡ c)
+                × LeadsOut p.component c (edges (node_at p q)) (length (edges (node_at p q)))
+                (λ c. G c (old c)) in
+                inr (subst Out this (at, (i, li, ne, was)))
+          ],
+      λ h. elim h [
+        | inl (q, lq, at, (i, li, ne, g)) ↦
+            let l' : q < n + 1 = omega (arith, lq) in
+            (q, l', at, (i, li, ne, subst (G _) (sym (lower q i l' at li ne)) g))
+        | inr (at, (i, li, ne, g)) ↦
+            let l' : n < n + 1 = omega arith in
+            (n, l', at, (i, li, ne, subst (G _) (sym (lower n i l' at li ne)) g))
       ],
-      λ h. now.1 (elim h [
-        | inl first ↦ inl ((was own).1 (inl first))
-        | inr (q, lq, at, (i, li, ne, g)) ↦ elim (cases_lt q n) [
-          | inl before ↦ inl
-              ((was own).1 (inr (q, before, at, (i, li, ne, subst (G _) (same _ ne) g))))
-          | inr here ↦
-              let this : q ≡ n = omega (arith, lq) in
-              let Out : ℕ → Type 0 = λ q. LeadsOut p.component own (edges (node_at p q))
-              (length (edges (node_at p q))) (λ c. G c (old c)) in
-              inr (subst Out this (i, li, ne, subst (G _) (same _ ne) g))
-        ]
-      ]),
     )
+
+    pub collected_more : (H : A → Type 0) (First : ℕ → Type 0)
+        → H (new (component_of p (node_at p n)))
+        ↔ (H (old (component_of p (node_at p n)))
+        ⊎ LeadsOut p.component (component_of p (node_at p n)) (edges (node_at p n))
+        (length (edges (node_at p n))) (λ c. G c (old c)))
+        → AreCollected edges p n First (λ c. G c (old c)) (λ c. H (old c))
+        → AreCollected edges p (n + 1) First (λ c. G c (new c)) (λ c. H (new c))
+    collected_more H First now was c =
+        or_more _ _ _ _ _ _ (was c) (leads_down_more c)
+        (elim (cases_eq (component_of p (node_at p n)) c) [
+          | inl here ↦ subst (λ c. H (new c) ↔ (H (old c) ⊎ Added c)) here (
+            λ h. elim (now.0 h) [ inl before ↦ inl before | inr out ↦ inr (refl, out) ],
+            λ h. now.1 (elim h [ inl before ↦ inl before | inr added ↦ inr added.1 ]),
+          )
+          | inr other ↦
+              let kept = same c (λ e. other (sym e)) in (
+                λ h. inl (subst H kept h),
+                λ h. elim h [
+                  | inl before ↦ subst H (sym kept) before
+                  | inr added ↦ absurd (other added.0)
+                ],
+              )
+        ])
 
   -- If a component gives a fact and what it has, then a component has what it or a component that
   -- it reaches had at first, and the facts of the other components that it reaches.

@@ -45,11 +45,10 @@ loop-node-preserved g c =
     ) at added in
     record {
       len = length-set values _ _ ∙ c.loop-node.invariant.len;
-      collected = λ t. rw own (collected_more edges p is (g.C.Collector.has t)
-          (λ d v. g.C.Collector.gives c.args.collector.now d v t) _
-          (λ d. get_or values d none)
+      collected = λ t. rw own (collected_more edges p is
+          (λ d v. g.C.Collector.gives c.args.collector.now d v t) (λ d. get_or values d none)
           (λ d. get_or (set values (component_of p (node_at p i)) x) d none) i in'
-          (λ d ne. get_or-set_other values _ d x none ne)
+          (λ d ne. get_or-set_other values _ d x none ne) (g.C.Collector.has t) _
           (rw (get_or-set_same values (component_of p (node_at p i)) x none own_in) (add t))
           (c.loop-node.invariant.collected t));
     }
