@@ -20,7 +20,7 @@ mod visit;
 pub use bottom_up::collect_bottom_up;
 pub use collector::Collector;
 pub use component_map::{ComponentMap, components};
-pub use missing::{any_marked, find_missing};
+pub use missing::find_missing;
 pub use node_ranks::{NodeRank, NodeRanks};
 pub use order_list::OrderList;
 pub use partition::Partition;

@@ -1,10 +1,8 @@
 //! Finds the components that reach a missing node.
-ghost use Rattle.std.specs.Prelude.{◌≡◌, ◌↔◌, ℕ, ◌<◌, length, slice_index_or, false, All, ⊤};
-ghost use Rattle.std.specs.Prelude.{IsTrue, IfOk};
+ghost use Rattle.std.specs.Prelude.{◌≡◌, ◌↔◌, ℕ, ◌<◌, length, false, ⊤, IsTrue, IfOk};
 ghost use Rattle.epx_graph.specs.Graphs.{edges_of};
 ghost use Rattle.epx_components.specs.MissingNodes.{ReachesMissing};
 ghost use Rattle.epx_components.specs.Partitions.{parts, mark_for, IsPartitionOf};
-ghost use Rattle.epx_components.specs.Targets.{LeadsToMarked};
 
 use crate::bottom_up::collect_bottom_up;
 use crate::collector::Collector;
@@ -57,18 +55,4 @@ impl Collector for MissingMarks {
     fn is_full(&self, mark: bool) -> bool {
         mark
     }
-}
-
-/// Whether one of the targets is in a marked component.
-pub fn any_marked(targets: &[usize], component: &[usize], marks: &[bool]) -> bool
-    requires targets { All (λ j. j < length component.now) targets.now }
-    requires counted { All (λ c. c < length marks.now) component.now }
-    ensures { IsTrue result ↔ LeadsToMarked component.now marks.now targets.now }
-{
-    for target in targets {
-        if marks[component[*target]] {
-            return true;
-        }
-    }
-    false
 }
