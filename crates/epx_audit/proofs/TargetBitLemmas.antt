@@ -1,9 +1,9 @@
--- Words to which the targets of edges are added, and words that are collected from the targets.
+-- Words to which the targets of edges are added.
 use Rattle.std.proofs.Common.{◌≡◌, ◌↔◌, ◌⊎◌, inl, inr, ℕ, ◌+◌, ◌<◌, List, length, get_or, set}
-use Rattle.std.proofs.Common.{bit_or, IsTrue, subst, ap, ◌∙◌, arith}
+use Rattle.std.proofs.Common.{bit_or, IsTrue, ap, ◌∙◌, arith}
 use Rattle.std.proofs.lemmas.Bool.{cases_lt}
 use Rattle.epx_audit.specs.inner.SourceBits.{has_bit}
-use Rattle.epx_audit.proofs.BitLemmas.{or_bit, or_at}
+use Rattle.epx_audit.proofs.BitLemmas.{or_at}
 
 module _ (component targets : List ℕ) where
   -- the word is added to the components of the first n targets
@@ -34,30 +34,5 @@ module _ (component targets : List ℕ) where
                 let same : n ≡ i = omega (arith, below) in
                 inr (ap (λ i. get_or component (get_or targets i 0) 0) same ∙ at, has)
           ]
-        ]),
-      )
-
-  -- the bits of the words of the first n targets
-  abbrev pub AreJoined : List ℕ → ℕ → ℕ → Type 0
-  AreJoined words over n = (b : ℕ) → IsTrue (has_bit b over)
-      ↔ ((i : ℕ) × (i < n)
-      × IsTrue (has_bit b (get_or words (get_or component (get_or targets i 0) 0) 0)))
-
-  pub joined_more : (words : List ℕ) (over n : ℕ) → AreJoined words over n
-      → AreJoined words (bit_or over (get_or words (get_or component (get_or targets n 0) 0) 0))
-      (n + 1)
-  joined_more words over n old b =
-      let both = or_bit b over (get_or words (get_or component (get_or targets n 0) 0) 0) in (
-        λ h. elim (both.0 h) [
-          | inl was ↦ let f = (old b).0 was in (f.0, omega (arith, f.1), f.2)
-          | inr now ↦ (n, omega arith, now)
-        ],
-        λ f. both.1 (elim (cases_lt f.0 n) [
-          | inl past ↦ inl ((old b).1 (f.0, past, f.2))
-          | inr here ↦
-              let same : f.0 ≡ n = omega (arith, f.1) in
-              inr (subst
-              (λ i. IsTrue
-              (has_bit b (get_or words (get_or component (get_or targets i 0) 0) 0))) same f.2)
         ]),
       )

@@ -47,7 +47,7 @@ impl Batch {
     {
         let own = source_marks(alloc, graph.len(), sources)?;
         let reached = find_reached(alloc, graph, partition, sources)?;
-        let reaching = find_reaching(alloc, graph, partition, sources, &own)?;
+        let reaching = find_reaching(alloc, graph, partition, sources)?;
         let sharing = sharing_marks(alloc, doubtful, sources, &own)?;
         Ok(Batch {
             reached,

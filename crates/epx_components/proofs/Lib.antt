@@ -12,6 +12,7 @@ pub mod PathEndLemmas
 pub mod RootLemmas
 pub mod EndLemmas
 pub mod PartitionLemmas
+pub mod CollectionLemmas
 pub mod LeaderLemmas
 pub mod DepthLemmas
 pub mod MissingLemmas

@@ -5,5 +5,5 @@ pub mod NodeRanks
 pub mod Ranks
 pub mod ReadyMarks
 pub mod Partitions
-pub mod Targets
+pub mod Collections
 pub mod inner

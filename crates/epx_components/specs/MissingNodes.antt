@@ -2,10 +2,6 @@
 use Rattle.std.specs.Prelude.{ℕ, ◌≤◌, List}
 use Rattle.epx_graph.specs.NodePaths.{NodeReaches}
 
--- k reaches a node for which the fact holds
-abbrev pub ReachesAny : (ℕ → List ℕ) → (ℕ → Type 0) → ℕ → Type 0
-ReachesAny edges P k = (j : ℕ) × P j × NodeReaches edges k j
-
 -- k reaches a node from this number on
 abbrev pub ReachesMissing : (ℕ → List ℕ) → ℕ → ℕ → Type 0
 ReachesMissing edges committed k = (j : ℕ) × (committed ≤ j) × NodeReaches edges k j

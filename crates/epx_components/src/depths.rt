@@ -1,10 +1,11 @@
 //! The depths of the components.
-ghost use Rattle.std.specs.Prelude.{◌≡◌, ℕ, ◌<◌, ◌≤◌, length, slice_index, All, IfOk};
+ghost use Rattle.std.specs.Prelude.{◌≡◌, ℕ, ◌+◌, ◌-◌, ◌^◌, ◌<◌, min, length, ⊤, IfOk};
 ghost use Rattle.epx_graph.specs.Graphs.{edges_of};
 ghost use Rattle.epx_components.specs.NodeDepths.{IsNodeDepth};
 ghost use Rattle.epx_components.specs.Partitions.{parts, number_for, IsPartitionOf};
-ghost use Rattle.epx_components.specs.Targets.{IsDepthAbove};
 
+use crate::bottom_up::collect_bottom_up;
+use crate::collector::Collector;
 use crate::partition::Partition;
 use epx_graph::Graph;
 use epx_types::Memory;
@@ -21,31 +22,26 @@ pub(crate) fn find_depths(
     ensures each { IfOk result (λ depths. (k : ℕ) → k < length graph.now.ids
         → IsNodeDepth (edges_of graph.now) k (number_for (parts partition.now) depths.items k)) }
 {
-    let mut depths = vec![in alloc; 0; partition.count]?;
-    for node in &partition.order {
-        let own = partition.component[*node];
-        let below = depth_above(graph.edges(*node), &partition.component, &depths, own);
-        depths[own] = depths[own].max(below);
-    }
-    Ok(depths)
+    let depths = vec![in alloc; 0; partition.count]?;
+    Ok(collect_bottom_up(graph, partition, depths, &Depths))
 }
 
-/// One more than the greatest depth of the other components that the edges lead to, or 0 if there
-/// is none.
-fn depth_above(targets: &[usize], component: &[usize], depths: &[usize], own: usize) -> usize
-    requires targets { All (λ j. j < length component.now) targets.now }
-    requires falls { (i : ℕ) → i < length targets.now
-        → slice_index component.now (slice_index targets.now i) ≤ own }
-    requires own { own < length depths.now }
-    requires low { (c : ℕ) → slice_index depths.now c ≤ c }
-    ensures { IsDepthAbove component.now depths.now own targets.now (length targets.now) result }
-{
-    let mut deepest = 0;
-    for target in targets {
-        let other = component[*target];
-        if other != own {
-            deepest = deepest.max(depths[other] + 1);
-        }
+/// Collects the greatest number of steps down. They are fewer than the components, so `add` never
+/// saturates.
+struct Depths;
+
+impl Collector for Depths {
+    type Value = usize;
+
+    ghost none = { 0 };
+
+    ghost has = { λ t depth. t < depth };
+
+    ghost gives = { λ _ _ depth t. t < min (depth + 1) (2 ^ 64 - 1) };
+
+    ghost can_add = { λ _ _. ⊤ };
+
+    fn add(&self, depth: usize, _other: usize, below: usize) -> usize {
+        depth.max(below.saturating_add(1))
     }
-    deepest
 }

@@ -2,6 +2,8 @@
 //! depth, and whether it reaches an instance that no log commits.
 #![tactic(auto)]
 
+mod bottom_up;
+mod collector;
 mod component_map;
 mod depths;
 mod leaders;
@@ -15,8 +17,10 @@ mod search;
 mod starts;
 mod visit;
 
+pub use bottom_up::collect_bottom_up;
+pub use collector::Collector;
 pub use component_map::{ComponentMap, components};
-pub use missing::{any_marked, find_missing};
+pub use missing::find_missing;
 pub use node_ranks::{NodeRank, NodeRanks};
 pub use order_list::OrderList;
 pub use partition::Partition;

@@ -11,12 +11,6 @@ AreSourceMarks slots words =
     (b s : ℕ) → b < length slots → IsTrue (has_bit b (slice_index words s))
     ↔ (slice_index slots b ≡ s)
 
--- a target whose component has bit b
-abbrev pub LeadsToBit : List ℕ → List ℕ → List ℕ → ℕ → Type 0
-LeadsToBit component words targets b =
-    (i : ℕ) × (i < length targets) ×
-    IsTrue (has_bit b (slice_index words (slice_index component (slice_index targets i))))
-
 -- the first word has the bit, and the two others do not
 pub record HasAlone (b word other third : ℕ) : Type 0 where
   pub has : IsTrue (has_bit b word)

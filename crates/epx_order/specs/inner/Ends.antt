@@ -21,15 +21,3 @@ pub record IsEndBelow (edges : ℕ → List ℕ) (p : ComponentParts) (ends : Li
       → number_for p ends j ≤ found
   pub one : (found ≡ 0) ⊎ ((j : ℕ) × NodeReaches edges k j × (component_of p j ≢ component_of p k)
       × (found ≡ number_for p ends j))
-
--- the greatest end of the other components that the first n targets are in and of those below
--- these, or 0
-pub record IsGreatestEnd (component ends below : List ℕ) (own : ℕ) (targets : List ℕ)
-    (n found : ℕ) : Type 0 where
-  pub all : (i : ℕ) → i < n → slice_index component (slice_index targets i) ≢ own
-      → (slice_index ends (slice_index component (slice_index targets i)) ≤ found)
-      × (slice_index below (slice_index component (slice_index targets i)) ≤ found)
-  pub one : (found ≡ 0)
-      ⊎ ((i : ℕ) × (i < n) × (slice_index component (slice_index targets i) ≢ own)
-      × ((found ≡ slice_index ends (slice_index component (slice_index targets i)))
-      ⊎ (found ≡ slice_index below (slice_index component (slice_index targets i)))))

@@ -1,11 +1,11 @@
 //! For each component, the position in a list of nodes after which the component is complete, and
 //! the same for the components that it reaches.
-ghost use Rattle.std.specs.Prelude.{◌≡◌, ℕ, ◌<◌, ◌≤◌, length, slice_index, All, IfOk};
+ghost use Rattle.std.specs.Prelude.{◌≡◌, ◌⊎◌, ℕ, ◌<◌, length, slice_index, All, IfOk};
 ghost use Rattle.epx_graph.specs.Graphs.{edges_of};
-ghost use Rattle.epx_order.specs.inner.Ends.{AreEnds, IsEndBelow, IsGreatestEnd};
+ghost use Rattle.epx_order.specs.inner.Ends.{AreEnds, IsEndBelow};
 ghost use Rattle.epx_components.specs.Partitions.{parts, number_for, IsPartitionOf};
 
-use epx_components::Partition;
+use epx_components::{Collector, Partition, collect_bottom_up};
 use epx_graph::Graph;
 use epx_types::Memory;
 use std::alloc::Global;
@@ -42,35 +42,28 @@ pub(crate) fn find_ends_below(
         → IsEndBelow (edges_of graph.now) (parts partition.now) ends.now k
         (number_for (parts partition.now) below.items k)) }
 {
-    let mut below = vec![in alloc; 0; partition.count]?;
-    for node in &partition.order {
-        let own = partition.component[*node];
-        let over = greatest_end(graph.edges(*node), &partition.component, ends, &below, own);
-        below[own] = below[own].max(over);
-    }
-    Ok(below)
+    let below = vec![in alloc; 0; partition.count]?;
+    Ok(collect_bottom_up(graph, partition, below, &EndsBelow { ends }))
 }
 
-/// The greatest end of the other components that the edges lead to and of those below them, or 0.
-fn greatest_end(
-    targets: &[usize],
-    component: &[usize],
-    ends: &[usize],
-    below: &[usize],
-    own: usize,
-) -> usize
-    requires targets { All (λ j. j < length component.now) targets.now }
-    requires ends { All (λ c. c < length ends.now) component.now }
-    requires below { length below.now ≡ length ends.now }
-    ensures { IsGreatestEnd component.now ends.now below.now own targets.now (length targets.now)
-        result }
-{
-    let mut greatest: usize = 0;
-    for target in targets {
-        let other = component[*target];
-        if other != own {
-            greatest = greatest.max(ends[other]).max(below[other]);
-        }
+/// Collects the greatest of the components' ends.
+#[derive(Drop)]
+struct EndsBelow<'a> {
+    ends: &'a [usize],
+}
+
+impl<'a> Collector for EndsBelow<'a> {
+    type Value = usize;
+
+    ghost none = { 0 };
+
+    ghost has = { λ t below. t < below };
+
+    ghost gives = { λ s c below t. (t < slice_index s.ends.now c) ⊎ (t < below) };
+
+    ghost can_add = { λ s c. c < length s.ends.now };
+
+    fn add(&self, value: usize, other: usize, below: usize) -> usize {
+        value.max(self.ends[other]).max(below)
     }
-    greatest
 }

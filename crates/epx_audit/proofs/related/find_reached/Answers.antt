@@ -1,4 +1,4 @@
-use Rattle.std.proofs.Common.{◌≡◌, ◌↔◌, ◌⊎◌, ◌+◌, ◌-◌, ◌<◌, ℕ, List, All, length, map, get_or}
+use Rattle.std.proofs.Common.{◌≡◌, ◌↔◌, ◌⊎◌, ◌+◌, ◌-◌, ◌<◌, ℕ, List, length, get_or}
 use Rattle.std.proofs.Common.{IsTrue, sym, subst, ap, ◌∙◌, arith}
 use Rattle.std.proofs.lemmas.List.{get_or_read, with_items_is}
 use Rattle.std.proofs.lemmas.List.Elements.{All-get_or}
@@ -8,53 +8,23 @@ use Rattle.epx_components.specs.Partitions.{component_of, node_at, number_for}
 use Rattle.epx_components.proofs.PartitionLemmas.{node_below, component_below}
 use Rattle.epx_audit.specs.inner.SourceBits.{has_bit}
 use Rattle.epx_audit.proofs.BitLemmas.{no_bit}
-use Rattle.epx_audit.proofs.ReachedBitLemmas.{AreReachedBits, source_components_below}
+use Rattle.epx_audit.proofs.ReachedBitLemmas.{AreReachedBits}
 use Rattle.epx_audit.proofs.ReachedBitLemmas.{reached_bits_first, reached_bits_step}
 use Rattle.epx_audit.proofs.ReachedBitLemmas.{reached_bits_skip, reached_bits_all}
 use Rattle.epx_audit.proofs.related.find_reached.Goals as goal
-
-pub source_marks-requires-clause-in_range : goal.source_marks-requires-clause-in_range
-source_marks-requires-clause-in_range c =
-    let p = parts c.args.partition.now in
-    let sources = c.args.sources.now in
-    let source_components = c.in_ok-source_components.source_components.items in
-    let same : source_components ≡ map (λ k. get_or p.component k 0) sources =
-    c.in_ok-source_components.ensures
-    ∙ ap (λ component. map (λ k. get_or component k 0) sources) c.deref.ensures.value in
-    let below : (b : ℕ) → b < length sources → get_or sources b 0 < length p.component =
-    λ b l. omega (
-      arith,
-      All-get_or (λ k. k < length c.args.graph.now.ids) sources b 0 l
-          c.requires.sources,
-      c.requires.partition.each_node,
-    ) in
-    subst (All (λ s. s < p.count)) (sym c.deref-2.ensures.value)
-    (source_components_below (edges_of c.args.graph.now) p c.requires.partition.is sources
-    source_components below same)
 
 pub loop-position-init : goal.loop-position-init
 loop-position-init c =
     let edges = edges_of c.args.graph.now in
     let p = parts c.args.partition.now in
     let sources = c.args.sources.now in
-    let source_components = c.in_ok-source_components.source_components.items in
     let words = c.in_ok-words.words.items in
-    let same : source_components ≡ map (λ k. get_or p.component k 0) sources =
-    c.in_ok-source_components.ensures
-    ∙ ap (λ component. map (λ k. get_or component k 0) sources) c.deref.ensures.value in
-    let below : (b : ℕ) → b < length sources → get_or sources b 0 < length p.component =
-    λ b l. omega (
-      arith,
-      All-get_or (λ k. k < length c.args.graph.now.ids) sources b 0 l
-          c.requires.sources,
-      c.requires.partition.each_node,
-    ) in
-    let marks = rw c.deref-2.ensures.value at c.in_ok-words.ensures.marks in
     record {
       len = c.in_ok-words.ensures.len;
       marks = subst (AreReachedBits edges p sources words) (omega (arith, c.len-position.ensures))
-          (reached_bits_first edges p c.requires.partition.is sources words source_components below
-          same marks);
+          (reached_bits_first edges p c.requires.partition.is sources words
+          c.in_ok-words.ensures.marks
+          (rw (sym c.requires.partition.each_node) at c.requires.sources));
     }
 
 -- the node at a position of the order, and the word of its component
@@ -103,7 +73,7 @@ loop-position-preserved-then-word-ne0 c =
     ⊎ (IsTrue (has_bit b (number_for p words (node_at p n))) × (i : ℕ)
     × (i < length (edges (node_at p n)))
     × (get_or p.component (get_or (edges (node_at p n)) i 0) 0 ≡ c))) =
-    rw (read, c.edges.ensures.edges, c.deref-then-word-ne0.ensures.value, node, word) at
+    rw (read, c.edges.ensures.edges, c.deref.ensures.value, node, word) at
     c.mark_targets.ensures.marks in
     let position : c.loop-position.position ≡ n + 1 =
     omega (arith, c.loop-position-test.true, c.loop-position.auto.position) in

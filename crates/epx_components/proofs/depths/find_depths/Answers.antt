@@ -1,59 +1,15 @@
-use Rattle.std.proofs.Common.{◌≡◌, ◌<◌, length, length-set, get_or, arith, subst, ◌∙◌, ap}
-use Rattle.std.proofs.lemmas.List.{get_or_read}
+use Rattle.std.proofs.Common.{◌<◌, ◌^◌, arith}
 use Rattle.epx_graph.specs.Graphs.{edges_of}
-use Rattle.epx_components.specs.Partitions.{parts, component_of, node_at, number_for}
-use Rattle.epx_components.proofs.DepthLemmas.{AreDepths, depths_step, depths_all}
-use Rattle.epx_components.proofs.PartitionLemmas.{node_below, component_below}
+use Rattle.epx_components.specs.Partitions.{parts}
+use Rattle.epx_components.proofs.DepthLemmas.{depths_exact}
 use Rattle.epx_components.proofs.depths.find_depths.Goals as goal
-
-pub loop-node-preserved : goal.loop-node-preserved
-loop-node-preserved c =
-    let edges = edges_of c.args.graph.now in
-    let p = parts c.args.partition.now in
-    let is = c.requires.is in
-    let depths = c.loop-node.depths.items in
-    let i = c.loop-node.node-index in
-    let order = c.deref-node-items.ensures.value in
-    let in' : i < length p.order = omega (arith, c.loop-node-test.true, ap length order) in
-    let node_in = node_below edges p is i in' in
-    let own : c.index-own.result.now ≡ component_of p (node_at p i) =
-    get_or_read p.component _ _ (omega (arith, node_in, ap (λ xs. get_or xs i 0) order))
-    c.index-own.ensures 0 ∙ ap (λ xs. get_or p.component (get_or xs i 0) 0) order in
-    let own_in : component_of p (node_at p i) < length depths =
-    omega (
-      arith,
-      component_below edges p is (node_at p i) node_in,
-      c.loop-node.invariant.len,
-    ) in
-    let was : c.index.result.now ≡ number_for p depths (node_at p i) =
-    get_or_read depths _ _ (omega (arith, own)) c.index.ensures 0
-    ∙ ap (λ x. get_or depths x 0) own in
-    record {
-      len = length-set depths c.index-own.result.now c.max.result ∙ c.loop-node.invariant.len;
-      depths = rw own (depths_step edges p depths i c.depth_above-below.result c.max.result is in'
-          own_in
-          (rw (
-            c.edges.ensures.edges,
-            order,
-            c.deref.ensures.value,
-            c.deref-in-loop-node.ensures.value,
-            own,
-          ) at c.depth_above-below.ensures)
-          (rw was at c.max.ensures) c.loop-node.invariant.depths);
-    }
 
 pub returns-clause-each : goal.returns-clause-each
 returns-clause-each c = λ k l.
-    let edges = edges_of c.args.graph.now in
-    let p = parts c.args.partition.now in
-    let depths = c.loop-node.depths.items in
-    let end : c.loop-node.node-index ≡ length p.order =
-    omega (
-      arith,
-      c.loop-node-test.false,
-      c.loop-node.auto.node-index-end,
-      ap length c.deref-node-items.ensures.value,
-    ) in
-    depths_all edges p depths c.requires.is
-    (subst (AreDepths edges p depths) end c.loop-node.invariant.depths) k
-    (omega (arith, c.requires.each_node))
+    let first = c.in_ok-depths in
+    let fits : c.args.partition.now.count < 2 ^ 64 =
+    omega (arith, first.ensures.len, first.depths.ok.1, first.depths.small) in
+    depths_exact (edges_of c.args.graph.now) (parts c.args.partition.now) c.requires.is
+    c.collect_bottom_up.result.items c.collect_bottom_up.ensures.len fits first.depths.items
+    (first.ensures.items_if_clones_equal (λ y same. same)) c.collect_bottom_up.ensures.each k
+    (omega (arith, l, c.requires.each_node))

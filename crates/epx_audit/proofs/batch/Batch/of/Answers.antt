@@ -4,6 +4,6 @@ use Rattle.epx_audit.proofs.batch.Batch.of.Goals as goal
 pub sharing_marks-requires-clause-doubtful : goal.sharing_marks-requires-clause-doubtful
 sharing_marks-requires-clause-doubtful c t h =
     let in_range = c.requires.doubtful t h in (
-      omega (arith, in_range.0, c.in_ok-own.ensures.len, ap length c.deref-2.ensures.value),
+      omega (arith, in_range.0, c.in_ok-own.ensures.len, ap length c.deref.ensures.value),
       in_range.1,
     )
