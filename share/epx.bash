@@ -1,10 +1,11 @@
 # Completion of epx for bash.
 _epx() {
-    local word=${COMP_WORDS[COMP_CWORD]}
+    local word=${COMP_WORDS[COMP_CWORD]} options="--workers --cut --help"
+    case ${COMP_WORDS[1]} in audit|check|compare) options+=" --exit-code" ;; esac
     if [ "$COMP_CWORD" -eq 1 ]; then
-        COMPREPLY=($(compgen -W "run order levels graph resume audit check help --help --version" -- "$word"))
+        COMPREPLY=($(compgen -W "run order levels graph resume audit check compare help --help --version" -- "$word"))
     elif [ "${word#-}" != "$word" ]; then
-        COMPREPLY=($(compgen -W "--workers --cut --help" -- "$word"))
+        COMPREPLY=($(compgen -W "$options" -- "$word"))
     else
         COMPREPLY=($(compgen -f -- "$word"))
     fi

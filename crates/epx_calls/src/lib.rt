@@ -12,7 +12,6 @@ mod bases;
 #[cfg(test)]
 mod claims;
 #[cfg(test)]
-mod comparisons;
 #[cfg(test)]
 mod devices;
 #[cfg(test)]

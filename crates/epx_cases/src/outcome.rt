@@ -22,6 +22,7 @@ pub(crate) fn task_named(command: &str) -> Option<Task> {
         "resume" => Some(Task::Resume),
         "audit" => Some(Task::Audit),
         "check" => Some(Task::Check),
+        "compare" => Some(Task::Compare),
         _ => None,
     }
 }
@@ -33,6 +34,7 @@ fn ask_of(task: Task) -> Option<Ask> {
         Task::Levels => Some(Ask::Levels),
         Task::Graph => Some(Ask::Graph),
         Task::Audit => Some(Ask::Audit),
+        Task::Compare => Some(Ask::Compare),
         Task::Run | Task::Resume | Task::Check => None,
     }
 }

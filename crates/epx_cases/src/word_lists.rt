@@ -3,7 +3,7 @@
 use crate::test_runtime::NOT_UTF_8;
 
 /// Words of every kind. Each list begins with the name of the program.
-pub(crate) fn word_lists() -> [&'static [&'static str]; 42] {
+pub(crate) fn word_lists() -> [&'static [&'static str]; 53] {
     [
         &["epx"],
         &["epx", "--help"],
@@ -25,6 +25,8 @@ pub(crate) fn word_lists() -> [&'static [&'static str]; 42] {
         &["epx", "audit", "--help"],
         &["epx", "check", "-h"],
         &["epx", "check", "--help"],
+        &["epx", "compare", "-h"],
+        &["epx", "compare", "--help"],
         &["epx", "help", "check"],
         &["epx", "resume"],
         &["epx", "check"],
@@ -39,6 +41,27 @@ pub(crate) fn word_lists() -> [&'static [&'static str]; 42] {
         &["epx", "check", "lawful.list", "component.jsonl"],
         &["epx", "check", "early.list", "component.jsonl"],
         &["epx", "check", "cut_off.list", "component.jsonl"],
+        &["epx", "compare", "0.jsonl", "other.jsonl", "cut_off.jsonl"],
+        &["epx", "compare", "--exit-code", "0.jsonl", "other.jsonl"],
+        &["epx", "compare", "--exit-code", "0.jsonl"],
+        &["epx", "audit", "--exit-code", "component.jsonl"],
+        &["epx", "audit", "--exit-code", "apart.jsonl"],
+        &["epx", "audit", "--exit-code", "cut_off.jsonl"],
+        &[
+            "epx",
+            "check",
+            "--exit-code",
+            "lawful.list",
+            "component.jsonl",
+        ],
+        &[
+            "epx",
+            "check",
+            "--exit-code",
+            "early.list",
+            "component.jsonl",
+        ],
+        &["epx", "run", "--exit-code", "0.jsonl"],
         &["epx", "run", "long.jsonl"],
         &["epx", "run", "0.jsonl", "cut_off.jsonl"],
         &["epx", "run", "0.jsonl", "other.jsonl"],

@@ -1,28 +1,40 @@
 //! What the words of a command line ask for.
-use epx_tool::{Words, read_words};
-use epx_types::Memory;
+use epx_tool::{Task, Words, read_words};
+use epx_types::{Memory, Plan};
 use std::alloc::Global;
 use std::io::{self, ErrorKind};
 
-/// The task with its plan, and the paths, one a line. For a text, its status and its first line.
+/// The task with its plan, and the paths, one a line.
+fn work_text(
+    alloc: Global,
+    task: Task,
+    plan: Plan,
+    ending: &str,
+    paths: Option<Vec<String>>,
+) -> io::Result<String> {
+    let (workers, cut) = (plan.workers(), plan.cut());
+    let mut text = format!(in alloc; "{task:?} with {workers} workers and cut {cut}{ending}\n")?;
+    let Some(paths) = paths else {
+        text.push_str("standard input\n")?;
+        return Ok(text);
+    };
+    for path in &paths {
+        text.push_str(path.as_str())?;
+        text.push('\n')?;
+    }
+    Ok(text)
+}
+
+/// The work that the words ask for. For a text, its status and its first line.
 fn text_of(alloc: Global, words: Words) -> io::Result<String> {
     match words {
         Words::Text { text, status } => {
             let first = text.as_str().lines().next().unwrap_or("");
             Ok(format!(in alloc; "status {status}: {first}\n")?)
         }
-        Words::Work { task, plan, paths } => {
-            let (workers, cut) = (plan.workers(), plan.cut());
-            let mut text = format!(in alloc; "{task:?} with {workers} workers and cut {cut}\n")?;
-            let Some(paths) = paths else {
-                text.push_str("standard input\n")?;
-                return Ok(text);
-            };
-            for path in &paths {
-                text.push_str(path.as_str())?;
-                text.push('\n')?;
-            }
-            Ok(text)
+        Words::Work { task, plan, paths } => work_text(alloc, task, plan, "", paths),
+        Words::WorkWithExitCode { task, plan, paths } => {
+            work_text(alloc, task, plan, ", and a status of its own", paths)
         }
     }
 }

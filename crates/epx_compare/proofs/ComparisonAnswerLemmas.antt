@@ -3,8 +3,7 @@ use Rattle.std.proofs.Common.{◌≡◌, ◌≢◌, ℕ, List, length, Result, O
 use Rattle.std.proofs.lemmas.Bool.{cases_lt}
 use Rattle.epx_types.specs.declared.fault.Fault.{Fault}
 use Rattle.epx_types.specs.declared.fault.Fault.TheVariants.{Memory, TooManyLogs, LogTooLong}
-use Rattle.epx_types.specs.declared.fault.Fault.TheVariants.{BadLine, TooManyInstances, Disagree}
-use Rattle.epx_types.specs.declared.fault.Fault.TheVariants.{Read, Write, BadBase}
+use Rattle.epx_types.specs.declared.fault.Fault.TheVariants.{TooManyInstances}
 use Rattle.epx_committed.proofs.InstanceCountLemmas.{few_or_many, not_few_and_many}
 use Rattle.epx_merge.specs.Limits.{max_logs}
 use Rattle.epx_merge.specs.LogLines.{placed_of}

@@ -23,8 +23,8 @@ named_within : (lines : List Placed) (xs ys : List Id) → AreNamedBy lines xs �
 named_within lines xs ys p q x among = let line = p.named x among in
     subst (Contains ys) line.2 (q.whole line.0 line.1)
 
-pub named_unique : (lines : List Placed) (xs ys : List Id) → AreNamedBy lines xs → AreNamedBy lines ys
-    → xs ≡ ys
+pub named_unique : (lines : List Placed) (xs ys : List Id) → AreNamedBy lines xs
+    → AreNamedBy lines ys → xs ≡ ys
 named_unique lines xs ys p q = same_ids xs ys p.rising q.rising
     (named_within lines xs ys p q) (named_within lines ys xs q p)
 

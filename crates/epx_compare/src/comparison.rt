@@ -25,7 +25,7 @@ use std::random::RandomSource;
 use std::thread::Threads;
 
 /// What logs say against each other.
-#[derive(Debug, Drop)]
+#[derive(Drop)]
 pub struct Comparison {
     /// Lines of JSON.
     pub text: Vec<u8>,

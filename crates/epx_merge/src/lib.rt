@@ -19,5 +19,6 @@ pub use epx_types::limits::{MAX_INSTANCES, MAX_LOG_BYTES, MAX_LOGS};
 pub use limits::first_too_long;
 pub use line::PlacedLine;
 pub use line_cache::LineCache;
+pub use next_batch::batch_len;
 pub use read::{read_logs, read_logs_during};
 pub use walk::LineWalk;

@@ -23,7 +23,7 @@ const MIN_LINES_ALONE: usize = 1_024;
 const MAX_BATCH_LINES: usize = 262_144;
 
 /// The number of lines in a batch: four pieces for each worker, within the bounds.
-fn batch_len(plan: Plan, in_first_log: bool) -> usize
+pub fn batch_len(plan: Plan, in_first_log: bool) -> usize
     ensures some { 0 < result }
     ensures few { result ≤ 262144 }
 {

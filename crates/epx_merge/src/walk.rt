@@ -74,7 +74,7 @@ impl<'a> LineWalk<'a> {
     }
 
     /// Whether the next line is one of the first log.
-    pub(crate) fn is_in_first_log(&self) -> bool {
+    pub fn is_in_first_log(&self) -> bool {
         self.log == 0 && !self.rest.is_empty()
     }
 

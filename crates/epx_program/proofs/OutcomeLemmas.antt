@@ -1,24 +1,26 @@
 -- The outcome of a task, by how the run of what it asks ended.
-use Rattle.std.proofs.Common.{◌≡◌, ◌⊎◌, ℕ, suc, Bool, List, [], ◌∷◌, length, map, Option, Some}
-use Rattle.std.proofs.Common.{Result, Ok, Err, IsErrOf, OnOk, inl, inr, refl, sym, ap, ◌∙◌}
-use Rattle.std.proofs.Common.{subst, arith}
-use Rattle.std.proofs.lemmas.Result.{on_ok_weaker}
-use Rattle.std.specs.Io.KnownBytes.{Appends}
+use Rattle.std.proofs.Common.{◌≡◌, ◌≢◌, ◌⊎◌, ◌↔◌, ℕ, suc, Bool, true, List, [], ◌∷◌, length, map}
+use Rattle.std.proofs.Common.{Option, Some, Result, Ok, Err, IsErrOf, inl, inr, refl, sym, ap}
+use Rattle.std.proofs.Common.{◌∙◌, subst, arith}
+use Rattle.std.specs.Io.KnownBytes.{Keeps}
+use Rattle.std.specs.Prelude.{IfErr, IfOk, MatchResult, OnOk}
 use Rattle.epx_types.specs.declared.fault.Fault.{Fault}
-use Rattle.epx_types.specs.declared.fault.Fault.TheVariants.{Write}
+use Rattle.epx_types.specs.declared.fault.Fault.TheVariants.{Read, Write}
 use Rattle.epx_words.specs.declared.words.Task.{Task}
 use Rattle.epx_devices.specs.Deliveries.{FailRelation, ReadRelation}
-use Rattle.epx_devices.specs.Transfers.{AppendsPrefix}
-use Rattle.epx_tool.specs.Delivered.{WritesDelivered}
-use Rattle.epx_tool.specs.DeliveredWithInput.{AnswersBoth}
-use Rattle.epx_tool.specs.Questions.{AnswersQuestion, IsBadInput, IsTextWith, map_text_of}
+use Rattle.epx_tool.specs.Findings.{AnswersFinding, IsFindingWith}
+use Rattle.epx_tool.specs.Questions.{AnswersQuestion, IsBadInput, IsInputAnswer, IsTextWith}
+use Rattle.epx_tool.specs.Questions.{map_text_of}
 use Rattle.epx_tool.specs.RunEndings.{WritesAnswer, EndsRun, EndsRunWithInput}
 use Rattle.epx_tool.specs.Runs.{AreBytesOf}
+use Rattle.epx_tool.specs.RunsWithInput.{IsRunFaultWithInput}
+use Rattle.epx_tool.specs.WithInput.{AnswersWithInput}
 use Rattle.epx_tool.specs.declared.question.InputQuestion.{InputQuestion}
 use Rattle.epx_tool.specs.declared.question.Question.{Question}
 use Rattle.epx_program.specs.declared.do_task.Asked.TheVariants as asked
-use Rattle.epx_program.specs.Endings.{AddsAnswer, AddsPart, IsTaskResult, IsTaskAnswer}
-use Rattle.epx_program.specs.Endings.{IsTaskFault, IsAnswerTo, IsFaultOf, asked_of}
+use Rattle.epx_program.specs.Endings.{AddsAnswer, AddsPart, FindsTo, IsTaskResult, IsTaskAnswer}
+use Rattle.epx_program.specs.Endings.{IsTaskFault, IsTaskText, IsAnswerTo, IsFaultOf, asked_of}
+use Rattle.epx_program.specs.Endings.{on_first_and_logs}
 use Rattle.epx_program.specs.Inputs.{HasFailedRead, OneHasFailedRead}
 use Rattle.epx_program.specs.inner.Outcomes.{TaskOutcome}
 use Rattle.epx_program.proofs.FailedInputLemmas.{unread, unread_both}
@@ -66,130 +68,295 @@ failed_of_all reads fails sources rest source e h =
 
 -- ---- runs over known texts
 
--- what a task over known texts comes to, by the run over them
-task_result : {Given : Type 0} {OfKnown : (Given → Type 0) → Type 0}
+-- the result of a run that ended with this fault
+abbrev ended : Fault → Result (Unit {0}) Fault
+ended fault = Err fault
+
+-- an error of one result is the same error of another
+same_error : {A B : Type 0} (fault other : Fault) → IsErrOf {T = A} (Err fault) other
+    → IsErrOf {T = B} (Err fault) other
+same_error fault other is = let named : fault ≡ other = cc is in ap Err named
+
+-- what a task over known texts comes to, by the run over them that wrote its answer
+task_answered : {Given : Type 0} {OfKnown : (Given → Type 0) → Type 0}
     {Answer : Given → List ℕ → Type 0} {IsFault : Given → Fault → Type 0}
     {Delivered : (List ℕ → Type 0) → Type 0} {Ends : Fault → Type 0} {old new : Option (List ℕ)}
-    {flushed failed : Bool} (done : Result (Unit {0}) Fault)
-    → WritesAnswer OfKnown Answer IsFault Delivered Ends old new flushed failed done
+    {flushed failed : Bool} (found : Bool)
+    → WritesAnswer OfKnown Answer IsFault Delivered Ends old new flushed failed (Ok tt)
+    → (task : Task) (texts : List (List ℕ)) (given : Given)
+    → ((P : Given → Type 0) → OfKnown P → P given)
+    → ((text : List ℕ) → Answer given text → IsTaskText task found texts text)
+    → IsTaskResult task texts (Ok found) old new
+task_answered found run task texts given known answers =
+    let w = known _ run.text in (w.0, answers w.0 w.1, w.2)
+
+-- the same for a run that ended with a fault
+task_refused : {Given : Type 0} {OfKnown : (Given → Type 0) → Type 0}
+    {Answer : Given → List ℕ → Type 0} {IsFault : Given → Fault → Type 0}
+    {Delivered : (List ℕ → Type 0) → Type 0} {Ends : Fault → Type 0} {old new : Option (List ℕ)}
+    {flushed failed : Bool} (fault : Fault)
+    → WritesAnswer OfKnown Answer IsFault Delivered Ends old new flushed failed (Err fault)
     → (task : Task) (texts : List (List ℕ)) (given : Given)
     → ((P : Given → Type 0) → OfKnown P → P given)
     → ((text : List ℕ) → Answer given text → IsTaskAnswer task texts (Ok text))
-    → ((fault : Fault) → IsFault given fault → IsTaskFault task texts fault)
-    → IsTaskResult task texts done old new
-task_result (Ok x) run task texts given known answers faults =
-    let w = known _ run.text in (w.0, answers w.0 w.1, w.2)
-task_result (Err fault) run task texts given known answers faults = record {
-  named = faults fault (known _ run.refusal);
+    → (IsFault given fault → IsTaskFault task texts fault)
+    → IsTaskResult task texts (Err fault) old new
+task_refused fault run task texts given known answers faults = record {
+  named = faults (known _ run.refusal);
   part = λ is. let w = known _ (run.prefix (ap Err is)) in (w.0, answers w.0 w.1, w.2);
   nothing = run.nothing;
 }
 
 -- a task that comes to this over no texts
-adds_to_nothing : {A : Type 0} (old new : Option (List ℕ)) (task : Task) (done : Result A Fault)
-    → IsTaskResult task [] done old new → OnOk done (AddsAnswer task 0 old new)
-adds_to_nothing old new task (Ok x) h = ([], refl, h)
+adds_to_nothing : (old new : Option (List ℕ)) (task : Task) (done : Result Bool Fault)
+    → IsTaskResult task [] done old new → IfOk done (λ found. AddsAnswer task found 0 old new)
+adds_to_nothing old new task (Ok found) h = ([], refl, h)
 adds_to_nothing old new task (Err fault) h = tt
 
-adds_part_to_nothing : {A : Type 0} (old new : Option (List ℕ)) (task : Task)
-    (done : Result A Fault) → IsTaskResult task [] done old new → IsErrOf done Write
+adds_part_to_nothing : (old new : Option (List ℕ)) (task : Task)
+    (done : Result Bool Fault) → IsTaskResult task [] done old new → IsErrOf done Write
     → AddsPart task 0 old new
-adds_part_to_nothing old new task (Ok x) h is = absurd (cc is)
+adds_part_to_nothing old new task (Ok found) h is = absurd (cc is)
 adds_part_to_nothing old new task (Err fault) h is =
     let named : fault ≡ Write = cc is in ([], refl, h.part named)
 
 -- ---- the outcome
 
+-- a result that is no error is not this one
+ok_is_not : {A : Type 0} (x : A) (other : Fault) → ¬ IsErrOf (Ok x) other
+ok_is_not x other is = cc is
+
+written_well : {A B : Type 0} (x : A) (y : B) (failed : Bool)
+    → IsErrOf (Ok x) Write ↔ (failed ≡ true) → IsErrOf (Ok y) Write ↔ (failed ≡ true)
+written_well x y failed h =
+    (λ is. absurd (ok_is_not y Write is), λ bad. absurd (ok_is_not x Write (h.1 bad)))
+
+written_badly : {A B : Type 0} (fault : Fault) (failed : Bool)
+    → IsErrOf {T = A} (Err fault) Write ↔ (failed ≡ true)
+    → IsErrOf {T = B} (Err fault) Write ↔ (failed ≡ true)
+written_badly fault failed h =
+    (λ is. h.0 (same_error fault Write is), λ bad. same_error fault Write (h.1 bad))
+
 module _ {S : Type 0} (remaining : S → Option (List ℕ)) (reads : ReadRelation S)
     (fails : FailRelation S) (has_failed : S → Bool) (task : Task) (before : List S)
-    (old new : Option (List ℕ)) (flushed failed : Bool) (done : Result (Unit {0}) Fault) where
-  -- the answer to some list of this number of texts was written
-  abbrev Adds : ℕ → (List ℕ → Type 0) → Type 0
-  Adds count Written = (texts : List (List ℕ)) × (length texts ≡ count)
-      × ((text : List ℕ) × IsTaskAnswer task texts (Ok text) × Written text)
+    (old new : Option (List ℕ)) (flushed failed : Bool) where
+  abbrev Outcome : Result Bool Fault → Type 0
+  Outcome done = TaskOutcome remaining reads fails task before done flushed failed old new
 
-  pub outcome_of_logs : (question : Question) (after : List S)
-      → asked_of task ≡ asked.Logs question
-      → EndsRun remaining reads fails has_failed (AnswersQuestion question) before after old new
-      flushed failed done
-      → TaskOutcome remaining reads fails task before done flushed failed old new
-  outcome_of_logs question after is run =
-      let adds : (Written : List ℕ → Type 0)
-      → WritesDelivered reads (AnswersQuestion question) before after Written
-      → Adds (length before) Written = λ Written h. (
+  module _ (question : Question) (after : List S) (is : asked_of task ≡ asked.Logs question) where
+    -- the answer to logs is that of the task, with what it finds
+    text_of_logs : (found : Bool) (texts : List (List ℕ)) (text : List ℕ)
+        → AnswersFinding question found texts (Ok text) → IsTaskText task found texts text
+    text_of_logs found texts text h = record {
+      answer = subst (λ a. IsAnswerTo a texts (Ok text)) (sym is) h.0;
+      finds = subst (λ a. (found ≡ true) ↔ FindsTo a texts text) (sym is) h.1;
+    }
+
+    logs_answered : (found : Bool)
+        → EndsRun remaining reads fails has_failed (AnswersFinding question found) before after old
+        new flushed failed (Ok tt)
+        → Outcome (Ok found)
+    logs_answered found run = record {
+      known = λ texts are. task_answered found run.sink task texts texts (λ P h. h texts are)
+          (text_of_logs found texts);
+      answered = let h = run.sink.answered in (
+        h.logs,
+        h.delivered.as_many,
+        (h.text, text_of_logs found h.logs h.text h.answer, h.written),
+      );
+      flushed = run.sink.flushed;
+      part = λ bad. absurd (ok_is_not found Write bad);
+      nothing = tt;
+      unread = λ log bad. absurd (ok_is_not found (Read log) bad);
+      written = written_well tt found failed run.sink.written;
+    }
+
+    logs_refused : (fault : Fault)
+        → EndsRun remaining reads fails has_failed (AnswersQuestion question) before after old new
+        flushed failed (Err fault)
+        → Outcome (Err fault)
+    logs_refused fault run = record {
+      known = λ texts are. task_refused fault run.sink task texts texts (λ P h. h texts are)
+          (λ text. subst (λ a. IsAnswerTo a texts (Ok text)) (sym is))
+          (subst (λ a. IsFaultOf a texts fault) (sym is));
+      answered = tt;
+      flushed = tt;
+      part = λ bad. let h = run.sink.part (same_error fault Write bad) in (
         h.logs,
         h.delivered.as_many,
         (h.text, subst (λ a. IsAnswerTo a h.logs (Ok h.text)) (sym is) h.answer, h.written),
-      ) in record {
-        known = λ texts are. task_result done run.sink task texts texts (λ P h. h texts are)
-            (λ text. subst (λ a. IsAnswerTo a texts (Ok text)) (sym is))
-            (λ fault. subst (λ a. IsFaultOf a texts fault) (sym is));
-        answered = on_ok_weaker done (adds (Appends old new)) run.sink.answered;
-        flushed = run.sink.flushed;
-        part = λ bad. adds (AppendsPrefix old new) (run.sink.part bad);
-        nothing = run.sink.nothing;
-        unread = unread reads fails before after (map_text_of question) done run.sink.refused;
-        written = run.sink.written;
-      }
+      );
+      nothing = run.sink.nothing;
+      unread = λ log bad. unread reads fails before after (map_text_of question)
+          (ended fault) run.sink.refused log (same_error fault (Read log) bad);
+      written = written_badly fault failed run.sink.written;
+    }
+
+    pub outcome_of_logs : (done : Result Bool Fault)
+        → MatchResult done
+        (λ found. EndsRun remaining reads fails has_failed (AnswersFinding question found) before
+        after old new flushed failed (Ok tt))
+        (λ fault. EndsRun remaining reads fails has_failed (AnswersQuestion question) before after
+        old new flushed failed (Err fault))
+        → Outcome done
+    outcome_of_logs (Ok found) run = logs_answered found run
+    outcome_of_logs (Err fault) run = logs_refused fault run
 
   module _ (question : InputQuestion) (is : asked_of task ≡ asked.First question) where
-    -- the first source has the first text
-    pub outcome_of_first : (first last : S) (logs after : List S) → before ≡ first ∷ logs
-        → EndsRunWithInput remaining reads fails has_failed remaining reads fails has_failed
-        (IsBadInput question) (IsTextWith question) first last logs after old new flushed failed
-        done
-        → TaskOutcome remaining reads fails task before done flushed failed old new
-    outcome_of_first first last logs after all run =
-        let adds : (Written : List ℕ → Type 0)
-        → AnswersBoth reads reads (IsBadInput question) (IsTextWith question) first last logs after
-        Written → Adds (length before) Written = λ Written h. (
-          h.input ∷ h.logs,
-          omega (arith, h.delivered.of_logs.as_many, ap length all),
-          (
-            h.text,
-            subst (λ a. IsAnswerTo a (h.input ∷ h.logs) (Ok h.text)) (sym is) h.answer,
-            h.written,
-          ),
-        ) in record {
-          known = from_first remaining (λ texts. IsTaskResult task texts done old new) before logs
-              first all (λ text texts known are. task_result done run.sink task (text ∷ texts)
-              (text, texts) (λ P h. h text texts known are)
-              (λ answer. subst (λ a. IsAnswerTo a (text ∷ texts) (Ok answer)) (sym is))
-              (λ fault. subst (λ a. IsFaultOf a (text ∷ texts) fault) (sym is)));
-          answered = on_ok_weaker done (adds (Appends old new)) run.sink.answered;
-          flushed = run.sink.flushed;
-          part = λ bad. adds (AppendsPrefix old new) (run.sink.part bad);
-          nothing = run.sink.nothing;
-          unread = λ log bad. failed_of_all reads fails before logs first all
-              (unread_both reads fails logs after reads fails (IsBadInput question) first last done
-              run.sink.refused log bad);
-          written = run.sink.written;
+    -- the answer to an input and logs, where `texts` are the input and then the logs
+    module _ (texts : List (List ℕ)) (input : List ℕ) (logs : List (List ℕ))
+        (same : (Is : List ℕ → List (List ℕ) → Type 0) → Is input logs → on_first_and_logs Is texts)
+      where
+        answers_first : (text : List ℕ) → IsInputAnswer question input logs (Ok text)
+            → IsTaskAnswer task texts (Ok text)
+        answers_first text h = subst (λ a. IsAnswerTo a texts (Ok text)) (sym is)
+            (same (λ i ls. IsInputAnswer question i ls (Ok text)) h)
+
+        text_of_first : (found : Bool) (text : List ℕ)
+            → AnswersWithInput (IsBadInput question) (IsFindingWith question found) input logs
+            (Ok text)
+            → IsTaskText task found texts text
+        text_of_first found text h = record {
+          answer = answers_first text (h.0, (h.1.0, h.1.1, h.1.2.0));
+          finds = subst (λ a. (found ≡ true) ↔ FindsTo a texts text) (sym is) h.1.2.1;
         }
 
+        faults_first : (fault : Fault)
+            → IsRunFaultWithInput (IsBadInput question) (IsTextWith question) input logs fault
+            → IsTaskFault task texts fault
+        faults_first fault h = subst (λ a. IsFaultOf a texts fault) (sym is)
+            (same (λ i ls. IsRunFaultWithInput (IsBadInput question) (IsTextWith question) i ls
+            fault) h)
+
+    -- the run over a first text and logs ends this way
+    abbrev EndsFirst : {I L : Type 0} → (I → Option (List ℕ)) → ReadRelation I → FailRelation I
+        → (I → Bool) → (L → Option (List ℕ)) → ReadRelation L → FailRelation L → (L → Bool)
+        → I → I → List L → List L → Result Bool Fault → Type 0
+    EndsFirst left i_reads i_fails i_failed l_left l_reads l_fails l_failed first last logs after
+        done = MatchResult done
+        (λ found. EndsRunWithInput left i_reads i_fails i_failed l_left l_reads l_fails l_failed
+        (IsBadInput question) (IsFindingWith question found) first last logs after old new flushed
+        failed (Ok tt))
+        (λ fault. EndsRunWithInput left i_reads i_fails i_failed l_left l_reads l_fails l_failed
+        (IsBadInput question) (IsTextWith question) first last logs after old new flushed failed
+        (Err fault))
+
+    -- the first source has the first text
+    module _ (first last : S) (logs after : List S) (all : before ≡ first ∷ logs) where
+      one_more : (n : ℕ) → n ≡ length logs → suc n ≡ length before
+      one_more n as_many = omega (arith, as_many, ap length all)
+
+      pub outcome_of_first : (done : Result Bool Fault)
+          → EndsFirst remaining reads fails has_failed remaining reads fails has_failed first last
+          logs after done
+          → Outcome done
+      outcome_of_first (Ok found) run = record {
+        known = from_first remaining (λ texts. IsTaskResult task texts (Ok found) old new) before
+            logs first all (λ text texts known are. task_answered found run.sink task (text ∷ texts)
+            (text, texts) (λ P h. h text texts known are)
+            (text_of_first (text ∷ texts) text texts (λ Is h. h) found));
+        answered = let h = run.sink.answered in (
+          h.input ∷ h.logs,
+          one_more (length h.logs) h.delivered.of_logs.as_many,
+          (
+            h.text,
+            text_of_first (h.input ∷ h.logs) h.input h.logs (λ Is h. h) found h.text h.answer,
+            h.written,
+          ),
+        );
+        flushed = run.sink.flushed;
+        part = λ bad. absurd (ok_is_not found Write bad);
+        nothing = tt;
+        unread = λ log bad. absurd (ok_is_not found (Read log) bad);
+        written = written_well tt found failed run.sink.written;
+      }
+      outcome_of_first (Err fault) run = record {
+        known = from_first remaining (λ texts. IsTaskResult task texts (Err fault) old new) before
+            logs first all (λ text texts known are. task_refused fault run.sink task (text ∷ texts)
+            (text, texts) (λ P h. h text texts known are)
+            (answers_first (text ∷ texts) text texts (λ Is h. h))
+            (faults_first (text ∷ texts) text texts (λ Is h. h) fault));
+        answered = tt;
+        flushed = tt;
+        part = λ bad. let h = run.sink.part (same_error fault Write bad) in (
+          h.input ∷ h.logs,
+          one_more (length h.logs) h.delivered.of_logs.as_many,
+          (
+            h.text,
+            answers_first (h.input ∷ h.logs) h.input h.logs (λ Is h. h) h.text h.answer,
+            h.written,
+          ),
+        );
+        nothing = run.sink.nothing;
+        unread = λ log bad. failed_of_all reads fails before logs first all
+            (unread_both reads fails logs after reads fails (IsBadInput question) first last
+            (ended fault) run.sink.refused log (same_error fault (Read log) bad));
+        written = written_badly fault failed run.sink.written;
+      }
+
     -- if there is no source, the first text is empty; its source cannot fail
-    pub outcome_of_nothing : {M : Type 0} (left : M → Option (List ℕ)) (m_reads : ReadRelation M)
+    module _ {M : Type 0} (left : M → Option (List ℕ)) (m_reads : ReadRelation M)
         (m_fails : FailRelation M) (m_failed : M → Bool) (first last : M) (after : List M)
-        → length before ≡ 0 → left first ≡ Some [] → ¬ HasFailedRead m_reads m_fails first
-        → EndsRunWithInput left m_reads m_fails m_failed left m_reads m_fails m_failed
-        (IsBadInput question) (IsTextWith question) first last [] after old new flushed failed done
-        → TaskOutcome remaining reads fails task before done flushed failed old new
-    outcome_of_nothing left m_reads m_fails m_failed first last after none empty never run =
-        let comes : IsTaskResult task [] done old new =
-        task_result done run.sink task [] ([], []) (λ P h. h [] [] empty refl)
-        (λ answer. subst (λ a. IsAnswerTo a [] (Ok answer)) (sym is))
-        (λ fault. subst (λ a. IsFaultOf a [] fault) (sym is)) in record {
-          known = from_nothing remaining (λ texts. IsTaskResult task texts done old new) before none
-              comes;
-          answered = subst (λ n. OnOk done (AddsAnswer task n old new)) (sym none)
-              (adds_to_nothing old new task done comes);
-          flushed = run.sink.flushed;
-          part = λ bad. subst (λ n. AddsPart task n old new) (sym none)
-              (adds_part_to_nothing old new task done comes bad);
-          nothing = run.sink.nothing;
-          unread = λ log bad. elim (unread_both m_reads m_fails [] after m_reads m_fails
-              (IsBadInput question) first last done run.sink.refused log bad) [
-                | inl bad ↦ absurd (never bad)
-                | inr one ↦ absurd (cc one.there)
-              ];
-          written = run.sink.written;
-        }
+        (none : length before ≡ 0) (empty : left first ≡ Some [])
+        (never : ¬ HasFailedRead m_reads m_fails first) where
+      comes_to : (done : Result Bool Fault)
+          → EndsFirst left m_reads m_fails m_failed left m_reads m_fails m_failed first last []
+          after done
+          → IsTaskResult task [] done old new
+      comes_to (Ok found) run =
+          task_answered found run.sink task [] ([], []) (λ P h. h [] [] empty refl)
+          (text_of_first [] [] [] (λ Is h. h) found)
+      comes_to (Err fault) run =
+          task_refused fault run.sink task [] ([], []) (λ P h. h [] [] empty refl)
+          (answers_first [] [] [] (λ Is h. h)) (faults_first [] [] [] (λ Is h. h) fault)
+
+      nothing_unread : (done : Result Bool Fault) (log : ℕ)
+          → EndsFirst left m_reads m_fails m_failed left m_reads m_fails m_failed first last []
+          after done
+          → ¬ IsErrOf done (Read log)
+      nothing_unread (Ok found) log run bad = ok_is_not found (Read log) bad
+      nothing_unread (Err fault) log run bad = elim (unread_both m_reads m_fails [] after m_reads
+          m_fails (IsBadInput question) first last (ended fault) run.sink.refused log
+          (same_error fault (Read log) bad)) [
+            | inl bad ↦ never bad
+            | inr one ↦ cc one.there
+          ]
+
+      pub outcome_of_nothing : (done : Result Bool Fault)
+          → EndsFirst left m_reads m_fails m_failed left m_reads m_fails m_failed first last []
+          after done
+          → Outcome done
+      outcome_of_nothing done run =
+          let comes = comes_to done run in record {
+            known = from_nothing remaining (λ texts. IsTaskResult task texts done old new) before
+                none comes;
+            answered = subst (λ n. IfOk done (λ found. AddsAnswer task found n old new)) (sym none)
+                (adds_to_nothing old new task done comes);
+            flushed = flushes done run;
+            part = λ bad. subst (λ n. AddsPart task n old new) (sym none)
+                (adds_part_to_nothing old new task done comes bad);
+            nothing = keeps done run;
+            unread = λ log bad. absurd (nothing_unread done log run bad);
+            written = writes done run;
+          }
+        where
+          flushes : (done : Result Bool Fault)
+              → EndsFirst left m_reads m_fails m_failed left m_reads m_fails m_failed first last []
+              after done
+              → OnOk done (flushed ≡ true)
+          flushes (Ok found) run = run.sink.flushed
+          flushes (Err fault) run = tt
+
+          keeps : (done : Result Bool Fault)
+              → EndsFirst left m_reads m_fails m_failed left m_reads m_fails m_failed first last []
+              after done
+              → IfErr done (λ fault. fault ≢ Write → Keeps old new)
+          keeps (Ok found) run = tt
+          keeps (Err fault) run = run.sink.nothing
+
+          writes : (done : Result Bool Fault)
+              → EndsFirst left m_reads m_fails m_failed left m_reads m_fails m_failed first last []
+              after done
+              → IsErrOf done Write ↔ (failed ≡ true)
+          writes (Ok found) run = written_well tt found failed run.sink.written
+          writes (Err fault) run = written_badly fault failed run.sink.written

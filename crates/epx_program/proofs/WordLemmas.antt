@@ -12,12 +12,14 @@ use Rattle.clap.specs.Words.{Text, fault_of, subcommand_of, takes}
 use Rattle.epx_types.specs.declared.memory.Memory.{Memory}
 use Rattle.epx_devices.specs.Transfers.{AppendsPrefix}
 use Rattle.epx_words.specs.App.{epx_app}
-use Rattle.epx_words.specs.Requests.{ArePathsOf, IsWork, AsksFor, IfText, IfWork, task_name}
+use Rattle.epx_words.specs.Requests.{ArePathsOf, IsWork, AsksFor, IfText, IfWork}
+use Rattle.epx_words.specs.Requests.{has_exit_code, task_name}
 use Rattle.epx_words.specs.ExitStatus.{IsExitStatus}
-use Rattle.epx_words.specs.SubcommandRows.{IsCutOf, IsWorkersOf, name_in, rows_in}
+use Rattle.epx_words.specs.SubcommandRows.{HasExitCode, IsCutOf, IsWorkersOf, name_in, rows_in}
 use Rattle.epx_words.specs.declared.words.Task.TheVariants.{Run}
 use Rattle.epx_words.specs.declared.words.Words.{Words}
-use Rattle.epx_words.specs.declared.words.Words.TheVariants.{Work, Text as text}
+use Rattle.epx_words.specs.declared.words.Words.TheVariants.{Work, WorkWithExitCode}
+use Rattle.epx_words.specs.declared.words.Words.TheVariants.{Text as text}
 use Rattle.epx_program.specs.Calls.{AreTakenFor, Asks, EndsAsAsked, EndsTask, EndsWithText}
 use Rattle.epx_program.proofs.OutputLemmas.{contents_unchanged}
 
@@ -49,6 +51,8 @@ module _ (words : List Text) (n : ℕ) (as_many : n ≡ length words) where
       → IfWork (AsksFor (subcommand_of epx_app words)) asked
   work_fits (Work task plan paths) is_task is_workers is_cut are_paths =
       record { task = is_task; workers = is_workers; cut = is_cut; paths = are_paths }
+  work_fits (WorkWithExitCode task plan paths) is_task is_workers is_cut are_paths =
+      record { task = is_task; workers = is_workers; cut = is_cut; paths = are_paths }
   work_fits (text said status) is_task is_workers is_cut are_paths = tt
 
   text_ends : (asked : Words) → IfText (λ status. takes epx_app words ≡ false) asked
@@ -56,6 +60,7 @@ module _ (words : List Text) (n : ℕ) (as_many : n ≡ length words) where
       → IfText (λ status. (takes epx_app words ≡ false)
       × IsExitStatus (fault_of epx_app words) status) asked
   text_ends (Work task plan paths) refused ends = tt
+  text_ends (WorkWithExitCode task plan paths) refused ends = tt
   text_ends (text said status) refused ends = (refused, ends)
 
   -- what is read of the words is what they ask for
@@ -72,19 +77,22 @@ module _ (words : List Text) (n : ℕ) (as_many : n ≡ length words) where
       → (2 ≤ n → IfOk read
       (IfWork (λ task plan paths. ArePathsOf task (rows_in (subcommand_of epx_app words))
       paths)))
+      → (2 ≤ n → IfOk read (λ asked. IsWork asked
+      → (has_exit_code asked ≡ true) ↔ HasExitCode (rows_in (subcommand_of epx_app words))))
       → (2 ≤ n → IfOk read (λ asked. IsWork asked ↔ (fault_of epx_app words ≡ [])))
       → (2 ≤ n → IfOk read (IfText (λ status. takes epx_app words ≡ false)))
       → (2 ≤ n → IfOk read (IfText (IsExitStatus (fault_of epx_app words))))
       → IfOk read (Asks words)
-  asks (Ok asked) bare is_task is_workers is_cut are_paths taken refused ends = record {
+  asks (Ok asked) bare is_task is_workers is_cut are_paths exit_code taken refused ends = record {
     bare = λ few. bare (omega (arith, as_many, few));
     work = λ many. let two : 2 ≤ n = omega (arith, as_many, many) in
         work_fits asked (is_task two) (is_workers two) (is_cut two) (are_paths two);
+    exit_code = λ many. exit_code (omega (arith, as_many, many));
     taken = λ many. taken (omega (arith, as_many, many));
     text = λ many. let two : 2 ≤ n = omega (arith, as_many, many) in
         text_ends asked (refused two) (ends two);
   }
-  asks (Err memory) bare is_task is_workers is_cut are_paths taken refused ends = tt
+  asks (Err memory) bare is_task is_workers is_cut are_paths exit_code taken refused ends = tt
 
 module _ {S : Type 0} (contents : S → Option (List ℕ)) (before after : S)
     (input : Option (List ℕ)) (Unread : Type 0) (status : ℕ) (failed : Bool) where
@@ -106,8 +114,8 @@ module _ {S : Type 0} (contents : S → Option (List ℕ)) (before after : S)
 
   -- how the program ends with what is wanted, from the contracts of the calls that do it
   pub ends_as_asked : (wanted : Words)
-      → IfWork (λ task plan paths. EndsTask input Unread task paths status failed
-      (contents before) (contents after)) wanted
+      → IfWork (λ task plan paths. EndsTask input Unread (has_exit_code wanted) task paths status
+      failed (contents before) (contents after)) wanted
       → ((said : String Global) → wanted ≡ text said 0 → status ≡ 0
       → Appends (contents before) (contents after) (string_bytes said))
       → ((said : String Global) → wanted ≡ text said 0
@@ -116,6 +124,7 @@ module _ {S : Type 0} (contents : S → Option (List ℕ)) (before after : S)
       → IfText (λ n. n ≢ 0 → (status ≡ n) × (after ≡ before)) wanted
       → EndsAsAsked input Unread wanted status failed (contents before) (contents after)
   ends_as_asked (Work task plan paths) work shown prefix well refused = work
+  ends_as_asked (WorkWithExitCode task plan paths) work shown prefix well refused = work
   ends_as_asked (text said n) work shown prefix well refused =
       ends_with_text (string_bytes said) n (λ none. shown said (ap (text said) none))
       (λ none. prefix said (ap (text said) none)) well refused

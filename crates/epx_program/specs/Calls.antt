@@ -13,13 +13,15 @@ use Rattle.epx_types.specs.Faults.{fault_status}
 use Rattle.epx_types.specs.declared.fault.Fault.TheVariants.{Memory, Write}
 use Rattle.epx_devices.specs.Transfers.{AppendsPrefix}
 use Rattle.epx_words.specs.App.{epx_app}
-use Rattle.epx_words.specs.Requests.{IsWork, AsksFor, IfText, IfWork}
+use Rattle.epx_words.specs.Requests.{IsWork, AsksFor, IfText, IfWork, has_exit_code}
+use Rattle.epx_words.specs.SubcommandRows.{HasExitCode, rows_in}
 use Rattle.epx_words.specs.ExitStatus.{IsExitStatus}
 use Rattle.epx_words.specs.declared.words.Task.{Task}
 use Rattle.epx_words.specs.declared.words.Task.TheVariants.{Run}
 use Rattle.epx_words.specs.declared.words.Words.{Words}
 use Rattle.epx_words.specs.declared.words.Words.TheVariants as asked
-use Rattle.epx_program.specs.Endings.{AddsAnswer, AddsPart, EndsWith, IsStatus}
+use Rattle.epx_program.specs.Endings.{AddsAnswer, AddsPart, EndsWith, IsAnswerStatus, IsStatus}
+use Rattle.epx_program.specs.Endings.{answer_status}
 use Rattle.epx_program.specs.Inputs.{IsInputAlone, text_count}
 
 -- the operating system's words are these texts; words that could not be read are no texts
@@ -32,6 +34,8 @@ AreTakenFor words texts = MatchResult words
 pub record Asks (words : List Text) (wanted : Words) : Type 0 where
   pub bare : length words ≤ 1 → wanted ≡ asked.Work Run (record { workers = 4; cut = 256 }) None
   pub work : 2 ≤ length words → IfWork (AsksFor (subcommand_of epx_app words)) wanted
+  pub exit_code : 2 ≤ length words → IsWork wanted
+      → (has_exit_code wanted ≡ true) ↔ HasExitCode (rows_in (subcommand_of epx_app words))
   pub taken : 2 ≤ length words → IsWork wanted ↔ (fault_of epx_app words ≡ [])
   pub text : 2 ≤ length words
       → IfText (λ status. (takes epx_app words ≡ false)
@@ -46,17 +50,19 @@ EndsWithText text zero status failed old new =
 EndsWithText text (suc n) status failed old new = (status ≡ suc n) × Keeps old new
 
 -- How a task over the paths ends. `input` has the bytes of the program's input, if they are known.
--- `Unread` means that a read of the input failed.
-pub record EndsTask (input : Option (List ℕ)) (Unread : Type 0) (task : Task)
+-- `Unread` means that a read of the input failed, and `exit_code` that `--exit-code` is there.
+pub record EndsTask (input : Option (List ℕ)) (Unread : Type 0) (exit_code : Bool) (task : Task)
     (paths : Option (List (List ℕ))) (status : ℕ) (failed : Bool)
     (old new : Option (List ℕ)) : Type 0 where
-  -- the status is 0 or that of a fault
+  -- the status is that of an answer or of a fault
   pub ends : IsStatus status
   -- if only the input is read, it ends as the task over the bytes of the input
   pub over_input : (bytes : List ℕ) → IsInputAlone paths → input ≡ Some bytes
-      → EndsWith task (bytes ∷ []) status old new
-  -- over any sources, status 0 means that the answer to that number of texts is appended
-  pub answered : status ≡ 0 → AddsAnswer task (text_count paths) old new
+      → EndsWith exit_code task (bytes ∷ []) status old new
+  -- over any sources, the status of an answer means that the answer to that number of texts is
+  -- appended, and says what it finds
+  pub answered : IsAnswerStatus status → (found : Bool) × (status ≡ answer_status exit_code found)
+      × AddsAnswer task found (text_count paths) old new
   -- an output that failed has a prefix of an answer to that number of texts appended
   pub part : failed ≡ true → AddsPart task (text_count paths) old new
   -- if only the input is read, status 4 means that the output or a read of the input failed
@@ -70,7 +76,9 @@ paths_of paths = option_map (λ list. map string_bytes list.items) paths
 abbrev pub EndsAsAsked : Option (List ℕ) → Type 0 → Words → ℕ → Bool
     → Option (List ℕ) → Option (List ℕ) → Type 0
 EndsAsAsked input Unread (asked.Work task plan paths) status failed old new =
-    EndsTask input Unread task (paths_of paths) status failed old new
+    EndsTask input Unread false task (paths_of paths) status failed old new
+EndsAsAsked input Unread (asked.WorkWithExitCode task plan paths) status failed old new =
+    EndsTask input Unread true task (paths_of paths) status failed old new
 EndsAsAsked input Unread (asked.Text text n) status failed old new =
     EndsWithText (string_bytes text) n status failed old new
 

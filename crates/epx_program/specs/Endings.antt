@@ -1,5 +1,6 @@
 -- What a task writes, and the exit status of the program.
-use Rattle.std.specs.Prelude.{◌≡◌, ◌≢◌, ◌⊎◌, ℕ, List, [], ◌∷◌, length, Option, Result, Ok, Err}
+use Rattle.std.specs.Prelude.{◌≡◌, ◌≢◌, ◌⊎◌, ◌↔◌, ℕ, Bool, true, List, [], ◌∷◌, length, Option}
+use Rattle.std.specs.Prelude.{Result, Ok, Err}
 use Rattle.std.specs.Prelude.{MatchResult}
 use Rattle.std.specs.Io.KnownBytes.{Appends, Keeps}
 use Rattle.epx_types.specs.declared.fault.Fault.{Fault}
@@ -8,7 +9,8 @@ use Rattle.epx_types.specs.Faults.{fault_status}
 use Rattle.epx_devices.specs.Transfers.{AppendsPrefix}
 use Rattle.epx_words.specs.declared.words.Task.{Task}
 use Rattle.epx_words.specs.declared.words.Task.TheVariants.{Run, Order, Levels, Graph, Resume}
-use Rattle.epx_words.specs.declared.words.Task.TheVariants.{Audit, Check}
+use Rattle.epx_words.specs.declared.words.Task.TheVariants.{Audit, Check, Compare}
+use Rattle.epx_tool.specs.Findings.{Finds, FindsWith}
 use Rattle.epx_tool.specs.Questions.{AnswersQuestion, IsBadInput, IsInputAnswer, IsTextWith}
 use Rattle.epx_tool.specs.Runs.{IsFaultOfRun}
 use Rattle.epx_tool.specs.RunsWithInput.{IsRunFaultWithInput}
@@ -28,6 +30,7 @@ asked_of Graph = asked.Logs (View ask.Graph)
 asked_of Audit = asked.Logs (View ask.Audit)
 asked_of Resume = asked.First about.Resume
 asked_of Check = asked.First about.Check
+asked_of Compare = asked.Logs (View ask.Compare)
 
 -- the first of some texts and the logs after it; if there is no text, the first text is empty
 abbrev pub on_first_and_logs : (List ℕ → List (List ℕ) → Type 0) → List (List ℕ) → Type 0
@@ -39,6 +42,11 @@ abbrev pub IsAnswerTo : Asked → List (List ℕ) → Result (List ℕ) Fault �
 IsAnswerTo (asked.Logs question) texts answer = AnswersQuestion question texts answer
 IsAnswerTo (asked.First question) texts answer =
     on_first_and_logs (λ input logs. IsInputAnswer question input logs answer) texts
+
+-- this text, which answers what is asked, finds something
+abbrev pub FindsTo : Asked → List (List ℕ) → List ℕ → Type 0
+FindsTo (asked.Logs question) texts text = Finds question texts text
+FindsTo (asked.First question) texts text = FindsWith question text
 
 -- the faults of a run that writes it, with those of devices
 abbrev pub IsFaultOf : Asked → List (List ℕ) → Fault → Type 0
@@ -55,10 +63,16 @@ IsTaskAnswer task = IsAnswerTo (asked_of task)
 abbrev pub IsTaskFault : Task → List (List ℕ) → Fault → Type 0
 IsTaskFault task = IsFaultOf (asked_of task)
 
+-- the text is the answer of the task to these texts, and `found` is whether it finds something
+pub record IsTaskText (task : Task) (found : Bool) (texts : List (List ℕ)) (text : List ℕ) : Type
+    0 where
+  pub answer : IsTaskAnswer task texts (Ok text)
+  pub finds : (found ≡ true) ↔ FindsTo (asked_of task) texts text
+
 -- the answer of the task to these texts is appended
-abbrev pub AppendsAnswer : Task → List (List ℕ) → Option (List ℕ) → Option (List ℕ) → Type 0
-AppendsAnswer task texts old new =
-    (text : List ℕ) × IsTaskAnswer task texts (Ok text) × Appends old new text
+abbrev pub AppendsAnswer : Task → Bool → List (List ℕ) → Option (List ℕ) → Option (List ℕ) → Type 0
+AppendsAnswer task found texts old new =
+    (text : List ℕ) × IsTaskText task found texts text × Appends old new text
 
 -- a prefix of the answer is appended
 abbrev pub AppendsPart : Task → List (List ℕ) → Option (List ℕ) → Option (List ℕ) → Type 0
@@ -66,9 +80,9 @@ AppendsPart task texts old new =
     (text : List ℕ) × IsTaskAnswer task texts (Ok text) × AppendsPrefix old new text
 
 -- the answer to some list of this number of texts is appended
-abbrev pub AddsAnswer : Task → ℕ → Option (List ℕ) → Option (List ℕ) → Type 0
-AddsAnswer task count old new =
-    (texts : List (List ℕ)) × (length texts ≡ count) × AppendsAnswer task texts old new
+abbrev pub AddsAnswer : Task → Bool → ℕ → Option (List ℕ) → Option (List ℕ) → Type 0
+AddsAnswer task found count old new =
+    (texts : List (List ℕ)) × (length texts ≡ count) × AppendsAnswer task found texts old new
 
 -- a prefix of the answer to some list of this number of texts is appended
 abbrev pub AddsPart : Task → ℕ → Option (List ℕ) → Option (List ℕ) → Type 0
@@ -84,24 +98,34 @@ pub record HasFault (task : Task) (texts : List (List ℕ)) (fault : Fault)
   pub nothing : fault ≢ Write → Keeps old new
 
 -- what a task over these texts comes to: the answer is appended, or there is a fault
-abbrev pub IsTaskResult : {A : Type 0} → Task → List (List ℕ) → Result A Fault
+abbrev pub IsTaskResult : Task → List (List ℕ) → Result Bool Fault
     → Option (List ℕ) → Option (List ℕ) → Type 0
 IsTaskResult task texts done old new =
-    MatchResult done (λ _. AppendsAnswer task texts old new)
+    MatchResult done (λ found. AppendsAnswer task found texts old new)
     (λ fault. HasFault task texts fault old new)
 
--- 0 if the task succeeded, otherwise the status of the fault
-abbrev pub status_of : {A : Type 0} → Result A Fault → ℕ
-status_of (Ok _) = 0
-status_of (Err fault) = fault_status fault
+-- the status of an answer: 5 if `--exit-code` is there and the answer finds something, otherwise 0
+abbrev pub answer_status : Bool → Bool → ℕ
+answer_status true true = 5
+answer_status _ _ = 0
 
--- the status with which a task over these texts ends: 0 if its answer is appended, otherwise that
--- of a fault
-abbrev pub EndsWith : Task → List (List ℕ) → ℕ → Option (List ℕ) → Option (List ℕ) → Type 0
-EndsWith task texts status old new =
-    ((status ≡ 0) × AppendsAnswer task texts old new)
+-- that of an answer if the task succeeded, otherwise that of the fault
+abbrev pub status_of : Bool → Result Bool Fault → ℕ
+status_of exit_code (Ok found) = answer_status exit_code found
+status_of exit_code (Err fault) = fault_status fault
+
+-- the status with which a task over these texts ends: that of its answer if this is appended,
+-- otherwise that of a fault
+abbrev pub EndsWith : Bool → Task → List (List ℕ) → ℕ → Option (List ℕ) → Option (List ℕ) → Type 0
+EndsWith exit_code task texts status old new =
+    ((found : Bool) × (status ≡ answer_status exit_code found)
+    × AppendsAnswer task found texts old new)
     ⊎ ((fault : Fault) × HasFault task texts fault old new × (status ≡ fault_status fault))
 
--- 0, or the status of a fault
+-- the status of an answer
+abbrev pub IsAnswerStatus : ℕ → Type 0
+IsAnswerStatus status = (status ≡ 0) ⊎ (status ≡ 5)
+
+-- that of an answer or of a fault
 abbrev pub IsStatus : ℕ → Type 0
-IsStatus status = (status ≡ 0) ⊎ ((fault : Fault) × (status ≡ fault_status fault))
+IsStatus status = IsAnswerStatus status ⊎ ((fault : Fault) × (status ≡ fault_status fault))

@@ -1,6 +1,6 @@
 //! Tasks: opens the sources at the paths and writes the answer.
 ghost use Rattle.std.specs.Prelude.{◌≡◌, ◌≢◌, ◌↔◌, true, false, [], ◌∷◌, All, Some, IfErr};
-ghost use Rattle.std.specs.Prelude.{IsErrOf, OnOk};
+ghost use Rattle.std.specs.Prelude.{IfOk, IsErrOf, OnOk};
 ghost use Rattle.std.specs.Io.KnownBytes.{Keeps};
 ghost use Rattle.epx_program.specs.Calls.{paths_of};
 ghost use Rattle.epx_program.specs.Endings.{AddsAnswer, AddsPart, IsTaskResult, asked_of};
@@ -37,11 +37,13 @@ fn asked_by(task: Task) -> Asked
         Task::Audit => Asked::Logs(Question::View(Ask::Audit)),
         Task::Resume => Asked::First(InputQuestion::Resume),
         Task::Check => Asked::First(InputQuestion::Check),
+        Task::Compare => Asked::Logs(Question::View(Ask::Compare)),
     }
 }
 
-/// Writes the answer that the task asks for. Of what it asks about a first text, the first source
-/// has the text and the others are the logs. If there is no source, the text is empty.
+/// Writes the answer that the task asks for, and returns whether it finds something. Of what the
+/// task asks about a first text, the first source has the text and the others are the logs. If
+/// there is no source, the text is empty.
 fn answer<R: Threads + RandomSource + Sync, S: Source, W: Sink>(
     rt: &R,
     alloc: Global,
@@ -49,7 +51,7 @@ fn answer<R: Threads + RandomSource + Sync, S: Source, W: Sink>(
     plan: Plan,
     sources: &mut [S],
     output: &mut W,
-) -> Result<(), Fault>
+) -> Result<bool, Fault>
     requires sources { All (λ s. S.has_failed s ≡ false) sources.old }
     requires output { W.has_failed output.old ≡ false }
     ensures { TaskOutcome S.remaining S.reads S.fails task sources.old result
@@ -73,7 +75,7 @@ fn answer<R: Threads + RandomSource + Sync, S: Source, W: Sink>(
 }
 
 /// Reads the texts at the paths, where a hyphen means the input, and writes the answer. If `paths`
-/// is None, it reads the input alone.
+/// is None, it reads the input alone. Returns whether the answer finds something.
 pub(crate) fn do_task<R: Files + Threads + RandomSource + Sync, I: Source + Drop, W: Sink>(
     rt: &R,
     alloc: Global,
@@ -82,13 +84,13 @@ pub(crate) fn do_task<R: Files + Threads + RandomSource + Sync, I: Source + Drop
     paths: Option<Vec<String>>,
     input: I,
     output: &mut W,
-) -> Result<(), Fault>
+) -> Result<bool, Fault>
     requires input { I.has_failed input ≡ false }
     requires output { W.has_failed output.old ≡ false }
 
     ensures input { (bytes : _) → IsInputAlone (paths_of paths) → I.remaining input ≡ Some bytes →
         IsTaskResult task (bytes ∷ []) result (W.contents output.old) (W.contents output.new) }
-    ensures answered { OnOk result (AddsAnswer task (text_count (paths_of paths))
+    ensures answered { IfOk result (λ found. AddsAnswer task found (text_count (paths_of paths))
         (W.contents output.old) (W.contents output.new)) }
     ensures part { IsErrOf result Fault.Write → AddsPart task (text_count (paths_of paths))
         (W.contents output.old) (W.contents output.new) }

@@ -2,23 +2,33 @@
 ghost use Rattle.std.specs.Prelude.{◌≡◌, ◌≢◌, true, false};
 ghost use Rattle.std.specs.Io.KnownBytes.{Appends};
 ghost use Rattle.epx_devices.specs.Transfers.{AppendsPrefix};
+ghost use Rattle.epx_types.specs.Faults.{fault_status};
 ghost use Rattle.epx_program.specs.Endings.{status_of};
 
 use epx_tool::{Sink, write_out};
 use epx_types::Fault;
 use std::io::Eprint;
 
-/// Writes the line of a fault to standard error, and returns the exit status.
-pub(crate) fn report_fault(rt: &impl Eprint, done: Result<(), Fault>) -> u8
-    ensures { result ≡ status_of done }
+/// The exit status of an answer that finds something, with `--exit-code`.
+const FOUND: u8 = 5;
+
+/// Writes the line of a fault to standard error, and returns its exit status.
+pub(crate) fn report_fault(rt: &impl Eprint, fault: Fault) -> u8
+    ensures { result ≡ fault_status fault }
+{
+    // If standard error cannot be written, the status still reports the fault.
+    let _printed = eprintln!(rt; "{fault}");
+    fault.status()
+}
+
+/// The exit status of a task, whose answer may find something. Writes the line of a fault to
+/// standard error.
+pub(crate) fn report_task(rt: &impl Eprint, exit_code: bool, done: Result<bool, Fault>) -> u8
+    ensures { result ≡ status_of exit_code done }
 {
     match done {
-        Ok(()) => 0,
-        Err(fault) => {
-            // If standard error cannot be written, the status still reports the fault.
-            let _printed = eprintln!(rt; "{fault}");
-            fault.status()
-        }
+        Ok(found) => { if exit_code && found { FOUND } else { 0 } }
+        Err(fault) => report_fault(rt, fault),
     }
 }
 
@@ -39,7 +49,10 @@ pub(crate) fn print_text<R: Eprint, W: Sink>(rt: &R, text: &str, status: u8, out
     ensures failed { W.has_failed output.new ≡ true → result ≡ 4 }
 {
     if status == 0 {
-        return report_fault(rt, write_out(text.as_bytes(), output));
+        return match write_out(text.as_bytes(), output) {
+            Ok(()) => 0,
+            Err(fault) => report_fault(rt, fault),
+        };
     }
     let _printed = eprint!(rt; "{text}");
     status

@@ -5,16 +5,16 @@ ghost use Rattle.std.specs.IoError.{error_kind};
 ghost use Rattle.std.specs.Process.{exit_status};
 ghost use Rattle.epx_types.specs.Faults.{fault_status};
 ghost use Rattle.epx_devices.specs.Transfers.{AppendsPrefix};
-ghost use Rattle.epx_words.specs.Requests.{IfText, IfWork};
-ghost use Rattle.epx_program.specs.Calls.{AreTakenFor, DoesAsAsked, EndsTask};
-ghost use Rattle.epx_program.specs.Endings.{IsStatus};
+ghost use Rattle.epx_words.specs.Requests.{IfText, IfWork, has_exit_code};
+ghost use Rattle.epx_program.specs.Calls.{AreTakenFor, DoesAsAsked, EndsTask, paths_of};
+ghost use Rattle.epx_program.specs.Endings.{IsAnswerStatus, IsStatus};
 ghost use Rattle.epx_program.specs.Inputs.{HasFailedRead};
 
 use crate::do_task::do_task;
-use crate::exit_report::{print_text, report_fault};
+use crate::exit_report::{print_text, report_fault, report_task};
 use crate::read_args::read_args;
-use epx_tool::{Sink, Source, Words};
-use epx_types::{Fault, Memory};
+use epx_tool::{Sink, Source, Task, Words};
+use epx_types::{Fault, Memory, Plan};
 use std::alloc::AllocGlobal;
 use std::env::Args;
 use std::io::{self, Eprint, ErrorKind};
@@ -22,6 +22,36 @@ use std::process::ExitCode;
 use std::random::RandomSource;
 use std::rt::Files;
 use std::thread::Threads;
+
+/// Does a task, and returns the exit status. With `exit_code` the status of an answer says whether
+/// it finds something.
+fn do_work<R, I, W>(
+    rt: &R,
+    exit_code: bool,
+    task: Task,
+    plan: Plan,
+    paths: Option<Vec<String>>,
+    input: I,
+    output: &mut W,
+) -> u8
+where
+    R: AllocGlobal + Eprint + Files + Threads + RandomSource + Sync,
+    I: Source + Drop,
+    W: Sink,
+    requires input { I.has_failed input ≡ false }
+    requires output { W.has_failed output.old ≡ false }
+
+    ensures do_task { EndsTask (I.remaining input) (HasFailedRead I.reads I.fails input) exit_code
+        task (paths_of paths) result (W.has_failed output.new) (W.contents output.old)
+        (W.contents output.new) }
+    ensures flushed { IsAnswerStatus result → W.is_flushed output.new ≡ true }
+    ensures failed { W.has_failed output.new ≡ true → result ≡ 4 }
+    ensures nothing { W.has_failed output.new ≡ false → ¬ IsAnswerStatus result
+        → Keeps (W.contents output.old) (W.contents output.new) }
+{
+    let done = do_task(rt, rt.alloc(), task, plan, paths, input, output);
+    report_task(rt, exit_code, done)
+}
 
 /// Does what the words say, and returns the exit status.
 pub fn execute_words<R, I, W>(rt: &R, words: Words, input: I, output: &mut W) -> u8
@@ -33,8 +63,8 @@ where
     requires output { W.has_failed output.old ≡ false }
 
     ensures do_task { IfWork (λ task _ paths. EndsTask (I.remaining input)
-        (HasFailedRead I.reads I.fails input) task paths result (W.has_failed output.new)
-        (W.contents output.old) (W.contents output.new)) words }
+        (HasFailedRead I.reads I.fails input) (has_exit_code words) task paths result
+        (W.has_failed output.new) (W.contents output.old) (W.contents output.new)) words }
 
     ensures shown { (text : _) → words ≡ Words.Text text 0 → result ≡ 0
         → Appends (W.contents output.old) (W.contents output.new) (string_bytes text) }
@@ -46,14 +76,17 @@ where
         × (output.new ≡ output.old)) words }
 
     ensures flushed { result ≡ 0 → W.is_flushed output.new ≡ true }
+    ensures found { IfWork (λ _ _ _. result ≡ 5 → W.is_flushed output.new ≡ true) words }
     ensures failed { W.has_failed output.new ≡ true → result ≡ 4 }
-    ensures nothing { W.has_failed output.new ≡ false → result ≢ 0
+    ensures nothing { W.has_failed output.new ≡ false → ¬ IsAnswerStatus result
         → Keeps (W.contents output.old) (W.contents output.new) }
 {
     match words {
         Words::Work { task, plan, paths } => {
-            let done = do_task(rt, rt.alloc(), task, plan, paths, input, output);
-            report_fault(rt, done)
+            do_work(rt, false, task, plan, paths, input, output)
+        }
+        Words::WorkWithExitCode { task, plan, paths } => {
+            do_work(rt, true, task, plan, paths, input, output)
         }
         Words::Text { text, status } => print_text(rt, text.as_str(), status, output),
     }
@@ -80,14 +113,14 @@ where
     ensures no_words { IfErr words (λ error. error_kind error ≢ ErrorKind.InvalidData
         → (exit_status result ≡ fault_status Fault.Memory) × (output.new ≡ output.old)) }
 
-    ensures flushed { exit_status result ≡ 0 → W.is_flushed output.new ≡ true }
+    ensures flushed { IsAnswerStatus (exit_status result) → W.is_flushed output.new ≡ true }
     ensures failed { W.has_failed output.new ≡ true → exit_status result ≡ 4 }
-    ensures nothing { W.has_failed output.new ≡ false → exit_status result ≢ 0
+    ensures nothing { W.has_failed output.new ≡ false → ¬ IsAnswerStatus (exit_status result)
         → Keeps (W.contents output.old) (W.contents output.new) }
 {
     let status = match read_args(rt.alloc(), words) {
         Ok(words) => execute_words(rt, words, input, output),
-        Err(Memory) => report_fault(rt, Err(Fault::Memory)),
+        Err(Memory) => report_fault(rt, Fault::Memory),
     };
     ExitCode::from(status)
 }

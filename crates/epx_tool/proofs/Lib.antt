@@ -27,3 +27,4 @@ mod CheckLemmas
 mod LawfulListLemmas
 mod ReportRangeLemmas
 mod ResumableAnswersLemmas
+mod PlainRunLemmas

@@ -13,7 +13,7 @@ use Rattle.epx_tool.specs.Sources.{LeavesSources, LeavesInput}
 use Rattle.epx_tool.proofs.ConsumedLemmas.{as_many_consumed}
 use Rattle.epx_tool.proofs.ReturnedFaultLemmas.{same_error, same_error_iff, same_stop, HasRead}
 use Rattle.epx_tool.proofs.ReturnedFaultLemmas.{neither, other_iff, same_past_end, written_iff}
-use Rattle.epx_tool.proofs.ReturnedFaultLemmas.{on_ok, keeps_itself}
+use Rattle.epx_tool.proofs.ReturnedFaultLemmas.{ok_is_no_fault, on_ok, keeps_itself}
 
 -- ---- the sources
 
@@ -120,4 +120,26 @@ module _ {Given : Type 0} (OfKnown : (Given → Type 0) → Type 0)
     prefix = λ is. known _ (λ given answer. (text, answer, prefix));
     part = λ is. delivered _ prefix;
     written = written_iff done _ faults failed;
+  }
+
+-- a text that was written whole, as a weaker answer
+module _ {Given : Type 0} (OfKnown : (Given → Type 0) → Type 0)
+    (Answer Weaker : Given → List ℕ → Type 0) (IsFault IsOther : Given → Fault → Type 0)
+    (Delivered Others : (List ℕ → Type 0) → Type 0) (Ends Stops : Fault → Type 0)
+    (was now : Option (List ℕ)) (is_flushed sink_failed : Bool) where
+  pub writes_weaker : (((P Q : Given → Type 0) → ((given : Given) → P given → Q given) → OfKnown P
+      → OfKnown Q)) → ((given : Given) (text : List ℕ) → Answer given text → Weaker given text)
+      → (Delivered (Appends was now) → Others (Appends was now))
+      → WritesAnswer OfKnown Answer IsFault Delivered Ends was now is_flushed sink_failed (Ok tt)
+      → WritesAnswer OfKnown Weaker IsOther Others Stops was now is_flushed sink_failed (Ok tt)
+  writes_weaker known weaker delivered run = record {
+    text = known _ _ (λ given h. (h.0, weaker given h.0 h.1, h.2)) run.text;
+    answered = delivered run.answered;
+    flushed = run.flushed;
+    refusal = tt;
+    refused = tt;
+    nothing = tt;
+    prefix = λ is. absurd (ok_is_no_fault tt Write is);
+    part = λ is. absurd (ok_is_no_fault tt Write is);
+    written = run.written;
   }

@@ -21,6 +21,7 @@ pub mod Delivered
 pub mod DeliveredWithInput
 pub mod Questions
 pub mod RunEndings
+pub mod Findings
 pub use Rattle.epx_devices.specs.Devices
 pub use Rattle.epx_devices.specs.MemorySink
 pub use Rattle.epx_devices.specs.DeviceStates

@@ -28,7 +28,7 @@ fn answer_question<R: Threads + RandomSource + Sync>(
         (λ fault. AnswersQuestion question bytes (Err fault)) }
 {
     let Some(kind) = question.map_text() else {
-        return Ok(compare(rt, alloc, logs)?.text);
+        return Ok(compare(rt, alloc, logs, plan)?.text);
     };
     let merged = match read_logs(rt, alloc, logs, plan, &FreeGate) {
         Ok(merged) => merged,

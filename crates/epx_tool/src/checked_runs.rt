@@ -12,7 +12,7 @@ ghost use Rattle.epx_tool.specs.Sources.{EachConsumesUpTo, StopsAt};
 ghost use Rattle.epx_tool.specs.DeliveredWithInput.{AnswersBoth, EndsWithoutBoth};
 ghost use Rattle.epx_devices.specs.Transfers.{AppendsPrefix, ConsumesUpTo};
 
-use crate::input_runs::run_with_input;
+use crate::input_runs::write_with_input;
 use crate::question::InputQuestion;
 use epx_devices::{Sink, Source};
 use epx_types::limits::MAX_LOGS;
@@ -84,5 +84,5 @@ pub fn run_check<T: Threads + RandomSource + Sync, L: Source, S: Source, W: Sink
     ensures none_read { IsErrOf result Fault.TooManyLogs → (sources.new ≡ sources.old)
         × (list.new ≡ list.old) }
 {
-    run_with_input(rt, alloc, InputQuestion::Check, list, sources, plan, sink)
+    write_with_input(rt, alloc, InputQuestion::Check, list, sources, plan, sink)
 }

@@ -1,8 +1,10 @@
 //! A run over logs and an extra input.
-ghost use Rattle.std.specs.Prelude.{◌≡◌, false, All};
+ghost use Rattle.std.specs.Prelude.{◌≡◌, false, All, Ok, Err, MatchResult};
+ghost use Rattle.epx_tool.specs.Findings.{IsFindingWith};
 ghost use Rattle.epx_tool.specs.Questions.{IsBadInput, IsTextWith};
 ghost use Rattle.epx_tool.specs.RunEndings.{EndsRunWithInput};
 
+use crate::findings::finds_with;
 use crate::input_answers::answer_owned;
 use crate::question::InputQuestion;
 use crate::sources::read_with_input;
@@ -13,9 +15,49 @@ use std::random::RandomSource;
 use std::thread::Threads;
 
 /// Reads the logs from the sources in order, then the input from its own, and writes the answer to
-/// a question about them to the sink. `run_resume` and `run_check` are this call for one question
-/// each.
+/// a question about them to the sink. Returns whether the answer finds something. `run_resume` and
+/// `run_check` are this call for one question each.
 pub fn run_with_input<T: Threads + RandomSource + Sync, I: Source, S: Source, W: Sink>(
+    rt: &T,
+    alloc: Global,
+    question: InputQuestion,
+    input: &mut I,
+    sources: &mut [S],
+    plan: Plan,
+    sink: &mut W,
+) -> Result<bool, Fault>
+    requires input { I.has_failed input.old ≡ false }
+    requires sources { All (λ s. S.has_failed s ≡ false) sources.old }
+    requires sink { W.has_failed sink.old ≡ false }
+    ensures { MatchResult result
+        (λ found. EndsRunWithInput I.remaining I.reads I.fails I.has_failed S.remaining S.reads
+        S.fails S.has_failed (IsBadInput question) (IsFindingWith question found) input.old
+        input.new sources.old sources.new (W.contents sink.old) (W.contents sink.new)
+        (W.is_flushed sink.new) (W.has_failed sink.new) (Ok (record {})))
+        (λ fault. EndsRunWithInput I.remaining I.reads I.fails I.has_failed S.remaining S.reads
+        S.fails S.has_failed (IsBadInput question) (IsTextWith question) input.old input.new
+        sources.old sources.new (W.contents sink.old) (W.contents sink.new) (W.is_flushed sink.new)
+        (W.has_failed sink.new) (Err fault)) }
+{
+    let (text, logs) = match read_with_input(alloc, input, sources) {
+        Ok(read) => read,
+        Err(fault) => return Err(fault),
+    };
+    let answer = match answer_owned(rt, alloc, question, text, logs, plan) {
+        Ok(answer) => answer,
+        Err(fault) => return Err(fault),
+    };
+    let Ok(found) = finds_with(alloc, question, &answer) else {
+        return Err(Fault::Memory);
+    };
+    match write_out(&answer, sink) {
+        Ok(()) => Ok(found),
+        Err(fault) => Err(fault),
+    }
+}
+
+/// As `run_with_input`, without what the answer finds.
+pub(crate) fn write_with_input<T: Threads + RandomSource + Sync, I: Source, S: Source, W: Sink>(
     rt: &T,
     alloc: Global,
     question: InputQuestion,
@@ -32,13 +74,8 @@ pub fn run_with_input<T: Threads + RandomSource + Sync, I: Source, S: Source, W:
         sources.new (W.contents sink.old) (W.contents sink.new) (W.is_flushed sink.new)
         (W.has_failed sink.new) result }
 {
-    let (text, logs) = match read_with_input(alloc, input, sources) {
-        Ok(read) => read,
-        Err(fault) => return Err(fault),
-    };
-    let answer = match answer_owned(rt, alloc, question, text, logs, plan) {
-        Ok(answer) => answer,
-        Err(fault) => return Err(fault),
-    };
-    write_out(&answer, sink)
+    match run_with_input(rt, alloc, question, input, sources, plan, sink) {
+        Ok(_) => Ok(()),
+        Err(fault) => Err(fault),
+    }
 }

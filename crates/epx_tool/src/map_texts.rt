@@ -118,19 +118,6 @@ pub(crate) fn report_of<R: Threads + RandomSource + Sync>(
     )
 }
 
-/// The report of a committed map of which nothing is done.
-fn whole_report<R: Threads + RandomSource + Sync>(
-    rt: &R,
-    alloc: Global,
-    merged: Merged,
-    plan: Plan,
-) -> Result<Vec<u8>, Memory>
-    requires few { length merged ≤ max_instances }
-    ensures { IfOk result (λ text. IsReport merged text.items) }
-{
-    report_of(rt, alloc, merged, &[], Store::new(alloc), plan)
-}
-
 /// The text of the execution order of a committed map.
 fn order_of<R: Threads + Sync>(
     rt: &R,
@@ -202,7 +189,7 @@ pub(crate) fn text_of<R: Threads + RandomSource + Sync>(
     ensures { IfOk result (λ text. IsMapText kind merged text.items) }
 {
     match kind {
-        MapText::Report => whole_report(rt, alloc, merged, plan),
+        MapText::Report => report_of(rt, alloc, merged, &[], Store::new(alloc), plan),
         MapText::Order => order_of(rt, alloc, &merged, plan),
         MapText::Levels => levels_of(rt, alloc, &merged, plan),
         MapText::Audit => audit_of(rt, alloc, &merged, plan),

@@ -5,7 +5,7 @@ ghost use Rattle.epx_tool.specs.Questions.{map_text_of};
 use crate::ask::Ask;
 
 /// What is asked of logs.
-#[derive(Clone, Copy, Debug, PartialEq, Eq)]
+#[derive(Clone, Copy)]
 pub enum Question {
     /// The report.
     Report,
@@ -14,7 +14,7 @@ pub enum Question {
 }
 
 /// A text of the map that logs commit.
-#[derive(Clone, Copy, Debug, PartialEq, Eq)]
+#[derive(Clone, Copy)]
 pub enum MapText {
     Report,
     Order,
@@ -40,7 +40,7 @@ impl Question {
 }
 
 /// What is asked of logs and an extra input.
-#[derive(Clone, Copy, Debug, PartialEq, Eq)]
+#[derive(Clone, Copy)]
 pub enum InputQuestion {
     /// The report that resumes from the input, a base.
     Resume,

@@ -12,7 +12,7 @@ ghost use Rattle.epx_tool.specs.Sources.{EachConsumesUpTo, StopsAt};
 ghost use Rattle.epx_tool.specs.DeliveredWithInput.{AnswersBoth, EndsWithoutBoth};
 ghost use Rattle.epx_devices.specs.Transfers.{AppendsPrefix, ConsumesUpTo};
 
-use crate::input_runs::run_with_input;
+use crate::input_runs::write_with_input;
 use crate::question::InputQuestion;
 use epx_devices::{Sink, Source};
 use epx_types::limits::MAX_LOGS;
@@ -85,5 +85,5 @@ pub fn run_resume<T: Threads + RandomSource + Sync, B: Source, S: Source, W: Sin
     ensures none_read { IsErrOf result Fault.TooManyLogs → (sources.new ≡ sources.old)
         × (base.new ≡ base.old) }
 {
-    run_with_input(rt, alloc, InputQuestion::Resume, base, sources, plan, sink)
+    write_with_input(rt, alloc, InputQuestion::Resume, base, sources, plan, sink)
 }

@@ -1,7 +1,7 @@
 //! A run: it reads logs from sources, and writes the answer to a sink.
 ghost use Rattle.std.specs.Prelude.{◌≡◌, ◌≢◌, ◌↔◌, ◌+◌, ◌<◌, ℕ, true, false, map, drop, length};
-ghost use Rattle.std.specs.Prelude.{All, Some, slice_get, Ok, Err, IfOk, OnOk, IfErr, IsErrOf};
-ghost use Rattle.std.specs.Prelude.{MatchResult};
+ghost use Rattle.std.specs.Prelude.{All, None, Some, slice_get, Ok, Err, IfOk, OnOk, IfErr};
+ghost use Rattle.std.specs.Prelude.{IsErrOf, MatchResult};
 ghost use Rattle.std.specs.Io.KnownBytes.{Appends, Keeps, IsAtEnd};
 ghost use Rattle.epx_merge.specs.Limits.{max_log_bytes};
 ghost use Rattle.epx_merge.specs.Refusals.{FitLimits};
@@ -11,35 +11,38 @@ ghost use Rattle.epx_tool.specs.Runs.{AreBytesOf, IsFaultOfRun, IsReadingRefusal
 ghost use Rattle.epx_tool.specs.Sources.{EachConsumesUpTo, StopsAt};
 ghost use Rattle.epx_tool.specs.Delivered.{AnswersDelivered, EndsRefused, EndsWithout};
 ghost use Rattle.epx_tool.specs.Delivered.{WritesDelivered};
-ghost use Rattle.epx_tool.specs.Questions.{AnswersQuestion, AnswersView};
+ghost use Rattle.epx_tool.specs.Questions.{AnswersBy, AnswersQuestion, AnswersView};
+ghost use Rattle.epx_tool.specs.Findings.{AnswersFinding, AnswersFindingBy};
 ghost use Rattle.epx_tool.specs.RunEndings.{EndsRun};
 ghost use Rattle.epx_tool.specs.inner.SourceReadings.{EndsMaking};
 ghost use Rattle.epx_compare.specs.ComparisonAnswers.{Compares};
 ghost use Rattle.epx_devices.specs.Transfers.{AppendsPrefix};
 
 use crate::ask::Ask;
+use crate::findings::{Answered, finds};
 use crate::map_texts::text_of;
 use crate::merged_sources::merge_sources;
-use crate::question::Question;
+use crate::question::{MapText, Question};
 use crate::sources::read_sources;
-use epx_compare::compare;
+use epx_compare::{Comparison, compare};
 use epx_devices::{Sink, Source, write_out};
 use epx_types::limits::MAX_LOGS;
-use epx_types::{Fault, Memory, Plan};
+use epx_types::{Fault, Plan};
 use std::alloc::Global;
 use std::random::RandomSource;
 use std::thread::Threads;
 
 /// The comparison of the logs of all sources, which are read in order.
-fn compare_sources<R: RandomSource, S: Source>(
+fn compare_sources<R: Threads + RandomSource + Sync, S: Source>(
     rt: &R,
     alloc: Global,
     sources: &mut [S],
-) -> Result<Vec<u8>, Fault>
+    plan: Plan,
+) -> Result<Answered, Fault>
     requires { All (λ s. S.has_failed s ≡ false) sources.old }
     ensures { MatchResult result
-        (λ text. EndsMaking S.remaining S.reads S.fails S.has_failed Compares sources.old sources.new
-        (Ok text.items))
+        (λ a. EndsMaking S.remaining S.reads S.fails S.has_failed
+        (AnswersFindingBy None a.has_findings) sources.old sources.new (Ok a.text.items))
         (λ fault. EndsMaking S.remaining S.reads S.fails S.has_failed Compares sources.old
         sources.new (Err fault)) }
 {
@@ -47,10 +50,38 @@ fn compare_sources<R: RandomSource, S: Source>(
         Ok(logs) => logs,
         Err(fault) => return Err(fault),
     };
-    match compare(rt, alloc, &logs) {
-        Ok(comparison) => Ok(comparison.text),
+    match compare(rt, alloc, &logs, plan) {
+        Ok(Comparison { text, has_findings }) => Ok(Answered { text, has_findings }),
         Err(fault) => Err(fault),
     }
+}
+
+/// A text of the map that the logs of all sources commit, and whether it finds something.
+fn answer_merged<R: Threads + RandomSource + Sync, S: Source>(
+    rt: &R,
+    alloc: Global,
+    kind: MapText,
+    sources: &mut [S],
+    plan: Plan,
+) -> Result<Answered, Fault>
+    requires { All (λ s. S.has_failed s ≡ false) sources.old }
+    ensures { MatchResult result
+        (λ a. EndsMaking S.remaining S.reads S.fails S.has_failed
+        (AnswersFindingBy (Some kind) a.has_findings) sources.old sources.new (Ok a.text.items))
+        (λ fault. EndsMaking S.remaining S.reads S.fails S.has_failed (AnswersBy (Some kind))
+        sources.old sources.new (Err fault)) }
+{
+    let merged = match merge_sources(rt, alloc, sources, plan) {
+        Ok(merged) => merged,
+        Err(fault) => return Err(fault),
+    };
+    let Ok(text) = text_of(rt, alloc, kind, merged, plan) else {
+        return Err(Fault::Memory);
+    };
+    let Ok(has_findings) = finds(alloc, kind, &text) else {
+        return Err(Fault::Memory);
+    };
+    Ok(Answered { text, has_findings })
 }
 
 /// The answer to a question about the logs of all sources, which are read in order.
@@ -60,30 +91,53 @@ fn answer_sources<R: Threads + RandomSource + Sync, S: Source>(
     question: Question,
     sources: &mut [S],
     plan: Plan,
-) -> Result<Vec<u8>, Fault>
+) -> Result<Answered, Fault>
     requires { All (λ s. S.has_failed s ≡ false) sources.old }
     ensures { MatchResult result
-        (λ text. EndsMaking S.remaining S.reads S.fails S.has_failed (AnswersQuestion question)
-        sources.old sources.new (Ok text.items))
+        (λ a. EndsMaking S.remaining S.reads S.fails S.has_failed
+        (AnswersFinding question a.has_findings) sources.old sources.new (Ok a.text.items))
         (λ fault. EndsMaking S.remaining S.reads S.fails S.has_failed (AnswersQuestion question)
         sources.old sources.new (Err fault)) }
 {
-    let Some(kind) = question.map_text() else {
-        return compare_sources(rt, alloc, sources);
-    };
-    let merged = match merge_sources(rt, alloc, sources, plan) {
-        Ok(merged) => merged,
-        Err(fault) => return Err(fault),
-    };
-    match text_of(rt, alloc, kind, merged, plan) {
-        Ok(text) => Ok(text),
-        Err(Memory) => Err(Fault::Memory),
+    match question.map_text() {
+        Some(kind) => answer_merged(rt, alloc, kind, sources, plan),
+        None => compare_sources(rt, alloc, sources, plan),
     }
 }
 
 /// Reads the logs from the sources in order, and writes the answer to a question about them to the
-/// sink. `run` and `show` are this call for one question each.
+/// sink. Returns whether the answer finds something. `run` and `show` are this call for one
+/// question each.
 pub fn run_question<T: Threads + RandomSource + Sync, S: Source, W: Sink>(
+    rt: &T,
+    alloc: Global,
+    question: Question,
+    sources: &mut [S],
+    plan: Plan,
+    sink: &mut W,
+) -> Result<bool, Fault>
+    requires sources { All (λ s. S.has_failed s ≡ false) sources.old }
+    requires sink { W.has_failed sink.old ≡ false }
+    ensures { MatchResult result
+        (λ found. EndsRun S.remaining S.reads S.fails S.has_failed (AnswersFinding question found)
+        sources.old sources.new (W.contents sink.old) (W.contents sink.new) (W.is_flushed sink.new)
+        (W.has_failed sink.new) (Ok (record {})))
+        (λ fault. EndsRun S.remaining S.reads S.fails S.has_failed (AnswersQuestion question)
+        sources.old sources.new (W.contents sink.old) (W.contents sink.new) (W.is_flushed sink.new)
+        (W.has_failed sink.new) (Err fault)) }
+{
+    let answered = match answer_sources(rt, alloc, question, sources, plan) {
+        Ok(answered) => answered,
+        Err(fault) => return Err(fault),
+    };
+    match write_out(&answered.text, sink) {
+        Ok(()) => Ok(answered.has_findings),
+        Err(fault) => Err(fault),
+    }
+}
+
+/// As `run_question`, without what the answer finds.
+fn write_answer<T: Threads + RandomSource + Sync, S: Source, W: Sink>(
     rt: &T,
     alloc: Global,
     question: Question,
@@ -97,11 +151,10 @@ pub fn run_question<T: Threads + RandomSource + Sync, S: Source, W: Sink>(
         sources.old sources.new (W.contents sink.old) (W.contents sink.new) (W.is_flushed sink.new)
         (W.has_failed sink.new) result }
 {
-    let text = match answer_sources(rt, alloc, question, sources, plan) {
-        Ok(text) => text,
-        Err(fault) => return Err(fault),
-    };
-    write_out(&text, sink)
+    match run_question(rt, alloc, question, sources, plan, sink) {
+        Ok(_) => Ok(()),
+        Err(fault) => Err(fault),
+    }
 }
 
 /// Reads the logs from the sources in order, and writes their report to the sink. If there is a
@@ -150,7 +203,7 @@ pub fn run<T: Threads + RandomSource + Sync, S: Source, W: Sink>(
     ensures too_many { IsErrOf result Fault.TooManyLogs ↔ (MAX_LOGS < length sources.old) }
     ensures none_read { IsErrOf result Fault.TooManyLogs → sources.new ≡ sources.old }
 {
-    run_question(rt, alloc, Question::Report, sources, plan, sink)
+    write_answer(rt, alloc, Question::Report, sources, plan, sink)
 }
 
 /// Like `run`, but it writes a view instead of the report.
@@ -199,5 +252,5 @@ pub fn show<T: Threads + RandomSource + Sync, S: Source, W: Sink>(
     ensures too_many { IsErrOf result Fault.TooManyLogs ↔ (MAX_LOGS < length sources.old) }
     ensures none_read { IsErrOf result Fault.TooManyLogs → sources.new ≡ sources.old }
 {
-    run_question(rt, alloc, Question::View(ask), sources, plan, sink)
+    write_answer(rt, alloc, Question::View(ask), sources, plan, sink)
 }

@@ -1,6 +1,6 @@
 -- Each argument of a subcommand keeps the rows sound. After the defaults both numbers have rows,
 -- and so has a required first argument.
-use Rattle.std.proofs.Common.{◌≡◌, ◌==◌, ◌∙◌, ◌||◌, ℕ, Bool, cond, true, false, not, codes, List}
+use Rattle.std.proofs.Common.{◌≡◌, ◌==◌, ◌||◌, ℕ, Bool, cond, true, false, not, codes, List}
 use Rattle.std.proofs.Common.{[], ◌∷◌, length, refl, sym, subst, true≢false, eqb-true, arith}
 use Rattle.std.specs.List.{AllByRecursion, fold}
 use Rattle.std.specs.Option.{IsSome}
@@ -10,7 +10,8 @@ use Rattle.clap.specs.Simple.{Shape, filled, help_rule, with_index}
 use Rattle.clap.specs.Takes.{is_given}
 use Rattle.clap.specs.ValueTests.{is_unsigned_in}
 use Rattle.clap.specs.Values.{IsUnsignedIn}
-use Rattle.clap.specs.Walk.{Row, Rule, Text, nothing_held, one_of, settled, values_or_missing}
+use Rattle.clap.specs.Walk.{Row, Rule, Text, has_row, nothing_held, one_of, settled}
+use Rattle.clap.specs.Walk.{values_or_missing}
 use Rattle.clap.specs.Walk.{used, walk, walk_from, with_default, without}
 use Rattle.clap.specs.declared.builder.action.ArgAction.TheVariants.{Set}
 use Rattle.clap.specs.declared.builder.value_parser.Reading.TheVariants.{AsWritten}
@@ -22,7 +23,7 @@ use Rattle.clap.specs.declared.error.kind.ErrorKind.TheVariants.{WrongNumberOfVa
 use Rattle.clap.specs.declared.parser.matches.ValueSource.{ValueSource}
 use Rattle.clap.specs.declared.parser.matches.ValueSource.TheVariants.{CommandLine, DefaultValue}
 use Rattle.clap.proofs.ValueTestLemmas.{accepts-Accepts}
-use Rattle.epx_words.specs.App.{first_rule, logs_rule, number_rule}
+use Rattle.epx_words.specs.App.{exit_code_rule, first_rule, logs_rule, number_rule}
 use Rattle.epx_words.specs.SubcommandRows.{IsNumberUpTo, first_in}
 use Rattle.epx_words.proofs.KindLemmas.{none_after, none_first}
 use Rattle.epx_words.proofs.SoundRowLemmas.{AreSound, IsSoundRow, first_read, default_has_row}
@@ -46,11 +47,22 @@ logs_leaf i = with_index i (filled logs_rule)
 abbrev numbers_and : List Rule → List Rule
 numbers_and rest = workers_leaf ∷ cut_leaf ∷ rest
 
-abbrev pub after_numbers : List Rule
-after_numbers = logs_leaf 1 ∷ filled help_rule ∷ []
+abbrev exit_code_leaf : Rule
+exit_code_leaf = filled exit_code_rule
 
-abbrev pub after_numbers_and_first : List Rule
-after_numbers_and_first = first_leaf ∷ logs_leaf 2 ∷ filled help_rule ∷ []
+-- what follows the numbers: the logs, or a first argument and the logs, each with or without the
+-- flag
+abbrev pub to_logs : List Rule
+to_logs = logs_leaf 1 ∷ filled help_rule ∷ []
+
+abbrev pub to_first : List Rule
+to_first = first_leaf ∷ logs_leaf 2 ∷ filled help_rule ∷ []
+
+abbrev pub flag_to_logs : List Rule
+flag_to_logs = exit_code_leaf ∷ to_logs
+
+abbrev pub flag_to_first : List Rule
+flag_to_first = exit_code_leaf ∷ to_first
 
 -- ---- a number
 
@@ -128,6 +140,21 @@ first_keeps again values rows none ok =
     first_kept values rows
     (one_value (length values) (none_first (range_kinds 1 1 (length values)) _ none)) ok
 
+flag_sound : (s : ValueSource) (values : List Text)
+    → IsSoundRow (new_row (codes "exit-code") AsWritten s values)
+flag_sound s values = (
+  λ e. absurd (true≢false (sym e)),
+  λ e. absurd (true≢false (sym e)),
+  λ e. absurd (true≢false (sym e)),
+)
+
+flag_keeps : (again : Bool) → KeepsSound again exit_code_leaf
+flag_keeps again values rows none ok =
+    values_sound (codes "exit-code") AsWritten CommandLine
+    (values_or_missing exit_code_leaf values) (without (codes "exit-code") rows)
+    (flag_sound CommandLine (values_or_missing exit_code_leaf values))
+    (without_sound (codes "exit-code") rows ok)
+
 help_keeps : (again : Bool) → KeepsSound again (filled help_rule)
 help_keeps again values rows none ok = ok
 
@@ -138,13 +165,27 @@ numbers_and_keep again rest keep = (
   (number_keeps (codes "cut") (codes "256") 65536 cut_fits again, keep),
 )
 
-pub leaf_keeps : (again : Bool) → AllByRecursion (KeepsSound again) (numbers_and after_numbers)
-leaf_keeps again = numbers_and_keep again after_numbers (logs_keep again 1, (help_keeps again, tt))
+to_logs_keep : (again : Bool) → AllByRecursion (KeepsSound again) to_logs
+to_logs_keep again = (logs_keep again 1, (help_keeps again, tt))
 
-pub leaf_with_first_keeps : (again : Bool)
-    → AllByRecursion (KeepsSound again) (numbers_and after_numbers_and_first)
-leaf_with_first_keeps again = numbers_and_keep again after_numbers_and_first
-    (first_keeps again, (logs_keep again 2, (help_keeps again, tt)))
+to_first_keep : (again : Bool) → AllByRecursion (KeepsSound again) to_first
+to_first_keep again = (first_keeps again, (logs_keep again 2, (help_keeps again, tt)))
+
+pub logs_rules_keep : (again : Bool) → AllByRecursion (KeepsSound again) (numbers_and to_logs)
+logs_rules_keep again = numbers_and_keep again to_logs (to_logs_keep again)
+
+pub first_rules_keep : (again : Bool) → AllByRecursion (KeepsSound again) (numbers_and to_first)
+first_rules_keep again = numbers_and_keep again to_first (to_first_keep again)
+
+pub flag_logs_rules_keep : (again : Bool)
+    → AllByRecursion (KeepsSound again) (numbers_and flag_to_logs)
+flag_logs_rules_keep again = numbers_and_keep again flag_to_logs
+    (flag_keeps again, to_logs_keep again)
+
+pub flag_first_rules_keep : (again : Bool)
+    → AllByRecursion (KeepsSound again) (numbers_and flag_to_first)
+flag_first_rules_keep again = numbers_and_keep again flag_to_first
+    (flag_keeps again, to_first_keep again)
 
 -- ---- the end of a level
 
@@ -165,15 +206,52 @@ pub record HasNumbers (rows : List Row) : Type 0 where
   pub cut : IsNumberUpTo 65536 (one_of (codes "cut") rows)
   pub sound : AreSound rows
 
-no_defaults : (rest : List Rule) (rows : List Row) → AllByRecursion (λ a. a.defaults ≡ []) rest
-    → fold with_default rows rest ≡ rows
-no_defaults [] rows none = refl
-no_defaults (a ∷ rest) rows none = no_defaults rest (with_default rows a) none.1
-    ∙ no_default a rows none.0
+-- the default of an argument keeps the rows sound
+abbrev pub DefaultKeeps : Rule → Type 0
+DefaultKeeps a = (rows : List Row) → AreSound rows → AreSound (with_default rows a)
 
-pub numbers_have_rows : (rest : List Rule) → AllByRecursion (λ a. a.defaults ≡ []) rest
+no_default_keeps : (a : Rule) → a.defaults ≡ [] → DefaultKeeps a
+no_default_keeps a none rows ok = subst AreSound (sym (no_default a rows none)) ok
+
+flag_default_keeps : DefaultKeeps exit_code_leaf
+flag_default_keeps rows ok = default_sound exit_code_leaf (codes "false") [] rows refl
+    (flag_sound DefaultValue (codes "false" ∷ [])) ok
+
+pub to_logs_defaults : AllByRecursion DefaultKeeps to_logs
+to_logs_defaults =
+    (no_default_keeps (logs_leaf 1) refl, (no_default_keeps (filled help_rule) refl, tt))
+
+pub to_first_defaults : AllByRecursion DefaultKeeps to_first
+to_first_defaults = (
+  no_default_keeps first_leaf refl,
+  (no_default_keeps (logs_leaf 2) refl, (no_default_keeps (filled help_rule) refl, tt)),
+)
+
+pub flag_to_logs_defaults : AllByRecursion DefaultKeeps flag_to_logs
+flag_to_logs_defaults = (flag_default_keeps, to_logs_defaults)
+
+pub flag_to_first_defaults : AllByRecursion DefaultKeeps flag_to_first
+flag_to_first_defaults = (flag_default_keeps, to_first_defaults)
+
+-- both numbers have rows, and the rows are sound
+record BothHaveRows (rows : List Row) : Type 0 where
+  workers : has_row (codes "workers") rows ≡ true
+  cut : has_row (codes "cut") rows ≡ true
+  sound : AreSound rows
+
+-- more defaults keep them
+defaults_keep : (rest : List Rule) (rows : List Row) → AllByRecursion DefaultKeeps rest
+    → BothHaveRows rows → BothHaveRows (fold with_default rows rest)
+defaults_keep [] rows keep h = h
+defaults_keep (a ∷ rest) rows keep h = defaults_keep rest (with_default rows a) keep.1 (record {
+  workers = default_keeps_row (codes "workers") a rows h.workers;
+  cut = default_keeps_row (codes "cut") a rows h.cut;
+  sound = keep.0 rows h.sound;
+})
+
+pub numbers_have_rows : (rest : List Rule) → AllByRecursion DefaultKeeps rest
     → (rows : List Row) → AreSound rows → HasNumbers (fold with_default rows (numbers_and rest))
-numbers_have_rows rest none rows ok =
+numbers_have_rows rest keep rows ok =
     let one = with_default rows workers_leaf in
     let two = with_default one cut_leaf in
     let one_sound = default_sound workers_leaf (codes "4") [] rows refl
@@ -185,11 +263,14 @@ numbers_have_rows rest none rows ok =
     let workers_has = default_keeps_row (codes "workers") cut_leaf one
     (default_has_row workers_leaf (codes "4") [] rows refl refl) in
     let cut_has = default_has_row cut_leaf (codes "256") [] one refl refl in
-    subst HasNumbers (sym (no_defaults rest two none)) (record {
-      workers = number_read (codes "workers") 64 two (λ r h e. h.0 e) two_sound workers_has;
-      cut = number_read (codes "cut") 65536 two (λ r h e. h.1 e) two_sound cut_has;
-      sound = two_sound;
-    })
+    let all = fold with_default two rest in
+    let end = defaults_keep rest two keep
+    (record { workers = workers_has; cut = cut_has; sound = two_sound }) in
+    record {
+      workers = number_read (codes "workers") 64 all (λ r h e. h.0 e) end.sound end.workers;
+      cut = number_read (codes "cut") 65536 all (λ r h e. h.1 e) end.sound end.cut;
+      sound = end.sound;
+    }
 
 required_given : (given : Bool) → cond (not given || false) (MissingRequiredArgument ∷ []) [] ≡ []
     → given ≡ true

@@ -11,6 +11,7 @@ use Rattle.epx_words.specs.SubcommandRows.{Given}
 
 pub asks_work : (given : Given) (asked : Words) → IsWorkOf given asked → IsWork asked
 asks_work given (words.Work task plan paths) h = tt
+asks_work given (words.WorkWithExitCode task plan paths) h = tt
 asks_work given (words.Text text status) h = h
 
 is_among : (kinds : Kinds) (kind : ErrorKind) → kind ≢ OutOfMemory
@@ -23,6 +24,7 @@ module _ (kinds : Kinds) (kind : ErrorKind) (not_memory : kind ≢ OutOfMemory)
   pub is_no_work : (asked : Words) → IsText (status_of_kind kind) asked
       → IsWork asked ↔ (kinds ≡ [])
   is_no_work (words.Work task plan paths) h = absurd h
+  is_no_work (words.WorkWithExitCode task plan paths) h = absurd h
   is_no_work (words.Text text status) h = (
     λ asks. absurd asks,
     λ none. absurd
@@ -32,10 +34,12 @@ module _ (kinds : Kinds) (kind : ErrorKind) (not_memory : kind ≢ OutOfMemory)
   pub has_exit_status : (asked : Words) → IsText (status_of_kind kind) asked
       → IfText (IsExitStatus kinds) asked
   has_exit_status (words.Work task plan paths) h = tt
+  has_exit_status (words.WorkWithExitCode task plan paths) h = tt
   has_exit_status (words.Text text status) h = (kind, is_among kinds kind not_memory has, h)
 
 pub is_refused : (kind : ErrorKind) (takes : Bool) (asked : Words) → kind ≢ OutOfMemory
     → (takes ≡ true → kind ≡ OutOfMemory) → IfText (λ status. takes ≡ false) asked
 is_refused kind takes (words.Work task plan paths) not_memory passes = tt
+is_refused kind takes (words.WorkWithExitCode task plan paths) not_memory passes = tt
 is_refused kind true (words.Text text status) not_memory passes = absurd (not_memory (passes refl))
 is_refused kind false (words.Text text status) not_memory passes = refl

@@ -1,9 +1,9 @@
 -- The program as clap knows it. Each subcommand has two options with numbers and any number of
--- logs. Two subcommands have a required argument before the logs.
+-- logs. Two subcommands have a required argument before the logs, and three have a flag.
 use Rattle.std.specs.Prelude.{ℕ, true, Some, [], ◌∷◌, codes}
 use Rattle.clap.specs.Simple.{on_top}
 use Rattle.clap.specs.Words.{App, Rule, Text, new_app, new_rule, with_rule, with_subcommand}
-use Rattle.clap.specs.declared.builder.action.ArgAction.TheVariants.{Append, Set}
+use Rattle.clap.specs.declared.builder.action.ArgAction.TheVariants.{Append, Set, SetTrue}
 use Rattle.clap.specs.declared.builder.value_parser.ValueParser.TheVariants.{Unsigned}
 
 -- an option for a whole number from 1 to `most`
@@ -28,6 +28,13 @@ first_rule = record (new_rule (codes "first")) {
   required = true;
 }
 
+-- the flag for an exit status that says whether something was found
+abbrev pub exit_code_rule : Rule
+exit_code_rule = record (new_rule (codes "exit-code")) {
+  long = Some (codes "exit-code");
+  action = Some SetTrue;
+}
+
 -- a subcommand with its two options
 abbrev pub numbers_app : Text → App
 numbers_app name =
@@ -38,9 +45,18 @@ numbers_app name =
 abbrev pub work_app : Text → App
 work_app name = with_rule (numbers_app name) logs_rule
 
--- a subcommand over a first argument and logs
-abbrev pub first_app : Text → App
-first_app name = with_rule (with_rule (numbers_app name) first_rule) logs_rule
+-- a subcommand over logs that can find something
+abbrev pub finding_app : Text → App
+finding_app name = with_rule (with_rule (numbers_app name) exit_code_rule) logs_rule
+
+-- a subcommand over a base and logs
+abbrev pub base_app : Text → App
+base_app name = with_rule (with_rule (numbers_app name) first_rule) logs_rule
+
+-- a subcommand over a list and logs, which can find something
+abbrev pub list_app : Text → App
+list_app name = with_rule (with_rule (with_rule (numbers_app name) exit_code_rule) first_rule)
+    logs_rule
 
 -- the program without its subcommands
 abbrev pub epx_top : App
@@ -58,5 +74,8 @@ runs_app =
 -- the program with all subcommands
 abbrev pub epx_app : App
 epx_app =
-    with_subcommand (with_subcommand (with_subcommand runs_app (first_app (codes "resume")).top)
-    (work_app (codes "audit")).top) (first_app (codes "check")).top
+    with_subcommand
+    (with_subcommand
+    (with_subcommand (with_subcommand runs_app (base_app (codes "resume")).top)
+    (finding_app (codes "audit")).top) (list_app (codes "check")).top)
+    (finding_app (codes "compare")).top

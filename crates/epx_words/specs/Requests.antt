@@ -1,5 +1,6 @@
 -- What a command line asks for.
-use Rattle.std.specs.Prelude.{◌≡◌, ⊤, ℕ, List, ◌∷◌, Option, Some, codes, map, option_map}
+use Rattle.std.specs.Prelude.{◌≡◌, ⊤, ℕ, Bool, true, false, List, ◌∷◌, Option, Some, codes, map}
+use Rattle.std.specs.Prelude.{option_map}
 use Rattle.std.specs.Prelude.{string_bytes}
 use Rattle.clap.specs.Words.{Row, Text}
 use Rattle.epx_types.specs.Pieces.{PlanNumbers}
@@ -7,8 +8,8 @@ use Rattle.epx_words.specs.declared.words.Task.{Task}
 use Rattle.epx_words.specs.declared.words.Task.TheVariants as task
 use Rattle.epx_words.specs.declared.words.Words.{Words}
 use Rattle.epx_words.specs.declared.words.Words.TheVariants as words
-use Rattle.epx_words.specs.SubcommandRows.{Given, IsCutOf, IsWorkersOf, first_in, logs_in, name_in}
-use Rattle.epx_words.specs.SubcommandRows.{rows_in}
+use Rattle.epx_words.specs.SubcommandRows.{Given, HasExitCode, IsCutOf, IsWorkersOf, first_in}
+use Rattle.epx_words.specs.SubcommandRows.{logs_in, name_in, rows_in}
 
 -- the name of the subcommand of a task
 abbrev pub task_name : Task → Text
@@ -19,6 +20,7 @@ task_name task.Graph = codes "graph"
 task_name task.Resume = codes "resume"
 task_name task.Audit = codes "audit"
 task_name task.Check = codes "check"
+task_name task.Compare = codes "compare"
 
 -- the path of the first argument, and then the paths of the logs
 abbrev pub AreFirstAndLogs : List Row → Option (List Text) → Type 0
@@ -35,16 +37,26 @@ ArePathsOf _ rows paths = paths ≡ Some (logs_in rows)
 abbrev pub IfWork : (Task → PlanNumbers → Option (List Text) → Type 0) → Words → Type 0
 IfWork P (words.Work task plan paths) =
     P task plan (option_map (λ list. map string_bytes list.items) paths)
+IfWork P (words.WorkWithExitCode task plan paths) =
+    P task plan (option_map (λ list. map string_bytes list.items) paths)
 IfWork P (words.Text text status) = ⊤
 
 -- the words ask for work
 abbrev pub IsWork : Words → Type 0
 IsWork (words.Work task plan paths) = ⊤
+IsWork (words.WorkWithExitCode task plan paths) = ⊤
 IsWork (words.Text text status) = ⊥
+
+-- the words ask for work and an exit status that says whether something was found
+abbrev pub has_exit_code : Words → Bool
+has_exit_code (words.Work task plan paths) = false
+has_exit_code (words.WorkWithExitCode task plan paths) = true
+has_exit_code (words.Text text status) = false
 
 -- if the words ask for a text, P holds of the status
 abbrev pub IfText : (ℕ → Type 0) → Words → Type 0
 IfText P (words.Work task plan paths) = ⊤
+IfText P (words.WorkWithExitCode task plan paths) = ⊤
 IfText P (words.Text text status) = P status
 
 -- this is the work that a subcommand asks for by its rows
@@ -59,9 +71,14 @@ pub record AsksFor (given : Given) (asked : Task) (cutting : PlanNumbers)
 abbrev pub IsWorkOf : Given → Words → Type 0
 IsWorkOf given (words.Work task plan paths) =
     AsksFor given task plan (option_map (λ list. map string_bytes list.items) paths)
+    × (¬ HasExitCode (rows_in given))
+IsWorkOf given (words.WorkWithExitCode task plan paths) =
+    AsksFor given task plan (option_map (λ list. map string_bytes list.items) paths)
+    × HasExitCode (rows_in given)
 IsWorkOf given (words.Text text status) = ⊥
 
 -- the words ask for a text with this status
 abbrev pub IsText : ℕ → Words → Type 0
 IsText n (words.Work task plan paths) = ⊥
+IsText n (words.WorkWithExitCode task plan paths) = ⊥
 IsText n (words.Text text status) = status ≡ n

@@ -1,4 +1,5 @@
--- The values in the rows of a subcommand: two numbers, the logs, and the argument before them.
+-- The values in the rows of a subcommand: two numbers, a flag, the logs, and the argument before
+-- them.
 use Rattle.std.specs.Prelude.{◌≡◌, ◌⊎◌, ℕ, List, [], Option, Some, None, codes, option_map}
 use Rattle.std.specs.Prelude.{unwrap_or}
 use Rattle.std.specs.Option.{IsSome, option_map_or}
@@ -38,6 +39,10 @@ logs_in rows = unwrap_or (all_of (codes "logs") rows) []
 abbrev pub first_in : List Row → Option Text
 first_in rows = first_of (codes "first") rows
 
+-- the flag `--exit-code` is there
+abbrev pub HasExitCode : List Row → Type 0
+HasExitCode rows = first_of (codes "exit-code") rows ≡ Some (codes "true")
+
 -- the text is a number from 1 to `most`
 abbrev pub IsNumberUpTo : ℕ → Option Text → Type 0
 IsNumberUpTo most None = ⊥
@@ -50,7 +55,8 @@ IsTaskName name =
     ⊎ ((name ≡ codes "order")
     ⊎ ((name ≡ codes "levels")
     ⊎ ((name ≡ codes "graph")
-    ⊎ ((name ≡ codes "resume") ⊎ ((name ≡ codes "audit") ⊎ (name ≡ codes "check"))))))
+    ⊎ ((name ≡ codes "resume")
+    ⊎ ((name ≡ codes "audit") ⊎ ((name ≡ codes "check") ⊎ (name ≡ codes "compare")))))))
 
 -- the name of a subcommand with an argument before the logs: a base, or a list
 abbrev pub NeedsFirst : Text → Type 0

@@ -1,8 +1,9 @@
 //! The program's command line, as a clap `Command`.
 ghost use Rattle.std.specs.Prelude.{◌≡◌, IfOk, codes};
 ghost use Rattle.clap.specs.Words.{app_of, new_app, rule_of};
-ghost use Rattle.epx_words.specs.App.{epx_app, epx_top, first_app, first_rule, logs_rule};
-ghost use Rattle.epx_words.specs.App.{number_rule, numbers_app, runs_app, work_app};
+ghost use Rattle.epx_words.specs.App.{base_app, epx_app, epx_top, exit_code_rule, finding_app};
+ghost use Rattle.epx_words.specs.App.{first_rule, list_app, logs_rule, number_rule, numbers_app};
+ghost use Rattle.epx_words.specs.App.{runs_app, work_app};
 
 use clap::builder::ValueParser;
 use clap::{Arg, ArgAction, Command};
@@ -154,6 +155,28 @@ Example:
   epx check executed.list examples/replicas/*.jsonl",
 };
 
+const COMPARE: Help = Help {
+    about: "Says what the logs say against each other",
+    long_about: "Says what the logs say against each other, and executes nothing: lines of JSON,
+with how many lines of each log commit an instance and how many are bad, the bad
+lines, the instances that lines commit differently, those that a log lacks, and
+the dependencies that no log commits. Bad lines and lines that differ are no
+faults here.",
+    after: "Example:
+  epx compare examples/replicas/*.jsonl",
+    long_after: "What comes out is a line for each of these, in this order:
+
+  [\"log\",L,lines,bad]      a log: its committed lines, and its bad ones
+  [\"bad\",L,N,\"WHY\"]        a bad line
+  [\"differs\",r,i,[..],..]  the members in which lines of an instance differ, and
+                           where the lines are that commit the same
+  [\"lacks\",L,r,from,to]    log L lacks these instances of replica r
+  [\"missing\",r,i,count]    no log commits it, and so many instances depend on it
+
+Example:
+  epx compare examples/replicas/*.jsonl",
+};
+
 /// An option whose value is a number from 1 to `most`.
 fn number_option<'a>(
     alloc: Global,
@@ -196,6 +219,16 @@ fn subcommand<'a>(alloc: Global, name: &'a str, help: Help) -> Result<Command<'a
     with_help(alloc, name, help).arg(workers)?.arg(cut)
 }
 
+/// The flag `--exit-code`.
+fn exit_code<'a>(alloc: Global) -> Arg<'a>
+    ensures { rule_of result ≡ exit_code_rule }
+{
+    Arg::new(alloc, "exit-code")
+        .long("exit-code")
+        .action(ArgAction::SetTrue)
+        .help("Exits with status 5 if something was found")
+}
+
 /// The argument LOG, which may occur any number of times.
 fn logs<'a>(alloc: Global) -> Arg<'a>
     ensures { rule_of result ≡ logs_rule }
@@ -224,17 +257,36 @@ fn logs_subcommand<'a>(alloc: Global, name: &'a str, help: Help) -> Result<Comma
     subcommand(alloc, name, help)?.arg(logs(alloc))
 }
 
-/// A subcommand whose arguments are BASE or LIST, and then logs.
-fn first_subcommand<'a>(
+/// A subcommand over logs that can find something.
+fn finding_subcommand<'a>(
     alloc: Global,
     name: &'a str,
     help: Help,
-    first: Arg<'a>,
 ) -> Result<Command<'a>, AllocError>
-    requires { rule_of first ≡ first_rule }
-    ensures { IfOk result (λ c. app_of c ≡ first_app name.entry.now) }
+    ensures { IfOk result (λ c. app_of c ≡ finding_app name.entry.now) }
 {
-    subcommand(alloc, name, help)?.arg(first)?.arg(logs(alloc))
+    subcommand(alloc, name, help)?
+        .arg(exit_code(alloc))?
+        .arg(logs(alloc))
+}
+
+/// The subcommand `resume`, whose arguments are BASE and logs.
+fn resume<'a>(alloc: Global) -> Result<Command<'a>, AllocError>
+    ensures { IfOk result (λ c. app_of c ≡ base_app (codes "resume")) }
+{
+    let base = first(alloc, "BASE", "The earlier report to go on from");
+    subcommand(alloc, "resume", RESUME)?
+        .arg(base)?
+        .arg(logs(alloc))
+}
+
+/// The subcommand `check`, whose arguments are LIST and logs.
+fn check<'a>(alloc: Global) -> Result<Command<'a>, AllocError>
+    ensures { IfOk result (λ c. app_of c ≡ list_app (codes "check")) }
+{
+    let list = first(alloc, "LIST", "The list to check");
+    let check = subcommand(alloc, "check", CHECK)?.arg(exit_code(alloc))?;
+    check.arg(list)?.arg(logs(alloc))
 }
 
 /// The program without its subcommands. Its usage line has the subcommand as optional: `epx` with
@@ -269,13 +321,13 @@ fn with_runs<'a>(alloc: Global) -> Result<Command<'a>, AllocError>
 pub(crate) fn command<'a>(alloc: Global) -> Result<Command<'a>, AllocError>
     ensures { IfOk result (λ c. app_of c ≡ epx_app) }
 {
-    let base = first(alloc, "BASE", "The earlier report to go on from");
-    let resume = first_subcommand(alloc, "resume", RESUME, base)?;
-    let audit = logs_subcommand(alloc, "audit", AUDIT)?;
-    let list = first(alloc, "LIST", "The list to check");
-    let check = first_subcommand(alloc, "check", CHECK, list)?;
+    let resume = resume(alloc)?;
+    let audit = finding_subcommand(alloc, "audit", AUDIT)?;
+    let check = check(alloc)?;
+    let compare = finding_subcommand(alloc, "compare", COMPARE)?;
     with_runs(alloc)?
         .subcommand(resume)?
         .subcommand(audit)?
-        .subcommand(check)
+        .subcommand(check)?
+        .subcommand(compare)
 }

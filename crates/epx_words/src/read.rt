@@ -6,10 +6,11 @@ ghost use Rattle.clap.specs.Words.{fault_of, found_of, kind_of, one_of, rows_of,
 ghost use Rattle.clap.specs.Words.{subcommand_rows_of, takes};
 ghost use Rattle.epx_words.specs.App.{epx_app};
 ghost use Rattle.epx_words.specs.Requests.{AreFirstAndLogs, ArePathsOf, IsWork, IfText, IfWork};
-ghost use Rattle.epx_words.specs.Requests.{IsText, IsWorkOf, task_name};
+ghost use Rattle.epx_words.specs.Requests.{IsText, IsWorkOf, has_exit_code, task_name};
 ghost use Rattle.epx_words.specs.ExitStatus.{IsExitStatus, status_of_kind};
 ghost use Rattle.epx_words.specs.SubcommandRows.{IsCutOf, IsNumberUpTo, IsTaskName, IsWorkersOf};
-ghost use Rattle.epx_words.specs.SubcommandRows.{AsksForWork, NeedsFirst, first_in, logs_in};
+ghost use Rattle.epx_words.specs.SubcommandRows.{AsksForWork, HasExitCode, NeedsFirst, first_in};
+ghost use Rattle.epx_words.specs.SubcommandRows.{logs_in};
 ghost use Rattle.epx_words.specs.SubcommandRows.{name_in, rows_in};
 
 use crate::commands::command;
@@ -61,7 +62,7 @@ fn paths_of(alloc: Global, task: Task, matches: &ArgMatches<'_>) -> Result<Vec<S
 {
     match task {
         Task::Resume | Task::Check => first_and_logs(alloc, matches),
-        Task::Run | Task::Order | Task::Levels | Task::Graph | Task::Audit => {
+        Task::Run | Task::Order | Task::Levels | Task::Graph | Task::Audit | Task::Compare => {
             logs_of(alloc, matches)
         },
     }
@@ -96,8 +97,20 @@ fn task_of(name: &str) -> Task
         Task::Audit
     } else if name == "check" {
         Task::Check
+    } else if name == "compare" {
+        Task::Compare
     } else {
         Task::Run
+    }
+}
+
+/// Whether the flag `--exit-code` is there. Subcommands that have no such flag never have it.
+fn has_exit_code(matches: &ArgMatches<'_>) -> bool
+    ensures { (result ≡ true) ↔ HasExitCode (rows_of (found_of matches.now)) }
+{
+    match matches.get_str("exit-code") {
+        Some(value) => value == "true",
+        None => false,
     }
 }
 
@@ -110,11 +123,12 @@ fn work_of(alloc: Global, matches: &ArgMatches<'_>) -> Result<Words, AllocError>
         unreachable!();
     };
     let task = task_of(name);
-    Ok(Words::Work {
-        task,
-        plan: plan_of(given),
-        paths: Some(paths_of(alloc, task, given)?),
-    })
+    let plan = plan_of(given);
+    let paths = Some(paths_of(alloc, task, given)?);
+    if has_exit_code(given) {
+        return Ok(Words::WorkWithExitCode { task, plan, paths });
+    }
+    Ok(Words::Work { task, plan, paths })
 }
 
 /// The exit status after the text of an error of this kind.
@@ -153,7 +167,7 @@ fn text_of(alloc: Global, error: &Error) -> Result<Words, Memory>
 ///
 /// The result is `Work` exactly if clap finds no fault, or there is no second word: then it is
 /// `Run` with 4 workers, 256 items a piece and no paths. Otherwise it is `Text`. The one error is
-/// running out of memory.
+/// running out of memory. With `--exit-code` the work is `WorkWithExitCode`.
 pub fn read_words(alloc: Global, words: &[&str]) -> Result<Words, Memory>
     ensures bare { length words.now ≤ 1
         → IfOk result (λ asked. asked ≡ Words.Work Task.Run (record { workers = 4; cut = 256 })
@@ -170,6 +184,10 @@ pub fn read_words(alloc: Global, words: &[&str]) -> Result<Words, Memory>
     ensures paths { let given = subcommand_of epx_app (map (λ w. w.now) words.now) in
         2 ≤ length words.now
         → IfOk result (IfWork (λ task plan paths. ArePathsOf task (rows_in given) paths)) }
+    ensures exit_code { let given = subcommand_of epx_app (map (λ w. w.now) words.now) in
+        2 ≤ length words.now
+        → IfOk result (λ asked. IsWork asked
+        → (has_exit_code asked ≡ true) ↔ HasExitCode (rows_in given)) }
     ensures taken { 2 ≤ length words.now → IfOk result (λ asked.
         IsWork asked ↔ (fault_of epx_app (map (λ w. w.now) words.now) ≡ [])) }
     ensures refused { 2 ≤ length words.now → IfOk result (IfText (λ status.

@@ -19,6 +19,8 @@ pub enum Task {
     Audit,
     /// Say whether a list of instances is a lawful order.
     Check,
+    /// Say what the logs say against each other.
+    Compare,
 }
 
 /// What a command line means: work to do, or a text to print.
@@ -27,6 +29,12 @@ pub enum Words {
     /// A task over the logs at these paths. For `Resume` the first path is that of the base, and
     /// for `Check` that of the list. `None` means one log, standard input.
     Work {
+        task: Task,
+        plan: Plan,
+        paths: Option<Vec<String>>,
+    },
+    /// As `Work`, for words with `--exit-code`: status 5 says that the answer has findings.
+    WorkWithExitCode {
         task: Task,
         plan: Plan,
         paths: Option<Vec<String>>,

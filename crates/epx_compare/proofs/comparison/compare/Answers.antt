@@ -15,7 +15,8 @@ use Rattle.epx_compare.proofs.comparison.compare.Goals as goal
 as_many : (logs : List (Vec ℕ Global)) → length (bytes_of logs) ≡ length logs
 as_many logs = length-map logs (λ log. log.items)
 
-pub returns-then-ids-gt-MAX_INSTANCES-clause-answer : goal.returns-then-ids-gt-MAX_INSTANCES-clause-answer
+pub returns-then-ids-gt-MAX_INSTANCES-clause-answer :
+    goal.returns-then-ids-gt-MAX_INSTANCES-clause-answer
 returns-then-ids-gt-MAX_INSTANCES-clause-answer g c =
     let bytes = bytes_of c.args.logs.now in
     let same = as_many c.args.logs.now in

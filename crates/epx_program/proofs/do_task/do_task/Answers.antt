@@ -1,5 +1,5 @@
 use Rattle.std.proofs.Common.{◌≡◌, ◌∙◌, ◌∷◌, [], ap, length, map, subst, sym}
-use Rattle.std.specs.Prelude.{OnOk, string_bytes}
+use Rattle.std.specs.Prelude.{IfOk, string_bytes}
 use Rattle.std.proofs.lemmas.List.{length-map}
 use Rattle.epx_devices.specs.declared.either_source.EitherSource.TheVariants.{First, Second}
 use Rattle.epx_program.proofs.FailedInputLemmas.{alone, input_failed}
@@ -17,8 +17,8 @@ returns-clause-answered g c =
     in
     let old = g.W.Sink.contents c.args.output.now in
     let new = g.W.Sink.contents c.answer-2.new.output in
-    rw c.in-Some.is (subst (λ n. OnOk c.answer-2.result (AddsAnswer c.args.task n old new)) count
-    c.answer-2.ensures.answered)
+    rw c.in-Some.is (subst (λ n. IfOk c.answer-2.result
+    (λ found. AddsAnswer c.args.task found n old new)) count c.answer-2.ensures.answered)
 
 pub returns-clause-part : goal.returns-clause-part
 returns-clause-part g c =

@@ -1,7 +1,7 @@
 use Rattle.std.proofs.Common.{inl, inr, refl}
 use Rattle.epx_types.specs.declared.fault.Fault.TheVariants.{Memory}
 use Rattle.epx_program.proofs.WordLemmas.{ends_as_asked}
-use Rattle.epx_program.proofs.StatusLemmas.{of-words, work_status}
+use Rattle.epx_program.proofs.StatusLemmas.{found_by_work, of-words, work_status}
 use Rattle.epx_program.proofs.program.start.Goals as goal
 use Rattle.epx_program.proofs.program.start.Goals.{in-Ok, in-Err}
 
@@ -13,6 +13,21 @@ returns-clause-status g c = rw c.from.ensures (elim c.match-read_args.branch [
       rw w.status-is (of-words _ _ words _ w.in-Ok.ensures.status
       (work_status _ _ _ _ _ _ words said.do_task) said.text said.refused)
   | in-Err w ↦ rw (w.status-is, w.report_fault-status.ensures) (inl (inr (Memory, refl)))
+])
+
+pub returns-clause-flushed : goal.returns-clause-flushed
+returns-clause-flushed g c = rw c.from.ensures (elim c.match-read_args.branch [
+  | in-Ok w ↦
+      let said = w.execute_words-status.ensures in
+      rw (w.status-is, w.output-is) (λ well. elim well [
+        | inl zero ↦ said.flushed zero
+        | inr five ↦ found_by_work _ _ _ w.in-Ok.words _ w.in-Ok.ensures.status said.found said.text
+            said.refused five
+      ])
+  | in-Err w ↦ rw (w.status-is, w.report_fault-status.ensures) (λ well. elim well [
+    | inl zero ↦ absurd (cc zero)
+    | inr five ↦ absurd (cc five)
+  ])
 ])
 
 pub returns-clause-read_args : goal.returns-clause-read_args

@@ -1,19 +1,15 @@
-use Rattle.std.proofs.Common.{◌+◌, Ok, length, inl, inr, subst, arith}
-use Rattle.std.proofs.lemmas.Result.{on_ok_weaker}
-use Rattle.std.specs.Io.KnownBytes.{Appends}
+use Rattle.std.proofs.Common.{◌+◌, length, inl, inr, subst, arith}
 use Rattle.epx_types.specs.declared.fault.Fault.TheVariants.{Write}
-use Rattle.epx_devices.specs.Transfers.{AppendsPrefix}
 use Rattle.epx_merge.specs.LogLines.{bytes_of}
-use Rattle.epx_tool.specs.Questions.{IsBadInput, IsInputAnswer, IsTextWith}
+use Rattle.epx_tool.specs.Questions.{IsBadInput, IsTextWith}
 use Rattle.epx_tool.specs.RunsWithInput.{IsRunFaultWithInput}
-use Rattle.epx_tool.proofs.KnownTextLemmas.{known_answer}
 use Rattle.epx_tool.proofs.LogsWithInputLemmas.{run_fault_of_reading}
-use Rattle.epx_tool.proofs.ReturnedFaultLemmas.{same_error, HasRead-written}
+use Rattle.epx_tool.proofs.ReturnedFaultLemmas.{same_error}
 use Rattle.epx_tool.proofs.ReturnedFaultLemmas.{HasRead-refused_with_input}
 use Rattle.epx_tool.proofs.ReturnedFaultLemmas.{refusal_with_input_not_write}
 use Rattle.epx_tool.proofs.ReturnedFaultLemmas.{run_fault_of_refusal_with_input}
 use Rattle.epx_tool.proofs.RunEndingLemmas.{leaves_again, leaves_after, input_again, input_after}
-use Rattle.epx_tool.proofs.RunEndingLemmas.{writes_nothing, writes_text}
+use Rattle.epx_tool.proofs.RunEndingLemmas.{writes_nothing}
 use Rattle.epx_tool.proofs.input_runs.run_with_input.Goals as goal
 
 pub returns-in-Err : goal.returns-in-Err
@@ -56,37 +52,6 @@ returns-in-Err-answer_owned g c =
             delivered = read.delivered;
             refusal = refused;
           }));
-      sources = leaves_after _ _ _ _ n _ _ (omega arith) has read.sources_left;
-      input = input_after _ _ _ _ _ n _ _ (omega arith) has read.input_left;
-    }
-
-pub returns : goal.returns
-returns g c =
-    let done = c.write_out.result in
-    let out = c.write_out.ensures in
-    let input = c.in-Ok.read.0.items in
-    let logs = bytes_of c.in-Ok.read.1.items in
-    let read = c.in-Ok.ensures in
-    let text = c.in-Ok-answer_owned.answer.items in
-    let answer = c.in-Ok-answer_owned.ensures in
-    let n = length c.args.sources.now + 1 in
-    let has = HasRead-written n done out.faults in record {
-      sink = writes_text _ _ _ _ _ _ _ _ _ text done
-          (λ P known given others has_input are. known (given, others)
-          (known_answer (IsInputAnswer c.args.question) input given logs others (Ok text)
-          (read.text given has_input) (read.bytes others are) answer))
-          (λ Written written. record {
-            input = input;
-            logs = logs;
-            delivered = read.delivered;
-            text = text;
-            answer = answer;
-            written = written;
-          }) (λ given answered. (text, answered))
-          (on_ok_weaker done (λ written. subst (Appends _ _) c.deref.ensures.value written)
-          out.bytes)
-          out.flushed out.faults out.failed
-          (subst (AppendsPrefix _ _) c.deref.ensures.value out.prefix);
       sources = leaves_after _ _ _ _ n _ _ (omega arith) has read.sources_left;
       input = input_after _ _ _ _ _ n _ _ (omega arith) has read.input_left;
     }

@@ -1,11 +1,18 @@
-use Rattle.std.proofs.Common.{IfOk, sym, subst}
+use Rattle.std.proofs.Common.{[], IfOk, sym, subst}
+use Rattle.std.proofs.lemmas.Result.{IfOk-weaker}
+use Rattle.epx_types.specs.Contents.{Contents}
 use Rattle.epx_tool.specs.MapTexts.{IsMapText}
+use Rattle.epx_tool.specs.ResumedReport.{IsReportAfter}
+use Rattle.epx_tool.proofs.ReportLemmas.{IsReport-after_nothing}
 use Rattle.epx_tool.proofs.map_texts.text_of.Goals as goal
 
 pub returns-in-Report : goal.returns-in-Report
 returns-in-Report g c =
-    subst (λ kind. IfOk c.whole_report.result (λ text. IsMapText kind c.args.merged text.items))
-    (sym c.in-Report.is) c.whole_report.ensures
+    subst (λ kind. IfOk c.report_of.result (λ text. IsMapText kind c.args.merged text.items))
+    (sym c.in-Report.is) (IfOk-weaker c.report_of.result _ _ (λ text is.
+    IsReport-after_nothing c.args.merged text.items
+    (subst (λ (s : Contents). IsReportAfter [] s c.args.merged text.items) c.new.ensures is))
+    c.report_of.ensures)
 
 pub returns-in-Order : goal.returns-in-Order
 returns-in-Order g c =

@@ -1,6 +1,29 @@
-use Rattle.epx_tool.proofs.AcceptedLogLemmas.{accepted_are_few}
+use Rattle.std.proofs.Common.{◌∙◌, Option, Ok, Err, MatchResult, sym}
+use Rattle.std.proofs.Common.{subst}
+use Rattle.epx_tool.specs.Findings.{AnswersFindingBy}
+use Rattle.epx_tool.specs.Questions.{AnswersBy}
+use Rattle.epx_tool.specs.inner.SourceReadings.{EndsMaking}
+use Rattle.epx_tool.specs.declared.question.MapText.{MapText}
 use Rattle.epx_tool.proofs.runs.answer_sources.Goals as goal
 
-pub text_of-requires-clause-few : goal.text_of-requires-clause-few
-text_of-requires-clause-few g c κs within =
-    let h = c.in-Ok.ensures in accepted_are_few h.0 c.in-Ok.merged h.2
+pub returns-in-Some : goal.returns-in-Some
+returns-in-Some g c =
+    let S = g.S.Source in
+    subst (λ (answered : Option MapText). MatchResult c.answer_merged.result
+    (λ a. EndsMaking S.remaining S.reads S.fails S.has_failed
+    (AnswersFindingBy answered a.has_findings) c.args.sources.now c.answer_merged.new.sources
+    (Ok a.text.items))
+    (λ fault. EndsMaking S.remaining S.reads S.fails S.has_failed (AnswersBy answered)
+    c.args.sources.now c.answer_merged.new.sources (Err fault)))
+    (sym c.in-Some.is ∙ c.map_text.ensures) c.answer_merged.ensures
+
+pub returns-in-None : goal.returns-in-None
+returns-in-None g c =
+    let S = g.S.Source in
+    subst (λ (answered : Option MapText). MatchResult c.compare_sources.result
+    (λ a. EndsMaking S.remaining S.reads S.fails S.has_failed
+    (AnswersFindingBy answered a.has_findings) c.args.sources.now c.compare_sources.new.sources
+    (Ok a.text.items))
+    (λ fault. EndsMaking S.remaining S.reads S.fails S.has_failed (AnswersBy answered)
+    c.args.sources.now c.compare_sources.new.sources (Err fault)))
+    (sym c.in-None.is ∙ c.map_text.ensures) c.compare_sources.ensures

@@ -1,0 +1,38 @@
+use Rattle.std.proofs.Common.{◌≡◌, true, ◌∷◌, [], ap, ◌∙◌}
+use Rattle.epx_program.specs.Endings.{status_of}
+use Rattle.epx_program.proofs.StatusLemmas.{failed_device, ends-as-done, flushed_by_work, is_status}
+use Rattle.epx_program.proofs.StatusLemmas.{of_done, unchanged_by_work}
+use Rattle.epx_program.proofs.program.do_work.Goals as goal
+
+pub returns-clause-do_task : goal.returns-clause-do_task
+returns-clause-do_task g c =
+    let exit_code = c.args.exit_code in
+    let done = c.do_task-done.result in
+    let do_task = c.do_task-done.ensures in
+    let ended = c.report_task.ensures in
+    let failed = g.W.Sink.has_failed c.do_task-done.new.output in
+    record {
+      ends = is_status exit_code done _ ended;
+      over_input = λ bytes alone known. rw ended
+          (ends-as-done exit_code c.args.task (bytes ∷ []) done _ _
+          (do_task.input bytes alone known));
+      answered = of_done exit_code done _ ended do_task.answered;
+      part = λ bad. do_task.part (do_task.written.1 bad);
+      broken = λ alone. failed_device {P = failed ≡ true} exit_code done _ ended
+          do_task.written.0 (λ log unread. do_task.unread log unread alone);
+    }
+
+pub returns-clause-nothing : goal.returns-clause-nothing
+returns-clause-nothing g c =
+    unchanged_by_work c.args.exit_code c.do_task-done.result _
+    (g.W.Sink.has_failed c.do_task-done.new.output) _ _ c.report_task.ensures
+    c.do_task-done.ensures.nothing c.do_task-done.ensures.written
+
+pub returns-clause-flushed : goal.returns-clause-flushed
+returns-clause-flushed g c =
+    flushed_by_work c.args.exit_code c.do_task-done.result _ _ c.report_task.ensures
+    c.do_task-done.ensures.flushed
+
+pub returns-clause-failed : goal.returns-clause-failed
+returns-clause-failed g c = λ bad.
+    c.report_task.ensures ∙ ap (status_of c.args.exit_code) (c.do_task-done.ensures.written.1 bad)

@@ -1,0 +1,70 @@
+-- Runs that say what their answer finds, without it.
+use Rattle.std.proofs.Common.{ℕ, Bool, List, Option, Ok}
+use Rattle.epx_devices.specs.Deliveries.{FailRelation, ReadRelation}
+use Rattle.epx_tool.specs.Findings.{AnswersFindingBy, IsFindingWith}
+use Rattle.epx_tool.specs.Questions.{AnswersBy, IsBadInput, IsTextWith}
+use Rattle.epx_tool.specs.RunEndings.{EndsRun, EndsRunWithInput}
+use Rattle.epx_tool.specs.WithInput.{AnswersWithInput}
+use Rattle.epx_tool.specs.inner.SourceReadings.{EndsMaking}
+use Rattle.epx_tool.specs.declared.question.InputQuestion.{InputQuestion}
+use Rattle.epx_tool.specs.declared.question.MapText.{MapText}
+use Rattle.epx_tool.proofs.RunEndingLemmas.{writes_weaker}
+
+module _ {S : Type 0} (remaining : S → Option (List ℕ)) (reads : ReadRelation S)
+    (fails : FailRelation S) (has_failed : S → Bool) where
+  module _ (answered : Option MapText) (found : Bool) (old new : List S) where
+    pub making_plain : (text : List ℕ)
+        → EndsMaking remaining reads fails has_failed (AnswersFindingBy answered found) old new
+        (Ok text)
+        → EndsMaking remaining reads fails has_failed (AnswersBy answered) old new (Ok text)
+    making_plain text h = (h.0, h.1, h.2.0)
+
+    pub run_plain : (was now : Option (List ℕ)) (is_flushed sink_failed : Bool)
+        → EndsRun remaining reads fails has_failed (AnswersFindingBy answered found) old new was now
+        is_flushed sink_failed (Ok tt)
+        → EndsRun remaining reads fails has_failed (AnswersBy answered) old new was now is_flushed
+        sink_failed (Ok tt)
+    run_plain was now is_flushed sink_failed run = record {
+      sink = writes_weaker _ _ _ _ _ _ _ _ _ was now is_flushed sink_failed
+          (λ P Q f h logs are. f logs (h logs are)) (λ logs text answer. answer.0)
+          (λ h. record {
+            logs = h.logs;
+            delivered = h.delivered;
+            text = h.text;
+            answer = h.answer.0;
+            written = h.written;
+          }) run.sink;
+      sources = run.sources;
+    }
+
+  module _ {I : Type 0} (input_remaining : I → Option (List ℕ)) (input_reads : ReadRelation I)
+      (input_fails : FailRelation I) (input_failed : I → Bool) (question : InputQuestion)
+      (found : Bool) where
+    text_plain : (input : List ℕ) (logs : List (List ℕ)) (text : List ℕ)
+        → AnswersWithInput (IsBadInput question) (IsFindingWith question found) input logs (Ok text)
+        → AnswersWithInput (IsBadInput question) (IsTextWith question) input logs (Ok text)
+    text_plain input logs text h = (h.0, (h.1.0, h.1.1, h.1.2.0))
+
+    pub input_run_plain : (first last : I) (old new : List S) (was now : Option (List ℕ))
+        (is_flushed sink_failed : Bool)
+        → EndsRunWithInput input_remaining input_reads input_fails input_failed remaining reads
+        fails has_failed (IsBadInput question) (IsFindingWith question found) first last old new was
+        now is_flushed sink_failed (Ok tt)
+        → EndsRunWithInput input_remaining input_reads input_fails input_failed remaining reads
+        fails has_failed (IsBadInput question) (IsTextWith question) first last old new was now
+        is_flushed sink_failed (Ok tt)
+    input_run_plain first last old new was now is_flushed sink_failed run = record {
+      sink = writes_weaker _ _ _ _ _ _ _ _ _ was now is_flushed sink_failed
+          (λ P Q f h input logs is are. f (input, logs) (h input logs is are))
+          (λ given text. text_plain given.0 given.1 text)
+          (λ h. record {
+            input = h.input;
+            logs = h.logs;
+            delivered = h.delivered;
+            text = h.text;
+            answer = text_plain h.input h.logs h.text h.answer;
+            written = h.written;
+          }) run.sink;
+      sources = run.sources;
+      input = run.input;
+    }

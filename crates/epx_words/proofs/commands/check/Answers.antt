@@ -1,0 +1,18 @@
+use Rattle.std.proofs.Common.{codes, refl}
+use Rattle.std.proofs.lemmas.Result.{IfOk-weaker}
+use Rattle.clap.specs.Words.{with_rule}
+use Rattle.epx_words.specs.App.{exit_code_rule, first_rule, logs_rule, numbers_app}
+use Rattle.epx_words.proofs.CommandLemmas.{with_argument}
+use Rattle.epx_words.proofs.commands.check.Goals as goal
+
+pub returns : goal.returns
+returns c =
+    let start = numbers_app (codes "check") in
+    let flagged = with_rule start exit_code_rule in
+    let one = with_argument c.in_ok-subcommand.field-0 c.in_ok-check.check c.exit_code.result start
+    exit_code_rule c.in_ok-check.ensures c.in_ok-subcommand.ensures c.exit_code.ensures refl in
+    let two = with_argument c.in_ok-check.check c.in_ok-arg.field-0 c.first-list.result flagged
+    first_rule c.in_ok-arg.ensures one c.first-list.ensures refl in
+    IfOk-weaker c.arg-3.result _ _
+    (λ made added. with_argument c.in_ok-arg.field-0 made c.logs.result
+    (with_rule flagged first_rule) logs_rule added two c.logs.ensures refl) c.arg-3.ensures
