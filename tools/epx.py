@@ -111,6 +111,11 @@ def check(instances, logs, workers=4):
     return None if row == ["lawful"] else tuple(row)
 
 
+def compare(logs, workers=4):
+    """What the logs say against each other, as the rows of the answer."""
+    return [tuple(json.loads(line)) for line in ask("compare", [], logs, workers).splitlines()]
+
+
 def read_report(text):
     """A report from its text."""
     rows = [json.loads(line) for line in text.splitlines()]
@@ -163,6 +168,8 @@ def test():
     assert audit(logs) is None and check([one.id for one in order(logs)], logs) is None
     assert check([], logs)[0] == "missing"
     assert audit([examples / "unrelated.jsonl"]) is not None
+    kinds = [row[0] for row in compare(sorted(examples.glob("corrupted/*.jsonl")))]
+    assert kinds == ["log"] * 5 + ["bad", "differs"] + ["lacks"] * 4 + ["missing"]
     halves = [examples / "halves/first.jsonl", examples / "halves/second.jsonl"]
     assert resume(report(halves[:1]), halves[1:]).store == found.store
     try:
