@@ -1,10 +1,8 @@
 -- A ledger as the hash maps hold it: what a look-up finds.
-use Rattle.std.proofs.Common.{◌≡◌, ◌≢◌, inl, inr, ℕ, Bool, true, false, not, List, [], ◌∷◌, ◌++◌}
+use Rattle.std.proofs.Common.{◌≡◌, ◌≢◌, inl, inr, ℕ, Bool, true, false, List, [], ◌∷◌, ◌++◌}
 use Rattle.std.proofs.Common.{map, get_or, slice_get, Contains, Option, None, Some, is_some, refl}
-use Rattle.std.proofs.Common.{sym, ap, subst, subst₂, ◌∙◌, arith}
+use Rattle.std.proofs.Common.{sym, ap, subst, subst₂, ◌∙◌}
 use Rattle.std.specs.Map.{lookup}
-use Rattle.std.specs.List.{list_any}
-use Rattle.indexmap.specs.IndexSet.{insert_key}
 use Rattle.std.proofs.lemmas.Bool.{cases_Bool}
 use Rattle.std.proofs.lemmas.List.{map-append}
 use Rattle.std.proofs.lemmas.Option.{get_or_from_slice_get}
@@ -75,37 +73,15 @@ pub is_none : {V : Type 0} (o : Option V) → is_some o ≡ false → o ≡ None
 is_none None e = refl
 is_none (Some v) e = absurd (cc e)
 
--- an Id that no test finds was not noted
-unseen : (x : Id) (names : List Id) → list_any (same_id x) names ≡ false → ¬ Contains names x
-unseen x [] e h = Contains-nil x h
-unseen x (y ∷ names) e h =
-    elim (cases_Bool (same_id x y)) [
-      | inl same ↦ (let found : true ≡ false = rw same at e in cc)
-      | inr other ↦ elim (Contains-cons_cases y names x h) [
-        | inl first ↦ (let tied = (ids_decide x y).1 (sym first) in cc)
-        | inr rest ↦ unseen x names (rw other at e) rest
-      ]
-    ]
-
--- an Id that is there is not inserted
-same_names : (x : Id) (names : List Id) → not (list_any (same_id x) names) ≡ false
-    → insert_key same_id names x ≡ names
-same_names x names old = let there : list_any (same_id x) names ≡ true = grind (arith, old) in
-    rw there refl
-
--- the line at the index of a known Id has that Id
-pub known_line : (lines : List Placed) (names after : List Id) (x y : Id) (index : ℕ)
-    → names ≡ map (λ p. p.instance.id) lines → not (list_any (same_id x) names) ≡ false
-    → after ≡ insert_key same_id names x → slice_get after index ≡ Some y → same_id x y ≡ true
+-- the line at the position of an Id has that Id
+pub known_line : (lines : List Placed) (x : Id) (index : ℕ)
+    → slice_get (map (λ p. p.instance.id) lines) index ≡ Some x
     → (first : Placed) × (slice_get (with_ids lines) index ≡ Some (x, first))
-known_line lines names after x y index names_are old same_after at same =
-    let p = slice_get-from_map (λ (q : Placed). q.instance.id) lines index y
-    (sym (ap (λ (l : List Id). slice_get l index)
-    (same_after ∙ same_names x names old ∙ names_are)) ∙ at) in
-    let id : p.0.instance.id ≡ x = p.2 ∙ sym ((ids_decide x y).0 same) in (
+known_line lines x index at =
+    let p = slice_get-from_map (λ (q : Placed). q.instance.id) lines index x at in (
       p.0,
       slice_get-map (λ (q : Placed). (q.instance.id, q)) lines index p.0 p.1
-          ∙ ap (λ (z : Id). Some (z, p.0)) id,
+          ∙ ap (λ (z : Id). Some (z, p.0)) p.2,
     )
 
 -- the line that is read at an index with an Id
@@ -131,20 +107,17 @@ module _ (lines : List Placed) (disagreements : List (Id × Disagreement)) (line
   noted = record { firsts = with_ids lines; disagreements = disagreements }
 
   -- the first line of an instance is appended
-  pub noted_first : (after : List Placed) (names : List Id)
-      → names ≡ map (λ p. p.instance.id) lines → not (list_any (same_id x) names) ≡ true
+  pub noted_first : (after : List Placed) → ¬ Contains (map (λ p. p.instance.id) lines) x
       → after ≡ lines ++ line ∷ [] → NotesLines (line ∷ []) noted
       (record { firsts = with_ids after; disagreements = disagreements })
-  noted_first after names names_are new is =
+  noted_first after none is =
       let end : with_ids after ≡ with_ids lines ++ (line.instance.id, line) ∷ [] =
       ap with_ids is ∙ map-append (λ (p : Placed). (p.instance.id, p)) lines (line ∷ []) in
-      let none = unseen x names (let fresh : list_any (same_id x) names ≡ false =
-      grind (arith, new) in fresh) in
       subst (λ (firsts : List (Id × Placed)). NotesLines (line ∷ []) noted
       (record { firsts = firsts; disagreements = disagreements })) (sym end)
       (NotesLines-new noted line
       (subst₂ (λ (names : List Id) (y : Id). ¬ Contains names y)
-      (names_are ∙ sym (names_under lines)) named none))
+      (sym (names_under lines)) named none))
 
   module _ (first : Placed) (known : Contains (with_ids lines) (line.instance.id, first)) where
     -- a line equal to the first line of its instance

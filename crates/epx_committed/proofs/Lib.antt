@@ -1,6 +1,7 @@
 mod EqualityLemmas
 mod FirstWhereLemmas
 pub mod LedgerLemmas
+mod LineIndexLemmas
 mod LedgerMapLemmas
 mod SortedKeyLemmas
 mod LedgerCloseLemmas

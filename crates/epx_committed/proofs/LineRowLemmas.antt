@@ -1,15 +1,17 @@
 -- Rows name lines: the same lines in another order.
-use Rattle.std.proofs.Common.{◌≡◌, inl, inr, ℕ, ◌+◌, ◌<◌, ◌≤◌, List, [], ◌∷◌, ◌++◌, map}
+use Rattle.std.proofs.Common.{◌≡◌, ◌≢◌, AllPairs, inl, inr, ℕ, ◌+◌, ◌<◌, ◌≤◌, List, [], ◌∷◌, ◌++◌, map}
 use Rattle.std.proofs.Common.{length, get_or, Contains, Some, slice_get, IsPermutation, refl}
 use Rattle.std.proofs.Common.{sym, ap, subst, subst₂, ◌∙◌, append_assoc, arith}
 use Rattle.std.specs.List.{IsDistinct}
 use Rattle.std.specs.List.Sorted.{IsSorted}
 use Rattle.std.proofs.lemmas.Bool.Decides.{nat_tests}
-use Rattle.std.proofs.lemmas.List.{length-append, length_push, get_or_push, get_or_append_left}
+use Rattle.std.proofs.lemmas.List.{length-append, length-map, length_push, get_or_push}
+use Rattle.std.proofs.lemmas.List.{get_or_append_left}
 use Rattle.std.proofs.lemmas.List.Elements.{All-weaker, All-contains_itself}
 use Rattle.std.proofs.lemmas.List.Sorted.{Contains-permutation, IsPermutation-sym}
 use Rattle.std.proofs.lemmas.List.Sorted.{IsPermutation-map, length_permutation}
 use Rattle.std.proofs.lemmas.Map.Keys.{IsDistinct-IsPermutation}
+use Rattle.std.proofs.lemmas.Map.Made.{IsDistinct-from_AllPairs}
 use Rattle.std.proofs.lemmas.Option.{slice_get-get_or, get_or_from_slice_get}
 use Rattle.epx_types.specs.declared.id.Id.{Id}
 use Rattle.epx_types.specs.Ids.{id_cmp}
@@ -18,6 +20,7 @@ use Rattle.epx_types.specs.PlacedLines.{Placed}
 use Rattle.epx_types.specs.CommittedMap.{ids_of, IsCommittedBy}
 use Rattle.epx_types.proofs.lists.MembershipLemmas.{Contains-nil, Contains-head, Contains-cons}
 use Rattle.epx_types.proofs.lists.MembershipLemmas.{Contains-cons_cases}
+use Rattle.epx_types.proofs.commands.EqualityLemmas.{ids_decide}
 use Rattle.epx_types.proofs.lists.ListPositionLemmas.{slice_get-map}
 use Rattle.epx_committed.specs.declared.ledger.Disagreement.{Disagreement}
 use Rattle.epx_committed.specs.declared.rows.Row.{Row}
@@ -148,14 +151,15 @@ pub record AreRowsOf (lines : List Placed) (rows : List Row) : Type 0 where
   distinct : IsDistinct same_id (map (λ p. p.instance.id) lines)
   sorted : IsSorted id_cmp (map (λ r. r.id) rows)
 
--- the same of lines and names that are read from the ledger
-pub AreRowsOf-read : {read lines : List Placed} {names : List Id} (rows : List Row)
-    → read ≡ lines → names ≡ map (λ p. p.instance.id) lines
-    → IsPermutation (rows_of_lines 0 read) rows → IsDistinct same_id names
+-- the same of lines that are read from the ledger
+pub AreRowsOf-read : {read lines : List Placed} (rows : List Row) → read ≡ lines
+    → IsPermutation (rows_of_lines 0 read) rows
+    → AllPairs (λ x y. x ≢ y) (map (λ p. p.instance.id) lines)
     → IsSorted id_cmp (map (λ r. r.id) rows) → AreRowsOf lines rows
-AreRowsOf-read rows same named moved distinct sorted = record {
+AreRowsOf-read {lines} rows same moved apart sorted = record {
   moved = subst (λ l. IsPermutation (rows_of_lines 0 l) rows) same moved;
-  distinct = subst (IsDistinct same_id) named distinct;
+  distinct = IsDistinct-from_AllPairs {eq = same_id} ids_decide
+      (map (λ p. p.instance.id) lines) apart;
   sorted = sorted;
 }
 
@@ -181,9 +185,10 @@ module _ (lines : List Placed) (rows : List Row) (are : AreRowsOf lines rows) wh
       subst P (names_of 0 lines)
       (IsPermutation-map (λ (r : Row). r.id) (rows_of_lines 0 lines) rows are.moved)
 
-  as_many_names : length (map (λ r. r.id) rows) ≡ length (map (λ p. p.instance.id) lines)
-  as_many_names = length_permutation (map (λ p. p.instance.id) lines) (map (λ r. r.id) rows)
-      names_moved
+  as_many_names : length (map (λ r. r.id) rows) ≡ length lines
+  as_many_names =
+      length_permutation (map (λ p. p.instance.id) lines) (map (λ r. r.id) rows) names_moved
+      ∙ length-map lines (λ (p : Placed). p.instance.id)
 
   distinct_rows : IsDistinct same_id (map (λ r. r.id) rows)
   distinct_rows = IsDistinct-IsPermutation same_id same_flips (map (λ p. p.instance.id) lines)
@@ -216,18 +221,16 @@ module _ (lines : List Placed) (rows : List Row) (are : AreRowsOf lines rows) wh
         (AreNamedBy-sorted all noted ledger (under_rows lines rows) under_moved sorted_keys
         distinct_keys)
 
-    pub ManyInstances-rows : max_instances < length (map (λ p. p.instance.id) lines)
-        → ManyInstances all
+    pub ManyInstances-rows : max_instances < length lines → ManyInstances all
     ManyInstances-rows many =
         (map (λ r. r.id) rows, AreNamedBy-rows, omega (arith, as_many_names, many))
 
-    pub FewInstances-rows : length (map (λ p. p.instance.id) lines) ≤ max_instances
-        → FewInstances all
+    pub FewInstances-rows : length lines ≤ max_instances → FewInstances all
     FewInstances-rows few =
         (map (λ r. r.id) rows, AreNamedBy-rows, omega (arith, as_many_names, few))
 
     -- few lines without a disagreement commit the instances that the rows name
-    pub IsMerged-rows : length (map (λ p. p.instance.id) lines) ≤ max_instances
+    pub IsMerged-rows : length lines ≤ max_instances
         → ((x : Id) → ¬ Contains (keys disagreements) x) → IsMerged all (instances_at lines rows)
     IsMerged-rows few none =
         let agree = Agree-from_ledger all noted ledger none in

@@ -7,6 +7,7 @@ ghost use Rattle.epx_committed.specs.inner.LeastDisagreement.{IsLeastDisagreemen
 ghost use Rattle.epx_committed.specs.LineOrder.{IsSortedByPlace};
 ghost use Rattle.epx_committed.specs.MergedLines.{IsMerged, IsMergeFault};
 
+use crate::line_index::LineIndex;
 use crate::merged::Merged;
 use crate::placed::PlacedEntry;
 use crate::rows::{guesses_of, rows_of};
@@ -14,7 +15,7 @@ use crate::same_entry::same_entry;
 use epx_seed::Seed;
 use epx_types::limits::MAX_INSTANCES;
 use epx_types::{Fault, Id, Memory, Place};
-use indexmap::{IndexMap, IndexSet};
+use indexmap::IndexMap;
 use std::alloc::Global;
 use std::marker::Model;
 
@@ -29,16 +30,17 @@ pub(crate) struct Disagreement {
 #[derive(Debug, Drop)]
 pub struct Ledger {
     alloc: Global,
-    /// The Ids of the first lines, in the order of the lines.
-    names: IndexSet<Id, Seed>,
-    /// The first line of each instance, at the index of its Id in `names`.
+    /// The first line of each instance.
     firsts: Vec<PlacedEntry>,
+    /// Finds the first line of an Id.
+    index: LineIndex,
     disagreements: IndexMap<Id, Disagreement, Seed>,
 }
 
 impl Model for Ledger {
-    ghost use Rattle.std.specs.Prelude.{◌≡◌, map};
+    ghost use Rattle.std.specs.Prelude.{◌≢◌, map, AllPairs};
     ghost use Rattle.epx_committed.specs.Ledgers.{LedgerView};
+    ghost use Rattle.epx_committed.specs.inner.LineIndexes.{IsIndexOf};
     ghost use Rattle.epx_committed.specs.inner.LineRows.{with_ids};
 
     ghost Value = { LedgerView };
@@ -46,7 +48,8 @@ impl Model for Ledger {
     ghost view = { λ l.
         record { firsts = with_ids l.firsts.items; disagreements = l.disagreements.entries } };
 
-    ghost invariant = { λ l. l.names.keys ≡ map (λ p. p.instance.id) l.firsts.items };
+    ghost invariant = { λ l. IsIndexOf (map (λ p. p.instance.id) l.firsts.items) l.index
+        × AllPairs (λ x y. x ≢ y) (map (λ p. p.instance.id) l.firsts.items) };
 }
 
 impl Ledger {
@@ -56,8 +59,8 @@ impl Ledger {
     {
         Ledger {
             alloc,
-            names: IndexSet::with_hasher(alloc, seed),
             firsts: Vec::new(alloc),
+            index: LineIndex::new(alloc, seed),
             disagreements: IndexMap::with_hasher(alloc, seed),
         }
     }
@@ -67,14 +70,15 @@ impl Ledger {
     pub fn note(&mut self, line: PlacedEntry) -> Result<(), Memory>
         ensures { OnOk result (NotesLines (line ∷ []) self.old self.new) }
     {
+        let id = line.id();
+        if let Some(index) = self.index.find(id) {
+            return self.compare(index, &line);
+        }
         // Reserve first, so that an Id never goes in without its line.
         self.firsts.reserve(1)?;
-        let (index, is_new) = self.names.insert_full(line.id())?;
-        if is_new {
-            self.firsts.push(line)?;
-            return Ok(());
-        }
-        self.compare(index, &line)
+        self.index.add(id, self.firsts.len())?;
+        self.firsts.push(line)?;
+        Ok(())
     }
 
     /// Records a line of an instance whose first line is at this index.
@@ -104,14 +108,16 @@ impl Ledger {
     {
         let Ledger {
             alloc,
-            names,
             firsts,
+            index,
             disagreements,
         } = self;
-        let rows = rows_of(alloc, &firsts)?;
+        let ranks = index.ranks(alloc, firsts.len())?;
+        drop(index);
+        let rows = rows_of(alloc, &firsts, &ranks)?;
         let guesses = guesses_of(alloc, &rows)?;
         let least = least_of(disagreements)?;
-        if names.len() > MAX_INSTANCES {
+        if firsts.len() > MAX_INSTANCES {
             return Err(Fault::TooManyInstances);
         }
         match least {

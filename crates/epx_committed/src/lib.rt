@@ -5,7 +5,9 @@
 mod entries;
 mod guesses;
 mod ledger;
+mod line_index;
 mod merged;
+mod number_marks;
 mod placed;
 mod rows;
 mod same_entry;

@@ -14,10 +14,11 @@ use crate::line::PlacedLine;
 use crate::line_cache::LineCache;
 use epx_committed::{Ledger, PlacedEntry};
 use epx_lines::{Line, LineFault, LineReader};
+use epx_types::plan::MAX_CUT;
 use epx_types::{Fault, Memory, Place, Plan, Why};
 use std::alloc::Global;
 
-/// A piece has room for this many entries at first. It may have none, if the cache has its lines.
+/// A piece has room for this many entries at first, where the cache may have its lines.
 const FIRST_CAPACITY: usize = 64;
 
 /// A line with a fault, and its reason.
@@ -98,8 +99,9 @@ fn read_lines(
     ensures { IfOk result (IsReadBeside HasEntries cache.now lines.now) }
 {
     let mut reader = LineReader::new(alloc);
+    let room = if cache.has_slots() { FIRST_CAPACITY } else { MAX_CUT };
     let mut piece = ReadPiece {
-        entries: Vec::with_capacity(alloc, lines.len().min(FIRST_CAPACITY))?,
+        entries: Vec::with_capacity(alloc, lines.len().min(room))?,
         fresh: Vec::new(alloc),
     };
     let mut index = start;

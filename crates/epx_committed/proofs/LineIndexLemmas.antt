@@ -1,0 +1,75 @@
+-- What the marks of an index say of a list of Ids.
+use Rattle.std.proofs.Common.{◌≡◌, ◌≢◌, inl, inr, ℕ, zero, suc, ◌+◌, List, [], ◌∷◌, ◌++◌, length}
+use Rattle.std.proofs.Common.{Contains, Some, AllPairs, get_or, slice_get, refl, sym, ap, subst}
+use Rattle.std.proofs.Common.{◌∙◌, add-one, arith}
+use Rattle.std.proofs.lemmas.List.{length_push, get_or_push, get_or_append_left}
+use Rattle.std.proofs.lemmas.List.Elements.{Contains-push_cases}
+use Rattle.std.proofs.lemmas.List.Quantifiers.{all_pairs_push}
+use Rattle.std.proofs.lemmas.Option.{slice_get-get_or, slice_get_within, get_or_from_slice_get}
+use Rattle.epx_types.specs.declared.id.Id.{Id}
+use Rattle.epx_types.proofs.graph.WaitingLemmas.{Id-cases}
+use Rattle.epx_types.proofs.lists.ListPositionLemmas.{Contains-slice_get}
+use Rattle.epx_types.proofs.lists.MembershipLemmas.{Contains-nil}
+use Rattle.epx_committed.specs.declared.line_index.LineIndex.{LineIndex}
+use Rattle.epx_committed.specs.inner.LineIndexes.{IsIndexOf, IsMarkIn, mark_of}
+
+-- no mark but 0
+pub IsIndexOf-nil : (index : LineIndex) → ((x : Id) → mark_of index x ≡ 0) → IsIndexOf [] index
+IsIndexOf-nil index none x = subst (IsMarkIn [] x) (sym (none x)) (Contains-nil x)
+
+-- an Id without a mark is not in the list
+pub not_there : (ids : List Id) (index : LineIndex) (x : Id) → IsIndexOf ids index
+    → mark_of index x ≡ 0 → ¬ Contains ids x
+not_there ids index x h none = subst (IsMarkIn ids x) none (h x)
+
+-- an Id with a mark is at its position
+pub there : (ids : List Id) (index : LineIndex) (x : Id) (k : ℕ) → IsIndexOf ids index
+    → mark_of index x ≡ k + 1 → slice_get ids k ≡ Some x
+there ids index x k h is = subst (IsMarkIn ids x) (is ∙ add-one k) (h x)
+
+-- the same marks
+pub IsIndexOf-same : (ids : List Id) (old new : LineIndex) → IsIndexOf ids old
+    → ((x : Id) → mark_of new x ≡ mark_of old x) → IsIndexOf ids new
+IsIndexOf-same ids old new h same x = subst (IsMarkIn ids x) (sym (same x)) (h x)
+
+-- ---- one more Id
+
+kept : (ids : List Id) (x y : Id) (k : ℕ) → slice_get ids k ≡ Some x
+    → slice_get (ids ++ y ∷ []) k ≡ Some x
+kept ids x y k at =
+    let within = slice_get_within ids k x at in
+    slice_get-get_or (ids ++ y ∷ []) k x (omega (arith, length_push ids y))
+    ∙ ap Some (get_or_append_left ids (y ∷ []) x k within ∙ get_or_from_slice_get ids k x x at)
+
+last : (ids : List Id) (y : Id) → slice_get (ids ++ y ∷ []) (length ids) ≡ Some y
+last ids y = slice_get-get_or (ids ++ y ∷ []) (length ids) y (omega (arith, length_push ids y))
+    ∙ ap Some (get_or_push ids y y (length ids) refl)
+
+-- the mark of another Id stays right
+still : (ids : List Id) (x y : Id) (mark : ℕ) → x ≢ y → IsMarkIn ids x mark
+    → IsMarkIn (ids ++ y ∷ []) x mark
+still ids x y zero apart none = λ h. elim (Contains-push_cases ids y x h) [
+  | inl old ↦ none old
+  | inr new ↦ apart (sym new)
+]
+still ids x y (suc k) apart at = kept ids x y k at
+
+module _ (ids : List Id) (y : Id) (old new : LineIndex) (h : IsIndexOf ids old)
+    (here : mark_of new y ≡ length ids + 1)
+    (apart : (x : Id) → x ≢ y → mark_of new x ≡ mark_of old x) where
+  pub IsIndexOf-push : IsIndexOf (ids ++ y ∷ []) new
+  IsIndexOf-push x = elim (Id-cases x y) [
+    | inl same ↦
+        let P : ℕ → Type 0 = IsMarkIn (ids ++ y ∷ []) y in
+        subst (λ z. IsMarkIn (ids ++ y ∷ []) z (mark_of new z)) (sym same)
+        (subst P (sym (here ∙ add-one (length ids))) (last ids y))
+    | inr other ↦ subst (IsMarkIn (ids ++ y ∷ []) x) (sym (apart x other))
+        (still ids x y (mark_of old x) other (h x))
+  ]
+
+-- Ids stay distinct
+pub distinct_push : (ids : List Id) (y : Id) → AllPairs (λ x z. x ≢ z) ids → ¬ Contains ids y
+    → AllPairs (λ x z. x ≢ z) (ids ++ y ∷ [])
+distinct_push ids y distinct none = all_pairs_push (λ x z. x ≢ z) ids y distinct
+    (λ k d within e. none (subst (Contains ids) e
+    (Contains-slice_get ids k (get_or ids k d) (slice_get-get_or ids k d within))))
