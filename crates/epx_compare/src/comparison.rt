@@ -81,12 +81,7 @@ fn comparison_of(
 }
 
 /// The comparison of logs whose lines are noted, unless they commit too many instances.
-fn compare_noted(
-    alloc: Global,
-    count: usize,
-    noted: Noted,
-    seed: Seed,
-) -> Result<Comparison, Fault>
+fn compare_noted(alloc: Global, count: usize, noted: Noted, seed: Seed) -> Result<Comparison, Fault>
     requires { (logs : List (List ℕ)) × AreNotedLogs logs count noted }
     ensures { (logs : List (List ℕ)) → AreNotedLogs logs count noted
         → IsComparisonResult logs result }
@@ -181,10 +176,13 @@ fn compare_later<'a, R: Threads + Sync>(
 /// As `compare`, for logs of which only the first is there. `more` returns the later ones: it is
 /// called once, on this thread, while other threads read the lines of the first. A fault of `more`
 /// is the result.
-pub fn compare_during<
-    R: Threads + RandomSource + Sync,
-    M: FnMut() -> Result<Vec<Vec<u8>>, Fault>,
->(rt: &R, alloc: Global, first: &[u8], more: &mut M, plan: Plan) -> Result<Comparison, Fault>
+pub fn compare_during<R: Threads + RandomSource + Sync, M: FnMut() -> Result<Vec<Vec<u8>>, Fault>>(
+    rt: &R,
+    alloc: Global,
+    first: &[u8],
+    more: &mut M,
+    plan: Plan,
+) -> Result<Comparison, Fault>
     requires { M.pre more.old }
     ensures { (given : _) × M.step more.old given more.new
         × IsComparisonWith first.now given result }

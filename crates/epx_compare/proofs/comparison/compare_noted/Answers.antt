@@ -1,4 +1,4 @@
-use Rattle.std.proofs.Common.{◌≡◌, ◌≢◌, ◌↔◌, ◌∙◌, ◌≤◌, ◌<◌, List, [], length, ap, sym, subst, true}
+use Rattle.std.proofs.Common.{◌≡◌, ◌≢◌, ◌↔◌, ◌∙◌, ◌≤◌, ◌<◌, [], length, ap, sym, subst, true}
 use Rattle.std.proofs.Common.{arith}
 use Rattle.epx_committed.specs.InstanceCounts.{max_instances}
 use Rattle.epx_merge.specs.LogLines.{bad_lines_of, placed_of}
