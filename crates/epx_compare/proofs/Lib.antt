@@ -20,3 +20,5 @@ mod ComparisonLawLemmas
 mod NoDifferenceLemmas
 mod ComparisonExistenceLemmas
 pub mod ComparisonAnswerLemmas
+mod NotedLogLemmas
+pub mod ComparisonResultLemmas

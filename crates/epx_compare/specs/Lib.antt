@@ -6,5 +6,6 @@ pub mod Unmet
 pub mod ComparisonLines
 pub mod Comparisons
 pub mod ComparisonAnswers
+pub mod LaterLogComparisons
 pub mod ComparisonLaws
 pub mod inner

@@ -4,5 +4,6 @@ pub mod KnownLines
 pub mod EqualVersions
 pub mod LogMarks
 pub mod NotedRows
+pub mod NotedLines
 pub mod UnmetCounts
 pub mod NumberedVersions

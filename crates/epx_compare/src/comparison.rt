@@ -1,13 +1,16 @@
 //! What logs say against each other, as text.
-ghost use Rattle.std.specs.Prelude.{◌≡◌, ◌↔◌, ◌<◌, ◌≤◌, ◌++◌, List, length, true, IfOk, OnOk};
-ghost use Rattle.std.specs.Prelude.{MatchResult, Ok, Err};
+ghost use Rattle.std.specs.Prelude.{◌≡◌, ◌↔◌, ◌<◌, ◌≤◌, ◌∷◌, ◌++◌, [], ℕ, List, length, true};
+ghost use Rattle.std.specs.Prelude.{IfOk, OnOk, MatchResult, Ok, Err};
+ghost use Rattle.std.specs.Thread.{IsSync};
 ghost use Rattle.epx_types.specs.PlacedLines.{Placed};
 ghost use Rattle.epx_committed.specs.InstanceCounts.{AreNamedBy, max_instances};
 ghost use Rattle.epx_merge.specs.Limits.{max_logs};
-ghost use Rattle.epx_merge.specs.LogLines.{BadLineAt, bad_lines_of, bytes_of, placed_of};
+ghost use Rattle.epx_merge.specs.LogLines.{BadLineAt, bytes_of, meanings_of};
 ghost use Rattle.epx_compare.specs.ComparisonAnswers.{Compares};
 ghost use Rattle.epx_compare.specs.Comparisons.{HasFindings, findings_text};
+ghost use Rattle.epx_compare.specs.LaterLogComparisons.{IsComparisonResult, IsComparisonWith};
 ghost use Rattle.epx_compare.specs.inner.Catalogs.{IsCatalogOf, IsCatalogComparison};
+ghost use Rattle.epx_compare.specs.inner.NotedLines.{AreNotedLines, AreNotedLogs};
 
 use crate::bad_lines::append_bad_lines;
 use crate::catalog::Catalog;
@@ -15,14 +18,16 @@ use crate::counts::append_counts;
 use crate::differences::append_differences;
 use crate::gap_lines::append_gaps;
 use crate::note_lines::note_lines;
+use crate::noted::Noted;
+use crate::noted_lines::NotedLines;
 use crate::unmet::append_all_unmet;
-use epx_merge::first_too_long;
+use epx_merge::{LineWalk, first_too_long, first_too_long_with};
 use epx_seed::Seed;
 use epx_types::limits::{MAX_INSTANCES, MAX_LOGS};
 use epx_types::{Fault, Memory, Plan};
 use std::alloc::Global;
 use std::random::RandomSource;
-use std::thread::Threads;
+use std::thread::{Threads, join_mut};
 
 /// What logs say against each other.
 #[derive(Drop)]
@@ -75,20 +80,18 @@ fn comparison_of(
     Ok(Comparison { text, has_findings })
 }
 
-/// The catalog of the lines of logs.
-fn catalog_of<R: Threads + Sync>(
-    rt: &R,
-    alloc: Global,
-    logs: &[Vec<u8>],
-    seed: Seed,
-    plan: Plan,
-) -> Result<Catalog, Memory>
-    ensures { let bytes = bytes_of logs.now in
-        IfOk result (IsCatalogOf (placed_of bytes) (bad_lines_of bytes)) }
+/// The comparison of logs whose lines are noted, unless they commit too many instances.
+fn compare_noted(alloc: Global, count: usize, noted: Noted, seed: Seed) -> Result<Comparison, Fault>
+    requires { (logs : List (List ℕ)) × AreNotedLogs logs count noted }
+    ensures { (logs : List (List ℕ)) → AreNotedLogs logs count noted
+        → IsComparisonResult logs result }
 {
-    let noted = note_lines(rt, alloc, logs, seed, plan)?;
     let catalog = Catalog::of(alloc, noted)?;
-    Ok(catalog)
+    if catalog.ids.ids().len() > MAX_INSTANCES {
+        return Err(Fault::TooManyInstances);
+    }
+    let comparison = comparison_of(alloc, count, &catalog, seed)?;
+    Ok(comparison)
 }
 
 /// What logs say against each other, as lines of JSON, in this order:
@@ -126,10 +129,69 @@ pub fn compare<R: Threads + RandomSource + Sync>(
         return Err(Fault::LogTooLong { log });
     }
     let seed = Seed::draw(rt);
-    let catalog = catalog_of(rt, alloc, logs, seed, plan)?;
-    if catalog.ids.ids().len() > MAX_INSTANCES {
-        return Err(Fault::TooManyInstances);
+    let none = NotedLines::new(alloc, logs.len(), seed)?;
+    let NotedLines { noted, .. } = note_lines(rt, alloc, plan, none, LineWalk::new(logs))?;
+    compare_noted(alloc, logs.len(), noted, seed)
+}
+
+/// Notes the lines of the first of several logs.
+fn note_first<'a, R: Threads + Sync>(
+    rt: &R,
+    alloc: Global,
+    first: &'a [u8],
+    seed: Seed,
+    plan: Plan,
+) -> Result<NotedLines<'a>, Memory>
+    ensures { IfOk result (AreNotedLines (meanings_of (first.now ∷ []))) }
+{
+    // There are at least two logs, so lines may repeat.
+    let none = NotedLines::new(alloc, 2, seed)?;
+    note_lines(rt, alloc, plan, none, LineWalk::of_first(first))
+}
+
+/// The comparison of the first log, whose lines are noted, and the later ones.
+fn compare_later<'a, R: Threads + Sync>(
+    rt: &R,
+    alloc: Global,
+    first: &'a [u8],
+    noted: Result<NotedLines<'a>, Memory>,
+    later: &'a [Vec<u8>],
+    seed: Seed,
+    plan: Plan,
+) -> Result<Comparison, Fault>
+    requires { IfOk noted (AreNotedLines (meanings_of (first.now ∷ []))) }
+    ensures { IsComparisonResult (first.now ∷ bytes_of later.now) result }
+{
+    if later.len() >= MAX_LOGS {
+        return Err(Fault::TooManyLogs);
     }
-    let comparison = comparison_of(alloc, logs.len(), &catalog, seed)?;
-    Ok(comparison)
+    if let Some(log) = first_too_long_with(first, later) {
+        return Err(Fault::LogTooLong { log });
+    }
+    let walk = LineWalk::after_first(later);
+    let NotedLines { noted, .. } = note_lines(rt, alloc, plan, noted?, walk)?;
+    compare_noted(alloc, later.len() + 1, noted, seed)
+}
+
+/// As `compare`, for logs of which only the first is there. `more` returns the later ones: it is
+/// called once, on this thread, while other threads read the lines of the first. A fault of `more`
+/// is the result.
+pub fn compare_during<R: Threads + RandomSource + Sync, M: FnMut() -> Result<Vec<Vec<u8>>, Fault>>(
+    rt: &R,
+    alloc: Global,
+    first: &[u8],
+    more: &mut M,
+    plan: Plan,
+) -> Result<Comparison, Fault>
+    requires { M.pre more.old }
+    ensures { (given : _) × M.step more.old given more.new
+        × IsComparisonWith first.now given result }
+{
+    let seed = Seed::draw(rt);
+    let mut begin = || -> Result<NotedLines, Memory>
+        requires { IsSync R.row }
+        ensures { IfOk result (AreNotedLines (meanings_of (first.entry.now ∷ []))) }
+    { note_first(rt, alloc, first, seed, plan) };
+    let (noted, later) = join_mut(rt, &mut begin, more);
+    compare_later(rt, alloc, first, noted, &later?, seed, plan)
 }

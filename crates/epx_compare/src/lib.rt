@@ -18,8 +18,9 @@ mod members;
 mod next_batch;
 mod note_lines;
 mod noted;
+mod noted_lines;
 mod read_lines;
 mod unmet;
 mod version;
 
-pub use comparison::{Comparison, compare};
+pub use comparison::{Comparison, compare, compare_during};

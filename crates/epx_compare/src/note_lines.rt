@@ -1,18 +1,19 @@
 //! Notes the lines of logs.
 ghost use Rattle.std.specs.Prelude.{◌≡◌, ◌≤◌, ◌^◌, ◌++◌, List, IfOk, OnOk, Some, length, map};
 ghost use Rattle.epx_types.specs.PlacedLines.{Placed};
-ghost use Rattle.epx_merge.specs.LogLines.{BadLineAt, bad_lines_among, bad_lines_at, bad_lines_of};
-ghost use Rattle.epx_merge.specs.LogLines.{bytes_of, placed_among, placed_at, placed_of};
+ghost use Rattle.epx_merge.specs.LogLines.{BadLineAt, MeaningAt, bad_lines_among, bad_lines_at};
+ghost use Rattle.epx_merge.specs.LogLines.{placed_among, placed_at};
 ghost use Rattle.epx_compare.specs.Differences.{versions_of};
 ghost use Rattle.epx_compare.specs.inner.KnownLines.{AreKnown, meaning_in};
+ghost use Rattle.epx_compare.specs.inner.NotedLines.{AreNotedLines};
 ghost use Rattle.epx_compare.specs.inner.NotedRows.{AreNoted};
 
 use crate::known_lines::KnownLines;
 use crate::next_batch::next_batch;
 use crate::noted::Noted;
+use crate::noted_lines::NotedLines;
 use crate::read_lines::{ReadLine, read_batch};
 use epx_merge::{LineWalk, PlacedLine};
-use epx_seed::Seed;
 use epx_types::{Memory, Plan};
 use std::alloc::Global;
 use std::thread::Threads;
@@ -66,25 +67,26 @@ fn note_batch<'a>(
     Ok(())
 }
 
-/// What is noted of all lines of logs.
-pub(crate) fn note_lines<R: Threads + Sync>(
+/// Notes the lines of a walk after those that are noted.
+pub(crate) fn note_lines<'a, R: Threads + Sync>(
     rt: &R,
     alloc: Global,
-    logs: &[Vec<u8>],
-    seed: Seed,
     plan: Plan,
-) -> Result<Noted, Memory>
-    ensures { let bytes = bytes_of logs.now in
-        IfOk result (AreNoted (placed_of bytes) (bad_lines_of bytes)) }
+    before: NotedLines<'a>,
+    mut walk: LineWalk<'a>,
+) -> Result<NotedLines<'a>, Memory>
+    ensures { IfOk result (λ after. (lines : List MeaningAt) → AreNotedLines lines before.entry
+        → AreNotedLines (lines ++ walk.entry) after) }
 {
-    let mut noted = Noted::new(alloc, seed);
-    let mut known = KnownLines::new(alloc, logs.len())?;
-    let mut walk = LineWalk::new(logs);
+    let NotedLines {
+        mut noted,
+        mut known,
+    } = before;
     let mut batch = next_batch(alloc, plan, &mut walk)?;
     while !batch.is_empty() {
         let reads = read_batch(rt, alloc, plan, &known, &batch)?;
         note_batch(&mut noted, &mut known, &batch, reads)?;
         batch = next_batch(alloc, plan, &mut walk)?;
     }
-    Ok(noted)
+    Ok(NotedLines { noted, known })
 }

@@ -2,7 +2,7 @@ mod ReadPieceLemmas
 mod PieceLemmas
 mod RedundantLineLemmas
 mod DropsCachedLemmas
-mod LaterLogLemmas
+pub mod LaterLogLemmas
 mod BatchLemmas
 mod LineCacheLemmas
 mod PlaceOrderLemmas

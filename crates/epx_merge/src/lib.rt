@@ -16,7 +16,7 @@ mod walk;
 
 pub use epx_committed::{Guesses, Merged, from_entries};
 pub use epx_types::limits::{MAX_INSTANCES, MAX_LOG_BYTES, MAX_LOGS};
-pub use limits::first_too_long;
+pub use limits::{first_too_long, first_too_long_with};
 pub use line::PlacedLine;
 pub use line_cache::LineCache;
 pub use next_batch::batch_len;

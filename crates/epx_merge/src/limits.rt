@@ -19,7 +19,7 @@ pub fn first_too_long(logs: &[Vec<u8>]) -> Option<usize>
 }
 
 /// As `first_too_long`, for the first log and the later ones.
-pub(crate) fn first_too_long_with(first: &[u8], later: &[Vec<u8>]) -> Option<usize>
+pub fn first_too_long_with(first: &[u8], later: &[Vec<u8>]) -> Option<usize>
     ensures { let logs = first.now ∷ bytes_of later.now in
         MatchOption result (NoneTooLong logs) (IsFirstTooLong logs) }
 {

@@ -50,7 +50,7 @@ impl<'a> LineWalk<'a> {
     }
 
     /// The lines of the first log alone.
-    pub(crate) fn of_first(first: &'a [u8]) -> LineWalk<'a>
+    pub fn of_first(first: &'a [u8]) -> LineWalk<'a>
         ensures { result ≡ meanings_of (first.now ∷ []) }
     {
         LineWalk {
@@ -62,7 +62,7 @@ impl<'a> LineWalk<'a> {
     }
 
     /// The lines of the logs that follow the first one.
-    pub(crate) fn after_first(later: &'a [Vec<u8>]) -> LineWalk<'a>
+    pub fn after_first(later: &'a [Vec<u8>]) -> LineWalk<'a>
         ensures { result ≡ meanings_from 1 (bytes_of later.now) }
     {
         LineWalk {

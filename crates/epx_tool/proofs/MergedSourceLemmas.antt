@@ -11,6 +11,8 @@ use Rattle.epx_devices.specs.Deliveries.{FailRelation, ReadRelation}
 use Rattle.epx_devices.specs.Transfers.{AppendsPrefix}
 use Rattle.epx_merge.specs.LaterLogs.{IsMergeWith}
 use Rattle.epx_merge.specs.LogLines.{bytes_of}
+use Rattle.epx_compare.specs.declared.comparison.Comparison.{Comparison}
+use Rattle.epx_compare.specs.LaterLogComparisons.{IsComparisonResult, IsComparisonWith}
 use Rattle.epx_tool.specs.Runs.{IsFaultOfRun}
 use Rattle.epx_tool.specs.RunEndings.{EndsRun}
 use Rattle.epx_tool.specs.inner.SourceReadings.{EndsReading, EndsMaking, EndsMerging, IsMerging}
@@ -41,6 +43,18 @@ module _ {S : Type 0} (remaining : S → Option (List ℕ)) (reads : ReadRelatio
       made_after IsMerging (first ∷ bytes_of later.items) result read merged
   merged_with first (Err fault) result read same =
       subst (EndsMerging remaining reads fails has_failed old new) (sym same) (inl read)
+
+  -- the same, where the logs are compared
+  pub compared_with : (first : List ℕ) (later : Result (Vec (Vec ℕ Global) Global) Fault)
+      (result : Result Comparison Fault)
+      → EndsReading remaining reads fails has_failed old new (logs_after (first ∷ []) later)
+      → IsComparisonWith first later result
+      → EndsMaking remaining reads fails has_failed IsComparisonResult old new result
+  compared_with first (Ok later) result read compared =
+      made_after IsComparisonResult (first ∷ bytes_of later.items) result read compared
+  compared_with first (Err fault) result read same =
+      subst (EndsMaking remaining reads fails has_failed IsComparisonResult old new) (sym same)
+      (inl read)
 
 module _ {S : Type 0} (remaining : S → Option (List ℕ)) (reads : ReadRelation S)
     (fails : FailRelation S) (has_failed : S → Bool)

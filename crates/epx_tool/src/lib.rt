@@ -6,6 +6,7 @@ mod answers;
 mod ask;
 mod checked_runs;
 mod commands;
+mod compared_sources;
 mod findings;
 mod input_answers;
 mod input_contents;

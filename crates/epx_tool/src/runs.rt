@@ -19,12 +19,12 @@ ghost use Rattle.epx_compare.specs.ComparisonAnswers.{Compares};
 ghost use Rattle.epx_devices.specs.Transfers.{AppendsPrefix};
 
 use crate::ask::Ask;
+use crate::compared_sources::compare_sources;
 use crate::findings::{Answered, finds};
 use crate::map_texts::text_of;
 use crate::merged_sources::merge_sources;
 use crate::question::{MapText, Question};
-use crate::sources::read_sources;
-use epx_compare::{Comparison, compare};
+use epx_compare::Comparison;
 use epx_devices::{Sink, Source, write_out};
 use epx_types::limits::MAX_LOGS;
 use epx_types::{Fault, Plan};
@@ -32,8 +32,8 @@ use std::alloc::Global;
 use std::random::RandomSource;
 use std::thread::Threads;
 
-/// The comparison of the logs of all sources, which are read in order.
-fn compare_sources<R: Threads + RandomSource + Sync, S: Source>(
+/// The text of the comparison of the logs of all sources, and whether it finds something.
+fn answer_compared<R: Threads + RandomSource + Sync, S: Source>(
     rt: &R,
     alloc: Global,
     sources: &mut [S],
@@ -46,11 +46,7 @@ fn compare_sources<R: Threads + RandomSource + Sync, S: Source>(
         (λ fault. EndsMaking S.remaining S.reads S.fails S.has_failed Compares sources.old
         sources.new (Err fault)) }
 {
-    let logs = match read_sources(alloc, sources) {
-        Ok(logs) => logs,
-        Err(fault) => return Err(fault),
-    };
-    match compare(rt, alloc, &logs, plan) {
+    match compare_sources(rt, alloc, sources, plan) {
         Ok(Comparison { text, has_findings }) => Ok(Answered { text, has_findings }),
         Err(fault) => Err(fault),
     }
@@ -101,7 +97,7 @@ fn answer_sources<R: Threads + RandomSource + Sync, S: Source>(
 {
     match question.map_text() {
         Some(kind) => answer_merged(rt, alloc, kind, sources, plan),
-        None => compare_sources(rt, alloc, sources, plan),
+        None => answer_compared(rt, alloc, sources, plan),
     }
 }
 

@@ -5,52 +5,51 @@ use Rattle.std.proofs.lemmas.Bool.Decides.{nat_tests}
 use Rattle.std.proofs.lemmas.List.{nil_from_length}
 use Rattle.epx_types.specs.declared.fault.Why.{Why}
 use Rattle.epx_lines.specs.declared.Line.{Line}
-use Rattle.epx_merge.specs.LogLines.{MeaningAt, bad_lines_among, bytes_of, meanings_of}
-use Rattle.epx_merge.specs.LogLines.{placed_among}
+use Rattle.epx_merge.specs.LogLines.{MeaningAt, bad_lines_among, placed_among}
 use Rattle.epx_compare.specs.Differences.{versions_of}
 use Rattle.epx_compare.specs.inner.KnownLines.{AreKnown}
 use Rattle.epx_compare.specs.inner.NotedRows.{AreNoted}
-use Rattle.epx_compare.proofs.NotedBatchLemmas.{lines_after, bad_after, noted_both}
+use Rattle.epx_compare.proofs.NotedBatchLemmas.{AreNotedKnown, lines_after, bad_after, noted_both}
 use Rattle.epx_compare.proofs.note_lines.note_lines.Goals as goal
 
 pub loop-walk-init : goal.loop-walk-init
 loop-walk-init g c = record {
   last = c.in_ok-batch.ensures.last;
   few = c.in_ok-batch.ensures.few;
-  done = (
-    [],
-    sym c.new-walk.ensures ∙ c.in_ok-batch.ensures.lines,
-    record { rows = c.new-noted.ensures; texts = c.in_ok-known.ensures (versions_of []) },
+  done = λ lines noted. (
+    lines,
+    ap (λ w. lines ++ w) c.in_ok-batch.ensures.lines,
+    record { rows = noted.rows; texts = noted.texts },
   );
 }
 
 pub loop-walk-preserved : goal.loop-walk-preserved
 loop-walk-preserved g c =
-    let before = c.loop-walk.invariant in
-    let done : List MeaningAt = before.done.0 in
     let batch : List MeaningAt = c.loop-walk.batch.items in
     let next : List MeaningAt = c.in_ok-batch-2.batch.items ++ c.next_batch-in-loop-walk.new.walk in
-    let texts = before.done.2.texts in
     let says : MeaningAt → Option (Result Line Why) = λ l. Some l.meaning in
     let is : c.deref-in-loop-walk.result.now ≡ batch = c.deref-in-loop-walk.ensures.value in
-    let said = c.in_ok-reads.ensures (versions_of (placed_among done)) texts
-    ∙ ap (map says) (c.deref.ensures.value ∙ sym is) in
-    let after = c.in_ok-note_batch.ensures (placed_among done) (bad_lines_among done)
-    before.done.2.rows texts said in
     let new = c.note_batch.new in
     record {
       last = c.in_ok-batch-2.ensures.last;
       few = c.in_ok-batch-2.ensures.few;
-      done = (
-        done ++ batch,
-        before.done.1 ∙ (ap (λ w. done ++ (batch ++ w)) c.in_ok-batch-2.ensures.lines
-            ∙ sym (append_assoc done batch next)),
-        noted_both done batch new.noted new.known.cache new.known.versions.items
-            (subst (λ b. AreNoted (lines_after (placed_among done) b)
-            (bad_after (bad_lines_among done) b) new.noted) is after.0)
-            (subst (λ b. AreKnown (versions_of (lines_after (placed_among done) b))
-            new.known.cache new.known.versions.items) is after.1),
-      );
+      done = λ lines noted.
+          let before = c.loop-walk.invariant.done lines noted in
+          let done : List MeaningAt = before.0 in
+          let texts = before.2.texts in
+          let said = c.in_ok-reads.ensures (versions_of (placed_among done)) texts
+          ∙ ap (map says) (c.deref.ensures.value ∙ sym is) in
+          let after = c.in_ok-note_batch.ensures (placed_among done) (bad_lines_among done)
+          before.2.rows texts said in (
+            done ++ batch,
+            before.1 ∙ (ap (λ w. done ++ (batch ++ w)) c.in_ok-batch-2.ensures.lines
+                ∙ sym (append_assoc done batch next)),
+            noted_both done batch new.noted new.known.cache new.known.versions.items
+                (subst (λ b. AreNoted (lines_after (placed_among done) b)
+                (bad_after (bad_lines_among done) b) new.noted) is after.0)
+                (subst (λ b. AreKnown (versions_of (lines_after (placed_among done) b))
+                new.known.cache new.known.versions.items) is after.1),
+          );
     }
 
 pub loop-walk-smaller : goal.loop-walk-smaller
@@ -67,14 +66,16 @@ loop-walk-smaller g c =
     omega (arith, some, size, length-append batch c.loop-walk.walk)
 
 pub returns : goal.returns
-returns g c =
-    let meanings = meanings_of (bytes_of c.args.logs.now) in
+returns g c = λ lines noted.
     let h = c.loop-walk.invariant in
-    let done : List MeaningAt = h.done.0 in
+    let before = h.done lines noted in
+    let done : List MeaningAt = before.0 in
     let none : c.loop-walk.batch.items ≡ [] =
     nil_from_length c.loop-walk.batch.items (search rules) in
     let last : c.loop-walk.walk ≡ [] = h.last none in
-    let all : meanings ≡ done = h.done.1 ∙ ((λ i. done ++ (none i ++ last i))
+    let all : lines ++ c.args.walk ≡ done = before.1 ∙ ((λ i. done ++ (none i ++ last i))
     ∙ append-nil done) in
-    subst (λ ms. AreNoted (placed_among ms) (bad_lines_among ms) c.loop-walk.noted) (sym all)
-    h.done.2.rows
+    let known = c.loop-walk.known in
+    let here = subst (λ ms. AreNotedKnown (placed_among ms) (bad_lines_among ms)
+    c.loop-walk.noted known.cache known.versions.items) (sym all) before.2 in
+    record { rows = here.rows; texts = here.texts }

@@ -20,10 +20,10 @@ returns-in-Some g c =
 pub returns-in-None : goal.returns-in-None
 returns-in-None g c =
     let S = g.S.Source in
-    subst (λ (answered : Option MapText). MatchResult c.compare_sources.result
+    subst (λ (answered : Option MapText). MatchResult c.answer_compared.result
     (λ a. EndsMaking S.remaining S.reads S.fails S.has_failed
-    (AnswersFindingBy answered a.has_findings) c.args.sources.now c.compare_sources.new.sources
+    (AnswersFindingBy answered a.has_findings) c.args.sources.now c.answer_compared.new.sources
     (Ok a.text.items))
     (λ fault. EndsMaking S.remaining S.reads S.fails S.has_failed (AnswersBy answered)
-    c.args.sources.now c.compare_sources.new.sources (Err fault)))
-    (sym c.in-None.is ∙ c.map_text.ensures) c.compare_sources.ensures
+    c.args.sources.now c.answer_compared.new.sources (Err fault)))
+    (sym c.in-None.is ∙ c.map_text.ensures) c.answer_compared.ensures

@@ -1,0 +1,31 @@
+-- What a comparison of logs says, in two clauses and in one.
+use Rattle.std.proofs.Common.{◌≡◌, ◌↔◌, ℕ, List, Result, Ok, Err, true}
+use Rattle.std.specs.Prelude.{IfOk, MatchResult}
+use Rattle.epx_types.specs.declared.fault.Fault.{Fault}
+use Rattle.epx_compare.specs.declared.comparison.Comparison.{Comparison}
+use Rattle.epx_compare.specs.ComparisonAnswers.{Compares}
+use Rattle.epx_compare.specs.Comparisons.{HasFindings}
+use Rattle.epx_compare.specs.LaterLogComparisons.{IsComparisonResult}
+
+module _ (logs : List (List ℕ)) where
+  abbrev pub HasAnswer : Result Comparison Fault → Type 0
+  HasAnswer result = MatchResult result (λ c. Compares logs (Ok c.text.items))
+      (λ fault. Compares logs (Err fault))
+
+  abbrev pub SaysFound : Result Comparison Fault → Type 0
+  SaysFound result = IfOk result (λ c. (c.has_findings ≡ true) ↔ HasFindings logs)
+
+  pub answer_of : (result : Result Comparison Fault) → IsComparisonResult logs result
+      → HasAnswer result
+  answer_of (Ok c) is = is.0
+  answer_of (Err fault) is = is
+
+  pub found_of : (result : Result Comparison Fault) → IsComparisonResult logs result
+      → SaysFound result
+  found_of (Ok c) is = is.1
+  found_of (Err fault) is = tt
+
+  pub result_of : (result : Result Comparison Fault) → HasAnswer result → SaysFound result
+      → IsComparisonResult logs result
+  result_of (Ok c) answer found = (answer, found)
+  result_of (Err fault) answer found = answer

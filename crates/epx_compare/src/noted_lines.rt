@@ -1,0 +1,30 @@
+//! Lines that were read.
+ghost use Rattle.std.specs.Prelude.{[], IfOk};
+ghost use Rattle.epx_compare.specs.inner.NotedLines.{AreNotedLines};
+
+use crate::known_lines::KnownLines;
+use crate::noted::Noted;
+use epx_seed::Seed;
+use epx_types::Memory;
+use std::alloc::Global;
+
+/// Lines that were read: what is noted of them, and those that are known.
+// Both in one: `join_mut` passes on what a closure ensures only if what the closure returns owns a
+// list with the lifetime.
+#[derive(Drop)]
+pub(crate) struct NotedLines<'a> {
+    pub(crate) noted: Noted,
+    pub(crate) known: KnownLines<'a>,
+}
+
+impl<'a> NotedLines<'a> {
+    /// No lines, before those of this many logs. The versions hash with the seed.
+    pub(crate) fn new(alloc: Global, logs: usize, seed: Seed) -> Result<NotedLines<'a>, Memory>
+        ensures { IfOk result (AreNotedLines []) }
+    {
+        Ok(NotedLines {
+            noted: Noted::new(alloc, seed),
+            known: KnownLines::new(alloc, logs)?,
+        })
+    }
+}

@@ -1,0 +1,65 @@
+//! Reads sources and compares their logs.
+ghost use Rattle.std.specs.Prelude.{◌≡◌, ◌<◌, ◌≤◌, false, length, All};
+ghost use Rattle.std.specs.Thread.{IsSync};
+ghost use Rattle.epx_compare.specs.LaterLogComparisons.{IsComparisonResult};
+ghost use Rattle.epx_tool.specs.inner.SourceReadings.{AreDeliveredUpTo, EndsMaking, EndsReading};
+ghost use Rattle.epx_tool.specs.inner.SourceReadings.{logs_after};
+
+use crate::sources::{read_next, read_onward, read_sources};
+use epx_compare::{Comparison, compare, compare_during};
+use epx_devices::Source;
+use epx_types::limits::MAX_LOGS;
+use epx_types::{Fault, Plan};
+use std::alloc::Global;
+use std::random::RandomSource;
+use std::thread::Threads;
+
+/// As `compare_sources`, for several sources and workers. The later sources are read while the
+/// workers read the lines of the first one.
+fn compare_meanwhile<R: Threads + RandomSource + Sync, S: Source>(
+    rt: &R,
+    alloc: Global,
+    sources: &mut [S],
+    plan: Plan,
+) -> Result<Comparison, Fault>
+    requires some { 0 < length sources.old }
+    requires few { length sources.old ≤ MAX_LOGS }
+    requires well { All (λ s. S.has_failed s ≡ false) sources.old }
+    ensures { EndsMaking S.remaining S.reads S.fails S.has_failed IsComparisonResult sources.old
+        sources.new result }
+{
+    let first = match read_next(alloc, 0, sources) {
+        Ok(bytes) => bytes,
+        Err(fault) => return Err(fault),
+    };
+    let mut more = || -> Result<Vec<Vec<u8>>, Fault>
+        requires { (length sources.now ≤ MAX_LOGS) × ((first : _) × (before : _)
+            × AreDeliveredUpTo S.remaining S.reads S.has_failed first sources.now 1 before) }
+        ensures { (first : _) (before : _)
+            → AreDeliveredUpTo S.remaining S.reads S.has_failed first sources.entry.now 1 before
+            → EndsReading S.remaining S.reads S.fails S.has_failed first sources.exit.now
+            (logs_after before result) }
+    { read_onward(alloc, 1, sources) };
+    compare_during(rt, alloc, &first, &mut more, plan)
+}
+
+/// The comparison of the logs of all sources, which are read in order.
+pub(crate) fn compare_sources<R: Threads + RandomSource + Sync, S: Source>(
+    rt: &R,
+    alloc: Global,
+    sources: &mut [S],
+    plan: Plan,
+) -> Result<Comparison, Fault>
+    requires { All (λ s. S.has_failed s ≡ false) sources.old }
+    ensures { EndsMaking S.remaining S.reads S.fails S.has_failed IsComparisonResult sources.old
+        sources.new result }
+{
+    if plan.workers() > 1 && sources.len() > 1 && sources.len() <= MAX_LOGS {
+        return compare_meanwhile(rt, alloc, sources, plan);
+    }
+    let logs = match read_sources(alloc, sources) {
+        Ok(logs) => logs,
+        Err(fault) => return Err(fault),
+    };
+    compare(rt, alloc, &logs, plan)
+}
