@@ -1,5 +1,6 @@
 -- Rows name lines: the same lines in another order.
-use Rattle.std.proofs.Common.{◌≡◌, ◌≢◌, AllPairs, inl, inr, ℕ, ◌+◌, ◌<◌, ◌≤◌, List, [], ◌∷◌, ◌++◌, map}
+use Rattle.std.proofs.Common.{◌≡◌, ◌≢◌, inl, inr, ℕ, ◌+◌, ◌<◌, ◌≤◌, List, [], ◌∷◌, ◌++◌, map}
+use Rattle.std.proofs.Common.{AllPairs}
 use Rattle.std.proofs.Common.{length, get_or, Contains, Some, slice_get, IsPermutation, refl}
 use Rattle.std.proofs.Common.{sym, ap, subst, subst₂, ◌∙◌, append_assoc, arith}
 use Rattle.std.specs.List.{IsDistinct}

@@ -41,4 +41,5 @@ returns-in-None c = λ lines order ledger.
     c.self.invariant.1 c.in_ok-rows.ensures.sorted in
     rw c.new.ensures (IsMerged-rows c.self.inside.firsts.items rows are lines
     c.self.inside.disagreements.entries (subst (IsLedgerOf lines) (sym c.self.view_is) ledger)
-    (omega (arith, c.len.ensures, c.if-len-gt-MAX_INSTANCES.false)) (rw c.in-None.is at c.in_ok-least.ensures))
+    (omega (arith, c.len.ensures, c.if-len-gt-MAX_INSTANCES.false))
+    (rw c.in-None.is at c.in_ok-least.ensures))

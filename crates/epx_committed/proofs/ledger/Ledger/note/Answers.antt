@@ -35,8 +35,13 @@ invariant_of-self-2 c =
     ap names items ∙ map-append (λ (p : Placed). p.instance.id) lines (c.args.line ∷ [])
     ∙ ap (λ (x : Id). names lines ++ x ∷ []) (sym c.id-id.ensures) in
     let here : mark_of c.add.new.self id ≡ length (names lines) + 1 =
-    omega (arith, c.in_ok-add.ensures.here, c.len.ensures, ap length c.in_ok-reserve.ensures.items,
-    length-map lines (λ (p : Placed). p.instance.id)) in (
+    omega (
+      arith,
+      c.in_ok-add.ensures.here,
+      c.len.ensures,
+      ap length c.in_ok-reserve.ensures.items,
+      length-map lines (λ (p : Placed). p.instance.id),
+    ) in (
       subst (λ (l : List Id). IsIndexOf l c.add.new.self) (sym longer)
           (IsIndexOf-push (names lines) id c.self.inside.index c.add.new.self c.self.invariant.0
           here c.in_ok-add.ensures.apart),
