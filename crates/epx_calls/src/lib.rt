@@ -37,4 +37,6 @@ mod run_order_tests;
 #[cfg(test)]
 mod seeds;
 #[cfg(test)]
+mod traces;
+#[cfg(test)]
 mod vocabulary;

@@ -1,0 +1,2 @@
+pub mod KeyTestLemmas
+pub mod TraceLemmas

@@ -1,0 +1,76 @@
+-- Traces: what the laws say of them.
+use Rattle.std.proofs.Common.{◌≡◌, inl, inr, ℕ, ℤ, List, [], ◌∷◌}
+use Rattle.std.proofs.Common.{Option, flat_map, fold, refl, sym, ap, subst, ◌∙◌}
+use Rattle.std.specs.FinMap as contents
+use Rattle.std.proofs.lemmas.Bool.{cases_Bool}
+use Rattle.epx_types.specs.Commands.{command_on}
+use Rattle.epx_types.specs.CommandKeys.{touched_keys}
+use Rattle.epx_types.specs.Contents.{Contents}
+use Rattle.epx_types.specs.ExecutionOrder.{Ranked}
+use Rattle.epx_types.proofs.orders.ExecutionOrderLemmas.{IsExecutionOrder-unique}
+use Rattle.epx_types.proofs.orders.OrderExistenceLemmas.{execution_order_exists}
+use Rattle.epx_trace.specs.Traces.{IdCommand, has_key, writes_key, touch_of, trace_of}
+use Rattle.epx_trace.specs.TraceLaws.{value_before, value_left, FindLastWrites}
+use Rattle.epx_trace.specs.TraceLaws.{TraceTextExists, TraceTextIsOne}
+use Rattle.epx_trace.specs.TraceLaws.{TouchesFindLastWrites, LastWriteIsStored}
+use Rattle.epx_trace.specs.TraceLines.{touch_line}
+use Rattle.epx_trace.specs.TraceTexts.{ordered_commands}
+use Rattle.epx_trace.proofs.KeyTestLemmas.{untouched_stays, unwritten_stays}
+
+pub trace_text_exists : TraceTextExists
+trace_text_exists m key reads rising =
+    let order = execution_order_exists m rising in (
+      flat_map (touch_line reads) (trace_of (ordered_commands m order.0) contents.empty key),
+      record { order = order.0; ordered = order.1; printed = refl },
+    )
+
+pub trace_text_is_one : TraceTextIsOne
+trace_text_is_one m key reads text other p q =
+    p.printed
+    ∙ ap (λ (order : List Ranked). flat_map (touch_line reads)
+    (trace_of (ordered_commands m order) contents.empty key))
+    (IsExecutionOrder-unique m p.order q.order p.ordered q.ordered)
+    ∙ sym q.printed
+
+-- ---- the values of one touch
+
+touch_value_before : (p : IdCommand) (c : Contents) (k : List ℕ)
+    → value_before (touch_of p c k) ≡ contents.get c k
+touch_value_before p c k =
+    elim (cases_Bool (writes_key p.1 c k)) [ inl w ↦ rw w refl | inr r ↦ rw r refl ]
+
+touch_value_left : (p : IdCommand) (c : Contents) (k : List ℕ)
+    → value_left (contents.get c k) (touch_of p c k) ≡ contents.get (command_on p.1 c).after k
+touch_value_left p c k =
+    elim (cases_Bool (writes_key p.1 c k)) [
+      | inl w ↦ rw w refl
+      | inr r ↦ rw r (sym (unwritten_stays p.1 c k r))
+    ]
+
+-- ---- the laws
+
+pub touches_find_last_writes : TouchesFindLastWrites
+touches_find_last_writes [] c k = tt
+touches_find_last_writes (p ∷ rest) c k =
+    let after = (command_on p.1 c).after in
+    let later = touches_find_last_writes rest after k in
+    elim (cases_Bool (has_key (touched_keys p.1) k)) [
+      | inl touched ↦ rw touched (
+        touch_value_before p c k,
+        subst (λ (v : Option ℤ). FindLastWrites v (trace_of rest after k))
+            (sym (touch_value_left p c k)) later,
+      )
+      | inr none ↦ rw none (subst (λ (v : Option ℤ). FindLastWrites v (trace_of rest after k))
+          (untouched_stays p.1 c k none) later)
+    ]
+
+pub last_write_is_stored : LastWriteIsStored
+last_write_is_stored [] c k = refl
+last_write_is_stored (p ∷ rest) c k =
+    let after = (command_on p.1 c).after in
+    let later = last_write_is_stored rest after k in
+    let from : Option ℤ → Option ℤ = λ v. fold value_left v (trace_of rest after k) in
+    elim (cases_Bool (has_key (touched_keys p.1) k)) [
+      | inl touched ↦ rw touched (later ∙ ap from (sym (touch_value_left p c k)))
+      | inr none ↦ rw none (later ∙ ap from (untouched_stays p.1 c k none))
+    ]

@@ -1,0 +1,4 @@
+pub mod Traces
+pub mod TraceLines
+pub mod TraceTexts
+pub mod TraceLaws
