@@ -2,6 +2,7 @@
 _epx() {
     local word=${COMP_WORDS[COMP_CWORD]} options="--workers --cut --help"
     case ${COMP_WORDS[1]} in audit|check|compare) options+=" --exit-code" ;; esac
+    case ${COMP_WORDS[1]} in check) options+=" --prefix" ;; esac
     if [ "$COMP_CWORD" -eq 1 ]; then
         COMPREPLY=($(compgen -W "run order levels graph resume audit check compare help --help --version" -- "$word"))
     elif [ "${word#-}" != "$word" ]; then

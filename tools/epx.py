@@ -103,11 +103,12 @@ def audit(logs, workers=4):
     return None if row == ["covered"] else (Id(*row[1:3]), Id(*row[3:]))
 
 
-def check(instances, logs, workers=4):
-    """What is wrong with a list of instances as an order, as a row of the answer, or None:
-    lawful."""
+def check(instances, logs, workers=4, prefix=False):
+    """What is wrong with a list of instances as an order, or as the beginning of one, as a row of
+    the answer, or None: lawful."""
     lines = "".join(f"[{one.replica},{one.number}]\n" for one in instances)
-    row = json.loads(ask("check", [lines.encode()], logs, workers))
+    options = ["--prefix"] if prefix else []
+    row = json.loads(ask("check", [lines.encode()], logs, workers, options))
     return None if row == ["lawful"] else tuple(row)
 
 
@@ -133,11 +134,11 @@ def read_report(text):
     return found
 
 
-def ask(command, firsts, logs, workers):
+def ask(command, firsts, logs, workers, options=()):
     """What a subcommand answers about a base or a list, and logs."""
     with contextlib.ExitStack() as stack:
         paths = [path_of(text, stack) for text in [*firsts, *logs]]
-        words = [PROGRAM, command, "--workers", str(workers), "--", *paths]
+        words = [PROGRAM, command, *options, "--workers", str(workers), "--", *paths]
         ended = subprocess.run(words, capture_output=True, check=False)
     if ended.returncode:
         raise Fault(ended.stderr.decode().strip(), ended.returncode)
@@ -166,7 +167,7 @@ def test():
     assert found.waiting == [Waiting(Id(2, 1), Id(2, 2))]
     assert [one.id for one in order(logs)] == [one.id for one in found.replies]
     assert audit(logs) is None and check([one.id for one in order(logs)], logs) is None
-    assert check([], logs)[0] == "missing"
+    assert check([], logs)[0] == "missing" and check([], logs, prefix=True) is None
     assert audit([examples / "unrelated.jsonl"]) is not None
     kinds = [row[0] for row in compare(sorted(examples.glob("corrupted/*.jsonl")))]
     assert kinds == ["log"] * 5 + ["bad", "differs"] + ["lacks"] * 4 + ["missing"]

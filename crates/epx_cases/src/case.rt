@@ -104,7 +104,9 @@ impl<'a> Case<'a> {
                 return self.add_plan(workers, cut);
             }
             (Directive::Base, Some(Subject::Task(Task::Resume))) => self.case_input.begin_first(),
-            (Directive::List, Some(Subject::Task(Task::Check))) => self.case_input.begin_first(),
+            (Directive::List, Some(Subject::Task(Task::Check | Task::CheckPrefix))) => {
+                self.case_input.begin_first();
+            }
             (Directive::Gives(flow), Some(Subject::Task(_))) => return Ok(
                 self.case_input.set_source_flow(flow),
             ),

@@ -4,7 +4,8 @@ ghost use Rattle.std.specs.Prelude.{◌≡◌, All, IfOk, false};
 use crate::case_input::CaseInput;
 use crate::flow::Flow;
 use epx_tool::{
-    Ask, FuseSource, Task, answer, check, resume, run, run_check, run_resume, show, view,
+    Ask, FuseSource, InputQuestion, Task, answer, check, resume, run, run_check, run_resume,
+    run_with_input, show, view,
 };
 use epx_types::{Fault, Plan};
 use std::alloc::{AllocError, Global};
@@ -12,7 +13,9 @@ use std::io;
 use std::random::RandomSource;
 use std::thread::Threads;
 
-/// The task that a command of the program asks for.
+const PREFIX: InputQuestion = InputQuestion::CheckPrefix;
+
+/// The task that a command of the program asks for. `check-prefix` is `check --prefix`.
 pub(crate) fn task_named(command: &str) -> Option<Task> {
     match command {
         "run" => Some(Task::Run),
@@ -22,6 +25,7 @@ pub(crate) fn task_named(command: &str) -> Option<Task> {
         "resume" => Some(Task::Resume),
         "audit" => Some(Task::Audit),
         "check" => Some(Task::Check),
+        "check-prefix" => Some(Task::CheckPrefix),
         "compare" => Some(Task::Compare),
         _ => None,
     }
@@ -35,7 +39,7 @@ fn ask_of(task: Task) -> Option<Ask> {
         Task::Graph => Some(Ask::Graph),
         Task::Audit => Some(Ask::Audit),
         Task::Compare => Some(Ask::Compare),
-        Task::Run | Task::Resume | Task::Check => None,
+        Task::Run | Task::Resume | Task::Check | Task::CheckPrefix => None,
     }
 }
 
@@ -59,6 +63,9 @@ pub(crate) fn answer_input<R: Threads + RandomSource + Sync>(
         (_, Some(ask)) => view(rt, alloc, ask, logs, plan),
         (Task::Resume, None) => resume(rt, alloc, &case_input.first, logs, plan),
         (Task::Check, None) => check(rt, alloc, &case_input.first, logs, plan),
+        (Task::CheckPrefix, None) => {
+            epx_tool::answer_input(rt, alloc, PREFIX, &case_input.first, logs, plan)
+        }
         (_, None) => answer(rt, alloc, logs, plan),
     };
     match outcome {
@@ -101,6 +108,9 @@ pub(crate) fn deliver_input<R: Threads + RandomSource + Sync>(
         (_, Some(ask)) => show(rt, alloc, ask, &mut sources, plan, &mut sink),
         (Task::Resume, None) => run_resume(rt, alloc, &mut first, &mut sources, plan, &mut sink),
         (Task::Check, None) => run_check(rt, alloc, &mut first, &mut sources, plan, &mut sink),
+        (Task::CheckPrefix, None) => {
+            run_with_input(rt, alloc, PREFIX, &mut first, &mut sources, plan, &mut sink).map(|_| ())
+        }
         (_, None) => run(rt, alloc, &mut sources, plan, &mut sink),
     };
     let mut text = Vec::from_slice(alloc, sink.bytes())?;

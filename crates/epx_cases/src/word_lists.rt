@@ -40,6 +40,8 @@ pub(crate) fn word_lists() -> [&'static [&'static str]; 53] {
         &["epx", "audit", "apart.jsonl"],
         &["epx", "check", "lawful.list", "component.jsonl"],
         &["epx", "check", "early.list", "component.jsonl"],
+        &["epx", "check", "--prefix", "cut_off.list", "component.jsonl"],
+        &["epx", "check", "--prefix", "begun.list", "component.jsonl"],
         &["epx", "check", "cut_off.list", "component.jsonl"],
         &["epx", "compare", "0.jsonl", "other.jsonl", "cut_off.jsonl"],
         &["epx", "compare", "--exit-code", "0.jsonl", "other.jsonl"],

@@ -1,3 +1,4 @@
 mod ComponentCountLemmas
 mod LargerMapLemmas
+mod BeginningLemmas
 mod RemainingReadinessLemmas

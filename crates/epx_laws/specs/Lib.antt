@@ -8,6 +8,7 @@ pub mod LevelLaws
 pub mod PieceLaws
 pub mod DoneLaws
 pub mod GrowthLaws
+pub mod BeginningLaws
 pub mod ResumedRunLaws
 pub mod ComparisonLaws
 pub mod AtMostOne

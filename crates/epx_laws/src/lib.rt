@@ -3,6 +3,7 @@
 #![tactic(auto)]
 
 pub mod agreement;
+pub mod beginnings;
 pub mod commands;
 pub mod comparisons;
 pub mod conflicts;

@@ -22,7 +22,7 @@ use Rattle.epx_order.specs.OrderFaults.{IsListOfReady, InOrder}
 
 module _ (m : List Instance) (rising : IsRising (ids_of m)) (ids : List Id) where
   -- no instance comes before itself
-  not_before_itself : (x : Id) → ¬ SequenceBefore m x x
+  pub not_before_itself : (x : Id) → ¬ SequenceBefore m x x
   not_before_itself x by =
       let e = by.second in
       let one = IsRising-same m rising by.first e by.first_in by.second_in

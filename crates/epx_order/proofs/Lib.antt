@@ -2,9 +2,12 @@ pub mod ReadyRankLemmas
 pub mod SortedRankLemmas
 pub mod EndLemmas
 pub mod SequenceKeyLemmas
+pub mod LeftOutLemmas
 pub mod NodeListLemmas
 pub mod ListedNodeLemmas
 pub mod LawfulOrderLemmas
+pub mod BeginningLemmas
 pub mod NodeFaultLemmas
 pub mod UniqueFaultLemmas
 pub mod OrderFaultLemmas
+pub mod BeginningFaultLemmas

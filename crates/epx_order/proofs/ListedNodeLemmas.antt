@@ -12,11 +12,33 @@ use Rattle.epx_graph.specs.GraphOf.{IsGraphOf}
 use Rattle.epx_graph.proofs.GraphNodeLemmas.{node_is_one}
 use Rattle.epx_graph.proofs.MapPathLemmas.{committed_count, node_committed, node_of_committed}
 use Rattle.epx_graph.proofs.MapPathLemmas.{node_order}
-use Rattle.epx_order.specs.inner.NodeLists.{AreListed, IsListedIfReady}
+use Rattle.epx_order.specs.inner.NodeLists.{AreListed, IsListedIfReady, IsListingFault}
+use Rattle.epx_order.specs.BeginningFaults.{IsBeginningFault}
 use Rattle.epx_order.specs.OrderFaults.{HasAllReady, IsOrderFault, ReadyOnce}
 use Rattle.epx_components.specs.ReadyMarks.{is_marked, AreReadyMarks}
-use Rattle.epx_order.specs.declared.order_fault.OrderFault.TheVariants.{Missing}
+use Rattle.epx_order.specs.declared.order_fault.OrderFault.{OrderFault}
+use Rattle.epx_order.specs.declared.order_fault.OrderFault.TheVariants.{Memory, Stranger, Repeat}
+use Rattle.epx_order.specs.declared.order_fault.OrderFault.TheVariants.{Missing, Early, Sequence}
 use Rattle.epx_components.proofs.ReadyMarkLemmas.{ready_from_mark, mark_from_ready}
+
+-- a place that is wrong by itself is the fault of the list, as an order and as a beginning
+pub order_fault_of_place : (m : List Instance) (ids : List Id) (f : OrderFault)
+    → IsListingFault m ids f → IsOrderFault m ids f
+order_fault_of_place m ids Memory h = tt
+order_fault_of_place m ids (Stranger i) h = h
+order_fault_of_place m ids (Repeat i) h = h
+order_fault_of_place m ids (Missing x) h = absurd h
+order_fault_of_place m ids (Early i) h = absurd h
+order_fault_of_place m ids (Sequence i) h = absurd h
+
+pub beginning_fault_of_place : (m : List Instance) (ids : List Id) (f : OrderFault)
+    → IsListingFault m ids f → IsBeginningFault m ids f
+beginning_fault_of_place m ids Memory h = tt
+beginning_fault_of_place m ids (Stranger i) h = h
+beginning_fault_of_place m ids (Repeat i) h = h
+beginning_fault_of_place m ids (Missing x) h = absurd h
+beginning_fault_of_place m ids (Early i) h = absurd h
+beginning_fault_of_place m ids (Sequence i) h = absurd h
 
 module _ (m : List Instance) (g : DependencyGraph) (is : IsGraphOf m g) (ids : List Id)
     (nodes : List ℕ) (marks : List Bool) (listed : AreListed g ids (length ids) nodes marks) where

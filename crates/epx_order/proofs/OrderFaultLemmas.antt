@@ -28,34 +28,34 @@ use Rattle.epx_order.proofs.LawfulOrderLemmas.{lawful_from_order}
 
 -- ---- decidable facts
 
-abbrev Decided : Type 0 → Type 0
+abbrev pub Decided : Type 0 → Type 0
 Decided A = A ⊎ (¬ A)
 
-less_cases : (i j : ℕ) → Decided (i < j)
+pub less_cases : (i j : ℕ) → Decided (i < j)
 less_cases i j = elim (cases_lt i j) [ inl l ↦ inl l | inr k ↦ inr (λ l. omega (arith, k, l)) ]
 
 true_cases : (b : Bool) → Decided (b ≡ true)
 true_cases b = elim (cases_Bool b) [ inl t ↦ inl t | inr f ↦ inr (λ t. cc (t, f)) ]
 
-either_cases : {A B : Type 0} → Decided A → Decided B → Decided (A ⊎ B)
+pub either_cases : {A B : Type 0} → Decided A → Decided B → Decided (A ⊎ B)
 either_cases (inl a) b = inl (inl a)
 either_cases (inr no_a) (inl b) = inl (inr b)
 either_cases (inr no_a) (inr no_b) = inr (λ h. elim h [ inl a ↦ no_a a | inr b ↦ no_b b ])
 
-decided_as : {A B : Type 0} → Decided A → (A → B) → (B → A) → Decided B
+pub decided_as : {A B : Type 0} → Decided A → (A → B) → (B → A) → Decided B
 decided_as (inl a) there back = inl (there a)
 decided_as (inr none) there back = inr (λ b. none (back b))
 
-element_cases : {X : Type 0} (P : X → Type 0) → ((x : X) → Decided (P x)) → (xs : List X)
+pub element_cases : {X : Type 0} (P : X → Type 0) → ((x : X) → Decided (P x)) → (xs : List X)
     → Decided ((x : X) × Contains xs x × P x)
 element_cases P decide xs = elim (some_or_none P decide xs)
     [ inl found ↦ inl found | inr none ↦ inr (λ h. none h.0 h.1 h.2) ]
 
 -- the least number below n that has the fact, or none has it
-abbrev LeastOrNone : (ℕ → Type 0) → ℕ → Type 0
+abbrev pub LeastOrNone : (ℕ → Type 0) → ℕ → Type 0
 LeastOrNone P n = ((k : ℕ) × (k < n) × P k × ((j : ℕ) → j < k → ¬ P j)) ⊎ ((j : ℕ) → j < n → ¬ P j)
 
-least_place : (P : ℕ → Type 0) → ((k : ℕ) → Decided (P k)) → (n : ℕ) → LeastOrNone P n
+pub least_place : (P : ℕ → Type 0) → ((k : ℕ) → Decided (P k)) → (n : ℕ) → LeastOrNone P n
 least_place P decide zero = inr (λ j l. absurd (omega (arith, l)))
 least_place P decide (suc n) =
     elim (least_place P decide n) [
@@ -72,10 +72,10 @@ least_place P decide (suc n) =
 
 module _ (ids : List Id) where
   -- the Id at a place has the fact
-  abbrev HasAt : (Id → Type 0) → ℕ → Type 0
+  abbrev pub HasAt : (Id → Type 0) → ℕ → Type 0
   HasAt P k = (x : Id) × (slice_get ids k ≡ Some x) × P x
 
-  at_cases : (P : Id → Type 0) → ((x : Id) → Decided (P x)) → (k : ℕ) → Decided (HasAt P k)
+  pub at_cases : (P : Id → Type 0) → ((x : Id) → Decided (P x)) → (k : ℕ) → Decided (HasAt P k)
   at_cases P decide k = by (slice_get ids k) refl where
     by : (o : Option Id) → slice_get ids k ≡ o → Decided (HasAt P k)
     by None e = inr (λ h. let at = h.1 in cc (e, at))
@@ -83,7 +83,7 @@ module _ (ids : List Id) where
         (λ h. let at = h.1 in let same : h.0 ≡ x = cc (e, at) in subst P same h.2)
 
   -- so does the Id at some place for which R holds
-  place_cases : (R : ℕ → Type 0) (P : Id → Type 0) → ((k : ℕ) → Decided (R k))
+  pub place_cases : (R : ℕ → Type 0) (P : Id → Type 0) → ((k : ℕ) → Decided (R k))
       → ((x : Id) → Decided (P x)) → Decided ((k : ℕ) × R k × HasAt P k)
   place_cases R P among decide =
       elim (least_place (λ k. R k × HasAt P k) (λ k. both_cases (among k) (at_cases P decide k))
@@ -93,7 +93,7 @@ module _ (ids : List Id) where
       ]
 
 module _ (m : List Instance) (ids : List Id) where
-  ready_cases : (x : Id) → Decided (IsReady m x)
+  pub ready_cases : (x : Id) → Decided (IsReady m x)
   ready_cases x =
       elim (Contains-Id_cases (ids_of m) x) [
         | inl committed ↦ elim (ready_or_waits m x committed) [
@@ -107,7 +107,7 @@ module _ (m : List Instance) (ids : List Id) where
   abbrev Follows : Id → Id → Instance → Instance → Type 0
   Follows x y d e = (e.id ≡ y) × (is_lt (ordering_then (nat_cmp d.seq e.seq) (id_cmp x y)) ≡ true)
 
-  sequence_cases : (x y : Id) → Decided (SequenceBefore m x y)
+  pub sequence_cases : (x y : Id) → Decided (SequenceBefore m x y)
   sequence_cases x y =
       decided_as
       (element_cases (λ (d : Instance). (d.id ≡ x)
@@ -165,7 +165,7 @@ module _ (m : List Instance) (ids : List Id) where
       })
       (λ h. (h.id, h.here, (h.later, h.is_later, (h.reached, h.there, (h.reaches, h.outside)))))
 
-  overtaken_cases : (k : ℕ) → Decided (IsOvertakenAt m ids k)
+  pub overtaken_cases : (k : ℕ) → Decided (IsOvertakenAt m ids k)
   overtaken_cases k =
       decided_as
       (at_cases ids (λ x. (j : ℕ) × (j < k)
@@ -257,23 +257,24 @@ module _ (m : List Instance) (ids : List Id) where
             (λ i l. ((λ early. none i l (inl early)), (λ overtaken. none i l (inr overtaken))))
       ]
 
-  fault_or_once : HasFault ⊎ ReadyOnce m ids (length ids)
-  fault_or_once =
+  -- the least stranger or repeat
+  abbrev pub HasWrongPlace : Type 0
+  HasWrongPlace = (k : ℕ) × (IsStrangerAt m ids k ⊎ IsRepeatAt m ids k) × ReadyOnce m ids k
+
+  pub wrong_or_once : HasWrongPlace ⊎ ReadyOnce m ids (length ids)
+  wrong_or_once =
       elim (least_place (λ k. IsStrangerAt m ids k ⊎ IsRepeatAt m ids k)
       (λ k. either_cases (stranger_cases k) (repeat_cases k)) (length ids)) [
-        | inl least ↦ elim least.2 [
-          | inl stranger ↦ inl (
-            Stranger least.0,
-            (λ same. cc same),
-            (stranger, once_below least.0 least.3),
-          )
-          | inr again ↦ inl (
-            Repeat least.0,
-            (λ same. cc same),
-            (again, once_below least.0 least.3),
-          )
-        ]
+        | inl least ↦ inl (least.0, least.2, once_below least.0 least.3)
         | inr none ↦ inr (once_below (length ids) none)
+      ]
+
+  fault_or_once : HasFault ⊎ ReadyOnce m ids (length ids)
+  fault_or_once =
+      elim wrong_or_once [
+        | inl (k, inl stranger, once) ↦ inl (Stranger k, (λ same. cc same), (stranger, once))
+        | inl (k, inr again, once) ↦ inl (Repeat k, (λ same. cc same), (again, once))
+        | inr once ↦ inr once
       ]
 
   pub lawful_or_fault : IsRising (ids_of m) → IsLawful m ids ⊎ HasFault

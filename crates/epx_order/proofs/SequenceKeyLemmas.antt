@@ -14,6 +14,7 @@ use Rattle.epx_order.specs.declared.check.sequence_key.SequenceKey.{SequenceKey}
 use Rattle.epx_components.specs.Partitions.{ComponentParts, component_of}
 use Rattle.epx_order.specs.inner.SequenceKeys.{sequence_key_of, sequence_key_cmp, ComesBefore}
 use Rattle.epx_order.specs.inner.SequenceKeys.{IsNodeEarlyAt, IsNodeOvertakenAt, AreNodesInOrder}
+use Rattle.epx_order.specs.inner.SequenceKeys.{IsNodeOutOfSequenceAt}
 use Rattle.epx_components.proofs.PartitionLemmas.{value_after_set}
 
 abbrev pub latest_in : ComponentParts → List (Option SequenceKey) → ℕ → Option SequenceKey
@@ -41,13 +42,23 @@ sequence_key_cmp-IsAntisymmetric a b e =
     λ i. record { seq = seq i; id = id i }
 
 -- a key less than another is less than each that is not less than the other
-before_later : (a b c : SequenceKey) → is_lt (sequence_key_cmp a b) ≡ true
+pub before_later : (a b c : SequenceKey) → is_lt (sequence_key_cmp a b) ≡ true
     → ¬ (is_lt (sequence_key_cmp c b) ≡ true) → is_lt (sequence_key_cmp a c) ≡ true
 before_later a b c lower not =
     elim (below_cases sequence_key_cmp_total sequence_key_cmp-IsAntisymmetric c b) [
       | inl l ↦ absurd (not l)
       | inr (inl same) ↦ subst (λ t. is_lt (sequence_key_cmp a t) ≡ true) (sym same) lower
       | inr (inr l) ↦ below_trans sequence_key_cmp_total a b c lower l
+    ]
+
+-- a key that is not greater than the lesser of two is less than the greater
+pub least_before : (a b c : SequenceKey) → is_lt (sequence_key_cmp a b) ≡ true
+    → ¬ (is_lt (sequence_key_cmp a c) ≡ true) → is_lt (sequence_key_cmp c b) ≡ true
+least_before a b c lower not =
+    elim (below_cases sequence_key_cmp_total sequence_key_cmp-IsAntisymmetric a c) [
+      | inl l ↦ absurd (not l)
+      | inr (inl same) ↦ subst (λ t. is_lt (sequence_key_cmp t b) ≡ true) same lower
+      | inr (inr l) ↦ below_trans sequence_key_cmp_total c a b l lower
     ]
 
 module _ (m : List Instance) (p : ComponentParts) (nodes : List ℕ) (n : ℕ)
@@ -143,13 +154,14 @@ module _ (m : List Instance) (p : ComponentParts) (nodes : List ℕ) (n : ℕ)
     cases = value_after_set None p latest (get_or nodes n 0) (Some (sequence_key_of e)) in'
 
 -- one more position
-pub nodes_in_order_step : (m : List Instance) (p : ComponentParts) (below nodes : List ℕ) (n : ℕ)
-    → ¬ IsNodeEarlyAt p below nodes n → ¬ IsNodeOvertakenAt m p nodes n
-    → AreNodesInOrder m p below nodes n → AreNodesInOrder m p below nodes (n + 1)
-nodes_in_order_step m p below nodes n ahead passed old i l = elim (cases_lt i n) [
+pub nodes_in_order_step : (m : List Instance) (p : ComponentParts)
+    (left_out : List (Option SequenceKey)) (below nodes : List ℕ) (n : ℕ)
+    → ¬ IsNodeEarlyAt p below nodes n → ¬ IsNodeOutOfSequenceAt m p left_out nodes n
+    → AreNodesInOrder m p left_out below nodes n → AreNodesInOrder m p left_out below nodes (n + 1)
+nodes_in_order_step m p left_out below nodes n ahead wrong old i l = elim (cases_lt i n) [
   | inl past ↦ old i past
   | inr now ↦
       let same : n ≡ i = omega arith in
-      subst (λ i. (¬ IsNodeEarlyAt p below nodes i) × (¬ IsNodeOvertakenAt m p nodes i)) same
-      (ahead, passed)
+      subst (λ i. (¬ IsNodeEarlyAt p below nodes i)
+      × (¬ IsNodeOutOfSequenceAt m p left_out nodes i)) same (ahead, wrong)
 ]

@@ -17,7 +17,7 @@ use Rattle.epx_order.specs.declared.order_fault.OrderFault.TheVariants.{Memory, 
 use Rattle.epx_order.specs.declared.order_fault.OrderFault.TheVariants.{Missing, Early, Sequence}
 
 module _ (m : List Instance) (ids : List Id) where
-  abbrev IsStrangerOrRepeatAt : ℕ → Type 0
+  abbrev pub IsStrangerOrRepeatAt : ℕ → Type 0
   IsStrangerOrRepeatAt place = IsStrangerAt m ids place ⊎ IsRepeatAt m ids place
 
   -- if a list has only ready instances, each once, up to a place, then no lower place has a
@@ -32,10 +32,10 @@ module _ (m : List Instance) (ids : List Id) where
   within place (inl stranger) = slice_get_within ids place stranger.id stranger.here
   within place (inr again) = slice_get_within ids place again.id again.here
 
-  not_whole : (place : ℕ) → IsStrangerOrRepeatAt place → ¬ ReadyOnce m ids (length ids)
+  pub not_whole : (place : ℕ) → IsStrangerOrRepeatAt place → ¬ ReadyOnce m ids (length ids)
   not_whole place wrong once = not_below (length ids) place once wrong (within place wrong)
 
-  one_place : (i j : ℕ) → IsStrangerOrRepeatAt i → ReadyOnce m ids i → IsStrangerOrRepeatAt j
+  pub one_place : (i j : ℕ) → IsStrangerOrRepeatAt i → ReadyOnce m ids i → IsStrangerOrRepeatAt j
       → ReadyOnce m ids j → i ≡ j
   one_place i j wrong once wrong' once' = elim (cases_lt i j) [
     | inl l ↦ absurd (not_below j i once' wrong l)
@@ -45,7 +45,7 @@ module _ (m : List Instance) (ids : List Id) where
     ]
   ]
 
-  not_both : (i : ℕ) → IsStrangerAt m ids i → ¬ IsRepeatAt m ids i
+  pub not_both : (i : ℕ) → IsStrangerAt m ids i → ¬ IsRepeatAt m ids i
   not_both i stranger again =
       let same : Some again.id ≡ Some stranger.id = sym again.here ∙ stranger.here in
       stranger.waits (subst (IsReady m) (cc same) again.ready)

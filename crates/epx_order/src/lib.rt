@@ -10,7 +10,7 @@ pub mod laws;
 mod order_fault;
 mod ready;
 
-pub use check::check_order;
+pub use check::{check_order, check_prefix};
 pub use epx_audit::audit;
 pub use epx_components::{ComponentMap, OrderList, components};
 pub use execution_order::order;

@@ -13,7 +13,7 @@ use Rattle.epx_types.specs.declared.memory.Memory.{Memory}
 use Rattle.epx_devices.specs.Transfers.{AppendsPrefix}
 use Rattle.epx_words.specs.App.{epx_app}
 use Rattle.epx_words.specs.Requests.{ArePathsOf, IsWork, AsksFor, IfText, IfWork}
-use Rattle.epx_words.specs.Requests.{has_exit_code, task_name}
+use Rattle.epx_words.specs.Requests.{FitsPrefix, has_exit_code, task_name}
 use Rattle.epx_words.specs.ExitStatus.{IsExitStatus}
 use Rattle.epx_words.specs.SubcommandRows.{HasExitCode, IsCutOf, IsWorkersOf, name_in, rows_in}
 use Rattle.epx_words.specs.declared.words.Task.TheVariants.{Run}
@@ -48,12 +48,24 @@ module _ (words : List Text) (n : ℕ) (as_many : n ≡ length words) where
       → IfWork (λ task plan paths. IsCutOf (rows_in (subcommand_of epx_app words)) plan.cut) asked
       → IfWork (λ task plan paths. ArePathsOf task (rows_in (subcommand_of epx_app words)) paths)
       asked
+      → IfWork (λ task plan paths. FitsPrefix task (rows_in (subcommand_of epx_app words))) asked
       → IfWork (AsksFor (subcommand_of epx_app words)) asked
-  work_fits (Work task plan paths) is_task is_workers is_cut are_paths =
-      record { task = is_task; workers = is_workers; cut = is_cut; paths = are_paths }
-  work_fits (WorkWithExitCode task plan paths) is_task is_workers is_cut are_paths =
-      record { task = is_task; workers = is_workers; cut = is_cut; paths = are_paths }
-  work_fits (text said status) is_task is_workers is_cut are_paths = tt
+  work_fits (Work task plan paths) is_task is_workers is_cut are_paths is_prefix = record {
+    task = is_task;
+    workers = is_workers;
+    cut = is_cut;
+    paths = are_paths;
+    prefix = is_prefix;
+  }
+  work_fits (WorkWithExitCode task plan paths) is_task is_workers is_cut are_paths is_prefix =
+      record {
+        task = is_task;
+        workers = is_workers;
+        cut = is_cut;
+        paths = are_paths;
+        prefix = is_prefix;
+      }
+  work_fits (text said status) is_task is_workers is_cut are_paths is_prefix = tt
 
   text_ends : (asked : Words) → IfText (λ status. takes epx_app words ≡ false) asked
       → IfText (IsExitStatus (fault_of epx_app words)) asked
@@ -77,22 +89,27 @@ module _ (words : List Text) (n : ℕ) (as_many : n ≡ length words) where
       → (2 ≤ n → IfOk read
       (IfWork (λ task plan paths. ArePathsOf task (rows_in (subcommand_of epx_app words))
       paths)))
+      → (2 ≤ n → IfOk read
+      (IfWork (λ task plan paths. FitsPrefix task (rows_in (subcommand_of epx_app words)))))
       → (2 ≤ n → IfOk read (λ asked. IsWork asked
       → (has_exit_code asked ≡ true) ↔ HasExitCode (rows_in (subcommand_of epx_app words))))
       → (2 ≤ n → IfOk read (λ asked. IsWork asked ↔ (fault_of epx_app words ≡ [])))
       → (2 ≤ n → IfOk read (IfText (λ status. takes epx_app words ≡ false)))
       → (2 ≤ n → IfOk read (IfText (IsExitStatus (fault_of epx_app words))))
       → IfOk read (Asks words)
-  asks (Ok asked) bare is_task is_workers is_cut are_paths exit_code taken refused ends = record {
+  asks (Ok asked) bare is_task is_workers is_cut are_paths is_prefix exit_code taken refused
+      ends = record {
     bare = λ few. bare (omega (arith, as_many, few));
     work = λ many. let two : 2 ≤ n = omega (arith, as_many, many) in
-        work_fits asked (is_task two) (is_workers two) (is_cut two) (are_paths two);
+        work_fits asked (is_task two) (is_workers two) (is_cut two) (are_paths two)
+        (is_prefix two);
     exit_code = λ many. exit_code (omega (arith, as_many, many));
     taken = λ many. taken (omega (arith, as_many, many));
     text = λ many. let two : 2 ≤ n = omega (arith, as_many, many) in
         text_ends asked (refused two) (ends two);
   }
-  asks (Err memory) bare is_task is_workers is_cut are_paths exit_code taken refused ends = tt
+  asks (Err memory) bare is_task is_workers is_cut are_paths is_prefix exit_code taken refused
+      ends = tt
 
 module _ {S : Type 0} (contents : S → Option (List ℕ)) (before after : S)
     (input : Option (List ℕ)) (Unread : Type 0) (status : ℕ) (failed : Bool) where

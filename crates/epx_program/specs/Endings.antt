@@ -9,7 +9,7 @@ use Rattle.epx_types.specs.Faults.{fault_status}
 use Rattle.epx_devices.specs.Transfers.{AppendsPrefix}
 use Rattle.epx_words.specs.declared.words.Task.{Task}
 use Rattle.epx_words.specs.declared.words.Task.TheVariants.{Run, Order, Levels, Graph, Resume}
-use Rattle.epx_words.specs.declared.words.Task.TheVariants.{Audit, Check, Compare}
+use Rattle.epx_words.specs.declared.words.Task.TheVariants.{Audit, Check, CheckPrefix, Compare}
 use Rattle.epx_tool.specs.Findings.{Finds, FindsWith}
 use Rattle.epx_tool.specs.Questions.{AnswersQuestion, IsBadInput, IsInputAnswer, IsTextWith}
 use Rattle.epx_tool.specs.Runs.{IsFaultOfRun}
@@ -30,6 +30,7 @@ asked_of Graph = asked.Logs (View ask.Graph)
 asked_of Audit = asked.Logs (View ask.Audit)
 asked_of Resume = asked.First about.Resume
 asked_of Check = asked.First about.Check
+asked_of CheckPrefix = asked.First about.CheckPrefix
 asked_of Compare = asked.Logs (View ask.Compare)
 
 -- the first of some texts and the logs after it; if there is no text, the first text is empty

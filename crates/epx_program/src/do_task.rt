@@ -37,6 +37,7 @@ fn asked_by(task: Task) -> Asked
         Task::Audit => Asked::Logs(Question::View(Ask::Audit)),
         Task::Resume => Asked::First(InputQuestion::Resume),
         Task::Check => Asked::First(InputQuestion::Check),
+        Task::CheckPrefix => Asked::First(InputQuestion::CheckPrefix),
         Task::Compare => Asked::Logs(Question::View(Ask::Compare)),
     }
 }

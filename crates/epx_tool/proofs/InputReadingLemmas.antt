@@ -5,6 +5,7 @@ use Rattle.epx_tool.specs.declared.input_contents.InputContents.{InputContents}
 use Rattle.epx_tool.specs.declared.input_contents.InputContents.TheVariants as contents
 use Rattle.epx_tool.specs.declared.question.InputQuestion.{InputQuestion}
 use Rattle.epx_tool.specs.declared.question.InputQuestion.TheVariants.{Resume, Check}
+use Rattle.epx_tool.specs.declared.question.InputQuestion.TheVariants.{CheckPrefix}
 use Rattle.epx_tool.specs.inner.InputReadings.{IsContents, IsTextFrom}
 use Rattle.epx_tool.specs.Questions.{IsTextWith}
 
@@ -15,5 +16,11 @@ pub text_with_input : (question : InputQuestion) (input : List ℕ) (read : Inpu
 text_with_input Resume input (contents.Base base) m text is printed =
     (base.done, base.stored, is, printed)
 text_with_input Check input (contents.List ids) m text is printed = (ids.items, is, printed)
+text_with_input CheckPrefix input (contents.Prefix ids) m text is printed =
+    (ids.items, is, printed)
 text_with_input Resume input (contents.List ids) m text is printed = absurd is
+text_with_input Resume input (contents.Prefix ids) m text is printed = absurd is
 text_with_input Check input (contents.Base base) m text is printed = absurd is
+text_with_input Check input (contents.Prefix ids) m text is printed = absurd is
+text_with_input CheckPrefix input (contents.Base base) m text is printed = absurd is
+text_with_input CheckPrefix input (contents.List ids) m text is printed = absurd is

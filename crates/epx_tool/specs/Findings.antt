@@ -7,6 +7,7 @@ use Rattle.epx_compare.specs.Comparisons.{HasFindings}
 use Rattle.epx_report.specs.ViewLines.{covered_line, lawful_line}
 use Rattle.epx_tool.specs.declared.question.InputQuestion.{InputQuestion}
 use Rattle.epx_tool.specs.declared.question.InputQuestion.TheVariants.{Resume, Check}
+use Rattle.epx_tool.specs.declared.question.InputQuestion.TheVariants.{CheckPrefix}
 use Rattle.epx_tool.specs.declared.question.MapText.{MapText}
 use Rattle.epx_tool.specs.declared.question.MapText.TheVariants.{Audit}
 use Rattle.epx_tool.specs.declared.question.Question.{Question}
@@ -24,6 +25,7 @@ Finds question = FindsBy (map_text_of question)
 -- the answer to an input finds something: the list is not lawful
 abbrev pub FindsWith : InputQuestion → List ℕ → Type 0
 FindsWith Check text = text ≢ lawful_line
+FindsWith CheckPrefix text = text ≢ lawful_line
 FindsWith Resume text = ⊥
 
 -- the answer to logs, and whether it finds something

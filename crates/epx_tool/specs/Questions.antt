@@ -9,12 +9,13 @@ use Rattle.epx_tool.specs.declared.ask.Ask.{Ask}
 use Rattle.epx_tool.specs.declared.ask.Ask.TheVariants.{Order, Levels, Audit, Graph, Compare}
 use Rattle.epx_tool.specs.declared.question.InputQuestion.{InputQuestion}
 use Rattle.epx_tool.specs.declared.question.InputQuestion.TheVariants.{Resume, Check}
+use Rattle.epx_tool.specs.declared.question.InputQuestion.TheVariants.{CheckPrefix}
 use Rattle.epx_tool.specs.declared.question.MapText.{MapText}
 use Rattle.epx_tool.specs.declared.question.MapText.TheVariants as text
 use Rattle.epx_tool.specs.declared.question.Question.{Question}
 use Rattle.epx_tool.specs.declared.question.Question.TheVariants.{Report, View}
 use Rattle.epx_tool.specs.Answer.{Answers}
-use Rattle.epx_tool.specs.CheckAnswers.{IsCheckText}
+use Rattle.epx_tool.specs.CheckAnswers.{IsCheckText, IsPrefixCheckText}
 use Rattle.epx_tool.specs.MapTexts.{IsMapText}
 use Rattle.epx_tool.specs.Resumption.{IsResumedText}
 use Rattle.epx_tool.specs.WithInput.{AnswersWithInput}
@@ -43,11 +44,13 @@ AnswersView ask = AnswersQuestion (View ask)
 abbrev pub IsBadInput : InputQuestion → List ℕ → ℕ → Type 0
 IsBadInput Resume = IsBadBase
 IsBadInput Check = IsBadList
+IsBadInput CheckPrefix = IsBadList
 
 -- the text that an input and a committed map have for this question
 abbrev pub IsTextWith : InputQuestion → List ℕ → List Instance → List ℕ → Type 0
 IsTextWith Resume = IsResumedText
 IsTextWith Check = IsCheckText
+IsTextWith CheckPrefix = IsPrefixCheckText
 
 -- the answer to this question about an input and logs
 abbrev pub IsInputAnswer : InputQuestion → List ℕ → List (List ℕ) → Result (List ℕ) Fault → Type 0

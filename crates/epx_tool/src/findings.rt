@@ -43,7 +43,7 @@ pub(crate) fn finds_with(
     ensures { IfOk result (λ found. (found ≡ true) ↔ FindsWith question text.now) }
 {
     match question {
-        InputQuestion::Check => is_other(alloc, text, "lawful"),
+        InputQuestion::Check | InputQuestion::CheckPrefix => is_other(alloc, text, "lawful"),
         InputQuestion::Resume => Ok(false),
     }
 }

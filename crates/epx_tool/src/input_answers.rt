@@ -34,8 +34,9 @@ fn answer_reading<R: Threads + RandomSource + Sync>(
     Ok(text_from(rt, alloc, contents, merged, plan)?)
 }
 
-/// The answer to a question about an input and logs in memory.
-fn answer_input<R: Threads + RandomSource + Sync>(
+/// The answer to a question about an input and logs in memory. `resume` and `check` are this call
+/// for one question each. The check of a beginning is asked here alone.
+pub fn answer_input<R: Threads + RandomSource + Sync>(
     rt: &R,
     alloc: Global,
     question: InputQuestion,

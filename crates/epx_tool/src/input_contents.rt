@@ -23,6 +23,8 @@ pub(crate) enum InputContents {
     Base(Base),
     /// The instances of a list.
     List(Vec<Id>),
+    /// The instances of a list that may lack ready instances at its end.
+    Prefix(Vec<Id>),
 }
 
 /// Reads the lines of an input for a question.
@@ -37,6 +39,7 @@ fn read_input(
     match question {
         InputQuestion::Resume => Ok(InputContents::Base(read_base(alloc, input)?)),
         InputQuestion::Check => Ok(InputContents::List(read_list(alloc, input)?)),
+        InputQuestion::CheckPrefix => Ok(InputContents::Prefix(read_list(alloc, input)?)),
     }
 }
 

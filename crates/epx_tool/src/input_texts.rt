@@ -1,7 +1,7 @@
 //! The texts of a committed map and an extra input: the resumed report, and the verdict on a list.
 ghost use Rattle.std.specs.Prelude.{◌≤◌, length, IfOk};
 ghost use Rattle.epx_committed.specs.InstanceCounts.{max_instances};
-ghost use Rattle.epx_tool.specs.Verdicts.{IsVerdict};
+ghost use Rattle.epx_tool.specs.Verdicts.{IsPrefixVerdict, IsVerdict};
 ghost use Rattle.epx_tool.specs.inner.InputReadings.{IsTextFrom};
 
 use crate::input_contents::InputContents;
@@ -9,7 +9,7 @@ use crate::map_texts::report_of;
 use crate::verdict::verdict_line;
 use epx_graph::build;
 use epx_merge::Merged;
-use epx_order::check_order;
+use epx_order::{check_order, check_prefix};
 use epx_types::{Id, Memory, Plan};
 use std::alloc::Global;
 use std::random::RandomSource;
@@ -27,6 +27,21 @@ fn verdict_of<R: Threads + Sync>(
 {
     let graph = build(rt, alloc, merged, plan)?;
     let found = check_order(alloc, merged, &graph, ids);
+    verdict_line(alloc, found)
+}
+
+/// The verdict on a list of instances as a beginning, over a committed map.
+fn prefix_verdict_of<R: Threads + Sync>(
+    rt: &R,
+    alloc: Global,
+    merged: &Merged,
+    ids: &[Id],
+    plan: Plan,
+) -> Result<Vec<u8>, Memory>
+    ensures { IfOk result (λ text. IsPrefixVerdict merged.now ids.now text.items) }
+{
+    let graph = build(rt, alloc, merged, plan)?;
+    let found = check_prefix(alloc, merged, &graph, ids);
     verdict_line(alloc, found)
 }
 
@@ -48,5 +63,6 @@ pub(crate) fn text_from<R: Threads + RandomSource + Sync>(
             report_of(rt, alloc, merged, &done, store, plan)
         }
         InputContents::List(ids) => verdict_of(rt, alloc, &merged, &ids, plan),
+        InputContents::Prefix(ids) => prefix_verdict_of(rt, alloc, &merged, &ids, plan),
     }
 }

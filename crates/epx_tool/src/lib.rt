@@ -31,7 +31,7 @@ pub use epx_devices::{
     StdSource, read_log, write_out,
 };
 pub use epx_words::{Task, Words, read_words};
-pub use input_answers::{check, resume};
+pub use input_answers::{answer_input, check, resume};
 pub use input_runs::run_with_input;
 pub use question::{InputQuestion, MapText, Question};
 pub use resumed_runs::run_resume;

@@ -46,4 +46,6 @@ pub enum InputQuestion {
     Resume,
     /// The verdict on the input, a list.
     Check,
+    /// The verdict on the input, the list of a replica that is still executing.
+    CheckPrefix,
 }

@@ -24,6 +24,7 @@ use Rattle.clap.specs.declared.parser.matches.ValueSource.{ValueSource}
 use Rattle.clap.specs.declared.parser.matches.ValueSource.TheVariants.{CommandLine, DefaultValue}
 use Rattle.clap.proofs.ValueTestLemmas.{accepts-Accepts}
 use Rattle.epx_words.specs.App.{exit_code_rule, first_rule, logs_rule, number_rule}
+use Rattle.epx_words.specs.App.{prefix_rule}
 use Rattle.epx_words.specs.SubcommandRows.{IsNumberUpTo, first_in}
 use Rattle.epx_words.proofs.KindLemmas.{none_after, none_first}
 use Rattle.epx_words.proofs.SoundRowLemmas.{AreSound, IsSoundRow, first_read, default_has_row}
@@ -50,6 +51,9 @@ numbers_and rest = workers_leaf ∷ cut_leaf ∷ rest
 abbrev exit_code_leaf : Rule
 exit_code_leaf = filled exit_code_rule
 
+abbrev prefix_leaf : Rule
+prefix_leaf = filled prefix_rule
+
 -- what follows the numbers: the logs, or a first argument and the logs, each with or without the
 -- flag
 abbrev pub to_logs : List Rule
@@ -62,7 +66,7 @@ abbrev pub flag_to_logs : List Rule
 flag_to_logs = exit_code_leaf ∷ to_logs
 
 abbrev pub flag_to_first : List Rule
-flag_to_first = exit_code_leaf ∷ to_first
+flag_to_first = exit_code_leaf ∷ prefix_leaf ∷ to_first
 
 -- ---- a number
 
@@ -155,6 +159,21 @@ flag_keeps again values rows none ok =
     (flag_sound CommandLine (values_or_missing exit_code_leaf values))
     (without_sound (codes "exit-code") rows ok)
 
+prefix_sound : (s : ValueSource) (values : List Text)
+    → IsSoundRow (new_row (codes "prefix") AsWritten s values)
+prefix_sound s values = (
+  λ e. absurd (true≢false (sym e)),
+  λ e. absurd (true≢false (sym e)),
+  λ e. absurd (true≢false (sym e)),
+)
+
+prefix_keeps : (again : Bool) → KeepsSound again prefix_leaf
+prefix_keeps again values rows none ok =
+    values_sound (codes "prefix") AsWritten CommandLine
+    (values_or_missing prefix_leaf values) (without (codes "prefix") rows)
+    (prefix_sound CommandLine (values_or_missing prefix_leaf values))
+    (without_sound (codes "prefix") rows ok)
+
 help_keeps : (again : Bool) → KeepsSound again (filled help_rule)
 help_keeps again values rows none ok = ok
 
@@ -185,7 +204,7 @@ flag_logs_rules_keep again = numbers_and_keep again flag_to_logs
 pub flag_first_rules_keep : (again : Bool)
     → AllByRecursion (KeepsSound again) (numbers_and flag_to_first)
 flag_first_rules_keep again = numbers_and_keep again flag_to_first
-    (flag_keeps again, to_first_keep again)
+    (flag_keeps again, (prefix_keeps again, to_first_keep again))
 
 -- ---- the end of a level
 
@@ -217,6 +236,10 @@ flag_default_keeps : DefaultKeeps exit_code_leaf
 flag_default_keeps rows ok = default_sound exit_code_leaf (codes "false") [] rows refl
     (flag_sound DefaultValue (codes "false" ∷ [])) ok
 
+prefix_default_keeps : DefaultKeeps prefix_leaf
+prefix_default_keeps rows ok = default_sound prefix_leaf (codes "false") [] rows refl
+    (prefix_sound DefaultValue (codes "false" ∷ [])) ok
+
 pub to_logs_defaults : AllByRecursion DefaultKeeps to_logs
 to_logs_defaults =
     (no_default_keeps (logs_leaf 1) refl, (no_default_keeps (filled help_rule) refl, tt))
@@ -231,7 +254,7 @@ pub flag_to_logs_defaults : AllByRecursion DefaultKeeps flag_to_logs
 flag_to_logs_defaults = (flag_default_keeps, to_logs_defaults)
 
 pub flag_to_first_defaults : AllByRecursion DefaultKeeps flag_to_first
-flag_to_first_defaults = (flag_default_keeps, to_first_defaults)
+flag_to_first_defaults = (flag_default_keeps, (prefix_default_keeps, to_first_defaults))
 
 -- both numbers have rows, and the rows are sound
 record BothHaveRows (rows : List Row) : Type 0 where

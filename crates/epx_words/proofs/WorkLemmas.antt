@@ -5,7 +5,7 @@ use Rattle.std.specs.Prelude.{option_map, string_bytes}
 use Rattle.clap.specs.Words.{App, Text, is_simple, subcommand_of}
 use Rattle.epx_words.specs.App.{epx_app}
 use Rattle.epx_words.specs.Requests.{ArePathsOf, IfWork, IsWork, IsWorkOf}
-use Rattle.epx_words.specs.Requests.{has_exit_code, task_name}
+use Rattle.epx_words.specs.Requests.{FitsPrefix, has_exit_code, task_name}
 use Rattle.epx_words.specs.SubcommandRows.{Given, HasExitCode, IsCutOf, IsWorkersOf, name_in}
 use Rattle.epx_words.specs.SubcommandRows.{rows_in}
 use Rattle.epx_words.specs.declared.words.Words.{Words}
@@ -53,6 +53,14 @@ module _ {Parsed : Type 0} (app : App) (is : app ≡ epx_app) (texts : List Text
       subst (λ g. ArePathsOf task (rows_in g)
       (option_map (λ list. map string_bytes list.items) paths)) given_by_epx fits.0.paths
   are_paths (words.Text text status) fits = tt
+
+  pub is_prefix : (asked : Words) → IsWorkOf given asked
+      → IfWork (λ task plan paths. FitsPrefix task (rows_in (subcommand_of epx_app texts))) asked
+  is_prefix (words.Work task plan paths) fits =
+      subst (λ g. FitsPrefix task (rows_in g)) given_by_epx fits.0.prefix
+  is_prefix (words.WorkWithExitCode task plan paths) fits =
+      subst (λ g. FitsPrefix task (rows_in g)) given_by_epx fits.0.prefix
+  is_prefix (words.Text text status) fits = tt
 
   pub is_exit_code : (asked : Words) → IsWorkOf given asked → IsWork asked
       → (has_exit_code asked ≡ true) ↔ HasExitCode (rows_in (subcommand_of epx_app texts))

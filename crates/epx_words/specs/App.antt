@@ -1,5 +1,6 @@
 -- The program as clap knows it. Each subcommand has two options with numbers and any number of
--- logs. Two subcommands have a required argument before the logs, and three have a flag.
+-- logs. Two subcommands have a required argument before the logs, three have a flag, and one of
+-- these has a second flag.
 use Rattle.std.specs.Prelude.{ℕ, true, Some, [], ◌∷◌, codes}
 use Rattle.clap.specs.Simple.{on_top}
 use Rattle.clap.specs.Words.{App, Rule, Text, new_app, new_rule, with_rule, with_subcommand}
@@ -35,6 +36,13 @@ exit_code_rule = record (new_rule (codes "exit-code")) {
   action = Some SetTrue;
 }
 
+-- the flag for the check of a beginning
+abbrev pub prefix_rule : Rule
+prefix_rule = record (new_rule (codes "prefix")) {
+  long = Some (codes "prefix");
+  action = Some SetTrue;
+}
+
 -- a subcommand with its two options
 abbrev pub numbers_app : Text → App
 numbers_app name =
@@ -55,7 +63,9 @@ base_app name = with_rule (with_rule (numbers_app name) first_rule) logs_rule
 
 -- a subcommand over a list and logs, which can find something
 abbrev pub list_app : Text → App
-list_app name = with_rule (with_rule (with_rule (numbers_app name) exit_code_rule) first_rule)
+list_app name =
+    with_rule
+    (with_rule (with_rule (with_rule (numbers_app name) exit_code_rule) prefix_rule) first_rule)
     logs_rule
 
 -- the program without its subcommands

@@ -8,8 +8,8 @@ use Rattle.epx_words.specs.declared.words.Task.{Task}
 use Rattle.epx_words.specs.declared.words.Task.TheVariants as task
 use Rattle.epx_words.specs.declared.words.Words.{Words}
 use Rattle.epx_words.specs.declared.words.Words.TheVariants as words
-use Rattle.epx_words.specs.SubcommandRows.{Given, HasExitCode, IsCutOf, IsWorkersOf, first_in}
-use Rattle.epx_words.specs.SubcommandRows.{logs_in, name_in, rows_in}
+use Rattle.epx_words.specs.SubcommandRows.{Given, HasExitCode, HasPrefix, IsCutOf, IsWorkersOf}
+use Rattle.epx_words.specs.SubcommandRows.{first_in, logs_in, name_in, rows_in}
 
 -- the name of the subcommand of a task
 abbrev pub task_name : Task → Text
@@ -20,6 +20,7 @@ task_name task.Graph = codes "graph"
 task_name task.Resume = codes "resume"
 task_name task.Audit = codes "audit"
 task_name task.Check = codes "check"
+task_name task.CheckPrefix = codes "check"
 task_name task.Compare = codes "compare"
 
 -- the path of the first argument, and then the paths of the logs
@@ -31,7 +32,14 @@ AreFirstAndLogs rows paths = (first : Text) × (first_in rows ≡ Some first)
 abbrev pub ArePathsOf : Task → List Row → Option (List Text) → Type 0
 ArePathsOf task.Resume rows paths = AreFirstAndLogs rows paths
 ArePathsOf task.Check rows paths = AreFirstAndLogs rows paths
+ArePathsOf task.CheckPrefix rows paths = AreFirstAndLogs rows paths
 ArePathsOf _ rows paths = paths ≡ Some (logs_in rows)
+
+-- a check is one of a beginning exactly if the flag `--prefix` is there
+abbrev pub FitsPrefix : Task → List Row → Type 0
+FitsPrefix task.Check rows = ¬ HasPrefix rows
+FitsPrefix task.CheckPrefix rows = HasPrefix rows
+FitsPrefix _ rows = ⊤
 
 -- if the words ask for work, P holds of the task, the plan and the paths
 abbrev pub IfWork : (Task → PlanNumbers → Option (List Text) → Type 0) → Words → Type 0
@@ -66,6 +74,7 @@ pub record AsksFor (given : Given) (asked : Task) (cutting : PlanNumbers)
   pub workers : IsWorkersOf (rows_in given) cutting.workers
   pub cut : IsCutOf (rows_in given) cutting.cut
   pub paths : ArePathsOf asked (rows_in given) logs
+  pub prefix : FitsPrefix asked (rows_in given)
 
 -- the words ask for that work
 abbrev pub IsWorkOf : Given → Words → Type 0

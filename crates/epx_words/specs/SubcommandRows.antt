@@ -1,4 +1,4 @@
--- The values in the rows of a subcommand: two numbers, a flag, the logs, and the argument before
+-- The values in the rows of a subcommand: two numbers, flags, the logs, and the argument before
 -- them.
 use Rattle.std.specs.Prelude.{◌≡◌, ◌⊎◌, ℕ, List, [], Option, Some, None, codes, option_map}
 use Rattle.std.specs.Prelude.{unwrap_or}
@@ -42,6 +42,10 @@ first_in rows = first_of (codes "first") rows
 -- the flag `--exit-code` is there
 abbrev pub HasExitCode : List Row → Type 0
 HasExitCode rows = first_of (codes "exit-code") rows ≡ Some (codes "true")
+
+-- the flag `--prefix` is there
+abbrev pub HasPrefix : List Row → Type 0
+HasPrefix rows = first_of (codes "prefix") rows ≡ Some (codes "true")
 
 -- the text is a number from 1 to `most`
 abbrev pub IsNumberUpTo : ℕ → Option Text → Type 0

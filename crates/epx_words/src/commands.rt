@@ -3,7 +3,7 @@ ghost use Rattle.std.specs.Prelude.{◌≡◌, IfOk, codes};
 ghost use Rattle.clap.specs.Words.{app_of, new_app, rule_of};
 ghost use Rattle.epx_words.specs.App.{base_app, epx_app, epx_top, exit_code_rule, finding_app};
 ghost use Rattle.epx_words.specs.App.{first_rule, list_app, logs_rule, number_rule, numbers_app};
-ghost use Rattle.epx_words.specs.App.{runs_app, work_app};
+ghost use Rattle.epx_words.specs.App.{prefix_rule, runs_app, work_app};
 
 use clap::builder::ValueParser;
 use clap::{Arg, ArgAction, Command};
@@ -151,6 +151,13 @@ What comes out is one line, in which places in the list count from 0:
   [\"early\",p]      one that it reaches, outside its component, comes later
   [\"sequence\",p]   one of its component, which is to follow it, comes earlier
 
+With --prefix the list is that of a live replica, and may lack ready instances:
+
+  [\"lawful\"]       a lawful order begins with the list
+  [\"early\",p]      one that it reaches, outside its component, is not before it
+  [\"sequence\",p]   one of its component, which is to follow it, comes earlier, or
+                   one that it is to follow is not in the list
+
 Example:
   epx check executed.list examples/replicas/*.jsonl",
 };
@@ -229,6 +236,16 @@ fn exit_code<'a>(alloc: Global) -> Arg<'a>
         .help("Exits with status 5 if something was found")
 }
 
+/// The flag `--prefix`.
+fn prefix<'a>(alloc: Global) -> Arg<'a>
+    ensures { rule_of result ≡ prefix_rule }
+{
+    Arg::new(alloc, "prefix")
+        .long("prefix")
+        .action(ArgAction::SetTrue)
+        .help("Lets the list lack ready instances, as that of a live replica does")
+}
+
 /// The argument LOG, which may occur any number of times.
 fn logs<'a>(alloc: Global) -> Arg<'a>
     ensures { rule_of result ≡ logs_rule }
@@ -285,7 +302,8 @@ fn check<'a>(alloc: Global) -> Result<Command<'a>, AllocError>
     ensures { IfOk result (λ c. app_of c ≡ list_app (codes "check")) }
 {
     let list = first(alloc, "LIST", "The list to check");
-    let check = subcommand(alloc, "check", CHECK)?.arg(exit_code(alloc))?;
+    let flagged = subcommand(alloc, "check", CHECK)?.arg(exit_code(alloc))?;
+    let check = flagged.arg(prefix(alloc))?;
     check.arg(list)?.arg(logs(alloc))
 }
 

@@ -2,11 +2,11 @@
 ghost use Rattle.std.specs.Prelude.{◌≡◌, ◌≤◌, ◌≢◌, ◌↔◌, [], None, Some, IfOk, MatchResult, codes};
 ghost use Rattle.std.specs.Prelude.{length, map, false, string_bytes, true};
 ghost use Rattle.std.specs.Option.{IsSome};
-ghost use Rattle.clap.specs.Words.{fault_of, found_of, kind_of, one_of, rows_of, subcommand_of};
-ghost use Rattle.clap.specs.Words.{subcommand_rows_of, takes};
+ghost use Rattle.clap.specs.Words.{fault_of, first_of, found_of, kind_of, one_of, rows_of};
+ghost use Rattle.clap.specs.Words.{subcommand_of, subcommand_rows_of, takes};
 ghost use Rattle.epx_words.specs.App.{epx_app};
 ghost use Rattle.epx_words.specs.Requests.{AreFirstAndLogs, ArePathsOf, IsWork, IfText, IfWork};
-ghost use Rattle.epx_words.specs.Requests.{IsText, IsWorkOf, has_exit_code, task_name};
+ghost use Rattle.epx_words.specs.Requests.{FitsPrefix, IsText, IsWorkOf, has_exit_code, task_name};
 ghost use Rattle.epx_words.specs.ExitStatus.{IsExitStatus, status_of_kind};
 ghost use Rattle.epx_words.specs.SubcommandRows.{IsCutOf, IsNumberUpTo, IsTaskName, IsWorkersOf};
 ghost use Rattle.epx_words.specs.SubcommandRows.{AsksForWork, HasExitCode, NeedsFirst, first_in};
@@ -61,7 +61,7 @@ fn paths_of(alloc: Global, task: Task, matches: &ArgMatches<'_>) -> Result<Vec<S
         ArePathsOf task (rows_of (found_of matches.now)) (Some (map string_bytes paths.items))) }
 {
     match task {
-        Task::Resume | Task::Check => first_and_logs(alloc, matches),
+        Task::Resume | Task::Check | Task::CheckPrefix => first_and_logs(alloc, matches),
         Task::Run | Task::Order | Task::Levels | Task::Graph | Task::Audit | Task::Compare => {
             logs_of(alloc, matches)
         },
@@ -80,10 +80,34 @@ fn plan_of(matches: &ArgMatches<'_>) -> Plan
     Plan::new(workers, cut).unwrap()
 }
 
-/// The task that a subcommand names.
-fn task_of(name: &str) -> Task
+/// Whether a flag is there. Subcommands that have no such flag never have it.
+fn has_flag(matches: &ArgMatches<'_>, flag: &str) -> bool
+    ensures { (result ≡ true)
+        ↔ (first_of flag.now (rows_of (found_of matches.now)) ≡ Some (codes "true")) }
+{
+    match matches.get_str(flag) {
+        Some(value) => value == "true",
+        None => false,
+    }
+}
+
+/// The task of the subcommand `check`.
+fn check_task(matches: &ArgMatches<'_>) -> Task
+    ensures name { task_name result ≡ codes "check" }
+    ensures prefix { FitsPrefix result (rows_of (found_of matches.now)) }
+{
+    if has_flag(matches, "prefix") {
+        Task::CheckPrefix
+    } else {
+        Task::Check
+    }
+}
+
+/// The task that a subcommand names. A check is one of a beginning if the flag `--prefix` is there.
+fn task_of(name: &str, matches: &ArgMatches<'_>) -> Task
     requires { IsTaskName name.now }
-    ensures { task_name result ≡ name.now }
+    ensures name { task_name result ≡ name.now }
+    ensures prefix { FitsPrefix result (rows_of (found_of matches.now)) }
 {
     if name == "order" {
         Task::Order
@@ -96,21 +120,11 @@ fn task_of(name: &str) -> Task
     } else if name == "audit" {
         Task::Audit
     } else if name == "check" {
-        Task::Check
+        check_task(matches)
     } else if name == "compare" {
         Task::Compare
     } else {
         Task::Run
-    }
-}
-
-/// Whether the flag `--exit-code` is there. Subcommands that have no such flag never have it.
-fn has_exit_code(matches: &ArgMatches<'_>) -> bool
-    ensures { (result ≡ true) ↔ HasExitCode (rows_of (found_of matches.now)) }
-{
-    match matches.get_str("exit-code") {
-        Some(value) => value == "true",
-        None => false,
     }
 }
 
@@ -122,10 +136,10 @@ fn work_of(alloc: Global, matches: &ArgMatches<'_>) -> Result<Words, AllocError>
     let Some((name, given)) = matches.subcommand() else {
         unreachable!();
     };
-    let task = task_of(name);
+    let task = task_of(name, given);
     let plan = plan_of(given);
     let paths = Some(paths_of(alloc, task, given)?);
-    if has_exit_code(given) {
+    if has_flag(given, "exit-code") {
         return Ok(Words::WorkWithExitCode { task, plan, paths });
     }
     Ok(Words::Work { task, plan, paths })
@@ -167,7 +181,8 @@ fn text_of(alloc: Global, error: &Error) -> Result<Words, Memory>
 ///
 /// The result is `Work` exactly if clap finds no fault, or there is no second word: then it is
 /// `Run` with 4 workers, 256 items a piece and no paths. Otherwise it is `Text`. The one error is
-/// running out of memory. With `--exit-code` the work is `WorkWithExitCode`.
+/// running out of memory. With `--exit-code` the work is `WorkWithExitCode`, and `check --prefix`
+/// is the task `CheckPrefix`.
 pub fn read_words(alloc: Global, words: &[&str]) -> Result<Words, Memory>
     ensures bare { length words.now ≤ 1
         → IfOk result (λ asked. asked ≡ Words.Work Task.Run (record { workers = 4; cut = 256 })
@@ -184,6 +199,9 @@ pub fn read_words(alloc: Global, words: &[&str]) -> Result<Words, Memory>
     ensures paths { let given = subcommand_of epx_app (map (λ w. w.now) words.now) in
         2 ≤ length words.now
         → IfOk result (IfWork (λ task plan paths. ArePathsOf task (rows_in given) paths)) }
+    ensures prefix { let given = subcommand_of epx_app (map (λ w. w.now) words.now) in
+        2 ≤ length words.now
+        → IfOk result (IfWork (λ task plan paths. FitsPrefix task (rows_in given))) }
     ensures exit_code { let given = subcommand_of epx_app (map (λ w. w.now) words.now) in
         2 ≤ length words.now
         → IfOk result (λ asked. IsWork asked

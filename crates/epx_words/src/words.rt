@@ -19,6 +19,8 @@ pub enum Task {
     Audit,
     /// Say whether a list of instances is a lawful order.
     Check,
+    /// Say whether a list of instances is the beginning of a lawful order.
+    CheckPrefix,
     /// Say what the logs say against each other.
     Compare,
 }
@@ -27,7 +29,7 @@ pub enum Task {
 #[derive(Debug, Drop)]
 pub enum Words {
     /// A task over the logs at these paths. For `Resume` the first path is that of the base, and
-    /// for `Check` that of the list. `None` means one log, standard input.
+    /// for `Check` and `CheckPrefix` that of the list. `None` means one log, standard input.
     Work {
         task: Task,
         plan: Plan,

@@ -2,9 +2,10 @@
 //! the same for the components that it reaches.
 ghost use Rattle.std.specs.Prelude.{◌≡◌, ◌⊎◌, ℕ, ◌<◌, length, slice_index, All, IfOk};
 ghost use Rattle.epx_graph.specs.Graphs.{edges_of};
-ghost use Rattle.epx_order.specs.inner.Ends.{AreEnds, IsEndBelow};
+ghost use Rattle.epx_order.specs.inner.Ends.{AreEnds, AreRaised, IsEndBelow};
 ghost use Rattle.epx_components.specs.Partitions.{parts, number_for, IsPartitionOf};
 
+use super::sequence_key::SequenceKey;
 use epx_components::{Collector, Partition, collect_bottom_up};
 use epx_graph::Graph;
 use epx_types::Memory;
@@ -26,6 +27,18 @@ pub(crate) fn find_ends(
         ends[partition.component[*node]] = position + 1;
     }
     Ok(ends)
+}
+
+/// Moves the end of each component with a member that the list leaves out to the end of the list.
+pub(crate) fn raise_ends(ends: &mut [usize], left_out: &[Option<SequenceKey>], len: usize)
+    requires { length left_out.now ≡ length ends.old }
+    ensures { AreRaised left_out.now len ends.old ends.new }
+{
+    for component in 0..ends.len() {
+        if left_out[component].is_some() {
+            ends[component] = len;
+        }
+    }
 }
 
 /// For each component: the greatest end of the other components that it reaches, or 0.

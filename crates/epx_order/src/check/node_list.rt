@@ -5,8 +5,8 @@ ghost use Rattle.std.specs.Prelude.{MatchOption, MatchResult};
 ghost use Rattle.epx_types.specs.Instances.{Instance};
 ghost use Rattle.epx_types.specs.Readiness.{IsReady};
 ghost use Rattle.epx_graph.specs.GraphOf.{IsGraphOf};
-ghost use Rattle.epx_order.specs.inner.NodeLists.{AreListed, IsListedIfReady};
-ghost use Rattle.epx_order.specs.OrderFaults.{ReadyOnce, IsOrderFault};
+ghost use Rattle.epx_order.specs.inner.NodeLists.{AreListed, IsListedIfReady, IsListingFault};
+ghost use Rattle.epx_order.specs.OrderFaults.{ReadyOnce};
 ghost use Rattle.epx_components.specs.Partitions.{parts, IsPartitionOf};
 ghost use Rattle.epx_components.specs.ReadyMarks.{is_marked, AreReadyMarks};
 
@@ -64,7 +64,7 @@ pub(crate) fn list_nodes(
         node_list.marks.items) }
     ensures sound { (m : List Instance) → IsGraphOf m graph.now → MatchResult result
         (λ _. ReadyOnce m ids.now (length ids.now))
-        (IsOrderFault m ids.now) }
+        (IsListingFault m ids.now) }
 {
     let mut node_list = NodeList::new(alloc, graph.len(), ids.len())?;
     for (place, id) in ids.iter().enumerate() {

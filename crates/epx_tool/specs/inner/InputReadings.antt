@@ -10,8 +10,9 @@ use Rattle.epx_tool.specs.declared.input_contents.InputContents.{InputContents}
 use Rattle.epx_tool.specs.declared.input_contents.InputContents.TheVariants as contents
 use Rattle.epx_tool.specs.declared.question.InputQuestion.{InputQuestion}
 use Rattle.epx_tool.specs.declared.question.InputQuestion.TheVariants.{Resume, Check}
+use Rattle.epx_tool.specs.declared.question.InputQuestion.TheVariants.{CheckPrefix}
 use Rattle.epx_tool.specs.ResumedReport.{IsReportAfter}
-use Rattle.epx_tool.specs.Verdicts.{IsVerdict}
+use Rattle.epx_tool.specs.Verdicts.{IsPrefixVerdict, IsVerdict}
 use Rattle.epx_tool.specs.WithInput.{IsShort, IsRefusalWithInput}
 use Rattle.epx_tool.specs.Questions.{IsBadInput}
 
@@ -19,12 +20,14 @@ use Rattle.epx_tool.specs.Questions.{IsBadInput}
 abbrev pub IsContents : InputQuestion → List ℕ → InputContents → Type 0
 IsContents Resume input (contents.Base base) = IsBase input base.done base.stored
 IsContents Check input (contents.List ids) = IsList input ids.items
+IsContents CheckPrefix input (contents.Prefix ids) = IsList input ids.items
 IsContents question input _ = ⊥
 
 -- why it is not read
 abbrev pub IsInputFault : InputQuestion → List ℕ → BaseFault → Type 0
 IsInputFault Resume = IsBaseFault
 IsInputFault Check = IsListFault
+IsInputFault CheckPrefix = IsListFault
 
 -- the logs are accepted and the input is read, or they are refused
 abbrev pub IsReading : InputQuestion → List ℕ → List (List ℕ)
@@ -38,3 +41,4 @@ IsReading question input logs (Err fault) =
 abbrev pub IsTextFrom : InputContents → List Instance → List ℕ → Type 0
 IsTextFrom (contents.Base base) m text = IsReportAfter base.done base.stored m text
 IsTextFrom (contents.List ids) m text = IsVerdict m ids.items text
+IsTextFrom (contents.Prefix ids) m text = IsPrefixVerdict m ids.items text

@@ -35,7 +35,8 @@ sequence_cmp-IsAntisymmetric a b e =
 
 module _ (ids : List Id) (once : AllPairs (λ x y. x ≢ y) ids) where
   -- in a list without repeats, two positions of one Id are equal
-  same_position : (i j : ℕ) (x : Id) → slice_get ids i ≡ Some x → slice_get ids j ≡ Some x → i ≡ j
+  pub same_position : (i j : ℕ) (x : Id) → slice_get ids i ≡ Some x → slice_get ids j ≡ Some x
+      → i ≡ j
   same_position i j x p q =
       elim (cases_lt i j) [
         | inl l ↦ absurd (AllPairs-slice_get (λ v w. v ≢ w) ids once i j x x l p q refl)
@@ -70,7 +71,8 @@ Before-cases ids x y in_x in_y differ =
     by i j e p q = let same : Some x ≡ Some y = sym p ∙ ap (slice_get ids) e ∙ q in cc
 
 -- an Id that is before another is different from it
-Before-differ : (ids : List Id) → AllPairs (λ x y. x ≢ y) ids → (x y : Id) → Before ids x y → x ≢ y
+pub Before-differ : (ids : List Id) → AllPairs (λ x y. x ≢ y) ids → (x y : Id) → Before ids x y
+    → x ≢ y
 Before-differ ids once x y (i, j, l, p, q) =
     AllPairs-slice_get (λ v w. v ≢ w) ids once i j x y l p q
 

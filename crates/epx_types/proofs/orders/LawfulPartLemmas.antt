@@ -90,7 +90,7 @@ module _ (m : List Instance) where
     }
 
 module _ (part whole : List Id) where
-  not_in_part : (x : Id) → Contains (remaining_ids part whole) x → ¬ Contains part x
+  pub not_in_part : (x : Id) → Contains (remaining_ids part whole) x → ¬ Contains part x
   not_in_part x h k =
       let passes = All-contains (λ y. not (is_among part y) ≡ true) (remaining_ids part whole) x
       (filter_passes (λ y. not (is_among part y)) whole) h in
@@ -100,7 +100,7 @@ module _ (part whole : List Id) where
         | inr missed ↦ missed.1 k
       ]
 
-  passes_rest : (x : Id) → ¬ Contains part x → not (is_among part x) ≡ true
+  pub passes_rest : (x : Id) → ¬ Contains part x → not (is_among part x) ≡ true
   passes_rest x none = elim (is_among_cases part x)
       [ inl found ↦ absurd (none found.1) | inr missed ↦ ap not missed.0 ]
 

@@ -1,14 +1,17 @@
-use Rattle.std.proofs.Common.{◌<◌, length, ℕ}
+use Rattle.std.proofs.Common.{ℕ, rules}
 use Rattle.std.proofs.lemmas.Result.{MatchResult-weaker}
-use Rattle.epx_graph.specs.Graphs.{edges_of}
-use Rattle.epx_order.specs.inner.Ends.{AreEnds, IsEndBelow}
-use Rattle.epx_order.specs.inner.NodeLists.{IsListedIfReady}
-use Rattle.epx_order.specs.OrderFaults.{IsListOfReady}
-use Rattle.epx_components.specs.Partitions.{parts, number_for}
-use Rattle.epx_order.proofs.ListedNodeLemmas.{ready_is_listed, missing_found, nodes_committed}
-use Rattle.epx_order.proofs.ListedNodeLemmas.{nodes_within}
-use Rattle.epx_order.proofs.NodeFaultLemmas.{lawful_from_nodes, fault_from_place}
+use Rattle.epx_order.specs.inner.NodeLists.{AreListedReady, IsListedIfReady}
+use Rattle.epx_order.specs.OrderFaults.{HasAllReady}
+use Rattle.epx_order.proofs.BeginningLemmas.{lawful_from_beginning, order_fault_from}
+use Rattle.epx_order.proofs.ListedNodeLemmas.{missing_found, order_fault_of_place, ready_is_listed}
 use Rattle.epx_order.proofs.check.check_order.Goals as goal
+
+pub returns-in_err-node_list : goal.returns-in_err-node_list
+returns-in_err-node_list c =
+    let m = c.args.merged.now in
+    let fault = order_fault_of_place m c.args.ids.now c.in_err-node_list.field-0.0
+    (c.in_err-node_list.ensures.sound m c.requires) in
+    search rules
 
 pub returns-in-Some : goal.returns-in-Some
 returns-in-Some c =
@@ -22,58 +25,20 @@ returns-in-Some c =
     c.in-Some.node c.id.result c.id.ensures found.0 found.1 found.2
     (c.in_ok-node_list.ensures.sound m is)
 
-pub find_ends-requires-clause-nodes : goal.find_ends-requires-clause-nodes
-find_ends-requires-clause-nodes c =
-    let node_list = c.in_ok-node_list.node_list in
-    rw c.deref-4.ensures.value
-    (nodes_within c.args.merged.now c.args.graph.now c.requires c.args.ids.now
-    node_list.nodes.items node_list.marks.items c.in_ok-node_list.ensures.listed _
-    c.in_ok-partition.ensures.each_node)
-
-pub check_positions-requires-clause-nodes : goal.check_positions-requires-clause-nodes
-check_positions-requires-clause-nodes c =
-    let node_list = c.in_ok-node_list.node_list in
-    rw c.deref-7.ensures.value
-    (nodes_within c.args.merged.now c.args.graph.now c.requires c.args.ids.now
-    node_list.nodes.items node_list.marks.items c.in_ok-node_list.ensures.listed _
-    c.in_ok-partition.ensures.each_node)
-
-pub check_positions-requires-clause-committed : goal.check_positions-requires-clause-committed
-check_positions-requires-clause-committed c =
-    let m = c.args.merged.now in
-    let node_list = c.in_ok-node_list.node_list in
-    rw c.deref-7.ensures.value
-    (nodes_committed m c.args.graph.now c.requires c.args.ids.now node_list.nodes.items
-    node_list.marks.items c.in_ok-node_list.ensures.listed
-    (c.in_ok-node_list.ensures.sound m c.requires))
-
 pub returns : goal.returns
 returns c =
     let m = c.args.merged.now in
     let g = c.args.graph.now in
     let is = c.requires in
     let ids = c.args.ids.now in
-    let p = parts c.in_ok-partition.partition in
-    let part = c.in_ok-partition.ensures in
     let nodes = c.in_ok-node_list.node_list.nodes.items in
     let marks = c.in_ok-node_list.node_list.marks.items in
     let listed = c.in_ok-node_list.ensures.listed in
-    let ends = c.in_ok-ends.ends.items in
-    let below = c.in_ok-below.below.items in
     let held : (k : ℕ) → IsListedIfReady c.in_ok-ready.ready.items marks k =
     rw (c.deref-2.ensures.value, c.deref-3.ensures.value) at c.in_default.ensures in
-    let ready : IsListOfReady m ids = (
-      c.in_ok-node_list.ensures.sound m is,
-      ready_is_listed m g is ids nodes marks listed
-          c.in_ok-ready.ready.items c.in_ok-ready.ensures held,
-    ) in
-    let are_ends : AreEnds p nodes (length nodes) ends =
-    rw c.deref-4.ensures.value at c.in_ok-ends.ensures in
-    let are_below : (k : ℕ) → k < length g.ids
-    → IsEndBelow (edges_of g) p ends k (number_for p below k) =
-    rw c.deref-5.ensures.value at c.in_ok-below.ensures.each in
-    MatchResult-weaker c.check_positions.result
-    (rw (c.deref-6.ensures.value, c.deref-7.ensures.value) at c.check_positions.ensures)
-    (λ _ none. lawful_from_nodes m g is p part ids nodes marks listed ready ends below are_ends
-    are_below none)
-    (fault_from_place m g is p part ids nodes marks listed ready ends below are_ends are_below)
+    let whole : HasAllReady m ids = ready_is_listed m g is ids nodes marks listed
+    c.in_ok-ready.ready.items c.in_ok-ready.ensures held in
+    let ready : AreListedReady m g ids nodes marks =
+    record { listed = listed; once = c.in_ok-node_list.ensures.sound m is } in
+    MatchResult-weaker c.check_listed.result (c.check_listed.ensures ids ready)
+    (λ _ beginning. lawful_from_beginning m ids whole beginning) (order_fault_from m ids whole)

@@ -6,5 +6,5 @@ use Rattle.epx_order.proofs.check.check_positions.Given as goal
 abbrev pub invariant-loop-place : goal.invariant-loop-place
 invariant-loop-place l = record {
   latest : AreLatest l.merged (parts l.partition) l.nodes l.place l.latest.items;
-  none : AreNodesInOrder l.merged (parts l.partition) l.below l.nodes l.place;
+  none : AreNodesInOrder l.merged (parts l.partition) l.left_out l.below l.nodes l.place;
 }

@@ -21,5 +21,5 @@ returns-clause-read_args c texts taken =
     subst (λ words. IfOk c.read_words.result (Asks words)) same
     (asks (map (λ w. w.now) c.deref.result.now) _
     (sym (length-map c.deref.result.now (λ w. w.now))) c.read_words.result
-    said.bare said.task said.workers said.cut said.paths said.exit_code said.taken said.refused
-    said.status)
+    said.bare said.task said.workers said.cut said.paths said.prefix said.exit_code said.taken
+    said.refused said.status)

@@ -6,7 +6,7 @@ use Rattle.std.proofs.lemmas.Result.{IfOk-weaker}
 use Rattle.epx_words.specs.App.{epx_app}
 use Rattle.epx_words.specs.SubcommandRows.{AsksForWork}
 use Rattle.epx_words.proofs.WorkLemmas.{are_paths, is_cut, is_exit_code, is_task, given_by_epx}
-use Rattle.epx_words.proofs.WorkLemmas.{is_workers}
+use Rattle.epx_words.proofs.WorkLemmas.{is_prefix, is_workers}
 use Rattle.epx_words.proofs.FaultLemmas.{epx_is_free, asks_for_work}
 use Rattle.epx_words.proofs.StatusLemmas.{is_no_work, asks_work, has_exit_status, is_refused}
 use Rattle.epx_words.proofs.read.read_words.Goals as goal
@@ -42,6 +42,12 @@ returns-in_ok-work_of-in-Ok-clause-cut c two =
 pub returns-in_ok-work_of-in-Ok-clause-paths : goal.returns-in_ok-work_of-in-Ok-clause-paths
 returns-in_ok-work_of-in-Ok-clause-paths c two =
     are_paths _ c.in_ok-command.ensures (map (λ w. w.now) c.args.words.now)
+    (subcommand_rows_of c.in-Ok.matches) c.in-Ok.ensures.matches c.in_ok-work_of-in-Ok.field-0
+    c.in_ok-work_of-in-Ok.ensures
+
+pub returns-in_ok-work_of-in-Ok-clause-prefix : goal.returns-in_ok-work_of-in-Ok-clause-prefix
+returns-in_ok-work_of-in-Ok-clause-prefix c two =
+    is_prefix _ c.in_ok-command.ensures (map (λ w. w.now) c.args.words.now)
     (subcommand_rows_of c.in-Ok.matches) c.in-Ok.ensures.matches c.in_ok-work_of-in-Ok.field-0
     c.in_ok-work_of-in-Ok.ensures
 

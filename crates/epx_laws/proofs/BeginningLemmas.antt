@@ -1,0 +1,46 @@
+-- The beginning of a lawful order replies as the order does.
+use Rattle.std.proofs.Common.{◌≡◌, ◌∙◌, ℕ, ◌<◌, List, ◌++◌, length, Some, slice_get, get_or, sym}
+use Rattle.std.proofs.Common.{ap, arith}
+use Rattle.std.proofs.lemmas.List.{length-map, map-append}
+use Rattle.std.proofs.lemmas.Option.{slice_get_within, slice_get-get_or}
+use Rattle.epx_types.specs.declared.id.Id.{Id}
+use Rattle.epx_types.specs.declared.reply.Reply.TheVariants.{Abort}
+use Rattle.epx_types.specs.Ids.{IsRising}
+use Rattle.epx_types.specs.Instances.{Instance}
+use Rattle.epx_types.specs.Contents.{Contents}
+use Rattle.epx_types.specs.CommittedMap.{ids_of, instance_of}
+use Rattle.epx_types.specs.Conflicts.{IsCovered}
+use Rattle.epx_types.specs.Execution.{execute}
+use Rattle.epx_types.specs.LawfulOrders.{IsLawful, ops_or_empty, commands_in}
+use Rattle.epx_types.proofs.commands.ExecutionLemmas.{length-replies, execute-append}
+use Rattle.epx_types.proofs.lists.BeforeLemmas.{slice_get-append_left}
+use Rattle.epx_types.proofs.orders.LawfulExecutionLemmas.{reply-lawful}
+
+-- a list has the same replies where others follow it
+pub reply-append_left : (m : List Instance) (ids others : List Id) (c : Contents) (i : ℕ)
+    → i < length ids → slice_get (execute (commands_in m (ids ++ others)) c).replies i
+    ≡ slice_get (execute (commands_in m ids) c).replies i
+reply-append_left m ids others c i l =
+    let commands = commands_in m ids in
+    let rest = commands_in m others in
+    let both : commands_in m (ids ++ others) ≡ commands ++ rest =
+    map-append (λ x. ops_or_empty (instance_of m x)) ids others in
+    let replies = (execute commands c).replies in
+    let long : length replies ≡ length ids =
+    length-replies commands c ∙ length-map ids (λ x. ops_or_empty (instance_of m x)) in
+    let at = slice_get-get_or replies i (Abort 0) (omega (arith, l, long)) in
+    ap (λ os. slice_get (execute os c).replies i) both
+    ∙ ap (λ rs. slice_get rs i) (execute-append commands rest c).0
+    ∙ slice_get-append_left replies (execute rest (execute commands c).final).replies i
+    (get_or replies i (Abort 0)) at
+    ∙ sym at
+
+pub reply-beginning : (m : List Instance) → IsRising (ids_of m) → IsCovered m →
+    (ids others whole : List Id) → IsLawful m (ids ++ others) → IsLawful m whole
+    → (c : Contents) (i j : ℕ) (x : Id) → slice_get ids i ≡ Some x → slice_get whole j ≡ Some x
+    → slice_get (execute (commands_in m ids) c).replies i
+    ≡ slice_get (execute (commands_in m whole) c).replies j
+reply-beginning m rising covered ids others whole lawful lawful' c i j x p q =
+    sym (reply-append_left m ids others c i (slice_get_within ids i x p))
+    ∙ sym (reply-lawful m rising covered (ids ++ others) whole lawful lawful' c i j x
+    (slice_get-append_left ids others i x p) q)

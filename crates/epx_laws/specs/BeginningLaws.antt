@@ -1,0 +1,25 @@
+-- Laws of the beginnings of lawful orders: the lists of replicas that are still executing.
+use Rattle.std.specs.Prelude.{◌≡◌, ℕ, List, ◌++◌, slice_get, Some}
+use Rattle.epx_types.specs.declared.id.Id.{Id}
+use Rattle.epx_types.specs.Ids.{IsRising}
+use Rattle.epx_types.specs.Instances.{Instance}
+use Rattle.epx_types.specs.Contents.{Contents}
+use Rattle.epx_types.specs.CommittedMap.{ids_of}
+use Rattle.epx_types.specs.Conflicts.{IsCovered}
+use Rattle.epx_types.specs.Execution.{execute}
+use Rattle.epx_types.specs.LawfulBeginnings.{IsLawfulBeginning}
+use Rattle.epx_types.specs.LawfulOrders.{IsLawful, commands_in}
+
+-- what a list begins with is a lawful beginning if the list is one
+abbrev pub BeginningsBeginLawfully : Type 0
+BeginningsBeginLawfully = (m : List Instance) (ids more : List Id)
+    → IsLawfulBeginning m (ids ++ more) → IsLawfulBeginning m ids
+
+-- executing the beginning of a lawful order of a covered map gives each of its instances the reply
+-- that the instance has in every lawful order
+abbrev pub BeginningsReplyAlike : Type 0
+BeginningsReplyAlike = (m : List Instance) → IsRising (ids_of m) → IsCovered m →
+    (ids whole : List Id) → IsLawfulBeginning m ids → IsLawful m whole → (c : Contents) →
+    (i j : ℕ) (x : Id) → slice_get ids i ≡ Some x → slice_get whole j ≡ Some x
+    → slice_get (execute (commands_in m ids) c).replies i
+    ≡ slice_get (execute (commands_in m whole) c).replies j
