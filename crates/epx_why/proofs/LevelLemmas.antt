@@ -1,7 +1,8 @@
 -- The search level by level finds the distance of each node.
 use Rattle.std.proofs.Common.{◌≡◌, ◌⊎◌, inl, inr, ℕ, zero, suc, ◌+◌, ◌<◌, ◌≤◌, true, false, not}
 use Rattle.std.proofs.Common.{cond, List, [], ◌∷◌, ◌++◌, length, take, drop, get_or, set, replicate}
-use Rattle.std.proofs.Common.{Option, Some, None, is_some, All, Contains, flat_map, count_by, refl, sym}
+use Rattle.std.proofs.Common.{Option, Some, None, is_some, All, Contains, flat_map, count_by, refl}
+use Rattle.std.proofs.Common.{sym}
 use Rattle.std.proofs.Common.{ap, subst, ◌∙◌, arith}
 use Rattle.std.proofs.lemmas.Bool.{cases_lt, cases_eq}
 use Rattle.std.proofs.lemmas.List.{take_more, length-set, length_push, length-replicate}

@@ -1,6 +1,7 @@
 -- The needs of a range of nodes, node by node; and what they are over the map.
 use Rattle.std.proofs.Common.{◌≡◌, ◌≢◌, ◌⊎◌, inl, inr, ℕ, ◌+◌, ◌<◌, ◌≤◌, List, [], ◌∷◌, ◌++◌, map}
-use Rattle.std.proofs.Common.{length, Contains, Option, Some, None, slice_get, sym, ap, subst, subst₂}
+use Rattle.std.proofs.Common.{length, Contains, Option, Some, None, slice_get, sym, ap, subst}
+use Rattle.std.proofs.Common.{subst₂}
 use Rattle.std.proofs.Common.{◌∙◌, arith}
 use Rattle.std.proofs.lemmas.Bool.{cases_lt}
 use Rattle.std.proofs.lemmas.List.{map_push}

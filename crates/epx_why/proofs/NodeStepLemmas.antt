@@ -1,5 +1,6 @@
 -- Paths over nodes, and the distances of nodes along edges and against them.
-use Rattle.std.proofs.Common.{◌≡◌, ℕ, zero, suc, ◌<◌, List, [], ◌∷◌, length, All, Contains, refl, sym}
+use Rattle.std.proofs.Common.{◌≡◌, ℕ, zero, suc, ◌<◌, List, [], ◌∷◌, length, All, Contains, refl}
+use Rattle.std.proofs.Common.{sym}
 use Rattle.std.proofs.Common.{subst, Option, arith}
 use Rattle.std.proofs.lemmas.List.Elements.{All-from_get_or, All-weaker, All-contains_itself}
 use Rattle.epx_graph.specs.Graphs.{DependencyGraph, edges_of, IsGraph}
@@ -13,7 +14,8 @@ module _ (edges : ℕ → List ℕ) where
   -- a path with one more edge at its end
   LeadsTo-push : (n k p j : ℕ) → LeadsTo edges k n p → Contains (edges p) j
       → LeadsTo edges k (suc n) j
-  LeadsTo-push zero k p j there edge = (j, subst (λ (q : ℕ). Contains (edges q) j) (sym there) edge, refl)
+  LeadsTo-push zero k p j there edge =
+      (j, subst (λ (q : ℕ). Contains (edges q) j) (sym there) edge, refl)
   LeadsTo-push (suc n) k p j there edge =
       (there.0, there.1, LeadsTo-push n there.0 p j there.2 edge)
 

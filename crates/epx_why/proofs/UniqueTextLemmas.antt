@@ -73,8 +73,8 @@ module _ (m : List Instance) (x : Id) where
                 p.ranked q.ranked l here q.there)))
             | inr not_l ↦ elim (cases_lt q.position p.position) [
               | inl l ↦ absurd
-                  (below_irrefl rank_cmp_total q.ranked (subst (λ (r : Ranked). RanksBelow q.ranked r)
-                  same
+                  (below_irrefl rank_cmp_total q.ranked
+                  (subst (λ (r : Ranked). RanksBelow q.ranked r) same
                   (AllPairs-slice_get RanksBelow q.order q.executed.rising q.position p.position
                   q.ranked p.ranked l q.there here)))
               | inr more ↦ omega arith
@@ -85,7 +85,8 @@ pub why_text_is_one : WhyTextIsOne
 why_text_is_one m x text other (inl p) (inl q) = ready_is_one m x text other p q
 why_text_is_one m x text other (inl p) (inr (inl q)) =
     absurd (IsReady-not_waiting m x q.missing (ready_by m x text p) q.waits)
-why_text_is_one m x text other (inl p) (inr (inr q)) = absurd (q.missing (ready_by m x text p).committed)
+why_text_is_one m x text other (inl p) (inr (inr q)) =
+    absurd (q.missing (ready_by m x text p).committed)
 why_text_is_one m x text other (inr (inl p)) (inl q) =
     absurd (IsReady-not_waiting m x p.missing (ready_by m x other q) p.waits)
 why_text_is_one m x text other (inr (inl p)) (inr (inl q)) =
@@ -94,7 +95,8 @@ why_text_is_one m x text other (inr (inl p)) (inr (inl q)) =
     p.printed ∙ (λ i. waiting_line (record { id = x; missing = missing i })
     ++ flat_map (need_line (codes "needs")) (needs i)) ∙ sym q.printed
 why_text_is_one m x text other (inr (inl p)) (inr (inr q)) = absurd (q.missing p.waits.committed)
-why_text_is_one m x text other (inr (inr p)) (inl q) = absurd (p.missing (ready_by m x other q).committed)
+why_text_is_one m x text other (inr (inr p)) (inl q) =
+    absurd (p.missing (ready_by m x other q).committed)
 why_text_is_one m x text other (inr (inr p)) (inr (inl q)) = absurd (p.missing q.waits.committed)
 why_text_is_one m x text other (inr (inr p)) (inr (inr q)) =
     let needing = AreNeeds-unique _ p.needing q.needing p.reaching q.reaching in

@@ -1,4 +1,5 @@
-use Rattle.std.proofs.Common.{◌≡◌, ◌<◌, ◌+◌, [], ◌∷◌, Some, None, All, length, set, replicate, flat_map, sym, ap, subst, subst₂, ◌∙◌, arith}
+use Rattle.std.proofs.Common.{◌≡◌, ◌<◌, ◌+◌, [], ◌∷◌, Some, None, All, length, set, replicate}
+use Rattle.std.proofs.Common.{flat_map, sym, ap, subst, subst₂, ◌∙◌, arith}
 use Rattle.std.proofs.lemmas.Bool.Decides.{nat_tests}
 use Rattle.std.proofs.lemmas.List.{nil_from_length}
 use Rattle.epx_rows.specs.Rows.{row_of}
@@ -58,7 +59,8 @@ loop-alloc-preserved c =
 pub returns : goal.returns
 returns c =
     let items = c.loop-alloc.level.items in
-    let none : length items ≡ 0 = grind (arith, nat_tests, c.is_empty.ensures, c.loop-alloc-test.false) in
+    let none : length items ≡ 0 =
+    grind (arith, nat_tests, c.is_empty.ensures, c.loop-alloc-test.false) in
     search_end c.args.rows.now c.args.start c.loop-alloc.steps (record {
       distances = c.loop-alloc.distances.items;
       level = items;

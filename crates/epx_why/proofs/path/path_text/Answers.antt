@@ -38,7 +38,8 @@ first_walk-requires-clause-target c =
     slice_get_within c.args.graph.now.ids c.in-Some-node.target c.args.to c.in-Some-node.ensures
 
 -- the walk that was found
-walk : (c : goal.After-deref) → IsFirstNodePath c.args.graph.now c.in-Some-node.target c.in-Some.node
+walk : (c : goal.After-deref)
+    → IsFirstNodePath c.args.graph.now c.in-Some-node.target c.in-Some.node
     c.deref.result.now
 walk c =
     let g = c.args.graph.now in

@@ -20,7 +20,8 @@ loop-left-init c =
     (begun_first g c.requires.graph c.args.target ds c.in_ok-distances.ensures k n next few is)
 
 -- the walk before the step, with one step more to go
-begun : (c : goal.After-edges-in-loop-left) → IsBegun c.args.graph.now c.in_ok-distances.distances.items
+begun : (c : goal.After-edges-in-loop-left)
+    → IsBegun c.args.graph.now c.in_ok-distances.distances.items
     c.args.target c.args.node (suc c.in-Some.fewest) c.loop-left.nodes.items c.loop-left.last
     (suc (c.loop-left.left - 1))
 begun c =

@@ -17,4 +17,5 @@ loop-node-preserved c =
     ∙ path_more g c.args.start nodes i
     (map view c.loop-node.values.items) (view part)
     c.loop-node-test.true c.loop-node.invariant
-    (c.in_ok-id_value-2.ensures ∙ ap id_data (sym (id_at-is g (get_or nodes i 0) c.id.result c.id.ensures)))
+    (c.in_ok-id_value-2.ensures
+    ∙ ap id_data (sym (id_at-is g (get_or nodes i 0) c.id.result c.id.ensures)))
