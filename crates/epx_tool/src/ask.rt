@@ -1,5 +1,7 @@
 //! The views of logs: the texts other than the report.
 
+use epx_types::Id;
+
 /// Which view is asked for.
 #[derive(Clone, Copy, Debug, PartialEq, Eq)]
 pub enum Ask {
@@ -11,6 +13,10 @@ pub enum Ask {
     Audit,
     /// The dependency graph, as a picture in DOT.
     Graph,
+    /// Why an instance is executed where it is, or which missing instances it waits for.
+    Why(Id),
+    /// The first of the shortest paths of dependencies from one instance to another.
+    Path(Id, Id),
     /// What the logs say against each other. Bad lines and disagreements are lines of this view,
     /// and no faults.
     Compare,

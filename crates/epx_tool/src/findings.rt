@@ -31,6 +31,7 @@ pub(crate) fn finds(alloc: Global, kind: MapText, text: &[u8]) -> Result<bool, M
     match kind {
         MapText::Audit => is_other(alloc, text, "covered"),
         MapText::Report | MapText::Order | MapText::Levels | MapText::Graph => Ok(false),
+        MapText::Why(_) | MapText::Path(_, _) => Ok(false),
     }
 }
 

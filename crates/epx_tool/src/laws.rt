@@ -18,7 +18,7 @@ pub fn report_exists()
 {}
 
 /// A committed map has a text of its execution order, a text of its conflict levels, a text of its
-/// audit, and a picture.
+/// audit, a picture, a text about each instance, and a text of a path between each two.
 pub fn map_text_exists()
     ensures { MapTextExists }
 {}

@@ -13,6 +13,7 @@ ghost use Rattle.epx_tool.specs.Report.{ops_found, IsReport};
 ghost use Rattle.epx_tool.specs.ResumedReport.{resumed_text, IsReportAfter};
 ghost use Rattle.epx_tool.specs.MapTexts.{IsMapText};
 ghost use Rattle.epx_picture.specs.Pictures.{IsPicture};
+ghost use Rattle.epx_why.specs.WhyTexts.{IsWhyText, IsPathText};
 
 use crate::commands::{all_commands, commands};
 use crate::question::MapText;
@@ -26,6 +27,7 @@ use epx_order::{OrderList, audit, order};
 use epx_picture::picture;
 use epx_txn::Store;
 use epx_types::{Id, Memory, Plan, Reply};
+use epx_why::{path_text, why_text};
 use std::alloc::Global;
 use std::random::RandomSource;
 use std::thread::{Threads, join};
@@ -177,6 +179,36 @@ fn picture_of<R: Threads + Sync>(
     picture(alloc, merged, &graph)
 }
 
+/// The text that says why an instance is executed where it is, or what it waits for.
+fn why_of<R: Threads + Sync>(
+    rt: &R,
+    alloc: Global,
+    merged: &Merged,
+    id: Id,
+    plan: Plan,
+) -> Result<Vec<u8>, Memory>
+    ensures { IfOk result (λ text. IsWhyText merged.now id text.items) }
+{
+    let graph = build(rt, alloc, merged, plan)?;
+    let order = order(rt, alloc, merged, &graph)?;
+    why_text(alloc, &graph, &order, id)
+}
+
+/// The text of a path from one instance to another.
+fn path_of<R: Threads + Sync>(
+    rt: &R,
+    alloc: Global,
+    merged: &Merged,
+    from: Id,
+    to: Id,
+    plan: Plan,
+) -> Result<Vec<u8>, Memory>
+    ensures { IfOk result (λ text. IsPathText merged.now from to text.items) }
+{
+    let graph = build(rt, alloc, merged, plan)?;
+    path_text(alloc, &graph, from, to)
+}
+
 /// A text of a committed map.
 pub(crate) fn text_of<R: Threads + RandomSource + Sync>(
     rt: &R,
@@ -194,5 +226,7 @@ pub(crate) fn text_of<R: Threads + RandomSource + Sync>(
         MapText::Levels => levels_of(rt, alloc, &merged, plan),
         MapText::Audit => audit_of(rt, alloc, &merged, plan),
         MapText::Graph => picture_of(rt, alloc, &merged, plan),
+        MapText::Why(id) => why_of(rt, alloc, &merged, id, plan),
+        MapText::Path(from, to) => path_of(rt, alloc, &merged, from, to, plan),
     }
 }

@@ -3,6 +3,7 @@ ghost use Rattle.std.specs.Prelude.{◌≡◌};
 ghost use Rattle.epx_tool.specs.Questions.{map_text_of};
 
 use crate::ask::Ask;
+use epx_types::Id;
 
 /// What is asked of logs.
 #[derive(Clone, Copy)]
@@ -21,6 +22,8 @@ pub enum MapText {
     Levels,
     Audit,
     Graph,
+    Why(Id),
+    Path(Id, Id),
 }
 
 impl Question {
@@ -34,6 +37,8 @@ impl Question {
             Question::View(Ask::Levels) => Some(MapText::Levels),
             Question::View(Ask::Audit) => Some(MapText::Audit),
             Question::View(Ask::Graph) => Some(MapText::Graph),
+            Question::View(Ask::Why(id)) => Some(MapText::Why(id)),
+            Question::View(Ask::Path(from, to)) => Some(MapText::Path(from, to)),
             Question::View(Ask::Compare) => None,
         }
     }

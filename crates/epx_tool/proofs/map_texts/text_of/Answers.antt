@@ -33,3 +33,13 @@ pub returns-in-Graph : goal.returns-in-Graph
 returns-in-Graph g c =
     subst (λ kind. IfOk c.picture_of.result (λ text. IsMapText kind c.args.merged text.items))
     (sym c.in-Graph.is) c.picture_of.ensures
+
+pub returns-in-Why : goal.returns-in-Why
+returns-in-Why g c =
+    subst (λ kind. IfOk c.why_of.result (λ text. IsMapText kind c.args.merged text.items))
+    (sym c.in-Why.is) c.why_of.ensures
+
+pub returns-in-Path : goal.returns-in-Path
+returns-in-Path g c =
+    subst (λ kind. IfOk c.path_of.result (λ text. IsMapText kind c.args.merged text.items))
+    (sym c.in-Path.is) c.path_of.ensures

@@ -1,0 +1,193 @@
+-- The needs of a range of nodes, node by node; and what they are over the map.
+use Rattle.std.proofs.Common.{◌≡◌, ◌≢◌, ◌⊎◌, inl, inr, ℕ, ◌+◌, ◌<◌, ◌≤◌, List, [], ◌∷◌, ◌++◌, map}
+use Rattle.std.proofs.Common.{length, Contains, Option, Some, None, slice_get, sym, ap, subst}
+use Rattle.std.proofs.Common.{subst₂}
+use Rattle.std.proofs.Common.{◌∙◌, arith}
+use Rattle.std.proofs.lemmas.Bool.{cases_lt}
+use Rattle.std.proofs.lemmas.List.{map_push}
+use Rattle.std.proofs.lemmas.List.Elements.{Contains-append_left, Contains-push}
+use Rattle.std.proofs.lemmas.List.Elements.{Contains-push_cases}
+use Rattle.std.proofs.lemmas.Option.{slice_get_within}
+use Rattle.epx_types.specs.declared.id.Id.{Id}
+use Rattle.epx_types.specs.Ids.{Below, IsRising}
+use Rattle.epx_types.specs.Instances.{Instance}
+use Rattle.epx_types.specs.CommittedMap.{IsCommitted}
+use Rattle.epx_types.proofs.lists.MembershipLemmas.{Contains-nil, Contains-from_map}
+use Rattle.epx_types.proofs.lists.MembershipLemmas.{Contains-cons_cases}
+use Rattle.epx_types.proofs.lists.ListPositionLemmas.{AllPairs-append}
+use Rattle.epx_types.proofs.lists.RisingIdLemmas.{AllPairs-from_IsRising, IsRising-from_AllPairs}
+use Rattle.epx_graph.specs.Graphs.{DependencyGraph, edges_of, IsGraph}
+use Rattle.epx_graph.specs.GraphOf.{IsGraphOf}
+use Rattle.epx_graph.proofs.GraphNodeLemmas.{committed_order, missing_order}
+use Rattle.epx_graph.proofs.MapPathLemmas.{node_committed, reached_node, node_of_committed}
+use Rattle.epx_why.specs.declared.need.Need.{Need}
+use Rattle.epx_why.specs.Distances.{IsDistance}
+use Rattle.epx_why.specs.Needs.{AreNeedsOf, AreNeeding}
+use Rattle.epx_why.specs.inner.NodeSteps.{LeadsTo, AreDistancesFrom, AreDistancesTo}
+use Rattle.epx_why.specs.inner.NodeSteps.{distance_at}
+use Rattle.epx_why.specs.inner.NodeNeeds.{IsNeedAt, AreNeedsIn}
+use Rattle.epx_why.proofs.MapStepLemmas.{distance_is, distance_leads, AreLeast-fewest}
+use Rattle.epx_why.proofs.MapStepLemmas.{AreLeast-known, IsPath-start_committed}
+
+-- an Id at the end of rising ones
+IsRising-push : (xs : List Id) (z : Id) → IsRising xs → ((x : Id) → Contains xs x → Below x z)
+    → IsRising (xs ++ z ∷ [])
+IsRising-push xs z rising below =
+    IsRising-from_AllPairs (xs ++ z ∷ []) (AllPairs-append Below xs (z ∷ [])
+    (AllPairs-from_IsRising xs rising) (AllPairs-from_IsRising (z ∷ []) (tt, tt))
+    (λ x y h last. elim (Contains-cons_cases z [] y last) [
+      | inl same ↦ subst (Below x) same (below x h)
+      | inr none ↦ absurd (Contains-nil y none)
+    ]))
+
+module _ (g : DependencyGraph) (distances : List (Option ℕ)) (start : ℕ) where
+  pub needs_none : AreNeedsIn g distances start start []
+  needs_none = record {
+    from = λ n h. absurd (Contains-nil n h);
+    whole = λ k n low high h. absurd (omega arith);
+    rising = tt;
+  }
+
+  -- a node without a distance
+  pub needs_skip : (end : ℕ) (needs : List Need) → distance_at distances end ≡ None
+      → AreNeedsIn g distances start end needs → AreNeedsIn g distances start (end + 1) needs
+  needs_skip end needs none are = record {
+    from = λ n h. let at = are.from n h in (at.0, at.1, omega (arith, at.2), at.3);
+    whole = λ k n low high h. elim (cases_lt k end) [
+      | inl before ↦ are.whole k n low before h
+      | inr not_before ↦
+          let same : k ≡ end = omega arith in
+          let has : distance_at distances end ≡ Some n.steps = ap (distance_at distances) (sym same)
+          ∙ h.steps in
+          absurd (cc (has, none))
+    ];
+    rising = are.rising;
+  }
+
+  -- a node with a distance
+  module _ (graph : IsGraph g) (end : ℕ) (needs : List Need) (w : Need) (start_low : start ≤ end)
+      (kind : (end < g.committed) ⊎ (g.committed ≤ start)) (here : IsNeedAt g distances end w)
+      (are : AreNeedsIn g distances start end needs) where
+    need_is_one : (k : ℕ) (n : Need) → k ≡ end → IsNeedAt g distances k n → w ≡ n
+    need_is_one k n same at =
+        let ids : Some w.id ≡ Some n.id = sym here.id ∙ ap (slice_get g.ids) (sym same) ∙ at.id in
+        let id : w.id ≡ n.id = cc ids in
+        let both : Some w.steps ≡ Some n.steps = sym here.steps
+        ∙ ap (distance_at distances) (sym same) ∙ at.steps in
+        let steps : w.steps ≡ n.steps = cc both in
+        λ i. record { id = id i; steps = steps i }
+
+    below : (x : Id) → Contains (map (λ (n : Need). n.id) needs) x → Below x w.id
+    below x h =
+        let from = Contains-from_map (λ (n : Need). n.id) needs x h in
+        let at = are.from from.0 from.1 in
+        let low : at.0 < end = at.2 in
+        let order : Below from.0.id w.id = elim kind [
+          | inl committed ↦ (committed_order g graph at.0 end from.0.id w.id at.3.id here.id
+              (omega arith) committed).0 low
+          | inr missing ↦ (missing_order g graph at.0 end from.0.id w.id at.3.id here.id
+              (omega (arith, at.1)) (omega arith)).0 low
+        ] in
+        subst (λ (y : Id). Below y w.id) from.2 order
+
+    pub needs_more : AreNeedsIn g distances start (end + 1) (needs ++ w ∷ [])
+    needs_more = record {
+      from = λ n h. elim (Contains-push_cases needs w n h) [
+        | inl old ↦ let at = are.from n old in (at.0, at.1, omega (arith, at.2), at.3)
+        | inr last ↦ (end, start_low, omega arith, subst (IsNeedAt g distances end) last here)
+      ];
+      whole = λ k n low high h. elim (cases_lt k end) [
+        | inl before ↦ Contains-append_left needs (w ∷ []) n (are.whole k n low before h)
+        | inr not_before ↦
+            let same : k ≡ end = omega arith in
+            subst (Contains (needs ++ w ∷ [])) (need_is_one k n same h) (Contains-push needs w)
+      ];
+      rising = subst IsRising (sym (map_push (λ (n : Need). n.id) needs w))
+          (IsRising-push (map (λ (n : Need). n.id) needs) w.id are.rising below);
+    }
+
+-- the same needs, by equal distances and ends
+pub needs_along : (g : DependencyGraph) (ds es : List (Option ℕ)) (start from end to : ℕ)
+    (needs : List Need) → ds ≡ es → start ≡ from → end ≡ to → AreNeedsIn g ds start end needs
+    → AreNeedsIn g es from to needs
+needs_along g ds es start from end to needs same first last are =
+    subst (λ (n : ℕ). AreNeedsIn g es from n needs) last
+    (subst₂ (λ (d : List (Option ℕ)) (n : ℕ). AreNeedsIn g d n end needs) same first are)
+
+-- ---- over the map
+
+module _ (m : List Instance) (g : DependencyGraph) (is : IsGraphOf m g) (k : ℕ) (x : Id)
+    (at : slice_get g.ids k ≡ Some x) where
+  missing_number : (j : ℕ) (y : Id) → slice_get g.ids j ≡ Some y → ¬ IsCommitted m y
+      → g.committed ≤ j
+  missing_number j y to missing =
+      elim (cases_lt j g.committed) [
+        | inl l ↦ absurd (missing ((node_committed m g is j y to).0 l))
+        | inr past ↦ past
+      ]
+
+  missing_id : (j : ℕ) (y : Id) → slice_get g.ids j ≡ Some y → g.committed ≤ j → ¬ IsCommitted m y
+  missing_id j y to past h = let l = (node_committed m g is j y to).1 h in absurd (omega arith)
+
+  -- the missing instances that a committed one reaches
+  pub needs_of_node : (distances : List (Option ℕ)) (needs : List Need) → k < g.committed
+      → AreDistancesFrom g k distances
+      → AreNeedsIn g distances g.committed (length g.ids) needs → AreNeedsOf m x needs
+  needs_of_node distances needs l known are = record {
+    only = λ n h.
+        let from = are.from n h in
+        let j = from.0 in
+        let apart : k ≢ j = λ same. absurd (omega (arith, from.1)) in (
+          missing_id j n.id from.3.id from.1,
+          distance_is m g is k j x n.id at from.3.id apart n.steps
+              (known.leads j n.steps from.3.steps)
+              (AreLeast-fewest (λ i c. LeadsTo (edges_of g) k i c) (length g.ids) distances known j
+              n.steps from.3.steps),
+        );
+    whole = λ y steps need. there y steps need.0 need.1;
+    rising = are.rising;
+  } where
+    there : (y : Id) (steps : ℕ) → ¬ IsCommitted m y → IsDistance m x y steps
+        → Contains needs (record { id = y; steps = steps })
+    there y steps missing d =
+        let node = reached_node m g is k x y at (inr (d.via, d.path)) in
+        let j = node.0 in
+        let past = missing_number j y node.1 missing in
+        let apart : k ≢ j = λ same. absurd (omega (arith, past)) in
+        let leads = distance_leads m g is k j x y at node.1 apart steps d in
+        are.whole j (record { id = y; steps = steps }) past (slice_get_within g.ids j y node.1)
+        (record {
+          id = node.1;
+          steps = AreLeast-known (λ i c. LeadsTo (edges_of g) k i c) (length g.ids) distances known
+              j steps leads.0 leads.1;
+        })
+
+  -- the instances that reach a missing one
+  pub needing_node : (distances : List (Option ℕ)) (needs : List Need) → g.committed ≤ k
+      → AreDistancesTo g k distances → AreNeedsIn g distances 0 g.committed needs
+      → AreNeeding m x needs
+  needing_node distances needs past known are = record {
+    only = λ n h.
+        let from = are.from n h in
+        let j = from.0 in
+        let apart : j ≢ k = λ same. absurd (omega (arith, from.2)) in
+        distance_is m g is j k n.id x from.3.id at apart n.steps
+        (known.leads j n.steps from.3.steps)
+        (AreLeast-fewest (λ i c. LeadsTo (edges_of g) c i k) (length g.ids) distances known j
+        n.steps from.3.steps);
+    whole = there;
+    rising = are.rising;
+  } where
+    there : (y : Id) (steps : ℕ) → IsDistance m y x steps
+        → Contains needs (record { id = y; steps = steps })
+    there y steps d =
+        let node = node_of_committed m g is y (IsPath-start_committed m y d.via x d.path) in
+        let j = node.0 in
+        let apart : j ≢ k = λ same. absurd (omega (arith, node.1)) in
+        let leads = distance_leads m g is j k y x node.2 at apart steps d in
+        are.whole j (record { id = y; steps = steps }) (omega arith) node.1
+        (record {
+          id = node.2;
+          steps = AreLeast-known (λ i c. LeadsTo (edges_of g) c i k) (length g.ids) distances known
+              j steps leads.0 leads.1;
+        })

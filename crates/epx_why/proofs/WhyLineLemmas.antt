@@ -1,0 +1,36 @@
+-- The line of a path, and lines that are appended one after another.
+use Rattle.std.proofs.Common.{◌≡◌, ◌<◌, ◌+◌, ℕ, false, List, [], ◌∷◌, ◌++◌, map, take, flat_map}
+use Rattle.std.proofs.Common.{length, get_or, codes, refl, sym, ap, ap₂, ◌∙◌}
+use Rattle.std.proofs.lemmas.Grind.{flat_map-append}
+use Rattle.std.proofs.lemmas.List.{append-nil, take_more, map_push}
+use Rattle.serde_json.specs.Data.{Data, string}
+use Rattle.serde_json.specs.Written.{has_float}
+use Rattle.epx_lines.proofs.FloatLemmas.{no_float-items}
+use Rattle.epx_report.specs.ReportLines.{array_of}
+use Rattle.epx_types.specs.declared.id.Id.{Id}
+use Rattle.epx_graph.specs.Graphs.{DependencyGraph}
+use Rattle.epx_why.specs.inner.NodeWalks.{id_at}
+use Rattle.epx_why.specs.WhyLines.{id_data, path_data}
+
+pub no_float-path : (ids : List Id) → has_float (array_of (path_data ids)) ≡ false
+no_float-path ids = rw (no_float-items id_data (λ x. refl) ids) refl
+
+pub flat_map_next : {X Y : Type 0} (f : X → List Y) (xs : List X) (n : ℕ) (d : X)
+    → n < length xs → flat_map f (take (n + 1) xs) ≡ flat_map f (take n xs) ++ f (get_or xs n d)
+flat_map_next {X} f xs n d l =
+    ap (flat_map f) (take_more xs n d l) ∙ flat_map-append f (take n xs) (get_or xs n d ∷ [])
+    ∙ ap (λ zs. flat_map f (take n xs) ++ zs) (append-nil (f (get_or xs n d)))
+
+-- one more node of a path
+pub path_more : (g : DependencyGraph) (start : Id) (nodes : List ℕ) (i : ℕ) (parts : List Data)
+    (part : Data) → i < length nodes → parts ≡ path_data (start ∷ map (id_at g) (take i nodes))
+    → part ≡ id_data (id_at g (get_or nodes i 0))
+    → parts ++ part ∷ [] ≡ path_data (start ∷ map (id_at g) (take (i + 1) nodes))
+path_more g start nodes i parts part l same last =
+    let ids = map (id_at g) (take i nodes) in
+    let next = ap (map (id_at g)) (take_more nodes i 0 l)
+    ∙ map_push (id_at g) (take i nodes) (get_or nodes i 0) in
+    ap₂ (λ ds d. ds ++ d ∷ []) same last
+    ∙ ap (λ ds. string (codes "path") ∷ id_data start ∷ ds)
+    (sym (map_push id_data ids (id_at g (get_or nodes i 0))))
+    ∙ ap (λ xs. path_data (start ∷ xs)) (sym next)

@@ -1,0 +1,17 @@
+//! Why an instance is executed where it is, or why it is not executed; and by which path of
+//! dependencies one instance reaches another.
+#![tactic(auto)]
+
+mod distances;
+pub mod laws;
+mod levels;
+mod need;
+mod node_needs;
+mod path;
+mod walk;
+mod why;
+mod why_lines;
+
+pub use need::Need;
+pub use path::path_text;
+pub use why::why_text;
