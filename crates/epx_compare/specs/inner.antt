@@ -5,5 +5,6 @@ pub mod EqualVersions
 pub mod LogMarks
 pub mod NotedRows
 pub mod NotedLines
+pub mod NextLines
 pub mod UnmetCounts
 pub mod NumberedVersions

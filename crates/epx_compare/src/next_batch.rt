@@ -1,5 +1,6 @@
 //! The next batch of lines.
 ghost use Rattle.std.specs.Prelude.{◌≡◌, ◌≤◌, ◌^◌, ◌++◌, [], IfOk, length};
+ghost use Rattle.epx_compare.specs.inner.NextLines.{AreNextOf};
 
 use epx_merge::{LineWalk, PlacedLine, batch_len};
 use epx_types::{Memory, Plan};
@@ -7,7 +8,7 @@ use std::alloc::Global;
 
 /// The next lines. The batch is empty only if no line is left. It ends with its log, so that all
 /// lines of a log are known when later logs repeat them.
-pub(crate) fn next_batch<'a>(
+fn next_batch<'a>(
     alloc: Global,
     plan: Plan,
     walk: &mut LineWalk<'a>,
@@ -28,4 +29,34 @@ pub(crate) fn next_batch<'a>(
         }
     }
     Ok(lines)
+}
+
+/// The next batch of lines, and those after it.
+// Both in one: `join` passes on what a closure ensures only if what it takes and returns owns a list
+// with the lifetime.
+#[derive(Drop)]
+pub(crate) struct NextLines<'a> {
+    pub(crate) batch: Vec<PlacedLine<'a>>,
+    pub(crate) walk: LineWalk<'a>,
+}
+
+impl<'a> NextLines<'a> {
+    /// No batch, before the lines of a walk.
+    pub(crate) fn before(alloc: Global, walk: LineWalk<'a>) -> NextLines<'a>
+        ensures { result.walk ≡ walk.entry }
+    {
+        NextLines {
+            batch: Vec::new(alloc),
+            walk,
+        }
+    }
+
+    /// Cuts the next batch of the lines that are left.
+    pub(crate) fn cut(self, alloc: Global, plan: Plan) -> Result<NextLines<'a>, Memory>
+        ensures { IfOk result (AreNextOf self.entry.walk) }
+    {
+        let NextLines { mut walk, .. } = self;
+        let batch = next_batch(alloc, plan, &mut walk)?;
+        Ok(NextLines { batch, walk })
+    }
 }

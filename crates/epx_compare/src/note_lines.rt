@@ -1,22 +1,24 @@
 //! Notes the lines of logs.
 ghost use Rattle.std.specs.Prelude.{◌≡◌, ◌≤◌, ◌^◌, ◌++◌, List, IfOk, OnOk, Some, length, map};
+ghost use Rattle.std.specs.Thread.{IsSync};
 ghost use Rattle.epx_types.specs.PlacedLines.{Placed};
 ghost use Rattle.epx_merge.specs.LogLines.{BadLineAt, MeaningAt, bad_lines_among, bad_lines_at};
 ghost use Rattle.epx_merge.specs.LogLines.{placed_among, placed_at};
 ghost use Rattle.epx_compare.specs.Differences.{versions_of};
 ghost use Rattle.epx_compare.specs.inner.KnownLines.{AreKnown, meaning_in};
+ghost use Rattle.epx_compare.specs.inner.NextLines.{AreNextOf, IsReadOf};
 ghost use Rattle.epx_compare.specs.inner.NotedLines.{AreNotedLines};
 ghost use Rattle.epx_compare.specs.inner.NotedRows.{AreNoted};
 
 use crate::known_lines::KnownLines;
-use crate::next_batch::next_batch;
+use crate::next_batch::NextLines;
 use crate::noted::Noted;
 use crate::noted_lines::NotedLines;
-use crate::read_lines::{ReadLine, read_batch};
+use crate::read_lines::{ReadBatch, ReadLine};
 use epx_merge::{LineWalk, PlacedLine};
 use epx_types::{Memory, Plan};
 use std::alloc::Global;
-use std::thread::Threads;
+use std::thread::{Threads, join};
 
 /// Notes what was read of a line.
 fn note_line<'a>(
@@ -67,13 +69,43 @@ fn note_batch<'a>(
     Ok(())
 }
 
+/// Reads a batch of lines. With several workers another thread cuts the next batch meanwhile.
+fn read_and_cut<'a, R: Threads + Sync>(
+    rt: &R,
+    alloc: Global,
+    plan: Plan,
+    unread: ReadBatch<'a>,
+    rest: NextLines<'a>,
+) -> Result<(ReadBatch<'a>, NextLines<'a>), Memory>
+    requires { length unread.batch.items ≤ 2 ^ 40 }
+    ensures read { IfOk result (λ v. IsReadOf unread.entry.known unread.entry.batch.items v.0) }
+    ensures next { IfOk result (λ v. AreNextOf rest.entry.walk v.1) }
+{
+    if plan.workers() == 1 {
+        let read = unread.read(rt, alloc, plan)?;
+        let next = rest.cut(alloc, plan)?;
+        return Ok((read, next));
+    }
+    let (next, read) = join(
+        rt,
+        move || -> Result<NextLines, Memory>
+            ensures { IfOk result (AreNextOf rest.entry.walk) }
+        { rest.cut(alloc, plan) },
+        move || -> Result<ReadBatch, Memory>
+            requires { IsSync R.row × (length unread.batch.items ≤ 2 ^ 40) }
+            ensures { IfOk result (IsReadOf unread.entry.known unread.entry.batch.items) }
+        { unread.read(rt, alloc, plan) },
+    );
+    Ok((read?, next?))
+}
+
 /// Notes the lines of a walk after those that are noted.
 pub(crate) fn note_lines<'a, R: Threads + Sync>(
     rt: &R,
     alloc: Global,
     plan: Plan,
     before: NotedLines<'a>,
-    mut walk: LineWalk<'a>,
+    walk: LineWalk<'a>,
 ) -> Result<NotedLines<'a>, Memory>
     ensures { IfOk result (λ after. (lines : List MeaningAt) → AreNotedLines lines before.entry
         → AreNotedLines (lines ++ walk.entry) after) }
@@ -82,11 +114,24 @@ pub(crate) fn note_lines<'a, R: Threads + Sync>(
         mut noted,
         mut known,
     } = before;
-    let mut batch = next_batch(alloc, plan, &mut walk)?;
-    while !batch.is_empty() {
-        let reads = read_batch(rt, alloc, plan, &known, &batch)?;
-        note_batch(&mut noted, &mut known, &batch, reads)?;
-        batch = next_batch(alloc, plan, &mut walk)?;
+    let mut next = NextLines::before(alloc, walk).cut(alloc, plan)?;
+    'batches: while !next.batch.is_empty() {
+        let NextLines { batch, walk } = next;
+        let rest = NextLines::before(alloc, walk);
+        let unread = ReadBatch {
+            known,
+            batch,
+            reads: Vec::new(alloc),
+        };
+        let (read, after) = read_and_cut(rt, alloc, plan, unread, rest)?;
+        let ReadBatch {
+            known: mut texts,
+            batch,
+            reads,
+        } = read;
+        note_batch(&mut noted, &mut texts, &batch, reads)?;
+        known = texts;
+        next = after;
     }
     Ok(NotedLines { noted, known })
 }

@@ -4,6 +4,7 @@ ghost use Rattle.epx_types.specs.Instances.{Instance};
 ghost use Rattle.epx_types.specs.Pieces.{piece_count};
 ghost use Rattle.epx_claims.specs.inner.PieceItems.{items_of_piece};
 ghost use Rattle.epx_compare.specs.inner.KnownLines.{AreKnown, meaning_in};
+ghost use Rattle.epx_compare.specs.inner.NextLines.{IsReadOf};
 
 use crate::known_lines::KnownLines;
 use epx_claims::{FreeGate, append_parts, claimed_map};
@@ -83,9 +84,9 @@ fn read_piece(
     read_each(alloc, known, &lines[start..end])
 }
 
-/// Reads the lines of a batch. Workers only look lines up, so they share those that are known
+/// Reads lines in pieces. Workers only look lines up, so they share those that are known
 /// without a lock.
-pub(crate) fn read_batch<R: Threads + Sync>(
+fn read_each_piece<R: Threads + Sync>(
     rt: &R,
     alloc: Global,
     plan: Plan,
@@ -107,4 +108,35 @@ pub(crate) fn read_batch<R: Threads + Sync>(
     let mut reads = Vec::with_capacity(alloc, lines.len())?;
     append_parts(&mut reads, parts)?;
     Ok(reads)
+}
+
+/// A batch of lines, what was read of them, and the lines that were known before.
+// All in one: `join` passes on what a closure ensures only if what it takes and returns owns a list
+// with the lifetime.
+#[derive(Drop)]
+pub(crate) struct ReadBatch<'a> {
+    pub(crate) known: KnownLines<'a>,
+    pub(crate) batch: Vec<PlacedLine<'a>>,
+    pub(crate) reads: Vec<ReadLine>,
+}
+
+impl<'a> ReadBatch<'a> {
+    /// Reads the lines of the batch.
+    pub(crate) fn read<R: Threads + Sync>(
+        self,
+        rt: &R,
+        alloc: Global,
+        plan: Plan,
+    ) -> Result<ReadBatch<'a>, Memory>
+        requires { length self.batch.items ≤ 2 ^ 40 }
+        ensures { IfOk result (IsReadOf self.entry.known self.entry.batch.items) }
+    {
+        let ReadBatch { known, batch, .. } = self;
+        let reads = read_each_piece(rt, alloc, plan, &known, &batch)?;
+        Ok(ReadBatch {
+            known,
+            batch,
+            reads,
+        })
+    }
 }

@@ -8,7 +8,7 @@ use Rattle.epx_claims.proofs.JoinedPieceLemmas.{parts_joined}
 use Rattle.epx_merge.specs.LogLines.{MeaningAt}
 use Rattle.epx_compare.specs.declared.read_lines.ReadLine.{ReadLine}
 use Rattle.epx_compare.specs.inner.KnownLines.{meaning_in}
-use Rattle.epx_compare.proofs.read_lines.read_batch.Goals as goal
+use Rattle.epx_compare.proofs.read_lines.read_each_piece.Goals as goal
 
 -- a map over lists one after another
 map-flat_map : {X Y Z : Type 0} (f : Y → Z) (inside : X → List Y) (xs : List X)
