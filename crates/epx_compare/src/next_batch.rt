@@ -32,8 +32,8 @@ fn next_batch<'a>(
 }
 
 /// The next batch of lines, and those after it.
-// Both in one: `join` passes on what a closure ensures only if what it takes and returns owns a list
-// with the lifetime.
+// Both in one: `join` passes on what a closure ensures only if what it takes and returns owns a
+// list with the lifetime.
 #[derive(Drop)]
 pub(crate) struct NextLines<'a> {
     pub(crate) batch: Vec<PlacedLine<'a>>,

@@ -1,6 +1,5 @@
 use Rattle.std.proofs.Common.{◌≡◌, ◌≤◌, ◌^◌, ◌++◌, [], List, length}
 use Rattle.epx_merge.specs.LogLines.{MeaningAt, bad_lines_among, placed_among}
-use Rattle.epx_compare.specs.inner.NextLines.{AreNextOf}
 use Rattle.epx_compare.specs.inner.NotedLines.{AreNotedLines}
 use Rattle.epx_compare.proofs.NotedBatchLemmas.{AreNotedKnown}
 use Rattle.epx_compare.proofs.note_lines.note_lines.Given as goal
