@@ -1,10 +1,11 @@
 //! A case of a script, and its runs.
+use crate::asked::{Asked, asked_by};
 use crate::case_input::{CaseInput, FailingDevice};
 use crate::directive::Directive;
 use crate::flow::Flow;
 use crate::line::add_line;
 use crate::meaning::meanings;
-use crate::outcome::{answer_input, deliver_input, task_named};
+use crate::outcome::{answer_input, deliver_input};
 use crate::words::words_text;
 use epx_tool::Task;
 use epx_types::{Memory, Plan};
@@ -38,7 +39,7 @@ enum Subject<'a> {
     /// What each line of logs means.
     Lines,
     /// The answer to texts.
-    Task(Task),
+    Answer(Asked),
 }
 
 fn subject_of(head: &str) -> Option<Subject<'_>> {
@@ -46,7 +47,7 @@ fn subject_of(head: &str) -> Option<Subject<'_>> {
     match command {
         "words" => Some(Subject::Words(name)),
         "lines" => Some(Subject::Lines),
-        _ => Some(Subject::Task(task_named(command)?)),
+        _ => Some(Subject::Answer(asked_by(command, name)?)),
     }
 }
 
@@ -94,27 +95,34 @@ impl<'a> Case<'a> {
             return self.case_input.add_line(alloc, line);
         };
         match (directive, self.subject) {
-            (Directive::Logs(count), Some(Subject::Task(_))) => {
+            (Directive::Logs(count), Some(Subject::Answer(_))) => {
                 self.case_input.begin_logs(alloc, count)?;
             }
             (Directive::Logs(count), Some(Subject::Lines)) => {
                 self.case_input.begin_logs(alloc, count)?;
             }
-            (Directive::Plan { workers, cut }, Some(Subject::Task(_))) => {
+            (Directive::Plan { workers, cut }, Some(Subject::Answer(_))) => {
                 return self.add_plan(workers, cut);
             }
-            (Directive::Base, Some(Subject::Task(Task::Resume))) => self.case_input.begin_first(),
-            (Directive::List, Some(Subject::Task(Task::Check | Task::CheckPrefix))) => {
+            (Directive::Base, Some(Subject::Answer(Asked::Task(Task::Resume)))) => {
                 self.case_input.begin_first();
             }
-            (Directive::Gives(flow), Some(Subject::Task(_))) => return Ok(
+            (
+                Directive::List,
+                Some(Subject::Answer(Asked::Task(Task::Check | Task::CheckPrefix))),
+            ) => {
+                self.case_input.begin_first();
+            }
+            (Directive::Gives(flow), Some(Subject::Answer(_))) => return Ok(
                 self.case_input.set_source_flow(flow),
             ),
-            (Directive::Takes(flow), Some(Subject::Task(_))) => self.case_input.set_sink_flow(flow),
-            (Directive::GivesEach(flow), Some(Subject::Task(_))) => {
+            (Directive::Takes(flow), Some(Subject::Answer(_))) => {
+                self.case_input.set_sink_flow(flow);
+            }
+            (Directive::GivesEach(flow), Some(Subject::Answer(_))) => {
                 return Ok(self.case_input.set_failing(FailingDevice::Source, flow));
             }
-            (Directive::TakesEach(flow), Some(Subject::Task(_))) => {
+            (Directive::TakesEach(flow), Some(Subject::Answer(_))) => {
                 return Ok(self.case_input.set_failing(FailingDevice::Sink, flow));
             }
             _ => return Ok(false),
@@ -191,10 +199,10 @@ impl<'a> Case<'a> {
         &self,
         rt: &R,
         alloc: Global,
-        task: Task,
+        asked: Asked,
     ) -> io::Result<bool> {
         for plan in &self.plans {
-            let found = answer_input(rt, alloc, task, &self.case_input, *plan)?;
+            let found = answer_input(rt, alloc, asked, &self.case_input, *plan)?;
             let (workers, cut) = (plan.workers(), plan.cut());
             let way = format!(in alloc; "in memory with {workers} workers and cut {cut}")?;
             if !self.is_expected(rt, alloc, way.as_str(), &found)? {
@@ -209,12 +217,12 @@ impl<'a> Case<'a> {
         &self,
         rt: &R,
         alloc: Global,
-        task: Task,
+        asked: Asked,
     ) -> io::Result<bool> {
         let Some(plan) = self.plans.last() else {
             return Ok(false);
         };
-        let found = deliver_input(rt, alloc, task, &self.case_input, *plan)?;
+        let found = deliver_input(rt, alloc, asked, &self.case_input, *plan)?;
         self.is_expected(rt, alloc, "through devices", &found)
     }
 
@@ -244,7 +252,7 @@ impl<'a> Case<'a> {
         &mut self,
         rt: &R,
         alloc: Global,
-        task: Task,
+        asked: Asked,
         failing_device: FailingDevice,
         flow: Flow,
     ) -> io::Result<bool> {
@@ -259,7 +267,7 @@ impl<'a> Case<'a> {
         for bytes in 0..=most {
             self.case_input
                 .set_failure(failing_device, flow.with_failure_after(bytes));
-            let found = deliver_input(rt, alloc, task, &self.case_input, plan)?;
+            let found = deliver_input(rt, alloc, asked, &self.case_input, plan)?;
             if found != self.expected_after(alloc, failing_device, bytes)? {
                 println!(rt; "{head} DIFFERS where a device fails after {bytes} bytes:")?;
                 print!(rt; "{}", String::from_utf8_lossy(alloc, &found)?)?;
@@ -274,15 +282,15 @@ impl<'a> Case<'a> {
         &mut self,
         rt: &R,
         alloc: Global,
-        task: Task,
+        asked: Asked,
     ) -> io::Result<bool> {
         if let Some((failing_device, flow)) = self.case_input.failing_device {
-            return self.is_right_on_failures(rt, alloc, task, failing_device, flow);
+            return self.is_right_on_failures(rt, alloc, asked, failing_device, flow);
         }
-        if !self.case_input.names_flow && !self.is_right_in_memory(rt, alloc, task)? {
+        if !self.case_input.names_flow && !self.is_right_in_memory(rt, alloc, asked)? {
             return Ok(false);
         }
-        self.is_right_on_devices(rt, alloc, task)
+        self.is_right_on_devices(rt, alloc, asked)
     }
 
     /// Whether all runs of the case have the expected text.
@@ -301,7 +309,7 @@ impl<'a> Case<'a> {
                 Ok(found) => self.is_expected(rt, alloc, "line by line", &found),
                 Err(Memory) => Err(io::Error::from(ErrorKind::OutOfMemory)),
             },
-            Some(Subject::Task(task)) => self.is_right_for(rt, alloc, task),
+            Some(Subject::Answer(asked)) => self.is_right_for(rt, alloc, asked),
         }
     }
 

@@ -2,6 +2,7 @@
 //! It prints what `epx` writes to standard output and to standard error, and its exit status.
 #![tactic(auto)]
 
+mod asked;
 mod case;
 mod case_input;
 mod directive;
