@@ -3,7 +3,7 @@
 use crate::test_runtime::NOT_UTF_8;
 
 /// Words of every kind. Each list begins with the name of the program.
-pub(crate) fn word_lists() -> [&'static [&'static str]; 53] {
+pub(crate) fn word_lists() -> [&'static [&'static str]; 55] {
     [
         &["epx"],
         &["epx", "--help"],
