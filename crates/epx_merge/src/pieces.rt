@@ -99,7 +99,11 @@ fn read_lines(
     ensures { IfOk result (IsReadBeside HasEntries cache.now lines.now) }
 {
     let mut reader = LineReader::new(alloc);
-    let room = if cache.has_slots() { FIRST_CAPACITY } else { MAX_CUT };
+    let room = if cache.has_slots() {
+        FIRST_CAPACITY
+    } else {
+        MAX_CUT
+    };
     let mut piece = ReadPiece {
         entries: Vec::with_capacity(alloc, lines.len().min(room))?,
         fresh: Vec::new(alloc),

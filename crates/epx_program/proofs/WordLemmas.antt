@@ -99,15 +99,15 @@ module _ (words : List Text) (n : ℕ) (as_many : n ≡ length words) where
       → IfOk read (Asks words)
   asks (Ok asked) bare is_task is_workers is_cut are_paths is_prefix exit_code taken refused
       ends = record {
-    bare = λ few. bare (omega (arith, as_many, few));
-    work = λ many. let two : 2 ≤ n = omega (arith, as_many, many) in
-        work_fits asked (is_task two) (is_workers two) (is_cut two) (are_paths two)
-        (is_prefix two);
-    exit_code = λ many. exit_code (omega (arith, as_many, many));
-    taken = λ many. taken (omega (arith, as_many, many));
-    text = λ many. let two : 2 ≤ n = omega (arith, as_many, many) in
-        text_ends asked (refused two) (ends two);
-  }
+        bare = λ few. bare (omega (arith, as_many, few));
+        work = λ many. let two : 2 ≤ n = omega (arith, as_many, many) in
+            work_fits asked (is_task two) (is_workers two) (is_cut two) (are_paths two)
+            (is_prefix two);
+        exit_code = λ many. exit_code (omega (arith, as_many, many));
+        taken = λ many. taken (omega (arith, as_many, many));
+        text = λ many. let two : 2 ≤ n = omega (arith, as_many, many) in
+            text_ends asked (refused two) (ends two);
+      }
   asks (Err memory) bare is_task is_workers is_cut are_paths is_prefix exit_code taken refused
       ends = tt
 
