@@ -1,14 +1,19 @@
 -- Lines that are known, as more versions and lines are added.
 use Rattle.std.proofs.Common.{◌≡◌, ◌∙◌, ◌∷◌, ◌++◌, ℕ, List, [], Option, None, Some, Result, Ok}
-use Rattle.std.proofs.Common.{slice_get, refl, sym, ap, option_map}
+use Rattle.std.proofs.Common.{slice_get, refl, sym, ap, option_map, ◌==◌, Bool, true, false, cond}
+use Rattle.std.proofs.Common.{arith}
+use Rattle.std.proofs.lemmas.Bool.Decides.{nat_tests}
 use Rattle.std.proofs.lemmas.List.{map_push}
+use Rattle.epx_seed.specs.declared.Seed.{Seed}
 use Rattle.epx_types.proofs.lists.ListPositionLemmas.{slice_get-map}
 use Rattle.epx_types.specs.declared.fault.Why.{Why}
 use Rattle.epx_types.specs.Instances.{Instance}
 use Rattle.epx_lines.specs.declared.Line.{Line}
 use Rattle.epx_lines.specs.declared.Line.TheVariants.{Entry}
+use Rattle.epx_compare.specs.declared.hashed_version.HashedVersion.{HashedVersion}
 use Rattle.epx_compare.specs.declared.read_lines.ReadLine.{ReadLine}
 use Rattle.epx_compare.specs.declared.read_lines.ReadLine.TheVariants as read
+use Rattle.epx_compare.specs.inner.HashedVersions.{IsHashed, hash_by}
 use Rattle.epx_compare.specs.inner.KnownLines.{AreKnown, meaning_in, meaning_of_version}
 
 abbrev pub line_of : Instance → Result Line Why
@@ -70,9 +75,34 @@ module _ (old new : List Instance)
       λ i. first i ∷ later i
 
   -- a line means the same
-  pub meaning_grown : (r : ReadLine) (m : Result Line Why) → meaning_in old r ≡ Some m
-      → meaning_in new r ≡ Some m
-  meaning_grown read.Blank m h = h
-  meaning_grown (read.Fresh entry hash) m h = h
-  meaning_grown (read.Repeat version) m h = version_grown version m h
-  meaning_grown (read.Bad why) m h = h
+  pub meaning_grown : (seed : Seed) (r : ReadLine) (m : Result Line Why)
+      → meaning_in seed old r ≡ Some m → meaning_in seed new r ≡ Some m
+  meaning_grown seed read.Blank m h = h
+  meaning_grown seed (read.Fresh v bytes) m h = h
+  meaning_grown seed (read.Repeat version) m h = version_grown version m h
+  meaning_grown seed (read.Bad why) m h = h
+
+-- ---- lines that were not known
+
+module _ (hash own : ℕ) (line m : Result Line Why) where
+  fresh : (b : Bool) → (hash == own) ≡ b → cond b (Some line) None ≡ Some m
+      → (hash ≡ own) × (m ≡ line)
+  fresh true test h =
+      let same : hash ≡ own = grind (arith, nat_tests) in
+      let means : m ≡ line = cc h in (same, means)
+  fresh false test h = absurd (cc h)
+
+-- a line that was not known has a version with its own hash
+pub fresh_read : (seed : Seed) (versions : List Instance) (v : HashedVersion) (bytes : ℕ)
+    (m : Result Line Why) → meaning_in seed versions (read.Fresh v bytes) ≡ Some m
+    → IsHashed seed v × (m ≡ Ok (Entry v.version))
+fresh_read seed versions v bytes m h =
+    fresh v.hash (hash_by seed v.version) (line_of v.version) m
+    (v.hash == hash_by seed v.version) refl h
+
+-- a version with its own hash means what it commits
+pub fresh_means : (seed : Seed) (versions : List Instance) (v : HashedVersion) (bytes : ℕ)
+    → IsHashed seed v → meaning_in seed versions (read.Fresh v bytes) ≡ Some (Ok (Entry v.version))
+fresh_means seed versions v bytes own =
+    let test : (v.hash == hash_by seed v.version) ≡ true = grind (arith, nat_tests) in
+    ap (λ b. cond b (Some (line_of v.version)) None) test

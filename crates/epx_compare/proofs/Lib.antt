@@ -1,5 +1,6 @@
 mod IdPositionLemmas
 mod VersionLemmas
+mod HashedVersionLemmas
 mod KnownLineLemmas
 mod NotedBatchLemmas
 mod GapLemmas

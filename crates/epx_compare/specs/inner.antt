@@ -2,6 +2,8 @@
 pub mod Catalogs
 pub mod KnownLines
 pub mod EqualVersions
+pub mod HashedVersions
+pub mod VersionLists
 pub mod LogMarks
 pub mod NotedRows
 pub mod NotedLines

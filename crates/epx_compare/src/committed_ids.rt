@@ -3,12 +3,10 @@ ghost use Rattle.std.specs.Prelude.{◌≡◌, ◌↔◌, ◌<◌, length, map, 
 ghost use Rattle.std.specs.Prelude.{slice_get};
 ghost use Rattle.epx_types.specs.Ids.{IsRising};
 
-use crate::version::Version;
+use crate::versions::Versions;
 use epx_committed::Guesses;
-use epx_seed::Seed;
 use epx_types::id_list::{find_id, sort_unique};
 use epx_types::{Id, Memory};
-use indexmap::IndexSet;
 use std::alloc::Global;
 use std::marker::Model;
 
@@ -32,18 +30,12 @@ impl Model for CommittedIds {
 }
 
 /// The Id of each version, in the order of their numbers.
-pub(crate) fn version_ids(
-    alloc: Global,
-    versions: &IndexSet<Version, Seed>,
-) -> Result<Vec<Id>, Memory>
+pub(crate) fn version_ids(alloc: Global, versions: &Versions) -> Result<Vec<Id>, Memory>
     ensures { IfOk result (λ ids. ids.items ≡ map (λ e. e.id) versions.now.keys) }
 {
     let mut ids = Vec::with_capacity(alloc, versions.len())?;
     for number in 0..versions.len() {
-        let Some(version) = versions.get_index(number) else {
-            unreachable!()
-        };
-        ids.push(version.entry().id())?;
+        ids.push(versions.entry(number).id())?;
     }
     Ok(ids)
 }

@@ -11,6 +11,7 @@ mod counts;
 mod differences;
 mod gap_lines;
 mod gaps;
+mod hashed_version;
 mod known_lines;
 pub mod laws;
 mod log_set;
@@ -22,5 +23,6 @@ mod noted_lines;
 mod read_lines;
 mod unmet;
 mod version;
+mod versions;
 
 pub use comparison::{Comparison, compare, compare_during};

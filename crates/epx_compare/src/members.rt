@@ -3,10 +3,8 @@ ghost use Rattle.std.specs.Prelude.{◌≡◌, ◌<◌, ◌||◌, not, length, m
 ghost use Rattle.epx_compare.specs.SameInstances.{same_seq, same_deps, same_ops};
 ghost use Rattle.epx_compare.specs.inner.NumberedVersions.{version_at, differs_from, AreDiffering};
 
-use crate::version::Version;
-use epx_seed::Seed;
+use crate::versions::Versions;
 use epx_types::Entry;
-use indexmap::IndexSet;
 
 /// Whether versions differ, member by member.
 #[derive(Clone, Copy, Debug, Default)]
@@ -16,14 +14,11 @@ pub(crate) struct Members {
     pub(crate) ops: bool,
 }
 
-fn entry_at(versions: &IndexSet<Version, Seed>, number: usize) -> &Entry
+fn entry_at(versions: &Versions, number: usize) -> &Entry
     requires { number < length versions.now.keys }
     ensures { result.now ≡ version_at versions.now.keys number }
 {
-    let Some(version) = versions.get_index(number) else {
-        unreachable!()
-    };
-    version.entry()
+    versions.entry(number)
 }
 
 impl Members {
@@ -39,7 +34,7 @@ impl Members {
     }
 
     /// The members in which some version with one of these numbers differs from an entry.
-    fn from_first(versions: &IndexSet<Version, Seed>, first: &Entry, later: &[usize]) -> Members
+    fn from_first(versions: &Versions, first: &Entry, later: &[usize]) -> Members
         requires { All (λ v. v < length versions.now.keys) later.now }
         ensures seq { result.seq ≡ differs_from same_seq first.now versions.now.keys later.now }
         ensures deps { result.deps ≡ differs_from same_deps first.now versions.now.keys later.now }
@@ -54,7 +49,7 @@ impl Members {
 
     /// The members in which the versions with these numbers differ. It is enough to compare each
     /// with the first.
-    pub(crate) fn differing(versions: &IndexSet<Version, Seed>, numbers: &[usize]) -> Members
+    pub(crate) fn differing(versions: &Versions, numbers: &[usize]) -> Members
         requires { All (λ v. v < length versions.now.keys) numbers.now }
         ensures { AreDiffering (map (version_at versions.now.keys) numbers.now) result }
     {

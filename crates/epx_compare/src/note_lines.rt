@@ -1,6 +1,7 @@
 //! Notes the lines of logs.
 ghost use Rattle.std.specs.Prelude.{◌≡◌, ◌≤◌, ◌^◌, ◌++◌, List, IfOk, OnOk, Some, length, map};
 ghost use Rattle.std.specs.Thread.{IsSync};
+ghost use Rattle.epx_seed.specs.declared.Seed.{Seed};
 ghost use Rattle.epx_types.specs.PlacedLines.{Placed};
 ghost use Rattle.epx_merge.specs.LogLines.{BadLineAt, MeaningAt, bad_lines_among, bad_lines_at};
 ghost use Rattle.epx_merge.specs.LogLines.{placed_among, placed_at};
@@ -9,6 +10,7 @@ ghost use Rattle.epx_compare.specs.inner.KnownLines.{AreKnown, meaning_in};
 ghost use Rattle.epx_compare.specs.inner.NextLines.{AreNextOf, IsReadOf};
 ghost use Rattle.epx_compare.specs.inner.NotedLines.{AreNotedLines};
 ghost use Rattle.epx_compare.specs.inner.NotedRows.{AreNoted};
+ghost use Rattle.epx_compare.specs.inner.VersionLists.{AreHashed};
 
 use crate::known_lines::KnownLines;
 use crate::next_batch::NextLines;
@@ -27,20 +29,21 @@ fn note_line<'a>(
     line: &PlacedLine<'a>,
     read: ReadLine,
 ) -> Result<(), Memory>
-    ensures { OnOk result ((lines : List Placed) (bad : List BadLineAt)
-        → AreNoted lines bad noted.old
+    ensures { OnOk result ((lines : List Placed) (bad : List BadLineAt) (seed : Seed)
+        → AreNoted lines bad noted.old → AreHashed seed noted.old.versions
         → AreKnown (versions_of lines) known.old.cache known.old.versions.items
-        → meaning_in (versions_of lines) read ≡ Some line.now.meaning
+        → meaning_in seed (versions_of lines) read ≡ Some line.now.meaning
         → (let all = lines ++ placed_at line.now.place line.now.meaning in
         AreNoted all (bad ++ bad_lines_at line.now.place line.now.meaning) noted.new
+        × AreHashed seed noted.new.versions
         × AreKnown (versions_of all) known.new.cache known.new.versions.items)) }
 {
     let place = line.place();
     match read {
         ReadLine::Blank => {}
-        ReadLine::Fresh(entry, hash) => {
-            let version = noted.note_entry(place, entry)?;
-            known.insert(hash, line.bytes(), version)?;
+        ReadLine::Fresh(version, hash) => {
+            let number = noted.note_entry(place, version)?;
+            known.insert(hash, line.bytes(), number)?;
         }
         ReadLine::Repeat(version) => noted.note_version(place, version)?,
         ReadLine::Bad(why) => noted.note_bad(place, why)?,
@@ -55,12 +58,14 @@ fn note_batch<'a>(
     batch: &[PlacedLine<'a>],
     reads: Vec<ReadLine>,
 ) -> Result<(), Memory>
-    ensures { OnOk result ((lines : List Placed) (bad : List BadLineAt)
-        → AreNoted lines bad noted.old
+    ensures { OnOk result ((lines : List Placed) (bad : List BadLineAt) (seed : Seed)
+        → AreNoted lines bad noted.old → AreHashed seed noted.old.versions
         → AreKnown (versions_of lines) known.old.cache known.old.versions.items
-        → map (meaning_in (versions_of lines)) reads.items ≡ map (λ l. Some l.meaning) batch.now
+        → map (meaning_in seed (versions_of lines)) reads.items
+        ≡ map (λ l. Some l.meaning) batch.now
         → (let all = lines ++ placed_among batch.now in
         AreNoted all (bad ++ bad_lines_among batch.now) noted.new
+        × AreHashed seed noted.new.versions
         × AreKnown (versions_of all) known.new.cache known.new.versions.items)) }
 {
     for (line, read) in batch.iter().zip(reads) {
@@ -78,7 +83,8 @@ fn read_and_cut<'a, R: Threads + Sync>(
     rest: NextLines<'a>,
 ) -> Result<(ReadBatch<'a>, NextLines<'a>), Memory>
     requires { length unread.batch.items ≤ 2 ^ 40 }
-    ensures read { IfOk result (λ v. IsReadOf unread.entry.known unread.entry.batch.items v.0) }
+    ensures read { IfOk result (λ v. IsReadOf unread.entry.known unread.entry.seed
+        unread.entry.batch.items v.0) }
     ensures next { IfOk result (λ v. AreNextOf rest.entry.walk v.1) }
 {
     if plan.workers() == 1 {
@@ -93,7 +99,8 @@ fn read_and_cut<'a, R: Threads + Sync>(
         { rest.cut(alloc, plan) },
         move || -> Result<ReadBatch, Memory>
             requires { IsSync R.row × (length unread.batch.items ≤ 2 ^ 40) }
-            ensures { IfOk result (IsReadOf unread.entry.known unread.entry.batch.items) }
+            ensures { IfOk result (IsReadOf unread.entry.known unread.entry.seed
+                unread.entry.batch.items) }
         { unread.read(rt, alloc, plan) },
     );
     Ok((read?, next?))
@@ -113,6 +120,7 @@ pub(crate) fn note_lines<'a, R: Threads + Sync>(
     let NotedLines {
         mut noted,
         mut known,
+        seed,
     } = before;
     let mut next = NextLines::before(alloc, walk).cut(alloc, plan)?;
     'batches: while !next.batch.is_empty() {
@@ -122,16 +130,18 @@ pub(crate) fn note_lines<'a, R: Threads + Sync>(
             known,
             batch,
             reads: Vec::new(alloc),
+            seed,
         };
         let (read, after) = read_and_cut(rt, alloc, plan, unread, rest)?;
         let ReadBatch {
             known: mut texts,
             batch,
             reads,
+            ..
         } = read;
         note_batch(&mut noted, &mut texts, &batch, reads)?;
         known = texts;
         next = after;
     }
-    Ok(NotedLines { noted, known })
+    Ok(NotedLines { noted, known, seed })
 }

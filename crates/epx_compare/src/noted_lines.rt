@@ -8,23 +8,26 @@ use epx_seed::Seed;
 use epx_types::Memory;
 use std::alloc::Global;
 
-/// Lines that were read: what is noted of them, and those that are known.
-// Both in one: `join_mut` passes on what a closure ensures only if what the closure returns owns a
+/// Lines that were read: what is noted of them, those that are known, and the seed with which
+/// versions are hashed.
+// All in one: `join_mut` passes on what a closure ensures only if what the closure returns owns a
 // list with the lifetime.
 #[derive(Drop)]
 pub(crate) struct NotedLines<'a> {
     pub(crate) noted: Noted,
     pub(crate) known: KnownLines<'a>,
+    pub(crate) seed: Seed,
 }
 
 impl<'a> NotedLines<'a> {
-    /// No lines, before those of this many logs. The versions hash with the seed.
+    /// No lines, before those of this many logs. Versions will be hashed with the seed.
     pub(crate) fn new(alloc: Global, logs: usize, seed: Seed) -> Result<NotedLines<'a>, Memory>
         ensures { IfOk result (AreNotedLines []) }
     {
         Ok(NotedLines {
-            noted: Noted::new(alloc, seed),
+            noted: Noted::new(alloc),
             known: KnownLines::new(alloc, logs)?,
+            seed,
         })
     }
 }

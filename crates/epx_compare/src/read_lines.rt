@@ -6,11 +6,13 @@ ghost use Rattle.epx_claims.specs.inner.PieceItems.{items_of_piece};
 ghost use Rattle.epx_compare.specs.inner.KnownLines.{AreKnown, meaning_in};
 ghost use Rattle.epx_compare.specs.inner.NextLines.{IsReadOf};
 
+use crate::hashed_version::HashedVersion;
 use crate::known_lines::KnownLines;
 use epx_claims::{FreeGate, append_parts, claimed_map};
 use epx_lines::{Line, LineFault, LineReader};
 use epx_merge::PlacedLine;
-use epx_types::{Entry, Memory, Plan, Why};
+use epx_seed::Seed;
+use epx_types::{Memory, Plan, Why};
 use std::alloc::Global;
 use std::thread::Threads;
 
@@ -19,7 +21,7 @@ use std::thread::Threads;
 pub(crate) enum ReadLine {
     Blank,
     /// A line that was not known: what it commits, and the hash of its bytes.
-    Fresh(Entry, u64),
+    Fresh(HashedVersion, u64),
     /// A known line, by the number of the version that it commits.
     Repeat(usize),
     Bad(Why),
@@ -30,11 +32,12 @@ fn read_one(
     alloc: Global,
     reader: &mut LineReader,
     known: &KnownLines<'_>,
+    seed: Seed,
     line: &PlacedLine<'_>,
 ) -> Result<ReadLine, Memory>
     ensures { IfOk result (λ read. (versions : List Instance)
         → AreKnown versions known.now.cache known.now.versions.items
-        → meaning_in versions read ≡ Some line.now.meaning) }
+        → meaning_in seed versions read ≡ Some line.now.meaning) }
 {
     let hash = known.cache.hash_of(line.bytes());
     if let Some(version) = known.find(hash, line.bytes()) {
@@ -42,7 +45,7 @@ fn read_one(
     }
     match line.read(alloc, reader) {
         Ok(Line::Blank) => Ok(ReadLine::Blank),
-        Ok(Line::Entry(entry)) => Ok(ReadLine::Fresh(entry, hash)),
+        Ok(Line::Entry(entry)) => Ok(ReadLine::Fresh(HashedVersion::new(entry, seed), hash)),
         Err(LineFault::Memory) => Err(Memory),
         Err(LineFault::Bad(why)) => Ok(ReadLine::Bad(why)),
     }
@@ -52,16 +55,17 @@ fn read_one(
 fn read_each(
     alloc: Global,
     known: &KnownLines<'_>,
+    seed: Seed,
     lines: &[PlacedLine<'_>],
 ) -> Result<Vec<ReadLine>, Memory>
     ensures { IfOk result (λ reads. (versions : List Instance)
         → AreKnown versions known.now.cache known.now.versions.items
-        → map (meaning_in versions) reads.items ≡ map (λ l. Some l.meaning) lines.now) }
+        → map (meaning_in seed versions) reads.items ≡ map (λ l. Some l.meaning) lines.now) }
 {
     let mut reader = LineReader::new(alloc);
     let mut reads = Vec::with_capacity(alloc, lines.len())?;
     for line in lines {
-        reads.push(read_one(alloc, &mut reader, known, line)?)?;
+        reads.push(read_one(alloc, &mut reader, known, seed, line)?)?;
     }
     Ok(reads)
 }
@@ -71,17 +75,18 @@ fn read_piece(
     alloc: Global,
     plan: Plan,
     known: &KnownLines<'_>,
+    seed: Seed,
     lines: &[PlacedLine<'_>],
     piece: usize,
 ) -> Result<Vec<ReadLine>, Memory>
     requires { piece < piece_count plan.cut (length lines.now) }
     ensures { IfOk result (λ reads. (versions : List Instance)
         → AreKnown versions known.now.cache known.now.versions.items
-        → map (meaning_in versions) reads.items
+        → map (meaning_in seed versions) reads.items
         ≡ map (λ l. Some l.meaning) (items_of_piece plan.cut lines.now piece)) }
 {
     let (start, end) = plan.range(piece, lines.len());
-    read_each(alloc, known, &lines[start..end])
+    read_each(alloc, known, seed, &lines[start..end])
 }
 
 /// Reads lines in pieces. Workers only look lines up, so they share those that are known
@@ -91,26 +96,28 @@ fn read_each_piece<R: Threads + Sync>(
     alloc: Global,
     plan: Plan,
     known: &KnownLines<'_>,
+    seed: Seed,
     lines: &[PlacedLine<'_>],
 ) -> Result<Vec<ReadLine>, Memory>
     requires { length lines.now ≤ 2 ^ 40 }
     ensures { IfOk result (λ reads. (versions : List Instance)
         → AreKnown versions known.now.cache known.now.versions.items
-        → map (meaning_in versions) reads.items ≡ map (λ l. Some l.meaning) lines.now) }
+        → map (meaning_in seed versions) reads.items ≡ map (λ l. Some l.meaning) lines.now) }
 {
     if plan.workers() == 1 {
-        return read_each(alloc, known, lines);
+        return read_each(alloc, known, seed, lines);
     }
     let pieces = plan.pieces(lines.len());
     let parts = claimed_map(rt, alloc, pieces, plan, &FreeGate, |piece| {
-        read_piece(alloc, plan, known, lines, piece)
+        read_piece(alloc, plan, known, seed, lines, piece)
     })?;
     let mut reads = Vec::with_capacity(alloc, lines.len())?;
     append_parts(&mut reads, parts)?;
     Ok(reads)
 }
 
-/// A batch of lines, what was read of them, and the lines that were known before.
+/// A batch of lines, what was read of them, the lines that were known before, and the seed with
+/// which versions are hashed.
 // All in one: `join` passes on what a closure ensures only if what it takes and returns owns a list
 // with the lifetime.
 #[derive(Drop)]
@@ -118,6 +125,7 @@ pub(crate) struct ReadBatch<'a> {
     pub(crate) known: KnownLines<'a>,
     pub(crate) batch: Vec<PlacedLine<'a>>,
     pub(crate) reads: Vec<ReadLine>,
+    pub(crate) seed: Seed,
 }
 
 impl<'a> ReadBatch<'a> {
@@ -129,14 +137,20 @@ impl<'a> ReadBatch<'a> {
         plan: Plan,
     ) -> Result<ReadBatch<'a>, Memory>
         requires { length self.batch.items ≤ 2 ^ 40 }
-        ensures { IfOk result (IsReadOf self.entry.known self.entry.batch.items) }
+        ensures { IfOk result (IsReadOf self.entry.known self.entry.seed self.entry.batch.items) }
     {
-        let ReadBatch { known, batch, .. } = self;
-        let reads = read_each_piece(rt, alloc, plan, &known, &batch)?;
+        let ReadBatch {
+            known,
+            batch,
+            seed,
+            ..
+        } = self;
+        let reads = read_each_piece(rt, alloc, plan, &known, seed, &batch)?;
         Ok(ReadBatch {
             known,
             batch,
             reads,
+            seed,
         })
     }
 }

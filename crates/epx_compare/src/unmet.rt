@@ -17,11 +17,11 @@ ghost use Rattle.epx_compare.specs.inner.UnmetCounts.{unmet_count};
 use crate::catalog::Catalog;
 use crate::committed_ids::CommittedIds;
 use crate::comparison_lines::append_unmet;
-use crate::version::Version;
+use crate::versions::Versions;
 use epx_seed::Seed;
 use epx_types::id_list::sort_unique;
 use epx_types::{Id, Memory};
-use indexmap::{IndexMap, IndexSet};
+use indexmap::IndexMap;
 use std::alloc::Global;
 
 /// Counts an Id once more.
@@ -60,20 +60,13 @@ fn count_unmet(
 }
 
 /// The dependencies of some versions, one list after another.
-fn gather_deps(
-    alloc: Global,
-    versions: &IndexSet<Version, Seed>,
-    numbers: &[usize],
-) -> Result<Vec<Id>, Memory>
+fn gather_deps(alloc: Global, versions: &Versions, numbers: &[usize]) -> Result<Vec<Id>, Memory>
     requires { All (λ n. n < length versions.now.keys) numbers.now }
     ensures { IfOk result (λ deps. deps.items ≡ deps_of versions.now.keys numbers.now) }
 {
     let mut deps = Vec::new(alloc);
     for number in numbers {
-        let Some(version) = versions.get_index(*number) else {
-            unreachable!()
-        };
-        deps.extend_from_slice(version.entry().deps())?;
+        deps.extend_from_slice(versions.entry(*number).deps())?;
     }
     Ok(deps)
 }
@@ -95,10 +88,8 @@ fn count_instance(
 {
     // Most instances have one version, whose dependencies rise already.
     if numbers.len() == 1 {
-        let Some(version) = catalog.noted.versions.get_index(numbers[0]) else {
-            unreachable!()
-        };
-        return count_unmet(counts, &catalog.ids, version.entry().deps());
+        let only = catalog.noted.versions.entry(numbers[0]);
+        return count_unmet(counts, &catalog.ids, only.deps());
     }
     let gathered = gather_deps(alloc, &catalog.noted.versions, numbers)?;
     let deps = sort_unique(alloc, &gathered)?;

@@ -1,5 +1,6 @@
 -- The next batch of lines and those after it, and what is read of a batch.
 use Rattle.std.specs.Prelude.{◌≡◌, ◌≤◌, ◌^◌, ◌++◌, List, [], Some, length, map}
+use Rattle.epx_seed.specs.declared.Seed.{Seed}
 use Rattle.epx_types.specs.Instances.{Instance}
 use Rattle.epx_merge.specs.LogLines.{MeaningAt}
 use Rattle.epx_compare.specs.declared.known_lines.KnownLines.{KnownLines}
@@ -13,10 +14,11 @@ pub record AreNextOf (lines : List MeaningAt) (next : NextLines) : Type 0 where
   pub last : next.batch.items ≡ [] → next.walk ≡ []
   pub few : length next.batch.items ≤ 2 ^ 40
 
--- what was read of these lines beside the known ones
-pub record IsReadOf (known : KnownLines) (lines : List MeaningAt) (read : ReadBatch) : Type 0 where
+-- what was read of these lines beside the known ones, with versions hashed by the seed
+pub record IsReadOf (known : KnownLines) (seed : Seed) (lines : List MeaningAt)
+    (read : ReadBatch) : Type 0 where
   pub same : read.known ≡ known
   pub batch : read.batch.items ≡ lines
   pub reads : (versions : List Instance)
       → AreKnown versions known.cache known.versions.items
-      → map (meaning_in versions) read.reads.items ≡ map (λ l. Some l.meaning) lines
+      → map (meaning_in seed versions) read.reads.items ≡ map (λ l. Some l.meaning) lines

@@ -8,11 +8,14 @@ use Rattle.epx_compare.specs.declared.noted_lines.NotedLines.{NotedLines}
 use Rattle.epx_compare.specs.Differences.{versions_of}
 use Rattle.epx_compare.specs.inner.KnownLines.{AreKnown}
 use Rattle.epx_compare.specs.inner.NotedRows.{AreNoted}
+use Rattle.epx_compare.specs.inner.VersionLists.{AreHashed}
 
--- these lines are noted, and each known line commits the version with its number
+-- these lines are noted, each known line commits the version with its number, and the versions are
+-- hashed
 pub record AreNotedLines (lines : List MeaningAt) (n : NotedLines) : Type 0 where
   pub rows : AreNoted (placed_among lines) (bad_lines_among lines) n.noted
   pub texts : AreKnown (versions_of (placed_among lines)) n.known.cache n.known.versions.items
+  pub hashed : AreHashed n.seed n.noted.versions
 
 -- there are so many logs, neither too many nor too long, and their lines are noted
 pub record AreNotedLogs (logs : List (List ℕ)) (count : ℕ) (noted : Noted) : Type 0 where

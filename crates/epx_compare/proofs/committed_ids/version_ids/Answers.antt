@@ -10,13 +10,13 @@ pub loop-number-preserved : goal.loop-number-preserved
 loop-number-preserved c =
     let keys : List Instance = c.args.versions.now.keys in
     let n = c.loop-number.number in
-    let e : Instance = c.in-Some.version.now in
+    let e : Instance = c.entry.result.now in
     let id : Instance → Id = λ d. d.id in
-    let at : slice_get keys n ≡ Some e = sym c.in-Some.ensures.key in
+    let at : slice_get keys n ≡ Some e = c.entry.ensures in
     let more : take (n + 1) keys ≡ take n keys ++ e ∷ [] =
     take_more keys n e (slice_get_within keys n e at)
     ∙ ap (λ d. take n keys ++ d ∷ []) (get_or_from_slice_get keys n e e at) in
-    let own : c.id.result ≡ e.id = c.id.ensures ∙ ap id c.entry.ensures in
+    let own : c.id.result ≡ e.id = c.id.ensures in
     c.in_ok-push.ensures.items ∙ (ap (λ ids. ids ++ c.id.result ∷ []) c.loop-number.invariant
     ∙ (ap (λ x. map id (take n keys) ++ x ∷ []) own
     ∙ (sym (map_push id (take n keys) e) ∙ ap (map id) (sym more))))

@@ -1,5 +1,6 @@
 use Rattle.std.proofs.Common.{◌≡◌, ◌∙◌, ◌++◌, ◌∷◌, [], ℕ, List, Result, Ok, Err, Some, slice_get}
 use Rattle.std.proofs.Common.{sym, ap, subst, append-nil, option_map}
+use Rattle.epx_seed.specs.declared.Seed.{Seed}
 use Rattle.epx_types.specs.declared.fault.Why.{Why}
 use Rattle.epx_types.specs.declared.place.Place.{Place}
 use Rattle.epx_types.specs.Instances.{Instance}
@@ -13,13 +14,16 @@ use Rattle.epx_compare.specs.declared.read_lines.ReadLine.{ReadLine}
 use Rattle.epx_compare.specs.Differences.{versions_of}
 use Rattle.epx_compare.specs.inner.KnownLines.{AreKnown, meaning_in, meaning_of_version}
 use Rattle.epx_compare.specs.inner.NotedRows.{AreNoted}
-use Rattle.epx_compare.proofs.KnownLineLemmas.{known_grown, line_of, version_known}
+use Rattle.epx_compare.specs.inner.VersionLists.{AreHashed}
+use Rattle.epx_compare.proofs.KnownLineLemmas.{fresh_read, known_grown, line_of}
+use Rattle.epx_compare.proofs.KnownLineLemmas.{version_known}
 use Rattle.epx_compare.proofs.VersionLemmas.{versions_of-grows}
 use Rattle.epx_compare.proofs.note_lines.note_line.Goals as goal
 
-module _ (new : Noted) (cache : List (Result Line Why)) (numbers : List ℕ) where
+module _ (seed : Seed) (new : Noted) (cache : List (Result Line Why)) (numbers : List ℕ) where
   abbrev After : List Placed → List BadLineAt → Type 0
-  After lines bad = AreNoted lines bad new × AreKnown (versions_of lines) cache numbers
+  After lines bad = AreNoted lines bad new × AreHashed seed new.versions
+      × AreKnown (versions_of lines) cache numbers
 
   module _ (lines : List Placed) (bad : List BadLineAt) (at place : Place)
       (meaning : Result Line Why) (is : at ≡ place) where
@@ -42,54 +46,62 @@ module _ (new : Noted) (cache : List (Result Line Why)) (numbers : List ℕ) whe
         (sym (append-nil lines)) noted))
 
 pub returns-in_ok-insert-in-Fresh : goal.returns-in_ok-insert-in-Fresh
-returns-in_ok-insert-in-Fresh c lines bad noted known said =
-    let e : Instance = c.in-Fresh.entry in
+returns-in_ok-insert-in-Fresh c lines bad seed noted hashed known said =
+    let e : Instance = c.in-Fresh.version.version in
     let meaning : Result Line Why = c.args.line.now.meaning in
     let p : Placed = record { place = c.place-place.result; instance = e } in
     let all = lines ++ p ∷ [] in
-    let v = c.in_ok-version-in-Fresh.version in
-    let read : Some (Ok (Entry e)) ≡ Some meaning =
-    subst (λ (r : ReadLine). meaning_in (versions_of lines) r ≡ Some meaning) c.in-Fresh.is said in
-    let means : meaning ≡ Ok (Entry e) = cc read in
-    let after = c.in_ok-version-in-Fresh.ensures.noted lines bad noted in
+    let v = c.in_ok-number-in-Fresh.number in
+    let read = fresh_read seed (versions_of lines) c.in-Fresh.version c.in-Fresh.hash meaning
+    (subst (λ (r : ReadLine). meaning_in seed (versions_of lines) r ≡ Some meaning) c.in-Fresh.is
+    said) in
+    let means : meaning ≡ Ok (Entry e) = read.1 in
+    let after = c.in_ok-number-in-Fresh.ensures.noted lines bad seed noted hashed read.0 in
     let number : slice_get (versions_of all) v ≡ Some e =
-    ap (λ ks. slice_get ks v) (sym after.versions) ∙ c.in_ok-version-in-Fresh.ensures.number in
+    ap (λ ks. slice_get ks v) (sym after.0.versions) ∙ c.in_ok-number-in-Fresh.ensures.number in
     let says : meaning_of_version (versions_of all) v ≡ Some (meaning_of c.bytes.result.now) =
     ap (option_map line_of) number
     ∙ ap (λ (m : Result Line Why). Some m) (sym means ∙ sym c.bytes.ensures) in
-    with_entry c.note_entry.new.self c.insert.new.self.cache c.insert.new.self.versions.items
+    with_entry seed c.note_entry.new.self c.insert.new.self.cache c.insert.new.self.versions.items
     lines bad c.place-place.result c.args.line.now.place meaning c.place-place.ensures e means (
-      after,
+      after.0,
+      after.1,
       c.in_ok-insert-in-Fresh.ensures (versions_of all) says
           (known_grown (versions_of lines) (versions_of all) (versions_of-grows lines (p ∷ []))
           c.args.known.now.versions.items c.args.known.now.cache known),
     )
 
 pub returns-in_ok-note_version-in-Repeat : goal.returns-in_ok-note_version-in-Repeat
-returns-in_ok-note_version-in-Repeat c lines bad noted known said =
+returns-in_ok-note_version-in-Repeat c lines bad seed noted hashed known said =
     let meaning : Result Line Why = c.args.line.now.meaning in
     let v = c.in-Repeat.version in
     let read : meaning_of_version (versions_of lines) v ≡ Some meaning =
-    subst (λ (r : ReadLine). meaning_in (versions_of lines) r ≡ Some meaning) c.in-Repeat.is said in
+    subst (λ (r : ReadLine). meaning_in seed (versions_of lines) r ≡ Some meaning)
+    c.in-Repeat.is said in
     let found = version_known (versions_of lines) v meaning read in
     let e : Instance = found.0 in
     let p : Placed = record { place = c.place-place.result; instance = e } in
-    with_entry c.note_version.new.self c.args.known.now.cache c.args.known.now.versions.items
+    with_entry seed c.note_version.new.self c.args.known.now.cache c.args.known.now.versions.items
     lines bad c.place-place.result c.args.line.now.place meaning c.place-place.ensures e found.2 (
-      c.in_ok-note_version-in-Repeat.ensures lines bad e
+      c.in_ok-note_version-in-Repeat.ensures.noted lines bad e
           (ap (λ ks. slice_get ks v) noted.versions ∙ found.1) noted,
+      subst (AreHashed seed) (sym c.in_ok-note_version-in-Repeat.ensures.versions) hashed,
       known_grown (versions_of lines) (versions_of (lines ++ p ∷ []))
           (versions_of-grows lines (p ∷ [])) c.args.known.now.versions.items
           c.args.known.now.cache known,
     )
 
 pub returns-in_ok-note_bad-in-Bad : goal.returns-in_ok-note_bad-in-Bad
-returns-in_ok-note_bad-in-Bad c lines bad noted known said =
+returns-in_ok-note_bad-in-Bad c lines bad seed noted hashed known said =
     let meaning : Result Line Why = c.args.line.now.meaning in
     let why : Why = c.in-Bad.why in
     let read : Some (Err why) ≡ Some meaning =
-    subst (λ (r : ReadLine). meaning_in (versions_of lines) r ≡ Some meaning) c.in-Bad.is said in
+    subst (λ (r : ReadLine). meaning_in seed (versions_of lines) r ≡ Some meaning) c.in-Bad.is
+    said in
     let means : meaning ≡ Err why = cc read in
-    with_fault c.note_bad.new.self c.args.known.now.cache c.args.known.now.versions.items
-    lines bad c.place-place.result c.args.line.now.place meaning c.place-place.ensures why means
-    (c.in_ok-note_bad-in-Bad.ensures lines bad noted, known)
+    with_fault seed c.note_bad.new.self c.args.known.now.cache c.args.known.now.versions.items
+    lines bad c.place-place.result c.args.line.now.place meaning c.place-place.ensures why means (
+      c.in_ok-note_bad-in-Bad.ensures.noted lines bad noted,
+      subst (AreHashed seed) (sym c.in_ok-note_bad-in-Bad.ensures.versions) hashed,
+      known,
+    )

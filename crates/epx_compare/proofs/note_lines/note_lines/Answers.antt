@@ -20,7 +20,7 @@ batches-init g c = record {
   done = λ lines noted. (
     lines,
     ap (λ w. lines ++ w) (sym c.before-2.ensures ∙ c.in_ok-next.ensures.cut),
-    record { rows = noted.rows; texts = noted.texts },
+    record { rows = noted.rows; hashed = noted.hashed; texts = noted.texts },
   );
 }
 
@@ -35,6 +35,7 @@ batches-preserved g c =
     let cut : c.batches.next.walk ≡ next = sym c.before-rest.ensures
     ∙ c.in_ok-read.ensures.next.cut in
     let new = c.note_batch.new in
+    let seed = c.args.before.seed in
     record {
       last = c.in_ok-read.ensures.next.last;
       few = c.in_ok-read.ensures.next.few;
@@ -47,14 +48,15 @@ batches-preserved g c =
           let known = subst (λ (k : KnownLines). AreKnown (versions_of (placed_among done)) k.cache
           k.versions.items) (sym read.same) texts in
           let noted = c.in_ok-note_batch.ensures (placed_among done) (bad_lines_among done)
-          before.2.rows known said in (
+          seed before.2.rows before.2.hashed known said in (
             done ++ batch,
             before.1 ∙ (ap (λ w. done ++ (batch ++ w)) cut ∙ sym (append_assoc done batch next)),
-            noted_both done batch new.noted new.known.cache new.known.versions.items
+            noted_both seed done batch new.noted new.known.cache new.known.versions.items
                 (subst (λ b. AreNoted (lines_after (placed_among done) b)
                 (bad_after (bad_lines_among done) b) new.noted) is noted.0)
+                noted.1
                 (subst (λ b. AreKnown (versions_of (lines_after (placed_among done) b))
-                new.known.cache new.known.versions.items) is noted.1),
+                new.known.cache new.known.versions.items) is noted.2),
           );
     }
 
@@ -82,6 +84,6 @@ returns g c = λ lines noted.
     let all : lines ++ c.args.walk ≡ done = before.1 ∙ ((λ i. done ++ (none i ++ last i))
     ∙ append-nil done) in
     let known = c.batches.known in
-    let here = subst (λ ms. AreNotedKnown (placed_among ms) (bad_lines_among ms)
+    let here = subst (λ ms. AreNotedKnown c.args.before.seed (placed_among ms) (bad_lines_among ms)
     c.batches.noted known.cache known.versions.items) (sym all) before.2 in
-    record { rows = here.rows; texts = here.texts }
+    record { rows = here.rows; hashed = here.hashed; texts = here.texts }

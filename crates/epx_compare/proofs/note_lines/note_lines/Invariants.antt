@@ -10,8 +10,8 @@ invariant-batches g l = record {
   few : length l.next.batch.items ≤ 2 ^ 40;
   done : (lines : List MeaningAt) → AreNotedLines lines l.fn.before → (done : List MeaningAt)
       × (lines ++ l.fn.walk ≡ done ++ (l.next.batch.items ++ l.next.walk))
-      × AreNotedKnown (placed_among done) (bad_lines_among done) l.noted l.known.cache
-      l.known.versions.items;
+      × AreNotedKnown l.fn.before.seed (placed_among done) (bad_lines_among done) l.noted
+      l.known.cache l.known.versions.items;
 }
 
 abbrev pub decreases-batches : goal.decreases-batches

@@ -4,7 +4,7 @@ use Rattle.epx_compare.proofs.note_lines.read_and_cut.Goals as goal
 
 pub returns-clause-read : goal.returns-clause-read
 returns-clause-read g c = IfOk-at_ok
-    (IsReadOf c.args.unread.known c.args.unread.batch.items) c.in_ok-read-2.was
+    (IsReadOf c.args.unread.known c.args.unread.seed c.args.unread.batch.items) c.in_ok-read-2.was
     c.join-next.ensures.second
 
 pub returns-clause-next : goal.returns-clause-next

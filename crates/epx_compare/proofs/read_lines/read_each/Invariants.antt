@@ -6,5 +6,5 @@ use Rattle.epx_compare.proofs.read_lines.read_each.Given as goal
 abbrev pub invariant-loop-line : goal.invariant-loop-line
 invariant-loop-line l = (versions : List Instance)
     → AreKnown versions l.known.cache l.known.versions.items
-    → map (meaning_in versions) l.reads.items
+    → map (meaning_in l.fn.seed versions) l.reads.items
     ≡ map (λ l. Some l.meaning) (take l.line-index l.lines)

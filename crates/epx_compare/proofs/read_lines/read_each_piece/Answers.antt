@@ -22,7 +22,7 @@ returns g c versions known =
     let cut = c.args.plan.cut in
     let lines = c.args.lines.now in
     let says : MeaningAt → Option (Result Line Why) = λ l. Some l.meaning in
-    let means : ReadLine → Option (Result Line Why) = meaning_in versions in
+    let means : ReadLine → Option (Result Line Why) = meaning_in c.args.seed versions in
     let done = c.in_ok-parts.ensures.ok in
     let parts = c.in_ok-parts.parts.items in
     ap (map means) (c.in_ok-append_parts.ensures

@@ -29,7 +29,7 @@ group_positions-requires-2 c =
     c.deref-5.ensures.value ∙ (c.in_ok-numbers.ensures
     ∙ ap (map (λ r. r.version)) c.deref-4.ensures.value) in
     let count : c.len.result ≡ length (versions_of lines) =
-    c.len.ensures.len ∙ ap length noted.versions in
+    c.len.ensures ∙ ap length noted.versions in
     let P : List ℕ → ℕ → Type 0 = λ ks n. All (λ j. j < n) ks in
     subst (λ ks. P ks c.len.result) (sym numbers)
     (subst (P (map (λ r. r.version) c.args.noted.rows.items)) (sym count) held)
@@ -52,5 +52,5 @@ returns c lines bad noted =
       each_instance = c.in_ok-versions.ensures.len ∙ ap length c.ids-2.ensures.ids;
       rows = subst (λ ks. AreGroupsOf ks c.in_ok-lines.lines) numbers
           c.in_ok-lines.ensures.groups;
-      each_version = c.in_ok-lines.ensures.len ∙ (c.len.ensures.len ∙ ap length noted.versions);
+      each_version = c.in_ok-lines.ensures.len ∙ (c.len.ensures ∙ ap length noted.versions);
     }

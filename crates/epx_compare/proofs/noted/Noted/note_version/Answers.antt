@@ -8,8 +8,8 @@ use Rattle.epx_compare.specs.Differences.{versions_of}
 use Rattle.epx_compare.proofs.VersionLemmas.{versions_of-repeat, rows-snoc}
 use Rattle.epx_compare.proofs.noted.Noted.note_version.Goals as goal
 
-pub returns : goal.returns
-returns c lines bad instance found noted =
+pub returns-clause-noted : goal.returns-clause-noted
+returns-clause-noted c lines bad instance found noted =
     let p : Placed = record { place = c.args.place; instance = instance } in
     let at : slice_get (versions_of lines) c.args.version ≡ Some instance =
     ap (λ ks. slice_get ks c.args.version) (sym noted.versions) ∙ found in
