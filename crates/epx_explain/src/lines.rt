@@ -1,0 +1,32 @@
+//! Finds a line of a log.
+use epx_lines::cut_line;
+
+/// A line of a log.
+#[derive(Clone, Copy)]
+pub(crate) struct LogLine<'a> {
+    /// The whole log.
+    pub log: &'a [u8],
+    /// The line without its line feed.
+    pub bytes: &'a [u8],
+    /// Whether a line feed ends the line.
+    pub has_line_feed: bool,
+}
+
+/// The line with this number, counted from 1. None if the log ends before it.
+pub(crate) fn line_at(log: &[u8], number: usize) -> Option<LogLine<'_>> {
+    let mut left = number;
+    let mut rest = log;
+    while !rest.is_empty() {
+        let (bytes, more) = cut_line(rest);
+        if left <= 1 {
+            return Some(LogLine {
+                log,
+                bytes,
+                has_line_feed: bytes.len() < rest.len(),
+            });
+        }
+        left -= 1;
+        rest = more;
+    }
+    None
+}

@@ -1,0 +1,99 @@
+//! Explains why a line of a log is bad.
+use crate::contents::{Contents, read_again};
+use crate::dependencies::explain_deps;
+use crate::inputs::Input;
+use crate::lines::{LogLine, line_at};
+use crate::members::{explain_kind, explain_number, explain_status};
+use crate::not_json::{encoding_of, explain_text};
+use crate::operations::explain_ops;
+use epx_lines::{MAX_LINE_BYTES, read_json};
+use epx_types::{Memory, Why};
+use serde_json::Value;
+use std::alloc::Global;
+use std::rt::Files;
+
+/// The greatest replica.
+const MAX_REPLICA: u64 = 255;
+
+/// What a line must have, where the line itself is not at hand.
+fn expected_text(why: Why) -> &'static str {
+    match why {
+        Why::TooLong => "a line may have at most 65536 bytes",
+        Why::NotJson => {
+            "the line is no JSON value: cut off, compressed, with a byte order mark, or JSON over \
+several lines?"
+        }
+        Why::NotObject => "the line is a JSON value, but no object",
+        Why::Replica => "\"r\" must be a whole number from 0 to 255",
+        Why::Number => "\"i\" must be a whole number from 0 to 18446744073709551615",
+        Why::Seq => "\"seq\" must be a whole number from 0 to 18446744073709551615",
+        Why::Status => "status is none of committed, executed, accepted, pre-accepted",
+        Why::Deps => "\"deps\" must be a list of at most 256 pairs [replica,number]",
+        Why::Ops => "\"ops\" must be a list of at most 64 operations",
+    }
+}
+
+fn explain_too_long(alloc: Global, line: LogLine<'_>) -> Result<Option<String>, Memory> {
+    let length = line.bytes.len();
+    if length <= MAX_LINE_BYTES {
+        return Ok(None);
+    }
+    let advice = match encoding_of(line) {
+        Some(encoding) => encoding,
+        None if line.bytes.len() == line.log.len() => "a log without line feeds?",
+        None => "are there several instances in it? write one a line",
+    };
+    Ok(Some(format!(in alloc;
+        "the line has {length} bytes, and at most {MAX_LINE_BYTES} are allowed: {advice}"
+    )?))
+}
+
+fn explain_value(alloc: Global, value: &Value, why: Why) -> Result<Option<String>, Memory> {
+    match why {
+        Why::NotObject => explain_kind(alloc, value),
+        Why::Replica => explain_number(alloc, value, "r", MAX_REPLICA),
+        Why::Number => explain_number(alloc, value, "i", u64::MAX),
+        Why::Seq => explain_number(alloc, value, "seq", u64::MAX),
+        Why::Status => explain_status(alloc, value),
+        Why::Deps => explain_deps(alloc, value),
+        Why::Ops => explain_ops(alloc, value),
+        Why::TooLong | Why::NotJson => Ok(None),
+    }
+}
+
+/// Says what is wrong with a line. None if the line is not bad in this way.
+fn explain_line(alloc: Global, line: LogLine<'_>, why: Why) -> Result<Option<String>, Memory> {
+    match why {
+        Why::TooLong => explain_too_long(alloc, line),
+        Why::NotJson => explain_text(alloc, line),
+        _ => match read_json(alloc, line.bytes)? {
+            Some(value) => explain_value(alloc, &value, why),
+            None => Ok(None),
+        },
+    }
+}
+
+/// Reads the line again, and says what is wrong with it.
+pub(crate) fn explain_bad_line<R: Files>(
+    rt: &R,
+    alloc: Global,
+    input: Input<'_>,
+    number: usize,
+    why: Why,
+) -> Result<String, Memory> {
+    let name = input.name(alloc)?;
+    let expected = expected_text(why);
+    let bytes = match read_again(rt, alloc, input.origin)? {
+        Contents::Bytes(bytes) => bytes,
+        Contents::Unread(reason) => {
+            return Ok(format!(in alloc; "{name}, which {reason}; {expected}")?);
+        }
+    };
+    let Some(line) = line_at(&bytes, number) else {
+        return Ok(format!(in alloc; "{name}, which has no line {number} now; {expected}")?);
+    };
+    match explain_line(alloc, line, why)? {
+        Some(text) => Ok(format!(in alloc; "{name}; {text}")?),
+        None => Ok(format!(in alloc; "{name}, which has changed; {expected}")?),
+    }
+}

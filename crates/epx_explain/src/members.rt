@@ -1,0 +1,58 @@
+//! Explains a line that is no object, and members that hold a number or the status.
+use crate::shown::show_value;
+use epx_types::Memory;
+use serde_json::Value;
+use std::alloc::Global;
+
+/// What kind of JSON value it is.
+fn kind_of(value: &Value) -> &'static str {
+    match value {
+        Value::Null => "null",
+        Value::Bool(_) => "true or false",
+        Value::Number(_) => "a number",
+        Value::String(_) => "a text",
+        Value::Array(_) => "an array",
+        Value::Object(_) => "an object",
+    }
+}
+
+/// Explains that a line is no object.
+pub(crate) fn explain_kind(alloc: Global, value: &Value) -> Result<Option<String>, Memory> {
+    if value.is_object() {
+        return Ok(None);
+    }
+    let kind = kind_of(value);
+    Ok(Some(format!(in alloc; "the line is {kind}, and must be an object: one instance a line")?))
+}
+
+/// Explains a member that must be a whole number of at most `most`.
+pub(crate) fn explain_number(
+    alloc: Global,
+    object: &Value,
+    name: &str,
+    most: u64,
+) -> Result<Option<String>, Memory> {
+    let Some(value) = object.get(name) else {
+        return Ok(Some(format!(in alloc;
+            "\"{name}\" is missing: it must be a whole number from 0 to {most}"
+        )?));
+    };
+    if value.as_u64().is_some_and(|number| number <= most) {
+        return Ok(None);
+    }
+    let shown = show_value(alloc, value)?;
+    Ok(Some(format!(in alloc;
+        "\"{name}\" is {shown}, and must be a whole number from 0 to {most}"
+    )?))
+}
+
+/// Explains the status.
+pub(crate) fn explain_status(alloc: Global, object: &Value) -> Result<Option<String>, Memory> {
+    let Some(value) = object.get("status") else {
+        return Ok(None);
+    };
+    let shown = show_value(alloc, value)?;
+    Ok(Some(format!(in alloc;
+        "status is none of committed, executed, accepted, pre-accepted: it is {shown}"
+    )?))
+}
