@@ -117,6 +117,26 @@ def compare(logs, workers=4):
     return [tuple(json.loads(line)) for line in ask("compare", [], logs, workers).splitlines()]
 
 
+def why(one, logs, workers=4):
+    """Why an instance is executed where it is, or why it is not, as the rows of the answer."""
+    text = ask("why", [], logs, workers, subject=f"{one.replica}.{one.number}")
+    return [tuple(json.loads(line)) for line in text.splitlines()]
+
+
+def path(one, other, logs, workers=4):
+    """The instances of a shortest path of dependencies, or None."""
+    options = ["--reaches", f"{other.replica}.{other.number}"]
+    text = ask("why", [], logs, workers, options, subject=f"{one.replica}.{one.number}")
+    row = json.loads(text)
+    return None if row == ["none"] else [Id(*pair) for pair in row[1:]]
+
+
+def trace(key, logs, workers=4, reads=False):
+    """The executed commands that write a key, or read it too, as the rows of the answer."""
+    text = ask("trace", [], logs, workers, ["--reads"] if reads else [], subject=key)
+    return [tuple(json.loads(line)) for line in text.splitlines()]
+
+
 def read_report(text):
     """A report from its text."""
     rows = [json.loads(line) for line in text.splitlines()]
@@ -134,10 +154,11 @@ def read_report(text):
     return found
 
 
-def ask(command, firsts, logs, workers, options=()):
-    """What a subcommand answers about a base or a list, and logs."""
+def ask(command, firsts, logs, workers, options=(), subject=None):
+    """What a subcommand answers about an instance, a key, a base or a list, and logs."""
     with contextlib.ExitStack() as stack:
         paths = [path_of(text, stack) for text in [*firsts, *logs]]
+        paths = paths if subject is None else [subject, *paths]
         words = [PROGRAM, command, *options, "--workers", str(workers), "--", *paths]
         ended = subprocess.run(words, capture_output=True, check=False)
     if ended.returncode:
@@ -171,6 +192,11 @@ def test():
     assert audit([examples / "unrelated.jsonl"]) is not None
     kinds = [row[0] for row in compare(sorted(examples.glob("corrupted/*.jsonl")))]
     assert kinds == ["log"] * 5 + ["bad", "differs"] + ["lacks"] * 4 + ["missing"]
+    assert why(Id(2, 1), logs) == [("waiting", 2, 1, 2, 2), ("needs", 2, 2, 1)]
+    assert path(Id(1, 1), Id(0, 0), logs) == [Id(1, 1), Id(0, 0)]
+    assert path(Id(2, 0), Id(0, 0), logs) is None
+    assert trace("bob", logs) == [("write", 0, 0, None, 20), ("write", 0, 1, 20, 50)]
+    assert trace("bob", logs, reads=True)[2] == ("read", 1, 1, 50)
     halves = [examples / "halves/first.jsonl", examples / "halves/second.jsonl"]
     assert resume(report(halves[:1]), halves[1:]).store == found.store
     try:

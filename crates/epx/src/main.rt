@@ -3,16 +3,31 @@
 #![tactic(auto)]
 
 use epx_devices::{StdSink, StdSource};
-use epx_program::start;
+use epx_program::{InputKind, start};
+use std::io::IsTerminal;
+use std::os::unix::fs::FileTypeExt;
 use std::process::ExitCode;
 use std::{env, fs};
+
+/// What standard input is.
+fn kind_of_input(rt: &HostRuntime) -> InputKind {
+    if rt.stdin().is_terminal() {
+        return InputKind::Terminal;
+    }
+    match fs::metadata(rt, "/dev/stdin") {
+        Ok(data) if data.file_type().is_fifo() => InputKind::Pipe,
+        _ => InputKind::Other,
+    }
+}
 
 fn main(rt: HostRuntime) -> ExitCode {
     // If standard input is closed, the first file that is opened gets its descriptor, and `-`
     // would read that file. So a folder is opened first: reading a folder always fails.
     let held = fs::open(&rt, "/");
+    let kind = kind_of_input(&rt);
     let mut output = StdSink::new(rt.stdout());
-    let status = start(&rt, env::args(&rt), StdSource::new(rt.stdin()), &mut output);
+    let words = env::args(&rt);
+    let status = start(&rt, words, kind, StdSource::new(rt.stdin()), &mut output);
     drop(held);
     status
 }

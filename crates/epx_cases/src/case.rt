@@ -1,5 +1,5 @@
 //! A case of a script, and its runs.
-use crate::asked::{Asked, asked_by};
+use crate::asked_task::asked_task;
 use crate::case_input::{CaseInput, FailingDevice};
 use crate::directive::Directive;
 use crate::flow::Flow;
@@ -32,14 +32,14 @@ const PLANS: [(usize, usize); 7] = [
 const FAILED_WRITE: &[u8] = b"epx: fault 8: the answer can not be written\n";
 
 /// What a case tests.
-#[derive(Clone, Copy)]
+#[derive(Drop)]
 enum Subject<'a> {
     /// What these words ask for.
     Words(&'a str),
     /// What each line of logs means.
     Lines,
     /// The answer to texts.
-    Answer(Asked),
+    Answer(Task),
 }
 
 fn subject_of(head: &str) -> Option<Subject<'_>> {
@@ -47,7 +47,7 @@ fn subject_of(head: &str) -> Option<Subject<'_>> {
     match command {
         "words" => Some(Subject::Words(name)),
         "lines" => Some(Subject::Lines),
-        _ => Some(Subject::Answer(asked_by(command, name)?)),
+        _ => Some(Subject::Answer(asked_task(command, name)?)),
     }
 }
 
@@ -94,7 +94,7 @@ impl<'a> Case<'a> {
         let Some(directive) = Directive::parse(line) else {
             return self.case_input.add_line(alloc, line);
         };
-        match (directive, self.subject) {
+        match (directive, &self.subject) {
             (Directive::Logs(count), Some(Subject::Answer(_))) => {
                 self.case_input.begin_logs(alloc, count)?;
             }
@@ -104,13 +104,10 @@ impl<'a> Case<'a> {
             (Directive::Plan { workers, cut }, Some(Subject::Answer(_))) => {
                 return self.add_plan(workers, cut);
             }
-            (Directive::Base, Some(Subject::Answer(Asked::Task(Task::Resume)))) => {
+            (Directive::Base, Some(Subject::Answer(Task::Resume))) => {
                 self.case_input.begin_first();
             }
-            (
-                Directive::List,
-                Some(Subject::Answer(Asked::Task(Task::Check | Task::CheckPrefix))),
-            ) => {
+            (Directive::List, Some(Subject::Answer(Task::Check | Task::CheckPrefix))) => {
                 self.case_input.begin_first();
             }
             (Directive::Gives(flow), Some(Subject::Answer(_))) => return Ok(
@@ -199,10 +196,10 @@ impl<'a> Case<'a> {
         &self,
         rt: &R,
         alloc: Global,
-        asked: Asked,
+        task: &Task,
     ) -> io::Result<bool> {
         for plan in &self.plans {
-            let found = answer_input(rt, alloc, asked, &self.case_input, *plan)?;
+            let found = answer_input(rt, alloc, task, &self.case_input, *plan)?;
             let (workers, cut) = (plan.workers(), plan.cut());
             let way = format!(in alloc; "in memory with {workers} workers and cut {cut}")?;
             if !self.is_expected(rt, alloc, way.as_str(), &found)? {
@@ -217,12 +214,12 @@ impl<'a> Case<'a> {
         &self,
         rt: &R,
         alloc: Global,
-        asked: Asked,
+        task: &Task,
     ) -> io::Result<bool> {
         let Some(plan) = self.plans.last() else {
             return Ok(false);
         };
-        let found = deliver_input(rt, alloc, asked, &self.case_input, *plan)?;
+        let found = deliver_input(rt, alloc, task, &self.case_input, *plan)?;
         self.is_expected(rt, alloc, "through devices", &found)
     }
 
@@ -252,7 +249,7 @@ impl<'a> Case<'a> {
         &mut self,
         rt: &R,
         alloc: Global,
-        asked: Asked,
+        task: &Task,
         failing_device: FailingDevice,
         flow: Flow,
     ) -> io::Result<bool> {
@@ -267,7 +264,7 @@ impl<'a> Case<'a> {
         for bytes in 0..=most {
             self.case_input
                 .set_failure(failing_device, flow.with_failure_after(bytes));
-            let found = deliver_input(rt, alloc, asked, &self.case_input, plan)?;
+            let found = deliver_input(rt, alloc, task, &self.case_input, plan)?;
             if found != self.expected_after(alloc, failing_device, bytes)? {
                 println!(rt; "{head} DIFFERS where a device fails after {bytes} bytes:")?;
                 print!(rt; "{}", String::from_utf8_lossy(alloc, &found)?)?;
@@ -282,24 +279,24 @@ impl<'a> Case<'a> {
         &mut self,
         rt: &R,
         alloc: Global,
-        asked: Asked,
+        task: &Task,
     ) -> io::Result<bool> {
         if let Some((failing_device, flow)) = self.case_input.failing_device {
-            return self.is_right_on_failures(rt, alloc, asked, failing_device, flow);
+            return self.is_right_on_failures(rt, alloc, task, failing_device, flow);
         }
-        if !self.case_input.names_flow && !self.is_right_in_memory(rt, alloc, asked)? {
+        if !self.case_input.names_flow && !self.is_right_in_memory(rt, alloc, task)? {
             return Ok(false);
         }
-        self.is_right_on_devices(rt, alloc, asked)
+        self.is_right_on_devices(rt, alloc, task)
     }
 
-    /// Whether all runs of the case have the expected text.
+    /// Whether all runs of the case have the expected text. The case runs once: its subject is taken.
     fn is_right<R: Print + Threads + RandomSource + Sync>(
         &mut self,
         rt: &R,
         alloc: Global,
     ) -> io::Result<bool> {
-        match self.subject {
+        match self.subject.take() {
             None => Ok(false),
             Some(Subject::Words(words)) => {
                 let found = words_text(alloc, words)?;
@@ -309,7 +306,7 @@ impl<'a> Case<'a> {
                 Ok(found) => self.is_expected(rt, alloc, "line by line", &found),
                 Err(Memory) => Err(io::Error::from(ErrorKind::OutOfMemory)),
             },
-            Some(Subject::Answer(asked)) => self.is_right_for(rt, alloc, asked),
+            Some(Subject::Answer(task)) => self.is_right_for(rt, alloc, &task),
         }
     }
 
@@ -318,7 +315,7 @@ impl<'a> Case<'a> {
         if self.unread_line.is_some() {
             return self.unread_line;
         }
-        match (self.has_wanted, self.subject) {
+        match (self.has_wanted, &self.subject) {
             (false, _) => Some("the line ---- is missing"),
             (true, None) => Some("no such command"),
             (true, Some(_)) => None,

@@ -2,7 +2,7 @@
 //! It prints what `epx` writes to standard output and to standard error, and its exit status.
 #![tactic(auto)]
 
-mod asked;
+mod asked_task;
 mod case;
 mod case_input;
 mod directive;
@@ -17,9 +17,9 @@ mod words;
 
 use crate::script::run_scripts;
 use crate::test_runtime::TestRuntime;
-use crate::word_lists::{too_many_logs, word_lists};
+use crate::word_lists::{lists_with_input, word_lists};
 use epx_devices::{StdSink, StdSource};
-use epx_program::start;
+use epx_program::{InputKind, start};
 use std::env;
 use std::io::{self, ErrorKind};
 use std::process::ExitCode;
@@ -36,42 +36,39 @@ fn main(rt: HostRuntime) -> io::Result<ExitCode> {
     for words in word_lists() {
         println!(rt; "== {words:?}")?;
         let test_runtime = TestRuntime { rt: &rt, words };
+        let args = env::args(&test_runtime);
         let input = StdSource::new(rt.stdin());
         let mut output = StdSink::new(rt.stdout());
-        let status = start(&test_runtime, env::args(&test_runtime), input, &mut output);
+        let status = start(&test_runtime, args, InputKind::Other, input, &mut output);
         println!(rt; "== {status:?}")?;
     }
 
-    println!(rt; "== one path 65 times")?;
-    let words: &[&str] = &too_many_logs();
-    let test_runtime = TestRuntime { rt: &rt, words };
-    let input = StdSource::new(rt.stdin());
-    let mut output = StdSink::new(rt.stdout());
-    let status = start(&test_runtime, env::args(&test_runtime), input, &mut output);
-    println!(rt; "== {status:?}")?;
-
-    let words: &[&str] = &["epx", "run", "apart.jsonl", "-", "-"];
-    println!(rt; "== {words:?} with a log as input")?;
-    let test_runtime = TestRuntime { rt: &rt, words };
-    let input = StdSource::new(INPUT.as_bytes());
-    let mut output = StdSink::new(rt.stdout());
-    let status = start(&test_runtime, env::args(&test_runtime), input, &mut output);
-    println!(rt; "== {status:?}")?;
+    println!(rt; "== with a log as input")?;
+    for (words, kind) in lists_with_input() {
+        println!(rt; "== {kind:?}\n== {words:?}")?;
+        let test_runtime = TestRuntime { rt: &rt, words };
+        let args = env::args(&test_runtime);
+        let input = StdSource::new(INPUT.as_bytes());
+        let mut output = StdSink::new(rt.stdout());
+        let status = start(&test_runtime, args, kind, input, &mut output);
+        println!(rt; "== {status:?}")?;
+    }
 
     println!(rt; "== words that could not be had as memory ran out")?;
-    let words = Err(io::Error::from(ErrorKind::OutOfMemory));
+    let words: &[&str] = &["epx", "run", "--explain"];
+    let test_runtime = TestRuntime { rt: &rt, words };
+    let failed = Err(io::Error::from(ErrorKind::OutOfMemory));
     let input = StdSource::new(rt.stdin());
     let mut output = StdSink::new(rt.stdout());
-    let status = start(&test_runtime, words, input, &mut output);
+    let status = start(&test_runtime, failed, InputKind::Other, input, &mut output);
     println!(rt; "== {status:?}")?;
 
-    let words: &[&str] = &["epx", "run"];
-    println!(rt; "== {words:?} with room for ten bytes of output")?;
-    let test_runtime = TestRuntime { rt: &rt, words };
+    println!(rt; "== room for ten bytes of output\n== {words:?}")?;
+    let args = env::args(&test_runtime);
     let input = StdSource::new(rt.stdin());
     let mut room = [0; 10];
     let mut output = StdSink::new(room.as_mut_slice());
-    let status = start(&test_runtime, env::args(&test_runtime), input, &mut output);
-    println!(rt; "== {status:?}, taken: {room:?}")?;
+    let status = start(&test_runtime, args, InputKind::Other, input, &mut output);
+    println!(rt; "== {status:?}\n== taken: {room:?}")?;
     Ok(status)
 }

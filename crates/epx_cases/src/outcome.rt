@@ -1,7 +1,6 @@
 //! The outcome of the texts of a case: the answer, or the line of the fault.
 ghost use Rattle.std.specs.Prelude.{◌≡◌, All, IfOk, false};
 
-use crate::asked::Asked;
 use crate::case_input::CaseInput;
 use crate::flow::Flow;
 use epx_tool::{
@@ -16,34 +15,20 @@ use std::thread::Threads;
 
 const PREFIX: InputQuestion = InputQuestion::CheckPrefix;
 
-/// The task that a command of the program asks for. `check-prefix` is `check --prefix`.
-pub(crate) fn task_named(command: &str) -> Option<Task> {
-    match command {
-        "run" => Some(Task::Run),
-        "order" => Some(Task::Order),
-        "levels" => Some(Task::Levels),
-        "graph" => Some(Task::Graph),
-        "resume" => Some(Task::Resume),
-        "audit" => Some(Task::Audit),
-        "check" => Some(Task::Check),
-        "check-prefix" => Some(Task::CheckPrefix),
-        "compare" => Some(Task::Compare),
-        _ => None,
-    }
-}
-
-/// The view that is asked for, or None if a report or the verdict on a list is.
-fn ask_of(asked: Asked) -> Option<Ask> {
-    let task = match asked {
-        Asked::View(ask) => return Some(ask),
-        Asked::Task(task) => task,
-    };
+/// The view that a task asks for, or None if it asks for a report or the verdict on a list.
+fn ask_of(task: &Task) -> Option<Ask> {
     match task {
         Task::Order => Some(Ask::Order),
         Task::Levels => Some(Ask::Levels),
         Task::Graph => Some(Ask::Graph),
         Task::Audit => Some(Ask::Audit),
         Task::Compare => Some(Ask::Compare),
+        Task::Why(id) => Some(Ask::Why(*id)),
+        Task::Path(from, to) => Some(Ask::Path(*from, *to)),
+        Task::Trace { key, reads } => Some(Ask::Trace {
+            key: *key,
+            reads: *reads,
+        }),
         Task::Run | Task::Resume | Task::Check | Task::CheckPrefix => None,
     }
 }
@@ -59,16 +44,16 @@ fn add_fault(alloc: Global, text: &mut Vec<u8>, fault: Fault) -> io::Result<()> 
 pub(crate) fn answer_input<R: Threads + RandomSource + Sync>(
     rt: &R,
     alloc: Global,
-    asked: Asked,
+    task: &Task,
     case_input: &CaseInput,
     plan: Plan,
 ) -> io::Result<Vec<u8>> {
     let logs = case_input.logs.as_slice();
-    let outcome = match (asked, ask_of(asked)) {
+    let outcome = match (task, ask_of(task)) {
         (_, Some(ask)) => view(rt, alloc, ask, logs, plan),
-        (Asked::Task(Task::Resume), None) => resume(rt, alloc, &case_input.first, logs, plan),
-        (Asked::Task(Task::Check), None) => check(rt, alloc, &case_input.first, logs, plan),
-        (Asked::Task(Task::CheckPrefix), None) => {
+        (Task::Resume, None) => resume(rt, alloc, &case_input.first, logs, plan),
+        (Task::Check, None) => check(rt, alloc, &case_input.first, logs, plan),
+        (Task::CheckPrefix, None) => {
             epx_tool::answer_input(rt, alloc, PREFIX, &case_input.first, logs, plan)
         }
         (_, None) => answer(rt, alloc, logs, plan),
@@ -102,22 +87,18 @@ fn sources_of<'a>(
 pub(crate) fn deliver_input<R: Threads + RandomSource + Sync>(
     rt: &R,
     alloc: Global,
-    asked: Asked,
+    task: &Task,
     case_input: &CaseInput,
     plan: Plan,
 ) -> io::Result<Vec<u8>> {
     let mut first = case_input.first_flow.source(&case_input.first);
     let mut sources = sources_of(alloc, &case_input.logs, &case_input.log_flows)?;
     let mut sink = case_input.sink_flow.sink(alloc);
-    let outcome = match (asked, ask_of(asked)) {
+    let outcome = match (task, ask_of(task)) {
         (_, Some(ask)) => show(rt, alloc, ask, &mut sources, plan, &mut sink),
-        (Asked::Task(Task::Resume), None) => {
-            run_resume(rt, alloc, &mut first, &mut sources, plan, &mut sink)
-        }
-        (Asked::Task(Task::Check), None) => {
-            run_check(rt, alloc, &mut first, &mut sources, plan, &mut sink)
-        }
-        (Asked::Task(Task::CheckPrefix), None) => {
+        (Task::Resume, None) => { run_resume(rt, alloc, &mut first, &mut sources, plan, &mut sink) }
+        (Task::Check, None) => { run_check(rt, alloc, &mut first, &mut sources, plan, &mut sink) }
+        (Task::CheckPrefix, None) => {
             run_with_input(rt, alloc, PREFIX, &mut first, &mut sources, plan, &mut sink).map(|_| ())
         }
         (_, None) => run(rt, alloc, &mut sources, plan, &mut sink),

@@ -1,5 +1,5 @@
 //! What the words of a command line ask for.
-use epx_tool::{Task, Words, read_words};
+use epx_tool::{Flags, Task, Words, read_words};
 use epx_types::{Memory, Plan};
 use std::alloc::Global;
 use std::io::{self, ErrorKind};
@@ -25,6 +25,16 @@ fn work_text(
     Ok(text)
 }
 
+/// What the flags ask for.
+fn flags_text(flags: Flags) -> &'static str {
+    match (flags.exit_code, flags.explain) {
+        (false, false) => "",
+        (true, false) => ", and a status of its own",
+        (false, true) => ", and an explanation of a fault",
+        (true, true) => ", a status of its own, and an explanation of a fault",
+    }
+}
+
 /// The work that the words ask for. For a text, its status and its first line.
 fn text_of(alloc: Global, words: Words) -> io::Result<String> {
     match words {
@@ -33,9 +43,12 @@ fn text_of(alloc: Global, words: Words) -> io::Result<String> {
             Ok(format!(in alloc; "status {status}: {first}\n")?)
         }
         Words::Work { task, plan, paths } => work_text(alloc, task, plan, "", paths),
-        Words::WorkWithExitCode { task, plan, paths } => {
-            work_text(alloc, task, plan, ", and a status of its own", paths)
-        }
+        Words::WorkWith {
+            task,
+            plan,
+            paths,
+            flags,
+        } => work_text(alloc, task, plan, flags_text(flags), paths),
     }
 }
 

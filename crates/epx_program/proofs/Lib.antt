@@ -1,4 +1,5 @@
 mod OutputLemmas
+mod BareWordLemmas
 mod WordLemmas
 mod SourceListLemmas
 mod StatusLemmas

@@ -9,10 +9,10 @@ use Rattle.epx_types.specs.declared.fault.Fault.{Fault}
 use Rattle.epx_types.specs.declared.fault.Fault.TheVariants.{Memory, TooManyLogs, LogTooLong}
 use Rattle.epx_types.specs.declared.fault.Fault.TheVariants.{BadLine, TooManyInstances, Disagree}
 use Rattle.epx_types.specs.declared.fault.Fault.TheVariants.{Read, Write, BadBase}
-use Rattle.epx_words.specs.Requests.{IfText, IfWork, has_exit_code}
+use Rattle.epx_words.specs.Requests.{IfText, IfWork, flags_of}
 use Rattle.epx_words.specs.declared.words.Task.{Task}
 use Rattle.epx_words.specs.declared.words.Words.{Words}
-use Rattle.epx_words.specs.declared.words.Words.TheVariants.{Work, WorkWithExitCode}
+use Rattle.epx_words.specs.declared.words.Words.TheVariants.{Work, WorkWith}
 use Rattle.epx_words.specs.declared.words.Words.TheVariants.{Text}
 use Rattle.epx_program.specs.Calls.{EndsTask}
 use Rattle.epx_program.specs.Endings.{IsAnswerStatus, IsTaskResult, EndsWith, IsStatus}
@@ -134,11 +134,11 @@ shown result (inr failed) = inr (Write, failed.0)
 
 pub work_status : (input : Option (List ℕ)) (Unread : Type 0) (status : ℕ) (failed : Bool)
     (old new : Option (List ℕ)) (words : Words)
-    → IfWork (λ task plan paths. EndsTask input Unread (has_exit_code words) task paths status
+    → IfWork (λ task plan paths. EndsTask input Unread (flags_of words).exit_code task paths status
     failed old new) words
     → IfWork (λ task plan paths. IsStatus status) words
 work_status input Unread status failed old new (Work task plan paths) h = h.ends
-work_status input Unread status failed old new (WorkWithExitCode task plan paths) h = h.ends
+work_status input Unread status failed old new (WorkWith task plan paths flags) h = h.ends
 work_status input Unread status failed old new (Text text said) h = tt
 
 -- the program ends as the words ask, for every kind of words
@@ -148,7 +148,7 @@ pub of-words : (P Q : Type 0) (words : Words) (result : ℕ)
     → IfText (λ status. status ≡ 0 → (result ≡ 0) ⊎ ((result ≡ 4) × Q)) words
     → IfText (λ status. status ≢ 0 → (result ≡ status) × P) words → IsStatus result ⊎ (result ≡ 2)
 of-words P Q (Work task plan paths) result said work text refused = inl work
-of-words P Q (WorkWithExitCode task plan paths) result said work text refused = inl work
+of-words P Q (WorkWith task plan paths flags) result said work text refused = inl work
 of-words P Q (Text text status) result (inl good) work asked refused =
     inl (shown result (asked good))
 of-words P Q (Text text status) result (inr two) work asked refused =
@@ -161,7 +161,7 @@ pub found_by_work : (P Q R : Type 0) (words : Words) (result : ℕ)
     → IfText (λ status. status ≡ 0 → (result ≡ 0) ⊎ ((result ≡ 4) × Q)) words
     → IfText (λ status. status ≢ 0 → (result ≡ status) × R) words → result ≡ 5 → P
 found_by_work P Q R (Work task plan paths) result said work text refused five = work five
-found_by_work P Q R (WorkWithExitCode task plan paths) result said work text refused five =
+found_by_work P Q R (WorkWith task plan paths flags) result said work text refused five =
     work five
 found_by_work P Q R (Text text status) result (inl good) work asked refused five =
     elim (asked good) [

@@ -1,5 +1,5 @@
 -- What the words ask for, from the words of the operating system.
-use Rattle.std.proofs.Common.{◌≡◌, ◌≢◌, ◌≤◌, ◌↔◌, ◌⊎◌, ◌++◌, ◌∙◌, ℕ, Bool, true, false, inl, inr}
+use Rattle.std.proofs.Common.{◌≡◌, ◌≢◌, ◌↔◌, ◌⊎◌, ◌++◌, ◌∙◌, ℕ, Bool, true, false, inl, inr}
 use Rattle.std.proofs.Common.{zero, suc, List, [], ◌∷◌, length, map, Option, Some, None, Result}
 use Rattle.std.proofs.Common.{Ok, Err, IfOk, sym, ap, refl, append-nil, arith}
 use Rattle.std.specs.Prelude.{string_bytes}
@@ -8,17 +8,18 @@ use Rattle.std.specs.declared.alloc.Global.{Global}
 use Rattle.std.specs.declared.io.Error.{Error}
 use Rattle.std.specs.declared.string.String.{String}
 use Rattle.std.specs.declared.vec.IntoIter.{IntoIter}
-use Rattle.clap.specs.Words.{Text, fault_of, subcommand_of, takes}
+use Rattle.clap.specs.Words.{Kinds, Text, fault_of, subcommand_of, takes}
 use Rattle.epx_types.specs.declared.memory.Memory.{Memory}
 use Rattle.epx_devices.specs.Transfers.{AppendsPrefix}
 use Rattle.epx_words.specs.App.{epx_app}
-use Rattle.epx_words.specs.Requests.{ArePathsOf, IsWork, AsksFor, IfText, IfWork}
-use Rattle.epx_words.specs.Requests.{FitsPrefix, has_exit_code, task_name}
-use Rattle.epx_words.specs.ExitStatus.{IsExitStatus}
-use Rattle.epx_words.specs.SubcommandRows.{HasExitCode, IsCutOf, IsWorkersOf, name_in, rows_in}
+use Rattle.epx_words.specs.Requests.{ArePathsOf, AsksFor, FitFlags, FitsRows, IfText, IfWork}
+use Rattle.epx_words.specs.Requests.{IsBare, IsWork, flags_of, task_name}
+use Rattle.epx_words.specs.ExitStatus.{IsTaken, IsTextStatus}
+use Rattle.epx_words.specs.Subjects.{NamesSubject}
+use Rattle.epx_words.specs.SubcommandRows.{Given, IsCutOf, IsWorkersOf, name_in, rows_in}
 use Rattle.epx_words.specs.declared.words.Task.TheVariants.{Run}
 use Rattle.epx_words.specs.declared.words.Words.{Words}
-use Rattle.epx_words.specs.declared.words.Words.TheVariants.{Work, WorkWithExitCode}
+use Rattle.epx_words.specs.declared.words.Words.TheVariants.{Work, WorkWith}
 use Rattle.epx_words.specs.declared.words.Words.TheVariants.{Text as text}
 use Rattle.epx_program.specs.Calls.{AreTakenFor, Asks, EndsAsAsked, EndsTask, EndsWithText}
 use Rattle.epx_program.proofs.OutputLemmas.{contents_unchanged}
@@ -39,77 +40,77 @@ pub all_taken : {A B : Type 0} (f : A → B) (came : List B) (rest : List A) →
     → came ++ map f rest ≡ came
 all_taken f came rest none = ap (λ xs. came ++ map f xs) (no_items rest none) ∙ append-nil came
 
-module _ (words : List Text) (n : ℕ) (as_many : n ≡ length words) where
-  work_fits : (asked : Words)
-      → IfWork (λ task plan paths. name_in (subcommand_of epx_app words) ≡ Some (task_name task))
+module _ (words : List Text) where
+  abbrev given : Given
+  given = subcommand_of epx_app words
+
+  abbrev kinds : Kinds
+  kinds = fault_of epx_app words
+
+  work_fits : (asked : Words) → IfWork (λ task plan paths. name_in given ≡ Some (task_name task))
       asked
-      → IfWork (λ task plan paths. IsWorkersOf (rows_in (subcommand_of epx_app words))
-      plan.workers) asked
-      → IfWork (λ task plan paths. IsCutOf (rows_in (subcommand_of epx_app words)) plan.cut) asked
-      → IfWork (λ task plan paths. ArePathsOf task (rows_in (subcommand_of epx_app words)) paths)
-      asked
-      → IfWork (λ task plan paths. FitsPrefix task (rows_in (subcommand_of epx_app words))) asked
-      → IfWork (AsksFor (subcommand_of epx_app words)) asked
-  work_fits (Work task plan paths) is_task is_workers is_cut are_paths is_prefix = record {
+      → IfWork (λ task plan paths. IsWorkersOf (rows_in given) plan.workers) asked
+      → IfWork (λ task plan paths. IsCutOf (rows_in given) plan.cut) asked
+      → IfWork (λ task plan paths. ArePathsOf task (rows_in given) paths) asked
+      → IfWork (λ task plan paths. FitsRows task (rows_in given)) asked
+      → IfWork (AsksFor given) asked
+  work_fits (Work task plan paths) is_task is_workers is_cut are_paths are_parts = record {
     task = is_task;
     workers = is_workers;
     cut = is_cut;
     paths = are_paths;
-    prefix = is_prefix;
+    parts = are_parts;
   }
-  work_fits (WorkWithExitCode task plan paths) is_task is_workers is_cut are_paths is_prefix =
+  work_fits (WorkWith task plan paths flags) is_task is_workers is_cut are_paths are_parts =
       record {
         task = is_task;
         workers = is_workers;
         cut = is_cut;
         paths = are_paths;
-        prefix = is_prefix;
+        parts = are_parts;
       }
-  work_fits (text said status) is_task is_workers is_cut are_paths is_prefix = tt
+  work_fits (text said status) is_task is_workers is_cut are_paths are_parts = tt
 
-  text_ends : (asked : Words) → IfText (λ status. takes epx_app words ≡ false) asked
-      → IfText (IsExitStatus (fault_of epx_app words)) asked
-      → IfText (λ status. (takes epx_app words ≡ false)
-      × IsExitStatus (fault_of epx_app words) status) asked
+  text_ends : (asked : Words)
+      → IfText (λ status. (takes epx_app words ≡ false) ⊎ (¬ NamesSubject given)) asked
+      → IfText (IsTextStatus kinds given) asked
+      → IfText (λ status. ((takes epx_app words ≡ false) ⊎ (¬ NamesSubject given))
+      × IsTextStatus kinds given status) asked
   text_ends (Work task plan paths) refused ends = tt
-  text_ends (WorkWithExitCode task plan paths) refused ends = tt
+  text_ends (WorkWith task plan paths flags) refused ends = tt
   text_ends (text said status) refused ends = (refused, ends)
 
   -- what is read of the words is what they ask for
   pub asks : (read : Result Words Memory)
-      → (n ≤ 1 → IfOk read (λ asked. asked ≡ Work Run (record { workers = 4; cut = 256 }) None))
-      → (2 ≤ n → IfOk read
-      (IfWork (λ task plan paths. name_in (subcommand_of epx_app words)
-      ≡ Some (task_name task))))
-      → (2 ≤ n → IfOk read
-      (IfWork (λ task plan paths. IsWorkersOf (rows_in (subcommand_of epx_app words))
-      plan.workers)))
-      → (2 ≤ n → IfOk read
-      (IfWork (λ task plan paths. IsCutOf (rows_in (subcommand_of epx_app words)) plan.cut)))
-      → (2 ≤ n → IfOk read
-      (IfWork (λ task plan paths. ArePathsOf task (rows_in (subcommand_of epx_app words))
-      paths)))
-      → (2 ≤ n → IfOk read
-      (IfWork (λ task plan paths. FitsPrefix task (rows_in (subcommand_of epx_app words)))))
-      → (2 ≤ n → IfOk read (λ asked. IsWork asked
-      → (has_exit_code asked ≡ true) ↔ HasExitCode (rows_in (subcommand_of epx_app words))))
-      → (2 ≤ n → IfOk read (λ asked. IsWork asked ↔ (fault_of epx_app words ≡ [])))
-      → (2 ≤ n → IfOk read (IfText (λ status. takes epx_app words ≡ false)))
-      → (2 ≤ n → IfOk read (IfText (IsExitStatus (fault_of epx_app words))))
+      → (IsBare words → IfOk read
+      (λ asked. asked ≡ Work Run (record { workers = 4; cut = 256 }) None))
+      → (¬ IsBare words → IfOk read
+      (IfWork (λ task plan paths. name_in given ≡ Some (task_name task))))
+      → (¬ IsBare words → IfOk read
+      (IfWork (λ task plan paths. IsWorkersOf (rows_in given) plan.workers)))
+      → (¬ IsBare words → IfOk read
+      (IfWork (λ task plan paths. IsCutOf (rows_in given) plan.cut)))
+      → (¬ IsBare words → IfOk read
+      (IfWork (λ task plan paths. ArePathsOf task (rows_in given) paths)))
+      → (¬ IsBare words → IfOk read
+      (IfWork (λ task plan paths. FitsRows task (rows_in given))))
+      → (¬ IsBare words → IfOk read
+      (λ asked. IsWork asked → FitFlags (flags_of asked) (rows_in given)))
+      → (¬ IsBare words → IfOk read (λ asked. IsWork asked ↔ IsTaken kinds given))
+      → (¬ IsBare words → IfOk read
+      (IfText (λ status. (takes epx_app words ≡ false) ⊎ (¬ NamesSubject given))))
+      → (¬ IsBare words → IfOk read (IfText (IsTextStatus kinds given)))
       → IfOk read (Asks words)
-  asks (Ok asked) bare is_task is_workers is_cut are_paths is_prefix exit_code taken refused
-      ends = record {
-        bare = λ few. bare (omega (arith, as_many, few));
-        work = λ many. let two : 2 ≤ n = omega (arith, as_many, many) in
-            work_fits asked (is_task two) (is_workers two) (is_cut two) (are_paths two)
-            (is_prefix two);
-        exit_code = λ many. exit_code (omega (arith, as_many, many));
-        taken = λ many. taken (omega (arith, as_many, many));
-        text = λ many. let two : 2 ≤ n = omega (arith, as_many, many) in
-            text_ends asked (refused two) (ends two);
+  asks (Ok asked) bare is_task is_workers is_cut are_paths are_parts flags taken refused ends =
+      record {
+        bare = bare;
+        work = λ named. work_fits asked (is_task named) (is_workers named) (is_cut named)
+            (are_paths named) (are_parts named);
+        flags = flags;
+        taken = taken;
+        text = λ named. text_ends asked (refused named) (ends named);
       }
-  asks (Err memory) bare is_task is_workers is_cut are_paths is_prefix exit_code taken refused
-      ends = tt
+  asks (Err memory) bare is_task is_workers is_cut are_paths are_parts flags taken refused ends = tt
 
 module _ {S : Type 0} (contents : S → Option (List ℕ)) (before after : S)
     (input : Option (List ℕ)) (Unread : Type 0) (status : ℕ) (failed : Bool) where
@@ -131,8 +132,8 @@ module _ {S : Type 0} (contents : S → Option (List ℕ)) (before after : S)
 
   -- how the program ends with what is wanted, from the contracts of the calls that do it
   pub ends_as_asked : (wanted : Words)
-      → IfWork (λ task plan paths. EndsTask input Unread (has_exit_code wanted) task paths status
-      failed (contents before) (contents after)) wanted
+      → IfWork (λ task plan paths. EndsTask input Unread (flags_of wanted).exit_code task paths
+      status failed (contents before) (contents after)) wanted
       → ((said : String Global) → wanted ≡ text said 0 → status ≡ 0
       → Appends (contents before) (contents after) (string_bytes said))
       → ((said : String Global) → wanted ≡ text said 0
@@ -141,7 +142,7 @@ module _ {S : Type 0} (contents : S → Option (List ℕ)) (before after : S)
       → IfText (λ n. n ≢ 0 → (status ≡ n) × (after ≡ before)) wanted
       → EndsAsAsked input Unread wanted status failed (contents before) (contents after)
   ends_as_asked (Work task plan paths) work shown prefix well refused = work
-  ends_as_asked (WorkWithExitCode task plan paths) work shown prefix well refused = work
+  ends_as_asked (WorkWith task plan paths flags) work shown prefix well refused = work
   ends_as_asked (text said n) work shown prefix well refused =
       ends_with_text (string_bytes said) n (λ none. shown said (ap (text said) none))
       (λ none. prefix said (ap (text said) none)) well refused

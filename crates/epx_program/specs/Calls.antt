@@ -1,6 +1,6 @@
 -- What the program's words ask for, and how the program ends.
-use Rattle.std.specs.Prelude.{◌≡◌, ◌≤◌, ◌↔◌, ◌⊎◌, ℕ, zero, suc, Bool, true, false, List, [], ◌∷◌}
-use Rattle.std.specs.Prelude.{length, map, Option, Some, None, Result, Vec, MatchResult}
+use Rattle.std.specs.Prelude.{◌≡◌, ◌↔◌, ◌⊎◌, ℕ, zero, suc, Bool, true, false, List, [], ◌∷◌}
+use Rattle.std.specs.Prelude.{map, Option, Some, None, Result, Vec, MatchResult}
 use Rattle.std.specs.Prelude.{option_map, string_bytes}
 use Rattle.std.specs.Io.KnownBytes.{Appends, Keeps}
 use Rattle.std.specs.Vec.Iter.{into_iter_items}
@@ -13,9 +13,10 @@ use Rattle.epx_types.specs.Faults.{fault_status}
 use Rattle.epx_types.specs.declared.fault.Fault.TheVariants.{Memory, Write}
 use Rattle.epx_devices.specs.Transfers.{AppendsPrefix}
 use Rattle.epx_words.specs.App.{epx_app}
-use Rattle.epx_words.specs.Requests.{IsWork, AsksFor, IfText, IfWork, has_exit_code}
-use Rattle.epx_words.specs.SubcommandRows.{HasExitCode, rows_in}
-use Rattle.epx_words.specs.ExitStatus.{IsExitStatus}
+use Rattle.epx_words.specs.Requests.{AsksFor, FitFlags, IfText, IfWork, IsBare, IsWork, flags_of}
+use Rattle.epx_words.specs.SubcommandRows.{rows_in}
+use Rattle.epx_words.specs.Subjects.{NamesSubject}
+use Rattle.epx_words.specs.ExitStatus.{IsTaken, IsTextStatus}
 use Rattle.epx_words.specs.declared.words.Task.{Task}
 use Rattle.epx_words.specs.declared.words.Task.TheVariants.{Run}
 use Rattle.epx_words.specs.declared.words.Words.{Words}
@@ -29,17 +30,18 @@ abbrev pub AreTakenFor : Result (IntoIter (String Global) Global) Error → List
 AreTakenFor words texts = MatchResult words
     (λ given. map string_bytes (into_iter_items given) ≡ texts) (λ _. ⊥)
 
--- what the words ask for: the report of one log if no word follows the program's name, otherwise
--- what clap finds in the words
+-- what the words ask for: the report of one log if they name no subcommand, otherwise what clap
+-- finds in the words
 pub record Asks (words : List Text) (wanted : Words) : Type 0 where
-  pub bare : length words ≤ 1 → wanted ≡ asked.Work Run (record { workers = 4; cut = 256 }) None
-  pub work : 2 ≤ length words → IfWork (AsksFor (subcommand_of epx_app words)) wanted
-  pub exit_code : 2 ≤ length words → IsWork wanted
-      → (has_exit_code wanted ≡ true) ↔ HasExitCode (rows_in (subcommand_of epx_app words))
-  pub taken : 2 ≤ length words → IsWork wanted ↔ (fault_of epx_app words ≡ [])
-  pub text : 2 ≤ length words
-      → IfText (λ status. (takes epx_app words ≡ false)
-      × IsExitStatus (fault_of epx_app words) status) wanted
+  pub bare : IsBare words → wanted ≡ asked.Work Run (record { workers = 4; cut = 256 }) None
+  pub work : ¬ IsBare words → IfWork (AsksFor (subcommand_of epx_app words)) wanted
+  pub flags : ¬ IsBare words → IsWork wanted
+      → FitFlags (flags_of wanted) (rows_in (subcommand_of epx_app words))
+  pub taken : ¬ IsBare words
+      → IsWork wanted ↔ IsTaken (fault_of epx_app words) (subcommand_of epx_app words)
+  pub text : ¬ IsBare words → IfText (λ status. ((takes epx_app words ≡ false)
+      ⊎ (¬ NamesSubject (subcommand_of epx_app words)))
+      × IsTextStatus (fault_of epx_app words) (subcommand_of epx_app words) status) wanted
 
 -- how the program ends after a text with this status: a text of status 0 is appended to the
 -- output, or the output failed; any other text leaves the output unchanged
@@ -77,8 +79,8 @@ abbrev pub EndsAsAsked : Option (List ℕ) → Type 0 → Words → ℕ → Bool
     → Option (List ℕ) → Option (List ℕ) → Type 0
 EndsAsAsked input Unread (asked.Work task plan paths) status failed old new =
     EndsTask input Unread false task (paths_of paths) status failed old new
-EndsAsAsked input Unread (asked.WorkWithExitCode task plan paths) status failed old new =
-    EndsTask input Unread true task (paths_of paths) status failed old new
+EndsAsAsked input Unread (asked.WorkWith task plan paths flags) status failed old new =
+    EndsTask input Unread flags.exit_code task (paths_of paths) status failed old new
 EndsAsAsked input Unread (asked.Text text n) status failed old new =
     EndsWithText (string_bytes text) n status failed old new
 

@@ -10,6 +10,7 @@ use Rattle.epx_devices.specs.Transfers.{AppendsPrefix}
 use Rattle.epx_words.specs.declared.words.Task.{Task}
 use Rattle.epx_words.specs.declared.words.Task.TheVariants.{Run, Order, Levels, Graph, Resume}
 use Rattle.epx_words.specs.declared.words.Task.TheVariants.{Audit, Check, CheckPrefix, Compare}
+use Rattle.epx_words.specs.declared.words.Task.TheVariants.{Why, Path, Trace}
 use Rattle.epx_tool.specs.Findings.{Finds, FindsWith}
 use Rattle.epx_tool.specs.Questions.{AnswersQuestion, IsBadInput, IsInputAnswer, IsTextWith}
 use Rattle.epx_tool.specs.Runs.{IsFaultOfRun}
@@ -32,6 +33,9 @@ asked_of Resume = asked.First about.Resume
 asked_of Check = asked.First about.Check
 asked_of CheckPrefix = asked.First about.CheckPrefix
 asked_of Compare = asked.Logs (View ask.Compare)
+asked_of (Why x) = asked.Logs (View (ask.Why x))
+asked_of (Path x y) = asked.Logs (View (ask.Path x y))
+asked_of (Trace key reads) = asked.Logs (View (ask.Trace key reads))
 
 -- the first of some texts and the logs after it; if there is no text, the first text is empty
 abbrev pub on_first_and_logs : (List ℕ → List (List ℕ) → Type 0) → List (List ℕ) → Type 0

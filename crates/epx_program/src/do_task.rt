@@ -39,6 +39,9 @@ fn asked_by(task: Task) -> Asked
         Task::Check => Asked::First(InputQuestion::Check),
         Task::CheckPrefix => Asked::First(InputQuestion::CheckPrefix),
         Task::Compare => Asked::Logs(Question::View(Ask::Compare)),
+        Task::Why(id) => Asked::Logs(Question::View(Ask::Why(id))),
+        Task::Path(from, to) => Asked::Logs(Question::View(Ask::Path(from, to))),
+        Task::Trace { key, reads } => Asked::Logs(Question::View(Ask::Trace { key, reads })),
     }
 }
 
@@ -82,21 +85,22 @@ pub(crate) fn do_task<R: Files + Threads + RandomSource + Sync, I: Source + Drop
     alloc: Global,
     task: Task,
     plan: Plan,
-    paths: Option<Vec<String>>,
+    paths: &Option<Vec<String>>,
     input: I,
     output: &mut W,
 ) -> Result<bool, Fault>
     requires input { I.has_failed input ≡ false }
     requires output { W.has_failed output.old ≡ false }
 
-    ensures input { (bytes : _) → IsInputAlone (paths_of paths) → I.remaining input ≡ Some bytes →
+    ensures input { (bytes : _) → IsInputAlone (paths_of paths.now)
+        → I.remaining input ≡ Some bytes →
         IsTaskResult task (bytes ∷ []) result (W.contents output.old) (W.contents output.new) }
-    ensures answered { IfOk result (λ found. AddsAnswer task found (text_count (paths_of paths))
+    ensures answered { IfOk result (λ found. AddsAnswer task found (text_count (paths_of paths.now))
         (W.contents output.old) (W.contents output.new)) }
-    ensures part { IsErrOf result Fault.Write → AddsPart task (text_count (paths_of paths))
+    ensures part { IsErrOf result Fault.Write → AddsPart task (text_count (paths_of paths.now))
         (W.contents output.old) (W.contents output.new) }
-    ensures unread { (log : _) → IsErrOf result (Fault.Read log) → IsInputAlone (paths_of paths) →
-        HasFailedRead I.reads I.fails input }
+    ensures unread { (log : _) → IsErrOf result (Fault.Read log)
+        → IsInputAlone (paths_of paths.now) → HasFailedRead I.reads I.fails input }
     ensures flushed { OnOk result (W.is_flushed output.new ≡ true) }
     ensures nothing { IfErr result (λ fault. fault ≢ Fault.Write
         → Keeps (W.contents output.old) (W.contents output.new)) }
@@ -107,7 +111,7 @@ pub(crate) fn do_task<R: Files + Threads + RandomSource + Sync, I: Source + Drop
         sources.push(input).map_err(Memory::from)?;
         return answer(rt, alloc, task, plan, &mut sources, output);
     };
-    let Ok(mut sources) = sources_at(rt, alloc, &paths, input) else {
+    let Ok(mut sources) = sources_at(rt, alloc, paths, input) else {
         return Err(Fault::Memory);
     };
     answer(rt, alloc, task, plan, &mut sources, output)

@@ -3,8 +3,11 @@
 
 mod do_task;
 mod exit_report;
+mod explain_failure;
+pub mod input_kind;
 mod inputs;
 mod program;
 mod read_args;
 
+pub use input_kind::InputKind;
 pub use program::{execute_words, start};

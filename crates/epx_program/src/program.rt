@@ -5,15 +5,18 @@ ghost use Rattle.std.specs.IoError.{error_kind};
 ghost use Rattle.std.specs.Process.{exit_status};
 ghost use Rattle.epx_types.specs.Faults.{fault_status};
 ghost use Rattle.epx_devices.specs.Transfers.{AppendsPrefix};
-ghost use Rattle.epx_words.specs.Requests.{IfText, IfWork, has_exit_code};
+ghost use Rattle.epx_words.specs.Requests.{IfText, IfWork, flags_of};
 ghost use Rattle.epx_program.specs.Calls.{AreTakenFor, DoesAsAsked, EndsTask, paths_of};
 ghost use Rattle.epx_program.specs.Endings.{IsAnswerStatus, IsStatus};
 ghost use Rattle.epx_program.specs.Inputs.{HasFailedRead};
 
 use crate::do_task::do_task;
 use crate::exit_report::{print_text, report_fault, report_task};
+use crate::explain_failure::{explain_failure, first_input};
+use crate::input_kind::{InputKind, say_what_is_read};
 use crate::read_args::read_args;
-use epx_tool::{Sink, Source, Task, Words};
+use epx_explain::FirstInput;
+use epx_tool::{Flags, Sink, Source, Task, Words};
 use epx_types::{Fault, Memory, Plan};
 use std::alloc::AllocGlobal;
 use std::env::Args;
@@ -23,11 +26,12 @@ use std::random::RandomSource;
 use std::rt::Files;
 use std::thread::Threads;
 
-/// Does a task, and returns the exit status. With `exit_code` the status of an answer says whether
-/// it finds something.
+/// Does a task, and returns the exit status. With `--exit-code` the status of an answer says
+/// whether it finds something. With `--explain` a further line on standard error explains a fault.
 fn do_work<R, I, W>(
     rt: &R,
-    exit_code: bool,
+    flags: Flags,
+    first: FirstInput,
     task: Task,
     plan: Plan,
     paths: Option<Vec<String>>,
@@ -41,16 +45,18 @@ where
     requires input { I.has_failed input ≡ false }
     requires output { W.has_failed output.old ≡ false }
 
-    ensures do_task { EndsTask (I.remaining input) (HasFailedRead I.reads I.fails input) exit_code
-        task (paths_of paths) result (W.has_failed output.new) (W.contents output.old)
-        (W.contents output.new) }
+    ensures do_task { EndsTask (I.remaining input) (HasFailedRead I.reads I.fails input)
+        flags.exit_code task (paths_of paths) result (W.has_failed output.new)
+        (W.contents output.old) (W.contents output.new) }
     ensures flushed { IsAnswerStatus result → W.is_flushed output.new ≡ true }
     ensures failed { W.has_failed output.new ≡ true → result ≡ 4 }
     ensures nothing { W.has_failed output.new ≡ false → ¬ IsAnswerStatus result
         → Keeps (W.contents output.old) (W.contents output.new) }
 {
-    let done = do_task(rt, rt.alloc(), task, plan, paths, input, output);
-    report_task(rt, exit_code, done)
+    let done = do_task(rt, rt.alloc(), task, plan, &paths, input, output);
+    let status = report_task(rt, flags.exit_code, done);
+    explain_failure(rt, flags, first, &paths, done);
+    status
 }
 
 /// Does what the words say, and returns the exit status.
@@ -63,7 +69,7 @@ where
     requires output { W.has_failed output.old ≡ false }
 
     ensures do_task { IfWork (λ task _ paths. EndsTask (I.remaining input)
-        (HasFailedRead I.reads I.fails input) (has_exit_code words) task paths result
+        (HasFailedRead I.reads I.fails input) (flags_of words).exit_code task paths result
         (W.has_failed output.new) (W.contents output.old) (W.contents output.new)) words }
 
     ensures shown { (text : _) → words ≡ Words.Text text 0 → result ≡ 0
@@ -81,20 +87,35 @@ where
     ensures nothing { W.has_failed output.new ≡ false → ¬ IsAnswerStatus result
         → Keeps (W.contents output.old) (W.contents output.new) }
 {
+    let first = first_input(&words);
     match words {
         Words::Work { task, plan, paths } => {
-            do_work(rt, false, task, plan, paths, input, output)
+            let flags = Flags {
+                exit_code: false,
+                explain: false,
+            };
+            do_work(rt, flags, first, task, plan, paths, input, output)
         }
-        Words::WorkWithExitCode { task, plan, paths } => {
-            do_work(rt, true, task, plan, paths, input, output)
-        }
+        Words::WorkWith {
+            task,
+            plan,
+            paths,
+            flags,
+        } => do_work(rt, flags, first, task, plan, paths, input, output),
         Words::Text { text, status } => print_text(rt, text.as_str(), status, output),
     }
 }
 
 /// Does what the operating system's words ask for, and returns the exit status. The answer is
-/// written to the output. Faults and the text about refused words are written to standard error.
-pub fn start<R, I, W>(rt: &R, words: io::Result<Args>, input: I, output: &mut W) -> ExitCode
+/// written to the output. Faults and the text about refused words are written to standard error,
+/// and so is a line where a person may expect that something else is read.
+pub fn start<R, I, W>(
+    rt: &R,
+    words: io::Result<Args>,
+    kind: InputKind,
+    input: I,
+    output: &mut W,
+) -> ExitCode
 where
     R: AllocGlobal + Eprint + Files + Threads + RandomSource + Sync,
     I: Source + Drop,
@@ -119,7 +140,10 @@ where
         → Keeps (W.contents output.old) (W.contents output.new) }
 {
     let status = match read_args(rt.alloc(), words) {
-        Ok(words) => execute_words(rt, words, input, output),
+        Ok(words) => {
+            say_what_is_read(rt, kind, &words);
+            execute_words(rt, words, input, output)
+        }
         Err(Memory) => report_fault(rt, Fault::Memory),
     };
     ExitCode::from(status)

@@ -16,13 +16,14 @@ use Rattle.epx_picture.proofs.PictureLemmas.{picture_exists}
 use Rattle.epx_compare.proofs.ComparisonAnswerLemmas.{compares_exists}
 use Rattle.epx_tool.specs.declared.question.MapText.{MapText}
 use Rattle.epx_tool.specs.declared.question.MapText.TheVariants.{Report, Order, Levels, Audit}
-use Rattle.epx_tool.specs.declared.question.MapText.TheVariants.{Graph, Why, Path}
+use Rattle.epx_tool.specs.declared.question.MapText.TheVariants.{Graph, Why, Path, Trace}
 use Rattle.epx_tool.specs.Report.{IsReport, report_text, commands_of}
 use Rattle.epx_tool.specs.OrderText.{IsOrderText, order_text}
 use Rattle.epx_tool.specs.LevelText.{IsLevelText, level_text}
 use Rattle.epx_tool.specs.AuditText.{IsAuditText}
 use Rattle.epx_report.specs.ViewLines.{covered_line, uncovered_line}
 use Rattle.epx_why.proofs.TextExistenceLemmas.{why_text_exists, path_text_exists}
+use Rattle.epx_trace.proofs.TraceLemmas.{trace_text_exists}
 use Rattle.epx_tool.specs.MapTexts.{IsMapText}
 use Rattle.epx_tool.specs.Questions.{AnswersBy}
 use Rattle.epx_tool.specs.Answer.{Answers}
@@ -87,6 +88,7 @@ module _ (m : List Instance) (rising : IsRising (ids_of m)) where
   map_text_exists Graph = picture_exists m rising
   map_text_exists (Why x) = why_text_exists m x rising
   map_text_exists (Path x y) = path_text_exists m x y
+  map_text_exists (Trace key reads) = trace_text_exists m key.text.bytes reads rising
 
 -- if every committed map has a text, every list of logs has an answer
 pub answer_exists : (Is : List Instance → List ℕ → Type 0)

@@ -22,8 +22,9 @@ use Rattle.epx_audit.proofs.UniquePairLemmas.{uncovered_not_covered, least_uncov
 use Rattle.epx_compare.proofs.ComparisonAnswerLemmas.{compares_unique}
 use Rattle.epx_tool.specs.declared.question.MapText.{MapText}
 use Rattle.epx_tool.specs.declared.question.MapText.TheVariants.{Report, Order, Levels, Audit}
-use Rattle.epx_tool.specs.declared.question.MapText.TheVariants.{Graph, Why, Path}
+use Rattle.epx_tool.specs.declared.question.MapText.TheVariants.{Graph, Why, Path, Trace}
 use Rattle.epx_why.proofs.UniqueTextLemmas.{why_text_is_one, path_text_is_one}
+use Rattle.epx_trace.proofs.TraceLemmas.{trace_text_is_one}
 use Rattle.epx_tool.specs.MapTexts.{IsMapText}
 use Rattle.epx_tool.specs.Questions.{AnswersBy}
 use Rattle.epx_tool.specs.Answer.{Answers}
@@ -73,6 +74,7 @@ IsMapText-unique Audit = IsAuditText-unique
 IsMapText-unique Graph = picture_is_one
 IsMapText-unique (Why x) = λ m. why_text_is_one m x
 IsMapText-unique (Path x y) = λ m. path_text_is_one m x y
+IsMapText-unique (Trace key reads) = λ m. trace_text_is_one m key.text.bytes reads
 
 -- if each committed map has at most one text, logs have at most one answer, except for out of
 -- memory

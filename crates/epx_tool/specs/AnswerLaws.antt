@@ -20,7 +20,8 @@ abbrev pub ReportExists : Type 0
 ReportExists = (m : List Instance) → IsRising (ids_of m) → (text : List ℕ) × IsReport m text
 
 -- a committed map has a report, a text of its execution order, a text of its conflict levels, a
--- text of its audit, a picture, a text about each instance, and a text of a path between each two
+-- text of its audit, a picture, a text about each instance, a text of a path between each two, and
+-- a text of the trace of each key
 abbrev pub MapTextExists : Type 0
 MapTextExists = (kind : MapText) (m : List Instance) → IsRising (ids_of m) → (text : List ℕ)
     × IsMapText kind m text

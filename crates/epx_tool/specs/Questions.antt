@@ -7,7 +7,7 @@ use Rattle.epx_report.specs.Lists.{IsBadList}
 use Rattle.epx_compare.specs.ComparisonAnswers.{Compares}
 use Rattle.epx_tool.specs.declared.ask.Ask.{Ask}
 use Rattle.epx_tool.specs.declared.ask.Ask.TheVariants.{Order, Levels, Audit, Graph, Why}
-use Rattle.epx_tool.specs.declared.ask.Ask.TheVariants.{Path, Compare}
+use Rattle.epx_tool.specs.declared.ask.Ask.TheVariants.{Path, Trace, Compare}
 use Rattle.epx_tool.specs.declared.question.InputQuestion.{InputQuestion}
 use Rattle.epx_tool.specs.declared.question.InputQuestion.TheVariants.{Resume, Check}
 use Rattle.epx_tool.specs.declared.question.InputQuestion.TheVariants.{CheckPrefix}
@@ -30,6 +30,7 @@ map_text_of (View Audit) = Some text.Audit
 map_text_of (View Graph) = Some text.Graph
 map_text_of (View (Why x)) = Some (text.Why x)
 map_text_of (View (Path x y)) = Some (text.Path x y)
+map_text_of (View (Trace key reads)) = Some (text.Trace key reads)
 map_text_of (View Compare) = None
 
 -- the answer to logs: a text of the map that they commit, or what they say against each other

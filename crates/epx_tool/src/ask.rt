@@ -1,5 +1,6 @@
 //! The views of logs: the texts other than the report.
 
+use epx_names::KeyName;
 use epx_types::Id;
 
 /// Which view is asked for.
@@ -17,6 +18,9 @@ pub enum Ask {
     Why(Id),
     /// The first of the shortest paths of dependencies from one instance to another.
     Path(Id, Id),
+    /// The executed commands that write a key, with its values before and after each; with `reads`
+    /// also those that only read it.
+    Trace { key: KeyName, reads: bool },
     /// What the logs say against each other. Bad lines and disagreements are lines of this view,
     /// and no faults.
     Compare,

@@ -24,14 +24,14 @@ fn is_other(alloc: Global, text: &[u8], name: &str) -> Result<bool, Memory>
 }
 
 /// Whether this text of a committed map finds something.
-pub(crate) fn finds(alloc: Global, kind: MapText, text: &[u8]) -> Result<bool, Memory>
+pub(crate) fn finds(alloc: Global, kind: &MapText, text: &[u8]) -> Result<bool, Memory>
     ensures { IfOk result (λ found. (logs : List (List ℕ))
-        → (found ≡ true) ↔ FindsBy (Some kind) logs text.now) }
+        → (found ≡ true) ↔ FindsBy (Some kind.now) logs text.now) }
 {
     match kind {
         MapText::Audit => is_other(alloc, text, "covered"),
         MapText::Report | MapText::Order | MapText::Levels | MapText::Graph => Ok(false),
-        MapText::Why(_) | MapText::Path(_, _) => Ok(false),
+        MapText::Why(_) | MapText::Path(_, _) | MapText::Trace { .. } => Ok(false),
     }
 }
 

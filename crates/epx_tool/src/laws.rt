@@ -18,7 +18,8 @@ pub fn report_exists()
 {}
 
 /// A committed map has a text of its execution order, a text of its conflict levels, a text of its
-/// audit, a picture, a text about each instance, and a text of a path between each two.
+/// audit, a picture, a text about each instance, a text of a path between each two, and a text of
+/// the trace of each key.
 pub fn map_text_exists()
     ensures { MapTextExists }
 {}

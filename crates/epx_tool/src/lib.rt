@@ -30,7 +30,8 @@ pub use epx_devices::{
     DeviceFault, FuseSink, FuseSource, MemorySink, MemorySource, PathSource, Sink, Source, StdSink,
     StdSource, read_log, write_out,
 };
-pub use epx_words::{Task, Words, read_words};
+pub use epx_names::{KeyName, read_id};
+pub use epx_words::{Flags, Task, Words, read_words};
 pub use input_answers::{answer_input, check, resume};
 pub use input_runs::run_with_input;
 pub use question::{InputQuestion, MapText, Question};

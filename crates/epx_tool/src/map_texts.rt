@@ -14,6 +14,7 @@ ghost use Rattle.epx_tool.specs.ResumedReport.{resumed_text, IsReportAfter};
 ghost use Rattle.epx_tool.specs.MapTexts.{IsMapText};
 ghost use Rattle.epx_picture.specs.Pictures.{IsPicture};
 ghost use Rattle.epx_why.specs.WhyTexts.{IsWhyText, IsPathText};
+ghost use Rattle.epx_trace.specs.TraceTexts.{IsTraceText};
 
 use crate::commands::{all_commands, commands};
 use crate::question::MapText;
@@ -23,8 +24,10 @@ use epx_apply::{LevelMap, levels, run_order};
 use epx_claims::FreeGate;
 use epx_graph::{Waiter, build, build_after, waiting};
 use epx_merge::Merged;
+use epx_names::KeyName;
 use epx_order::{OrderList, audit, order};
 use epx_picture::picture;
+use epx_trace::trace_text;
 use epx_txn::Store;
 use epx_types::{Id, Memory, Plan, Reply};
 use epx_why::{path_text, why_text};
@@ -209,16 +212,34 @@ fn path_of<R: Threads + Sync>(
     path_text(alloc, &graph, from, to)
 }
 
+/// The text of the trace of a key.
+fn trace_of<R: Threads + Sync>(
+    rt: &R,
+    alloc: Global,
+    merged: &Merged,
+    key: &KeyName,
+    reads: bool,
+    plan: Plan,
+) -> Result<Vec<u8>, Memory>
+    ensures { IfOk result (λ text. IsTraceText merged.now key.now.text.bytes reads text.items) }
+{
+    let graph = build(rt, alloc, merged, plan)?;
+    let order = order(rt, alloc, merged, &graph)?;
+    drop(graph);
+    let key = key.key(alloc)?;
+    trace_text(alloc, merged, &order, &key, reads)
+}
+
 /// A text of a committed map.
 pub(crate) fn text_of<R: Threads + RandomSource + Sync>(
     rt: &R,
     alloc: Global,
-    kind: MapText,
+    kind: &MapText,
     merged: Merged,
     plan: Plan,
 ) -> Result<Vec<u8>, Memory>
     requires few { length merged ≤ max_instances }
-    ensures { IfOk result (λ text. IsMapText kind merged text.items) }
+    ensures { IfOk result (λ text. IsMapText kind.now merged text.items) }
 {
     match kind {
         MapText::Report => report_of(rt, alloc, merged, &[], Store::new(alloc), plan),
@@ -226,7 +247,8 @@ pub(crate) fn text_of<R: Threads + RandomSource + Sync>(
         MapText::Levels => levels_of(rt, alloc, &merged, plan),
         MapText::Audit => audit_of(rt, alloc, &merged, plan),
         MapText::Graph => picture_of(rt, alloc, &merged, plan),
-        MapText::Why(id) => why_of(rt, alloc, &merged, id, plan),
-        MapText::Path(from, to) => path_of(rt, alloc, &merged, from, to, plan),
+        MapText::Why(id) => why_of(rt, alloc, &merged, *id, plan),
+        MapText::Path(from, to) => path_of(rt, alloc, &merged, *from, *to, plan),
+        MapText::Trace { key, reads } => trace_of(rt, alloc, &merged, key, *reads, plan),
     }
 }

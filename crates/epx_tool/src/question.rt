@@ -3,6 +3,7 @@ ghost use Rattle.std.specs.Prelude.{◌≡◌};
 ghost use Rattle.epx_tool.specs.Questions.{map_text_of};
 
 use crate::ask::Ask;
+use epx_names::KeyName;
 use epx_types::Id;
 
 /// What is asked of logs.
@@ -24,6 +25,7 @@ pub enum MapText {
     Graph,
     Why(Id),
     Path(Id, Id),
+    Trace { key: KeyName, reads: bool },
 }
 
 impl Question {
@@ -39,6 +41,7 @@ impl Question {
             Question::View(Ask::Graph) => Some(MapText::Graph),
             Question::View(Ask::Why(id)) => Some(MapText::Why(id)),
             Question::View(Ask::Path(from, to)) => Some(MapText::Path(from, to)),
+            Question::View(Ask::Trace { key, reads }) => Some(MapText::Trace { key, reads }),
             Question::View(Ask::Compare) => None,
         }
     }

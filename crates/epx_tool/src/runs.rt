@@ -71,10 +71,10 @@ fn answer_merged<R: Threads + RandomSource + Sync, S: Source>(
         Ok(merged) => merged,
         Err(fault) => return Err(fault),
     };
-    let Ok(text) = text_of(rt, alloc, kind, merged, plan) else {
+    let Ok(text) = text_of(rt, alloc, &kind, merged, plan) else {
         return Err(Fault::Memory);
     };
-    let Ok(has_findings) = finds(alloc, kind, &text) else {
+    let Ok(has_findings) = finds(alloc, &kind, &text) else {
         return Err(Fault::Memory);
     };
     Ok(Answered { text, has_findings })

@@ -1,7 +1,8 @@
 -- Words in which clap finds no fault name a task, with both numbers in their ranges and with its
 -- required first argument.
-use Rattle.std.proofs.Common.{◌≡◌, Bool, true, false, codes, List, [], Option, Some, None, refl}
-use Rattle.std.proofs.Common.{sym, subst, inl, inr, is_some, true≢false}
+use Rattle.std.proofs.Common.{◌≡◌, ◌∙◌, Bool, true, false, codes, List, [], ◌∷◌, Option, Some}
+use Rattle.std.proofs.Common.{None, refl, sym, subst, inl, inr, is_some, true≢false}
+use Rattle.std.proofs.lemmas.Slice.Eq.{bytes_eq-Decides}
 use Rattle.std.specs.List.{AllByRecursion}
 use Rattle.std.specs.Str.{bytes_eq}
 use Rattle.clap.specs.Faults.{check_fault, defaults_fault, entered_fault, fault_of}
@@ -11,16 +12,17 @@ use Rattle.clap.specs.Simple.{is_simple, marked_built, names_of, subcommand_of, 
 use Rattle.clap.specs.Walk.{Row, Text, finished, nothing_held, rows_after, settled, stop_after}
 use Rattle.clap.specs.Walk.{walk, walk_from}
 use Rattle.clap.proofs.OnLiterals.{clap_on_literals}
-use Rattle.epx_words.specs.App.{base_app, epx_app, finding_app, list_app, work_app}
-use Rattle.epx_words.specs.SubcommandRows.{AsksForWork, NeedsFirst, IsTaskName}
+use Rattle.epx_words.specs.App.{base_app, epx_app, finding_app, list_app, trace_app, why_app}
+use Rattle.epx_words.specs.App.{work_app}
+use Rattle.epx_words.specs.SubcommandRows.{AsksForWork, IsOneOf, IsTaskName, NeedsFirst}
 use Rattle.epx_words.proofs.KindLemmas.{none_after, none_first}
 use Rattle.epx_words.proofs.TaskLemmas.{IsKnownName, StopsAtTask, walk_task}
-use Rattle.epx_words.proofs.SoundArgumentLemmas.{HasNumbers, first_has_row, first_rules_keep}
-use Rattle.epx_words.proofs.SoundArgumentLemmas.{flag_first_rules_keep, flag_logs_rules_keep}
-use Rattle.epx_words.proofs.SoundArgumentLemmas.{flag_to_first, flag_to_first_defaults}
-use Rattle.epx_words.proofs.SoundArgumentLemmas.{flag_to_logs, flag_to_logs_defaults, level_sound}
-use Rattle.epx_words.proofs.SoundArgumentLemmas.{logs_rules_keep, numbers_have_rows, to_first}
-use Rattle.epx_words.proofs.SoundArgumentLemmas.{to_first_defaults, to_logs, to_logs_defaults}
+use Rattle.epx_words.proofs.SoundArgumentLemmas.{HasNumbers, IsFirstThere, code_to_first}
+use Rattle.epx_words.proofs.SoundArgumentLemmas.{code_to_first_keep, code_to_logs}
+use Rattle.epx_words.proofs.SoundArgumentLemmas.{code_to_logs_keep, first_has_row, level_numbers}
+use Rattle.epx_words.proofs.SoundArgumentLemmas.{reaches_to_first, reaches_to_first_keep}
+use Rattle.epx_words.proofs.SoundArgumentLemmas.{reads_to_first, reads_to_first_keep, to_first}
+use Rattle.epx_words.proofs.SoundArgumentLemmas.{to_first_keep, to_logs, to_logs_keep}
 
 pub epx_is_simple : is_simple epx_app ≡ true
 unfolding clap_on_literals
@@ -37,56 +39,43 @@ app = built epx_app
 abbrev leaf_of : App → Shape
 leaf_of work = built_leaf (inherited (with_leaf_noted (marked_built epx_app.top)) work.top)
 
--- the subcommands of a task: over logs, over a base and logs, and, with a flag, over logs and over
--- a list and logs
-abbrev logs_leaf : Text → Shape
-logs_leaf name = leaf_of (work_app name)
+-- a level of a subcommand in which clap finds no fault
+abbrev IsFaultless : Shape → List Text → Type 0
+IsFaultless shape rest = level_fault shape [] nothing_held rest false [] ≡ []
 
-abbrev base_leaf : Text → Shape
-base_leaf name = leaf_of (base_app name)
-
-abbrev finding_leaf : Text → Shape
-finding_leaf name = leaf_of (finding_app name)
-
-abbrev list_leaf : Text → Shape
-list_leaf name = leaf_of (list_app name)
-
--- a subcommand without a first argument asks for work
-module _ (shape : Shape) (rest : List Text) (name : Text) (is : IsTaskName name)
-    (no_first : ¬ NeedsFirst name)
-    (numbers : HasNumbers (rows_after shape.rules [] rest)) where
-  logs_work : AsksForWork (Some (name, rows_after shape.rules [] rest))
-  logs_work = (is, numbers.workers, numbers.cut, λ has. absurd (no_first has))
-
+-- such a level ends with both numbers
 module _ (name : Text) (rest : List Text) where
-  logs_numbers : level_fault (logs_leaf name) [] nothing_held rest false [] ≡ []
-      → HasNumbers (rows_after (logs_leaf name).rules [] rest)
+  logs_numbers : IsFaultless (leaf_of (work_app name)) rest
+      → HasNumbers (rows_after (leaf_of (work_app name)).rules [] rest)
   logs_numbers none =
-      numbers_have_rows to_logs to_logs_defaults
-      (settled (logs_leaf name).rules (walk (logs_leaf name).rules [] nothing_held rest).held).rows
-      (level_sound (logs_leaf name) (logs_rules_keep false) rest none)
+      level_numbers (leaf_of (work_app name)) to_logs refl refl to_logs_keep rest none
 
-  finding_numbers : level_fault (finding_leaf name) [] nothing_held rest false [] ≡ []
-      → HasNumbers (rows_after (finding_leaf name).rules [] rest)
+  finding_numbers : IsFaultless (leaf_of (finding_app name)) rest
+      → HasNumbers (rows_after (leaf_of (finding_app name)).rules [] rest)
   finding_numbers none =
-      numbers_have_rows flag_to_logs flag_to_logs_defaults
-      (settled (finding_leaf name).rules
-      (walk (finding_leaf name).rules [] nothing_held rest).held).rows
-      (level_sound (finding_leaf name) (flag_logs_rules_keep false) rest none)
+      level_numbers (leaf_of (finding_app name)) code_to_logs refl refl code_to_logs_keep rest none
 
-  base_numbers : level_fault (base_leaf name) [] nothing_held rest false [] ≡ []
-      → HasNumbers (rows_after (base_leaf name).rules [] rest)
+  base_numbers : IsFaultless (leaf_of (base_app name)) rest
+      → HasNumbers (rows_after (leaf_of (base_app name)).rules [] rest)
   base_numbers none =
-      numbers_have_rows to_first to_first_defaults
-      (settled (base_leaf name).rules (walk (base_leaf name).rules [] nothing_held rest).held).rows
-      (level_sound (base_leaf name) (first_rules_keep false) rest none)
+      level_numbers (leaf_of (base_app name)) to_first refl refl to_first_keep rest none
 
-  list_numbers : level_fault (list_leaf name) [] nothing_held rest false [] ≡ []
-      → HasNumbers (rows_after (list_leaf name).rules [] rest)
+  list_numbers : IsFaultless (leaf_of (list_app name)) rest
+      → HasNumbers (rows_after (leaf_of (list_app name)).rules [] rest)
   list_numbers none =
-      numbers_have_rows flag_to_first flag_to_first_defaults
-      (settled (list_leaf name).rules (walk (list_leaf name).rules [] nothing_held rest).held).rows
-      (level_sound (list_leaf name) (flag_first_rules_keep false) rest none)
+      level_numbers (leaf_of (list_app name)) code_to_first refl refl code_to_first_keep rest none
+
+  why_numbers : IsFaultless (leaf_of (why_app name)) rest
+      → HasNumbers (rows_after (leaf_of (why_app name)).rules [] rest)
+  why_numbers none =
+      level_numbers (leaf_of (why_app name)) reaches_to_first refl refl reaches_to_first_keep rest
+      none
+
+  trace_numbers : IsFaultless (leaf_of (trace_app name)) rest
+      → HasNumbers (rows_after (leaf_of (trace_app name)).rules [] rest)
+  trace_numbers none =
+      level_numbers (leaf_of (trace_app name)) reads_to_first refl refl reads_to_first_keep rest
+      none
 
 -- no required argument is missing where a level has no fault
 nothing_missing : (shape : Shape) (rest : List Text)
@@ -99,37 +88,29 @@ nothing_missing shape rest none =
     let defaults = defaults_fault (settled shape.rules end).rows shape.rules in
     none_after defaults _ (none_after settles _ (none_after walked _ none))
 
-module _ (name : Text) (rest : List Text) (is : IsTaskName name) where
-  base_work : level_fault (base_leaf name) [] nothing_held rest false [] ≡ []
-      → AsksForWork (Some (name, rows_after (base_leaf name).rules [] rest))
-  base_work none =
-      let numbers = base_numbers name rest none in (
-        is,
-        numbers.workers,
-        numbers.cut,
-        λ has. first_has_row
-            (rows_after (base_leaf name).rules [] rest)
-            (nothing_missing (base_leaf name) rest none) numbers.sound,
-      )
+-- a subcommand asks for work if it has both numbers and, where it needs one, a first argument
+module _ (shape : Shape) (name : Text) (rest : List Text) (is : IsTaskName name)
+    (numbers : HasNumbers (rows_after shape.rules [] rest)) where
+  logs_work : ¬ NeedsFirst name → AsksForWork (Some (name, rows_after shape.rules [] rest))
+  logs_work no_first = (is, numbers.workers, numbers.cut, λ has. absurd (no_first has))
 
-  list_work : level_fault (list_leaf name) [] nothing_held rest false [] ≡ []
-      → AsksForWork (Some (name, rows_after (list_leaf name).rules [] rest))
-  list_work none =
-      let numbers = list_numbers name rest none in (
-        is,
-        numbers.workers,
-        numbers.cut,
-        λ has. first_has_row
-            (rows_after (list_leaf name).rules [] rest)
-            (nothing_missing (list_leaf name) rest none) numbers.sound,
-      )
+  first_work : (check_fault shape (rows_after shape.rules [] rest) false ≡ []
+      → IsFirstThere (rows_after shape.rules [] rest)) → IsFaultless shape rest
+      → AsksForWork (Some (name, rows_after shape.rules [] rest))
+  first_work there none = (
+    is,
+    numbers.workers,
+    numbers.cut,
+    λ has. first_has_row (rows_after shape.rules [] rest) (there (nothing_missing shape rest none))
+        numbers.sound,
+  )
 
-has_none : (name : Text) → bytes_eq name (codes "resume") ≡ false
-    → bytes_eq name (codes "check") ≡ false → ¬ NeedsFirst name
-has_none name goes_on checks (inl is) =
-    true≢false (subst (λ n. bytes_eq n (codes "resume") ≡ false) is goes_on)
-has_none name goes_on checks (inr is) =
-    true≢false (subst (λ n. bytes_eq n (codes "check") ≡ false) is checks)
+not_one_of : (name : Text) (texts : List Text)
+    → AllByRecursion (λ t. bytes_eq name t ≡ false) texts → ¬ IsOneOf name texts
+not_one_of name [] differ is = is
+not_one_of name (t ∷ ts) differ (inl is) =
+    true≢false (sym ((bytes_eq-Decides name t).1 is) ∙ differ.0)
+not_one_of name (t ∷ ts) differ (inr later) = not_one_of name ts differ.1 later
 
 -- a name that equals a known one asks for work if the known one does
 named : (name known : Text) (rest : List Text) → name ≡ known
@@ -140,7 +121,7 @@ named name known rest is works none =
     subst (λ n. AsksForWork (entered app (Some (n, rest)))) (sym is)
     (works (subst (λ n. entered_fault app (Some (n, rest)) ≡ []) is none))
 
--- the names of the tasks, as one of eight
+-- the names of the tasks
 is_run : IsTaskName (codes "run")
 is_run = inl refl
 
@@ -163,34 +144,66 @@ is_check : IsTaskName (codes "check")
 is_check = inr (inr (inr (inr (inr (inr (inl refl))))))
 
 is_compare : IsTaskName (codes "compare")
-is_compare = inr (inr (inr (inr (inr (inr (inr refl))))))
+is_compare = inr (inr (inr (inr (inr (inr (inr (inl refl)))))))
+
+is_why : IsTaskName (codes "why")
+is_why = inr (inr (inr (inr (inr (inr (inr (inr (inl refl))))))))
+
+is_trace : IsTaskName (codes "trace")
+is_trace = inr (inr (inr (inr (inr (inr (inr (inr (inr (inl refl)))))))))
+
+no_first : (name : Text) → AllByRecursion (λ t. bytes_eq name t ≡ false)
+    (codes "resume" ∷ codes "check" ∷ codes "why" ∷ codes "trace" ∷ []) → ¬ NeedsFirst name
+no_first name differ =
+    not_one_of name (codes "resume" ∷ codes "check" ∷ codes "why" ∷ codes "trace" ∷ []) differ
+
+-- the work of each subcommand
+module _ (rest : List Text) where
+  over_logs : (name : Text) → IsTaskName name → AllByRecursion (λ t. bytes_eq name t ≡ false)
+      (codes "resume" ∷ codes "check" ∷ codes "why" ∷ codes "trace" ∷ [])
+      → IsFaultless (leaf_of (work_app name)) rest
+      → AsksForWork (Some (name, rows_after (leaf_of (work_app name)).rules [] rest))
+  over_logs name is differ none = logs_work (leaf_of (work_app name)) name rest is
+      (logs_numbers name rest none) (no_first name differ)
+
+  over_findings : (name : Text) → IsTaskName name → AllByRecursion (λ t. bytes_eq name t ≡ false)
+      (codes "resume" ∷ codes "check" ∷ codes "why" ∷ codes "trace" ∷ [])
+      → IsFaultless (leaf_of (finding_app name)) rest
+      → AsksForWork (Some (name, rows_after (leaf_of (finding_app name)).rules [] rest))
+  over_findings name is differ none = logs_work (leaf_of (finding_app name)) name rest is
+      (finding_numbers name rest none) (no_first name differ)
 
 task_works : (name : Text) (rest : List Text) → IsTaskName name
     → entered_fault app (Some (name, rest)) ≡ [] → AsksForWork (entered app (Some (name, rest)))
 task_works name rest (inl is) = named name (codes "run") rest is
-    (λ none. logs_work (logs_leaf (codes "run")) rest (codes "run") is_run
-    (has_none (codes "run") refl refl) (logs_numbers (codes "run") rest none))
+    (over_logs rest (codes "run") is_run (refl, (refl, (refl, (refl, tt)))))
 task_works name rest (inr (inl is)) = named name (codes "order") rest is
-    (λ none. logs_work (logs_leaf (codes "order")) rest (codes "order") is_order
-    (has_none (codes "order") refl refl) (logs_numbers (codes "order") rest none))
+    (over_logs rest (codes "order") is_order (refl, (refl, (refl, (refl, tt)))))
 task_works name rest (inr (inr (inl is))) = named name (codes "levels") rest is
-    (λ none. logs_work (logs_leaf (codes "levels")) rest (codes "levels") is_levels
-    (has_none (codes "levels") refl refl) (logs_numbers (codes "levels") rest none))
+    (over_logs rest (codes "levels") is_levels (refl, (refl, (refl, (refl, tt)))))
 task_works name rest (inr (inr (inr (inl is)))) = named name (codes "graph") rest is
-    (λ none. logs_work (logs_leaf (codes "graph")) rest (codes "graph") is_graph
-    (has_none (codes "graph") refl refl) (logs_numbers (codes "graph") rest none))
+    (over_logs rest (codes "graph") is_graph (refl, (refl, (refl, (refl, tt)))))
 task_works name rest (inr (inr (inr (inr (inl is))))) = named name (codes "resume") rest is
-    (base_work (codes "resume") rest is_resume)
+    (λ none. first_work (leaf_of (base_app (codes "resume"))) (codes "resume") rest is_resume
+    (base_numbers (codes "resume") rest none) (λ e. e) none)
 task_works name rest (inr (inr (inr (inr (inr (inl is)))))) = named name (codes "audit") rest is
-    (λ none. logs_work (finding_leaf (codes "audit")) rest (codes "audit") is_audit
-    (has_none (codes "audit") refl refl) (finding_numbers (codes "audit") rest none))
+    (over_findings rest (codes "audit") is_audit (refl, (refl, (refl, (refl, tt)))))
 task_works name rest (inr (inr (inr (inr (inr (inr (inl is))))))) =
     named name (codes "check") rest is
-    (list_work (codes "check") rest is_check)
-task_works name rest (inr (inr (inr (inr (inr (inr (inr is))))))) =
+    (λ none. first_work (leaf_of (list_app (codes "check"))) (codes "check") rest is_check
+    (list_numbers (codes "check") rest none) (λ e. e) none)
+task_works name rest (inr (inr (inr (inr (inr (inr (inr (inl is)))))))) =
     named name (codes "compare") rest is
-    (λ none. logs_work (finding_leaf (codes "compare")) rest (codes "compare") is_compare
-    (has_none (codes "compare") refl refl) (finding_numbers (codes "compare") rest none))
+    (over_findings rest (codes "compare") is_compare (refl, (refl, (refl, (refl, tt)))))
+task_works name rest (inr (inr (inr (inr (inr (inr (inr (inr (inl is))))))))) =
+    named name (codes "why") rest is
+    (λ none. first_work (leaf_of (why_app (codes "why"))) (codes "why") rest is_why
+    (why_numbers (codes "why") rest none) (λ e. e) none)
+task_works name rest (inr (inr (inr (inr (inr (inr (inr (inr (inr (inl is)))))))))) =
+    named name (codes "trace") rest is
+    (λ none. first_work (leaf_of (trace_app (codes "trace"))) (codes "trace") rest is_trace
+    (trace_numbers (codes "trace") rest none) (λ e. e) none)
+task_works name rest (inr (inr (inr (inr (inr (inr (inr (inr (inr (inr none)))))))))) = absurd none
 
 stop_works : (stop : Option (Text × List Text)) → StopsAtTask stop
     → is_some (entered app stop) ≡ true → entered_fault app stop ≡ []
@@ -211,7 +224,7 @@ known = (
           inl is_resume,
           (
             inl is_audit,
-            (inl is_check, (inl is_compare, (inr refl, tt))),
+            (inl is_check, (inl is_compare, (inl is_why, (inl is_trace, (inr refl, tt))))),
           ),
         ),
       ),

@@ -1,6 +1,7 @@
 mod CommandLemmas
 mod KindLemmas
 mod SoundRowLemmas
+mod SubjectLemmas
 mod SoundWalkLemmas
 mod SoundArgumentLemmas
 mod TaskLemmas

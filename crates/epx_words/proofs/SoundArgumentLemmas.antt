@@ -1,16 +1,17 @@
 -- Each argument of a subcommand keeps the rows sound. After the defaults both numbers have rows,
 -- and so has a required first argument.
 use Rattle.std.proofs.Common.{◌≡◌, ◌==◌, ◌||◌, ℕ, Bool, cond, true, false, not, codes, List}
-use Rattle.std.proofs.Common.{[], ◌∷◌, length, refl, sym, subst, true≢false, eqb-true, arith}
+use Rattle.std.proofs.Common.{[], ◌∷◌, ◌∙◌, length, refl, sym, subst, true≢false, eqb-true, arith}
 use Rattle.std.specs.List.{AllByRecursion, fold}
 use Rattle.std.specs.Option.{IsSome}
+use Rattle.std.specs.Str.{bytes_eq}
 use Rattle.clap.specs.Kinds.{range_kinds, value_kinds}
 use Rattle.clap.specs.Faults.{action_fault, level_fault, repeat_fault, settle_fault, walk_fault}
 use Rattle.clap.specs.Simple.{Shape, filled, help_rule, with_index}
 use Rattle.clap.specs.Takes.{is_given}
 use Rattle.clap.specs.ValueTests.{is_unsigned_in}
 use Rattle.clap.specs.Values.{IsUnsignedIn}
-use Rattle.clap.specs.Walk.{Row, Rule, Text, has_row, nothing_held, one_of, settled}
+use Rattle.clap.specs.Walk.{Row, Rule, Text, has_row, nothing_held, one_of, rows_after, settled}
 use Rattle.clap.specs.Walk.{values_or_missing}
 use Rattle.clap.specs.Walk.{used, walk, walk_from, with_default, without}
 use Rattle.clap.specs.declared.builder.action.ArgAction.TheVariants.{Set}
@@ -23,8 +24,7 @@ use Rattle.clap.specs.declared.error.kind.ErrorKind.TheVariants.{WrongNumberOfVa
 use Rattle.clap.specs.declared.parser.matches.ValueSource.{ValueSource}
 use Rattle.clap.specs.declared.parser.matches.ValueSource.TheVariants.{CommandLine, DefaultValue}
 use Rattle.clap.proofs.ValueTestLemmas.{accepts-Accepts}
-use Rattle.epx_words.specs.App.{exit_code_rule, first_rule, logs_rule, number_rule}
-use Rattle.epx_words.specs.App.{prefix_rule}
+use Rattle.epx_words.specs.App.{first_rule, flag_rule, logs_rule, number_rule, reaches_rule}
 use Rattle.epx_words.specs.SubcommandRows.{IsNumberUpTo, first_in}
 use Rattle.epx_words.proofs.KindLemmas.{none_after, none_first}
 use Rattle.epx_words.proofs.SoundRowLemmas.{AreSound, IsSoundRow, first_read, default_has_row}
@@ -45,28 +45,35 @@ first_leaf = with_index 1 (filled first_rule)
 abbrev logs_leaf : ℕ → Rule
 logs_leaf i = with_index i (filled logs_rule)
 
-abbrev numbers_and : List Rule → List Rule
-numbers_and rest = workers_leaf ∷ cut_leaf ∷ rest
+abbrev flag_leaf : Text → Rule
+flag_leaf name = filled (flag_rule name)
 
-abbrev exit_code_leaf : Rule
-exit_code_leaf = filled exit_code_rule
+abbrev reaches_leaf : Rule
+reaches_leaf = filled reaches_rule
 
-abbrev prefix_leaf : Rule
-prefix_leaf = filled prefix_rule
+-- what each subcommand begins with: its numbers and the flag for explanations
+abbrev pub numbers_and : List Rule → List Rule
+numbers_and rest = workers_leaf ∷ cut_leaf ∷ flag_leaf (codes "explain") ∷ rest
 
--- what follows the numbers: the logs, or a first argument and the logs, each with or without the
--- flag
+-- what follows: the logs, or a first argument and the logs, each with or without further flags or
+-- the end of a path
 abbrev pub to_logs : List Rule
 to_logs = logs_leaf 1 ∷ filled help_rule ∷ []
 
 abbrev pub to_first : List Rule
 to_first = first_leaf ∷ logs_leaf 2 ∷ filled help_rule ∷ []
 
-abbrev pub flag_to_logs : List Rule
-flag_to_logs = exit_code_leaf ∷ to_logs
+abbrev pub code_to_logs : List Rule
+code_to_logs = flag_leaf (codes "exit-code") ∷ to_logs
 
-abbrev pub flag_to_first : List Rule
-flag_to_first = exit_code_leaf ∷ prefix_leaf ∷ to_first
+abbrev pub code_to_first : List Rule
+code_to_first = flag_leaf (codes "exit-code") ∷ flag_leaf (codes "prefix") ∷ to_first
+
+abbrev pub reaches_to_first : List Rule
+reaches_to_first = reaches_leaf ∷ to_first
+
+abbrev pub reads_to_first : List Rule
+reads_to_first = flag_leaf (codes "reads") ∷ to_first
 
 -- ---- a number
 
@@ -144,117 +151,109 @@ first_keeps again values rows none ok =
     first_kept values rows
     (one_value (length values) (none_first (range_kinds 1 1 (length values)) _ none)) ok
 
-flag_sound : (s : ValueSource) (values : List Text)
-    → IsSoundRow (new_row (codes "exit-code") AsWritten s values)
-flag_sound s values = (
-  λ e. absurd (true≢false (sym e)),
-  λ e. absurd (true≢false (sym e)),
-  λ e. absurd (true≢false (sym e)),
-)
+-- the default of an argument keeps the rows sound
+abbrev pub DefaultKeeps : Rule → Type 0
+DefaultKeeps a = (rows : List Row) → AreSound rows → AreSound (with_default rows a)
 
-flag_keeps : (again : Bool) → KeepsSound again exit_code_leaf
-flag_keeps again values rows none ok =
-    values_sound (codes "exit-code") AsWritten CommandLine
-    (values_or_missing exit_code_leaf values) (without (codes "exit-code") rows)
-    (flag_sound CommandLine (values_or_missing exit_code_leaf values))
-    (without_sound (codes "exit-code") rows ok)
+-- rows of all other arguments are sound
+module _ (name : Text) (no_workers : bytes_eq name (codes "workers") ≡ false)
+    (no_cut : bytes_eq name (codes "cut") ≡ false)
+    (no_first : bytes_eq name (codes "first") ≡ false) where
+  other_sound : (s : ValueSource) (values : List Text)
+      → IsSoundRow (new_row name AsWritten s values)
+  other_sound s values = (
+    λ e. absurd (true≢false (sym e ∙ no_workers)),
+    λ e. absurd (true≢false (sym e ∙ no_cut)),
+    λ e. absurd (true≢false (sym e ∙ no_first)),
+  )
 
-prefix_sound : (s : ValueSource) (values : List Text)
-    → IsSoundRow (new_row (codes "prefix") AsWritten s values)
-prefix_sound s values = (
-  λ e. absurd (true≢false (sym e)),
-  λ e. absurd (true≢false (sym e)),
-  λ e. absurd (true≢false (sym e)),
-)
+  flag_keeps : (again : Bool) → KeepsSound again (flag_leaf name)
+  flag_keeps again values rows none ok =
+      values_sound name AsWritten CommandLine (values_or_missing (flag_leaf name) values)
+      (without name rows) (other_sound CommandLine (values_or_missing (flag_leaf name) values))
+      (without_sound name rows ok)
 
-prefix_keeps : (again : Bool) → KeepsSound again prefix_leaf
-prefix_keeps again values rows none ok =
-    values_sound (codes "prefix") AsWritten CommandLine
-    (values_or_missing prefix_leaf values) (without (codes "prefix") rows)
-    (prefix_sound CommandLine (values_or_missing prefix_leaf values))
-    (without_sound (codes "prefix") rows ok)
+  flag_default_keeps : DefaultKeeps (flag_leaf name)
+  flag_default_keeps rows ok = default_sound (flag_leaf name) (codes "false") [] rows refl
+      (other_sound DefaultValue (codes "false" ∷ [])) ok
+
+reaches_keeps : (again : Bool) → KeepsSound again reaches_leaf
+reaches_keeps again values rows none ok =
+    values_sound (codes "reaches") AsWritten CommandLine (values_or_missing reaches_leaf values)
+    (without (codes "reaches") rows)
+    (other_sound (codes "reaches") refl refl refl CommandLine
+    (values_or_missing reaches_leaf values))
+    (without_sound (codes "reaches") rows ok)
 
 help_keeps : (again : Bool) → KeepsSound again (filled help_rule)
 help_keeps again values rows none ok = ok
 
-numbers_and_keep : (again : Bool) (rest : List Rule) → AllByRecursion (KeepsSound again) rest
-    → AllByRecursion (KeepsSound again) (numbers_and rest)
-numbers_and_keep again rest keep = (
-  number_keeps (codes "workers") (codes "4") 64 workers_fit again,
-  (number_keeps (codes "cut") (codes "256") 65536 cut_fits again, keep),
+no_default_keeps : (a : Rule) → a.defaults ≡ [] → DefaultKeeps a
+no_default_keeps a none rows ok = subst AreSound (sym (no_default a rows none)) ok
+
+-- an argument that keeps rows sound, used or not
+abbrev pub Keeps : Rule → Type 0
+Keeps a = KeepsSound false a × DefaultKeeps a
+
+flag_is_kept : (name : Text) → bytes_eq name (codes "workers") ≡ false
+    → bytes_eq name (codes "cut") ≡ false → bytes_eq name (codes "first") ≡ false
+    → Keeps (flag_leaf name)
+flag_is_kept name workers cut first =
+    (flag_keeps name workers cut first false, flag_default_keeps name workers cut first)
+
+pub to_logs_keep : AllByRecursion Keeps to_logs
+to_logs_keep = (
+  (logs_keep false 1, no_default_keeps (logs_leaf 1) refl),
+  ((help_keeps false, no_default_keeps (filled help_rule) refl), tt),
 )
 
-to_logs_keep : (again : Bool) → AllByRecursion (KeepsSound again) to_logs
-to_logs_keep again = (logs_keep again 1, (help_keeps again, tt))
+pub to_first_keep : AllByRecursion Keeps to_first
+to_first_keep = (
+  (first_keeps false, no_default_keeps first_leaf refl),
+  (
+    (logs_keep false 2, no_default_keeps (logs_leaf 2) refl),
+    ((help_keeps false, no_default_keeps (filled help_rule) refl), tt),
+  ),
+)
 
-to_first_keep : (again : Bool) → AllByRecursion (KeepsSound again) to_first
-to_first_keep again = (first_keeps again, (logs_keep again 2, (help_keeps again, tt)))
+pub code_to_logs_keep : AllByRecursion Keeps code_to_logs
+code_to_logs_keep = (flag_is_kept (codes "exit-code") refl refl refl, to_logs_keep)
 
-pub logs_rules_keep : (again : Bool) → AllByRecursion (KeepsSound again) (numbers_and to_logs)
-logs_rules_keep again = numbers_and_keep again to_logs (to_logs_keep again)
+pub code_to_first_keep : AllByRecursion Keeps code_to_first
+code_to_first_keep = (
+  flag_is_kept (codes "exit-code") refl refl refl,
+  (flag_is_kept (codes "prefix") refl refl refl, to_first_keep),
+)
 
-pub first_rules_keep : (again : Bool) → AllByRecursion (KeepsSound again) (numbers_and to_first)
-first_rules_keep again = numbers_and_keep again to_first (to_first_keep again)
+pub reaches_to_first_keep : AllByRecursion Keeps reaches_to_first
+reaches_to_first_keep =
+    ((reaches_keeps false, no_default_keeps reaches_leaf refl), to_first_keep)
 
-pub flag_logs_rules_keep : (again : Bool)
-    → AllByRecursion (KeepsSound again) (numbers_and flag_to_logs)
-flag_logs_rules_keep again = numbers_and_keep again flag_to_logs
-    (flag_keeps again, to_logs_keep again)
+pub reads_to_first_keep : AllByRecursion Keeps reads_to_first
+reads_to_first_keep = (flag_is_kept (codes "reads") refl refl refl, to_first_keep)
 
-pub flag_first_rules_keep : (again : Bool)
-    → AllByRecursion (KeepsSound again) (numbers_and flag_to_first)
-flag_first_rules_keep again = numbers_and_keep again flag_to_first
-    (flag_keeps again, (prefix_keeps again, to_first_keep again))
+uses_keep : (rules : List Rule) → AllByRecursion Keeps rules
+    → AllByRecursion (KeepsSound false) rules
+uses_keep [] keep = tt
+uses_keep (a ∷ rest) keep = (keep.0.0, uses_keep rest keep.1)
+
+numbers_and_keep : (rest : List Rule) → AllByRecursion Keeps rest
+    → AllByRecursion (KeepsSound false) (numbers_and rest)
+numbers_and_keep rest keep = (
+  number_keeps (codes "workers") (codes "4") 64 workers_fit false,
+  (
+    number_keeps (codes "cut") (codes "256") 65536 cut_fits false,
+    ((flag_is_kept (codes "explain") refl refl refl).0, uses_keep rest keep),
+  ),
+)
 
 -- ---- the end of a level
-
--- what a level of the parse holds before the defaults
-pub level_sound : (s : Shape) → AllByRecursion (KeepsSound s.args_override_self) s.rules
-    → (words : List Text) → level_fault s [] nothing_held words false [] ≡ []
-    → AreSound (settled s.rules (walk s.rules [] nothing_held words).held).rows
-level_sound s keeps words none =
-    let end = (walk s.rules [] nothing_held words).held in
-    let walked = walk_fault s [] (walk_from nothing_held) words in
-    settled_sound s keeps end
-    (none_first (settle_fault s.rules s.args_override_self end) _ (none_after walked _ none))
-    (walk_sound s keeps [] (walk_from nothing_held) words (none_first walked _ none) tt)
 
 -- the rows are sound, and both numbers have rows
 pub record HasNumbers (rows : List Row) : Type 0 where
   pub workers : IsNumberUpTo 64 (one_of (codes "workers") rows)
   pub cut : IsNumberUpTo 65536 (one_of (codes "cut") rows)
   pub sound : AreSound rows
-
--- the default of an argument keeps the rows sound
-abbrev pub DefaultKeeps : Rule → Type 0
-DefaultKeeps a = (rows : List Row) → AreSound rows → AreSound (with_default rows a)
-
-no_default_keeps : (a : Rule) → a.defaults ≡ [] → DefaultKeeps a
-no_default_keeps a none rows ok = subst AreSound (sym (no_default a rows none)) ok
-
-flag_default_keeps : DefaultKeeps exit_code_leaf
-flag_default_keeps rows ok = default_sound exit_code_leaf (codes "false") [] rows refl
-    (flag_sound DefaultValue (codes "false" ∷ [])) ok
-
-prefix_default_keeps : DefaultKeeps prefix_leaf
-prefix_default_keeps rows ok = default_sound prefix_leaf (codes "false") [] rows refl
-    (prefix_sound DefaultValue (codes "false" ∷ [])) ok
-
-pub to_logs_defaults : AllByRecursion DefaultKeeps to_logs
-to_logs_defaults =
-    (no_default_keeps (logs_leaf 1) refl, (no_default_keeps (filled help_rule) refl, tt))
-
-pub to_first_defaults : AllByRecursion DefaultKeeps to_first
-to_first_defaults = (
-  no_default_keeps first_leaf refl,
-  (no_default_keeps (logs_leaf 2) refl, (no_default_keeps (filled help_rule) refl, tt)),
-)
-
-pub flag_to_logs_defaults : AllByRecursion DefaultKeeps flag_to_logs
-flag_to_logs_defaults = (flag_default_keeps, to_logs_defaults)
-
-pub flag_to_first_defaults : AllByRecursion DefaultKeeps flag_to_first
-flag_to_first_defaults = (flag_default_keeps, (prefix_default_keeps, to_first_defaults))
 
 -- both numbers have rows, and the rows are sound
 record BothHaveRows (rows : List Row) : Type 0 where
@@ -263,17 +262,17 @@ record BothHaveRows (rows : List Row) : Type 0 where
   sound : AreSound rows
 
 -- more defaults keep them
-defaults_keep : (rest : List Rule) (rows : List Row) → AllByRecursion DefaultKeeps rest
+defaults_keep : (rest : List Rule) (rows : List Row) → AllByRecursion Keeps rest
     → BothHaveRows rows → BothHaveRows (fold with_default rows rest)
 defaults_keep [] rows keep h = h
 defaults_keep (a ∷ rest) rows keep h = defaults_keep rest (with_default rows a) keep.1 (record {
   workers = default_keeps_row (codes "workers") a rows h.workers;
   cut = default_keeps_row (codes "cut") a rows h.cut;
-  sound = keep.0 rows h.sound;
+  sound = keep.0.1 rows h.sound;
 })
 
-pub numbers_have_rows : (rest : List Rule) → AllByRecursion DefaultKeeps rest
-    → (rows : List Row) → AreSound rows → HasNumbers (fold with_default rows (numbers_and rest))
+numbers_have_rows : (rest : List Rule) → AllByRecursion Keeps rest → (rows : List Row)
+    → AreSound rows → HasNumbers (fold with_default rows (numbers_and rest))
 numbers_have_rows rest keep rows ok =
     let one = with_default rows workers_leaf in
     let two = with_default one cut_leaf in
@@ -286,8 +285,9 @@ numbers_have_rows rest keep rows ok =
     let workers_has = default_keeps_row (codes "workers") cut_leaf one
     (default_has_row workers_leaf (codes "4") [] rows refl refl) in
     let cut_has = default_has_row cut_leaf (codes "256") [] one refl refl in
-    let all = fold with_default two rest in
-    let end = defaults_keep rest two keep
+    let more = flag_leaf (codes "explain") ∷ rest in
+    let all = fold with_default two more in
+    let end = defaults_keep more two (flag_is_kept (codes "explain") refl refl refl, keep)
     (record { workers = workers_has; cut = cut_has; sound = two_sound }) in
     record {
       workers = number_read (codes "workers") 64 all (λ r h e. h.0 e) end.sound end.workers;
@@ -295,14 +295,33 @@ numbers_have_rows rest keep rows ok =
       sound = end.sound;
     }
 
+-- a level of the parse in which clap finds no fault ends with both numbers
+pub level_numbers : (s : Shape) (rest : List Rule) → s.rules ≡ numbers_and rest
+    → s.args_override_self ≡ false → AllByRecursion Keeps rest → (words : List Text)
+    → level_fault s [] nothing_held words false [] ≡ [] → HasNumbers (rows_after s.rules [] words)
+level_numbers s rest are again keep words none =
+    let end = (walk s.rules [] nothing_held words).held in
+    let walked = walk_fault s [] (walk_from nothing_held) words in
+    let keeps = subst (λ b. AllByRecursion (KeepsSound b) s.rules) (sym again)
+    (subst (AllByRecursion (KeepsSound false)) (sym are) (numbers_and_keep rest keep)) in
+    let sound = settled_sound s keeps end
+    (none_first (settle_fault s.rules s.args_override_self end) _ (none_after walked _ none))
+    (walk_sound s keeps [] (walk_from nothing_held) words (none_first walked _ none) tt) in
+    subst (λ rules. HasNumbers (fold with_default (settled s.rules end).rows rules)) (sym are)
+    (numbers_have_rows rest keep (settled s.rules end).rows sound)
+
 required_given : (given : Bool) → cond (not given || false) (MissingRequiredArgument ∷ []) [] ≡ []
     → given ≡ true
 required_given true none = refl
 required_given false none = cc
 
--- if no required argument is missing, the first argument has a row
-pub first_has_row : (rows : List Row)
-    → cond (not (is_given (codes "first") rows) || false) (MissingRequiredArgument ∷ []) [] ≡ []
-    → AreSound rows → IsSome (first_in rows)
+-- no required argument is missing, where the first one alone is required
+abbrev pub IsFirstThere : List Row → Type 0
+IsFirstThere rows =
+    cond (not (is_given (codes "first") rows) || false) (MissingRequiredArgument ∷ []) [] ≡ []
+
+-- then the first argument has a row
+pub first_has_row : (rows : List Row) → IsFirstThere rows → AreSound rows
+    → IsSome (first_in rows)
 first_has_row rows none ok =
     first_read rows ok (required_given (is_given (codes "first") rows) none)

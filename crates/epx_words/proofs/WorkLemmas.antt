@@ -1,75 +1,143 @@
--- The work that clap's matches ask for is that of the subcommand, by the shape of the program.
-use Rattle.std.proofs.Common.{◌≡◌, ◌↔◌, ◌∙◌, true, List, Some, ap, map, refl, subst, sym}
-use Rattle.std.proofs.Common.{true≢false}
-use Rattle.std.specs.Prelude.{option_map, string_bytes}
-use Rattle.clap.specs.Words.{App, Text, is_simple, subcommand_of}
+-- What clap's matches ask for is what the words ask for, by the shape of the program.
+use Rattle.std.proofs.Common.{◌≡◌, ◌↔◌, ◌∙◌, ℕ, true, false, List, [], ap, refl, subst, sym}
+use Rattle.std.proofs.Common.{true≢false, codes, Option, Some, None, inl, inr}
+use Rattle.std.proofs.lemmas.Slice.Eq.{bytes_eq-Decides}
+use Rattle.std.specs.Option.{IfSome}
+use Rattle.std.specs.Prelude.{MatchOption}
+use Rattle.std.specs.Str.{bytes_eq}
+use Rattle.clap.specs.Words.{App, Kinds, Row, Text, is_simple, subcommand_of}
+use Rattle.epx_types.specs.declared.id.Id.{Id}
+use Rattle.epx_types.specs.Keys.{FitsKey}
+use Rattle.epx_types.specs.Pieces.{PlanNumbers}
 use Rattle.epx_words.specs.App.{epx_app}
-use Rattle.epx_words.specs.Requests.{ArePathsOf, IfWork, IsWork, IsWorkOf}
-use Rattle.epx_words.specs.Requests.{FitsPrefix, has_exit_code, task_name}
-use Rattle.epx_words.specs.SubcommandRows.{Given, HasExitCode, IsCutOf, IsWorkersOf, name_in}
-use Rattle.epx_words.specs.SubcommandRows.{rows_in}
+use Rattle.epx_words.specs.ExitStatus.{IsTaken}
+use Rattle.epx_words.specs.Requests.{AsksFor, FitFlags, FitsRows, HasInputPath, IfText, IfWork}
+use Rattle.epx_words.specs.Requests.{IsMeaningOf, IsWork, flags_of, task_name}
+use Rattle.epx_words.specs.Subjects.{IsIdName, IsNameOf, NameIds, NamesSubject}
+use Rattle.epx_words.specs.SubcommandRows.{Given, NeedsFirst, first_in, rows_in}
+use Rattle.epx_words.specs.declared.words.Task.{Task}
+use Rattle.epx_words.specs.declared.words.Task.TheVariants as task
 use Rattle.epx_words.specs.declared.words.Words.{Words}
 use Rattle.epx_words.specs.declared.words.Words.TheVariants as words
 use Rattle.epx_words.proofs.FaultLemmas.{epx_is_simple}
+
+-- ---- a task with the path of a base or a list
+
+pub needs_first : (t : Task) → HasInputPath t → NeedsFirst (task_name t)
+needs_first task.Resume has = inl refl
+needs_first task.Check has = inr (inl refl)
+needs_first task.CheckPrefix has = inr (inl refl)
+needs_first _ has = absurd has
+
+-- ---- what is to name an instance or a key names one
+
+-- ---- what is to name an instance or a key names one
+
+apart : (a b name : Text) → bytes_eq a b ≡ false → Some name ≡ Some a → ¬ (name ≡ b)
+apart a b name differ is other =
+    let same : a ≡ b = cc in
+    true≢false (sym ((bytes_eq-Decides a b).1 same) ∙ differ)
+
+-- a subcommand that is to name neither
+no_subject : (p : Text × List Row) (a : Text) → Some p.0 ≡ Some a
+    → bytes_eq a (codes "why") ≡ false → bytes_eq a (codes "trace") ≡ false → NamesSubject (Some p)
+no_subject p a is no_why no_trace = (
+  λ e. absurd (apart a (codes "why") p.0 no_why is e),
+  λ e. absurd (apart a (codes "trace") p.0 no_trace is e),
+)
+
+id_named : (x : Id) (rows : List Row)
+    → (text : Text) × (first_in rows ≡ Some text) × IsNameOf x text
+    → MatchOption (first_in rows) ⊥ IsIdName
+id_named x rows named = subst (λ o. MatchOption o ⊥ IsIdName) (sym named.1) (x, named.2)
+
+-- a subcommand about instances
+ids_subject : (p : Text × List Row) → Some p.0 ≡ Some (codes "why") → NameIds p.1
+    → NamesSubject (Some p)
+ids_subject p is named = (
+  λ e. named,
+  λ e. absurd (apart (codes "why") (codes "trace") p.0 refl is e),
+)
+
+subject_of : (t : Task) (p : Text × List Row) → Some p.0 ≡ Some (task_name t) → FitsRows t p.1
+    → NamesSubject (Some p)
+subject_of task.Run p is fits = no_subject p (codes "run") is refl refl
+subject_of task.Order p is fits = no_subject p (codes "order") is refl refl
+subject_of task.Levels p is fits = no_subject p (codes "levels") is refl refl
+subject_of task.Graph p is fits = no_subject p (codes "graph") is refl refl
+subject_of task.Resume p is fits = no_subject p (codes "resume") is refl refl
+subject_of task.Audit p is fits = no_subject p (codes "audit") is refl refl
+subject_of task.Check p is fits = no_subject p (codes "check") is refl refl
+subject_of task.CheckPrefix p is fits = no_subject p (codes "check") is refl refl
+subject_of task.Compare p is fits = no_subject p (codes "compare") is refl refl
+subject_of (task.Why x) p is fits = ids_subject p is (
+  id_named x p.1 fits.named,
+  subst (λ o. IfSome o IsIdName) (sym fits.alone) tt,
+)
+subject_of (task.Path x y) p is fits = ids_subject p is (
+  id_named x p.1 fits.from,
+  subst (λ o. IfSome o IsIdName) (sym fits.to.1) (y, fits.to.2),
+)
+subject_of (task.Trace key reads) p is fits = (
+  λ e. absurd (apart (codes "trace") (codes "why") p.0 refl is e),
+  λ e. subst (λ o. MatchOption o ⊥ FitsKey) (sym fits.0) key.fits,
+)
+
+names_subject : (given : Given) (t : Task) (plan : PlanNumbers) (paths : Option (List Text))
+    → AsksFor given t plan paths → NamesSubject given
+names_subject None t plan paths asks = tt
+names_subject (Some p) t plan paths asks = subject_of t p asks.task asks.parts
+
+-- ---- the words as they are read
+
+pub is_taken : (kinds : Kinds) (given : Given) (asked : Words) → kinds ≡ []
+    → IsMeaningOf given asked → IsWork asked ↔ IsTaken kinds given
+is_taken kinds given (words.Work t plan paths) none means = (
+  λ work. (none, names_subject given t plan _ means.0),
+  λ taken. tt,
+)
+is_taken kinds given (words.WorkWith t plan paths flags) none means = (
+  λ work. (none, names_subject given t plan _ means.0),
+  λ taken. tt,
+)
+is_taken kinds given (words.Text text status) none means = (
+  λ work. absurd work,
+  λ taken. means.0 taken.1,
+)
 
 module _ {Parsed : Type 0} (app : App) (is : app ≡ epx_app) (texts : List Text) (given : Given)
     (found : is_simple app ≡ true → Parsed × (given ≡ subcommand_of app texts)) where
   pub given_by_epx : given ≡ subcommand_of epx_app texts
   given_by_epx = (found (ap is_simple is ∙ epx_is_simple)).1 ∙ ap (λ a. subcommand_of a texts) is
 
-  pub is_task : (asked : Words) → IsWorkOf given asked
-      → IfWork (λ task plan paths. name_in (subcommand_of epx_app texts) ≡ Some (task_name task))
-      asked
-  is_task (words.Work task plan paths) fits =
-      subst (λ g. name_in g ≡ Some (task_name task)) given_by_epx fits.0.task
-  is_task (words.WorkWithExitCode task plan paths) fits =
-      subst (λ g. name_in g ≡ Some (task_name task)) given_by_epx fits.0.task
-  is_task (words.Text text status) fits = tt
+  pub means_by_epx : (asked : Words) → IsMeaningOf given asked
+      → IsMeaningOf (subcommand_of epx_app texts) asked
+  means_by_epx asked means = subst (λ g. IsMeaningOf g asked) given_by_epx means
 
-  pub is_workers : (asked : Words) → IsWorkOf given asked
-      → IfWork (λ task plan paths. IsWorkersOf (rows_in (subcommand_of epx_app texts))
-      plan.workers) asked
-  is_workers (words.Work task plan paths) fits =
-      subst (λ g. IsWorkersOf (rows_in g) plan.workers) given_by_epx fits.0.workers
-  is_workers (words.WorkWithExitCode task plan paths) fits =
-      subst (λ g. IsWorkersOf (rows_in g) plan.workers) given_by_epx fits.0.workers
-  is_workers (words.Text text status) fits = tt
+module _ (given : Given) where
+  -- what is asked for has each part of the work
+  pub has_part : (P : Task → PlanNumbers → Option (List Text) → Type 0)
+      → ((t : Task) (plan : PlanNumbers) (paths : Option (List Text)) → AsksFor given t plan paths
+      → P t plan paths) → (asked : Words) → IsMeaningOf given asked → IfWork P asked
+  has_part P part (words.Work t plan paths) means = part t plan _ means.0
+  has_part P part (words.WorkWith t plan paths flags) means = part t plan _ means.0
+  has_part P part (words.Text text status) means = tt
 
-  pub is_cut : (asked : Words) → IsWorkOf given asked
-      → IfWork (λ task plan paths. IsCutOf (rows_in (subcommand_of epx_app texts)) plan.cut) asked
-  is_cut (words.Work task plan paths) fits =
-      subst (λ g. IsCutOf (rows_in g) plan.cut) given_by_epx fits.0.cut
-  is_cut (words.WorkWithExitCode task plan paths) fits =
-      subst (λ g. IsCutOf (rows_in g) plan.cut) given_by_epx fits.0.cut
-  is_cut (words.Text text status) fits = tt
+  pub has_flags : (asked : Words) → IsMeaningOf given asked → IsWork asked
+      → FitFlags (flags_of asked) (rows_in given)
+  has_flags (words.Work t plan paths) means work = means.1
+  has_flags (words.WorkWith t plan paths flags) means work = means.1
+  has_flags (words.Text text status) means work = absurd work
 
-  pub are_paths : (asked : Words) → IsWorkOf given asked
-      → IfWork (λ task plan paths. ArePathsOf task (rows_in (subcommand_of epx_app texts)) paths)
-      asked
-  are_paths (words.Work task plan paths) fits =
-      subst (λ g. ArePathsOf task (rows_in g)
-      (option_map (λ list. map string_bytes list.items) paths)) given_by_epx fits.0.paths
-  are_paths (words.WorkWithExitCode task plan paths) fits =
-      subst (λ g. ArePathsOf task (rows_in g)
-      (option_map (λ list. map string_bytes list.items) paths)) given_by_epx fits.0.paths
-  are_paths (words.Text text status) fits = tt
+  pub no_subject_named : (asked : Words) → IsMeaningOf given asked
+      → IfText (λ status. (¬ NamesSubject given) × (status ≡ 2)) asked
+  no_subject_named (words.Work t plan paths) means = tt
+  no_subject_named (words.WorkWith t plan paths flags) means = tt
+  no_subject_named (words.Text text status) means = means
 
-  pub is_prefix : (asked : Words) → IsWorkOf given asked
-      → IfWork (λ task plan paths. FitsPrefix task (rows_in (subcommand_of epx_app texts))) asked
-  is_prefix (words.Work task plan paths) fits =
-      subst (λ g. FitsPrefix task (rows_in g)) given_by_epx fits.0.prefix
-  is_prefix (words.WorkWithExitCode task plan paths) fits =
-      subst (λ g. FitsPrefix task (rows_in g)) given_by_epx fits.0.prefix
-  is_prefix (words.Text text status) fits = tt
-
-  pub is_exit_code : (asked : Words) → IsWorkOf given asked → IsWork asked
-      → (has_exit_code asked ≡ true) ↔ HasExitCode (rows_in (subcommand_of epx_app texts))
-  is_exit_code (words.Work task plan paths) fits work = (
-    λ is. absurd (true≢false (sym is)),
-    λ has. absurd (fits.1 (subst (λ g. HasExitCode (rows_in g)) (sym given_by_epx) has)),
-  )
-  is_exit_code (words.WorkWithExitCode task plan paths) fits work = (
-    λ is. subst (λ g. HasExitCode (rows_in g)) given_by_epx fits.1,
-    λ has. refl,
-  )
-  is_exit_code (words.Text text status) fits work = absurd work
+-- what holds of each status of a text
+pub text_weaker : (P Q : ℕ → Type 0) (asked : Words) → ((status : ℕ) → P status → Q status)
+    → IfText P asked → IfText Q asked
+text_weaker P Q (words.Work t plan paths) weaker h = tt
+text_weaker P Q (words.WorkWith t plan paths flags) weaker h = tt
+text_weaker P Q (words.Text text status) weaker h = weaker status h

@@ -1,6 +1,6 @@
--- The program as clap knows it. Each subcommand has two options with numbers and any number of
--- logs. Two subcommands have a required argument before the logs, three have a flag, and one of
--- these has a second flag.
+-- The program as clap knows it. Each subcommand has two options with numbers, the flag `--explain`
+-- and any number of logs. Four subcommands have a required argument before the logs. Some have
+-- further flags, or an option for the end of a path.
 use Rattle.std.specs.Prelude.{ℕ, true, Some, [], ◌∷◌, codes}
 use Rattle.clap.specs.Simple.{on_top}
 use Rattle.clap.specs.Words.{App, Rule, Text, new_app, new_rule, with_rule, with_subcommand}
@@ -29,25 +29,25 @@ first_rule = record (new_rule (codes "first")) {
   required = true;
 }
 
--- the flag for an exit status that says whether something was found
-abbrev pub exit_code_rule : Rule
-exit_code_rule = record (new_rule (codes "exit-code")) {
-  long = Some (codes "exit-code");
-  action = Some SetTrue;
+-- a flag, which has no value
+abbrev pub flag_rule : Text → Rule
+flag_rule name = record (new_rule name) { long = Some name; action = Some SetTrue }
+
+-- the option for the end of a path
+abbrev pub reaches_rule : Rule
+reaches_rule = record (new_rule (codes "reaches")) {
+  long = Some (codes "reaches");
+  action = Some Set;
+  value_names = 1;
 }
 
--- the flag for the check of a beginning
-abbrev pub prefix_rule : Rule
-prefix_rule = record (new_rule (codes "prefix")) {
-  long = Some (codes "prefix");
-  action = Some SetTrue;
-}
-
--- a subcommand with its two options
+-- a subcommand with its two numbers and the flag for explanations
 abbrev pub numbers_app : Text → App
 numbers_app name =
-    with_rule (with_rule (new_app name) (number_rule (codes "workers") (codes "4") 64))
-    (number_rule (codes "cut") (codes "256") 65536)
+    with_rule
+    (with_rule (with_rule (new_app name) (number_rule (codes "workers") (codes "4") 64))
+    (number_rule (codes "cut") (codes "256") 65536))
+    (flag_rule (codes "explain"))
 
 -- a subcommand over logs
 abbrev pub work_app : Text → App
@@ -55,7 +55,8 @@ work_app name = with_rule (numbers_app name) logs_rule
 
 -- a subcommand over logs that can find something
 abbrev pub finding_app : Text → App
-finding_app name = with_rule (with_rule (numbers_app name) exit_code_rule) logs_rule
+finding_app name =
+    with_rule (with_rule (numbers_app name) (flag_rule (codes "exit-code"))) logs_rule
 
 -- a subcommand over a base and logs
 abbrev pub base_app : Text → App
@@ -65,7 +66,21 @@ base_app name = with_rule (with_rule (numbers_app name) first_rule) logs_rule
 abbrev pub list_app : Text → App
 list_app name =
     with_rule
-    (with_rule (with_rule (with_rule (numbers_app name) exit_code_rule) prefix_rule) first_rule)
+    (with_rule
+    (with_rule (with_rule (numbers_app name) (flag_rule (codes "exit-code")))
+    (flag_rule (codes "prefix")))
+    first_rule)
+    logs_rule
+
+-- a subcommand about an instance, over logs
+abbrev pub why_app : Text → App
+why_app name =
+    with_rule (with_rule (with_rule (numbers_app name) reaches_rule) first_rule) logs_rule
+
+-- a subcommand about a key, over logs
+abbrev pub trace_app : Text → App
+trace_app name =
+    with_rule (with_rule (with_rule (numbers_app name) (flag_rule (codes "reads"))) first_rule)
     logs_rule
 
 -- the program without its subcommands
@@ -81,11 +96,17 @@ runs_app =
     (work_app (codes "order")).top) (work_app (codes "levels")).top)
     (work_app (codes "graph")).top
 
--- the program with all subcommands
-abbrev pub epx_app : App
-epx_app =
+-- and `resume`, `audit`, `check` and `compare`
+abbrev pub checks_app : App
+checks_app =
     with_subcommand
     (with_subcommand
     (with_subcommand (with_subcommand runs_app (base_app (codes "resume")).top)
     (finding_app (codes "audit")).top) (list_app (codes "check")).top)
     (finding_app (codes "compare")).top
+
+-- the program with all subcommands
+abbrev pub epx_app : App
+epx_app =
+    with_subcommand (with_subcommand checks_app (why_app (codes "why")).top)
+    (trace_app (codes "trace")).top

@@ -1,4 +1,5 @@
 pub mod App
 pub mod SubcommandRows
+pub mod Subjects
 pub mod Requests
 pub mod ExitStatus

@@ -1,15 +1,22 @@
 -- What a command line asks for.
-use Rattle.std.specs.Prelude.{◌≡◌, ⊤, ℕ, Bool, true, false, List, ◌∷◌, Option, Some, codes, map}
-use Rattle.std.specs.Prelude.{option_map}
-use Rattle.std.specs.Prelude.{string_bytes}
+use Rattle.std.specs.Prelude.{◌≡◌, ◌≤◌, ◌⊎◌, ◌↔◌, ⊤, ℕ, true, false, List, ◌∷◌, Option, Some}
+use Rattle.std.specs.Prelude.{None, codes, length, map, option_map, slice_get, string_bytes}
 use Rattle.clap.specs.Words.{Row, Text}
 use Rattle.epx_types.specs.Pieces.{PlanNumbers}
+use Rattle.epx_types.specs.declared.id.Id.{Id}
 use Rattle.epx_words.specs.declared.words.Task.{Task}
 use Rattle.epx_words.specs.declared.words.Task.TheVariants as task
 use Rattle.epx_words.specs.declared.words.Words.{Words}
 use Rattle.epx_words.specs.declared.words.Words.TheVariants as words
-use Rattle.epx_words.specs.SubcommandRows.{Given, HasExitCode, HasPrefix, IsCutOf, IsWorkersOf}
-use Rattle.epx_words.specs.SubcommandRows.{first_in, logs_in, name_in, rows_in}
+use Rattle.epx_words.specs.declared.words.Flags.{Flags}
+use Rattle.epx_words.specs.SubcommandRows.{Given, HasFlag, IsCutOf, IsWorkersOf, first_in, logs_in}
+use Rattle.epx_words.specs.SubcommandRows.{name_in, reaches_in, rows_in}
+use Rattle.epx_words.specs.Subjects.{IsNameOf, NamesSubject}
+
+-- the words are the program's name at most, or this and a hyphen: they name no subcommand
+abbrev pub IsBare : List Text → Type 0
+IsBare words = (length words ≤ 1)
+    ⊎ ((length words ≡ 2) × (slice_get words 1 ≡ Some (codes "-")))
 
 -- the name of the subcommand of a task
 abbrev pub task_name : Task → Text
@@ -22,6 +29,16 @@ task_name task.Audit = codes "audit"
 task_name task.Check = codes "check"
 task_name task.CheckPrefix = codes "check"
 task_name task.Compare = codes "compare"
+task_name (task.Why x) = codes "why"
+task_name (task.Path x y) = codes "why"
+task_name (task.Trace key reads) = codes "trace"
+
+-- the first argument is the path of a base or a list
+abbrev pub HasInputPath : Task → Type 0
+HasInputPath task.Resume = ⊤
+HasInputPath task.Check = ⊤
+HasInputPath task.CheckPrefix = ⊤
+HasInputPath _ = ⊥
 
 -- the path of the first argument, and then the paths of the logs
 abbrev pub AreFirstAndLogs : List Row → Option (List Text) → Type 0
@@ -35,37 +52,66 @@ ArePathsOf task.Check rows paths = AreFirstAndLogs rows paths
 ArePathsOf task.CheckPrefix rows paths = AreFirstAndLogs rows paths
 ArePathsOf _ rows paths = paths ≡ Some (logs_in rows)
 
--- a check is one of a beginning exactly if the flag `--prefix` is there
-abbrev pub FitsPrefix : Task → List Row → Type 0
-FitsPrefix task.Check rows = ¬ HasPrefix rows
-FitsPrefix task.CheckPrefix rows = HasPrefix rows
-FitsPrefix _ rows = ⊤
+-- x is named by the first argument, and y is the end of the path
+pub record NamePath (x y : Id) (rows : List Row) : Type 0 where
+  pub from : (text : Text) × (first_in rows ≡ Some text) × IsNameOf x text
+  pub to : (text : Text) × (reaches_in rows ≡ Some text) × IsNameOf y text
+
+-- x is named by the first argument, and there is no path
+pub record NamesOne (x : Id) (rows : List Row) : Type 0 where
+  pub named : (text : Text) × (first_in rows ≡ Some text) × IsNameOf x text
+  pub alone : reaches_in rows ≡ None
+
+-- what a task has besides its name is what the rows have: a check is one of a beginning exactly
+-- if the flag `--prefix` is there, and so on
+abbrev pub FitsRows : Task → List Row → Type 0
+FitsRows task.Check rows = ¬ HasFlag (codes "prefix") rows
+FitsRows task.CheckPrefix rows = HasFlag (codes "prefix") rows
+FitsRows (task.Why x) rows = NamesOne x rows
+FitsRows (task.Path x y) rows = NamePath x y rows
+FitsRows (task.Trace key reads) rows = (first_in rows ≡ Some key.text.bytes)
+    × ((reads ≡ true) ↔ HasFlag (codes "reads") rows)
+FitsRows _ rows = ⊤
 
 -- if the words ask for work, P holds of the task, the plan and the paths
 abbrev pub IfWork : (Task → PlanNumbers → Option (List Text) → Type 0) → Words → Type 0
 IfWork P (words.Work task plan paths) =
     P task plan (option_map (λ list. map string_bytes list.items) paths)
-IfWork P (words.WorkWithExitCode task plan paths) =
+IfWork P (words.WorkWith task plan paths flags) =
     P task plan (option_map (λ list. map string_bytes list.items) paths)
 IfWork P (words.Text text status) = ⊤
 
 -- the words ask for work
 abbrev pub IsWork : Words → Type 0
 IsWork (words.Work task plan paths) = ⊤
-IsWork (words.WorkWithExitCode task plan paths) = ⊤
+IsWork (words.WorkWith task plan paths flags) = ⊤
 IsWork (words.Text text status) = ⊥
 
--- the words ask for work and an exit status that says whether something was found
-abbrev pub has_exit_code : Words → Bool
-has_exit_code (words.Work task plan paths) = false
-has_exit_code (words.WorkWithExitCode task plan paths) = true
-has_exit_code (words.Text text status) = false
+abbrev pub no_flags : Flags
+no_flags = record { exit_code = false; explain = false }
+
+-- the flags of the words
+abbrev pub flags_of : Words → Flags
+flags_of (words.Work task plan paths) = no_flags
+flags_of (words.WorkWith task plan paths flags) = flags
+flags_of (words.Text text status) = no_flags
+
+-- the flags are those that the rows have
+pub record FitFlags (flags : Flags) (rows : List Row) : Type 0 where
+  pub exit_code : (flags.exit_code ≡ true) ↔ HasFlag (codes "exit-code") rows
+  pub explain : (flags.explain ≡ true) ↔ HasFlag (codes "explain") rows
 
 -- if the words ask for a text, P holds of the status
 abbrev pub IfText : (ℕ → Type 0) → Words → Type 0
 IfText P (words.Work task plan paths) = ⊤
-IfText P (words.WorkWithExitCode task plan paths) = ⊤
+IfText P (words.WorkWith task plan paths flags) = ⊤
 IfText P (words.Text text status) = P status
+
+-- the words ask for a text with this status
+abbrev pub IsText : ℕ → Words → Type 0
+IsText n (words.Work task plan paths) = ⊥
+IsText n (words.WorkWith task plan paths flags) = ⊥
+IsText n (words.Text text status) = status ≡ n
 
 -- this is the work that a subcommand asks for by its rows
 pub record AsksFor (given : Given) (asked : Task) (cutting : PlanNumbers)
@@ -74,20 +120,15 @@ pub record AsksFor (given : Given) (asked : Task) (cutting : PlanNumbers)
   pub workers : IsWorkersOf (rows_in given) cutting.workers
   pub cut : IsCutOf (rows_in given) cutting.cut
   pub paths : ArePathsOf asked (rows_in given) logs
-  pub prefix : FitsPrefix asked (rows_in given)
+  pub parts : FitsRows asked (rows_in given)
 
--- the words ask for that work
-abbrev pub IsWorkOf : Given → Words → Type 0
-IsWorkOf given (words.Work task plan paths) =
+-- the words ask for that work; or they are refused with status 2, since what is to name an instance
+-- or a key names none
+abbrev pub IsMeaningOf : Given → Words → Type 0
+IsMeaningOf given (words.Work task plan paths) =
     AsksFor given task plan (option_map (λ list. map string_bytes list.items) paths)
-    × (¬ HasExitCode (rows_in given))
-IsWorkOf given (words.WorkWithExitCode task plan paths) =
+    × FitFlags no_flags (rows_in given)
+IsMeaningOf given (words.WorkWith task plan paths flags) =
     AsksFor given task plan (option_map (λ list. map string_bytes list.items) paths)
-    × HasExitCode (rows_in given)
-IsWorkOf given (words.Text text status) = ⊥
-
--- the words ask for a text with this status
-abbrev pub IsText : ℕ → Words → Type 0
-IsText n (words.Work task plan paths) = ⊥
-IsText n (words.WorkWithExitCode task plan paths) = ⊥
-IsText n (words.Text text status) = status ≡ n
+    × FitFlags flags (rows_in given)
+IsMeaningOf given (words.Text text status) = (¬ NamesSubject given) × (status ≡ 2)

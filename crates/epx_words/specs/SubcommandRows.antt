@@ -1,6 +1,6 @@
 -- The values in the rows of a subcommand: two numbers, flags, the logs, and the argument before
 -- them.
-use Rattle.std.specs.Prelude.{◌≡◌, ◌⊎◌, ℕ, List, [], Option, Some, None, codes, option_map}
+use Rattle.std.specs.Prelude.{◌≡◌, ◌⊎◌, ℕ, List, [], ◌∷◌, Option, Some, None, codes, option_map}
 use Rattle.std.specs.Prelude.{unwrap_or}
 use Rattle.std.specs.Option.{IsSome, option_map_or}
 use Rattle.std.specs.Str.Parse.{IsNumeral, digits_value, without_leading_plus}
@@ -39,32 +39,35 @@ logs_in rows = unwrap_or (all_of (codes "logs") rows) []
 abbrev pub first_in : List Row → Option Text
 first_in rows = first_of (codes "first") rows
 
--- the flag `--exit-code` is there
-abbrev pub HasExitCode : List Row → Type 0
-HasExitCode rows = first_of (codes "exit-code") rows ≡ Some (codes "true")
+-- the value of the option `--reaches`, if it is there
+abbrev pub reaches_in : List Row → Option Text
+reaches_in rows = first_of (codes "reaches") rows
 
--- the flag `--prefix` is there
-abbrev pub HasPrefix : List Row → Type 0
-HasPrefix rows = first_of (codes "prefix") rows ≡ Some (codes "true")
+-- a flag is there
+abbrev pub HasFlag : Text → List Row → Type 0
+HasFlag flag rows = first_of flag rows ≡ Some (codes "true")
 
 -- the text is a number from 1 to `most`
 abbrev pub IsNumberUpTo : ℕ → Option Text → Type 0
 IsNumberUpTo most None = ⊥
 IsNumberUpTo most (Some text) = IsUnsignedIn 1 most text
 
+-- the text is one of these
+abbrev pub IsOneOf : Text → List Text → Type 0
+IsOneOf text [] = ⊥
+IsOneOf text (t ∷ ts) = (text ≡ t) ⊎ IsOneOf text ts
+
 -- the name of a subcommand that asks for work
 abbrev pub IsTaskName : Text → Type 0
-IsTaskName name =
-    (name ≡ codes "run")
-    ⊎ ((name ≡ codes "order")
-    ⊎ ((name ≡ codes "levels")
-    ⊎ ((name ≡ codes "graph")
-    ⊎ ((name ≡ codes "resume")
-    ⊎ ((name ≡ codes "audit") ⊎ ((name ≡ codes "check") ⊎ (name ≡ codes "compare")))))))
+IsTaskName name = IsOneOf name (codes "run" ∷ codes "order" ∷ codes "levels" ∷ codes "graph"
+    ∷ codes "resume" ∷ codes "audit" ∷ codes "check" ∷ codes "compare" ∷ codes "why"
+    ∷ codes "trace" ∷ [])
 
--- the name of a subcommand with an argument before the logs: a base, or a list
+-- the name of a subcommand with an argument before the logs: a base, a list, the name of an
+-- instance, or a key
 abbrev pub NeedsFirst : Text → Type 0
-NeedsFirst name = (name ≡ codes "resume") ⊎ (name ≡ codes "check")
+NeedsFirst name =
+    IsOneOf name (codes "resume" ∷ codes "check" ∷ codes "why" ∷ codes "trace" ∷ [])
 
 -- a subcommand that asks for work, with both numbers in their ranges and with its required first
 -- argument

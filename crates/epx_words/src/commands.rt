@@ -1,9 +1,10 @@
 //! The program's command line, as a clap `Command`.
 ghost use Rattle.std.specs.Prelude.{◌≡◌, IfOk, codes};
 ghost use Rattle.clap.specs.Words.{app_of, new_app, rule_of};
-ghost use Rattle.epx_words.specs.App.{base_app, epx_app, epx_top, exit_code_rule, finding_app};
-ghost use Rattle.epx_words.specs.App.{first_rule, list_app, logs_rule, number_rule, numbers_app};
-ghost use Rattle.epx_words.specs.App.{prefix_rule, runs_app, work_app};
+ghost use Rattle.epx_words.specs.App.{base_app, checks_app, epx_app, epx_top, finding_app};
+ghost use Rattle.epx_words.specs.App.{first_rule, flag_rule, list_app, logs_rule, number_rule};
+ghost use Rattle.epx_words.specs.App.{numbers_app, reaches_rule, runs_app, trace_app, why_app};
+ghost use Rattle.epx_words.specs.App.{work_app};
 
 use clap::builder::ValueParser;
 use clap::{Arg, ArgAction, Command};
@@ -184,6 +185,50 @@ Example:
   epx compare examples/replicas/*.jsonl",
 };
 
+const WHY: Help = Help {
+    about: "Says why an instance is executed where it is, or why it is not",
+    long_about: "Says why an instance is executed where it is, or why it is not, and executes
+nothing: its position in the execution order with its depth and leader, or the
+missing instances that it waits for, or what waits for it if no log commits it.
+With --reaches it prints a shortest path of dependencies to another instance.",
+    after: "Example:
+  epx why 2.1 examples/replicas/*.jsonl",
+    long_after: "R.I is the instance with number I of replica R. What comes out is one of these
+three, and a line for each instance at the other end of a path, by its Id:
+
+  [\"ready\",r,i,p,d,lr,li]   it is executed at position p, counted from 0, with the
+                            depth d and the leader lr.li
+  [\"waiting\",r,i,mr,mi]     it waits for the least missing one that it reaches
+  [\"needs\",mr,mi,steps]     it reaches this missing one, in that many steps
+  [\"missing\",r,i]           no log commits it
+  [\"needed\",r,i,steps]      this one reaches it, in that many steps
+
+With --reaches it is one line. Of the shortest paths it is the first by its Ids:
+
+  [\"path\",[r,i],..,[r,i]]   the instances of the path, with both ends
+  [\"none\"]                  no path leads there
+
+Example:
+  epx why 1.1 --reaches 0.0 examples/replicas/*.jsonl",
+};
+
+const TRACE: Help = Help {
+    about: "Prints which executed commands write a key",
+    long_about: "Executes what the logs commit, and prints which commands write a key, in
+execution order, each with the value that the key had before and the one that it
+has after. With --reads it also prints those that read the key.",
+    after: "Example:
+  epx trace alice examples/replicas/*.jsonl",
+    long_after: "What comes out is a line for each command that has the key, in execution order.
+A value is null where the key is absent. A command that aborts writes nothing:
+
+  [\"write\",r,i,before,after]   the command of instance r.i writes the key
+  [\"read\",r,i,value]           with --reads: it has the key, and does not write it
+
+Example:
+  epx trace alice examples/replicas/*.jsonl",
+};
+
 /// An option whose value is a number from 1 to `most`.
 fn number_option<'a>(
     alloc: Global,
@@ -213,7 +258,17 @@ fn with_help<'a>(alloc: Global, name: &'a str, help: Help) -> Command<'a>
         .after_long_help(help.long_after)
 }
 
-/// A subcommand with the options `--workers` and `--cut`, which all subcommands have.
+/// A flag, which has no value.
+fn flag<'a>(alloc: Global, name: &'a str, help: &'a str) -> Arg<'a>
+    ensures { rule_of result ≡ flag_rule name.entry.now }
+{
+    Arg::new(alloc, name)
+        .long(name)
+        .action(ArgAction::SetTrue)
+        .help(help)
+}
+
+/// A subcommand with the options that all subcommands have: `--workers`, `--cut` and `--explain`.
 fn subcommand<'a>(alloc: Global, name: &'a str, help: Help) -> Result<Command<'a>, AllocError>
     ensures { IfOk result (λ c. app_of c ≡ numbers_app name.entry.now) }
 {
@@ -223,27 +278,31 @@ fn subcommand<'a>(alloc: Global, name: &'a str, help: Help) -> Result<Command<'a
     let cut = number_option(alloc, "cut", "M", "256", MAX_CUT).help(
         "Items in a piece of work, 1 to 65536",
     );
-    with_help(alloc, name, help).arg(workers)?.arg(cut)
+    let explain = flag(alloc, "explain", "Explains a fault in one more line");
+    let numbered = with_help(alloc, name, help).arg(workers)?.arg(cut)?;
+    numbered.arg(explain)
 }
 
 /// The flag `--exit-code`.
 fn exit_code<'a>(alloc: Global) -> Arg<'a>
-    ensures { rule_of result ≡ exit_code_rule }
+    ensures { rule_of result ≡ flag_rule (codes "exit-code") }
 {
-    Arg::new(alloc, "exit-code")
-        .long("exit-code")
-        .action(ArgAction::SetTrue)
-        .help("Exits with status 5 if something was found")
+    flag(
+        alloc,
+        "exit-code",
+        "Exits with status 5 if something was found",
+    )
 }
 
-/// The flag `--prefix`.
-fn prefix<'a>(alloc: Global) -> Arg<'a>
-    ensures { rule_of result ≡ prefix_rule }
+/// The option `--reaches`, whose value is the name of an instance.
+fn reaches<'a>(alloc: Global) -> Arg<'a>
+    ensures { rule_of result ≡ reaches_rule }
 {
-    Arg::new(alloc, "prefix")
-        .long("prefix")
-        .action(ArgAction::SetTrue)
-        .help("Lets the list lack ready instances, as that of a live replica does")
+    Arg::new(alloc, "reaches")
+        .long("reaches")
+        .value_name("R.I")
+        .action(ArgAction::Set)
+        .help("Prints a shortest path of dependencies to this instance instead")
 }
 
 /// The argument LOG, which may occur any number of times.
@@ -256,7 +315,7 @@ fn logs<'a>(alloc: Global) -> Arg<'a>
         .help("The logs to read, - for standard input; faults count them from 0")
 }
 
-/// The required argument before the logs: BASE or LIST.
+/// The required argument before the logs: BASE, LIST, R.I or KEY.
 fn first<'a>(alloc: Global, value: &'a str, help: &'a str) -> Arg<'a>
     ensures { rule_of result ≡ first_rule }
 {
@@ -302,9 +361,33 @@ fn check<'a>(alloc: Global) -> Result<Command<'a>, AllocError>
     ensures { IfOk result (λ c. app_of c ≡ list_app (codes "check")) }
 {
     let list = first(alloc, "LIST", "The list to check");
+    let prefix = flag(
+        alloc,
+        "prefix",
+        "Lets the list lack ready instances, as that of a live replica does",
+    );
     let flagged = subcommand(alloc, "check", CHECK)?.arg(exit_code(alloc))?;
-    let check = flagged.arg(prefix(alloc))?;
+    let check = flagged.arg(prefix)?;
     check.arg(list)?.arg(logs(alloc))
+}
+
+/// The subcommand `why`, whose arguments are the name of an instance and logs.
+fn why<'a>(alloc: Global) -> Result<Command<'a>, AllocError>
+    ensures { IfOk result (λ c. app_of c ≡ why_app (codes "why")) }
+{
+    let id = first(alloc, "R.I", "The instance with number I of replica R");
+    let why = subcommand(alloc, "why", WHY)?.arg(reaches(alloc))?;
+    why.arg(id)?.arg(logs(alloc))
+}
+
+/// The subcommand `trace`, whose arguments are a key and logs.
+fn trace<'a>(alloc: Global) -> Result<Command<'a>, AllocError>
+    ensures { IfOk result (λ c. app_of c ≡ trace_app (codes "trace")) }
+{
+    let key = first(alloc, "KEY", "The key, a text of 1 to 64 bytes");
+    let reads = flag(alloc, "reads", "Prints the commands that read the key, too");
+    let trace = subcommand(alloc, "trace", TRACE)?.arg(reads)?;
+    trace.arg(key)?.arg(logs(alloc))
 }
 
 /// The program without its subcommands. Its usage line has the subcommand as optional: `epx` with
@@ -335,9 +418,9 @@ fn with_runs<'a>(alloc: Global) -> Result<Command<'a>, AllocError>
         .subcommand(graph)
 }
 
-/// The program with all subcommands.
-pub(crate) fn command<'a>(alloc: Global) -> Result<Command<'a>, AllocError>
-    ensures { IfOk result (λ c. app_of c ≡ epx_app) }
+/// The program with all subcommands but `why` and `trace`.
+fn with_checks<'a>(alloc: Global) -> Result<Command<'a>, AllocError>
+    ensures { IfOk result (λ c. app_of c ≡ checks_app) }
 {
     let resume = resume(alloc)?;
     let audit = finding_subcommand(alloc, "audit", AUDIT)?;
@@ -348,4 +431,13 @@ pub(crate) fn command<'a>(alloc: Global) -> Result<Command<'a>, AllocError>
         .subcommand(audit)?
         .subcommand(check)?
         .subcommand(compare)
+}
+
+/// The program with all subcommands.
+pub(crate) fn command<'a>(alloc: Global) -> Result<Command<'a>, AllocError>
+    ensures { IfOk result (λ c. app_of c ≡ epx_app) }
+{
+    let why = why(alloc)?;
+    let trace = trace(alloc)?;
+    with_checks(alloc)?.subcommand(why)?.subcommand(trace)
 }

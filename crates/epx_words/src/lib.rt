@@ -4,7 +4,8 @@
 
 mod commands;
 mod read;
+mod task_of;
 mod words;
 
 pub use read::read_words;
-pub use words::{Task, Words};
+pub use words::{Flags, Task, Words};

@@ -1,20 +1,21 @@
 //! The meaning of a command line.
-ghost use Rattle.std.specs.Prelude.{◌≡◌, ◌≤◌, ◌≢◌, ◌↔◌, [], None, Some, IfOk, MatchResult, codes};
-ghost use Rattle.std.specs.Prelude.{length, map, false, string_bytes, true};
+ghost use Rattle.std.specs.Prelude.{◌≡◌, ◌≤◌, ◌≢◌, ◌⊎◌, ◌↔◌, [], None, Some, IfOk, MatchResult};
+ghost use Rattle.std.specs.Prelude.{codes, length, map, false, string_bytes, true};
 ghost use Rattle.std.specs.Option.{IsSome};
-ghost use Rattle.clap.specs.Words.{fault_of, first_of, found_of, kind_of, one_of, rows_of};
-ghost use Rattle.clap.specs.Words.{subcommand_of, subcommand_rows_of, takes};
+ghost use Rattle.clap.specs.Words.{fault_of, found_of, kind_of, one_of, rows_of, subcommand_of};
+ghost use Rattle.clap.specs.Words.{subcommand_rows_of, takes};
 ghost use Rattle.epx_words.specs.App.{epx_app};
-ghost use Rattle.epx_words.specs.Requests.{AreFirstAndLogs, ArePathsOf, IsWork, IfText, IfWork};
-ghost use Rattle.epx_words.specs.Requests.{FitsPrefix, IsText, IsWorkOf, has_exit_code, task_name};
-ghost use Rattle.epx_words.specs.ExitStatus.{IsExitStatus, status_of_kind};
-ghost use Rattle.epx_words.specs.SubcommandRows.{IsCutOf, IsNumberUpTo, IsTaskName, IsWorkersOf};
-ghost use Rattle.epx_words.specs.SubcommandRows.{AsksForWork, HasExitCode, NeedsFirst, first_in};
-ghost use Rattle.epx_words.specs.SubcommandRows.{logs_in};
-ghost use Rattle.epx_words.specs.SubcommandRows.{name_in, rows_in};
+ghost use Rattle.epx_words.specs.Requests.{AreFirstAndLogs, ArePathsOf, FitFlags, FitsRows, IfText};
+ghost use Rattle.epx_words.specs.Requests.{IfWork, IsBare, IsMeaningOf, IsText, IsWork, flags_of};
+ghost use Rattle.epx_words.specs.Requests.{task_name, HasInputPath};
+ghost use Rattle.epx_words.specs.ExitStatus.{IsTaken, IsTextStatus, status_of_kind};
+ghost use Rattle.epx_words.specs.Subjects.{NamesSubject};
+ghost use Rattle.epx_words.specs.SubcommandRows.{AsksForWork, IsCutOf, IsNumberUpTo, IsWorkersOf};
+ghost use Rattle.epx_words.specs.SubcommandRows.{first_in, logs_in, name_in, rows_in};
 
 use crate::commands::command;
-use crate::words::{Task, Words};
+use crate::task_of::{has_flag, task_of};
+use crate::words::{Flags, Task, Words};
 use clap::error::ErrorKind;
 use clap::{ArgMatches, Error};
 use epx_types::{Memory, Plan};
@@ -56,7 +57,7 @@ fn first_and_logs(alloc: Global, matches: &ArgMatches<'_>) -> Result<Vec<String>
 
 /// The paths that the task reads.
 fn paths_of(alloc: Global, task: Task, matches: &ArgMatches<'_>) -> Result<Vec<String>, AllocError>
-    requires { NeedsFirst (task_name task) → IsSome (first_in (rows_of (found_of matches.now))) }
+    requires { HasInputPath task → IsSome (first_in (rows_of (found_of matches.now))) }
     ensures { IfOk result (λ paths.
         ArePathsOf task (rows_of (found_of matches.now)) (Some (map string_bytes paths.items))) }
 {
@@ -65,6 +66,7 @@ fn paths_of(alloc: Global, task: Task, matches: &ArgMatches<'_>) -> Result<Vec<S
         Task::Run | Task::Order | Task::Levels | Task::Graph | Task::Audit | Task::Compare => {
             logs_of(alloc, matches)
         },
+        Task::Why(_) | Task::Path(_, _) | Task::Trace { .. } => logs_of(alloc, matches),
     }
 }
 
@@ -80,67 +82,50 @@ fn plan_of(matches: &ArgMatches<'_>) -> Plan
     Plan::new(workers, cut).unwrap()
 }
 
-/// Whether a flag is there. Subcommands that have no such flag never have it.
-fn has_flag(matches: &ArgMatches<'_>, flag: &str) -> bool
-    ensures { (result ≡ true)
-        ↔ (first_of flag.now (rows_of (found_of matches.now)) ≡ Some (codes "true")) }
+/// The text with status 2 if what is to name an instance or a key names none.
+fn refuse_subject(alloc: Global, name: &str) -> Result<Words, AllocError>
+    ensures { IfOk result (IsText 2) }
 {
-    match matches.get_str(flag) {
-        Some(value) => value == "true",
-        None => false,
-    }
-}
-
-/// The task of the subcommand `check`.
-fn check_task(matches: &ArgMatches<'_>) -> Task
-    ensures name { task_name result ≡ codes "check" }
-    ensures prefix { FitsPrefix result (rows_of (found_of matches.now)) }
-{
-    if has_flag(matches, "prefix") {
-        Task::CheckPrefix
+    let why = if name == "trace" {
+        "KEY is a text of 1 to 64 bytes"
     } else {
-        Task::Check
-    }
+        "R.I is a replica below 256, a dot and a number below 2^64, as 0.7"
+    };
+    let text = format!(in alloc; "error: {why}\n\nFor more information, try '--help'.\n")?;
+    Ok(Words::Text { text, status: 2 })
 }
 
-/// The task that a subcommand names. A check is one of a beginning if the flag `--prefix` is there.
-fn task_of(name: &str, matches: &ArgMatches<'_>) -> Task
-    requires { IsTaskName name.now }
-    ensures name { task_name result ≡ name.now }
-    ensures prefix { FitsPrefix result (rows_of (found_of matches.now)) }
+/// The flags of the matched subcommand.
+fn flags_of(matches: &ArgMatches<'_>) -> Flags
+    ensures { FitFlags result (rows_of (found_of matches.now)) }
 {
-    if name == "order" {
-        Task::Order
-    } else if name == "levels" {
-        Task::Levels
-    } else if name == "graph" {
-        Task::Graph
-    } else if name == "resume" {
-        Task::Resume
-    } else if name == "audit" {
-        Task::Audit
-    } else if name == "check" {
-        check_task(matches)
-    } else if name == "compare" {
-        Task::Compare
-    } else {
-        Task::Run
+    Flags {
+        exit_code: has_flag(matches, "exit-code"),
+        explain: has_flag(matches, "explain"),
     }
 }
 
-/// The work that the matched subcommand asks for.
+/// What the matched subcommand asks for.
 fn work_of(alloc: Global, matches: &ArgMatches<'_>) -> Result<Words, AllocError>
     requires { AsksForWork (subcommand_rows_of matches.now) }
-    ensures { IfOk result (IsWorkOf (subcommand_rows_of matches.now)) }
+    ensures { IfOk result (IsMeaningOf (subcommand_rows_of matches.now)) }
 {
     let Some((name, given)) = matches.subcommand() else {
         unreachable!();
     };
-    let task = task_of(name, given);
+    let Some(task) = task_of(name, given) else {
+        return refuse_subject(alloc, name);
+    };
     let plan = plan_of(given);
     let paths = Some(paths_of(alloc, task, given)?);
-    if has_flag(given, "exit-code") {
-        return Ok(Words::WorkWithExitCode { task, plan, paths });
+    let flags = flags_of(given);
+    if flags.exit_code || flags.explain {
+        return Ok(Words::WorkWith {
+            task,
+            plan,
+            paths,
+            flags,
+        });
     }
     Ok(Words::Work { task, plan, paths })
 }
@@ -177,43 +162,56 @@ fn text_of(alloc: Global, error: &Error) -> Result<Words, Memory>
     })
 }
 
+/// Whether the words name no subcommand: there is no second word, or a hyphen alone.
+fn is_bare(words: &[&str]) -> bool
+    ensures { (result ≡ true) ↔ IsBare (map (λ w. w.now) words.now) }
+{
+    words.len() <= 1 || words.len() == 2 && words[1] == "-"
+}
+
 /// Reads a command line, whose first word is the program's name.
 ///
-/// The result is `Work` exactly if clap finds no fault, or there is no second word: then it is
-/// `Run` with 4 workers, 256 items a piece and no paths. Otherwise it is `Text`. The one error is
-/// running out of memory. With `--exit-code` the work is `WorkWithExitCode`, and `check --prefix`
-/// is the task `CheckPrefix`.
+/// The result is `Work` exactly if clap finds no fault and what is to name an instance or a key
+/// names one, or if the words name no subcommand: then it is `Run` with 4 workers, 256 items a
+/// piece and no paths. Otherwise it is `Text`. The one error is running out of memory. With
+/// `--exit-code` or `--explain` the work is `WorkWith`, `check --prefix` is the task `CheckPrefix`,
+/// and `why --reaches` is the task `Path`.
 pub fn read_words(alloc: Global, words: &[&str]) -> Result<Words, Memory>
-    ensures bare { length words.now ≤ 1
+    ensures bare { IsBare (map (λ w. w.now) words.now)
         → IfOk result (λ asked. asked ≡ Words.Work Task.Run (record { workers = 4; cut = 256 })
         None) }
-    ensures task { let given = subcommand_of epx_app (map (λ w. w.now) words.now) in
-        2 ≤ length words.now
-        → IfOk result (IfWork (λ task plan paths. name_in given ≡ Some (task_name task))) }
-    ensures workers { let given = subcommand_of epx_app (map (λ w. w.now) words.now) in
-        2 ≤ length words.now
-        → IfOk result (IfWork (λ task plan paths. IsWorkersOf (rows_in given) plan.workers)) }
-    ensures cut { let given = subcommand_of epx_app (map (λ w. w.now) words.now) in
-        2 ≤ length words.now
-        → IfOk result (IfWork (λ task plan paths. IsCutOf (rows_in given) plan.cut)) }
-    ensures paths { let given = subcommand_of epx_app (map (λ w. w.now) words.now) in
-        2 ≤ length words.now
-        → IfOk result (IfWork (λ task plan paths. ArePathsOf task (rows_in given) paths)) }
-    ensures prefix { let given = subcommand_of epx_app (map (λ w. w.now) words.now) in
-        2 ≤ length words.now
-        → IfOk result (IfWork (λ task plan paths. FitsPrefix task (rows_in given))) }
-    ensures exit_code { let given = subcommand_of epx_app (map (λ w. w.now) words.now) in
-        2 ≤ length words.now
-        → IfOk result (λ asked. IsWork asked
-        → (has_exit_code asked ≡ true) ↔ HasExitCode (rows_in given)) }
-    ensures taken { 2 ≤ length words.now → IfOk result (λ asked.
-        IsWork asked ↔ (fault_of epx_app (map (λ w. w.now) words.now) ≡ [])) }
-    ensures refused { 2 ≤ length words.now → IfOk result (IfText (λ status.
-        takes epx_app (map (λ w. w.now) words.now) ≡ false)) }
-    ensures status { 2 ≤ length words.now → IfOk result (IfText (λ status.
-        IsExitStatus (fault_of epx_app (map (λ w. w.now) words.now)) status)) }
+    ensures task { let texts = map (λ w. w.now) words.now in
+        ¬ IsBare texts → IfOk result
+        (IfWork (λ task plan paths. name_in (subcommand_of epx_app texts)
+        ≡ Some (task_name task))) }
+    ensures workers { let texts = map (λ w. w.now) words.now in
+        ¬ IsBare texts → IfOk result
+        (IfWork (λ task plan paths. IsWorkersOf (rows_in (subcommand_of epx_app texts))
+        plan.workers)) }
+    ensures cut { let texts = map (λ w. w.now) words.now in
+        ¬ IsBare texts → IfOk result
+        (IfWork (λ task plan paths. IsCutOf (rows_in (subcommand_of epx_app texts)) plan.cut)) }
+    ensures paths { let texts = map (λ w. w.now) words.now in
+        ¬ IsBare texts → IfOk result
+        (IfWork (λ task plan paths. ArePathsOf task (rows_in (subcommand_of epx_app texts))
+        paths)) }
+    ensures parts { let texts = map (λ w. w.now) words.now in
+        ¬ IsBare texts → IfOk result
+        (IfWork (λ task plan paths. FitsRows task (rows_in (subcommand_of epx_app texts)))) }
+    ensures flags { let texts = map (λ w. w.now) words.now in
+        ¬ IsBare texts → IfOk result (λ asked. IsWork asked
+        → FitFlags (flags_of asked) (rows_in (subcommand_of epx_app texts))) }
+    ensures taken { let texts = map (λ w. w.now) words.now in
+        ¬ IsBare texts → IfOk result (λ asked.
+        IsWork asked ↔ IsTaken (fault_of epx_app texts) (subcommand_of epx_app texts)) }
+    ensures refused { let texts = map (λ w. w.now) words.now in
+        ¬ IsBare texts → IfOk result (IfText (λ status.
+        (takes epx_app texts ≡ false) ⊎ (¬ NamesSubject (subcommand_of epx_app texts)))) }
+    ensures status { let texts = map (λ w. w.now) words.now in
+        ¬ IsBare texts → IfOk result (IfText
+        (IsTextStatus (fault_of epx_app texts) (subcommand_of epx_app texts))) }
 {
-    if words.len() <= 1 {
+    if is_bare(words) {
         return Ok(Words::Work {
             task: Task::Run,
             plan: Plan::new(4, 256).unwrap(),

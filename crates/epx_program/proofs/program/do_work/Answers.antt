@@ -6,10 +6,10 @@ use Rattle.epx_program.proofs.program.do_work.Goals as goal
 
 pub returns-clause-do_task : goal.returns-clause-do_task
 returns-clause-do_task g c =
-    let exit_code = c.args.exit_code in
+    let exit_code = c.args.flags.exit_code in
     let done = c.do_task-done.result in
     let do_task = c.do_task-done.ensures in
-    let ended = c.report_task.ensures in
+    let ended = c.report_task-status.ensures in
     let failed = g.W.Sink.has_failed c.do_task-done.new.output in
     record {
       ends = is_status exit_code done _ ended;
@@ -24,15 +24,16 @@ returns-clause-do_task g c =
 
 pub returns-clause-nothing : goal.returns-clause-nothing
 returns-clause-nothing g c =
-    unchanged_by_work c.args.exit_code c.do_task-done.result _
-    (g.W.Sink.has_failed c.do_task-done.new.output) _ _ c.report_task.ensures
+    unchanged_by_work c.args.flags.exit_code c.do_task-done.result _
+    (g.W.Sink.has_failed c.do_task-done.new.output) _ _ c.report_task-status.ensures
     c.do_task-done.ensures.nothing c.do_task-done.ensures.written
 
 pub returns-clause-flushed : goal.returns-clause-flushed
 returns-clause-flushed g c =
-    flushed_by_work c.args.exit_code c.do_task-done.result _ _ c.report_task.ensures
+    flushed_by_work c.args.flags.exit_code c.do_task-done.result _ _ c.report_task-status.ensures
     c.do_task-done.ensures.flushed
 
 pub returns-clause-failed : goal.returns-clause-failed
 returns-clause-failed g c = λ bad.
-    c.report_task.ensures ∙ ap (status_of c.args.exit_code) (c.do_task-done.ensures.written.1 bad)
+    c.report_task-status.ensures
+    ∙ ap (status_of c.args.flags.exit_code) (c.do_task-done.ensures.written.1 bad)

@@ -5,17 +5,17 @@ use Rattle.epx_program.proofs.program.execute_words.Goals as goal
 pub returns-in-Work-clause-do_task : goal.returns-in-Work-clause-do_task
 returns-in-Work-clause-do_task g c = rw c.in-Work.is c.do_work.ensures.do_task
 
-pub returns-in-WorkWithExitCode-clause-do_task : goal.returns-in-WorkWithExitCode-clause-do_task
-returns-in-WorkWithExitCode-clause-do_task g c =
-    rw c.in-WorkWithExitCode.is c.do_work-in-WorkWithExitCode.ensures.do_task
+pub returns-in-WorkWith-clause-do_task : goal.returns-in-WorkWith-clause-do_task
+returns-in-WorkWith-clause-do_task g c =
+    rw c.in-WorkWith.is c.do_work-in-WorkWith.ensures.do_task
 
 pub returns-in-Work-clause-found : goal.returns-in-Work-clause-found
 returns-in-Work-clause-found g c =
     rw c.in-Work.is (λ five. c.do_work.ensures.flushed (inr five))
 
-pub returns-in-WorkWithExitCode-clause-found : goal.returns-in-WorkWithExitCode-clause-found
-returns-in-WorkWithExitCode-clause-found g c =
-    rw c.in-WorkWithExitCode.is (λ five. c.do_work-in-WorkWithExitCode.ensures.flushed (inr five))
+pub returns-in-WorkWith-clause-found : goal.returns-in-WorkWith-clause-found
+returns-in-WorkWith-clause-found g c =
+    rw c.in-WorkWith.is (λ five. c.do_work-in-WorkWith.ensures.flushed (inr five))
 
 pub returns-in-Text-clause-text : goal.returns-in-Text-clause-text
 returns-in-Text-clause-text g c =

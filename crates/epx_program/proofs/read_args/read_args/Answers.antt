@@ -1,7 +1,7 @@
 use Rattle.std.proofs.Common.{◌∙◌, ap, arith, map, string_bytes, subst, sym, take_all}
 use Rattle.std.specs.Prelude.{IfOk}
-use Rattle.std.proofs.lemmas.List.{length-map}
 use Rattle.std.specs.Vec.Iter.{into_iter_items}
+use Rattle.epx_program.proofs.BareWordLemmas.{words_end}
 use Rattle.epx_program.proofs.WordLemmas.{all_taken, asks, one_list_taken}
 use Rattle.epx_program.specs.Calls.{Asks}
 use Rattle.epx_program.proofs.read_args.read_args.Goals as goal
@@ -19,7 +19,10 @@ returns-clause-read_args c texts taken =
     ∙ ap (map string_bytes) (lent ∙ c.deref-text-items.ensures.value) ∙ came in
     let said = c.read_words.ensures in
     subst (λ words. IfOk c.read_words.result (Asks words)) same
-    (asks (map (λ w. w.now) c.deref.result.now) _
-    (sym (length-map c.deref.result.now (λ w. w.now))) c.read_words.result
-    said.bare said.task said.workers said.cut said.paths said.prefix said.exit_code said.taken
-    said.refused said.status)
+    (asks (map (λ w. w.now) c.deref.result.now) c.read_words.result said.bare said.task
+    said.workers said.cut said.paths said.parts said.flags said.taken said.refused said.status)
+
+pub returns-clause-status : goal.returns-clause-status
+returns-clause-status c =
+    words_end (map (λ w. w.now) c.deref.result.now) c.read_words.result
+    c.read_words.ensures.bare c.read_words.ensures.status

@@ -43,3 +43,8 @@ pub returns-in-Path : goal.returns-in-Path
 returns-in-Path g c =
     subst (λ kind. IfOk c.path_of.result (λ text. IsMapText kind c.args.merged text.items))
     (sym c.in-Path.is) c.path_of.ensures
+
+pub returns-in-Trace : goal.returns-in-Trace
+returns-in-Trace g c =
+    subst (λ kind. IfOk c.trace_of.result (λ text. IsMapText kind c.args.merged text.items))
+    (sym c.in-Trace.is) c.trace_of.ensures

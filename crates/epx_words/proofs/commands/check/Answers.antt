@@ -1,20 +1,25 @@
 use Rattle.std.proofs.Common.{codes, refl}
 use Rattle.std.proofs.lemmas.Result.{IfOk-weaker}
-use Rattle.clap.specs.Words.{with_rule}
-use Rattle.epx_words.specs.App.{exit_code_rule, first_rule, logs_rule, numbers_app, prefix_rule}
+use Rattle.clap.specs.Words.{Rule, with_rule}
+use Rattle.epx_words.specs.App.{first_rule, flag_rule, logs_rule, numbers_app}
 use Rattle.epx_words.proofs.CommandLemmas.{with_argument}
 use Rattle.epx_words.proofs.commands.check.Goals as goal
+
+abbrev exit_code : Rule
+exit_code = flag_rule (codes "exit-code")
+
+abbrev prefix : Rule
+prefix = flag_rule (codes "prefix")
 
 pub returns : goal.returns
 returns c =
     let start = numbers_app (codes "check") in
-    let flagged = with_rule start exit_code_rule in
-    let both = with_rule flagged prefix_rule in
+    let flagged = with_rule start exit_code in
+    let both = with_rule flagged prefix in
     let one = with_argument c.in_ok-subcommand.field-0 c.in_ok-flagged.flagged c.exit_code.result
-    start exit_code_rule c.in_ok-flagged.ensures c.in_ok-subcommand.ensures c.exit_code.ensures
-    refl in
-    let two = with_argument c.in_ok-flagged.flagged c.in_ok-check.check c.prefix.result flagged
-    prefix_rule c.in_ok-check.ensures one c.prefix.ensures refl in
+    start exit_code c.in_ok-flagged.ensures c.in_ok-subcommand.ensures c.exit_code.ensures refl in
+    let two = with_argument c.in_ok-flagged.flagged c.in_ok-check.check c.flag-prefix.result flagged
+    prefix c.in_ok-check.ensures one c.flag-prefix.ensures refl in
     let three = with_argument c.in_ok-check.check c.in_ok-arg.field-0 c.first-list.result both
     first_rule c.in_ok-arg.ensures two c.first-list.ensures refl in
     IfOk-weaker c.arg-4.result _ _

@@ -1,31 +1,16 @@
 use Rattle.std.proofs.Common.{codes, refl}
 use Rattle.std.proofs.lemmas.Result.{IfOk-weaker}
-use Rattle.clap.specs.Words.{App, with_subcommand}
-use Rattle.epx_words.specs.App.{base_app, finding_app, list_app, runs_app}
+use Rattle.clap.specs.Words.{with_subcommand}
+use Rattle.epx_words.specs.App.{checks_app, trace_app, why_app}
 use Rattle.epx_words.proofs.CommandLemmas.{with_command}
 use Rattle.epx_words.proofs.commands.command.Goals as goal
 
-abbrev to_resume : App
-to_resume = with_subcommand runs_app (base_app (codes "resume")).top
-
-abbrev to_audit : App
-to_audit = with_subcommand to_resume (finding_app (codes "audit")).top
-
-abbrev to_check : App
-to_check = with_subcommand to_audit (list_app (codes "check")).top
-
 pub returns : goal.returns
 returns c =
-    let one = with_command c.in_ok-with_runs.field-0 c.in_ok-resume.resume
-    c.in_ok-subcommand.field-0 runs_app (base_app (codes "resume")) c.in_ok-subcommand.ensures
-    c.in_ok-with_runs.ensures c.in_ok-resume.ensures refl in
-    let two = with_command c.in_ok-subcommand.field-0 c.in_ok-audit.audit
-    c.in_ok-subcommand-2.field-0 to_resume (finding_app (codes "audit"))
-    c.in_ok-subcommand-2.ensures one c.in_ok-audit.ensures refl in
-    let three = with_command c.in_ok-subcommand-2.field-0 c.in_ok-check.check
-    c.in_ok-subcommand-3.field-0 to_audit (list_app (codes "check"))
-    c.in_ok-subcommand-3.ensures two c.in_ok-check.ensures refl in
-    IfOk-weaker c.subcommand-4.result _ _ (λ made added.
-    with_command c.in_ok-subcommand-3.field-0 c.in_ok-compare.compare made to_check
-    (finding_app (codes "compare")) added three c.in_ok-compare.ensures refl)
-    c.subcommand-4.ensures
+    let one = with_command c.in_ok-with_checks.field-0 c.in_ok-why.why c.in_ok-subcommand.field-0
+    checks_app (why_app (codes "why")) c.in_ok-subcommand.ensures c.in_ok-with_checks.ensures
+    c.in_ok-why.ensures refl in
+    IfOk-weaker c.subcommand-2.result _ _ (λ made added.
+    with_command c.in_ok-subcommand.field-0 c.in_ok-trace.trace made
+    (with_subcommand checks_app (why_app (codes "why")).top) (trace_app (codes "trace")) added one
+    c.in_ok-trace.ensures refl) c.subcommand-2.ensures

@@ -1,7 +1,7 @@
 use Rattle.std.proofs.Common.{◌≡◌, codes, refl, rules}
 use Rattle.std.proofs.lemmas.Result.{IfOk-weaker}
 use Rattle.clap.specs.Words.{new_app, rule_of, with_rule}
-use Rattle.epx_words.specs.App.{number_rule}
+use Rattle.epx_words.specs.App.{flag_rule, number_rule}
 use Rattle.epx_words.proofs.CommandLemmas.{with_argument}
 use Rattle.epx_words.proofs.commands.subcommand.Goals as goal
 
@@ -14,6 +14,9 @@ returns c =
     let cut_is : rule_of c.help-cut.result ≡ cut = search rules in
     let one = with_argument c.with_help.result c.in_ok-arg.field-0 c.help-workers.result start
     workers c.in_ok-arg.ensures c.with_help.ensures workers_is refl in
-    IfOk-weaker c.arg-2.result _ _
-    (λ made added. with_argument c.in_ok-arg.field-0 made c.help-cut.result
-    (with_rule start workers) cut added one cut_is refl) c.arg-2.ensures
+    let two = with_argument c.in_ok-arg.field-0 c.in_ok-numbered.numbered c.help-cut.result
+    (with_rule start workers) cut c.in_ok-numbered.ensures one cut_is refl in
+    IfOk-weaker c.arg-3.result _ _
+    (λ made added. with_argument c.in_ok-numbered.numbered made c.flag-explain.result
+    (with_rule (with_rule start workers) cut) (flag_rule (codes "explain")) added two
+    c.flag-explain.ensures refl) c.arg-3.ensures

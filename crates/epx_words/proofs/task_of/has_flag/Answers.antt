@@ -3,7 +3,7 @@ use Rattle.std.proofs.lemmas.Slice.Eq.{bytes_eq-Decides}
 use Rattle.std.specs.Prelude.{option_map}
 use Rattle.clap.specs.Words.{first_of, found_of, rows_of}
 use Rattle.clap.proofs.WalkLemmas.{first_value-rows}
-use Rattle.epx_words.proofs.read.has_flag.Goals as goal
+use Rattle.epx_words.proofs.task_of.has_flag.Goals as goal
 
 pub returns-in-Some : goal.returns-in-Some
 returns-in-Some c =

@@ -1,0 +1,27 @@
+//! The task of a case.
+use epx_tool::{KeyName, Task, read_id};
+
+/// The task that a command names, with the words after it. `check-prefix` is `check --prefix`,
+/// `path` is `why --reaches`, and `trace-reads` is `trace --reads`.
+pub(crate) fn asked_task(command: &str, rest: &str) -> Option<Task> {
+    let mut words = rest.split_whitespace();
+    match command {
+        "run" => Some(Task::Run),
+        "order" => Some(Task::Order),
+        "levels" => Some(Task::Levels),
+        "graph" => Some(Task::Graph),
+        "resume" => Some(Task::Resume),
+        "audit" => Some(Task::Audit),
+        "check" => Some(Task::Check),
+        "check-prefix" => Some(Task::CheckPrefix),
+        "compare" => Some(Task::Compare),
+        "why" => Some(Task::Why(read_id(words.next()?)?)),
+        "path" => Some(Task::Path(read_id(words.next()?)?, read_id(words.next()?)?)),
+        "trace" | "trace-reads" => {
+            let key = KeyName::new(words.next()?)?;
+            let reads = command == "trace-reads";
+            Some(Task::Trace { key, reads })
+        }
+        _ => None,
+    }
+}

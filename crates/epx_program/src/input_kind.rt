@@ -1,0 +1,56 @@
+//! What is read, where a person may expect something else.
+
+use epx_tool::{Task, Words};
+use std::io::Eprint;
+
+/// What standard input is.
+#[derive(Clone, Copy, Debug, PartialEq, Eq)]
+pub enum InputKind {
+    /// A terminal.
+    Terminal,
+    /// A pipe.
+    Pipe,
+    /// A file, a device, or closed.
+    Other,
+}
+
+const FROM_TERMINAL: &str =
+    "epx: reading one log from this terminal, up to Ctrl-D; epx --help has the subcommands";
+
+const NOTHING: &str = "epx: no LOG is named, so no log is read; the LOG - is standard input";
+
+/// How many paths of a task are not logs.
+fn other_paths(task: Task) -> usize {
+    match task {
+        Task::Resume | Task::Check | Task::CheckPrefix => 1,
+        _ => 0,
+    }
+}
+
+/// Whether the paths have a log, or the input is read as a base or a list.
+fn has_log_or_input(task: Task, paths: &[String]) -> bool {
+    paths.len() > other_paths(task) || paths.iter().any(|path| path.as_str() == "-")
+}
+
+/// The line about what a task reads, if there is one.
+fn reading_line(kind: InputKind, task: Task, paths: &Option<Vec<String>>) -> Option<&'static str> {
+    match (kind, paths) {
+        (InputKind::Terminal, None) => Some(FROM_TERMINAL),
+        (InputKind::Pipe, Some(paths)) if !has_log_or_input(task, paths) => Some(NOTHING),
+        _ => None,
+    }
+}
+
+/// Writes a line to standard error where the words ask for one log from a terminal, or for no log
+/// while something is piped in.
+pub(crate) fn say_what_is_read(rt: &impl Eprint, kind: InputKind, words: &Words) {
+    let line = match words {
+        Words::Work { task, paths, .. } | Words::WorkWith { task, paths, .. } => {
+            reading_line(kind, *task, paths)
+        }
+        Words::Text { .. } => None,
+    };
+    if let Some(line) = line {
+        let _printed = eprintln!(rt; "{line}");
+    }
+}

@@ -1,0 +1,30 @@
+-- What is to name an instance names one, or not.
+use Rattle.std.proofs.Common.{◌≡◌, ◌≢◌, Some, None, List, sym, subst}
+use Rattle.std.specs.Option.{IfSome}
+use Rattle.std.specs.Prelude.{MatchOption}
+use Rattle.clap.specs.Words.{Row, Text}
+use Rattle.epx_types.specs.Faults.{id_text}
+use Rattle.epx_types.specs.declared.id.Id.{Id}
+use Rattle.epx_names.specs.IdNames.{FitsIdTypes}
+use Rattle.epx_words.specs.Subjects.{IsIdName, NameIds}
+use Rattle.epx_words.specs.SubcommandRows.{first_in, reaches_in}
+
+-- no Id that fits its types has this text
+abbrev pub NamesNone : Text → Type 0
+NamesNone text = (x : Id) → FitsIdTypes x → text ≢ id_text x
+
+names_none : (text : Text) → NamesNone text → ¬ IsIdName text
+names_none text none named = none named.0 named.1.0 named.1.1
+
+pub no_first : (rows : List Row) → None ≡ first_in rows → ¬ NameIds rows
+no_first rows is named = subst (λ o. MatchOption o ⊥ IsIdName) (sym is) named.0
+
+pub bad_first : (rows : List Row) (text : Text) → Some text ≡ first_in rows → NamesNone text
+    → ¬ NameIds rows
+bad_first rows text is none named =
+    names_none text none (subst (λ o. MatchOption o ⊥ IsIdName) (sym is) named.0)
+
+pub bad_end : (rows : List Row) (text : Text) → Some text ≡ reaches_in rows → NamesNone text
+    → ¬ NameIds rows
+bad_end rows text is none named =
+    names_none text none (subst (λ o. IfSome o IsIdName) (sym is) named.1)

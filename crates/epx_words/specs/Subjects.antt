@@ -1,0 +1,31 @@
+-- The instances and the key that a subcommand names.
+use Rattle.std.specs.Prelude.{◌≡◌, ⊤, List, Some, None, codes, MatchOption}
+use Rattle.std.specs.Option.{IfSome}
+use Rattle.clap.specs.Words.{Row, Text}
+use Rattle.epx_types.specs.Faults.{id_text}
+use Rattle.epx_types.specs.Keys.{FitsKey}
+use Rattle.epx_types.specs.declared.id.Id.{Id}
+use Rattle.epx_names.specs.IdNames.{FitsIdTypes}
+use Rattle.epx_words.specs.SubcommandRows.{Given, first_in, reaches_in}
+
+-- the text names x, as faults name it
+abbrev pub IsNameOf : Id → Text → Type 0
+IsNameOf x text = FitsIdTypes x × (text ≡ id_text x)
+
+-- the text names an instance
+abbrev pub IsIdName : Text → Type 0
+IsIdName text = (x : Id) × IsNameOf x text
+
+-- the first argument names an instance, and so does the end of the path, if there is one
+abbrev pub NameIds : List Row → Type 0
+NameIds rows = MatchOption (first_in rows) ⊥ IsIdName × IfSome (reaches_in rows) IsIdName
+
+-- the first argument is a key
+abbrev pub NamesKey : List Row → Type 0
+NamesKey rows = MatchOption (first_in rows) ⊥ FitsKey
+
+-- what is to name an instance or a key names one
+abbrev pub NamesSubject : Given → Type 0
+NamesSubject None = ⊤
+NamesSubject (Some p) =
+    (p.0 ≡ codes "why" → NameIds p.1) × (p.0 ≡ codes "trace" → NamesKey p.1)

@@ -1,0 +1,102 @@
+//! The task that a subcommand asks for.
+ghost use Rattle.std.specs.Prelude.{◌≡◌, ◌≢◌, ◌↔◌, Some, codes, true, IfNone, IfSome};
+ghost use Rattle.clap.specs.Words.{found_of, rows_of};
+ghost use Rattle.epx_words.specs.Requests.{FitsRows, task_name};
+ghost use Rattle.epx_words.specs.Subjects.{NameIds, NamesKey, NamesSubject};
+ghost use Rattle.epx_words.specs.SubcommandRows.{HasFlag, IsTaskName};
+
+use crate::words::Task;
+use clap::ArgMatches;
+use epx_names::{KeyName, read_id};
+
+/// Whether a flag is there. Subcommands that have no such flag never have it.
+pub(crate) fn has_flag(matches: &ArgMatches<'_>, flag: &str) -> bool
+    ensures { (result ≡ true) ↔ HasFlag flag.now (rows_of (found_of matches.now)) }
+{
+    match matches.get_str(flag) {
+        Some(value) => value == "true",
+        None => false,
+    }
+}
+
+/// The task of the subcommand `check`.
+fn check_task(matches: &ArgMatches<'_>) -> Task
+    ensures name { task_name result ≡ codes "check" }
+    ensures rows { FitsRows result (rows_of (found_of matches.now)) }
+{
+    if has_flag(matches, "prefix") {
+        Task::CheckPrefix
+    } else {
+        Task::Check
+    }
+}
+
+/// The task of the subcommand `why`. None if a text that is to name an instance names none.
+fn why_task(matches: &ArgMatches<'_>) -> Option<Task>
+    ensures name { IfSome result (λ task. task_name task ≡ codes "why") }
+    ensures rows { IfSome result (λ task. FitsRows task (rows_of (found_of matches.now))) }
+    ensures none { IfNone result (¬ NameIds (rows_of (found_of matches.now))) }
+{
+    let from = read_id(matches.get_str("first")?)?;
+    match matches.get_str("reaches") {
+        None => Some(Task::Why(from)),
+        Some(text) => Some(Task::Path(from, read_id(text)?)),
+    }
+}
+
+/// The task of the subcommand `trace`. None if the text that is to be a key is none.
+fn trace_task(matches: &ArgMatches<'_>) -> Option<Task>
+    ensures name { IfSome result (λ task. task_name task ≡ codes "trace") }
+    ensures rows { IfSome result (λ task. FitsRows task (rows_of (found_of matches.now))) }
+    ensures none { IfNone result (¬ NamesKey (rows_of (found_of matches.now))) }
+{
+    let key = KeyName::new(matches.get_str("first")?)?;
+    Some(Task::Trace {
+        key,
+        reads: has_flag(matches, "reads"),
+    })
+}
+
+/// The task of any other subcommand.
+fn plain_task(name: &str, matches: &ArgMatches<'_>) -> Task
+    requires task { IsTaskName name.now }
+    requires no_why { name.now ≢ codes "why" }
+    requires no_trace { name.now ≢ codes "trace" }
+    ensures name { task_name result ≡ name.now }
+    ensures rows { FitsRows result (rows_of (found_of matches.now)) }
+{
+    if name == "order" {
+        Task::Order
+    } else if name == "levels" {
+        Task::Levels
+    } else if name == "graph" {
+        Task::Graph
+    } else if name == "resume" {
+        Task::Resume
+    } else if name == "audit" {
+        Task::Audit
+    } else if name == "check" {
+        check_task(matches)
+    } else if name == "compare" {
+        Task::Compare
+    } else {
+        Task::Run
+    }
+}
+
+/// The task that a subcommand names. None if what is to name an instance or a key names none.
+pub(crate) fn task_of(name: &str, matches: &ArgMatches<'_>) -> Option<Task>
+    requires { IsTaskName name.now }
+    ensures name { IfSome result (λ task. task_name task ≡ name.now) }
+    ensures rows { IfSome result (λ task. FitsRows task (rows_of (found_of matches.now))) }
+    ensures none { IfNone result
+        (¬ NamesSubject (Some (name.now, rows_of (found_of matches.now)))) }
+{
+    if name == "why" {
+        return why_task(matches);
+    }
+    if name == "trace" {
+        return trace_task(matches);
+    }
+    Some(plain_task(name, matches))
+}
