@@ -290,7 +290,7 @@ impl<'a> Case<'a> {
         self.is_right_on_devices(rt, alloc, task)
     }
 
-    /// Whether all runs of the case have the expected text. The case runs once: its subject is taken.
+    /// Whether all runs of the case have the expected text. It takes the subject, so it runs once.
     fn is_right<R: Print + Threads + RandomSource + Sync>(
         &mut self,
         rt: &R,
