@@ -1,3 +1,4 @@
 pub mod KeyHeadLemmas
 pub mod KeyListLemmas
 pub mod SortedEntryLemmas
+pub mod ShortTextLemmas

@@ -1,5 +1,5 @@
 //! Keys of the store.
-ghost use Rattle.std.specs.Prelude.{◌≡◌, ◌<◌, ◌≤◌, length, slice_index_or, IfOk, IfSome, IfNone};
+ghost use Rattle.std.specs.Prelude.{◌≡◌, ◌<◌, ◌≤◌, length, IfOk, IfSome, IfNone};
 ghost use Rattle.std.specs.Prelude.{IsSome, ◌↔◌};
 ghost use Rattle.epx_types.specs.Keys.{FitsKey};
 ghost use Rattle.epx_types.specs.KeyHeads.{AreBytes, head_of};
@@ -15,58 +15,24 @@ use std::marker::Model;
 pub const MAX_KEY_BYTES: usize = 64;
 
 /// A key of at most this many bytes is copied without an allocation.
-pub const MAX_SHORT_KEY_BYTES: usize = 16;
+pub const MAX_SHORT_KEY_BYTES: usize = 22;
 
 /// A key of the store: a text of 1 to 64 bytes. Keys are ordered by bytes.
 #[derive(Debug, Drop)]
 pub struct Key {
-    /// The first eight bytes as a number. Most keys differ in it, so most comparisons need not
-    /// read the text.
-    head: u64,
     text: KeyText,
 }
 
 impl Model for Key {
     ghost use Rattle.std.specs.Prelude.{◌≡◌, List, ℕ};
     ghost use Rattle.epx_types.specs.Keys.{FitsKey};
-    ghost use Rattle.epx_types.specs.KeyHeads.{AreBytes, head_of};
     ghost use Rattle.epx_types.specs.inner.KeyTexts.{bytes_of};
 
     ghost Value = { List ℕ };
 
     ghost view = { λ k. bytes_of k.text };
 
-    ghost invariant = { λ k. FitsKey (bytes_of k.text) × AreBytes (bytes_of k.text)
-        × (k.head ≡ head_of (bytes_of k.text)) };
-}
-
-/// The byte at an index, or 0 past the end.
-fn byte_at(bytes: &[u8], index: usize) -> u64
-    ensures value { result ≡ slice_index_or bytes.now index 0 }
-    ensures byte { result < 256 }
-{
-    if index < bytes.len() {
-        bytes[index] as u64
-    } else {
-        0
-    }
-}
-
-/// The first eight bytes of a text as a big-endian number, padded with zeros.
-fn head_of(text: &str) -> u64
-    ensures head { result ≡ head_of text.now }
-    ensures bytes { AreBytes text.now }
-{
-    let bytes = text.as_bytes();
-    let high = byte_at(bytes, 0) * 0x100_0000
-        + byte_at(bytes, 1) * 0x1_0000
-        + byte_at(bytes, 2) * 0x100
-        + byte_at(bytes, 3);
-    let low = byte_at(bytes, 4) * 0x100_0000
-        + byte_at(bytes, 5) * 0x1_0000
-        + byte_at(bytes, 6) * 0x100
-        + byte_at(bytes, 7);
-    high * 0x1_0000_0000 + low
+    ghost invariant = { λ k. FitsKey (bytes_of k.text) };
 }
 
 impl Key {
@@ -78,9 +44,8 @@ impl Key {
         if text.is_empty() || text.len() > MAX_KEY_BYTES {
             return Ok(None);
         }
-        let head = head_of(text);
         let text = KeyText::new(alloc, text)?;
-        Ok(Some(Key { head, text }))
+        Ok(Some(Key { text }))
     }
 
     pub fn text(&self) -> &str
@@ -96,17 +61,14 @@ impl Key {
         ensures head { result ≡ head_of self.now }
         ensures bytes { AreBytes self.now }
     {
-        self.head
+        self.text.head()
     }
 
     pub fn copy(&self) -> Result<Key, Memory>
         ensures { IfOk result (λ k. k ≡ self.now) }
     {
         let text = self.text.copy()?;
-        Ok(Key {
-            head: self.head,
-            text,
-        })
+        Ok(Key { text })
     }
 }
 
@@ -163,10 +125,13 @@ impl Ord for Key {
     ghost matches_eq = { Prim.search (comparing, rules) };
 
     fn cmp(&self, other: &Key) -> Ordering {
-        if self.head == other.head {
+        let head = self.head();
+        let other_head = other.head();
+        // Most keys differ in their heads, so most texts need not be compared.
+        if head == other_head {
             self.text().cmp(other.text())
         } else {
-            self.head.cmp(&other.head)
+            head.cmp(&other_head)
         }
     }
 }

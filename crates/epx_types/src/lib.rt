@@ -16,6 +16,7 @@ pub mod op;
 pub mod place;
 pub mod plan;
 pub mod reply;
+mod short_text;
 
 pub use command::Command;
 pub use entry::Entry;

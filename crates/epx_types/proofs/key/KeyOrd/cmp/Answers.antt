@@ -2,10 +2,9 @@ use Rattle.std.proofs.Common.{◌∙◌}
 use Rattle.epx_types.proofs.keys.KeyHeadLemmas.{ordered_by_key_heads}
 use Rattle.epx_types.proofs.key.KeyOrd.cmp.Goals as goal
 
-pub returns-else-self-other : goal.returns-else-self-other
-returns-else-self-other c =
-    c.cmp-else-self-other.ensures
-    ∙ ordered_by_key_heads c.args.self.now c.args.other.now c.self.inside.head c.other.inside.head
-    (rw c.self.view_is at c.self.invariant.1) (rw c.other.view_is at c.other.invariant.1)
-    (rw c.self.view_is at c.self.invariant.2) (rw c.other.view_is at c.other.invariant.2)
-    c.if-self-other.false
+pub returns-else-head-other_head : goal.returns-else-head-other_head
+returns-else-head-other_head c =
+    c.cmp-else-head-other_head.ensures
+    ∙ ordered_by_key_heads c.args.self.now c.args.other.now c.head-head.result
+    c.head-other_head.result c.head-head.ensures.bytes c.head-other_head.ensures.bytes
+    c.head-head.ensures.head c.head-other_head.ensures.head c.if-head-other_head.false
