@@ -7,8 +7,8 @@ use Rattle.std.proofs.lemmas.Option.{slice_get_within}
 use Rattle.epx_types.specs.declared.id.Id.{Id}
 use Rattle.epx_types.specs.Instances.{Instance}
 use Rattle.epx_types.specs.PlacedLines.{Placed}
-use Rattle.epx_compare.specs.declared.noted.Row.{Row}
-use Rattle.epx_compare.specs.inner.NotedRows.{IsRowOf}
+use Rattle.epx_versions.specs.declared.noted.Row.{Row}
+use Rattle.epx_versions.specs.NotedRows.{IsRowOf}
 
 module _ (ids : List Id) where
   each_within : (ks : List ℕ) (xs : List Id) → map (slice_get ids) ks ≡ map Some xs

@@ -14,9 +14,9 @@ use Rattle.epx_committed.specs.InstanceCounts.{AreNamedBy}
 use Rattle.epx_committed.proofs.InstanceCountLemmas.{few_or_many}
 use Rattle.epx_merge.specs.LogLines.{placed_of, bad_lines_of}
 use Rattle.epx_compare.specs.Comparisons.{IsComparison, comparison_text}
-use Rattle.epx_compare.specs.SameInstances.{same_id}
+use Rattle.epx_versions.specs.SameInstances.{same_id}
 use Rattle.epx_compare.specs.Unmet.{AreUnmet}
-use Rattle.epx_compare.specs.inner.EqualVersions.{ids_decide}
+use Rattle.epx_versions.specs.inner.EqualVersions.{ids_decide}
 
 same_id_equiv : IsEquivalence same_id
 same_id_equiv = decided same_id ids_decide

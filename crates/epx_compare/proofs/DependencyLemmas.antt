@@ -23,11 +23,11 @@ use Rattle.epx_types.proofs.lists.MembershipLemmas.{Contains-from_flat_map}
 use Rattle.epx_merge.specs.LogLines.{BadLineAt}
 use Rattle.epx_compare.proofs.IdPositionLemmas.{one_position}
 use Rattle.epx_compare.specs.declared.catalog.Catalog.{Catalog}
-use Rattle.epx_compare.specs.Differences.{versions_of}
-use Rattle.epx_compare.specs.SameInstances.{same_id, same_instance}
+use Rattle.epx_versions.specs.LineVersions.{versions_of}
+use Rattle.epx_versions.specs.SameInstances.{same_id, same_instance}
 use Rattle.epx_compare.specs.Unmet.{depends_on}
 use Rattle.epx_compare.specs.inner.Catalogs.{IsCatalogOf, version_ids}
-use Rattle.epx_compare.specs.inner.EqualVersions.{ids_decide, same_by_test}
+use Rattle.epx_versions.specs.inner.EqualVersions.{ids_decide, same_by_test}
 use Rattle.epx_compare.specs.inner.UnmetCounts.{is_unmet, deps_at, deps_of}
 
 -- ---- tests

@@ -10,11 +10,12 @@ use Rattle.epx_types.proofs.lists.MembershipLemmas.{passes-from_filter}
 use Rattle.epx_types.specs.declared.id.Id.{Id}
 use Rattle.epx_types.specs.Instances.{Instance}
 use Rattle.epx_types.specs.PlacedLines.{Placed}
-use Rattle.epx_compare.specs.Differences.{lines_of_id, versions_of, places_of}
-use Rattle.epx_compare.specs.SameInstances.{same_id, same_instance}
-use Rattle.epx_compare.specs.declared.noted.Row.{Row}
-use Rattle.epx_compare.specs.inner.EqualVersions.{same_by_test, instances_decide}
-use Rattle.epx_compare.specs.inner.NotedRows.{IsRowOf}
+use Rattle.epx_compare.specs.Differences.{lines_of_id, places_of}
+use Rattle.epx_versions.specs.LineVersions.{versions_of}
+use Rattle.epx_versions.specs.SameInstances.{same_id, same_instance}
+use Rattle.epx_versions.specs.declared.noted.Row.{Row}
+use Rattle.epx_versions.specs.inner.EqualVersions.{same_by_test, instances_decide}
+use Rattle.epx_versions.specs.NotedRows.{IsRowOf}
 
 -- ---- filters
 

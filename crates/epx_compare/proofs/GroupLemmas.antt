@@ -17,12 +17,13 @@ use Rattle.epx_merge.specs.LogLines.{BadLineAt}
 use Rattle.epx_rows.specs.PositionGroups.{AreGroupsOf}
 use Rattle.epx_rows.specs.Rows.{row_of}
 use Rattle.epx_compare.specs.declared.catalog.Catalog.{Catalog}
-use Rattle.epx_compare.specs.declared.noted.Row.{Row}
+use Rattle.epx_versions.specs.declared.noted.Row.{Row}
 use Rattle.epx_compare.specs.ComparisonLines.{group_data}
-use Rattle.epx_compare.specs.Differences.{lines_of_id, versions_of, places_of, groups_of}
-use Rattle.epx_compare.specs.SameInstances.{same_id}
+use Rattle.epx_compare.specs.Differences.{lines_of_id, places_of, groups_of}
+use Rattle.epx_versions.specs.LineVersions.{versions_of}
+use Rattle.epx_versions.specs.SameInstances.{same_id}
 use Rattle.epx_compare.specs.inner.Catalogs.{IsCatalogOf, version_ids}
-use Rattle.epx_compare.specs.inner.EqualVersions.{ids_decide}
+use Rattle.epx_versions.specs.inner.EqualVersions.{ids_decide}
 use Rattle.epx_compare.specs.inner.NumberedVersions.{version_at, place_at}
 use Rattle.epx_compare.proofs.IdPositionLemmas.{one_position}
 use Rattle.epx_compare.proofs.DifferenceLemmas.{versions_of-own, places_by_number}

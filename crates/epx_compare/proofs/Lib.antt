@@ -1,8 +1,4 @@
 mod IdPositionLemmas
-mod VersionLemmas
-mod HashedVersionLemmas
-mod KnownLineLemmas
-mod NotedBatchLemmas
 mod GapLemmas
 mod CatalogLemmas
 mod LogTextLemmas

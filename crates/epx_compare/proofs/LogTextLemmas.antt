@@ -8,11 +8,11 @@ use Rattle.std.proofs.lemmas.List.Sums.{length-filter}
 use Rattle.epx_types.specs.declared.place.Place.{Place}
 use Rattle.epx_types.specs.Instances.{Instance}
 use Rattle.epx_types.specs.PlacedLines.{Placed}
-use Rattle.epx_compare.specs.declared.noted.BadLine.{BadLine}
-use Rattle.epx_compare.specs.declared.noted.Row.{Row}
+use Rattle.epx_versions.specs.declared.noted.BadLine.{BadLine}
+use Rattle.epx_versions.specs.declared.noted.Row.{Row}
 use Rattle.epx_compare.specs.Comparisons.{for_logs}
 use Rattle.epx_compare.specs.LogCounts.{lines_in, bad_lines_in}
-use Rattle.epx_compare.specs.inner.NotedRows.{IsRowOf, bad_line_at}
+use Rattle.epx_versions.specs.NotedRows.{IsRowOf, bad_line_at}
 
 snoc : (first count next : ℕ) (text : ℕ → List ℕ) → next ≡ first + count
     → for_logs first (suc count) text ≡ for_logs first count text ++ text next

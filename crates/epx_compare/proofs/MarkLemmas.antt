@@ -10,12 +10,12 @@ use Rattle.epx_types.specs.Ids.{IsRising}
 use Rattle.epx_types.specs.Instances.{Instance}
 use Rattle.epx_types.specs.PlacedLines.{Placed}
 use Rattle.epx_compare.proofs.IdPositionLemmas.{one_position}
-use Rattle.epx_compare.specs.declared.noted.Row.{Row}
+use Rattle.epx_versions.specs.declared.noted.Row.{Row}
 use Rattle.epx_compare.specs.Gaps.{has_line}
-use Rattle.epx_compare.specs.SameInstances.{same_id}
-use Rattle.epx_compare.specs.inner.EqualVersions.{ids_decide}
+use Rattle.epx_versions.specs.SameInstances.{same_id}
+use Rattle.epx_versions.specs.inner.EqualVersions.{ids_decide}
 use Rattle.epx_compare.specs.inner.LogMarks.{is_line_in}
-use Rattle.epx_compare.specs.inner.NotedRows.{IsRowOf}
+use Rattle.epx_versions.specs.NotedRows.{IsRowOf}
 
 nat_eq_decides : (m n : ℕ) → Decides (m == n) (m ≡ n)
 nat_eq_decides m n = (λ h. grind (arith, nat_tests), λ h. grind (arith, nat_tests))

@@ -9,11 +9,12 @@ use Rattle.epx_types.proofs.lists.MembershipLemmas.{Contains-cons_cases, Contain
 use Rattle.epx_types.proofs.lists.MembershipLemmas.{Contains-from_filter}
 use Rattle.epx_types.specs.Instances.{Instance}
 use Rattle.epx_types.specs.PlacedLines.{Placed}
-use Rattle.epx_compare.specs.Differences.{versions_of, some_differ, differing_members, named_if}
+use Rattle.epx_compare.specs.Differences.{some_differ, differing_members, named_if}
+use Rattle.epx_versions.specs.LineVersions.{versions_of}
 use Rattle.epx_compare.specs.declared.members.Members.{Members}
-use Rattle.epx_compare.specs.SameInstances.{same_seq, same_deps, same_ops, same_instance}
-use Rattle.epx_compare.specs.inner.EqualVersions.{seqs_decide, deps_decide, commands_decide}
-use Rattle.epx_compare.specs.inner.EqualVersions.{same_by_test}
+use Rattle.epx_versions.specs.SameInstances.{same_seq, same_deps, same_ops, same_instance}
+use Rattle.epx_versions.specs.inner.EqualVersions.{seqs_decide, deps_decide, commands_decide}
+use Rattle.epx_versions.specs.inner.EqualVersions.{same_by_test}
 use Rattle.epx_compare.specs.inner.NumberedVersions.{version_at, later_differs, differs_from}
 use Rattle.epx_compare.specs.inner.NumberedVersions.{AreDiffering, names_of}
 

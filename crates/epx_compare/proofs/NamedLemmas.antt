@@ -8,7 +8,7 @@ use Rattle.epx_types.proofs.lists.MembershipLemmas.{Contains-map, Contains-from_
 use Rattle.epx_committed.specs.InstanceCounts.{AreNamedBy}
 use Rattle.epx_merge.specs.LogLines.{BadLineAt}
 use Rattle.epx_compare.specs.declared.catalog.Catalog.{Catalog}
-use Rattle.epx_compare.specs.Differences.{versions_of}
+use Rattle.epx_versions.specs.LineVersions.{versions_of}
 use Rattle.epx_compare.specs.inner.Catalogs.{IsCatalogOf}
 use Rattle.epx_compare.proofs.DependencyLemmas.{line_of_version, version_of_line}
 

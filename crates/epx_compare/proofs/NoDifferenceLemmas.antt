@@ -30,9 +30,9 @@ use Rattle.epx_compare.specs.ComparisonLines.{bad_data, differs_data}
 use Rattle.epx_compare.specs.Comparisons.{bad_text, difference_in, difference_text}
 use Rattle.epx_compare.specs.Differences.{lines_of_id, some_differ, named_if, differing_members}
 use Rattle.epx_compare.specs.Differences.{groups_of}
-use Rattle.epx_compare.specs.SameInstances.{same_id, same_seq, same_deps, same_ops}
-use Rattle.epx_compare.specs.inner.EqualVersions.{ids_decide, seqs_decide, deps_decide}
-use Rattle.epx_compare.specs.inner.EqualVersions.{commands_decide}
+use Rattle.epx_versions.specs.SameInstances.{same_id, same_seq, same_deps, same_ops}
+use Rattle.epx_versions.specs.inner.EqualVersions.{ids_decide, seqs_decide, deps_decide}
+use Rattle.epx_versions.specs.inner.EqualVersions.{commands_decide}
 
 -- ---- texts that are empty
 

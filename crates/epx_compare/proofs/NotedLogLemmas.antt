@@ -2,8 +2,9 @@
 use Rattle.std.proofs.Common.{◌≡◌, ℕ, List, length, subst}
 use Rattle.epx_merge.specs.LogLines.{MeaningAt, meanings_of}
 use Rattle.epx_merge.specs.Refusals.{FitLimits}
-use Rattle.epx_compare.specs.declared.noted_lines.NotedLines.{NotedLines}
-use Rattle.epx_compare.specs.inner.NotedLines.{AreNotedLines, AreNotedLogs}
+use Rattle.epx_versions.specs.declared.noted_lines.NotedLines.{NotedLines}
+use Rattle.epx_versions.specs.NotedLines.{AreNotedLines}
+use Rattle.epx_compare.specs.inner.NotedLogs.{AreNotedLogs}
 
 -- the lines that are noted are those of the logs
 pub logs_of_lines : (logs : List (List ℕ)) (count : ℕ) (lines : List MeaningAt) (n : NotedLines)

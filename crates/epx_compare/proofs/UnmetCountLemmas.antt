@@ -16,8 +16,8 @@ use Rattle.epx_types.specs.declared.id.Id.{Id}
 use Rattle.epx_types.specs.Ids.{Below, IsRising, id_cmp}
 use Rattle.epx_types.proofs.lists.ListPositionLemmas.{AllPairs-head, Contains-slice_get}
 use Rattle.epx_types.proofs.lists.RisingIdLemmas.{AllPairs-from_IsRising}
-use Rattle.epx_compare.specs.SameInstances.{same_id}
-use Rattle.epx_compare.specs.inner.EqualVersions.{ids_decide}
+use Rattle.epx_versions.specs.SameInstances.{same_id}
+use Rattle.epx_versions.specs.inner.EqualVersions.{ids_decide}
 use Rattle.epx_compare.specs.inner.UnmetCounts.{stored, AreCounts, with_one, is_unmet}
 use Rattle.epx_compare.proofs.DependencyLemmas.{from_listed, listed}
 

@@ -28,11 +28,11 @@ use Rattle.epx_report.specs.ReportLines.{line_of}
 use Rattle.epx_compare.specs.ComparisonLines.{unmet_data}
 use Rattle.epx_compare.specs.Comparisons.{unmet_text}
 use Rattle.epx_compare.specs.declared.catalog.Catalog.{Catalog}
-use Rattle.epx_compare.specs.Differences.{versions_of}
-use Rattle.epx_compare.specs.SameInstances.{same_id}
+use Rattle.epx_versions.specs.LineVersions.{versions_of}
+use Rattle.epx_versions.specs.SameInstances.{same_id}
 use Rattle.epx_compare.specs.Unmet.{depends_on, dependents_of, AreUnmet}
 use Rattle.epx_compare.specs.inner.Catalogs.{IsCatalogOf}
-use Rattle.epx_compare.specs.inner.EqualVersions.{ids_decide}
+use Rattle.epx_versions.specs.inner.EqualVersions.{ids_decide}
 use Rattle.epx_compare.specs.inner.UnmetCounts.{stored, AreCounts, unmet_count}
 use Rattle.epx_compare.proofs.DependencyLemmas.{passing, from_passing, member, from_member}
 use Rattle.epx_compare.proofs.DependencyLemmas.{from_listed, listed, both_so, version_of_line}

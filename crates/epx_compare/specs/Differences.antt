@@ -6,7 +6,9 @@ use Rattle.epx_types.specs.declared.id.Id.{Id}
 use Rattle.epx_types.specs.declared.place.Place.{Place}
 use Rattle.epx_types.specs.Instances.{Instance}
 use Rattle.epx_types.specs.PlacedLines.{Placed}
-use Rattle.epx_compare.specs.SameInstances.{same_id, same_seq, same_deps, same_ops, same_instance}
+use Rattle.epx_versions.specs.LineVersions.{versions_of}
+use Rattle.epx_versions.specs.SameInstances.{same_id, same_seq, same_deps, same_ops}
+use Rattle.epx_versions.specs.SameInstances.{same_instance}
 
 -- the lines of an instance
 abbrev pub lines_of_id : List Placed → Id → List Placed
@@ -25,12 +27,6 @@ abbrev pub differing_members : List Placed → List (List ℕ)
 differing_members lines = named_if (some_differ same_seq lines) (codes "seq")
     ++ (named_if (some_differ same_deps lines) (codes "deps")
     ++ named_if (some_differ same_ops lines) (codes "ops"))
-
--- what the lines commit, each once, in the order of its first line
-abbrev pub versions_of : List Placed → List Instance
-versions_of [] = []
-versions_of (p ∷ lines) =
-    p.instance ∷ filter (λ e. not (same_instance p.instance e)) (versions_of lines)
 
 -- the places of the lines that commit this
 abbrev pub places_of : List Placed → Instance → List Place

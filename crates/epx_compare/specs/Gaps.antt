@@ -4,7 +4,7 @@ use Rattle.std.specs.Prelude.{if◌then◌else◌}
 use Rattle.std.specs.List.{list_any}
 use Rattle.epx_types.specs.declared.id.Id.{Id}
 use Rattle.epx_types.specs.PlacedLines.{Placed}
-use Rattle.epx_compare.specs.SameInstances.{same_id}
+use Rattle.epx_versions.specs.SameInstances.{same_id}
 
 -- the log has a line of the instance
 abbrev pub has_line : List Placed → ℕ → Id → Bool

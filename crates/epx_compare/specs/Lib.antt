@@ -1,4 +1,5 @@
-pub mod SameInstances
+pub use Rattle.epx_versions.specs.SameInstances
+pub use Rattle.epx_versions.specs.LineVersions
 pub mod LogCounts
 pub mod Differences
 pub mod Gaps

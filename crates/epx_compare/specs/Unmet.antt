@@ -4,7 +4,7 @@ use Rattle.std.specs.List.{list_any}
 use Rattle.epx_types.specs.declared.id.Id.{Id}
 use Rattle.epx_types.specs.Ids.{IsRising}
 use Rattle.epx_types.specs.PlacedLines.{Placed}
-use Rattle.epx_compare.specs.SameInstances.{same_id}
+use Rattle.epx_versions.specs.SameInstances.{same_id}
 
 -- a line of y has x as a dependency
 abbrev pub depends_on : List Placed → Id → Id → Bool

@@ -1,12 +1,6 @@
 -- Words of private clauses: no public contract speaks of them.
 pub mod Catalogs
-pub mod KnownLines
-pub mod EqualVersions
-pub mod HashedVersions
-pub mod VersionLists
 pub mod LogMarks
-pub mod NotedRows
-pub mod NotedLines
-pub mod NextLines
+pub mod NotedLogs
 pub mod UnmetCounts
 pub mod NumberedVersions

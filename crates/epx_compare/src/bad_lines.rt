@@ -1,11 +1,11 @@
 //! The lines of the bad lines.
 ghost use Rattle.std.specs.Prelude.{◌≡◌, ◌++◌, map, OnOk};
 ghost use Rattle.epx_compare.specs.Comparisons.{bad_text};
-ghost use Rattle.epx_compare.specs.inner.NotedRows.{bad_line_at};
+ghost use Rattle.epx_versions.specs.NotedRows.{bad_line_at};
 
 use crate::comparison_lines::append_bad;
-use crate::noted::BadLine;
 use epx_types::Memory;
+use epx_versions::BadLine;
 use std::alloc::Global;
 
 /// Appends a line for each bad line.

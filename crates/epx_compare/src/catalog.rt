@@ -3,12 +3,12 @@ ghost use Rattle.std.specs.Prelude.{◌≡◌, List, map, IfOk};
 ghost use Rattle.epx_types.specs.PlacedLines.{Placed};
 ghost use Rattle.epx_merge.specs.LogLines.{BadLineAt};
 ghost use Rattle.epx_compare.specs.inner.Catalogs.{IsCatalogOf};
-ghost use Rattle.epx_compare.specs.inner.NotedRows.{AreNoted};
+ghost use Rattle.epx_versions.specs.NotedRows.{AreNoted};
 
 use crate::committed_ids::{CommittedIds, version_ids};
-use crate::noted::{Noted, Row};
 use epx_rows::Rows;
 use epx_types::Memory;
+use epx_versions::{Noted, Row};
 use std::alloc::Global;
 
 /// The committed instances by rising Id, the versions of each, and the lines of each version.

@@ -3,10 +3,10 @@ ghost use Rattle.std.specs.Prelude.{◌≡◌, ◌↔◌, ◌<◌, length, map, 
 ghost use Rattle.std.specs.Prelude.{slice_get};
 ghost use Rattle.epx_types.specs.Ids.{IsRising};
 
-use crate::versions::Versions;
 use epx_committed::Guesses;
 use epx_types::id_list::{find_id, sort_unique};
 use epx_types::{Id, Memory};
+use epx_versions::Versions;
 use std::alloc::Global;
 use std::marker::Model;
 

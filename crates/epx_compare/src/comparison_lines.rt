@@ -5,11 +5,11 @@ ghost use Rattle.serde_json.specs.Written.{has_float, compact_text};
 ghost use Rattle.epx_merge.specs.LogLines.{BadLineAt};
 ghost use Rattle.epx_report.specs.ReportLines.{array_of, line_feed, line_of};
 ghost use Rattle.epx_compare.specs.ComparisonLines.{log_data, bad_data, lacks_data, unmet_data};
-ghost use Rattle.epx_compare.specs.inner.NotedRows.{bad_line_at};
+ghost use Rattle.epx_versions.specs.NotedRows.{bad_line_at};
 
 use crate::gaps::Gap;
-use crate::noted::BadLine;
 use epx_types::{Id, Memory};
+use epx_versions::BadLine;
 use serde_json::{Value, json};
 use std::alloc::{AllocError, Global};
 

@@ -4,11 +4,11 @@ ghost use Rattle.std.specs.Prelude.{IfOk, OnOk};
 ghost use Rattle.epx_types.specs.PlacedLines.{Placed};
 ghost use Rattle.epx_merge.specs.LogLines.{BadLineAt};
 ghost use Rattle.epx_compare.specs.Comparisons.{counts_text};
-ghost use Rattle.epx_compare.specs.inner.NotedRows.{AreNoted};
+ghost use Rattle.epx_versions.specs.NotedRows.{AreNoted};
 
 use crate::comparison_lines::append_log;
-use crate::noted::{BadLine, Noted, Row};
 use epx_types::Memory;
+use epx_versions::{BadLine, Noted, Row};
 use std::alloc::Global;
 
 /// How many of the rows are of each log.

@@ -17,9 +17,9 @@ ghost use Rattle.epx_compare.specs.inner.NumberedVersions.{place_at, names_of};
 use crate::catalog::Catalog;
 use crate::comparison_lines::append_line;
 use crate::members::Members;
-use crate::noted::Row;
 use epx_rows::Rows;
 use epx_types::{Id, Memory, Place};
+use epx_versions::Row;
 use serde_json::{Value, json};
 use std::alloc::{AllocError, Global};
 

@@ -8,9 +8,9 @@ ghost use Rattle.epx_compare.specs.Gaps.{gaps_of, goes_on, widened};
 ghost use Rattle.epx_compare.specs.inner.LogMarks.{is_line_in, is_marked, IsMarking};
 
 use crate::log_set::LogSet;
-use crate::noted::Row;
 use epx_types::limits::MAX_LOGS;
 use epx_types::{Id, Memory};
+use epx_versions::Row;
 use std::alloc::Global;
 use std::marker::Model;
 

@@ -11,18 +11,9 @@ mod counts;
 mod differences;
 mod gap_lines;
 mod gaps;
-mod hashed_version;
-mod known_lines;
 pub mod laws;
 mod log_set;
 mod members;
-mod next_batch;
-mod note_lines;
-mod noted;
-mod noted_lines;
-mod read_lines;
 mod unmet;
-mod version;
-mod versions;
 
 pub use comparison::{Comparison, compare, compare_during};

@@ -1,10 +1,10 @@
 //! The members in which versions differ.
 ghost use Rattle.std.specs.Prelude.{◌≡◌, ◌<◌, ◌||◌, not, length, map, All};
-ghost use Rattle.epx_compare.specs.SameInstances.{same_seq, same_deps, same_ops};
+ghost use Rattle.epx_versions.specs.SameInstances.{same_seq, same_deps, same_ops};
 ghost use Rattle.epx_compare.specs.inner.NumberedVersions.{version_at, differs_from, AreDiffering};
 
-use crate::versions::Versions;
 use epx_types::Entry;
+use epx_versions::Versions;
 
 /// Whether versions differ, member by member.
 #[derive(Clone, Copy, Debug, Default)]

@@ -8,9 +8,9 @@ use Rattle.epx_rows.specs.PositionGroups.{AreGroupsOf}
 use Rattle.epx_compare.specs.declared.catalog.Catalog.{Catalog}
 use Rattle.epx_compare.specs.declared.comparison.Comparison.{Comparison}
 use Rattle.epx_compare.specs.Comparisons.{comparison_text, findings_text}
-use Rattle.epx_compare.specs.Differences.{versions_of}
+use Rattle.epx_versions.specs.LineVersions.{versions_of}
 use Rattle.epx_compare.specs.Unmet.{AreUnmet}
-use Rattle.epx_compare.specs.inner.NotedRows.{AreNoted}
+use Rattle.epx_versions.specs.NotedRows.{AreNoted}
 
 -- the Id of each version, in the order of their numbers
 abbrev pub version_ids : List Placed → List Id

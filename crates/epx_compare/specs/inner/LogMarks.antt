@@ -4,7 +4,7 @@ use Rattle.std.specs.Prelude.{slice_index_or}
 use Rattle.std.specs.Int.{bit_at}
 use Rattle.epx_types.specs.declared.id.Id.{Id}
 use Rattle.epx_compare.specs.declared.log_set.LogSet.{LogSet}
-use Rattle.epx_compare.specs.declared.noted.Row.{Row}
+use Rattle.epx_versions.specs.declared.noted.Row.{Row}
 
 -- the row is of this log, and of the instance at this position
 abbrev pub is_line_in : List ℕ → ℕ → ℕ → Row → Bool

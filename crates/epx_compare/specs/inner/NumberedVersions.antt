@@ -4,9 +4,9 @@ use Rattle.std.specs.List.{list_any}
 use Rattle.epx_types.specs.declared.place.Place.{Place}
 use Rattle.epx_types.specs.Instances.{Instance}
 use Rattle.epx_compare.specs.declared.members.Members.{Members}
-use Rattle.epx_compare.specs.declared.noted.Row.{Row}
+use Rattle.epx_versions.specs.declared.noted.Row.{Row}
 use Rattle.epx_compare.specs.Differences.{named_if}
-use Rattle.epx_compare.specs.SameInstances.{same_seq, same_deps, same_ops}
+use Rattle.epx_versions.specs.SameInstances.{same_seq, same_deps, same_ops}
 
 -- past the last version, any instance
 abbrev pub version_at : List Instance → ℕ → Instance

@@ -8,7 +8,7 @@ use Rattle.epx_types.specs.contracts.id.IdPartialEq.TheImpl as id_eq
 use Rattle.epx_types.specs.declared.id.Id.{Id}
 use Rattle.epx_types.specs.Instances.{Instance}
 use Rattle.epx_types.specs.PlacedLines.{Placed}
-use Rattle.epx_compare.specs.SameInstances.{same_id}
+use Rattle.epx_versions.specs.SameInstances.{same_id}
 use Rattle.epx_compare.specs.Unmet.{depends_on}
 
 -- what a map stores for a count

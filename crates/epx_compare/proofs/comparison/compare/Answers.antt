@@ -4,8 +4,9 @@ use Rattle.std.specs.declared.alloc.Global.{Global}
 use Rattle.epx_merge.specs.Limits.{max_logs}
 use Rattle.epx_merge.specs.LogLines.{MeaningAt, bytes_of, meanings_of}
 use Rattle.epx_merge.specs.Refusals.{NoneTooLong}
-use Rattle.epx_compare.specs.declared.noted_lines.NotedLines.{NotedLines}
-use Rattle.epx_compare.specs.inner.NotedLines.{AreNotedLines, AreNotedLogs}
+use Rattle.epx_versions.specs.declared.noted_lines.NotedLines.{NotedLines}
+use Rattle.epx_versions.specs.NotedLines.{AreNotedLines}
+use Rattle.epx_compare.specs.inner.NotedLogs.{AreNotedLogs}
 use Rattle.epx_compare.proofs.ComparisonResultLemmas.{answer_of, found_of}
 use Rattle.epx_compare.proofs.NotedLogLemmas.{logs_of_lines}
 use Rattle.epx_compare.proofs.comparison.compare.Goals as goal

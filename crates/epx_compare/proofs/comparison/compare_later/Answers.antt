@@ -6,8 +6,9 @@ use Rattle.epx_merge.specs.Limits.{max_logs}
 use Rattle.epx_merge.specs.LogLines.{MeaningAt, bytes_of, meanings_from, meanings_of}
 use Rattle.epx_merge.specs.Refusals.{NoneTooLong}
 use Rattle.epx_merge.proofs.LaterLogLemmas.{few_with_later, lines_with_later}
-use Rattle.epx_compare.specs.declared.noted_lines.NotedLines.{NotedLines}
-use Rattle.epx_compare.specs.inner.NotedLines.{AreNotedLines, AreNotedLogs}
+use Rattle.epx_versions.specs.declared.noted_lines.NotedLines.{NotedLines}
+use Rattle.epx_versions.specs.NotedLines.{AreNotedLines}
+use Rattle.epx_compare.specs.inner.NotedLogs.{AreNotedLogs}
 use Rattle.epx_compare.proofs.NotedLogLemmas.{logs_of_lines}
 use Rattle.epx_compare.proofs.comparison.compare_later.Goals as goal
 

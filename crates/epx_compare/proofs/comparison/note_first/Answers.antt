@@ -1,6 +1,6 @@
 use Rattle.std.proofs.Common.{[], subst}
 use Rattle.std.proofs.lemmas.Result.{IfOk-weaker}
-use Rattle.epx_compare.specs.inner.NotedLines.{AreNotedLines}
+use Rattle.epx_versions.specs.NotedLines.{AreNotedLines}
 use Rattle.epx_compare.proofs.comparison.note_first.Goals as goal
 
 pub returns : goal.returns

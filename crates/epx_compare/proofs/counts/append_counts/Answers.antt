@@ -4,7 +4,7 @@ use Rattle.std.proofs.lemmas.List.{get_or_default}
 use Rattle.epx_report.specs.ReportLines.{line_of}
 use Rattle.epx_compare.specs.ComparisonLines.{log_data}
 use Rattle.epx_compare.specs.Comparisons.{counts_text}
-use Rattle.epx_compare.specs.Differences.{versions_of}
+use Rattle.epx_versions.specs.LineVersions.{versions_of}
 use Rattle.epx_compare.specs.LogCounts.{lines_in, bad_lines_in}
 use Rattle.epx_compare.proofs.LogTextLemmas.{for_logs-snoc, rows_count, bad_count}
 use Rattle.epx_compare.proofs.counts.append_counts.Goals as goal

@@ -3,7 +3,7 @@ use Rattle.std.proofs.Common.{arith}
 use Rattle.std.proofs.lemmas.List.{length-set, get_or_default}
 use Rattle.std.specs.declared.alloc.Global.{Global}
 use Rattle.epx_types.specs.declared.fault.Why.TheVariants.{TooLong}
-use Rattle.epx_compare.specs.declared.noted.BadLine.{BadLine}
+use Rattle.epx_versions.specs.declared.noted.BadLine.{BadLine}
 use Rattle.epx_compare.proofs.LogCountLemmas.{count_small, count_more, count_same}
 use Rattle.epx_compare.proofs.counts.count_bad.Goals as goal
 use Rattle.epx_compare.proofs.counts.count_bad.Goals.{then-log-logs, else-log-logs}

@@ -2,7 +2,7 @@ use Rattle.std.proofs.Common.{◌≡◌, ◌∙◌, ◌+◌, ◌<◌, ℕ, List,
 use Rattle.std.proofs.Common.{arith}
 use Rattle.std.proofs.lemmas.List.{length-set, get_or_default}
 use Rattle.std.specs.declared.alloc.Global.{Global}
-use Rattle.epx_compare.specs.declared.noted.Row.{Row}
+use Rattle.epx_versions.specs.declared.noted.Row.{Row}
 use Rattle.epx_compare.proofs.LogCountLemmas.{count_small, count_more, count_same}
 use Rattle.epx_compare.proofs.counts.count_rows.Goals as goal
 use Rattle.epx_compare.proofs.counts.count_rows.Goals.{then-log-logs, else-log-logs}

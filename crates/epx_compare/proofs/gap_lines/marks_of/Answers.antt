@@ -4,8 +4,8 @@ use Rattle.std.proofs.lemmas.List.{length-map}
 use Rattle.std.proofs.lemmas.Result.{IfOk-weaker}
 use Rattle.std.specs.List.{list_any}
 use Rattle.epx_types.specs.declared.id.Id.{Id}
-use Rattle.epx_compare.specs.declared.noted.Row.{Row}
-use Rattle.epx_compare.specs.Differences.{versions_of}
+use Rattle.epx_versions.specs.declared.noted.Row.{Row}
+use Rattle.epx_versions.specs.LineVersions.{versions_of}
 use Rattle.epx_compare.specs.inner.Catalogs.{version_ids}
 use Rattle.epx_compare.specs.inner.LogMarks.{is_line_in}
 use Rattle.epx_compare.proofs.CatalogLemmas.{as_many, positions_within, rows_named}

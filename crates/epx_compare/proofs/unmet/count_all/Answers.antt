@@ -9,7 +9,7 @@ use Rattle.epx_rows.specs.Rows.{row_of}
 use Rattle.epx_types.specs.declared.id.Id.{Id}
 use Rattle.epx_types.specs.Instances.{Instance}
 use Rattle.epx_types.specs.PlacedLines.{Placed}
-use Rattle.epx_compare.specs.SameInstances.{same_id}
+use Rattle.epx_versions.specs.SameInstances.{same_id}
 use Rattle.epx_compare.specs.Unmet.{depends_on}
 use Rattle.epx_compare.specs.inner.UnmetCounts.{AreCounts, with_one, is_unmet, unmet_count}
 use Rattle.epx_compare.specs.inner.UnmetCounts.{deps_of}

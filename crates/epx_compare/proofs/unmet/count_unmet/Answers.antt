@@ -3,7 +3,7 @@ use Rattle.std.proofs.Common.{Contains, Option, MatchOption, true, false, is_som
 use Rattle.std.proofs.lemmas.Option.{slice_get-get_or}
 use Rattle.epx_types.specs.declared.id.Id.{Id}
 use Rattle.epx_types.proofs.lists.ListPositionLemmas.{Contains-slice_get}
-use Rattle.epx_compare.specs.SameInstances.{same_id}
+use Rattle.epx_versions.specs.SameInstances.{same_id}
 use Rattle.epx_compare.specs.inner.UnmetCounts.{AreCounts, with_one, is_unmet}
 use Rattle.epx_compare.proofs.UnmetCountLemmas.{AreCounts-agree, committed_next, unmet_next}
 use Rattle.epx_compare.proofs.UnmetCountLemmas.{not_counted}

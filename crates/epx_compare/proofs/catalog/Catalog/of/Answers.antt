@@ -2,7 +2,7 @@ use Rattle.std.proofs.Common.{◌≡◌, ◌∙◌, ◌<◌, ◌↔◌, ℕ, Lis
 use Rattle.std.proofs.Common.{sym, ap, subst}
 use Rattle.epx_types.specs.declared.id.Id.{Id}
 use Rattle.epx_rows.specs.PositionGroups.{AreGroupsOf}
-use Rattle.epx_compare.specs.Differences.{versions_of}
+use Rattle.epx_versions.specs.LineVersions.{versions_of}
 use Rattle.epx_compare.specs.inner.Catalogs.{version_ids}
 use Rattle.epx_compare.proofs.CatalogLemmas.{positions_within, rows_within}
 use Rattle.epx_compare.proofs.catalog.Catalog.of.Goals as goal

@@ -1,5 +1,5 @@
 use Rattle.std.proofs.Common.{◌≡◌, take}
-use Rattle.epx_compare.specs.SameInstances.{same_seq, same_deps, same_ops}
+use Rattle.epx_versions.specs.SameInstances.{same_seq, same_deps, same_ops}
 use Rattle.epx_compare.specs.inner.NumberedVersions.{differs_from}
 use Rattle.epx_compare.proofs.members.Members.from_first.Given as goal
 

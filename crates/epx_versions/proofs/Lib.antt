@@ -1,0 +1,4 @@
+mod VersionLemmas
+mod HashedVersionLemmas
+mod KnownLineLemmas
+mod NotedBatchLemmas

@@ -1,0 +1,11 @@
+-- What lines commit.
+use Rattle.std.specs.Prelude.{◌∷◌, not, List, [], filter}
+use Rattle.epx_types.specs.Instances.{Instance}
+use Rattle.epx_types.specs.PlacedLines.{Placed}
+use Rattle.epx_versions.specs.SameInstances.{same_instance}
+
+-- what the lines commit, each once, in the order of its first line
+abbrev pub versions_of : List Placed → List Instance
+versions_of [] = []
+versions_of (p ∷ lines) =
+    p.instance ∷ filter (λ e. not (same_instance p.instance e)) (versions_of lines)

@@ -1,0 +1,25 @@
+-- What is noted of lines: a row for each line that commits an instance, the versions that the rows
+-- name, and the bad lines.
+use Rattle.std.specs.Prelude.{◌≡◌, List, map, Some, slice_get}
+use Rattle.std.specs.List.{AllZip}
+use Rattle.epx_types.specs.Instances.{Instance}
+use Rattle.epx_types.specs.PlacedLines.{Placed}
+use Rattle.epx_merge.specs.LogLines.{BadLineAt}
+use Rattle.epx_versions.specs.declared.noted.BadLine.{BadLine}
+use Rattle.epx_versions.specs.declared.noted.Noted.{Noted}
+use Rattle.epx_versions.specs.declared.noted.Row.{Row}
+use Rattle.epx_versions.specs.LineVersions.{versions_of}
+
+-- the row has the place of the line, and the number of what it commits
+pub record IsRowOf (versions : List Instance) (row : Row) (line : Placed) : Type 0 where
+  pub place : row.place ≡ line.place
+  pub version : slice_get versions row.version ≡ Some line.instance
+
+abbrev pub bad_line_at : BadLine → BadLineAt
+bad_line_at b = record { place = b.place; why = b.why }
+
+-- these lines, and these bad ones, are noted
+pub record AreNoted (lines : List Placed) (bad : List BadLineAt) (noted : Noted) : Type 0 where
+  pub versions : noted.versions.keys ≡ versions_of lines
+  pub rows : AllZip (IsRowOf (versions_of lines)) noted.rows.items lines
+  pub bad_lines : map bad_line_at noted.bad.items ≡ bad

@@ -1,0 +1,67 @@
+-- The laws of the test that compares two instances: it decides whether they are equal.
+use Rattle.std.proofs.Common.{◌≡◌, ◌∙◌, Bool, true, ◌&&◌, arith, is_eq, refl, sym, subst, ap}
+use Rattle.std.proofs.Common.{Ordering, Less, Equal, Greater}
+use Rattle.std.specs.Bool.{Decides}
+use Rattle.std.specs.Cmp.{IsEquivalence, IsPartialEquivalence, partial_equiv_from_equiv}
+use Rattle.std.specs.Cmp.{decided, first_so, second_so, tied_itself}
+use Rattle.std.specs.Cmp.Lexicographic.{pointwise_decides}
+use Rattle.std.proofs.lemmas.Bool.Decides.{nat_tests}
+use Rattle.epx_types.specs.declared.id.Id.{Id}
+use Rattle.epx_types.specs.Ids.{id_cmp}
+use Rattle.epx_types.specs.Instances.{Instance}
+use Rattle.epx_types.proofs.lists.ComparisonLemmas.{id_cmp_total, id_cmp-IsAntisymmetric}
+use Rattle.epx_types.proofs.commands.EqualityLemmas.{ops_decide}
+use Rattle.epx_versions.specs.SameInstances.{same_id, same_seq, same_deps, same_ops}
+use Rattle.epx_versions.specs.SameInstances.{same_instance}
+
+tied : (r : Ordering) → is_eq r ≡ true → r ≡ Equal
+tied Less h = absurd (cc h)
+tied Equal h = refl
+tied Greater h = absurd (cc h)
+
+pub ids_decide : (x y : Id) → Decides (same_id x y) (x ≡ y)
+ids_decide x y = (
+  λ h. id_cmp-IsAntisymmetric x y (tied (id_cmp x y) h),
+  λ e. ap (λ z. is_eq (id_cmp x z)) (sym e) ∙ ap is_eq (tied_itself id_cmp_total x),
+)
+
+pub deps_decide : (d e : Instance) → Decides (same_deps d e) (d.deps ≡ e.deps)
+deps_decide d e = pointwise_decides ids_decide d.deps e.deps
+
+pub commands_decide : (d e : Instance) → Decides (same_ops d e) (d.ops ≡ e.ops)
+commands_decide d e = pointwise_decides ops_decide d.ops e.ops
+
+pub seqs_decide : (d e : Instance) → Decides (same_seq d e) (d.seq ≡ e.seq)
+seqs_decide d e = (λ h. grind (arith, nat_tests), λ h. grind (arith, nat_tests))
+
+both : {a b : Bool} → a ≡ true → b ≡ true → a && b ≡ true
+both {a} {b} p q = cc
+
+pub same_by_test : (d e : Instance) → same_instance d e ≡ true → d ≡ e
+same_by_test d e same =
+    let first = first_so ((same_id d.id e.id && same_seq d e) && same_deps d e) _ same in
+    let ops = second_so ((same_id d.id e.id && same_seq d e) && same_deps d e) _ same in
+    let second = first_so (same_id d.id e.id && same_seq d e) _ first in
+    let deps = second_so (same_id d.id e.id && same_seq d e) _ first in
+    let id = (ids_decide d.id e.id).0 (first_so (same_id d.id e.id) _ second) in
+    let seq = (seqs_decide d e).0 (second_so (same_id d.id e.id) _ second) in
+    let dep = (deps_decide d e).0 deps in
+    let op = (commands_decide d e).0 ops in
+    λ i. record { id = id i; seq = seq i; deps = dep i; ops = op i }
+
+same_itself : (d : Instance) → same_instance d d ≡ true
+same_itself d = both (both (both ((ids_decide d.id d.id).1 refl) ((seqs_decide d d).1 refl))
+    ((deps_decide d d).1 refl)) ((commands_decide d d).1 refl)
+
+pub instances_decide : (d e : Instance) → Decides (same_instance d e) (d ≡ e)
+instances_decide d e = (
+  same_by_test d e,
+  λ same. let P : Instance → Type 0 = λ x. same_instance d x ≡ true in
+      subst P same (same_itself d),
+)
+
+pub same_instance_equiv : IsEquivalence same_instance
+same_instance_equiv = decided same_instance instances_decide
+
+pub same_instance_per : IsPartialEquivalence same_instance
+same_instance_per = partial_equiv_from_equiv same_instance_equiv
