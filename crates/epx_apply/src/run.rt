@@ -232,17 +232,32 @@ impl RunState {
     }
 }
 
-/// Runs all commands one after another.
-fn run_all(alloc: Global, store: Store, commands: &[Command]) -> Result<RunState, Memory>
-    ensures store { IfOk result (λ w. w.store ≡ (execute (op_lists_of commands.now) store).final) }
+/// Runs all commands one after another. Returns the store after them, and their replies.
+pub fn run_one_by_one(
+    alloc: Global,
+    store: Store,
+    commands: &[Command],
+) -> Result<(Store, Vec<Reply>), Memory>
+    ensures store { IfOk result
+        (λ v. v.0 ≡ (execute (map (λ c. c.ops.now) commands.now) store).final) }
     ensures replies { IfOk result
-        (λ w. w.replies.items ≡ (execute (op_lists_of commands.now) store).replies) }
+        (λ v. v.1.items ≡ (execute (map (λ c. c.ops.now) commands.now) store).replies) }
 {
     let mut store = store;
     let mut replies = Vec::with_capacity(alloc, commands.len())?;
     for command in commands {
         replies.push(apply(alloc, &mut store, command.ops)?)?;
     }
+    Ok((store, replies))
+}
+
+/// Does the same.
+fn run_all(alloc: Global, store: Store, commands: &[Command]) -> Result<RunState, Memory>
+    ensures store { IfOk result (λ w. w.store ≡ (execute (op_lists_of commands.now) store).final) }
+    ensures replies { IfOk result
+        (λ w. w.replies.items ≡ (execute (op_lists_of commands.now) store).replies) }
+{
+    let (store, replies) = run_one_by_one(alloc, store, commands)?;
     Ok(RunState { store, replies })
 }
 

@@ -13,7 +13,8 @@ use Rattle.epx_types.proofs.orders.LawfulExecutionLemmas.{final-lawful, reply-la
 use Rattle.epx_merge.specs.Acceptance.{IsAccepted}
 use Rattle.epx_merge.proofs.UniquenessLemmas.{accepted_unique}
 use Rattle.epx_report.specs.Lists.{IsList}
-use Rattle.epx_tool.specs.Report.{ops_found, commands_of}
+use Rattle.epx_replay.specs.FoundCommands.{ops_found}
+use Rattle.epx_tool.specs.Report.{commands_of}
 use Rattle.epx_report.specs.ViewLines.{lawful_line}
 use Rattle.epx_tool.specs.CheckAnswers.{Checks}
 use Rattle.epx_tool.specs.CheckLaws.{LawfulTextMeansLawful, LawfulListExecutesAlike}

@@ -12,7 +12,6 @@ mod AnswerWithInputLemmas
 mod InputReadingLemmas
 mod AnswerLemmas
 mod OrderLengthLemmas
-mod PairRangeLemmas
 mod ReportPartsLemmas
 mod AcceptedLogLemmas
 mod OrderCommandLemmas

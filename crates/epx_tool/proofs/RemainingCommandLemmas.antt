@@ -12,8 +12,7 @@ use Rattle.epx_types.specs.Done.{remaining}
 use Rattle.epx_types.proofs.lists.ComparisonLemmas.{id_cmp-IsAntisymmetric}
 use Rattle.epx_types.proofs.remaining.RemainingLemmas.{is_among_cases}
 use Rattle.epx_types.proofs.lists.MembershipLemmas.{Contains-head, Contains-cons}
-use Rattle.epx_tool.specs.Report.{ops_found}
-use Rattle.epx_tool.proofs.OrderCommandLemmas.{commands_by_id}
+use Rattle.epx_replay.specs.FoundCommands.{commands_by_id, ops_found}
 
 module _ (done : List Id) where
   -- the remaining map is not longer than the whole

@@ -23,7 +23,8 @@ use Rattle.epx_report.specs.ReportLines.{store_line}
 use Rattle.epx_report.specs.ReportBases.{replied_ids, AreLinesInOrder, AreDoneAfter}
 use Rattle.epx_report.specs.ReportReadings.{ReportData, text_of_report}
 use Rattle.epx_report.proofs.ReportBaseLemmas.{report_is_a_base}
-use Rattle.epx_tool.specs.Report.{IsReport, commands_of, ops_found, report_text}
+use Rattle.epx_replay.specs.FoundCommands.{ops_found}
+use Rattle.epx_tool.specs.Report.{IsReport, commands_of, report_text}
 use Rattle.epx_tool.specs.ResumedReport.{IsReportAfter}
 use Rattle.epx_tool.specs.ResumptionLaws.{ReportIsAfterNothing, ReportIsBase, reported_of, run_in}
 use Rattle.epx_tool.proofs.ReportLemmas.{executed_is_left, IsReport-after_nothing}

@@ -15,7 +15,8 @@ use Rattle.epx_types.specs.ExecutionOrder.{Ranked, IsExecutionOrder, ranked_ids}
 use Rattle.epx_types.specs.WaitingLists.{Waiting, IsWaitingList}
 use Rattle.epx_types.specs.Levels.{AreLevels}
 use Rattle.epx_committed.specs.InstanceCounts.{max_instances}
-use Rattle.epx_tool.specs.Report.{IsReport, ops_found, commands_of, report_text}
+use Rattle.epx_replay.specs.FoundCommands.{commands_by_id, ops_found}
+use Rattle.epx_tool.specs.Report.{IsReport, commands_of, report_text}
 use Rattle.epx_tool.specs.ResumedReport.{IsReportAfter, resumed_text}
 use Rattle.epx_tool.specs.LevelText.{IsLevelText, level_text}
 use Rattle.epx_tool.specs.AuditText.{IsAuditText}
@@ -26,13 +27,13 @@ use Rattle.epx_types.proofs.remaining.RemainingLemmas.{Contains-remaining_iff, r
 use Rattle.epx_types.proofs.commands.ExecutionLemmas.{length-replies}
 use Rattle.epx_types.proofs.orders.ExecutionOrderLemmas.{IsExecutionOrder-IsLawful}
 use Rattle.epx_tool.proofs.OrderLengthLemmas.{ordered_are_few}
-use Rattle.epx_tool.proofs.OrderCommandLemmas.{commands_by_id, commands_are}
+use Rattle.epx_tool.proofs.OrderCommandLemmas.{commands_are}
 use Rattle.epx_tool.proofs.RemainingCommandLemmas.{commands-left, length-remaining}
 
 module _ (done : List Id) (m : List Instance) (order : List Ranked)
     (ordered : IsExecutionOrder (remaining done m) order) (ids : List Id)
     (are : ids ≡ ranked_ids order) where
-  pub few_ordered : length m ≤ max_instances → length order ≤ 2 ^ 40
+  few_ordered : length m ≤ max_instances → length order ≤ 2 ^ 40
   few_ordered few = omega (
     arith,
     few,
@@ -40,24 +41,11 @@ module _ (done : List Id) (m : List Instance) (order : List Ranked)
     length-remaining done m,
   )
 
-  pub few_commands : length m ≤ max_instances
-      → {C : Type 0} (ops : C → List Op) (commands : List C)
-      → map ops commands ≡ commands_by_id m ids → length commands ≤ 2 ^ 40
-  few_commands few ops commands e =
-      let many : length commands ≡ length order =
-      sym (length-map commands ops) ∙ ap length e
-      ∙ length-map ids (λ x. ops_found (instance_of m x))
-      ∙ ap length are ∙ length-map order (λ (r : Ranked). r.id) in
+  pub few_ids : length m ≤ max_instances → length ids ≤ 2 ^ 40
+  few_ids few =
+      let many : length ids ≡ length order =
+      ap length are ∙ length-map order (λ (r : Ranked). r.id) in
       omega (arith, many, few_ordered few)
-
-  -- each executed instance has a reply
-  pub as_many_replies : (stored : Contents) (replies : List Reply)
-      → replies ≡ (execute (commands_by_id m ids) stored).replies
-      → length replies ≡ length order
-  as_many_replies stored replies e =
-      ap length e ∙ length-replies (commands_by_id m ids) stored
-      ∙ length-map ids (λ x. ops_found (instance_of m x))
-      ∙ ap length are ∙ length-map order (λ (r : Ranked). r.id)
 
   -- an instance that is executed is not done
   pub executed_is_left : (x : Id) → Contains ids x → ¬ Contains done x

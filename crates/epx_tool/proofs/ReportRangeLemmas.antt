@@ -49,7 +49,8 @@ use Rattle.epx_report.proofs.LineRangeLemmas.{IsStoreKey, FitsCommand, FitsInsta
 use Rattle.epx_report.proofs.LineRangeLemmas.{line_fits, of_all}
 use Rattle.epx_report.proofs.BaseRangeLemmas.{FitsBase}
 use Rattle.epx_report.proofs.ExecutionRangeLemmas.{execute_fits}
-use Rattle.epx_tool.specs.Report.{ops_found, commands_of}
+use Rattle.epx_replay.specs.FoundCommands.{ops_found}
+use Rattle.epx_tool.specs.Report.{commands_of}
 use Rattle.epx_tool.specs.ResumedReport.{IsReportAfter}
 use Rattle.epx_tool.specs.ResumptionLaws.{reported_of, run_in}
 use Rattle.epx_tool.proofs.RemainingCommandLemmas.{length-remaining}

@@ -1,6 +1,5 @@
 -- The text of a report.
-use Rattle.std.specs.Prelude.{◌≡◌, ℕ, List, [], ◌++◌, map, length, flat_map, zip, Option, Some}
-use Rattle.std.specs.Prelude.{None}
+use Rattle.std.specs.Prelude.{◌≡◌, ℕ, List, ◌++◌, map, length, flat_map, zip}
 use Rattle.std.specs.FinMap as contents
 use Rattle.epx_types.specs.declared.op.Op.{Op}
 use Rattle.epx_types.specs.Instances.{Instance}
@@ -8,11 +7,8 @@ use Rattle.epx_types.specs.CommittedMap.{instance_of}
 use Rattle.epx_types.specs.Execution.{execute, Execution}
 use Rattle.epx_types.specs.ExecutionOrder.{Ranked, IsExecutionOrder, ranked_ids, component_count}
 use Rattle.epx_types.specs.WaitingLists.{Waiting, IsWaitingList}
+use Rattle.epx_replay.specs.FoundCommands.{ops_found}
 use Rattle.epx_report.specs.ReportLines.{header_line, reply_line, waiting_line, store_line}
-
-abbrev pub ops_found : Option Instance → List Op
-ops_found None = []
-ops_found (Some e) = e.ops
 
 -- the commands of the instances of an order
 abbrev pub commands_of : List Instance → List Ranked → List (List Op)

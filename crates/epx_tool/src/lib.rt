@@ -5,7 +5,6 @@
 mod answers;
 mod ask;
 mod checked_runs;
-mod commands;
 mod compared_sources;
 mod findings;
 mod input_answers;
@@ -16,7 +15,6 @@ pub mod laws;
 mod map_texts;
 mod merged_sources;
 mod question;
-mod reply_lines;
 mod report;
 mod resumed_runs;
 mod runs;

@@ -1,112 +1,83 @@
 //! The texts of a committed map: the report and the views.
-ghost use Rattle.std.specs.Prelude.{◌≡◌, ◌≤◌, ◌^◌, length, map, IfOk, OnOk};
-ghost use Rattle.std.specs.Thread.{IsSync};
-ghost use Rattle.epx_types.specs.CommittedMap.{instance_of};
-ghost use Rattle.epx_types.specs.Execution.{execute};
+ghost use Rattle.std.specs.Prelude.{◌≡◌, ◌≤◌, ◌++◌, length, IfOk};
 ghost use Rattle.epx_types.specs.Ids.{IsRising};
 ghost use Rattle.epx_types.specs.Levels.{AreLevels};
 ghost use Rattle.epx_committed.specs.InstanceCounts.{max_instances};
 ghost use Rattle.epx_tool.specs.OrderText.{IsOrderText};
 ghost use Rattle.epx_tool.specs.LevelText.{IsLevelText};
 ghost use Rattle.epx_tool.specs.AuditText.{IsAuditText};
-ghost use Rattle.epx_tool.specs.Report.{ops_found, IsReport};
-ghost use Rattle.epx_tool.specs.ResumedReport.{resumed_text, IsReportAfter};
+ghost use Rattle.epx_replay.specs.FoundCommands.{commands_by_id};
+ghost use Rattle.epx_tool.specs.Report.{IsReport};
+ghost use Rattle.epx_tool.specs.ResumedReport.{IsReportAfter};
+ghost use Rattle.epx_tool.specs.inner.ReportParts.{closing_text};
 ghost use Rattle.epx_tool.specs.MapTexts.{IsMapText};
 ghost use Rattle.epx_picture.specs.Pictures.{IsPicture};
 ghost use Rattle.epx_why.specs.WhyTexts.{IsWhyText, IsPathText};
 ghost use Rattle.epx_trace.specs.TraceTexts.{IsTraceText};
 
-use crate::commands::{all_commands, commands};
 use crate::question::MapText;
-use crate::report::{level_report, order_report, report};
+use crate::report::{begin_report, end_report, level_report, order_report};
 use crate::verdict::audit_line;
-use epx_apply::{LevelMap, levels, run_order};
-use epx_claims::FreeGate;
+use epx_apply::{LevelMap, levels};
 use epx_graph::{Waiter, build, build_after, waiting};
 use epx_merge::Merged;
 use epx_names::KeyName;
 use epx_order::{OrderList, audit, order};
 use epx_picture::picture;
+use epx_replay::{commands_of, replay};
 use epx_trace::trace_text;
 use epx_txn::Store;
-use epx_types::{Id, Memory, Plan, Reply};
+use epx_types::{Id, Memory, Plan};
 use epx_why::{path_text, why_text};
 use std::alloc::Global;
-use std::random::RandomSource;
 use std::thread::{Threads, join};
 
 /// The conflict levels of the commands of some instances.
 fn command_levels(alloc: Global, merged: &Merged, ids: &[Id]) -> Result<LevelMap, Memory>
     ensures { IfOk result
-        (AreLevels (map (λ x. ops_found (instance_of merged.now x)) ids.now)) }
+        (AreLevels (commands_by_id merged.now ids.now)) }
 {
-    let commands = commands(alloc, merged, ids)?;
+    let commands = commands_of(alloc, merged, ids)?;
     levels(alloc, &commands)
 }
 
-/// Executes the commands of some instances on a store, and returns their replies.
-fn execute_all<R: Threads + RandomSource + Sync>(
-    rt: &R,
-    alloc: Global,
-    merged: &Merged,
-    ids: &[Id],
-    store: &mut Store,
-    plan: Plan,
-) -> Result<Vec<Reply>, Memory>
-    requires { length ids.now ≤ 2 ^ 40 }
-    ensures replies { IfOk result (λ replies. replies.items
-        ≡ (execute (map (λ x. ops_found (instance_of merged.now x)) ids.now) store.old).replies) }
-    ensures after { OnOk result (store.new
-        ≡ (execute (map (λ x. ops_found (instance_of merged.now x)) ids.now) store.old).final) }
-{
-    let commands = all_commands(rt, alloc, merged, ids, plan)?;
-    run_order(rt, alloc, store, &commands, plan, &FreeGate)
-}
-
-/// Writes the report of an execution. It does not need the map. With several workers another
-/// thread frees the map at the same time.
-fn write_report<R: Threads + Sync>(
+/// Writes the rest of a report, after its replies. It does not need the map. With several workers
+/// another thread frees the map at the same time.
+fn write_rest<R: Threads + Sync>(
     rt: &R,
     alloc: Global,
     plan: Plan,
     merged: Merged,
-    done: &[Id],
-    order: &OrderList,
+    text: Vec<u8>,
     waiters: &[Waiter],
-    replies: &[Reply],
     store: &Store,
 ) -> Result<Vec<u8>, Memory>
-    requires few { length order.now ≤ 2 ^ 40 }
-    requires same { length replies.now ≡ length order.now }
-    ensures { IfOk result (λ text. text.items ≡ resumed_text done.now order.now waiters.now
-        (record { replies = replies.now; final = store.now })) }
+    ensures { IfOk result (λ longer. longer.items
+        ≡ text.items ++ closing_text waiters.now store.now) }
 {
     if plan.workers() == 1 {
         drop(merged);
-        return report(rt, alloc, done, order, waiters, replies, store, plan);
+        return end_report(alloc, text, waiters, store);
     }
     let (_, text) = join(
         rt,
         move || drop(merged),
-        || -> Result<Vec<u8>, Memory>
-            requires { IsSync R.row × (length order.now ≤ 2 ^ 40)
-                × (length replies.now ≡ length order.now) }
-            ensures { IfOk result (λ text.
-                text.items ≡ resumed_text done.entry.now order.entry.now waiters.entry.now
-                (record { replies = replies.entry.now; final = store.entry.now })) }
-        { report(rt, alloc, done, order, waiters, replies, store, plan) },
+        move || -> Result<Vec<u8>, Memory>
+            ensures { IfOk result (λ longer. longer.items
+                ≡ text.items ++ closing_text waiters.entry.now store.entry.now) }
+        { end_report(alloc, text, waiters, store) },
     );
     text
 }
 
 /// Executes the remaining instances of a committed map from a store, and returns the report.
 /// `done` has the done instances by increasing Id.
-pub(crate) fn report_of<R: Threads + RandomSource + Sync>(
+pub(crate) fn report_of<R: Threads + Sync>(
     rt: &R,
     alloc: Global,
     merged: Merged,
     done: &[Id],
-    mut store: Store,
+    store: Store,
     plan: Plan,
 ) -> Result<Vec<u8>, Memory>
     requires few { length merged ≤ max_instances }
@@ -117,10 +88,9 @@ pub(crate) fn report_of<R: Threads + RandomSource + Sync>(
     let order = order(rt, alloc, &merged, &graph)?;
     let waiters = waiting(alloc, &graph)?;
     drop(graph);
-    let replies = execute_all(rt, alloc, &merged, order.ids(), &mut store, plan)?;
-    write_report(
-        rt, alloc, plan, merged, done, &order, &waiters, &replies, &store,
-    )
+    let mut text = begin_report(alloc, done, &order, &waiters)?;
+    let store = replay(rt, alloc, &mut text, store, &merged, order.ids(), plan)?;
+    write_rest(rt, alloc, plan, merged, text, &waiters, &store)
 }
 
 /// The text of the execution order of a committed map.
@@ -231,7 +201,7 @@ fn trace_of<R: Threads + Sync>(
 }
 
 /// A text of a committed map.
-pub(crate) fn text_of<R: Threads + RandomSource + Sync>(
+pub(crate) fn text_of<R: Threads + Sync>(
     rt: &R,
     alloc: Global,
     kind: &MapText,

@@ -1,15 +1,11 @@
 //! The texts of the report, the execution order and the conflict levels.
-ghost use Rattle.std.specs.Prelude.{◌≡◌, ◌≤◌, ◌^◌, ◌++◌, length, flat_map, zip, OnOk, IfOk};
-ghost use Rattle.std.specs.FinMap as contents;
-ghost use Rattle.std.specs.Thread.{IsSync};
-ghost use Rattle.epx_report.specs.ReportLines.{store_line, waiting_line};
+ghost use Rattle.std.specs.Prelude.{◌≡◌, ◌++◌, length, flat_map, zip, OnOk, IfOk};
+ghost use Rattle.epx_report.specs.ReportLines.{waiting_line};
 ghost use Rattle.epx_report.specs.ViewLines.{order_line, level_line};
-ghost use Rattle.epx_tool.specs.ResumedReport.{resumed_text};
-ghost use Rattle.epx_tool.specs.inner.ReportParts.{instance_text};
+ghost use Rattle.epx_tool.specs.inner.ReportParts.{closing_text, opening_text};
 ghost use Rattle.epx_tool.specs.OrderText.{order_text};
 ghost use Rattle.epx_tool.specs.LevelText.{level_text};
 
-use crate::reply_lines::append_all_replies;
 use epx_apply::LevelMap;
 use epx_graph::Waiter;
 use epx_order::OrderList;
@@ -17,9 +13,8 @@ use epx_report::{
     append_done, append_header, append_level, append_ranked, append_store, append_waiter,
 };
 use epx_txn::Store;
-use epx_types::{Id, Memory, Plan, Reply};
+use epx_types::{Id, Memory};
 use std::alloc::{AllocError, Global};
-use std::thread::{Threads, join};
 
 fn append_waiting(alloc: Global, text: &mut Vec<u8>, waiters: &[Waiter]) -> Result<(), AllocError>
     ensures { OnOk result (text.new.items ≡ text.old.items ++ flat_map waiting_line waiters.now) }
@@ -66,20 +61,14 @@ fn append_levels(
     Ok(())
 }
 
-/// The header, the done instances, the replies in execution order, and the instances that wait.
-fn instance_text<R: Threads + Sync>(
-    rt: &R,
+/// What a report has before its replies: the header, and the done instances.
+pub(crate) fn begin_report(
     alloc: Global,
     done: &[Id],
     order: &OrderList,
     waiters: &[Waiter],
-    replies: &[Reply],
-    plan: Plan,
 ) -> Result<Vec<u8>, Memory>
-    requires few { length order.now ≤ 2 ^ 40 }
-    requires same { length replies.now ≡ length order.now }
-    ensures { IfOk result (λ text. text.items
-        ≡ instance_text done.now order.now waiters.now replies.now) }
+    ensures { IfOk result (λ text. text.items ≡ opening_text done.now order.now waiters.now) }
 {
     let mut text = Vec::new(alloc);
     append_header(
@@ -90,57 +79,23 @@ fn instance_text<R: Threads + Sync>(
         order.component_count(),
     )?;
     append_done(alloc, &mut text, done)?;
-    append_all_replies(rt, alloc, &mut text, order.ids(), replies, plan)?;
-    append_waiting(alloc, &mut text, waiters)?;
     Ok(text)
 }
 
-/// The lines of a store, by the bytes of its keys.
-fn store_text(alloc: Global, store: &Store) -> Result<Vec<u8>, Memory>
-    ensures { IfOk result (λ text. text.items ≡ flat_map store_line (contents.entries store.now)) }
-{
-    let mut text = Vec::new(alloc);
-    append_store(alloc, &mut text, store)?;
-    Ok(text)
-}
-
-/// The header, the done instances, the replies in execution order, the instances that wait, and
-/// the store, by the bytes of its keys. With several workers another thread writes the store.
-pub(crate) fn report<R: Threads + Sync>(
-    rt: &R,
+/// Appends what a report has after its replies: the instances that wait, and the store, by the
+/// bytes of its keys.
+pub(crate) fn end_report(
     alloc: Global,
-    done: &[Id],
-    order: &OrderList,
+    text: Vec<u8>,
     waiters: &[Waiter],
-    replies: &[Reply],
     store: &Store,
-    plan: Plan,
 ) -> Result<Vec<u8>, Memory>
-    requires few { length order.now ≤ 2 ^ 40 }
-    requires same { length replies.now ≡ length order.now }
-    ensures { IfOk result (λ text. text.items ≡ resumed_text done.now order.now waiters.now
-        (record { replies = replies.now; final = store.now })) }
+    ensures { IfOk result (λ longer. longer.items
+        ≡ text.items ++ closing_text waiters.now store.now) }
 {
-    if plan.workers() == 1 {
-        let mut text = instance_text(rt, alloc, done, order, waiters, replies, plan)?;
-        append_store(alloc, &mut text, store)?;
-        return Ok(text);
-    }
-    let (text, stored) = join(
-        rt,
-        || -> Result<Vec<u8>, Memory>
-            requires { IsSync R.row × (length order.now ≤ 2 ^ 40)
-                × (length replies.now ≡ length order.now) }
-            ensures { IfOk result (λ text. text.items ≡ instance_text done.entry.now
-                order.entry.now waiters.entry.now replies.entry.now) }
-        { instance_text(rt, alloc, done, order, waiters, replies, plan) },
-        || -> Result<Vec<u8>, Memory>
-            ensures { IfOk result (λ text. text.items
-                ≡ flat_map store_line (contents.entries store.entry.now)) }
-        { store_text(alloc, store) },
-    );
-    let mut text = text?;
-    text.append(&mut stored?)?;
+    let mut text = text;
+    append_waiting(alloc, &mut text, waiters)?;
+    append_store(alloc, &mut text, store)?;
     Ok(text)
 }
 

@@ -1,7 +1,7 @@
 use Rattle.std.proofs.Common.{refl, sym, subst}
 use Rattle.std.proofs.lemmas.Result.{IfOk-weaker}
 use Rattle.epx_types.specs.WaitingLists.{IsWaitingList}
-use Rattle.epx_tool.proofs.OrderCommandLemmas.{commands_by_id}
+use Rattle.epx_replay.specs.FoundCommands.{commands_by_id}
 use Rattle.epx_tool.proofs.ReportLemmas.{IsLevelText-printed}
 use Rattle.epx_tool.proofs.map_texts.levels_of.Goals as goal
 

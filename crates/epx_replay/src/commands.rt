@@ -1,24 +1,23 @@
 //! The commands of instances.
 ghost use Rattle.std.specs.Prelude.{◌≡◌, ◌<◌, ◌≤◌, ◌^◌, length, map, IfOk};
-ghost use Rattle.epx_types.specs.CommittedMap.{instance_of};
 ghost use Rattle.epx_types.specs.Pieces.{piece_count};
 ghost use Rattle.epx_claims.specs.inner.PieceItems.{items_of_piece};
-ghost use Rattle.epx_tool.specs.Report.{ops_found};
+ghost use Rattle.epx_replay.specs.FoundCommands.{commands_by_id};
 
 use epx_claims::{FreeGate, append_parts, claimed_map};
-use epx_merge::Merged;
+use epx_committed::Merged;
 use epx_types::{Command, Id, Memory, Plan};
 use std::alloc::Global;
 use std::thread::Threads;
 
 /// The commands of some instances.
-pub(crate) fn commands<'a>(
+pub fn commands_of<'a>(
     alloc: Global,
     merged: &'a Merged,
     ids: &[Id],
 ) -> Result<Vec<Command<'a>>, Memory>
     ensures { IfOk result (λ commands. map (λ c. c.ops.now) commands.items
-        ≡ map (λ x. ops_found (instance_of merged.now x)) ids.now) }
+        ≡ commands_by_id merged.now ids.now) }
 {
     let mut commands = Vec::with_capacity(alloc, ids.len())?;
     for id in ids {
@@ -41,11 +40,10 @@ fn commands_of_piece<'a>(
 ) -> Result<Vec<Command<'a>>, Memory>
     requires { piece < piece_count plan.cut (length ids.now) }
     ensures { IfOk result (λ commands. map (λ c. c.ops.now) commands.items
-        ≡ map (λ x. ops_found (instance_of merged.now x))
-        (items_of_piece plan.cut ids.now piece)) }
+        ≡ commands_by_id merged.now (items_of_piece plan.cut ids.now piece)) }
 {
     let (start, end) = plan.range(piece, ids.len());
-    commands(alloc, merged, &ids[start..end])
+    commands_of(alloc, merged, &ids[start..end])
 }
 
 /// The commands of some instances. The plan's workers look the instances up, piece by piece.
@@ -58,10 +56,10 @@ pub(crate) fn all_commands<'a, R: Threads + Sync>(
 ) -> Result<Vec<Command<'a>>, Memory>
     requires { length ids.now ≤ 2 ^ 40 }
     ensures { IfOk result (λ commands. map (λ c. c.ops.now) commands.items
-        ≡ map (λ x. ops_found (instance_of merged.now x)) ids.now) }
+        ≡ commands_by_id merged.now ids.now) }
 {
     if plan.workers() == 1 {
-        return commands(alloc, merged, ids);
+        return commands_of(alloc, merged, ids);
     }
     let pieces = plan.pieces(ids.len());
     let parts = claimed_map(rt, alloc, pieces, plan, &FreeGate, |piece| {

@@ -1,6 +1,6 @@
 use Rattle.std.proofs.Common.{rules}
-use Rattle.epx_tool.proofs.PairRangeLemmas.{pairs_of_piece}
-use Rattle.epx_tool.proofs.reply_lines.lines_of_piece.Goals as goal
+use Rattle.epx_replay.proofs.PairRangeLemmas.{pairs_of_piece}
+use Rattle.epx_replay.proofs.reply_parts.lines_of_piece.Goals as goal
 
 pub returns : goal.returns
 returns c =

@@ -1,7 +1,7 @@
 use Rattle.std.proofs.Common.{◌≡◌, ◌++◌, drop}
 use Rattle.epx_types.specs.Execution.{execute}
 use Rattle.epx_apply.specs.inner.Effects.{op_lists_of}
-use Rattle.epx_apply.proofs.run.run_all.Given as goal
+use Rattle.epx_apply.proofs.run.run_one_by_one.Given as goal
 
 abbrev pub invariant-loop-command : goal.invariant-loop-command
 invariant-loop-command l =

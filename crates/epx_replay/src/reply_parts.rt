@@ -1,10 +1,10 @@
-//! Writes the reply lines of a report with several threads.
-ghost use Rattle.std.specs.Prelude.{◌≡◌, ◌<◌, ◌≤◌, ◌^◌, ◌++◌, length, flat_map, zip, IfOk, OnOk};
+//! Writes reply lines with several threads.
+ghost use Rattle.std.specs.Prelude.{◌≡◌, ◌<◌, ◌≤◌, ◌^◌, length, flat_map, zip, IfOk};
 ghost use Rattle.epx_types.specs.Pieces.{piece_count};
 ghost use Rattle.epx_claims.specs.inner.PieceItems.{items_of_piece};
 ghost use Rattle.epx_report.specs.ReportLines.{reply_line};
 
-use epx_claims::{FreeGate, append_parts, claimed_map};
+use epx_claims::{FreeGate, claimed_map};
 use epx_report::append_replies;
 use epx_types::{Id, Memory, Plan, Reply};
 use std::alloc::Global;
@@ -29,27 +29,21 @@ fn lines_of_piece(
     Ok(text)
 }
 
-/// Appends the reply lines of instances. The plan's workers write them piece by piece.
-pub(crate) fn append_all_replies<R: Threads + Sync>(
+/// The reply lines of instances, in parts that follow each other. The plan's workers write them.
+pub(crate) fn reply_parts<R: Threads + Sync>(
     rt: &R,
     alloc: Global,
-    text: &mut Vec<u8>,
     ids: &[Id],
     replies: &[Reply],
     plan: Plan,
-) -> Result<(), Memory>
+) -> Result<Vec<Vec<u8>>, Memory>
     requires few { length ids.now ≤ 2 ^ 40 }
     requires same { length replies.now ≡ length ids.now }
-    ensures { OnOk result (text.new.items ≡ text.old.items
-        ++ flat_map reply_line (zip ids.now replies.now)) }
+    ensures { IfOk result (λ parts. flat_map (λ part. part.items) parts.items
+        ≡ flat_map reply_line (zip ids.now replies.now)) }
 {
-    if plan.workers() == 1 {
-        append_replies(alloc, text, ids, replies)?;
-        return Ok(());
-    }
     let pieces = plan.pieces(ids.len());
-    let parts = claimed_map(rt, alloc, pieces, plan, &FreeGate, |piece| {
+    claimed_map(rt, alloc, pieces, plan, &FreeGate, |piece| {
         lines_of_piece(alloc, ids, replies, plan, piece)
-    })?;
-    append_parts(text, parts)
+    })
 }

@@ -4,9 +4,10 @@ use Rattle.epx_types.specs.declared.command.Command.{Command}
 use Rattle.epx_types.specs.CommittedMap.{instance_of}
 use Rattle.epx_claims.specs.inner.PieceItems.{items_of_piece}
 use Rattle.epx_claims.proofs.JoinedPieceLemmas.{parts_joined}
-use Rattle.epx_tool.specs.Report.{ops_found}
-use Rattle.epx_tool.proofs.OrderCommandLemmas.{commands_by_id, map-flat_map}
-use Rattle.epx_tool.proofs.commands.all_commands.Goals as goal
+use Rattle.epx_replay.specs.FoundCommands.{ops_found}
+use Rattle.epx_replay.specs.FoundCommands.{commands_by_id}
+use Rattle.epx_replay.proofs.ReplayLemmas.{map-flat_map}
+use Rattle.epx_replay.proofs.commands.all_commands.Goals as goal
 
 pub returns : goal.returns
 returns g c =

@@ -1,0 +1,2 @@
+mod PairRangeLemmas
+mod ReplayLemmas

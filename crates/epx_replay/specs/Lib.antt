@@ -1,0 +1,2 @@
+pub mod FoundCommands
+pub mod Replays

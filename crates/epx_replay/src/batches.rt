@@ -1,0 +1,113 @@
+//! Executes the commands of instances, and writes their reply lines.
+ghost use Rattle.std.specs.Prelude.{◌≡◌, ◌≤◌, ◌^◌, ◌++◌, length, flat_map, map, zip, IfOk, OnOk};
+ghost use Rattle.std.specs.Thread.{IsSync};
+ghost use Rattle.epx_report.specs.ReportLines.{reply_line};
+ghost use Rattle.epx_replay.specs.FoundCommands.{commands_by_id};
+ghost use Rattle.epx_replay.specs.Replays.{Executes, Replays};
+
+use crate::commands::{all_commands, commands_of};
+use crate::reply_parts::reply_parts;
+use epx_apply::run_one_by_one;
+use epx_claims::append_parts;
+use epx_committed::Merged;
+use epx_report::append_replies;
+use epx_txn::Store;
+use epx_types::{Command, Id, Memory, Plan, Reply};
+use std::alloc::Global;
+use std::thread::{Threads, join};
+
+/// With several workers the instances are executed in this many batches.
+const BATCHES: usize = 4;
+
+/// A batch has at least this many instances, so that it is worth its threads.
+const MIN_BATCH: usize = 4_096;
+
+/// Does in one thread what `replay` does.
+fn replay_alone(
+    alloc: Global,
+    text: &mut Vec<u8>,
+    store: Store,
+    merged: &Merged,
+    ids: &[Id],
+) -> Result<Store, Memory>
+    ensures { IfOk result (λ after. Replays ids.now (commands_by_id merged.now ids.now)
+        store after text.old.items text.new.items) }
+{
+    let commands = commands_of(alloc, merged, ids)?;
+    let (store, replies) = run_one_by_one(alloc, store, &commands)?;
+    append_replies(alloc, text, ids, &replies)?;
+    Ok(store)
+}
+
+/// Executes commands. Meanwhile the plan's workers write the reply lines of earlier instances.
+fn run_and_write<'a, R: Threads + Sync>(
+    rt: &R,
+    alloc: Global,
+    plan: Plan,
+    text: &mut Vec<u8>,
+    store: Store,
+    commands: Vec<Command<'a>>,
+    ids: &[Id],
+    replies: Vec<Reply>,
+) -> Result<(Store, Vec<Reply>), Memory>
+    requires few { length ids.now ≤ 2 ^ 40 }
+    requires same { length replies.items ≡ length ids.now }
+    ensures text { OnOk result (text.new.items
+        ≡ text.old.items ++ flat_map reply_line (zip ids.now replies.items)) }
+    ensures ran { IfOk result (λ v. Executes (map (λ c. c.ops.now) commands.entry.items)
+        store v.0 v.1.items) }
+{
+    let (ran, parts) = join(
+        rt,
+        move || -> Result<(Store, Vec<Reply>), Memory>
+            ensures { IfOk result (λ v. Executes (map (λ c. c.ops.now) commands.entry.items)
+                store v.0 v.1.items) }
+        { run_one_by_one(alloc, store, &commands) },
+        move || -> Result<Vec<Vec<u8>>, Memory>
+            requires { IsSync R.row × (length ids.now ≤ 2 ^ 40)
+                × (length replies.items ≡ length ids.now) }
+            ensures { IfOk result (λ parts. flat_map (λ part. part.items) parts.items
+                ≡ flat_map reply_line (zip ids.entry.now replies.items)) }
+        { reply_parts(rt, alloc, ids, &replies, plan) },
+    );
+    let ran = ran?;
+    append_parts(text, parts?)?;
+    Ok(ran)
+}
+
+/// Executes the commands of instances on a store, in order, and appends their reply lines. Returns
+/// the store after them. With several workers the lines of one batch are written while the next
+/// batch is executed.
+pub fn replay<R: Threads + Sync>(
+    rt: &R,
+    alloc: Global,
+    text: &mut Vec<u8>,
+    store: Store,
+    merged: &Merged,
+    ids: &[Id],
+    plan: Plan,
+) -> Result<Store, Memory>
+    requires { length ids.now ≤ 2 ^ 40 }
+    ensures { IfOk result (λ after. Replays ids.now (commands_by_id merged.now ids.now)
+        store after text.old.items text.new.items) }
+{
+    if plan.workers() == 1 {
+        return replay_alone(alloc, text, store, merged, ids);
+    }
+    let len = ids.len().div_ceil(BATCHES).max(MIN_BATCH);
+    let mut store = store;
+    let mut replies = Vec::new(alloc);
+    // The instances before `end` are executed. The reply lines of those before `start` are written.
+    let (mut start, mut end) = (0, 0);
+    while end < ids.len() {
+        let next = (end + len).min(ids.len());
+        let commands = all_commands(rt, alloc, merged, &ids[end..next], plan)?;
+        let unwritten = &ids[start..end];
+        (store, replies) = run_and_write(
+            rt, alloc, plan, text, store, commands, unwritten, replies,
+        )?;
+        (start, end) = (end, next);
+    }
+    append_parts(text, reply_parts(rt, alloc, &ids[start..end], &replies, plan)?)?;
+    Ok(store)
+}
