@@ -1,5 +1,5 @@
 -- Commands that are executed batch by batch, each batch written after it.
-use Rattle.std.proofs.Common.{◌≡◌, ◌≤◌, ◌^◌, ◌∙◌, ℕ, List, [], ◌∷◌, ◌++◌, length, flat_map, zip}
+use Rattle.std.proofs.Common.{◌≡◌, ◌∙◌, ℕ, List, [], ◌∷◌, ◌++◌, length, flat_map, zip}
 use Rattle.std.proofs.Common.{zero, suc, ◌-◌, refl, sym, ap, ap₂, subst, arith, drop, map, take, slice_range}
 use Rattle.std.proofs.lemmas.Grind.{flat_map-append}
 use Rattle.std.specs.Prelude.{min}
@@ -64,13 +64,13 @@ pub replay_goes_on : (text : List ℕ) (ids : List Id) (commands : List (List Op
     → IsReplaying text ids commands c longer now answers next later rest
 replay_goes_on text ids commands c so_far batch replies here now later unread first rest undone
     longer next answers same cut_ids cut_commands whole is_longer is_next are_answers = record {
-  as_many = many;
-  left = omega (arith, h.left, same, length-append now later, length-append first rest);
-  final = ap (λ s. (execute rest s).final) is_next ∙ sym (execute-append first rest here).1 ∙ h.final;
-  lines =
-      append_assoc longer (lines_of now answers) (lines_of later (execute rest next).replies)
-      ∙ ap₂ ◌++◌ is_longer (sym parts) ∙ h.lines;
-}
+      as_many = many;
+      left = omega (arith, h.left, same, length-append now later, length-append first rest);
+      final = ap (λ s. (execute rest s).final) is_next ∙ sym (execute-append first rest here).1 ∙ h.final;
+      lines =
+          append_assoc longer (lines_of now answers) (lines_of later (execute rest next).replies)
+          ∙ ap₂ ◌++◌ is_longer (sym parts) ∙ h.lines;
+    }
   where
     h : IsReplaying text ids commands c so_far batch replies here (now ++ later) (first ++ rest)
     h = subst (λ xs. IsReplaying text ids commands c so_far batch replies here xs (first ++ rest))

@@ -39,40 +39,83 @@ fn replay_alone(
     Ok(store)
 }
 
-/// Executes commands. Meanwhile the plan's workers write the reply lines of earlier instances.
+/// Writes the reply lines of executed instances, and finds the commands of later ones.
+fn write_and_find<'a, R: Threads + Sync>(
+    rt: &R,
+    alloc: Global,
+    plan: Plan,
+    merged: &'a Merged,
+    ids: &[Id],
+    replies: Vec<Reply>,
+    later: &[Id],
+) -> Result<(Vec<Vec<u8>>, Vec<Command<'a>>), Memory>
+    requires few { (length ids.now ≤ 2 ^ 40) × (length later.now ≤ 2 ^ 40) }
+    requires same { length replies.items ≡ length ids.now }
+    ensures lines { IfOk result (λ v. flat_map (λ part. part.items) v.0.items
+        ≡ flat_map reply_line (zip ids.now replies.items)) }
+    ensures found { IfOk result (λ v. map (λ c. c.ops.now) v.1.items
+        ≡ commands_by_id merged.now later.now) }
+{
+    let parts = reply_parts(rt, alloc, ids, &replies, plan)?;
+    let commands = all_commands(rt, alloc, merged, later, plan)?;
+    Ok((parts, commands))
+}
+
+/// What is left after a batch is executed: the store, its replies, and the commands of the next.
+#[derive(Drop)]
+struct Executed<'a> {
+    store: Store,
+    replies: Vec<Reply>,
+    next: Vec<Command<'a>>,
+}
+
+/// Executes commands. Meanwhile the plan's workers write the reply lines of earlier instances, and
+/// find the commands of later ones.
 fn run_and_write<'a, R: Threads + Sync>(
     rt: &R,
     alloc: Global,
     plan: Plan,
     text: &mut Vec<u8>,
+    merged: &'a Merged,
     store: Store,
     commands: Vec<Command<'a>>,
     ids: &[Id],
     replies: Vec<Reply>,
-) -> Result<(Store, Vec<Reply>), Memory>
-    requires few { length ids.now ≤ 2 ^ 40 }
+    later: &[Id],
+) -> Result<Executed<'a>, Memory>
+    requires few { (length ids.now ≤ 2 ^ 40) × (length later.now ≤ 2 ^ 40) }
     requires same { length replies.items ≡ length ids.now }
-    ensures text { OnOk result (text.new.items
-        ≡ text.old.items ++ flat_map reply_line (zip ids.now replies.items)) }
+    ensures text { OnOk result (text.new.items ≡ text.old.items
+        ++ flat_map reply_line (zip ids.now replies.items)) }
     ensures ran { IfOk result (λ v. Executes (map (λ c. c.ops.now) commands.entry.items)
-        store v.0 v.1.items) }
+        store v.store v.replies.items) }
+    ensures found { IfOk result (λ v. map (λ c. c.ops.now) v.next.items
+        ≡ commands_by_id merged.now later.now) }
 {
-    let (ran, parts) = join(
+    // The last closure runs in this thread. The keys that it copies are freed here in the end.
+    let (found, ran) = join(
         rt,
+        move || -> Result<(Vec<Vec<u8>>, Vec<Command>), Memory>
+            requires { IsSync R.row × (length ids.now ≤ 2 ^ 40) × (length later.now ≤ 2 ^ 40)
+                × (length replies.items ≡ length ids.now) }
+            ensures { IfOk result (λ v. (flat_map (λ part. part.items) v.0.items
+                ≡ flat_map reply_line (zip ids.entry.now replies.items))
+                × (map (λ c. c.ops.now) v.1.items
+                ≡ commands_by_id merged.entry.now later.entry.now)) }
+        { write_and_find(rt, alloc, plan, merged, ids, replies, later) },
         move || -> Result<(Store, Vec<Reply>), Memory>
             ensures { IfOk result (λ v. Executes (map (λ c. c.ops.now) commands.entry.items)
                 store v.0 v.1.items) }
         { run_one_by_one(alloc, store, &commands) },
-        move || -> Result<Vec<Vec<u8>>, Memory>
-            requires { IsSync R.row × (length ids.now ≤ 2 ^ 40)
-                × (length replies.items ≡ length ids.now) }
-            ensures { IfOk result (λ parts. flat_map (λ part. part.items) parts.items
-                ≡ flat_map reply_line (zip ids.entry.now replies.items)) }
-        { reply_parts(rt, alloc, ids, &replies, plan) },
     );
-    let ran = ran?;
-    append_parts(text, parts?)?;
-    Ok(ran)
+    let (store, replies) = ran?;
+    let (parts, next) = found?;
+    append_parts(text, parts)?;
+    Ok(Executed {
+        store,
+        replies,
+        next,
+    })
 }
 
 /// Executes the commands of instances on a store, in order, and appends their reply lines. Returns
@@ -97,17 +140,26 @@ pub fn replay<R: Threads + Sync>(
     let len = ids.len().div_ceil(BATCHES).max(MIN_BATCH);
     let mut store = store;
     let mut replies = Vec::new(alloc);
-    // The instances before `end` are executed. The reply lines of those before `start` are written.
-    let (mut start, mut end) = (0, 0);
+    // The instances before `end` are executed, and the reply lines of those before `start` are
+    // written. The commands of those from `end` up to `next` are found.
+    let (mut start, mut end, mut next) = (0, 0, len.min(ids.len()));
+    let mut commands = all_commands(rt, alloc, merged, &ids[..next], plan)?;
     while end < ids.len() {
-        let next = (end + len).min(ids.len());
-        let commands = all_commands(rt, alloc, merged, &ids[end..next], plan)?;
-        let unwritten = &ids[start..end];
-        (store, replies) = run_and_write(
-            rt, alloc, plan, text, store, commands, unwritten, replies,
+        let after = (next + len).min(ids.len());
+        let (written, later) = (&ids[start..end], &ids[next..after]);
+        let executed = run_and_write(
+            rt, alloc, plan, text, merged, store, commands, written, replies, later,
         )?;
-        (start, end) = (end, next);
+        Executed {
+            store,
+            replies,
+            next: commands,
+        } = executed;
+        (start, end, next) = (end, next, after);
     }
-    append_parts(text, reply_parts(rt, alloc, &ids[start..end], &replies, plan)?)?;
+    append_parts(
+        text,
+        reply_parts(rt, alloc, &ids[start..end], &replies, plan)?,
+    )?;
     Ok(store)
 }

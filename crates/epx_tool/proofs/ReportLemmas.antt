@@ -1,6 +1,6 @@
 -- The report, the order and the levels of a committed map, from the results of the lower layers.
 use Rattle.std.proofs.Common.{◌≡◌, ◌≤◌, ◌^◌, ℕ, List, [], Option, Some, None, MatchOption, inl}
-use Rattle.std.proofs.Common.{inr, map, length, sym, ap, ap₂, ◌∙◌, subst, arith, Contains}
+use Rattle.std.proofs.Common.{inr, length, sym, ap, ap₂, ◌∙◌, subst, arith, Contains}
 use Rattle.std.specs.FinMap as contents
 use Rattle.std.proofs.lemmas.List.{length-map}
 use Rattle.epx_types.specs.declared.id.Id.{Id}
@@ -8,14 +8,13 @@ use Rattle.epx_types.specs.declared.op.Op.{Op}
 use Rattle.epx_types.specs.declared.reply.Reply.{Reply}
 use Rattle.epx_types.specs.Contents.{Contents}
 use Rattle.epx_types.specs.Instances.{Instance}
-use Rattle.epx_types.specs.CommittedMap.{instance_of}
 use Rattle.epx_types.specs.Done.{remaining}
 use Rattle.epx_types.specs.Execution.{execute}
 use Rattle.epx_types.specs.ExecutionOrder.{Ranked, IsExecutionOrder, ranked_ids}
 use Rattle.epx_types.specs.WaitingLists.{Waiting, IsWaitingList}
 use Rattle.epx_types.specs.Levels.{AreLevels}
 use Rattle.epx_committed.specs.InstanceCounts.{max_instances}
-use Rattle.epx_replay.specs.FoundCommands.{commands_by_id, ops_found}
+use Rattle.epx_replay.specs.FoundCommands.{commands_by_id}
 use Rattle.epx_tool.specs.Report.{IsReport, commands_of, report_text}
 use Rattle.epx_tool.specs.ResumedReport.{IsReportAfter, resumed_text}
 use Rattle.epx_tool.specs.LevelText.{IsLevelText, level_text}
@@ -24,7 +23,6 @@ use Rattle.epx_report.specs.ViewLines.{covered_line, uncovered_line}
 use Rattle.epx_audit.specs.Uncovered.{IsLeastUncovered}
 use Rattle.epx_types.specs.Conflicts.{IsCovered}
 use Rattle.epx_types.proofs.remaining.RemainingLemmas.{Contains-remaining_iff, remaining-nil}
-use Rattle.epx_types.proofs.commands.ExecutionLemmas.{length-replies}
 use Rattle.epx_types.proofs.orders.ExecutionOrderLemmas.{IsExecutionOrder-IsLawful}
 use Rattle.epx_tool.proofs.OrderLengthLemmas.{ordered_are_few}
 use Rattle.epx_tool.proofs.OrderCommandLemmas.{commands_are}

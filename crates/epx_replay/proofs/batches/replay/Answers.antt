@@ -1,4 +1,4 @@
-use Rattle.std.proofs.Common.{◌≡◌, ◌≤◌, ◌∙◌, drop, length, slice_range, sym, subst, rules}
+use Rattle.std.proofs.Common.{◌≡◌, ◌≤◌, ◌<◌, ◌∙◌, drop, length, slice_range, sym, subst, rules}
 use Rattle.std.proofs.lemmas.List.{length-map}
 use Rattle.std.proofs.lemmas.List.Folds.{drop_split}
 use Rattle.epx_types.specs.CommittedMap.{instance_of}
@@ -13,17 +13,24 @@ loop-end-preserved g c =
     let m = c.args.merged.now in
     let ids = c.args.ids.now in
     let end = c.loop-end.end in
-    let next = c.min-next.result in
+    let next = c.loop-end.next in
+    let after = c.min-after.result in
     let commands = commands_by_id m ids in
-    let order : end ≤ next = search rules in
-    let within : next ≤ length ids = search rules in
+    let order : next ≤ after = search rules in
+    let within : after ≤ length ids = search rules in
+    let on : next < length ids → next < after = λ l. search rules in
     let same : length ids ≡ length commands = sym (length-map ids (λ x. ops_found (instance_of m x)))
     in
-    let found = c.in_ok-commands.ensures ∙ map-range (λ x. ops_found (instance_of m x)) ids end next
-    in
-    let ran = subst (λ ops. Executes ops c.loop-end.store c.in_ok-store.field-0-0
-    c.in_ok-store.field-0-1.items) found c.in_ok-store.ensures.ran in
-    (order, within, replay_goes_on _ _ _ _ _ _ _ _ (slice_range ids end next) (drop next ids) _
-    (slice_range commands end next) (drop next commands) _ _ _ _
-    (as_many_in_range ids commands end next same) (drop_split ids end next order)
-    (drop_split commands end next order) h.2 c.in_ok-store.ensures.text ran.0 ran.1)
+    let found = h.4 ∙ map-range (λ x. ops_found (instance_of m x)) ids end next in
+    let ran = subst (λ ops. Executes ops c.loop-end.store c.in_ok-executed.executed.store
+    c.in_ok-executed.executed.replies.items) found c.in_ok-executed.ensures.ran in (
+      h.1,
+      order,
+      within,
+      on,
+      c.in_ok-executed.ensures.found,
+      replay_goes_on _ _ _ _ _ _ _ _ (slice_range ids end next) (drop next ids) _
+          (slice_range commands end next) (drop next commands) _ _ _ _
+          (as_many_in_range ids commands end next same) (drop_split ids end next h.1)
+          (drop_split commands end next h.1) h.5 c.in_ok-executed.ensures.text ran.0 ran.1,
+    )

@@ -1,10 +1,13 @@
-use Rattle.std.proofs.Common.{◌-◌, ◌≤◌, drop, length, slice_range}
+use Rattle.std.proofs.Common.{◌≡◌, ◌-◌, ◌<◌, ◌≤◌, drop, length, map, slice_range}
 use Rattle.epx_replay.specs.FoundCommands.{commands_by_id}
 use Rattle.epx_replay.proofs.ReplayLemmas.{IsReplaying}
 use Rattle.epx_replay.proofs.batches.replay.Given as goal
 
 abbrev pub invariant-loop-end : goal.invariant-loop-end
-invariant-loop-end g l = (l.start ≤ l.end) × (l.end ≤ length l.ids)
+invariant-loop-end g l = (l.start ≤ l.end) × (l.end ≤ l.next) × (l.next ≤ length l.ids)
+    × (l.end < length l.ids → l.end < l.next)
+    × (map (λ c. c.ops.now) l.commands.items
+    ≡ commands_by_id l.merged (slice_range l.ids l.end l.next))
     × IsReplaying l.fn.text.items l.ids (commands_by_id l.merged l.ids) l.fn.store l.text.items
     (slice_range l.ids l.start l.end) l.replies.items l.store (drop l.end l.ids)
     (drop l.end (commands_by_id l.merged l.ids))
