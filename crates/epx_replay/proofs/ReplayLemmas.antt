@@ -1,6 +1,7 @@
 -- Commands that are executed batch by batch, each batch written after it.
 use Rattle.std.proofs.Common.{◌≡◌, ◌∙◌, ℕ, List, [], ◌∷◌, ◌++◌, length, flat_map, zip}
-use Rattle.std.proofs.Common.{zero, suc, ◌-◌, refl, sym, ap, ap₂, subst, arith, drop, map, take, slice_range}
+use Rattle.std.proofs.Common.{zero, suc, ◌-◌, refl, sym, ap, ap₂, subst, arith, drop, map, take}
+use Rattle.std.proofs.Common.{slice_range}
 use Rattle.std.proofs.lemmas.Grind.{flat_map-append}
 use Rattle.std.specs.Prelude.{min}
 use Rattle.std.proofs.lemmas.List.{append_assoc, append-nil, length-append, length-drop}
@@ -31,8 +32,8 @@ lines_of-append xs us ys vs same =
     ap (flat_map reply_line) (zip-append xs us ys vs same)
     ∙ flat_map-append reply_line (zip xs ys) (zip us vs)
 
--- The instances of a batch are executed, and their lines are not written yet. What is left, executed
--- from these contents, leads where all commands lead.
+-- The instances of a batch are executed, and their lines are not written yet. What is left,
+-- executed from these contents, leads where all commands lead.
 pub record IsReplaying (text : List ℕ) (ids : List Id) (commands : List (List Op))
     (before : Contents) (so_far : List ℕ) (batch : List Id) (replies : List Reply)
     (here : Contents) (later : List Id) (rest : List (List Op)) : Type 0 where
@@ -66,7 +67,8 @@ replay_goes_on text ids commands c so_far batch replies here now later unread fi
     longer next answers same cut_ids cut_commands whole is_longer is_next are_answers = record {
       as_many = many;
       left = omega (arith, h.left, same, length-append now later, length-append first rest);
-      final = ap (λ s. (execute rest s).final) is_next ∙ sym (execute-append first rest here).1 ∙ h.final;
+      final = ap (λ s. (execute rest s).final) is_next
+          ∙ sym (execute-append first rest here).1 ∙ h.final;
       lines =
           append_assoc longer (lines_of now answers) (lines_of later (execute rest next).replies)
           ∙ ap₂ ◌++◌ is_longer (sym parts) ∙ h.lines;
@@ -82,8 +84,8 @@ replay_goes_on text ids commands c so_far batch replies here now later unread fi
 
     parts : lines_of (now ++ later) (execute (first ++ rest) here).replies
         ≡ lines_of now answers ++ lines_of later (execute rest next).replies
-    parts = ap (lines_of (now ++ later)) ((execute-append first rest here).0 ∙ ap₂ ◌++◌ (sym are_answers)
-        (ap (λ s. (execute rest s).replies) (sym is_next)))
+    parts = ap (lines_of (now ++ later)) ((execute-append first rest here).0
+        ∙ ap₂ ◌++◌ (sym are_answers) (ap (λ s. (execute rest s).replies) (sym is_next)))
         ∙ lines_of-append now later answers (execute rest next).replies (sym many)
 
 -- nothing is left

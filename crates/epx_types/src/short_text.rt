@@ -6,8 +6,7 @@ ghost use Rattle.epx_types.specs.inner.ShortTexts.{IsShortText};
 use crate::key::MAX_SHORT_KEY_BYTES;
 use std::str;
 
-/// A text of at most 22 bytes. With its length, and with what tells a short text from a long one,
-/// it takes 24 bytes.
+/// A text of at most 22 bytes. With its length and the tag of `KeyText` it takes 24 bytes.
 #[derive(Clone, Copy)]
 pub(crate) struct ShortText {
     len: u8,

@@ -19,7 +19,8 @@ loop-end-preserved g c =
     let order : next ≤ after = search rules in
     let within : after ≤ length ids = search rules in
     let on : next < length ids → next < after = λ l. search rules in
-    let same : length ids ≡ length commands = sym (length-map ids (λ x. ops_found (instance_of m x)))
+    let same : length ids ≡ length commands =
+    sym (length-map ids (λ x. ops_found (instance_of m x)))
     in
     let found = h.4 ∙ map-range (λ x. ops_found (instance_of m x)) ids end next in
     let ran = subst (λ ops. Executes ops c.loop-end.store c.in_ok-executed.executed.store
