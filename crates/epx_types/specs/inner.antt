@@ -1,3 +1,4 @@
 -- Words of private clauses: no public contract speaks of them.
 pub mod KeyTexts
 pub mod ShortTexts
+pub mod LongTexts

@@ -11,6 +11,7 @@ pub mod id_list;
 pub mod key;
 mod key_text;
 pub mod limits;
+mod long_text;
 pub mod memory;
 pub mod op;
 pub mod place;

@@ -1,8 +1,8 @@
 -- The bytes of a key's text, stored in the key or allocated.
-use Rattle.std.specs.Prelude.{ℕ, List, take, string_bytes}
+use Rattle.std.specs.Prelude.{ℕ, List, take}
 use Rattle.epx_types.specs.declared.key_text.KeyText.{KeyText}
 use Rattle.epx_types.specs.declared.key_text.KeyText.TheVariants.{Short, Long}
 
 abbrev pub bytes_of : KeyText → List ℕ
 bytes_of (Short text) = take text.len text.bytes
-bytes_of (Long text) = string_bytes text.value
+bytes_of (Long text) = text.text.value.bytes
