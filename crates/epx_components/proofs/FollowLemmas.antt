@@ -1,6 +1,7 @@
 -- An edge that is looked at, from a node of the last group.
-use Rattle.std.proofs.Common.{◌≡◌, ℕ, ◌+◌, ◌<◌, ◌≤◌, List, [], ◌∷◌, ◌++◌, length, get_or, set}
+use Rattle.std.proofs.Common.{◌≡◌, ◌≢◌, ℕ, ◌+◌, ◌<◌, ◌≤◌, List, [], ◌∷◌, ◌++◌, length, get_or, set}
 use Rattle.std.proofs.Common.{refl, sym, subst, ◌∙◌, ap, arith, length-take, zero, suc}
+use Rattle.std.proofs.Common.{Result, Ok, Err, IfOk, OnOk}
 use Rattle.std.proofs.lemmas.List.{get_or-set_same, get_or-set_other, get_or-take, length_push}
 use Rattle.std.proofs.lemmas.List.Elements.{Contains-get_or}
 use Rattle.epx_graph.specs.NodePaths.{NodeReaches}
@@ -11,9 +12,10 @@ use Rattle.epx_components.proofs.OpenLemmas.{enter_keeps}
 use Rattle.epx_components.proofs.StartLemmas.{push_cases}
 use Rattle.epx_components.specs.inner.SearchInvariants.{IsSearch}
 use Rattle.epx_components.specs.inner.SearchStates.{SearchState, visit_of}
-use Rattle.epx_components.specs.inner.SearchSteps.{Arrives, IsNextNode, after_enter, looked}
+use Rattle.epx_components.specs.inner.SearchSteps.{Arrives, IsInTopGroup, IsNextNode}
+use Rattle.epx_components.specs.inner.SearchSteps.{after_enter, looked}
 use Rattle.epx_components.specs.inner.SearchWork.{edges_left, work_left}
-use Rattle.epx_components.specs.inner.Starts.{IsInGroupFrom}
+use Rattle.epx_components.specs.inner.Starts.{IsInGroupFrom, IsInLastGroup}
 use Rattle.epx_components.specs.declared.visit.Visit.{Visit}
 use Rattle.epx_components.specs.declared.visit.Visit.TheVariants.{Closed, Open, Unseen}
 
@@ -68,6 +70,27 @@ pub follow_keeps : (edges : ℕ → List ℕ) (n seen : ℕ) (s new : SearchStat
     → Arrives (visit_of s.visits (next_of edges s k)) (next_of edges s k) (looked s k) new
     → IsSearch edges n seen new
 follow_keeps edges n seen s new k w next l h = follow_at edges n seen s new k _ refl w next l h
+
+-- after an edge that opens no node, the node is still in the last group
+pub stays_on_top : (x : Visit) (k j p : ℕ) (s new : SearchState) → x ≢ Unseen
+    → visit_of s.visits k ≡ Open p → IsInLastGroup s.starts p → Arrives x j s new
+    → IsInTopGroup new k
+stays_on_top Unseen k j p s new seen is last h = absurd (seen refl)
+stays_on_top (Open t) k j p s new seen is last h = (
+  p,
+  ap (λ u. visit_of u.visits k) h.1 ∙ is,
+  rw h.0.same (λ i l. rw (get_or-take h.0.kept s.starts i 0
+      (omega (arith, length-take h.0.kept s.starts)))
+      (last i (omega (arith, length-take h.0.kept s.starts)))),
+)
+stays_on_top (Closed c) k j p s new seen is last h =
+    (p, ap (λ u. visit_of u.visits k) h ∙ is, rw (ap (λ u. u.starts) h) last)
+
+-- what holds of a result where two things do
+pub if_both : {T E P : Type 0} (Q R : T → Type 0) (r : Result T E) → (P → (x : T) → Q x → R x)
+    → OnOk r P → IfOk r Q → IfOk r R
+if_both Q R (Ok x) f p q = f p x q
+if_both Q R (Err e) f p q = tt
 
 edges_left-set : (rows : List (List ℕ)) (looked_at : List ℕ) (k : ℕ) → k < length looked_at
     → get_or looked_at k 0 < length (get_or rows k [])

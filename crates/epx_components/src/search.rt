@@ -1,6 +1,6 @@
 //! The depth-first search for components.
 ghost use Rattle.std.specs.Prelude.{◌≡◌, ℕ, List, ◌+◌, ◌<◌, ◌≤◌, length, OnOk, IfOk, IfSome};
-ghost use Rattle.std.specs.Prelude.{IfNone};
+ghost use Rattle.std.specs.Prelude.{◌≢◌, false, IfNone};
 ghost use Rattle.epx_graph.specs.Graphs.{IsGraph, edges_of};
 ghost use Rattle.epx_components.specs.Partitions.{parts, IsPartitionOf};
 ghost use Rattle.epx_components.specs.inner.Starts.{AreRisingBelow};
@@ -8,6 +8,8 @@ ghost use Rattle.epx_components.specs.inner.SearchStates.{state, visit_of};
 ghost use Rattle.epx_components.specs.inner.SearchInvariants.{IsRow, IsSearch, KeepsSearch};
 ghost use Rattle.epx_components.specs.inner.SearchSteps.{after_enter, Arrives, IsNextNode};
 ghost use Rattle.epx_components.specs.inner.SearchSteps.{IsTopNode, IsPathBelow, IsFinished};
+ghost use Rattle.epx_components.specs.inner.SearchSteps.{IsInTopGroup};
+ghost use Rattle.epx_components.specs.declared.visit.Visit.TheVariants.{Unseen};
 ghost use Rattle.epx_components.specs.inner.SearchWork.{work_left};
 
 use crate::partition::Partition;
@@ -90,7 +92,7 @@ impl Search {
         Ok(())
     }
 
-    /// Looks at one edge of the last group, or finishes the group if it has none left.
+    /// Looks at edges of a node in the last group, or finishes the group if it has none left.
     fn step(&mut self, graph: &Graph) -> Result<(), Memory>
         requires graph { IsGraph graph.now }
         requires search { (seen : ℕ) × IsSearch (edges_of graph.now) (length graph.now.ids) seen
@@ -104,7 +106,7 @@ impl Search {
     {
         match self.top() {
             Some(node) if self.looked_at[node] < graph.edges(node).len() => {
-                self.follow(graph, node)
+                self.follow_edges(graph, node)
             }
             Some(_) => {
                 self.path.pop();
@@ -129,8 +131,8 @@ impl Search {
         }
     }
 
-    /// Looks at the next edge of a node in the last group.
-    fn follow(&mut self, graph: &Graph, node: usize) -> Result<(), Memory>
+    /// Looks at the next edges of a node in the last group, up to the first that opens a node.
+    fn follow_edges(&mut self, graph: &Graph, node: usize) -> Result<(), Memory>
         requires graph { IsGraph graph.now }
         requires search { (seen : ℕ) × IsSearch (edges_of graph.now) (length graph.now.ids) seen
             (state self.old) }
@@ -141,6 +143,26 @@ impl Search {
         ensures less { OnOk result (work_left graph.now.edges (state self.new)
             < work_left graph.now.edges (state self.old)) }
     {
+        let mut opens = self.follow(graph, node)?;
+        while !opens && self.looked_at[node] < graph.edges(node).len() {
+            opens = self.follow(graph, node)?;
+        }
+        Ok(())
+    }
+
+    /// Looks at the next edge of a node in the last group. Returns whether it opens a node.
+    fn follow(&mut self, graph: &Graph, node: usize) -> Result<bool, Memory>
+        requires graph { IsGraph graph.now }
+        requires search { (seen : ℕ) × IsSearch (edges_of graph.now) (length graph.now.ids) seen
+            (state self.old) }
+        requires next { IsNextNode (edges_of graph.now) (state self.old) node }
+        ensures keeps { OnOk result
+            (KeepsSearch (edges_of graph.now) (length graph.now.ids) (state self.old)
+            (state self.new)) }
+        ensures less { OnOk result (work_left graph.now.edges (state self.new)
+            < work_left graph.now.edges (state self.old)) }
+        ensures stays { IfOk result (λ opens. opens ≡ false → IsInTopGroup (state self.new) node) }
+    {
         let next = self.looked_at[node];
         let target = graph.edges(node)[next];
         self.looked_at[node] = next + 1;
@@ -148,19 +170,24 @@ impl Search {
     }
 
     /// Arrives at a node: opens it if it is unseen. If it is open, merges the groups from its own
-    /// on.
-    fn arrive(&mut self, node: usize) -> Result<(), Memory>
+    /// on. Returns whether it opens the node.
+    fn arrive(&mut self, node: usize) -> Result<bool, Memory>
         requires node { node < length (state self.old).visits }
         requires starts { AreRisingBelow (state self.old).starts (length (state self.old).opened) }
-        ensures { OnOk result (Arrives (visit_of (state self.old).visits node) node (state self.old)
-            (state self.new)) }
+        ensures arrives { OnOk result (Arrives (visit_of (state self.old).visits node) node
+            (state self.old) (state self.new)) }
+        ensures opens { IfOk result (λ opens. opens ≡ false
+            → visit_of (state self.old).visits node ≢ Unseen) }
     {
         match self.visits[node] {
-            Visit::Unseen => self.enter(node)?,
+            Visit::Unseen => {
+                self.enter(node)?;
+                return Ok(true);
+            }
             Visit::Open(position) => merge_groups(&mut self.starts, position),
             Visit::Closed(_) => {}
         }
-        Ok(())
+        Ok(false)
     }
 
     /// Opens a node as a group of its own.

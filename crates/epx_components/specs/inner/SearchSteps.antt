@@ -6,6 +6,10 @@ use Rattle.epx_components.specs.declared.visit.Visit.TheVariants.{Unseen, Open, 
 use Rattle.epx_components.specs.inner.Starts.{IsInLastGroup, IsCutAbove}
 use Rattle.epx_components.specs.inner.SearchStates.{SearchState, visit_of}
 
+-- an open node of the last group
+abbrev pub IsInTopGroup : SearchState → ℕ → Type 0
+IsInTopGroup s k = (p : ℕ) × (visit_of s.visits k ≡ Open p) × IsInLastGroup s.starts p
+
 -- a node of the last group with an edge left
 pub record IsNextNode (edges : ℕ → List ℕ) (s : SearchState) (k : ℕ) : Type 0 where
   pub position : ℕ

@@ -3,7 +3,7 @@ use Rattle.std.proofs.lemmas.List.{get_or_read}
 use Rattle.std.proofs.lemmas.Result.{on_ok_weaker}
 use Rattle.epx_graph.specs.Graphs.{edges_of}
 use Rattle.epx_components.proofs.EdgeLemmas.{edge_to}
-use Rattle.epx_components.proofs.FollowLemmas.{follow_less, follow_keeps}
+use Rattle.epx_components.proofs.FollowLemmas.{follow_less, follow_keeps, if_both, stays_on_top}
 use Rattle.epx_components.proofs.PathEndLemmas.{open_below}
 use Rattle.epx_components.specs.inner.SearchInvariants.{KeepsSearch}
 use Rattle.epx_components.specs.inner.SearchStates.{state}
@@ -40,7 +40,7 @@ returns-clause-keeps c =
     (λ h seen w. follow_keeps edges (length c.args.graph.now.ids) seen (state s)
     (state c.arrive.new.self) c.args.node w c.requires.next
     (edge_to c.args.graph.now c.requires.graph c.args.node _ c.requires.next.left)
-    (rw (c.edges.ensures.edges, next) at h)) c.arrive.ensures
+    (rw (c.edges.ensures.edges, next) at h)) c.arrive.ensures.arrives
 
 pub returns-clause-less : goal.returns-clause-less
 returns-clause-less c =
@@ -55,4 +55,11 @@ returns-clause-less c =
     < work_left c.args.graph.now.edges (state s)} c.arrive.result
     (λ h. follow_less c.args.graph.now.edges (state s) (state c.arrive.new.self) c.args.node _
     (omega (arith, w.looks)) c.requires.next.left (rw (c.edges.ensures.edges, next) at h))
-    c.arrive.ensures
+    c.arrive.ensures.arrives
+
+pub returns-clause-stays : goal.returns-clause-stays
+returns-clause-stays c =
+    let next = c.requires.next in
+    if_both _ _ c.arrive.result (λ h opens seen stays. stays_on_top _ c.args.node _ next.position
+    _ (state c.arrive.new.self) (seen stays) next.is_open next.is_last h) c.arrive.ensures.arrives
+    c.arrive.ensures.opens
