@@ -7,4 +7,4 @@ pub mod level_map;
 pub mod run;
 
 pub use level_map::{LevelMap, levels};
-pub use run::{run_one_by_one, run_order};
+pub use run::{run_from, run_order};

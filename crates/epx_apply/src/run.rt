@@ -1,7 +1,7 @@
 //! Executes commands level by level. The commands of one level do not conflict. Each is evaluated
 //! over the store before the level, which is only read. Then the writes of all of them are merged
 //! into the store.
-ghost use Rattle.std.specs.Prelude.{◌≡◌, ◌<◌, ◌≤◌, ◌^◌, ◌++◌, ◌∷◌, [], ℕ, length, map};
+ghost use Rattle.std.specs.Prelude.{◌≡◌, ◌<◌, ◌≤◌, ◌^◌, ◌++◌, ◌∷◌, [], length, map};
 ghost use Rattle.std.specs.Prelude.{slice_set, All, IfOk, IfSome, OnOk, OnErr};
 ghost use Rattle.epx_types.specs.Commands.{command_on};
 ghost use Rattle.epx_types.specs.Conflicts.{NoneConflict};
@@ -233,15 +233,14 @@ impl RunState {
 }
 
 /// Runs all commands one after another. Returns the store after them, and their replies.
-pub fn run_one_by_one(
+fn run_one_by_one(
     alloc: Global,
     store: Store,
     commands: &[Command],
 ) -> Result<(Store, Vec<Reply>), Memory>
-    ensures store { IfOk result
-        (λ v. v.0 ≡ (execute (map (λ c. c.ops.now) commands.now) store).final) }
+    ensures store { IfOk result (λ v. v.0 ≡ (execute (op_lists_of commands.now) store).final) }
     ensures replies { IfOk result
-        (λ v. v.1.items ≡ (execute (map (λ c. c.ops.now) commands.now) store).replies) }
+        (λ v. v.1.items ≡ (execute (op_lists_of commands.now) store).replies) }
 {
     let mut store = store;
     let mut replies = Vec::with_capacity(alloc, commands.len())?;
@@ -249,16 +248,6 @@ pub fn run_one_by_one(
         replies.push(apply(alloc, &mut store, command.ops)?)?;
     }
     Ok((store, replies))
-}
-
-/// Does the same.
-fn run_all(alloc: Global, store: Store, commands: &[Command]) -> Result<RunState, Memory>
-    ensures store { IfOk result (λ w. w.store ≡ (execute (op_lists_of commands.now) store).final) }
-    ensures replies { IfOk result
-        (λ w. w.replies.items ≡ (execute (op_lists_of commands.now) store).replies) }
-{
-    let (store, replies) = run_one_by_one(alloc, store, commands)?;
-    Ok(RunState { store, replies })
 }
 
 /// Returns the greatest number of levels for which threads are worth starting. With that many, a
@@ -294,22 +283,59 @@ fn run_levels<R: Threads + RandomSource + Sync, G: Gate + Sync>(
     commands: &[Command],
     plan: Plan,
     gate: &G,
-) -> Result<RunState, Memory>
+) -> Result<(Store, Vec<Reply>), Memory>
     requires { length commands.now ≤ 2 ^ 40 }
-    ensures store { IfOk result (λ w. w.store ≡ (execute (op_lists_of commands.now) store).final) }
+    ensures store { IfOk result (λ v. v.0 ≡ (execute (op_lists_of commands.now) store).final) }
     ensures replies { IfOk result
-        (λ w. w.replies.items ≡ (execute (op_lists_of commands.now) store).replies) }
+        (λ v. v.1.items ≡ (execute (op_lists_of commands.now) store).replies) }
 {
     let bound = max_levels(commands.len(), plan);
     let found = levels_if_few(alloc, commands, bound, Seed::draw(rt))?;
     let Some(level_map) = found else {
-        return run_all(alloc, store, commands);
+        return run_one_by_one(alloc, store, commands);
     };
     let mut work = RunState::new(alloc, store, commands.len())?;
     for level in 0..level_map.count() {
         work.run_level(rt, alloc, commands, level_map.members(level), plan, gate)?;
     }
-    Ok(work)
+    let RunState { store, replies } = work;
+    Ok((store, replies))
+}
+
+/// Commands with at least this many operations on average are long: to find their levels takes less
+/// time than to execute them.
+const MIN_LONG: usize = 4;
+
+fn are_long(commands: &[Command]) -> bool {
+    let mut ops = 0usize;
+    for command in commands {
+        ops = ops.saturating_add(command.ops.len());
+    }
+    ops / MIN_LONG >= commands.len()
+}
+
+/// Executes the commands as `run_order` does, on a store that is given away, so nothing is copied.
+/// Levels are found only where the commands are long, since meanwhile the caller's other threads
+/// may have work to do. Returns the store after the commands, and their replies.
+pub fn run_from<R: Threads + RandomSource + Sync, G: Gate + Sync>(
+    rt: &R,
+    alloc: Global,
+    store: Store,
+    commands: &[Command],
+    plan: Plan,
+    gate: &G,
+) -> Result<(Store, Vec<Reply>), Memory>
+    requires { length commands.now ≤ 2 ^ 40 }
+    ensures store { IfOk result
+        (λ v. v.0 ≡ (execute (map (λ c. c.ops.now) commands.now) store).final) }
+    ensures replies { IfOk result
+        (λ v. v.1.items ≡ (execute (map (λ c. c.ops.now) commands.now) store).replies) }
+{
+    if plan.workers() > 1 && are_long(commands) {
+        run_levels(rt, alloc, store, commands, plan, gate)
+    } else {
+        run_one_by_one(alloc, store, commands)
+    }
 }
 
 /// Executes the commands in order. Returns their replies and changes the store as a single thread
@@ -332,15 +358,11 @@ pub fn run_order<R: Threads + RandomSource + Sync, G: Gate + Sync>(
     ensures err { OnErr result (store.new ≡ store.old) }
 {
     let opening = store.copy()?;
-    let work = if plan.workers() == 1 {
-        run_all(alloc, opening, commands)?
+    let (last, replies) = if plan.workers() == 1 {
+        run_one_by_one(alloc, opening, commands)?
     } else {
         run_levels(rt, alloc, opening, commands, plan, gate)?
     };
-    let RunState {
-        store: last,
-        replies,
-    } = work;
     *store = last;
     Ok(replies)
 }

@@ -16,14 +16,17 @@ pub(crate) fn expect_pairs(
     store: &Store,
     wanted: &[(&str, i64)],
 ) -> Result<(), Memory> {
-    let pairs = store.pairs()?;
     assert!(rt; store.len() == wanted.len() as u128);
+    expect_list(rt, &store.pairs()?, wanted);
+    Ok(())
+}
+
+fn expect_list(rt: &impl Abort, pairs: &[(&Key, i64)], wanted: &[(&str, i64)]) {
     assert!(rt; pairs.len() == wanted.len());
     for (pair, (text, value)) in pairs.iter().zip(wanted) {
         assert!(rt; pair.0.text() == *text);
         assert!(rt; pair.1 == *value);
     }
-    Ok(())
 }
 
 /// Puts a value, and expects it to be in the store. If memory runs out, the store must be
@@ -75,6 +78,29 @@ fn store_holds_what_was_put(rt: HostRuntime) -> Result<(), Fail> {
     assert!(rt; store.get(&key(&rt, alloc, "b")?) == None);
     expect_pairs(&rt, &store, &[("a", 5)])?;
     expect_pairs(&rt, &store.copy()?, &[("a", 5)])?;
+    Ok(())
+}
+
+#[test]
+fn threads_list_keys_in_order(rt: HostRuntime) -> Result<(), Fail> {
+    let pairs = [
+        ("c", 3),
+        ("one head b", 5),
+        ("a", 1),
+        ("one head a", 4),
+        ("b", 2),
+    ];
+    let wanted = [
+        ("a", 1),
+        ("b", 2),
+        ("c", 3),
+        ("one head a", 4),
+        ("one head b", 5),
+    ];
+    let store = store_with(&rt, rt.alloc(), &pairs)?;
+    for threads in [0, 1, 2, 3, 16] {
+        expect_list(&rt, &store.pairs_by(&rt, threads)?, &wanted);
+    }
     Ok(())
 }
 

@@ -1,8 +1,8 @@
-//! Tests of `run_order` and `levels`. The operations are written as text.
+//! Tests of `run_order`, `run_from` and `levels`. The operations are written as text.
 use crate::effects::{Wanted, expect_pairs, expect_reply, store_with};
 use crate::fixtures::{id, key};
 use crate::gates::WaitingGate;
-use epx_apply::{levels, run_order};
+use epx_apply::{levels, run_from, run_order};
 use epx_claims::{FreeGate, Gate};
 use epx_types::{Command, Memory, Op, Plan, Reply};
 use std::alloc::Global;
@@ -96,6 +96,24 @@ fn run_with<R: Threads + RandomSource + Sync + Abort, G: Gate + Sync>(
     }
 }
 
+/// The same for a store that is given away.
+fn run_from_with<R: Threads + RandomSource + Sync + Abort, G: Gate + Sync>(
+    rt: &R,
+    alloc: Global,
+    plan: Plan,
+    gate: &G,
+    opening: &[(&str, i64)],
+    commands: &[Command],
+    wanted: &[Wanted],
+    after: &[(&str, i64)],
+) -> Result<(), Memory> {
+    assert!(rt; commands.len() <= 8);
+    let store = store_with(rt, alloc, opening)?;
+    let (store, replies) = run_from(rt, alloc, store, commands, plan, gate)?;
+    expect_replies(rt, replies.as_slice(), wanted);
+    expect_pairs(rt, &store, after)
+}
+
 /// Parses the commands and runs them with several plans.
 fn run<R: Threads + RandomSource + Sync + Abort>(
     rt: &R,
@@ -113,6 +131,9 @@ fn run<R: Threads + RandomSource + Sync + Abort>(
     for (workers, cut) in [(1, 1), (2, 1), (2, 3), (64, 65_536)] {
         let plan = Plan::new(workers, cut).expect(rt, "a plan");
         run_with(
+            rt, alloc, plan, &FreeGate, opening, &commands, wanted, after,
+        )?;
+        run_from_with(
             rt, alloc, plan, &FreeGate, opening, &commands, wanted, after,
         )?;
     }
@@ -164,6 +185,41 @@ fn workers_share_a_level(rt: HostRuntime) -> Result<(), Fail> {
     let commands = commands(rt.alloc(), &lists)?;
     for waiter in 0..4 {
         apply_while_one_waits(&rt, rt.alloc(), &commands, waiter)?;
+    }
+    Ok(())
+}
+
+const FOUR_LONG_COMMANDS: [&str; 4] = [
+    "put a 1, add a 2, get a, get a",
+    "put b 1, add b 2, get b, get b",
+    "put c 1, add c 2, get c, get c",
+    "put d 1, add d 2, get d, get d",
+];
+
+#[test]
+fn long_commands_go_level_by_level(rt: HostRuntime) -> Result<(), Fail> {
+    let mut lists = Vec::new(rt.alloc());
+    for text in FOUR_LONG_COMMANDS {
+        lists.push(operations(&rt, rt.alloc(), text)?)?;
+    }
+    let commands = commands(rt.alloc(), &lists)?;
+    let plan = Plan::new(2, 1).ok_or("a plan")?;
+    let values = [Some(3), Some(3)];
+    let replies = [Wanted::Values(&values); 4];
+    let after = [("a", 3), ("b", 3), ("c", 3), ("d", 3)];
+    for waiter in 0..4 {
+        let gate = WaitingGate::new(waiter, 1111);
+        run_from_with(
+            &rt,
+            rt.alloc(),
+            plan,
+            &gate,
+            &[],
+            &commands,
+            &replies,
+            &after,
+        )?;
+        gate.expect_all_entered()?;
     }
     Ok(())
 }

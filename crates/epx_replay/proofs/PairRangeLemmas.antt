@@ -1,9 +1,19 @@
 -- The pairs of two lists of one length, cut at the same places.
 use Rattle.std.proofs.Common.{◌≡◌, zero, suc, ◌-◌, ℕ, List, [], ◌∷◌, length, take, drop, zip}
-use Rattle.std.proofs.Common.{slice_range, refl, sym, ap, ◌∙◌, arith}
+use Rattle.std.proofs.Common.{◌≤◌, ℤ, map, slice_range, refl, sym, ap, ◌∙◌, arith}
+use Rattle.std.specs.FinMap as contents
+use Rattle.std.specs.FinMap.{len-entries}
+use Rattle.std.proofs.lemmas.List.{length-map}
 use Rattle.std.proofs.lemmas.Slice.Zip.{length-zip}
+use Rattle.epx_types.specs.Contents.{Contents}
 use Rattle.epx_types.specs.Pieces.{piece_start, piece_end}
 use Rattle.epx_claims.specs.inner.PieceItems.{items_of_piece}
+
+-- a store with few keys has few pairs
+pub few_pairs : {A : Type 0} (shown : A → List ℕ × ℤ) (xs : List A) (m : Contents) (n : ℕ)
+    → map shown xs ≡ contents.entries m → contents.len m ≤ n → length xs ≤ n
+few_pairs shown xs m n are few =
+    omega (arith, few, len-entries m, ap length are, length-map xs shown)
 
 pub as_many_pairs : {X Y : Type 0} (xs : List X) (ys : List Y) → length ys ≡ length xs
     → length (zip xs ys) ≡ length xs

@@ -1,5 +1,5 @@
 //! Executes the commands of instances, and writes their reply lines.
-ghost use Rattle.std.specs.Prelude.{◌≡◌, ◌≤◌, ◌^◌, ◌++◌, length, flat_map, map, zip, IfOk, OnOk};
+ghost use Rattle.std.specs.Prelude.{◌≡◌, ◌≤◌, ◌^◌, ◌++◌, length, flat_map, map, zip, IfOk};
 ghost use Rattle.std.specs.Thread.{IsSync};
 ghost use Rattle.epx_report.specs.ReportLines.{reply_line};
 ghost use Rattle.epx_replay.specs.FoundCommands.{commands_by_id};
@@ -7,13 +7,14 @@ ghost use Rattle.epx_replay.specs.Replays.{Executes, Replays};
 
 use crate::commands::{all_commands, commands_of};
 use crate::reply_parts::reply_parts;
-use epx_apply::run_one_by_one;
-use epx_claims::append_parts;
+use epx_apply::run_from;
+use epx_claims::{FreeGate, append_parts};
 use epx_committed::Merged;
 use epx_report::append_replies;
 use epx_txn::Store;
 use epx_types::{Command, Id, Memory, Plan, Reply};
 use std::alloc::Global;
+use std::random::RandomSource;
 use std::thread::{Threads, join};
 
 /// With several workers the instances are executed in this many batches.
@@ -23,47 +24,56 @@ const BATCHES: usize = 4;
 const MIN_BATCH: usize = 4_096;
 
 /// Does in one thread what `replay` does.
-fn replay_alone(
+fn replay_alone<R: Threads + RandomSource + Sync>(
+    rt: &R,
     alloc: Global,
-    text: &mut Vec<u8>,
+    text: Vec<u8>,
     store: Store,
     merged: &Merged,
     ids: &[Id],
-) -> Result<Store, Memory>
-    ensures { IfOk result (λ after. Replays ids.now (commands_by_id merged.now ids.now)
-        store after text.old.items text.new.items) }
+    plan: Plan,
+) -> Result<(Store, Vec<u8>), Memory>
+    requires { length ids.now ≤ 2 ^ 40 }
+    ensures { IfOk result (λ v. Replays ids.now (commands_by_id merged.now ids.now)
+        store v.0 text.items v.1.items) }
 {
     let commands = commands_of(alloc, merged, ids)?;
-    let (store, replies) = run_one_by_one(alloc, store, &commands)?;
-    append_replies(alloc, text, ids, &replies)?;
-    Ok(store)
+    let (store, replies) = run_from(rt, alloc, store, &commands, plan, &FreeGate)?;
+    let mut text = text;
+    append_replies(alloc, &mut text, ids, &replies)?;
+    Ok((store, text))
 }
 
-/// Writes the reply lines of executed instances, and finds the commands of later ones.
+/// Appends the reply lines of executed instances, and finds the commands of later ones.
 fn write_and_find<'a, R: Threads + Sync>(
     rt: &R,
     alloc: Global,
     plan: Plan,
+    text: Vec<u8>,
     merged: &'a Merged,
     ids: &[Id],
     replies: Vec<Reply>,
     later: &[Id],
-) -> Result<(Vec<Vec<u8>>, Vec<Command<'a>>), Memory>
+) -> Result<(Vec<u8>, Vec<Command<'a>>), Memory>
     requires few { (length ids.now ≤ 2 ^ 40) × (length later.now ≤ 2 ^ 40) }
     requires same { length replies.items ≡ length ids.now }
-    ensures lines { IfOk result (λ v. flat_map (λ part. part.items) v.0.items
-        ≡ flat_map reply_line (zip ids.now replies.items)) }
+    ensures text { IfOk result (λ v. v.0.items
+        ≡ text.items ++ flat_map reply_line (zip ids.now replies.items)) }
     ensures found { IfOk result (λ v. map (λ c. c.ops.now) v.1.items
         ≡ commands_by_id merged.now later.now) }
 {
     let parts = reply_parts(rt, alloc, ids, &replies, plan)?;
     let commands = all_commands(rt, alloc, merged, later, plan)?;
-    Ok((parts, commands))
+    let mut text = text;
+    append_parts(&mut text, parts)?;
+    Ok((text, commands))
 }
 
-/// What is left after a batch is executed: the store, its replies, and the commands of the next.
+/// What is left after a batch is executed: the text so far, the store, the replies of the batch,
+/// and the commands of the next.
 #[derive(Drop)]
 struct Executed<'a> {
+    text: Vec<u8>,
     store: Store,
     replies: Vec<Reply>,
     next: Vec<Command<'a>>,
@@ -71,11 +81,11 @@ struct Executed<'a> {
 
 /// Executes commands. Meanwhile the plan's workers write the reply lines of earlier instances, and
 /// find the commands of later ones.
-fn run_and_write<'a, R: Threads + Sync>(
+fn run_and_write<'a, R: Threads + RandomSource + Sync>(
     rt: &R,
     alloc: Global,
     plan: Plan,
-    text: &mut Vec<u8>,
+    text: Vec<u8>,
     merged: &'a Merged,
     store: Store,
     commands: Vec<Command<'a>>,
@@ -84,9 +94,10 @@ fn run_and_write<'a, R: Threads + Sync>(
     later: &[Id],
 ) -> Result<Executed<'a>, Memory>
     requires few { (length ids.now ≤ 2 ^ 40) × (length later.now ≤ 2 ^ 40) }
+    requires few_now { length commands.items ≤ 2 ^ 40 }
     requires same { length replies.items ≡ length ids.now }
-    ensures text { OnOk result (text.new.items ≡ text.old.items
-        ++ flat_map reply_line (zip ids.now replies.items)) }
+    ensures text { IfOk result (λ v. v.text.items
+        ≡ text.items ++ flat_map reply_line (zip ids.now replies.items)) }
     ensures ran { IfOk result (λ v. Executes (map (λ c. c.ops.now) commands.entry.items)
         store v.store v.replies.items) }
     ensures found { IfOk result (λ v. map (λ c. c.ops.now) v.next.items
@@ -95,23 +106,24 @@ fn run_and_write<'a, R: Threads + Sync>(
     // The last closure runs in this thread. The keys that it copies are freed here in the end.
     let (found, ran) = join(
         rt,
-        move || -> Result<(Vec<Vec<u8>>, Vec<Command>), Memory>
+        move || -> Result<(Vec<u8>, Vec<Command>), Memory>
             requires { IsSync R.row × (length ids.now ≤ 2 ^ 40) × (length later.now ≤ 2 ^ 40)
                 × (length replies.items ≡ length ids.now) }
-            ensures { IfOk result (λ v. (flat_map (λ part. part.items) v.0.items
-                ≡ flat_map reply_line (zip ids.entry.now replies.items))
+            ensures { IfOk result (λ v. (v.0.items
+                ≡ text.items ++ flat_map reply_line (zip ids.entry.now replies.items))
                 × (map (λ c. c.ops.now) v.1.items
                 ≡ commands_by_id merged.entry.now later.entry.now)) }
-        { write_and_find(rt, alloc, plan, merged, ids, replies, later) },
+        { write_and_find(rt, alloc, plan, text, merged, ids, replies, later) },
         move || -> Result<(Store, Vec<Reply>), Memory>
+            requires { IsSync R.row × (length commands.items ≤ 2 ^ 40) }
             ensures { IfOk result (λ v. Executes (map (λ c. c.ops.now) commands.entry.items)
                 store v.0 v.1.items) }
-        { run_one_by_one(alloc, store, &commands) },
+        { run_from(rt, alloc, store, &commands, plan, &FreeGate) },
     );
     let (store, replies) = ran?;
-    let (parts, next) = found?;
-    append_parts(text, parts)?;
+    let (text, next) = found?;
     Ok(Executed {
+        text,
         store,
         replies,
         next,
@@ -119,26 +131,26 @@ fn run_and_write<'a, R: Threads + Sync>(
 }
 
 /// Executes the commands of instances on a store, in order, and appends their reply lines. Returns
-/// the store after them. With several workers the lines of one batch are written while the next
-/// batch is executed.
-pub fn replay<R: Threads + Sync>(
+/// the store after them, and the text. With several workers the lines of one batch are written
+/// while the next batch is executed.
+pub fn replay<R: Threads + RandomSource + Sync>(
     rt: &R,
     alloc: Global,
-    text: &mut Vec<u8>,
+    text: Vec<u8>,
     store: Store,
     merged: &Merged,
     ids: &[Id],
     plan: Plan,
-) -> Result<Store, Memory>
+) -> Result<(Store, Vec<u8>), Memory>
     requires { length ids.now ≤ 2 ^ 40 }
-    ensures { IfOk result (λ after. Replays ids.now (commands_by_id merged.now ids.now)
-        store after text.old.items text.new.items) }
+    ensures { IfOk result (λ v. Replays ids.now (commands_by_id merged.now ids.now)
+        store v.0 text.items v.1.items) }
 {
     if plan.workers() == 1 {
-        return replay_alone(alloc, text, store, merged, ids);
+        return replay_alone(rt, alloc, text, store, merged, ids, plan);
     }
     let len = ids.len().div_ceil(BATCHES).max(MIN_BATCH);
-    let mut store = store;
+    let (mut store, mut text) = (store, text);
     let mut replies = Vec::new(alloc);
     // The instances before `end` are executed, and the reply lines of those before `start` are
     // written. The commands of those from `end` up to `next` are found.
@@ -151,15 +163,14 @@ pub fn replay<R: Threads + Sync>(
             rt, alloc, plan, text, merged, store, commands, written, replies, later,
         )?;
         Executed {
+            text,
             store,
             replies,
             next: commands,
         } = executed;
         (start, end, next) = (end, next, after);
     }
-    append_parts(
-        text,
-        reply_parts(rt, alloc, &ids[start..end], &replies, plan)?,
-    )?;
-    Ok(store)
+    let parts = reply_parts(rt, alloc, &ids[start..end], &replies, plan)?;
+    append_parts(&mut text, parts)?;
+    Ok((store, text))
 }

@@ -20,7 +20,9 @@ pub use laws::{
     list_names_one_list, list_or_bad_list, report_is_a_base, report_is_read_as_it_says,
 };
 pub use list::read_list;
-pub use report_lines::{append_done, append_header, append_replies, append_store, append_waiter};
+pub use report_lines::{
+    append_done, append_header, append_pairs, append_replies, append_store, append_waiter,
+};
 pub use view_lines::{
     append_level, append_ranked, missing_line, name_line, position_line, uncovered_line,
 };

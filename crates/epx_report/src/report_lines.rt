@@ -207,14 +207,27 @@ pub fn append_replies(
     Ok(())
 }
 
+/// Appends the store lines of keys with their values.
+pub fn append_pairs(
+    alloc: Global,
+    text: &mut Vec<u8>,
+    pairs: &[(&Key, i64)],
+) -> Result<(), AllocError>
+    ensures { OnOk result (text.new.items ≡ text.old.items
+        ++ flat_map store_line (map (λ p. (p.0.now, p.1)) pairs.now)) }
+{
+    let mut line = Vec::new(alloc);
+    for (key, value) in pairs {
+        append_store_pair(alloc, text, &mut line, key, value)?;
+    }
+    Ok(())
+}
+
 /// Appends the lines of a store, in byte order of the keys.
 pub fn append_store(alloc: Global, text: &mut Vec<u8>, store: &Store) -> Result<(), Memory>
     ensures { OnOk result (text.new.items ≡ text.old.items
         ++ flat_map store_line (contents.entries store.now)) }
 {
-    let mut line = Vec::new(alloc);
-    for (key, value) in &store.pairs()? {
-        append_store_pair(alloc, text, &mut line, key, value)?;
-    }
+    append_pairs(alloc, text, &store.pairs()?)?;
     Ok(())
 }

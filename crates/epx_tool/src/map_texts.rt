@@ -1,5 +1,6 @@
 //! The texts of a committed map: the report and the views.
 ghost use Rattle.std.specs.Prelude.{◌≡◌, ◌≤◌, ◌++◌, length, IfOk};
+ghost use Rattle.std.specs.Thread.{IsSync};
 ghost use Rattle.epx_types.specs.Ids.{IsRising};
 ghost use Rattle.epx_types.specs.Levels.{AreLevels};
 ghost use Rattle.epx_committed.specs.InstanceCounts.{max_instances};
@@ -22,7 +23,7 @@ use epx_apply::{LevelMap, levels};
 use epx_graph::{Waiter, build, build_after, waiting};
 use epx_merge::Merged;
 use epx_names::KeyName;
-use epx_order::{OrderList, audit, order};
+use epx_order::{audit, order};
 use epx_picture::picture;
 use epx_replay::{commands_of, replay};
 use epx_trace::trace_text;
@@ -30,6 +31,7 @@ use epx_txn::Store;
 use epx_types::{Id, Memory, Plan};
 use epx_why::{path_text, why_text};
 use std::alloc::Global;
+use std::random::RandomSource;
 use std::thread::{Threads, join};
 
 /// The conflict levels of the commands of some instances.
@@ -41,8 +43,8 @@ fn command_levels(alloc: Global, merged: &Merged, ids: &[Id]) -> Result<LevelMap
     levels(alloc, &commands)
 }
 
-/// Writes the rest of a report, after its replies. It does not need the map. With several workers
-/// another thread frees the map at the same time.
+/// Writes the rest of a report, after its replies, and frees the store. It does not need the map.
+/// With several workers another thread frees the map at the same time.
 fn write_rest<R: Threads + Sync>(
     rt: &R,
     alloc: Global,
@@ -50,29 +52,30 @@ fn write_rest<R: Threads + Sync>(
     merged: Merged,
     text: Vec<u8>,
     waiters: &[Waiter],
-    store: &Store,
+    store: Store,
 ) -> Result<Vec<u8>, Memory>
     ensures { IfOk result (λ longer. longer.items
-        ≡ text.items ++ closing_text waiters.now store.now) }
+        ≡ text.items ++ closing_text waiters.now store) }
 {
     if plan.workers() == 1 {
         drop(merged);
-        return end_report(alloc, text, waiters, store);
+        return end_report(rt, alloc, plan, text, waiters, store);
     }
     let (_, text) = join(
         rt,
         move || drop(merged),
         move || -> Result<Vec<u8>, Memory>
+            requires { IsSync R.row }
             ensures { IfOk result (λ longer. longer.items
-                ≡ text.items ++ closing_text waiters.entry.now store.entry.now) }
-        { end_report(alloc, text, waiters, store) },
+                ≡ text.items ++ closing_text waiters.entry.now store) }
+        { end_report(rt, alloc, plan, text, waiters, store) },
     );
     text
 }
 
 /// Executes the remaining instances of a committed map from a store, and returns the report.
 /// `done` has the done instances by increasing Id.
-pub(crate) fn report_of<R: Threads + Sync>(
+pub(crate) fn report_of<R: Threads + RandomSource + Sync>(
     rt: &R,
     alloc: Global,
     merged: Merged,
@@ -88,9 +91,9 @@ pub(crate) fn report_of<R: Threads + Sync>(
     let order = order(rt, alloc, &merged, &graph)?;
     let waiters = waiting(alloc, &graph)?;
     drop(graph);
-    let mut text = begin_report(alloc, done, &order, &waiters)?;
-    let store = replay(rt, alloc, &mut text, store, &merged, order.ids(), plan)?;
-    write_rest(rt, alloc, plan, merged, text, &waiters, &store)
+    let text = begin_report(alloc, done, &order, &waiters)?;
+    let (store, text) = replay(rt, alloc, text, store, &merged, order.ids(), plan)?;
+    write_rest(rt, alloc, plan, merged, text, &waiters, store)
 }
 
 /// The text of the execution order of a committed map.
@@ -201,7 +204,7 @@ fn trace_of<R: Threads + Sync>(
 }
 
 /// A text of a committed map.
-pub(crate) fn text_of<R: Threads + Sync>(
+pub(crate) fn text_of<R: Threads + RandomSource + Sync>(
     rt: &R,
     alloc: Global,
     kind: &MapText,

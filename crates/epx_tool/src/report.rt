@@ -9,12 +9,12 @@ ghost use Rattle.epx_tool.specs.LevelText.{level_text};
 use epx_apply::LevelMap;
 use epx_graph::Waiter;
 use epx_order::OrderList;
-use epx_report::{
-    append_done, append_header, append_level, append_ranked, append_store, append_waiter,
-};
+use epx_replay::append_store_lines;
+use epx_report::{append_done, append_header, append_level, append_ranked, append_waiter};
 use epx_txn::Store;
-use epx_types::{Id, Memory};
+use epx_types::{Id, Memory, Plan};
 use std::alloc::{AllocError, Global};
+use std::thread::Threads;
 
 fn append_waiting(alloc: Global, text: &mut Vec<u8>, waiters: &[Waiter]) -> Result<(), AllocError>
     ensures { OnOk result (text.new.items ≡ text.old.items ++ flat_map waiting_line waiters.now) }
@@ -84,19 +84,20 @@ pub(crate) fn begin_report(
 
 /// Appends what a report has after its replies: the instances that wait, and the store, by the
 /// bytes of its keys.
-pub(crate) fn end_report(
+pub(crate) fn end_report<R: Threads + Sync>(
+    rt: &R,
     alloc: Global,
+    plan: Plan,
     text: Vec<u8>,
     waiters: &[Waiter],
-    store: &Store,
+    store: Store,
 ) -> Result<Vec<u8>, Memory>
     ensures { IfOk result (λ longer. longer.items
-        ≡ text.items ++ closing_text waiters.now store.now) }
+        ≡ text.items ++ closing_text waiters.now store) }
 {
     let mut text = text;
     append_waiting(alloc, &mut text, waiters)?;
-    append_store(alloc, &mut text, store)?;
-    Ok(text)
+    append_store_lines(rt, alloc, text, store, plan)
 }
 
 /// The header, the instances in execution order with depth and leader, and those that wait.

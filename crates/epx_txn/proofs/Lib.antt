@@ -1,3 +1,4 @@
+pub mod RangeLemmas
 pub mod RisingEntryLemmas
 pub mod TreeEntryLemmas
 pub mod DropLemmas

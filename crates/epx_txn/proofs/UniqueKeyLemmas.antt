@@ -285,21 +285,18 @@ module _ {A : Type 0} (key : A → List ℕ) (value : A → ℤ) where
       (below_all_trans (key x) (key y) (map shown xs) below (first_of _ _ rest))) rest
 
   -- the entries of all shards in any order are those of the store if their keys rise
-  pub entries-rising : (shards : List Contents) (c : Contents) (xs ys : List A) → AreShards shards
-      → all_contents shards ≡ c → map shown xs ≡ flat_map contents.entries shards
-      → IsPermutation xs ys → (HasUniqueKeys (map shown ys) → T (is_sorted key_cmp (map shown ys)))
-      → map shown ys ≡ contents.entries c
-  entries-rising shards c xs ys h is listed moved rises =
+  pub entries-rising : (shards : List Contents) (ys : List A) → AreShards shards
+      → IsPermutation (flat_map contents.entries shards) (map shown ys)
+      → (HasUniqueKeys (map shown ys) → T (is_sorted key_cmp (map shown ys)))
+      → map shown ys ≡ contents.entries (all_contents shards)
+  entries-rising shards ys h placed rises =
       let all : Entries = flat_map contents.entries shards in
-      let placed : IsPermutation all (map shown ys) =
-      subst (λ es. IsPermutation es (map shown ys)) listed
-      (IsPermutation-map shown xs ys moved) in
       let once : HasUniqueKeys all = HasUniqueKeys-shards shards h in
       entries-moved all (map shown ys) placed once
-      (rises (HasUniqueKeys-moved all (map shown ys) placed once)) c is
+      (rises (HasUniqueKeys-moved all (map shown ys) placed once)) _ refl
 
   -- the entries of each shard one after another are those of all shards
-  pub entries-listed : {B : Type 0} (items : B → List A) (ls : List B) (shards : List Contents)
+  entries-listed : {B : Type 0} (items : B → List A) (ls : List B) (shards : List Contents)
       → map (λ l. map shown (items l)) ls ≡ map contents.entries shards
       → map shown (flat_map items ls) ≡ flat_map contents.entries shards
   entries-listed items [] [] h = refl
@@ -308,3 +305,12 @@ module _ {A : Type 0} (key : A → List ℕ) (value : A → ℤ) where
   entries-listed items (l ∷ ls) (c ∷ cs) h =
       map-append shown (items l) (flat_map items ls)
       ∙ ap₂ (λ es fs. es ++ fs) (cc h) (entries-listed items ls cs (cc h))
+
+  -- what the lists of all shards hold is also what another order of it shows
+  pub entries-placed : {B : Type 0} (items : B → List A) (ls : List B) (shards : List Contents)
+      (ys : List A) → map (λ l. map shown (items l)) ls ≡ map contents.entries shards
+      → IsPermutation (flat_map items ls) ys
+      → IsPermutation (flat_map contents.entries shards) (map shown ys)
+  entries-placed items ls shards ys h moved =
+      subst (λ es. IsPermutation es (map shown ys)) (entries-listed items ls shards h)
+      (IsPermutation-map shown (flat_map items ls) ys moved)

@@ -11,6 +11,7 @@ mod key_map;
 pub mod keys;
 mod lone_op;
 pub mod merge;
+mod ranges;
 mod routes;
 mod shards;
 pub mod store;

@@ -1,14 +1,19 @@
 //! The store.
-ghost use Rattle.std.specs.Prelude.{◌≡◌, IfOk, OnOk, OnErr, map, flat_map};
+ghost use Rattle.std.specs.Prelude.{◌≡◌, T, List, IfOk, OnOk, OnErr, map, flat_map};
+ghost use Rattle.std.specs.Prelude.{IsPermutation};
 ghost use Rattle.std.specs.FinMap as contents;
-ghost use Rattle.epx_types.specs.Contents.{assign};
+ghost use Rattle.std.specs.FinMap.{is_sorted};
+ghost use Rattle.epx_types.specs.Contents.{Contents, assign};
+ghost use Rattle.epx_types.specs.Keys.{key_cmp};
 ghost use Rattle.epx_types.specs.Writes.{apply_writes};
+ghost use Rattle.epx_txn.specs.inner.Shards.{AreShards, all_contents};
 
 use crate::effect::Effect;
 use crate::key_map::KeyMap;
+use crate::ranges::merge_by_ranges;
 use crate::routes::{put_routes, sort_by_shard};
 use crate::shards::{SHARDS, copy_shards, empty_shards, list_shards, shard_of};
-use crate::tournament::merge;
+use crate::tournament::{Pairs, merge};
 use epx_types::{Key, Memory};
 use std::alloc::Global;
 use std::marker::Model;
@@ -115,12 +120,36 @@ impl Store {
         ensures { IfOk result (λ v. map (λ p. (p.0.now, p.1)) v.items ≡ contents.entries self.now) }
     {
         let lists = list_shards(self.alloc, &self.shards)?;
-        let (mut pairs, rises) = merge(self.alloc, lists)?;
-        // The keys rise, but their heads alone do not show it, because some keys have the same
-        // head.
-        if !rises {
-            pairs.sort()?;
-        }
-        Ok(pairs)
+        let (pairs, rises) = merge(self.alloc, lists)?;
+        in_key_order(pairs, rises)
     }
+
+    /// Returns the same. Several threads list the keys.
+    pub fn pairs_by<R: Threads + Sync>(
+        &self,
+        rt: &R,
+        threads: usize,
+    ) -> Result<Vec<(&Key, i64)>, Memory>
+        ensures { IfOk result (λ v. map (λ p. (p.0.now, p.1)) v.items ≡ contents.entries self.now) }
+    {
+        let lists = list_shards(self.alloc, &self.shards)?;
+        let (pairs, rises) = merge_by_ranges(rt, self.alloc, lists, threads)?;
+        in_key_order(pairs, rises)
+    }
+}
+
+/// The pairs of all shards by rising key. `rises` says that they are in this order already.
+// The keys may rise although `rises` is false: keys that have one head do not show it.
+fn in_key_order<'a>(pairs: Pairs<'a>, rises: bool) -> Result<Pairs<'a>, Memory>
+    requires { T rises → T (is_sorted key_cmp (map (λ p. (p.0.now, p.1)) pairs.items)) }
+    ensures { IfOk result (λ v. (shards : List Contents) → AreShards shards
+        → IsPermutation (flat_map contents.entries shards)
+        (map (λ p. (p.0.now, p.1)) pairs.entry.items)
+        → map (λ p. (p.0.now, p.1)) v.items ≡ contents.entries (all_contents shards)) }
+{
+    let mut pairs = pairs;
+    if !rises {
+        pairs.sort()?;
+    }
+    Ok(pairs)
 }
