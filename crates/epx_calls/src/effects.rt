@@ -3,7 +3,7 @@ ghost use Rattle.std.specs.Prelude.{◌≡◌, [], ◌∷◌, IfOk};
 
 use crate::fixtures::key;
 use epx_txn::{Effect, Store, Writes, apply, eval, merge_effects, touched, written};
-use epx_types::{Key, Memory, Op, Reply, Values};
+use epx_types::{Key, Memory, Op, Plan, Reply, Values};
 use std::alloc::Global;
 use std::process::Abort;
 use std::slice::from_ref;
@@ -98,8 +98,9 @@ fn threads_list_keys_in_order(rt: HostRuntime) -> Result<(), Fail> {
         ("one head b", 5),
     ];
     let store = store_with(&rt, rt.alloc(), &pairs)?;
-    for threads in [0, 1, 2, 3, 16] {
-        expect_list(&rt, &store.pairs_by(&rt, threads)?, &wanted);
+    for (workers, cut) in [(1, 1), (2, 1), (3, 1), (16, 1), (16, 2), (16, 6)] {
+        let plan = Plan::new(workers, cut).ok_or("a plan")?;
+        expect_list(&rt, &store.pairs_by(&rt, plan)?, &wanted);
     }
     Ok(())
 }

@@ -1,6 +1,6 @@
 //! Tests of Ids, keys, entries, plans, replies and a fault: their orders, limits and texts.
 use crate::fixtures::id;
-use epx_types::{Entry, Fault, Id, Key, Memory, Op, Place, Plan, Reply, Values};
+use epx_types::{Entry, Fault, Id, Key, Memory, Op, Place, Plan, Reply, SmallList, Values};
 use std::alloc::Global;
 use std::process::Abort;
 use std::test::Fail;
@@ -162,21 +162,47 @@ fn an_entry_has_at_most_256_dependencies_and_64_operations(rt: HostRuntime) -> R
     expect_ops_allowed(&rt, rt.alloc(), 65, false)
 }
 
-/// Expects that an entry has the parts that it was made of.
-fn expect_parts(rt: &impl Abort, alloc: Global, ops: Vec<Op>) -> Result<(), Fail> {
-    let count = ops.len();
-    let deps = vec![in alloc; id(0, 1)]?;
-    let entry = Entry::new(id(2, 7), 3, deps, ops).ok_or("an entry")?;
+/// Expects this entry, with one dependency and one operation.
+fn expect_parts(rt: &impl Abort, entry: Option<Entry>) -> Result<(), Fail> {
+    let entry = entry.ok_or("an entry")?;
     assert!(rt; entry.id() == id(2, 7) && entry.seq() == 3);
     assert!(rt; entry.deps() == [id(0, 1)].as_slice());
-    assert!(rt; entry.ops().len() == count);
+    assert!(rt; entry.ops().len() == 1);
     Ok(())
+}
+
+/// An operation.
+fn operation(alloc: Global) -> Result<Op, Fail> {
+    let key = Key::new(alloc, "k")?.ok_or("a key")?;
+    Ok(Op::Del { key })
 }
 
 #[test]
 fn an_entry_holds_what_it_was_made_of(rt: HostRuntime) -> Result<(), Fail> {
-    let key = Key::new(rt.alloc(), "k")?.ok_or("a key")?;
-    expect_parts(&rt, rt.alloc(), vec![in rt.alloc(); Op::Del { key }]?)
+    let alloc = rt.alloc();
+    let deps = vec![in alloc; id(0, 1)]?;
+    let ops = vec![in alloc; operation(alloc)?]?;
+    expect_parts(&rt, Entry::new(id(2, 7), 3, deps, ops))?;
+    let (deps, ops) = (SmallList::One(id(0, 1)), SmallList::One(operation(alloc)?));
+    expect_parts(&rt, Entry::from_lists(id(2, 7), 3, deps, ops))
+}
+
+/// Expects that a list has the items of a vector, and takes them from another.
+fn expect_items(rt: &impl Abort, alloc: Global, ids: &[Id]) -> Result<(), Memory> {
+    let list = SmallList::from_vec(Vec::from_slice(alloc, ids)?);
+    assert!(rt; list.as_slice() == ids);
+    let mut items = Vec::from_slice(alloc, ids)?;
+    let taken = SmallList::take(alloc, &mut items)?;
+    assert!(rt; taken.as_slice() == ids && items.is_empty());
+    Ok(())
+}
+
+#[test]
+fn a_list_has_the_items_of_a_vector(rt: HostRuntime) -> Result<(), Fail> {
+    expect_items(&rt, rt.alloc(), &[])?;
+    expect_items(&rt, rt.alloc(), &[id(0, 1)])?;
+    expect_items(&rt, rt.alloc(), &[id(0, 1), id(0, 2)])?;
+    Ok(())
 }
 
 /// The reply of these values.

@@ -66,10 +66,10 @@ impl Search {
         Ok(Search {
             visits: vec![in alloc; Visit::Unseen; len]?,
             looked_at: vec![in alloc; 0; len]?,
-            opened: Vec::new(alloc),
-            path: Vec::new(alloc),
-            starts: Vec::new(alloc),
-            order: Vec::new(alloc),
+            opened: Vec::with_capacity(alloc, len)?,
+            path: Vec::with_capacity(alloc, len)?,
+            starts: Vec::with_capacity(alloc, len)?,
+            order: Vec::with_capacity(alloc, len)?,
             count: 0,
         })
     }

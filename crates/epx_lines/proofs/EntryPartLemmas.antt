@@ -1,6 +1,6 @@
 -- The parts of an instance and the object that they are read from.
 use Rattle.std.proofs.Common.{◌≡◌, ℕ, ◌^◌, List, true, false, codes, Option, Some, None}
-use Rattle.std.proofs.Common.{option_map, option_and_then, bytes_eq, Vec, Global, refl, sym, ap}
+use Rattle.std.proofs.Common.{option_map, option_and_then, bytes_eq, refl, sym, ap}
 use Rattle.std.proofs.Common.{◌∙◌}
 use Rattle.std.specs.Prelude.{Ok}
 use Rattle.std.proofs.lemmas.Bool.{false≢true}
@@ -10,6 +10,8 @@ use Rattle.serde_json.specs.Find.{get, get_member}
 use Rattle.serde_json.proofs.Views.{get_member-put, get_member-put_other}
 use Rattle.epx_types.specs.declared.id.Id.{Id}
 use Rattle.epx_types.specs.declared.op.Op.{Op}
+use Rattle.epx_types.specs.declared.small_list.SmallList.{SmallList}
+use Rattle.epx_types.specs.SmallLists.{items_of}
 use Rattle.epx_lines.specs.declared.Line.TheVariants.{Entry}
 use Rattle.epx_lines.specs.declared.direct.Parts.{Parts}
 use Rattle.epx_lines.specs.Tokens.{IsMember, HoldsParts}
@@ -47,8 +49,8 @@ module _ (d : Data) (ms : Members) (old : Parts) (h : HoldsParts ms old) where
     number = kept (codes "i") (whole (2 ^ 64)) (codes "r") d ms (old.number) refl h.number;
     seq = kept (codes "seq") (whole (2 ^ 64)) (codes "r") d ms (old.seq) refl h.seq;
     named = kept (codes "deps") (each_of_at_most 256 id_of) (codes "r") d ms
-        (option_map (λ v. v.items) old.named) refl h.named;
-    ops = kept (codes "ops") (ops_of) (codes "r") d ms (option_map (λ v. v.items) old.ops) refl
+        (option_map items_of old.named) refl h.named;
+    ops = kept (codes "ops") (ops_of) (codes "r") d ms (option_map items_of old.ops) refl
         h.ops;
     status = kept_status (codes "r") d ms refl h.status;
   }
@@ -60,8 +62,8 @@ module _ (d : Data) (ms : Members) (old : Parts) (h : HoldsParts ms old) where
     number = added (codes "i") (whole (2 ^ 64)) d ms i e;
     seq = kept (codes "seq") (whole (2 ^ 64)) (codes "i") d ms (old.seq) refl h.seq;
     named = kept (codes "deps") (each_of_at_most 256 id_of) (codes "i") d ms
-        (option_map (λ v. v.items) old.named) refl h.named;
-    ops = kept (codes "ops") (ops_of) (codes "i") d ms (option_map (λ v. v.items) old.ops) refl
+        (option_map items_of old.named) refl h.named;
+    ops = kept (codes "ops") (ops_of) (codes "i") d ms (option_map items_of old.ops) refl
         h.ops;
     status = kept_status (codes "i") d ms refl h.status;
   }
@@ -73,33 +75,33 @@ module _ (d : Data) (ms : Members) (old : Parts) (h : HoldsParts ms old) where
     number = kept (codes "i") (whole (2 ^ 64)) (codes "seq") d ms (old.number) refl h.number;
     seq = added (codes "seq") (whole (2 ^ 64)) d ms n e;
     named = kept (codes "deps") (each_of_at_most 256 id_of) (codes "seq") d ms
-        (option_map (λ v. v.items) old.named) refl h.named;
-    ops = kept (codes "ops") (ops_of) (codes "seq") d ms (option_map (λ v. v.items) old.ops) refl
+        (option_map items_of old.named) refl h.named;
+    ops = kept (codes "ops") (ops_of) (codes "seq") d ms (option_map items_of old.ops) refl
         h.ops;
     status = kept_status (codes "seq") d ms refl h.status;
   }
 
-  pub HoldsParts-named : (ids : Vec Id Global) → each_of_at_most 256 id_of d ≡ Some ids.items
+  pub HoldsParts-named : (ids : SmallList Id) → each_of_at_most 256 id_of d ≡ Some (items_of ids)
       → HoldsParts (put (codes "deps") d ms) (record old { named = Some ids })
   HoldsParts-named ids e = record {
     replica = kept (codes "r") (whole 256) (codes "deps") d ms (old.replica) refl h.replica;
     number = kept (codes "i") (whole (2 ^ 64)) (codes "deps") d ms (old.number) refl h.number;
     seq = kept (codes "seq") (whole (2 ^ 64)) (codes "deps") d ms (old.seq) refl h.seq;
-    named = added (codes "deps") (each_of_at_most 256 id_of) d ms ids.items e;
-    ops = kept (codes "ops") (ops_of) (codes "deps") d ms (option_map (λ v. v.items) old.ops) refl
+    named = added (codes "deps") (each_of_at_most 256 id_of) d ms (items_of ids) e;
+    ops = kept (codes "ops") (ops_of) (codes "deps") d ms (option_map items_of old.ops) refl
         h.ops;
     status = kept_status (codes "deps") d ms refl h.status;
   }
 
-  pub HoldsParts-ops : (ops : Vec Op Global) → ops_of d ≡ Some ops.items
+  pub HoldsParts-ops : (ops : SmallList Op) → ops_of d ≡ Some (items_of ops)
       → HoldsParts (put (codes "ops") d ms) (record old { ops = Some ops })
   HoldsParts-ops ops e = record {
     replica = kept (codes "r") (whole 256) (codes "ops") d ms (old.replica) refl h.replica;
     number = kept (codes "i") (whole (2 ^ 64)) (codes "ops") d ms (old.number) refl h.number;
     seq = kept (codes "seq") (whole (2 ^ 64)) (codes "ops") d ms (old.seq) refl h.seq;
     named = kept (codes "deps") (each_of_at_most 256 id_of) (codes "ops") d ms
-        (option_map (λ v. v.items) old.named) refl h.named;
-    ops = added (codes "ops") ops_of d ms ops.items e;
+        (option_map items_of old.named) refl h.named;
+    ops = added (codes "ops") ops_of d ms (items_of ops) e;
     status = kept_status (codes "ops") d ms refl h.status;
   }
 
@@ -110,8 +112,8 @@ module _ (d : Data) (ms : Members) (old : Parts) (h : HoldsParts ms old) where
     number = kept (codes "i") (whole (2 ^ 64)) (codes "status") d ms (old.number) refl h.number;
     seq = kept (codes "seq") (whole (2 ^ 64)) (codes "status") d ms (old.seq) refl h.seq;
     named = kept (codes "deps") (each_of_at_most 256 id_of) (codes "status") d ms
-        (option_map (λ v. v.items) old.named) refl h.named;
-    ops = kept (codes "ops") (ops_of) (codes "status") d ms (option_map (λ v. v.items) old.ops)
+        (option_map items_of old.named) refl h.named;
+    ops = kept (codes "ops") (ops_of) (codes "status") d ms (option_map items_of old.ops)
         refl h.ops;
     status = ap is_committed (get_member-put (codes "status") d ms) ∙ e;
   }

@@ -7,6 +7,7 @@ use Rattle.json.specs.Json.{value}
 use Rattle.serde_json.specs.Data.{Data, Members, object, put}
 use Rattle.serde_json.specs.Find.{get}
 use Rattle.serde_json.specs.Read.{of_json, converted}
+use Rattle.epx_types.specs.SmallLists.{items_of}
 use Rattle.epx_lines.specs.declared.direct.Parts.{Parts}
 use Rattle.epx_lines.specs.Elements.{whole, each_of_at_most}
 use Rattle.epx_lines.specs.DependencyList.{id_of}
@@ -47,8 +48,8 @@ pub record HoldsParts (ms : Members) (p : Parts) : Type 0 where
   pub number : IsMember (codes "i") (whole (2 ^ 64)) ms p.number
   pub seq : IsMember (codes "seq") (whole (2 ^ 64)) ms p.seq
   pub named : IsMember (codes "deps") (each_of_at_most 256 id_of) ms
-      (option_map (λ v. v.items) p.named)
-  pub ops : IsMember (codes "ops") ops_of ms (option_map (λ v. v.items) p.ops)
+      (option_map items_of p.named)
+  pub ops : IsMember (codes "ops") ops_of ms (option_map items_of p.ops)
   pub status : is_committed (get (codes "status") (object ms)) ≡ Some true
 
 -- the tokens begin with a value; if the old parts are those of an object, the new ones are those

@@ -1,11 +1,12 @@
 //! Reads the dependencies of a line from a JSON value.
 ghost use Rattle.std.specs.Prelude.{◌≡◌, ◌^◌, [], ◌∷◌, IfOk, option_map};
 ghost use Rattle.serde_json.specs.View.{view};
+ghost use Rattle.epx_types.specs.SmallLists.{items_of};
 ghost use Rattle.epx_lines.specs.Elements.{whole};
 ghost use Rattle.epx_lines.specs.DependencyList.{id_of_pair, id_of, rising_others, deps_of};
 
 use epx_types::entry::{MAX_DEPS, is_rising};
-use epx_types::{Id, Memory};
+use epx_types::{Id, Memory, SmallList};
 use serde_json::Value;
 use std::alloc::Global;
 use std::collections::BTreeSet;
@@ -49,16 +50,12 @@ pub fn read_id(value: &Value) -> Option<Id>
     read_id_parts(replica, number)
 }
 
-/// Sorts the Ids, and removes repeats and the Id of the instance itself. A list that is already so
-/// is returned unchanged.
-pub fn sort_other_ids(alloc: Global, id: Id, named: Vec<Id>) -> Result<Vec<Id>, Memory>
-    ensures { IfOk result (λ v. v.items ≡ rising_others id named.items) }
+/// The Ids, sorted, without repeats and without the Id of the instance itself.
+fn sort_others(alloc: Global, id: Id, named: &[Id]) -> Result<Vec<Id>, Memory>
+    ensures { IfOk result (λ v. v.items ≡ rising_others id named.now) }
 {
-    if is_rising(&named) && !named.contains(&id) {
-        return Ok(named);
-    }
     let mut others = BTreeSet::new(alloc);
-    for dep in &named {
+    for dep in named {
         if *dep != id {
             others.insert(*dep)?;
         }
@@ -66,11 +63,23 @@ pub fn sort_other_ids(alloc: Global, id: Id, named: Vec<Id>) -> Result<Vec<Id>, 
     Ok(others.into_iter().collect(alloc)?)
 }
 
+/// As `sort_others`, but a list that is already so is returned unchanged.
+pub fn sort_other_ids(alloc: Global, id: Id, named: SmallList<Id>) -> Result<SmallList<Id>, Memory>
+    ensures { IfOk result (λ list. items_of list ≡ rising_others id (items_of named)) }
+{
+    let ids = named.as_slice();
+    if is_rising(ids) && !ids.contains(&id) {
+        return Ok(named);
+    }
+    let others = sort_others(alloc, id, named.as_slice())?;
+    Ok(SmallList::from_vec(others))
+}
+
 /// Reads the dependencies of an instance: the distinct Ids, rising, without its own. None if the
 /// value is not a list of at most `MAX_DEPS` Ids.
 #[tactic(auto, unfolding(crate::specs::DependencyList::deps_of))]
-pub fn read_deps(alloc: Global, id: Id, value: &Value) -> Result<Option<Vec<Id>>, Memory>
-    ensures { IfOk result (λ o. option_map (λ v. v.items) o ≡ deps_of id (view value.now)) }
+pub fn read_deps(alloc: Global, id: Id, value: &Value) -> Result<Option<SmallList<Id>>, Memory>
+    ensures { IfOk result (λ o. option_map items_of o ≡ deps_of id (view value.now)) }
 {
     let Some(written) = value.as_array() else {
         return Ok(None);
@@ -85,5 +94,6 @@ pub fn read_deps(alloc: Global, id: Id, value: &Value) -> Result<Option<Vec<Id>>
         };
         named.push(dep)?;
     }
+    let named = SmallList::from_vec(named);
     Ok(Some(sort_other_ids(alloc, id, named)?))
 }

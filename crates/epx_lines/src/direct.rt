@@ -3,6 +3,7 @@
 //! fault: the caller then reads the line as a JSON value.
 ghost use Rattle.std.specs.Prelude.{◌≡◌, ◌^◌, true, Ok, Some, IfSome};
 ghost use Rattle.serde_json.specs.Data.{Members, object};
+ghost use Rattle.epx_types.specs.SmallLists.{items_of};
 ghost use Rattle.epx_types.specs.declared.fault.Why.TheVariants.{NotJson};
 ghost use Rattle.epx_lines.specs.declared.Line.TheVariants as line;
 ghost use Rattle.epx_lines.specs.DependencyList.{id_of};
@@ -18,7 +19,7 @@ use crate::ops::{op_named, op_with_absence, op_with_number, op_with_target};
 use crate::status::committed_by;
 use crate::tokens::{take_id_parts, take_key, take_number, take_replica, take_text};
 use epx_types::entry::{MAX_DEPS, MAX_OPS};
-use epx_types::{Entry, Id, Key, Op};
+use epx_types::{Entry, Id, Key, Op, SmallList};
 use json::{Reader, Scratch, Token};
 use std::alloc::Global;
 use std::str;
@@ -29,8 +30,8 @@ pub(crate) struct Parts {
     pub(crate) replica: Option<u8>,
     pub(crate) number: Option<u64>,
     pub(crate) seq: Option<u64>,
-    pub(crate) named: Option<Vec<Id>>,
-    pub(crate) ops: Option<Vec<Op>>,
+    pub(crate) named: Option<SmallList<Id>>,
+    pub(crate) ops: Option<SmallList<Op>>,
 }
 
 /// Buffers for the lists of the current line. The next line reuses them.
@@ -62,18 +63,16 @@ fn take_id(reader: &mut Reader<'_>) -> Option<Id>
     Some(id)
 }
 
-/// Moves the items into a new vector with room for just these.
-fn move_items<T: Drop>(alloc: Global, gathered: &mut Vec<T>) -> Option<Vec<T>>
-    ensures { IfSome result (λ v. v.items ≡ gathered.old.items) }
+/// Moves the items out of a buffer.
+fn move_items<T: Drop>(alloc: Global, gathered: &mut Vec<T>) -> Option<SmallList<T>>
+    ensures { IfSome result (λ list. items_of list ≡ gathered.old.items) }
 {
-    let mut kept = Vec::with_capacity(alloc, gathered.len()).ok()?;
-    kept.append(gathered).ok()?;
-    Some(kept)
+    SmallList::take(alloc, gathered).ok()
 }
 
-fn take_ids(alloc: Global, reader: &mut Reader<'_>, ids: &mut Vec<Id>) -> Option<Vec<Id>>
+fn take_ids(alloc: Global, reader: &mut Reader<'_>, ids: &mut Vec<Id>) -> Option<SmallList<Id>>
     ensures { IfSome result
-        (λ ids. ParsesTo 2 (each_of_at_most 256 id_of) reader.old ids.items reader.new) }
+        (λ ids. ParsesTo 2 (each_of_at_most 256 id_of) reader.old (items_of ids) reader.new) }
 {
     let Token::BeginArray = reader.next()? else {
         return None;
@@ -119,8 +118,8 @@ fn take_op(alloc: Global, reader: &mut Reader<'_>) -> Option<Op>
     Some(op)
 }
 
-fn take_ops(alloc: Global, reader: &mut Reader<'_>, ops: &mut Vec<Op>) -> Option<Vec<Op>>
-    ensures { IfSome result (λ ops. ParsesTo 2 ops_of reader.old ops.items reader.new) }
+fn take_ops(alloc: Global, reader: &mut Reader<'_>, ops: &mut Vec<Op>) -> Option<SmallList<Op>>
+    ensures { IfSome result (λ ops. ParsesTo 2 ops_of reader.old (items_of ops) reader.new) }
 {
     let Token::BeginArray = reader.next()? else {
         return None;
@@ -212,7 +211,7 @@ fn entry_from_parts(alloc: Global, parts: Parts) -> Option<Entry>
         number: number?,
     };
     let deps = sort_other_ids(alloc, id, named?).ok()?;
-    Entry::new(id, seq?, deps, ops?)
+    Entry::from_lists(id, seq?, deps, ops?)
 }
 
 /// Reads the entry of a line that is one object and nothing else.

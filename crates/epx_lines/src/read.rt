@@ -2,6 +2,7 @@
 ghost use Rattle.std.specs.Prelude.{◌≡◌, Ok, IfOk, IfErr, codes, option_map};
 ghost use Rattle.serde_json.specs.Find.{get};
 ghost use Rattle.serde_json.specs.View.{view};
+ghost use Rattle.epx_types.specs.SmallLists.{items_of};
 ghost use Rattle.epx_types.specs.declared.fault.Why.TheVariants.{NotJson};
 ghost use Rattle.epx_lines.specs.Meaning.{is_blank, json_of, need, at_member, is_committed};
 ghost use Rattle.epx_lines.specs.Meaning.{meaning_of_object, meaning_of_value, meaning_of};
@@ -14,7 +15,7 @@ use crate::direct::{ListBuffers, entry_from_tokens};
 use crate::ops::read_ops;
 use crate::status::committed_by;
 use crate::{Line, LineFault};
-use epx_types::{Entry, Id, Memory, Op, Why};
+use epx_types::{Entry, Id, Memory, Op, SmallList, Why};
 use json::Scratch;
 use serde_json::Value;
 use std::alloc::Global;
@@ -40,9 +41,9 @@ fn is_committed(object: &Value) -> Option<bool>
     committed_by(status.as_str()?)
 }
 
-fn member_deps(alloc: Global, id: Id, object: &Value) -> Result<Option<Vec<Id>>, Memory>
+fn member_deps(alloc: Global, id: Id, object: &Value) -> Result<Option<SmallList<Id>>, Memory>
     ensures { IfOk result
-        (λ o. option_map (λ v. v.items) o
+        (λ o. option_map items_of o
         ≡ at_member (codes "deps") (deps_of id) (view object.now)) }
 {
     match object.get("deps") {
@@ -89,7 +90,8 @@ fn read_object(alloc: Global, value: &Value) -> Result<Line, LineFault>
     let Some(ops) = member_ops(alloc, value)? else {
         return Err(LineFault::Bad(Why::Ops));
     };
-    Ok(Line::Entry(Entry::new(id, seq, deps, ops).unwrap()))
+    let ops = SmallList::from_vec(ops);
+    Ok(Line::Entry(Entry::from_lists(id, seq, deps, ops).unwrap()))
 }
 
 /// Parses a JSON text. None if the bytes are not JSON.

@@ -1,4 +1,4 @@
--- A stable sort of the ranks of the ready instances has the execution order as its result.
+-- A sort of the ranks of the ready instances has the execution order as its result.
 use Rattle.std.proofs.Common.{◌≡◌, ◌≢◌, ◌&&◌, ℕ, zero, suc, ◌<◌, List, [], ◌∷◌, Bool, true, false}
 use Rattle.std.proofs.Common.{not, cond, map, filter, slice_get, Some, Contains, AllPairs, Less}
 use Rattle.std.proofs.Common.{Equal, Greater, is_lt, nat_cmp, refl, sym, ap, ap₂, ◌∙◌, subst}
@@ -11,6 +11,14 @@ use Rattle.std.proofs.lemmas.List.Kept.{AllPairs-filter}
 use Rattle.std.proofs.lemmas.List.Sorted.{ranks_by, sorted_far, Contains-permutation}
 use Rattle.std.proofs.lemmas.List.Sorted.{IsPermutation-sym}
 use Rattle.std.proofs.lemmas.Option.{slice_get_within, get_or_from_slice_get}
+use Rattle.std.proofs.lemmas.Bool.Decides.{nat_tests}
+use Rattle.std.proofs.lemmas.List.Sorted.{IsPermutation-map}
+use Rattle.std.proofs.lemmas.Map.Keys.{IsDistinct-IsPermutation}
+use Rattle.std.proofs.lemmas.Map.Made.{AllPairs-from_IsDistinct, IsDistinct-from_AllPairs}
+use Rattle.epx_types.proofs.commands.EqualityLemmas.{ids_decide}
+use Rattle.epx_types.specs.declared.id.Id.{Id}
+use Rattle.epx_committed.proofs.LedgerMapLemmas.{same_id}
+use Rattle.epx_types.proofs.lists.ListPositionLemmas.{AllPairs-slice_get, slice_get-map}
 use Rattle.epx_types.specs.ExecutionOrder.{Ranked, rank_cmp, RanksBelow, IsRanked}
 use Rattle.epx_types.specs.ExecutionOrder.{IsExecutionOrder}
 use Rattle.epx_types.specs.Ids.{id_cmp}
@@ -26,26 +34,26 @@ use Rattle.epx_components.specs.Ranks.{ranked, ranked_all}
 use Rattle.epx_order.specs.inner.ReadyRanks.{AreReadyRanks}
 use Rattle.epx_components.specs.declared.rank.Rank.{Rank}
 
--- if R holds of any two filtered elements in order, it holds of two elements that pass the test
-pair_passes : {X : Type 0} (R : X → X → Type 0) (p : X → Bool) (xs : List X)
-    → AllPairs R (filter p xs) → (i j : ℕ) (x y : X) → i < j → slice_get xs i ≡ Some x
-    → slice_get xs j ≡ Some y → p x ≡ true → p y ≡ true → R x y
-pair_passes R p [] h i j x y l at to px py = absurd (cc at)
-pair_passes R p (z ∷ zs) h i zero x y l at to px py = absurd (omega arith)
-pair_passes {X} R p (z ∷ zs) h zero (suc j) x y l at to px py =
-    let same : z ≡ x = cc at in
-    let passes : p z ≡ true = ap p same ∙ px in
-    let all : AllPairs R (z ∷ filter p zs) =
-    subst (λ b. AllPairs R (cond b (z ∷ filter p zs) (filter p zs))) passes h in
-    let P : X → Type 0 = λ w. R w y in
-    subst P same (AllPairs-head R z (filter p zs) y all
-    (Contains-filter p zs y (Contains-slice_get zs j y to) py))
-pair_passes {X} R p (z ∷ zs) h (suc i) (suc j) x y l at to px py =
-    pair_passes R p zs (rest (p z) h) i j x y (omega arith) at to px py where
-      rest : (b : Bool) → AllPairs R (cond b (z ∷ filter p zs) (filter p zs))
-          → AllPairs R (filter p zs)
-      rest true all = AllPairs-tail R z (filter p zs) all
-      rest false all = all
+abbrev names : List Rank → List Id
+names ranks = map (λ r. r.id) ranks
+
+same_flips : (x y : Id) → same_id x y ≡ same_id y x
+same_flips x y = grind (arith, nat_tests)
+
+-- ranks of distinct instances stay such when they are moved
+names_apart : (old new : List Rank) → IsPermutation old new
+    → AllPairs (λ a b. a.id ≢ b.id) old → AllPairs (λ x y. x ≢ y) (names new)
+names_apart old new moved once =
+    let before : AllPairs (λ x y. x ≢ y) (names old) =
+    AllPairs-from_slice_get (λ x y. x ≢ y) (names old) (λ i j x y l at to.
+        let a = slice_get-from_map (λ (r : Rank). r.id) old i x at in
+        let b = slice_get-from_map (λ (r : Rank). r.id) old j y to in
+        subst₂ (λ (v w : Id). v ≢ w) a.2 b.2
+        (AllPairs-slice_get (λ (r s : Rank). r.id ≢ s.id) old once i j a.0 b.0 l a.1 b.1)) in
+    AllPairs-from_IsDistinct {eq = same_id} ids_decide (names new)
+    (IsDistinct-IsPermutation same_id same_flips (names old) (names new)
+    (IsPermutation-map (λ (r : Rank). r.id) old new moved)
+    (IsDistinct-from_AllPairs {eq = same_id} ids_decide (names old) before))
 
 abbrev lower : Rank → Rank → Bool
 lower a b = is_lt (rank_cmp (ranked a) (ranked b))
@@ -61,14 +69,8 @@ tied_ids a b e =
     (second_is_equal (id_cmp a.leader b.leader) by_seq
     (second_is_equal (nat_cmp a.depth b.depth) by_leader e)))
 
-tied : (a b : Rank) → rank_cmp (ranked a) (ranked b) ≡ Equal → ties lower a b ≡ true
-tied a b e =
-    let back : rank_cmp (ranked b) (ranked a) ≡ Equal =
-    rank_cmp_total.antisymm (ranked b) (ranked a) ∙ ap ordering_reverse e in
-    ap₂ (λ r s. not (is_lt r) && not (is_lt s)) e back
-
-module _ (old new : List Rank) (once : AllPairs (λ a b. a.id ≢ b.id) old)
-    (sorted : IsSortedBy lower new) (stable : IsStableBy lower old new) where
+module _ (new : List Rank) (apart : AllPairs (λ x y. x ≢ y) (names new))
+    (sorted : IsSortedBy lower new) where
   later : (i j : ℕ) (a b : Rank) → i < j → slice_get new i ≡ Some a → slice_get new j ≡ Some b
       → RanksBelow (ranked a) (ranked b)
   later i j a b l at to =
@@ -76,10 +78,9 @@ module _ (old new : List Rank) (once : AllPairs (λ a b. a.id ≢ b.id) old)
       → RanksBelow (ranked a) (ranked b)) [
         | Less ↦ λ e. ap is_lt e
         | Equal ↦ λ e.
-            let apart = subst (AllPairs (λ a b. a.id ≢ b.id)) (sym (stable a))
-            (AllPairs-filter (λ a b. a.id ≢ b.id) (ties lower a) old once) in
-            absurd (pair_passes (λ a b. a.id ≢ b.id) (ties lower a) new apart i j a b l at to
-            (tied a a (tied_itself rank_cmp_total (ranked a))) (tied a b e) (tied_ids a b e))
+            absurd (AllPairs-slice_get (λ x y. x ≢ y) (names new) apart i j a.id b.id l
+            (slice_get-map (λ (r : Rank). r.id) new i a at)
+            (slice_get-map (λ (r : Rank). r.id) new j b to) (tied_ids a b e))
         | Greater ↦ λ e.
             let back : lower b a ≡ true =
             ap is_lt (rank_cmp_total.antisymm (ranked b) (ranked a) ∙ ap ordering_reverse e) in
@@ -96,9 +97,8 @@ module _ (old new : List Rank) (once : AllPairs (λ a b. a.id ≢ b.id) old)
       subst₂ RanksBelow a.2 b.2 (later i j a.0 b.0 l a.1 b.1))
 
 pub order_from_sort : (m : List Instance) (old new : List Rank) → AreReadyRanks m old
-    → IsPermutation old new → IsSortedBy lower new → IsStableBy lower old new
-    → IsExecutionOrder m (ranked_all new)
-order_from_sort m old new ready moved sorted stable = record {
+    → IsPermutation old new → IsSortedBy lower new → IsExecutionOrder m (ranked_all new)
+order_from_sort m old new ready moved sorted = record {
   ranked = λ r h.
       let a = Contains-from_map ranked new r h in
       subst (IsRanked m) a.2
@@ -109,5 +109,5 @@ order_from_sort m old new ready moved sorted stable = record {
       let there = Contains-map (λ (r : Ranked). r.id) (ranked_all new) (ranked a.0)
       (Contains-map ranked new a.0 (Contains-permutation old new a.0 moved a.1)) in
       subst (Contains (map (λ (r : Ranked). r.id) (ranked_all new))) a.2 there;
-  rising = rising old new ready.once sorted stable;
+  rising = rising new (names_apart old new moved ready.once) sorted;
 }

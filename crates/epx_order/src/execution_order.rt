@@ -44,6 +44,7 @@ pub fn order<R: Threads + Sync>(
         → IsLawful merged.now (ranked_ids order)) }
 {
     let mut ranks = ready_ranks(alloc, merged, graph)?;
-    par_sort(rt, alloc, &mut ranks)?;
+    // Ranks differ, so it is enough that the sort is unstable, and it takes no memory.
+    par_sort_unstable(rt, &mut ranks);
     OrderList::new(alloc, ranks)
 }

@@ -1,11 +1,11 @@
 //! Executes the commands of instances, and writes their reply lines.
-ghost use Rattle.std.specs.Prelude.{◌≡◌, ◌≤◌, ◌^◌, ◌++◌, length, flat_map, map, zip, IfOk};
+ghost use Rattle.std.specs.Prelude.{◌≡◌, ◌<◌, ◌≤◌, ◌^◌, ◌++◌, length, flat_map, map, zip, IfOk};
 ghost use Rattle.std.specs.Thread.{IsSync};
 ghost use Rattle.epx_report.specs.ReportLines.{reply_line};
 ghost use Rattle.epx_replay.specs.FoundCommands.{commands_by_id};
 ghost use Rattle.epx_replay.specs.Replays.{Executes, Replays};
 
-use crate::commands::{all_commands, commands_of};
+use crate::commands::all_commands;
 use crate::reply_parts::reply_parts;
 use epx_apply::run_from;
 use epx_claims::{FreeGate, append_parts};
@@ -23,25 +23,28 @@ const BATCHES: usize = 4;
 /// A batch has at least this many instances, so that it is worth its threads.
 const MIN_BATCH: usize = 4_096;
 
-/// Does in one thread what `replay` does.
-fn replay_alone<R: Threads + RandomSource + Sync>(
+/// Appends the reply lines of executed instances. With several workers they write them.
+fn append_lines<R: Threads + Sync>(
     rt: &R,
     alloc: Global,
-    text: Vec<u8>,
-    store: Store,
-    merged: &Merged,
-    ids: &[Id],
     plan: Plan,
-) -> Result<(Store, Vec<u8>), Memory>
-    requires { length ids.now ≤ 2 ^ 40 }
-    ensures { IfOk result (λ v. Replays ids.now (commands_by_id merged.now ids.now)
-        store v.0 text.items v.1.items) }
+    text: Vec<u8>,
+    ids: &[Id],
+    replies: &[Reply],
+) -> Result<Vec<u8>, Memory>
+    requires few { length ids.now ≤ 2 ^ 40 }
+    requires same { length replies.now ≡ length ids.now }
+    ensures { IfOk result (λ longer. longer.items
+        ≡ text.items ++ flat_map reply_line (zip ids.now replies.now)) }
 {
-    let commands = commands_of(alloc, merged, ids)?;
-    let (store, replies) = run_from(rt, alloc, store, &commands, plan, &FreeGate)?;
     let mut text = text;
-    append_replies(alloc, &mut text, ids, &replies)?;
-    Ok((store, text))
+    if plan.workers() == 1 {
+        append_replies(alloc, &mut text, ids, replies)?;
+    } else {
+        let parts = reply_parts(rt, alloc, ids, replies, plan)?;
+        append_parts(&mut text, parts)?;
+    }
+    Ok(text)
 }
 
 /// Appends the reply lines of executed instances, and finds the commands of later ones.
@@ -62,10 +65,8 @@ fn write_and_find<'a, R: Threads + Sync>(
     ensures found { IfOk result (λ v. map (λ c. c.ops.now) v.1.items
         ≡ commands_by_id merged.now later.now) }
 {
-    let parts = reply_parts(rt, alloc, ids, &replies, plan)?;
+    let text = append_lines(rt, alloc, plan, text, ids, &replies)?;
     let commands = all_commands(rt, alloc, merged, later, plan)?;
-    let mut text = text;
-    append_parts(&mut text, parts)?;
     Ok((text, commands))
 }
 
@@ -103,6 +104,16 @@ fn run_and_write<'a, R: Threads + RandomSource + Sync>(
     ensures found { IfOk result (λ v. map (λ c. c.ops.now) v.next.items
         ≡ commands_by_id merged.now later.now) }
 {
+    if plan.workers() == 1 {
+        let (text, next) = write_and_find(rt, alloc, plan, text, merged, ids, replies, later)?;
+        let (store, replies) = run_from(rt, alloc, store, &commands, plan, &FreeGate)?;
+        return Ok(Executed {
+            text,
+            store,
+            replies,
+            next,
+        });
+    }
     // The last closure runs in this thread. The keys that it copies are freed here in the end.
     let (found, ran) = join(
         rt,
@@ -130,6 +141,18 @@ fn run_and_write<'a, R: Threads + RandomSource + Sync>(
     })
 }
 
+/// The number of instances in a batch. The commands and the replies of a batch take the room of
+/// those before. So one worker, which gains nothing by long batches, has short ones.
+fn batch_len(plan: Plan, ids: usize) -> usize
+    ensures { 0 < result }
+{
+    if plan.workers() == 1 {
+        MIN_BATCH
+    } else {
+        ids.div_ceil(BATCHES).max(MIN_BATCH)
+    }
+}
+
 /// Executes the commands of instances on a store, in order, and appends their reply lines. Returns
 /// the store after them, and the text. With several workers the lines of one batch are written
 /// while the next batch is executed.
@@ -146,10 +169,7 @@ pub fn replay<R: Threads + RandomSource + Sync>(
     ensures { IfOk result (λ v. Replays ids.now (commands_by_id merged.now ids.now)
         store v.0 text.items v.1.items) }
 {
-    if plan.workers() == 1 {
-        return replay_alone(rt, alloc, text, store, merged, ids, plan);
-    }
-    let len = ids.len().div_ceil(BATCHES).max(MIN_BATCH);
+    let len = batch_len(plan, ids.len());
     let (mut store, mut text) = (store, text);
     let mut replies = Vec::new(alloc);
     // The instances before `end` are executed, and the reply lines of those before `start` are
@@ -170,7 +190,6 @@ pub fn replay<R: Threads + RandomSource + Sync>(
         } = executed;
         (start, end, next) = (end, next, after);
     }
-    let parts = reply_parts(rt, alloc, &ids[start..end], &replies, plan)?;
-    append_parts(&mut text, parts)?;
+    let text = append_lines(rt, alloc, plan, text, &ids[start..end], &replies)?;
     Ok((store, text))
 }

@@ -15,8 +15,8 @@ use std::thread::{Threads, join};
 /// The lines of more keys than this are written by one thread.
 const MAX_KEYS: u128 = 1 << 40;
 
-/// A thread is started for at least this many keys.
-const MIN_KEYS_EACH: u128 = 4_096;
+/// Fewer keys than this are listed by one thread.
+const MIN_KEYS: u128 = 8_192;
 
 /// The lines of one of the pieces into which the plan cuts keys with their values.
 fn lines_of_pairs(
@@ -65,8 +65,11 @@ fn store_parts<R: Threads + Sync>(
     ensures { IfOk result (λ parts. flat_map (λ part. part.items) parts.items
         ≡ flat_map store_line (contents.entries store.now)) }
 {
-    let threads = (store.len() / MIN_KEYS_EACH).min(plan.workers() as u128) as usize;
-    let pairs = store.pairs_by(rt, threads)?;
+    let pairs = if store.len() < MIN_KEYS {
+        store.pairs()?
+    } else {
+        store.pairs_by(rt, plan)?
+    };
     pair_parts(rt, alloc, &pairs, plan)
 }
 

@@ -19,6 +19,13 @@ use Rattle.epx_txn.specs.inner.Rises.{AreBelow}
 use Rattle.epx_txn.proofs.RisingEntryLemmas.{both_of, below_all_trans}
 
 module _ {X : Type 0} where
+  -- the first two of three lists change places
+  pub between : (xs ys zs : List X) → IsPermutation (xs ++ (ys ++ zs)) (ys ++ (xs ++ zs))
+  between xs ys zs =
+      subst (λ l. IsPermutation l (ys ++ (xs ++ zs))) (append_assoc xs ys zs)
+      (subst (IsPermutation ((xs ++ ys) ++ zs)) (append_assoc ys xs zs)
+      (IsPermutation-append_left zs _ _ (IsPermutation-append_comm xs ys)))
+
   -- the inner two of four lists change places
   inner_exchanged : (ws xs ys zs : List X)
       → IsPermutation ((ws ++ xs) ++ (ys ++ zs)) ((ws ++ ys) ++ (xs ++ zs))
@@ -26,10 +33,7 @@ module _ {X : Type 0} where
       subst (λ l. IsPermutation l ((ws ++ ys) ++ (xs ++ zs)))
       (sym (append_assoc ws xs (ys ++ zs)))
       (subst (IsPermutation (ws ++ (xs ++ (ys ++ zs)))) (sym (append_assoc ws ys (xs ++ zs)))
-      (IsPermutation-append_right ws _ _
-      (subst (λ l. IsPermutation l (ys ++ (xs ++ zs))) (append_assoc xs ys zs)
-      (subst (IsPermutation ((xs ++ ys) ++ zs)) (append_assoc ys xs zs)
-      (IsPermutation-append_left zs _ _ (IsPermutation-append_comm xs ys))))))
+      (IsPermutation-append_right ws _ _ (between xs ys zs)))
 
   -- one more of the lists is cut in two
   pub cut_one_more : {B : Type 0} (items : B → List X) (lists lows highs : List B)

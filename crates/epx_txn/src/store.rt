@@ -14,7 +14,7 @@ use crate::ranges::merge_by_ranges;
 use crate::routes::{put_routes, sort_by_shard};
 use crate::shards::{SHARDS, copy_shards, empty_shards, list_shards, shard_of};
 use crate::tournament::{Pairs, merge};
-use epx_types::{Key, Memory};
+use epx_types::{Key, Memory, Plan};
 use std::alloc::Global;
 use std::marker::Model;
 use std::thread::Threads;
@@ -124,15 +124,18 @@ impl Store {
         in_key_order(pairs, rises)
     }
 
-    /// Returns the same. Several threads list the keys.
+    /// Returns the same. The plan's workers list the keys, each those of one range. None is started
+    /// for fewer keys than a piece of the plan has.
     pub fn pairs_by<R: Threads + Sync>(
         &self,
         rt: &R,
-        threads: usize,
+        plan: Plan,
     ) -> Result<Vec<(&Key, i64)>, Memory>
         ensures { IfOk result (λ v. map (λ p. (p.0.now, p.1)) v.items ≡ contents.entries self.now) }
     {
         let lists = list_shards(self.alloc, &self.shards)?;
+        let pieces = self.len() / plan.cut() as u128;
+        let threads = pieces.min(plan.workers() as u128) as usize;
         let (pairs, rises) = merge_by_ranges(rt, self.alloc, lists, threads)?;
         in_key_order(pairs, rises)
     }

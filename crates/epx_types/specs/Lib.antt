@@ -1,6 +1,7 @@
 pub mod Keys
 pub mod KeyHeads
 pub mod Ids
+pub mod SmallLists
 pub mod Instances
 pub mod Contents
 pub mod Operations

@@ -1,9 +1,11 @@
 //! Committed instances.
-ghost use Rattle.std.specs.Prelude.{◌≡◌, ◌↔◌, IsTrue, IsSome, IfSome};
+ghost use Rattle.std.specs.Prelude.{◌≡◌, ◌↔◌, ℕ, IsTrue, IsSome, IfSome};
 ghost use Rattle.epx_types.specs.Ids.{IsRising};
+ghost use Rattle.epx_types.specs.Instances.{IsWellFormed};
 
 use crate::id::Id;
 use crate::op::Op;
+use crate::small_list::SmallList;
 use std::marker::Model;
 
 /// An instance has at most this many dependencies.
@@ -18,23 +20,34 @@ pub const MAX_OPS: usize = 64;
 pub struct Entry {
     id: Id,
     seq: u64,
-    deps: Vec<Id>,
-    ops: Vec<Op>,
+    deps: SmallList<Id>,
+    ops: SmallList<Op>,
 }
 
 impl Model for Entry {
     ghost use Rattle.epx_types.specs.Instances.{Instance, IsWellFormed};
+    ghost use Rattle.epx_types.specs.SmallLists.{items_of};
 
     ghost Value = { Instance };
 
-    ghost view = { λ e. record { id = e.id; seq = e.seq; deps = e.deps.items; ops = e.ops.items } };
+    ghost view = { λ e. record {
+      id = e.id;
+      seq = e.seq;
+      deps = items_of e.deps;
+      ops = items_of e.ops;
+    } };
 
-    ghost invariant = { λ e. IsWellFormed
-        (record { id = e.id; seq = e.seq; deps = e.deps.items; ops = e.ops.items }) };
+    ghost invariant = { λ e. IsWellFormed (record {
+      id = e.id;
+      seq = e.seq;
+      deps = items_of e.deps;
+      ops = items_of e.ops;
+    }) };
 }
 
 impl Entry {
     ghost use Rattle.epx_types.specs.Instances.{Instance, IsWellFormed};
+    ghost use Rattle.epx_types.specs.SmallLists.{items_of};
 
     /// None if the dependencies are not strictly rising, are more than 256 or name the instance
     /// itself, or if there are more than 64 operations.
@@ -44,8 +57,17 @@ impl Entry {
         ensures entry { IfSome result
             (λ e. e ≡ record { id = id; seq = seq; deps = deps.items; ops = ops.items }) }
     {
-        let few = deps.len() <= MAX_DEPS && ops.len() <= MAX_OPS;
-        if few && is_rising(&deps) && !deps.contains(&id) {
+        Entry::from_lists(id, seq, SmallList::from_vec(deps), SmallList::from_vec(ops))
+    }
+
+    /// As `new`, for lists whose lone items need no allocation.
+    pub fn from_lists(id: Id, seq: u64, deps: SmallList<Id>, ops: SmallList<Op>) -> Option<Entry>
+        ensures fits { IsSome result ↔ IsWellFormed
+            (record { id = id; seq = seq; deps = items_of deps; ops = items_of ops }) }
+        ensures entry { IfSome result
+            (λ e. e ≡ record { id = id; seq = seq; deps = items_of deps; ops = items_of ops }) }
+    {
+        if is_well_formed(id, deps.as_slice(), ops.as_slice()) {
             Some(Entry { id, seq, deps, ops })
         } else {
             None
@@ -77,6 +99,15 @@ impl Entry {
     {
         self.ops.as_slice()
     }
+}
+
+/// Whether an instance can have these dependencies and these operations.
+fn is_well_formed(id: Id, deps: &[Id], ops: &[Op]) -> bool
+    ensures { (seq : ℕ) → IsTrue result ↔ IsWellFormed
+        (record { id = id; seq = seq; deps = deps.now; ops = ops.now }) }
+{
+    let few = deps.len() <= MAX_DEPS && ops.len() <= MAX_OPS;
+    few && is_rising(deps) && !deps.contains(&id)
 }
 
 /// Whether each Id is less than the next.

@@ -18,6 +18,7 @@ pub mod place;
 pub mod plan;
 pub mod reply;
 mod short_text;
+pub mod small_list;
 
 pub use command::Command;
 pub use entry::Entry;
@@ -29,3 +30,4 @@ pub use op::{Access, Op};
 pub use place::Place;
 pub use plan::Plan;
 pub use reply::{Reply, Values};
+pub use small_list::SmallList;

@@ -14,15 +14,15 @@ use Rattle.epx_order.proofs.execution_order.order.Goals as goal
 pub returns-clause-order : goal.returns-clause-order
 returns-clause-order g c =
     let ranks = c.in_ok-ranks.ranks in
-    let sort = c.in_ok-par_sort.ensures in
-    let sorted = c.par_sort.new.s in
+    let sort = c.par_sort_unstable.ensures in
+    let sorted = c.par_sort_unstable.new.s in
     let read = c.deref_mut.ensures.value in
     let written = with_items_is ranks sorted (sort.len ∙ (ap length read ∙ sym ranks.ok.0)) in
     IfOk-weaker c.new.result _ _ (λ found at done is.
     let m = remaining done c.args.merged.now in
     let ready = subst (AreReadyRanks m) (sym read) (c.in_ok-ranks.ensures done is) in
-    let order = order_from_sort m c.deref_mut.result.now sorted ready sort.permutation sort.sorted
-    sort.stable in
+    let order = order_from_sort m c.deref_mut.result.now sorted ready sort.permutation
+    sort.sorted in
     subst (IsExecutionOrder m) (sym (at ∙ ap ranked_all written)) order) c.new.ensures
 
 pub returns-clause-lawful : goal.returns-clause-lawful
