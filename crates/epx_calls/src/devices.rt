@@ -3,7 +3,7 @@ ghost use Rattle.std.specs.Prelude.{◌≡◌, ◌≤◌, false};
 
 use epx_devices::{
     DeviceFault, FuseSink, FuseSource, MemorySink, MemorySource, PathSource, Sink, Source, StdSink,
-    StdSource, read_log, write_out,
+    StdSource, read_log, read_on, write_out,
 };
 use epx_types::Fault;
 use std::alloc::Global;
@@ -53,6 +53,16 @@ fn what_is_written_is_read_again(rt: HostRuntime) -> Result<(), Fail> {
     write_whole(&mut sink)?;
     assert!(rt; !sink.failed());
     expect_text(&rt, rt.alloc(), &mut MemorySource::new(sink.bytes()))
+}
+
+#[test]
+fn a_log_is_read_in_parts(rt: HostRuntime) -> Result<(), Fail> {
+    let mut source = MemorySource::new(TEXT.as_bytes());
+    let front = read_on(5, &mut source, 0, Vec::new(rt.alloc()), 4)?;
+    assert!(rt; front.bytes.as_slice() == TEXT.as_bytes() && !front.is_last);
+    let rest = read_on(5, &mut source, TEXT.len(), Vec::new(rt.alloc()), 1)?;
+    assert!(rt; rest.bytes.is_empty() && rest.is_last);
+    Ok(())
 }
 
 #[test]

@@ -3,8 +3,10 @@
 use crate::fixtures::{PUT_AND_GET, expect_accepted, id, logs_of, merged_of, plan};
 use crate::gates::WaitingGate;
 use epx_claims::FreeGate;
-use epx_merge::{Merged, read_logs, read_logs_during};
-use epx_types::{Fault, Id, Plan};
+use epx_merge::{
+    Merged, RestOfLogs, read_logs, read_logs_during, read_logs_onward, split_after_lines,
+};
+use epx_types::{Fault, Id, Memory, Plan};
 use std::alloc::Global;
 use std::process::Abort;
 use std::random::RandomSource;
@@ -108,7 +110,15 @@ fn read_during<R: Abort + Threads + RandomSource + Sync>(
     later: Option<&str>,
 ) -> Result<Merged, Fault> {
     let mut more = || later_logs(alloc, later);
-    read_logs_during(rt, alloc, first.as_bytes(), &mut more, plan(rt), &FreeGate)
+    read_logs_during(
+        rt,
+        alloc,
+        first.as_bytes(),
+        2,
+        &mut more,
+        plan(rt),
+        &FreeGate,
+    )
 }
 
 #[test]
@@ -136,6 +146,50 @@ fn a_log_that_does_not_come_is_refused_before_a_bad_line(rt: HostRuntime) -> Res
         Err(Fault::Read { log }) => assert!(rt; log == 1),
         Err(Fault::Memory) => return Err(Fail::from("out of memory")),
         _ => return Err(Fail::from("no refusal of the later log")),
+    }
+    Ok(())
+}
+
+/// What follows the first lines: the rest of a log, of which this is the start.
+fn rest_of(alloc: Global, start: &[u8], end: &[u8]) -> Result<RestOfLogs, Fault> {
+    let mut rest = Vec::from_slice(alloc, start).map_err(Memory::from)?;
+    rest.extend_from_slice(end).map_err(Memory::from)?;
+    Ok(RestOfLogs {
+        rest,
+        later: Vec::new(alloc),
+    })
+}
+
+/// Reads the whole lines of the front of a log while the rest comes.
+fn read_onward<R: Abort + Threads + RandomSource + Sync>(
+    rt: &R,
+    alloc: Global,
+    front: &[u8],
+    end: &[u8],
+) -> Result<Merged, Fault> {
+    let front = Vec::from_slice(alloc, front).map_err(Memory::from)?;
+    let (lines, start) = split_after_lines(alloc, front)?;
+    let mut more = || rest_of(alloc, &start, end);
+    read_logs_onward(rt, alloc, &lines, 1, &mut more, plan(rt), &FreeGate)
+}
+
+#[test]
+fn the_rest_of_a_log_is_merged(rt: HostRuntime) -> Result<(), Fail> {
+    for cut in [0, 1, 41, 100, 164] {
+        let (front, end) = FOUR_LINES.as_bytes().split_at(cut);
+        let merged = expect_accepted(read_onward(&rt, rt.alloc(), front, end))?;
+        assert!(rt; merged.len() == 4);
+        expect_position(&rt, &merged, id(0, 3), Some(3));
+    }
+    Ok(())
+}
+
+#[test]
+fn lines_of_the_rest_of_a_log_are_numbered_onward(rt: HostRuntime) -> Result<(), Fail> {
+    match read_onward(&rt, rt.alloc(), FOUR_LINES.as_bytes(), b"[]") {
+        Err(Fault::BadLine { place, .. }) => assert!(rt; place.log == 0 && place.line == 5),
+        Err(Fault::Memory) => return Err(Fail::from("out of memory")),
+        _ => return Err(Fail::from("no bad line")),
     }
     Ok(())
 }

@@ -1,19 +1,17 @@
 -- The loop invariants of the two transfers.
 use Rattle.std.proofs.Common.{◌≡◌, ℕ, ◌+◌, ◌-◌, ◌≤◌, Bool, false, List, [], ◌∷◌, ◌++◌, length}
 use Rattle.std.proofs.Common.{take, drop, flat_map, Option, refl, sym, ap, ◌∙◌, subst, arith}
-use Rattle.std.proofs.Common.{append-nil}
+use Rattle.std.proofs.Common.{append-nil, true, None, Some, Ok, Err, ◌<◌, rules}
+use Rattle.std.specs.Prelude.{IfSome, MatchResult, Result}
 use Rattle.std.proofs.lemmas.Grind.{common_steps, flat_map-append}
-use Rattle.epx_devices.specs.Deliveries.{ReadRelation, ReadStep, AreReads, Delivers}
+use Rattle.epx_types.specs.declared.fault.Fault.{Fault}
+use Rattle.epx_types.specs.declared.fault.Fault.TheVariants.{Memory, LogTooLong, Read}
+use Rattle.epx_types.specs.declared.limits.TheConstants.{MAX_LOG_BYTES}
+use Rattle.epx_devices.specs.Deliveries.{FailRelation, ReadRelation, ReadStep, AreReads, Delivers}
+use Rattle.epx_devices.specs.declared.transfer.LogPart.{LogPart}
+use Rattle.epx_devices.specs.LogParts.{EndsLog, EndsPart, IsFrontOfLog, IsReadUpTo}
 use Rattle.epx_devices.proofs.KnownBytesLemmas.{Appends-trans, Consumes-trans, take-more}
-use Rattle.std.specs.Io.KnownBytes.{Appends, Consumes}
-
--- the reads have returned these bytes, and no call has failed
-pub record IsRead {S : Type 0} (remaining : S → Option (List ℕ)) (reads : ReadRelation S)
-    (has_failed : S → Bool) (first now : S) (bytes : List ℕ) : Type 0 where
-  pub whole : has_failed now ≡ false
-  pub consumed : Consumes (remaining first) (remaining now) bytes
-  pub delivered : Delivers reads first now bytes
-  pub few : length bytes ≤ 67108865
+use Rattle.std.specs.Io.KnownBytes.{Appends, Consumes, IsAtEnd, Keeps}
 
 -- the sink has accepted the first n bytes, and no call has failed
 pub record IsWritten {S : Type 0} (contents : S → Option (List ℕ)) (has_failed : S → Bool)
@@ -21,6 +19,22 @@ pub record IsWritten {S : Type 0} (contents : S → Option (List ℕ)) (has_fail
   pub whole : has_failed now ≡ false
   pub within : n ≤ length bytes
   pub appended : Appends (contents first) (contents now) (take n bytes)
+
+none_consumed : (o : Option (List ℕ)) → Consumes o o []
+none_consumed None = tt
+none_consumed (Some xs) = refl
+
+kept_consumes : (a b : Option (List ℕ)) → Keeps a b → Consumes a b []
+kept_consumes None b kept = tt
+kept_consumes (Some xs) None kept = absurd kept
+kept_consumes (Some xs) (Some ys) kept = sym kept
+
+known_at_end : (a b : Option (List ℕ)) (bytes : List ℕ) → Consumes a b bytes → IsAtEnd b
+    → IfSome a (λ all. bytes ≡ all)
+known_at_end None b bytes consumed ended = tt
+known_at_end (Some xs) None bytes consumed ended = absurd consumed
+known_at_end (Some xs) (Some ys) bytes consumed ended =
+    sym (consumed ∙ ap (λ rest. bytes ++ rest) ended ∙ append-nil bytes)
 
 -- the bytes from n on, as a slice
 pub take-rest : (n : ℕ) (xs : List ℕ) → take (length xs - n) (drop n xs) ≡ drop n xs
@@ -68,15 +82,120 @@ module _ {S : Type 0} (reads : ReadRelation S) where
       }
 
   module _ (remaining : S → Option (List ℕ)) (has_failed : S → Bool) where
-    pub IsRead-step : (first now later : S) (bytes part : List ℕ) (room : ℕ)
-        → IsRead remaining reads has_failed first now bytes
+    pub IsReadUpTo-step : (first now later : S) (bytes part : List ℕ) (room : ℕ)
+        → IsReadUpTo remaining reads has_failed first now bytes
         → Consumes (remaining now) (remaining later) part → reads now room part later
         → length bytes + length part ≤ 67108865 → has_failed later ≡ false
-        → IsRead remaining reads has_failed first later (bytes ++ part)
-    IsRead-step first now later bytes part room sofar consumed read few whole = record {
+        → IsReadUpTo remaining reads has_failed first later (bytes ++ part)
+    IsReadUpTo-step first now later bytes part room sofar consumed read few whole = record {
       whole = whole;
       consumed = Consumes-trans (remaining first) _ (remaining later) bytes part sofar.consumed
           consumed;
       delivered = delivered-then first now later bytes part room sofar.delivered read;
       few = grind (arith, common_steps);
     }
+
+    pub IsReadUpTo-none : (now : S) → has_failed now ≡ false
+        → IsReadUpTo remaining reads has_failed now now []
+    IsReadUpTo-none now whole = record {
+      whole = whole;
+      consumed = none_consumed (remaining now);
+      delivered = record { steps = []; in_turn = refl; returned = refl };
+      few = omega arith;
+    }
+
+    -- ---- how reading ends, once these bytes are read
+    module _ (fails : FailRelation S) (log : ℕ) (first now later : S) (bytes : List ℕ)
+        (sofar : IsReadUpTo remaining reads has_failed first now bytes) where
+      pub log_ends : (room : ℕ) → 0 < room → reads now room [] later
+          → Consumes (remaining now) (remaining later) [] → IsAtEnd (remaining later)
+          → has_failed later ≡ false → length bytes ≤ MAX_LOG_BYTES
+          → EndsLog remaining reads fails has_failed log first later (Ok bytes)
+      log_ends room has_room read consumed ended whole short =
+          let all = rw (append-nil bytes) at (Consumes-trans (remaining first) (remaining now)
+          (remaining later) bytes [] sofar.consumed consumed) in
+          record {
+            bytes = known_at_end (remaining first) (remaining later) bytes all ended;
+            delivered = record {
+              last = now;
+              before = sofar.delivered;
+              room = room;
+              has_room = has_room;
+              ended = read;
+            };
+            ended = ended;
+            fits = short;
+            faults = tt;
+            stops = tt;
+            failed = search (rules, whole);
+            too_long = search rules;
+            no_further = (bytes, all, sofar.few);
+          }
+
+      pub read_fails : fails now later → Keeps (remaining now) (remaining later)
+          → has_failed later ≡ true
+          → EndsLog remaining reads fails has_failed log first later (Err (Read log))
+      read_fails failing kept failed =
+          let all = rw (append-nil bytes) at (Consumes-trans (remaining first) (remaining now)
+          (remaining later) bytes [] sofar.consumed (kept_consumes _ _ kept)) in
+          record {
+            bytes = tt;
+            delivered = tt;
+            ended = tt;
+            fits = tt;
+            faults = refl;
+            stops = (
+              refl,
+              record {
+                last = now;
+                bytes = bytes;
+                before = sofar.delivered;
+                failed = failing;
+              },
+            );
+            failed = search (rules, failed);
+            too_long = search rules;
+            no_further = (bytes, all, sofar.few);
+          }
+
+      pub too_long : length bytes ≡ MAX_LOG_BYTES + 1
+          → EndsLog remaining reads fails has_failed log first now (Err (LogTooLong log))
+      too_long many = record {
+        bytes = tt;
+        delivered = tt;
+        ended = tt;
+        fits = tt;
+        faults = refl;
+        stops = (refl, (bytes, sofar.delivered, many));
+        failed = search (rules, sofar.whole);
+        too_long = λ is. (bytes, sofar.consumed, many);
+        no_further = (bytes, sofar.consumed, sofar.few);
+      }
+
+      pub out_of_memory : EndsLog remaining reads fails has_failed log first now (Err Memory)
+      out_of_memory = record {
+        bytes = tt;
+        delivered = tt;
+        ended = tt;
+        fits = tt;
+        faults = tt;
+        stops = tt;
+        failed = search (rules, sofar.whole);
+        too_long = search rules;
+        no_further = (bytes, sofar.consumed, sofar.few);
+      }
+
+    -- no part has more bytes than a log may have, so such a part is the last
+    pub whole_log : (fails : FailRelation S) (log : ℕ) (first now : S) (head : List ℕ)
+        (result : Result LogPart Fault)
+        → EndsPart remaining reads fails has_failed log first now head (MAX_LOG_BYTES + 1) result
+        → MatchResult result (λ part.
+        EndsLog remaining reads fails has_failed log first now (Ok (head ++ part.bytes.items)))
+        (λ fault. EndsLog remaining reads fails has_failed log first now (Err fault))
+    whole_log fails log first now head (Err fault) ends = ends
+    whole_log fails log first now head (Ok part) ends = all part.is_last ends where
+      all : (is_last : Bool) → IsFrontOfLog remaining reads fails has_failed log first now
+          (length head + (MAX_LOG_BYTES + 1)) (head ++ part.bytes.items) is_last
+          → EndsLog remaining reads fails has_failed log first now (Ok (head ++ part.bytes.items))
+      all true is = is
+      all false is = absurd (omega (arith, is.1, is.2))

@@ -24,4 +24,4 @@ pub use memory_source::MemorySource;
 pub use path_source::PathSource;
 pub use std_sink::StdSink;
 pub use std_source::StdSource;
-pub use transfer::{read_log, write_out};
+pub use transfer::{LogPart, read_log, read_on, write_out};

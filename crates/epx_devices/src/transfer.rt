@@ -1,8 +1,9 @@
 //! Reading a whole log, and writing a whole text.
-ghost use Rattle.std.specs.Prelude.{◌≡◌, ◌≤◌, ◌↔◌, ◌+◌, true, false, length, IfOk, OnOk, IfErr};
-ghost use Rattle.std.specs.Prelude.{IfSome, IsErr, IsErrOf};
+ghost use Rattle.std.specs.Prelude.{◌≡◌, ◌≤◌, ◌↔◌, ◌+◌, ◌++◌, ℕ, List, true, false, length, IfOk};
+ghost use Rattle.std.specs.Prelude.{OnOk, IfErr, IfSome, IsErr, IsErrOf};
 ghost use Rattle.std.specs.Io.KnownBytes.{Appends, IsAtEnd};
 ghost use Rattle.epx_devices.specs.Deliveries.{DeliversAll, IsLogStop};
+ghost use Rattle.epx_devices.specs.LogParts.{EndsPart, IsReadUpTo};
 ghost use Rattle.epx_devices.specs.Transfers.{IsReadLogFault, ConsumesUpTo, ConsumesExactly};
 ghost use Rattle.epx_devices.specs.Transfers.{AppendsPrefix};
 
@@ -13,6 +14,54 @@ use std::alloc::Global;
 
 /// One read has room for at most this many bytes.
 const PART_BYTES: usize = 65_536;
+
+/// Bytes of a log, and whether the log ends with them.
+#[derive(Debug, Drop)]
+pub struct LogPart {
+    pub bytes: Vec<u8>,
+    pub is_last: bool,
+}
+
+/// Reads on in a log of which `before` bytes and then `bytes` are read: to the end of the log, or
+/// until there are `most` bytes after those before. Fails as `read_log` does.
+pub fn read_on<R: Source>(
+    log: usize,
+    source: &mut R,
+    before: usize,
+    bytes: Vec<u8>,
+    most: usize,
+) -> Result<LogPart, Fault>
+    requires well { R.has_failed source.old ≡ false }
+    requires few { before + length bytes.items ≤ MAX_LOG_BYTES + 1 }
+    ensures { (first : _) (head : List ℕ) → length head ≡ before
+        → IsReadUpTo R.remaining R.reads R.has_failed first source.old (head ++ bytes.items)
+        → EndsPart R.remaining R.reads R.fails R.has_failed log first source.new head most result }
+{
+    let mut bytes = bytes;
+    let mut part = [0; PART_BYTES];
+    while bytes.len() < most && before + bytes.len() <= MAX_LOG_BYTES {
+        let room = PART_BYTES.min(MAX_LOG_BYTES + 1 - before - bytes.len());
+        match source.read_some(&mut part[..room]) {
+            Ok(0) => {
+                return Ok(LogPart {
+                    bytes,
+                    is_last: true,
+                });
+            }
+            Ok(count) => bytes
+                .extend_from_slice(&part[..count])
+                .map_err(Memory::from)?,
+            Err(_) => return Err(Fault::Read { log }),
+        }
+    }
+    if before + bytes.len() > MAX_LOG_BYTES {
+        return Err(Fault::LogTooLong { log });
+    }
+    Ok(LogPart {
+        bytes,
+        is_last: false,
+    })
+}
 
 /// Reads all bytes of the source; `log` is the number of the log in a fault.
 ///
@@ -36,19 +85,8 @@ pub fn read_log<R: Source>(alloc: Global, log: usize, source: &mut R) -> Result<
     ensures no_further { ConsumesUpTo (R.remaining source.old) (R.remaining source.new)
         (MAX_LOG_BYTES + 1) }
 {
-    let mut bytes = Vec::new(alloc);
-    let mut part = [0; PART_BYTES];
-    while bytes.len() <= MAX_LOG_BYTES {
-        let room = PART_BYTES.min(MAX_LOG_BYTES + 1 - bytes.len());
-        match source.read_some(&mut part[..room]) {
-            Ok(0) => return Ok(bytes),
-            Ok(count) => bytes
-                .extend_from_slice(&part[..count])
-                .map_err(Memory::from)?,
-            Err(_) => return Err(Fault::Read { log }),
-        }
-    }
-    Err(Fault::LogTooLong { log })
+    let part = read_on(log, source, 0, Vec::new(alloc), MAX_LOG_BYTES + 1)?;
+    Ok(part.bytes)
 }
 
 /// Writes all bytes to the sink and flushes it. If the sink fails, it has accepted a prefix of the

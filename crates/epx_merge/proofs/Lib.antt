@@ -3,6 +3,7 @@ mod PieceLemmas
 mod RedundantLineLemmas
 mod DropsCachedLemmas
 pub mod LaterLogLemmas
+mod OnwardLemmas
 mod BatchLemmas
 mod LineCacheLemmas
 mod PlaceOrderLemmas

@@ -12,6 +12,7 @@ mod pieces;
 mod read;
 mod read_batches;
 mod read_state;
+mod split_lines;
 mod walk;
 
 pub use epx_committed::{Guesses, Merged, from_entries};
@@ -20,5 +21,6 @@ pub use limits::{first_too_long, first_too_long_with};
 pub use line::PlacedLine;
 pub use line_cache::LineCache;
 pub use next_batch::batch_len;
-pub use read::{read_logs, read_logs_during};
+pub use read::{RestOfLogs, read_logs, read_logs_during, read_logs_onward};
+pub use split_lines::split_after_lines;
 pub use walk::LineWalk;

@@ -1,6 +1,6 @@
 //! Iterates over the lines of logs.
-ghost use Rattle.std.specs.Prelude.{◌≡◌, ◌∷◌, [], MatchOption};
-ghost use Rattle.epx_merge.specs.LogLines.{meanings_of, meanings_from, bytes_of};
+ghost use Rattle.std.specs.Prelude.{◌≡◌, ◌<◌, ◌^◌, ◌∷◌, [], MatchOption};
+ghost use Rattle.epx_merge.specs.LogLines.{meanings_of, meanings_from, meanings_left, bytes_of};
 
 use crate::line::PlacedLine;
 use epx_lines::cut_line;
@@ -65,10 +65,18 @@ impl<'a> LineWalk<'a> {
     pub fn after_first(later: &'a [Vec<u8>]) -> LineWalk<'a>
         ensures { result ≡ meanings_from 1 (bytes_of later.now) }
     {
+        LineWalk::after_lines(0, &[], later)
+    }
+
+    /// The lines of the rest of the first log, after so many lines, and those of the later logs.
+    pub(crate) fn after_lines(lines: usize, rest: &'a [u8], later: &'a [Vec<u8>]) -> LineWalk<'a>
+        requires { lines < 2 ^ 63 }
+        ensures { result ≡ meanings_left 0 lines rest.now (bytes_of later.now) }
+    {
         LineWalk {
             log: 0,
-            line: 0,
-            rest: &[],
+            line: lines,
+            rest,
             others: later,
         }
     }

@@ -1,13 +1,11 @@
 -- A sort of the ranks of the ready instances has the execution order as its result.
-use Rattle.std.proofs.Common.{◌≡◌, ◌≢◌, ◌&&◌, ℕ, zero, suc, ◌<◌, List, [], ◌∷◌, Bool, true, false}
-use Rattle.std.proofs.Common.{not, cond, map, filter, slice_get, Some, Contains, AllPairs, Less}
+use Rattle.std.proofs.Common.{◌≡◌, ◌≢◌, ℕ, ◌<◌, List, Bool, true}
+use Rattle.std.proofs.Common.{map, slice_get, Some, Contains, AllPairs, Less}
 use Rattle.std.proofs.Common.{Equal, Greater, is_lt, nat_cmp, refl, sym, ap, ap₂, ◌∙◌, subst}
 use Rattle.std.proofs.Common.{subst₂, arith, IsPermutation}
 use Rattle.std.specs.Ordering.{ordering_reverse, ordering_then}
-use Rattle.std.specs.Cmp.{tied_itself}
-use Rattle.std.specs.List.Sorted.{IsSortedBy, IsStableBy, ties}
+use Rattle.std.specs.List.Sorted.{IsSortedBy}
 use Rattle.std.proofs.lemmas.Bool.{false≢true}
-use Rattle.std.proofs.lemmas.List.Kept.{AllPairs-filter}
 use Rattle.std.proofs.lemmas.List.Sorted.{ranks_by, sorted_far, Contains-permutation}
 use Rattle.std.proofs.lemmas.List.Sorted.{IsPermutation-sym}
 use Rattle.std.proofs.lemmas.Option.{slice_get_within, get_or_from_slice_get}
@@ -17,7 +15,7 @@ use Rattle.std.proofs.lemmas.Map.Keys.{IsDistinct-IsPermutation}
 use Rattle.std.proofs.lemmas.Map.Made.{AllPairs-from_IsDistinct, IsDistinct-from_AllPairs}
 use Rattle.epx_types.proofs.commands.EqualityLemmas.{ids_decide}
 use Rattle.epx_types.specs.declared.id.Id.{Id}
-use Rattle.epx_committed.proofs.LedgerMapLemmas.{same_id}
+use Rattle.epx_types.specs.contracts.id.IdPartialEq.TheImpl as id_eq
 use Rattle.epx_types.proofs.lists.ListPositionLemmas.{AllPairs-slice_get, slice_get-map}
 use Rattle.epx_types.specs.ExecutionOrder.{Ranked, rank_cmp, RanksBelow, IsRanked}
 use Rattle.epx_types.specs.ExecutionOrder.{IsExecutionOrder}
@@ -26,13 +24,14 @@ use Rattle.epx_types.specs.Instances.{Instance}
 use Rattle.epx_types.proofs.lists.ComparisonLemmas.{second_is_equal, id_cmp-IsAntisymmetric}
 use Rattle.epx_types.proofs.lists.ComparisonLemmas.{rank_cmp_total}
 use Rattle.epx_types.proofs.lists.MembershipLemmas.{Contains-map, Contains-from_map}
-use Rattle.epx_types.proofs.lists.MembershipLemmas.{Contains-filter}
-use Rattle.epx_types.proofs.lists.ListPositionLemmas.{slice_get-from_map, Contains-slice_get}
-use Rattle.epx_types.proofs.lists.ListPositionLemmas.{AllPairs-head, AllPairs-tail}
+use Rattle.epx_types.proofs.lists.ListPositionLemmas.{slice_get-from_map}
 use Rattle.epx_types.proofs.lists.ListPositionLemmas.{AllPairs-from_slice_get}
 use Rattle.epx_components.specs.Ranks.{ranked, ranked_all}
 use Rattle.epx_order.specs.inner.ReadyRanks.{AreReadyRanks}
 use Rattle.epx_components.specs.declared.rank.Rank.{Rank}
+
+abbrev same_id : Id → Id → Bool
+same_id = id_eq.eq-value.it
 
 abbrev names : List Rank → List Id
 names ranks = map (λ r. r.id) ranks
@@ -46,10 +45,10 @@ names_apart : (old new : List Rank) → IsPermutation old new
 names_apart old new moved once =
     let before : AllPairs (λ x y. x ≢ y) (names old) =
     AllPairs-from_slice_get (λ x y. x ≢ y) (names old) (λ i j x y l at to.
-        let a = slice_get-from_map (λ (r : Rank). r.id) old i x at in
-        let b = slice_get-from_map (λ (r : Rank). r.id) old j y to in
-        subst₂ (λ (v w : Id). v ≢ w) a.2 b.2
-        (AllPairs-slice_get (λ (r s : Rank). r.id ≢ s.id) old once i j a.0 b.0 l a.1 b.1)) in
+    let a = slice_get-from_map (λ (r : Rank). r.id) old i x at in
+    let b = slice_get-from_map (λ (r : Rank). r.id) old j y to in
+    subst₂ (λ (v w : Id). v ≢ w) a.2 b.2
+    (AllPairs-slice_get (λ (r s : Rank). r.id ≢ s.id) old once i j a.0 b.0 l a.1 b.1)) in
     AllPairs-from_IsDistinct {eq = same_id} ids_decide (names new)
     (IsDistinct-IsPermutation same_id same_flips (names old) (names new)
     (IsPermutation-map (λ (r : Rank). r.id) old new moved)

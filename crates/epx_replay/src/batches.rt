@@ -144,7 +144,9 @@ fn run_and_write<'a, R: Threads + RandomSource + Sync>(
 /// The number of instances in a batch. The commands and the replies of a batch take the room of
 /// those before. So one worker, which gains nothing by long batches, has short ones.
 fn batch_len(plan: Plan, ids: usize) -> usize
-    ensures { 0 < result }
+    requires { ids ≤ 2 ^ 40 }
+    ensures some { 0 < result }
+    ensures few { result ≤ 2 ^ 40 }
 {
     if plan.workers() == 1 {
         MIN_BATCH

@@ -53,6 +53,22 @@ fn pair_parts<R: Threads + Sync>(
     })
 }
 
+/// The keys of a store with their values, in byte order. The plan's workers list many keys.
+fn list_pairs<'a, R: Threads + Sync>(
+    rt: &R,
+    store: &'a Store,
+    plan: Plan,
+) -> Result<Vec<(&'a Key, i64)>, Memory>
+    ensures { IfOk result (λ pairs.
+        map (λ p. (p.0.now, p.1)) pairs.items ≡ contents.entries store.now) }
+{
+    if store.len() < MIN_KEYS {
+        store.pairs()
+    } else {
+        store.pairs_by(rt, plan)
+    }
+}
+
 /// The lines of a store, in parts that follow each other, in byte order of the keys. The plan's
 /// workers list the keys, and write the lines.
 fn store_parts<R: Threads + Sync>(
@@ -65,11 +81,7 @@ fn store_parts<R: Threads + Sync>(
     ensures { IfOk result (λ parts. flat_map (λ part. part.items) parts.items
         ≡ flat_map store_line (contents.entries store.now)) }
 {
-    let pairs = if store.len() < MIN_KEYS {
-        store.pairs()?
-    } else {
-        store.pairs_by(rt, plan)?
-    };
+    let pairs = list_pairs(rt, store, plan)?;
     pair_parts(rt, alloc, &pairs, plan)
 }
 

@@ -7,6 +7,7 @@ mod LogsWithInputLemmas
 mod ReturnedFaultLemmas
 mod RunEndingLemmas
 mod MergedSourceLemmas
+mod FrontSourceLemmas
 mod UniqueAnswerWithInputLemmas
 mod AnswerWithInputLemmas
 mod InputReadingLemmas

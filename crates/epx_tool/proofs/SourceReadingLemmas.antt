@@ -8,6 +8,7 @@ use Rattle.epx_types.specs.declared.fault.Fault.{Fault}
 use Rattle.epx_types.specs.declared.fault.Fault.TheVariants.{Memory, TooManyLogs, LogTooLong}
 use Rattle.epx_types.specs.declared.fault.Fault.TheVariants.{Read, Write}
 use Rattle.epx_devices.specs.Deliveries.{FailRelation, ReadRelation, DeliversAll, IsLogStop}
+use Rattle.epx_devices.specs.LogParts.{EndsLog}
 use Rattle.epx_devices.specs.Transfers.{IsReadLogFault, ConsumesUpTo, ConsumesExactly}
 use Rattle.epx_merge.specs.Limits.{max_logs, max_log_bytes}
 use Rattle.epx_tool.specs.inner.SourceReadings.{AreDeliveredUpTo, EndsReading}
@@ -179,3 +180,14 @@ module _ {S : Type 0} (remaining : S → Option (List ℕ)) (reads : ReadRelatio
           one_delivered b failed b.items given short taken ended whole
       next_read (Err f) given whole ended short of_log stops failed long taken =
           stopped_at f of_log long stops failed taken
+
+      -- the same, by how reading its log ended
+      pub next_log : (result : Result (List ℕ) Fault)
+          → EndsLog remaining reads fails has_failed n (get_or now n next) later result
+          → MatchResult result
+          (λ bytes. AreDeliveredUpTo remaining reads has_failed first (set now n later) (n + 1)
+          (logs ++ bytes ∷ []))
+          (λ f. EndsReading remaining reads fails has_failed first (set now n later) (Err f))
+      next_log (Ok b) e =
+          one_delivered b e.failed b e.bytes e.fits e.no_further e.ended e.delivered
+      next_log (Err f) e = stopped_at f e.faults e.too_long e.stops e.failed e.no_further

@@ -7,6 +7,7 @@ mod ask;
 mod checked_runs;
 mod compared_sources;
 mod findings;
+mod front_sources;
 mod input_answers;
 mod input_contents;
 mod input_runs;

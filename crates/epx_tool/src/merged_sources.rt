@@ -1,10 +1,11 @@
 //! Reads sources and merges their logs.
-ghost use Rattle.std.specs.Prelude.{◌≡◌, ◌<◌, ◌≤◌, false, length, All};
+ghost use Rattle.std.specs.Prelude.{◌≡◌, ◌<◌, ◌≤◌, [], ◌∷◌, false, length, All};
 ghost use Rattle.std.specs.Thread.{IsSync};
 ghost use Rattle.epx_tool.specs.inner.SourceReadings.{AreDeliveredUpTo, EndsReading, EndsMerging};
 ghost use Rattle.epx_tool.specs.inner.SourceReadings.{logs_after};
 
-use crate::sources::{read_next, read_onward, read_sources};
+use crate::front_sources::{merge_onward, read_front};
+use crate::sources::{read_onward, read_sources};
 use epx_claims::FreeGate;
 use epx_devices::Source;
 use epx_merge::{Merged, read_logs, read_logs_during};
@@ -14,8 +15,7 @@ use std::alloc::Global;
 use std::random::RandomSource;
 use std::thread::Threads;
 
-/// As `merge_sources`, for several sources and workers. The later sources are read while the
-/// workers read the lines of the first one.
+/// As `merge_sources`, with several workers, who read the first lines while the sources are read.
 fn merge_meanwhile<R: Threads + RandomSource + Sync, S: Source>(
     rt: &R,
     alloc: Global,
@@ -27,10 +27,35 @@ fn merge_meanwhile<R: Threads + RandomSource + Sync, S: Source>(
     requires well { All (λ s. S.has_failed s ≡ false) sources.old }
     ensures { EndsMerging S.remaining S.reads S.fails S.has_failed sources.old sources.new result }
 {
-    let first = match read_next(alloc, 0, sources) {
-        Ok(bytes) => bytes,
+    let front = match read_front(alloc, sources) {
+        Ok(front) => front,
         Err(fault) => return Err(fault),
     };
+    if front.is_last {
+        merge_later(rt, alloc, sources, &front.bytes, plan)
+    } else {
+        merge_onward(rt, alloc, sources, front.bytes, plan)
+    }
+}
+
+/// The committed map of the logs of all sources, of which the first is read.
+fn merge_later<R: Threads + RandomSource + Sync, S: Source>(
+    rt: &R,
+    alloc: Global,
+    sources: &mut [S],
+    first_log: &[u8],
+    plan: Plan,
+) -> Result<Merged, Fault>
+    requires few { length sources.old ≤ MAX_LOGS }
+    requires begun { (first : _)
+        × AreDeliveredUpTo S.remaining S.reads S.has_failed first sources.old 1
+        (first_log.now ∷ []) }
+    ensures { (first : _)
+        → AreDeliveredUpTo S.remaining S.reads S.has_failed first sources.old 1
+        (first_log.now ∷ [])
+        → EndsMerging S.remaining S.reads S.fails S.has_failed first sources.new result }
+{
+    let logs = sources.len();
     let mut more = || -> Result<Vec<Vec<u8>>, Fault>
         requires { (length sources.now ≤ MAX_LOGS) × ((first : _) × (before : _)
             × AreDeliveredUpTo S.remaining S.reads S.has_failed first sources.now 1 before) }
@@ -39,7 +64,7 @@ fn merge_meanwhile<R: Threads + RandomSource + Sync, S: Source>(
             → EndsReading S.remaining S.reads S.fails S.has_failed first sources.exit.now
             (logs_after before result) }
     { read_onward(alloc, 1, sources) };
-    read_logs_during(rt, alloc, &first, &mut more, plan, &FreeGate)
+    read_logs_during(rt, alloc, first_log, logs, &mut more, plan, &FreeGate)
 }
 
 /// The committed map of the logs of all sources, which are read in order.
@@ -52,7 +77,7 @@ pub(crate) fn merge_sources<R: Threads + RandomSource + Sync, S: Source>(
     requires { All (λ s. S.has_failed s ≡ false) sources.old }
     ensures { EndsMerging S.remaining S.reads S.fails S.has_failed sources.old sources.new result }
 {
-    if plan.workers() > 1 && sources.len() > 1 && sources.len() <= MAX_LOGS {
+    if plan.workers() > 1 && !sources.is_empty() && sources.len() <= MAX_LOGS {
         return merge_meanwhile(rt, alloc, sources, plan);
     }
     let logs = match read_sources(alloc, sources) {

@@ -1,33 +1,63 @@
-use Rattle.std.proofs.Common.{◌≡◌, ◌≤◌, ◌+◌, ◌++◌, length, take, arith, false}
-use Rattle.std.proofs.lemmas.Grind.{common_steps}
-use Rattle.epx_devices.proofs.TransferLemmas.{IsRead-step}
+use Rattle.std.proofs.Common.{[], refl, rules}
+use Rattle.epx_devices.proofs.TransferLemmas.{IsReadUpTo-none, whole_log}
 use Rattle.epx_devices.proofs.transfer.read_log.Goals as goal
 
-pub returns-in_err-map_err-in-Ok-clause-no_further :
-    goal.returns-in_err-map_err-in-Ok-clause-no_further
-returns-in_err-map_err-in-Ok-clause-no_further g c =
+pub returns-in_err-part-clause-stops : goal.returns-in_err-part-clause-stops
+returns-in_err-part-clause-stops g c =
     let S = g.R.Source in
-    let sofar = c.loop-part.bytes.items in
-    let part = take c.in-Ok.count c.read_some.new.part in
-    let whole : S.has_failed c.read_some.new.self ≡ false = grind (arith, common_steps) in
-    let few : length sofar + length part ≤ 67108865 = grind (arith, common_steps) in
-    let read =
-    IsRead-step S.reads S.remaining S.has_failed c.args.source.now c.loop-part.source
-    c.read_some.new.self sofar part _ c.loop-part.invariant c.in-Ok.ensures.bytes.0
-    c.in-Ok.ensures.delivered few whole in
-    (sofar ++ part, read.consumed, read.few)
+    let source = c.args.source.now in
+    let ends = whole_log S.reads S.remaining S.has_failed S.fails c.args.log source
+    c.read_on.new.source [] c.read_on.result (c.read_on.ensures source [] refl
+    (rw c.new.ensures.items (IsReadUpTo-none S.reads S.remaining S.has_failed source c.requires)))
+    in
+    search (rules, ends)
 
-pub loop-part-preserved : goal.loop-part-preserved
-loop-part-preserved g c =
+pub returns-in_err-part-clause-failed : goal.returns-in_err-part-clause-failed
+returns-in_err-part-clause-failed g c =
     let S = g.R.Source in
-    let sofar = c.loop-part.bytes.items in
-    let part = take c.in-Ok.count c.read_some.new.part in
-    let whole : S.has_failed c.read_some.new.self ≡ false = grind (arith, common_steps) in
-    let few : length sofar + length part ≤ 67108865 = grind (arith, common_steps) in
-    let read =
-    IsRead-step S.reads S.remaining S.has_failed c.args.source.now c.loop-part.source
-    c.read_some.new.self sofar part _ c.loop-part.invariant c.in-Ok.ensures.bytes.0
-    c.in-Ok.ensures.delivered few whole in
-    let grown : c.extend_from_slice.new.self.items ≡ sofar ++ part =
-    grind (arith, common_steps) in
-    rw grown read
+    let source = c.args.source.now in
+    let ends = whole_log S.reads S.remaining S.has_failed S.fails c.args.log source
+    c.read_on.new.source [] c.read_on.result (c.read_on.ensures source [] refl
+    (rw c.new.ensures.items (IsReadUpTo-none S.reads S.remaining S.has_failed source c.requires)))
+    in
+    search (rules, ends)
+
+pub returns-clause-delivered : goal.returns-clause-delivered
+returns-clause-delivered g c =
+    let S = g.R.Source in
+    let source = c.args.source.now in
+    let ends = whole_log S.reads S.remaining S.has_failed S.fails c.args.log source
+    c.read_on.new.source [] c.read_on.result (c.read_on.ensures source [] refl
+    (rw c.new.ensures.items (IsReadUpTo-none S.reads S.remaining S.has_failed source c.requires)))
+    in
+    search (rules, ends)
+
+pub returns-clause-end : goal.returns-clause-end
+returns-clause-end g c =
+    let S = g.R.Source in
+    let source = c.args.source.now in
+    let ends = whole_log S.reads S.remaining S.has_failed S.fails c.args.log source
+    c.read_on.new.source [] c.read_on.result (c.read_on.ensures source [] refl
+    (rw c.new.ensures.items (IsReadUpTo-none S.reads S.remaining S.has_failed source c.requires)))
+    in
+    search (rules, ends)
+
+pub returns-clause-failed : goal.returns-clause-failed
+returns-clause-failed g c =
+    let S = g.R.Source in
+    let source = c.args.source.now in
+    let ends = whole_log S.reads S.remaining S.has_failed S.fails c.args.log source
+    c.read_on.new.source [] c.read_on.result (c.read_on.ensures source [] refl
+    (rw c.new.ensures.items (IsReadUpTo-none S.reads S.remaining S.has_failed source c.requires)))
+    in
+    search (rules, ends)
+
+pub returns-clause-no_further : goal.returns-clause-no_further
+returns-clause-no_further g c =
+    let S = g.R.Source in
+    let source = c.args.source.now in
+    let ends = whole_log S.reads S.remaining S.has_failed S.fails c.args.log source
+    c.read_on.new.source [] c.read_on.result (c.read_on.ensures source [] refl
+    (rw c.new.ensures.items (IsReadUpTo-none S.reads S.remaining S.has_failed source c.requires)))
+    in
+    search (rules, ends)

@@ -9,11 +9,11 @@ returns-clause-text g c =
     (IfOk-at_ok (λ v. (v.0.items
     ≡ c.args.text.items ++ flat_map reply_line (zip c.args.ids.now c.args.replies.items))
     × (map (λ k. k.ops.now) v.1.items ≡ commands_by_id c.args.merged.now c.args.later.now))
-    c.in_ok-text.was c.join-found.ensures.first).0
+    c.in_ok-text-2.was c.join-found.ensures.first).0
 
 pub returns-clause-found : goal.returns-clause-found
 returns-clause-found g c =
     (IfOk-at_ok (λ v. (v.0.items
     ≡ c.args.text.items ++ flat_map reply_line (zip c.args.ids.now c.args.replies.items))
     × (map (λ k. k.ops.now) v.1.items ≡ commands_by_id c.args.merged.now c.args.later.now))
-    c.in_ok-text.was c.join-found.ensures.first).1
+    c.in_ok-text-2.was c.join-found.ensures.first).1

@@ -1,39 +1,5 @@
-use Rattle.std.proofs.Common.{◌≤◌, ◌∷◌, [], List, ℕ, length, inl, subst, arith, rules}
-use Rattle.epx_merge.specs.LaterLogs.{IsMergeWith}
-use Rattle.epx_merge.specs.Limits.{max_logs}
-use Rattle.epx_tool.specs.inner.SourceReadings.{EndsMerging}
-use Rattle.epx_tool.proofs.MergedSourceLemmas.{merged_with}
-use Rattle.epx_tool.proofs.SourceReadingLemmas.{none_delivered}
+use Rattle.std.proofs.Common.{inl}
 use Rattle.epx_tool.proofs.merged_sources.merge_meanwhile.Goals as goal
 
 pub returns-in-Err : goal.returns-in-Err
-returns-in-Err g c =
-    let S = g.S.Source in
-    let sources = c.args.sources.now in
-    inl (c.in-Err.ensures sources []
-    (none_delivered S.remaining S.reads S.fails S.has_failed sources c.requires.well))
-
-pub read_logs_during-requires-after_bounds : goal.read_logs_during-requires-after_bounds
-read_logs_during-requires-after_bounds g c κs within =
-    let S = g.S.Source in
-    let sources = c.args.sources.now in
-    let begun = c.in-Ok.ensures sources []
-    (none_delivered S.remaining S.reads S.fails S.has_failed sources c.requires.well) in
-    let few : length c.read_next.new.sources ≤ max_logs =
-    omega (arith, begun.read.as_many, c.requires.few) in
-    (few, (sources, c.in-Ok.bytes.items ∷ [], begun))
-
-pub returns : goal.returns
-returns g c =
-    let S = g.S.Source in
-    let sources = c.args.sources.now in
-    let bytes = c.in-Ok.bytes.items in
-    let begun = c.in-Ok.ensures sources []
-    (none_delivered S.remaining S.reads S.fails S.has_failed sources c.requires.well) in
-    let during = c.read_logs_during.ensures in
-    let merged = subst (λ (first : List ℕ). IsMergeWith first during.0 c.read_logs_during.result)
-    c.deref.ensures.value during.2 in
-    let ends = merged_with S.remaining S.reads S.fails S.has_failed sources _ bytes during.0
-    c.read_logs_during.result (during.1.met.1 sources (bytes ∷ []) begun) merged in
-    subst (λ (new : List g.row.S.Denot). EndsMerging S.remaining S.reads S.fails S.has_failed
-    sources new c.read_logs_during.result) (search rules) ends
+returns-in-Err g c = inl c.in-Err.ensures
