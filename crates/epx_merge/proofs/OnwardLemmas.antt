@@ -1,12 +1,12 @@
 -- The lines of the rest of a log follow its first lines.
-use Rattle.std.proofs.Common.{◌≡◌, ◌<◌, ◌≤◌, ◌+◌, ◌∷◌, ◌++◌, ◌∙◌, ℕ, suc, List, [], Vec, Global}
-use Rattle.std.proofs.Common.{Bool, true, false, length, ap, refl, sym, subst, inl, inr, arith}
+use Rattle.std.proofs.Common.{◌≡◌, ◌+◌, ◌∷◌, ◌++◌, ◌∙◌, ℕ, suc, List, []}
+use Rattle.std.proofs.Common.{true, false, length, ap, refl, sym, inl, inr, arith}
 use Rattle.std.proofs.Common.{append-nil, append_assoc, cond, eqb}
 use Rattle.std.proofs.lemmas.Bool.{cases_Bool}
 use Rattle.epx_types.specs.declared.fault.Fault.{Fault}
 use Rattle.epx_lines.specs.Lines.{lines_of, prepend_to_first}
-use Rattle.epx_merge.specs.LogLines.{MeaningAt, meaning_at, meanings_in, meanings_from, meanings_of}
-use Rattle.epx_merge.specs.LogLines.{meanings_left, bad_lines_among, bad_lines_of, bytes_of}
+use Rattle.epx_merge.specs.LogLines.{meaning_at, meanings_in, meanings_from, meanings_of}
+use Rattle.epx_merge.specs.LogLines.{meanings_left, bad_lines_among, bad_lines_of}
 use Rattle.epx_merge.specs.LaterLogs.{EndsLine}
 use Rattle.epx_merge.specs.inner.ReadFaults.{IsReadFault}
 use Rattle.epx_merge.proofs.ReadFaultLemmas.{fault_after}

@@ -118,10 +118,7 @@ pub fn read_logs_during<
     let mut begin = || -> Result<NotedLines, Fault>
         requires { IsSync R.row × IsSync G.row }
         ensures { IsNoting (meanings_of (first.entry.now ∷ [])) result }
-    // There are at least two logs, so lines may repeat.
-    {
-        read_first(rt, alloc, first, 2, plan, gate)
-    };
+    { read_first(rt, alloc, first, logs, plan, gate) };
     let (noted, later) = join_mut(rt, &mut begin, more);
     merge_later(rt, alloc, first, noted, &later?, plan, gate)
 }

@@ -1,4 +1,4 @@
-use Rattle.std.proofs.Common.{◌++◌, length, refl, arith, rules}
+use Rattle.std.proofs.Common.{◌++◌, refl, arith, rules}
 use Rattle.std.proofs.lemmas.List.{length-append, length-map}
 use Rattle.std.proofs.lemmas.Option.{slice_get_within}
 use Rattle.epx_merge.specs.LogLines.{bytes_of}

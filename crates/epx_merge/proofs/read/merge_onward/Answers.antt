@@ -1,5 +1,4 @@
 use Rattle.std.proofs.Common.{◌∷◌, ◌++◌, [], ap, subst, ◌∙◌, arith, rules, List}
-use Rattle.epx_lines.specs.Lines.{lines_of}
 use Rattle.epx_merge.specs.LogLines.{MeaningAt, meanings_of, bad_lines_among, bytes_of}
 use Rattle.epx_merge.specs.inner.ReadFaults.{IsReadFault}
 use Rattle.epx_merge.specs.inner.NotedLines.{AreNoted, IsNoting}
