@@ -2,9 +2,11 @@
 //! refusals.
 use crate::fixtures::{PUT_AND_GET, expect_accepted, id, logs_of, merged_of, plan};
 use crate::gates::WaitingGate;
+use bumpalo::Bump;
 use epx_claims::FreeGate;
 use epx_merge::{
-    Merged, RestOfLogs, read_logs, read_logs_during, read_logs_onward, split_after_lines,
+    LogReader, MAX_LOG_BYTES, Merged, RestOfLogs, read_logs, read_logs_during, read_logs_onward,
+    split_after_lines,
 };
 use epx_types::{Fault, Id, Memory, Plan};
 use std::alloc::Global;
@@ -188,6 +190,51 @@ fn the_rest_of_a_log_is_merged(rt: HostRuntime) -> Result<(), Fail> {
 fn lines_of_the_rest_of_a_log_are_numbered_onward(rt: HostRuntime) -> Result<(), Fail> {
     match read_onward(&rt, rt.alloc(), FOUR_LINES.as_bytes(), b"[]") {
         Err(Fault::BadLine { place, .. }) => assert!(rt; place.log == 0 && place.line == 5),
+        Err(Fault::Memory) => return Err(Fail::from("out of memory")),
+        _ => return Err(Fail::from("no bad line")),
+    }
+    Ok(())
+}
+
+/// Reads logs, each of them in these parts.
+fn read_in_parts<R: Abort + Threads + RandomSource + Sync>(
+    rt: &R,
+    alloc: Global,
+    logs: &[[&str; 3]],
+) -> Result<Merged, Fault> {
+    let copies = Bump::new(alloc);
+    let mut reader = LogReader::new(rt, alloc, logs.len())?;
+    for log in logs {
+        for part in log {
+            let bytes = part.as_bytes();
+            assert!(rt; bytes.len() <= MAX_LOG_BYTES);
+            reader = reader.read_part(rt, alloc, &copies, bytes, plan(rt), &FreeGate);
+        }
+        reader = reader.end_log();
+    }
+    reader.close()
+}
+
+#[test]
+fn logs_in_parts_are_merged(rt: HostRuntime) -> Result<(), Fail> {
+    let logs = [
+        ["", FOUR_LINES, A],
+        [LESS, A, FOUR_LINES],
+        ["", "", LESS_REVERSED],
+    ];
+    let merged = expect_accepted(read_in_parts(&rt, rt.alloc(), &logs))?;
+    assert!(rt; merged.len() == 6);
+    expect_position(&rt, &merged, id(0, 3), Some(3));
+    expect_position(&rt, &merged, id(0, 9), Some(4));
+    expect_position(&rt, &merged, id(1, 7), Some(5));
+    Ok(())
+}
+
+#[test]
+fn the_first_bad_line_of_parts_is_reported(rt: HostRuntime) -> Result<(), Fail> {
+    let logs = [[A, "", LESS], [FOUR_LINES, "\n[]\n", "[]"], ["[]", "", ""]];
+    match read_in_parts(&rt, rt.alloc(), &logs) {
+        Err(Fault::BadLine { place, .. }) => assert!(rt; place.log == 1 && place.line == 6),
         Err(Fault::Memory) => return Err(Fail::from("out of memory")),
         _ => return Err(Fail::from("no bad line")),
     }

@@ -2,7 +2,7 @@
 use crate::expected_runs::{
     EMPTY_REPORT, ONE_LINE, ONE_LINE_REPORT, Wanted, bad_first_line, repeated, run_is_right,
 };
-use epx_types::Why;
+use epx_types::{Fault, Place, Why};
 use std::alloc::AllocGlobal;
 use std::process::Abort;
 use std::random::RandomSource;
@@ -107,5 +107,19 @@ fn a_line_that_only_opens(rt: HostRuntime) -> Result<(), Fail> {
             "{piece}"
         );
     }
+    Ok(())
+}
+
+#[test]
+fn a_line_longer_than_a_part(rt: HostRuntime) -> Result<(), Fail> {
+    let blank = repeated(rt.alloc(), "    ", 150_000)?;
+    let log = format!(in rt.alloc(); "{blank}\n{ONE_LINE}\n")?;
+    assert!(rt; run_is_right(&rt, log.as_bytes(), &[], Ok(ONE_LINE_REPORT))?);
+    assert!(rt; run_is_right(&rt, log.as_bytes(), log.as_bytes(), Ok(ONE_LINE_REPORT))?);
+    let bad = format!(in rt.alloc(); "{log}{blank}\n{ONE_LINE}]")?;
+    let place = Place { log: 1, line: 4 };
+    let why = Why::NotJson;
+    let wanted = Err(Fault::BadLine { place, why });
+    assert!(rt; run_is_right(&rt, log.as_bytes(), bad.as_bytes(), wanted)?);
     Ok(())
 }

@@ -1,5 +1,5 @@
 //! Runs over logs of the greatest size, and over readers and writers that are interrupted.
-use crate::expected_runs::{EMPTY_REPORT, ONE_LINE, ONE_LINE_REPORT, Wanted, is_right, plan};
+use crate::expected_runs::{EMPTY_REPORT, ONE_LINE, ONE_LINE_REPORT, Wanted, is_right, plans};
 use epx_tool::{MemorySink, MemorySource, StdSink, StdSource, run};
 use epx_types::Fault;
 use std::alloc::{AllocGlobal, Global};
@@ -9,16 +9,21 @@ use std::random::RandomSource;
 use std::test::Fail;
 use std::thread::Threads;
 
-/// Whether a run over a reader of `count` spaces has the expected result.
+/// Whether runs over a reader of `count` spaces have the expected result, for every plan.
 fn run_over_spaces<R: AllocGlobal + Threads + RandomSource + Sync>(
     rt: &R,
     count: u64,
     wanted: Wanted,
 ) -> Result<bool, Fail> {
-    let mut sources = [StdSource::new(io::repeat(b' ').take(count))];
-    let mut sink = MemorySink::new(rt.alloc());
-    let outcome = run(rt, rt.alloc(), &mut sources, plan()?, &mut sink);
-    is_right(outcome, sink.bytes(), wanted)
+    for plan in plans()? {
+        let mut sources = [StdSource::new(io::repeat(b' ').take(count))];
+        let mut sink = MemorySink::new(rt.alloc());
+        let outcome = run(rt, rt.alloc(), &mut sources, plan, &mut sink);
+        if !is_right(outcome, sink.bytes(), wanted)? {
+            return Ok(false);
+        }
+    }
+    Ok(true)
 }
 
 #[test]
@@ -87,18 +92,23 @@ impl Write for Interrupted<'_> {
     }
 }
 
-/// Whether a run over a reader with `times` interruptions before each byte has the expected
-/// result.
+/// Whether runs over a reader with `times` interruptions before each byte have the expected
+/// result, for every plan.
 fn run_over_interrupted<R: AllocGlobal + Threads + RandomSource + Sync>(
     rt: &R,
     times: usize,
     wanted: Wanted,
 ) -> Result<bool, Fail> {
-    let reader = Interrupted::new(rt.alloc(), ONE_LINE.as_bytes(), times);
-    let mut sources = [StdSource::new(reader)];
-    let mut sink = MemorySink::new(rt.alloc());
-    let outcome = run(rt, rt.alloc(), &mut sources, plan()?, &mut sink);
-    is_right(outcome, sink.bytes(), wanted)
+    for plan in plans()? {
+        let reader = Interrupted::new(rt.alloc(), ONE_LINE.as_bytes(), times);
+        let mut sources = [StdSource::new(reader)];
+        let mut sink = MemorySink::new(rt.alloc());
+        let outcome = run(rt, rt.alloc(), &mut sources, plan, &mut sink);
+        if !is_right(outcome, sink.bytes(), wanted)? {
+            return Ok(false);
+        }
+    }
+    Ok(true)
 }
 
 #[test]
@@ -113,17 +123,23 @@ fn a_reader_that_is_always_interrupted(rt: HostRuntime) -> Result<(), Fail> {
     Ok(())
 }
 
-/// Whether a run with `times` interruptions before each byte written has the expected result.
+/// Whether runs with `times` interruptions before each byte written have the expected result, for
+/// every plan.
 fn run_to_interrupted<R: AllocGlobal + Threads + RandomSource + Sync>(
     rt: &R,
     times: usize,
     wanted: Wanted,
 ) -> Result<bool, Fail> {
-    let mut writer = Interrupted::new(rt.alloc(), &[], times);
-    let mut sources = [MemorySource::new(ONE_LINE.as_bytes())];
-    let mut sink = StdSink::new(&mut writer);
-    let outcome = run(rt, rt.alloc(), &mut sources, plan()?, &mut sink);
-    is_right(outcome, &writer.taken, wanted)
+    for plan in plans()? {
+        let mut writer = Interrupted::new(rt.alloc(), &[], times);
+        let mut sources = [MemorySource::new(ONE_LINE.as_bytes())];
+        let mut sink = StdSink::new(&mut writer);
+        let outcome = run(rt, rt.alloc(), &mut sources, plan, &mut sink);
+        if !is_right(outcome, &writer.taken, wanted)? {
+            return Ok(false);
+        }
+    }
+    Ok(true)
 }
 
 #[test]

@@ -28,9 +28,12 @@ pub(crate) fn bad_first_line(why: Why) -> Wanted<'static> {
     Err(Fault::BadLine { place, why })
 }
 
-/// A plan of two workers that take single items.
-pub(crate) fn plan() -> Result<Plan, Fail> {
-    Ok(Plan::new(2, 1).ok_or("a plan")?)
+/// Plans of one worker, which reads logs part by part, and of two. They take single items.
+pub(crate) fn plans() -> Result<[Plan; 2], Fail> {
+    Ok([
+        Plan::new(1, 1).ok_or("a plan")?,
+        Plan::new(2, 1).ok_or("a plan")?,
+    ])
 }
 
 /// Whether a run has the expected result. Out of memory fails the test. Then nothing may be
@@ -52,17 +55,22 @@ pub(crate) fn is_right(
     }
 }
 
-/// Whether the run over these two logs has the expected result.
+/// Whether the runs over these two logs have the expected result, for every plan.
 pub(crate) fn run_is_right<R: AllocGlobal + Threads + RandomSource + Sync>(
     rt: &R,
     first: &[u8],
     second: &[u8],
     wanted: Wanted,
 ) -> Result<bool, Fail> {
-    let mut sources = [MemorySource::new(first), MemorySource::new(second)];
-    let mut sink = MemorySink::new(rt.alloc());
-    let outcome = run(rt, rt.alloc(), &mut sources, plan()?, &mut sink);
-    is_right(outcome, sink.bytes(), wanted)
+    for plan in plans()? {
+        let mut sources = [MemorySource::new(first), MemorySource::new(second)];
+        let mut sink = MemorySink::new(rt.alloc());
+        let outcome = run(rt, rt.alloc(), &mut sources, plan, &mut sink);
+        if !is_right(outcome, sink.bytes(), wanted)? {
+            return Ok(false);
+        }
+    }
+    Ok(true)
 }
 
 /// A text repeated `count` times.

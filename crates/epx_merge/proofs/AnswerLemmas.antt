@@ -10,7 +10,7 @@ use Rattle.epx_merge.specs.LogLines.{placed_of, bad_lines_of}
 use Rattle.epx_merge.specs.Refusals.{FitLimits, AreWellFormed, IsRefusal}
 use Rattle.epx_merge.specs.Acceptance.{IsAccepted}
 use Rattle.epx_committed.specs.MergedLines.{IsMerged, IsMergeFault}
-use Rattle.epx_merge.specs.inner.ReadFaults.{IsReadFault}
+use Rattle.epx_merge.specs.ReadFaults.{IsReadFault}
 
 pub fault_refuses : (logs : List (List ℕ)) → AreWellFormed logs → (f : Fault)
     → IsMergeFault (placed_of logs) f → IsRefusal logs f

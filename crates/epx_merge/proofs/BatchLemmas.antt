@@ -11,11 +11,11 @@ use Rattle.epx_lines.specs.declared.Line.{Line}
 use Rattle.epx_merge.specs.declared.pieces.BadLine.{BadLine}
 use Rattle.epx_merge.specs.LogLines.{MeaningAt, placed_among, bad_lines_among}
 use Rattle.epx_committed.specs.Ledgers.{LedgerView, IsLedgerOf, NotesLines}
-use Rattle.epx_merge.specs.inner.NotedLines.{AreNoted}
+use Rattle.epx_merge.specs.NotedLines.{AreNoted}
 use Rattle.epx_merge.specs.inner.ReadPieces.{AreRead, IsBatchRead}
-use Rattle.epx_merge.specs.inner.ReadFaults.{IsReadFault}
-use Rattle.epx_merge.specs.inner.RedundantLines.{IsRedundant, IsCacheOf, CachesSomeOf}
-use Rattle.epx_merge.specs.inner.RedundantLines.{DropsRedundant, DropsCached}
+use Rattle.epx_merge.specs.ReadFaults.{IsReadFault}
+use Rattle.epx_merge.specs.RedundantLines.{IsRedundant, IsCacheOf, CachesSomeOf}
+use Rattle.epx_merge.specs.RedundantLines.{DropsRedundant, DropsCached}
 use Rattle.epx_merge.specs.inner.ReadSteps.{IsReadStep}
 use Rattle.epx_merge.proofs.ReadFaultLemmas.{placed_among-append, bad_lines_among-append}
 use Rattle.epx_merge.proofs.ReadFaultLemmas.{fault_after}
@@ -103,6 +103,32 @@ so_far_first holds before left walk lines pieces cache old ledger h unread step 
       cached = subst (λ l. IsCacheOf l cache) same h.cached;
       last = step.last;
       few = step.few;
+    }
+
+-- a part of a log is read after the lines that are noted, and nothing is left
+pub part_read : {E : Type 0} (holds : List Placed → E → Type 0) (before cut lines : List MeaningAt)
+    (pieces : List (Result E BadLine)) (old cache : List (Result Line Why)) (ledger : LedgerView)
+    → AreNoted before ledger old → DropsCached [] cut lines
+    → IsBatchRead holds old cache lines pieces
+    → IsReadSoFar holds (before ++ cut) [] [] pieces cache ledger
+part_read holds before cut lines pieces old cache ledger h drops batch =
+    let given = batch.read in
+    let uncached = DropsCached-trans old cut lines given.0 drops given.1 in
+    record {
+      seen = before ++ cut;
+      cut = [];
+      whole = sym (append-nil (before ++ cut)) ∙ sym (append-nil ((before ++ cut) ++ []));
+      batch = refl;
+      read = h.kept;
+      pending = given.0;
+      drops = DropsRedundant-append before cut [] h.kept (h.kept ++ given.0) h.drops
+          (DropsRedundant-cached old cut given.0 h.kept h.cached uncached);
+      clean = h.clean;
+      noted = h.noted;
+      given = given.2;
+      cached = IsCacheOf-more old h.kept lines given.0 h.cached given.1 cache batch.cached;
+      last = λ none. refl;
+      few = omega arith;
     }
 
 module _ {E : Type 0} (holds : List Placed → E → Type 0) (all walk lines : List MeaningAt)

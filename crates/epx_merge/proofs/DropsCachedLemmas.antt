@@ -7,9 +7,9 @@ use Rattle.epx_types.proofs.lists.MembershipLemmas.{Contains-nil, Contains-head}
 use Rattle.epx_types.proofs.lists.MembershipLemmas.{Contains-cons_cases}
 use Rattle.epx_lines.specs.declared.Line.{Line}
 use Rattle.epx_merge.specs.LogLines.{MeaningAt}
-use Rattle.epx_merge.specs.inner.RedundantLines.{IsRedundant, DropsRedundant, IsRedundantIn}
-use Rattle.epx_merge.specs.inner.RedundantLines.{IsCacheOf, CachesAfter, CachesSomeOf}
-use Rattle.epx_merge.specs.inner.RedundantLines.{DropsCached, IsNextBatch}
+use Rattle.epx_merge.specs.RedundantLines.{IsRedundant, DropsRedundant, IsRedundantIn}
+use Rattle.epx_merge.specs.RedundantLines.{IsCacheOf, CachesAfter, CachesSomeOf}
+use Rattle.epx_merge.specs.RedundantLines.{DropsCached, IsNextBatch}
 
 -- what is redundant after some lines is redundant after more
 pub IsRedundant-append : (kept more : List MeaningAt) (m : Result Line Why) → IsRedundant kept m

@@ -7,7 +7,7 @@ use Rattle.epx_lines.specs.Lines.{lines_of}
 use Rattle.epx_merge.specs.LogLines.{meanings_in, meanings_from, meanings_of, bad_lines_among}
 use Rattle.epx_merge.specs.LogLines.{bad_lines_of, bytes_of}
 use Rattle.epx_merge.specs.Limits.{max_logs}
-use Rattle.epx_merge.specs.inner.ReadFaults.{IsReadFault}
+use Rattle.epx_merge.specs.ReadFaults.{IsReadFault}
 use Rattle.epx_merge.proofs.ReadFaultLemmas.{fault_after}
 
 pub lines_with_later : (first : List ℕ) (later : List (List ℕ))

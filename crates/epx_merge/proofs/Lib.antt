@@ -4,6 +4,7 @@ mod RedundantLineLemmas
 mod DropsCachedLemmas
 pub mod LaterLogLemmas
 mod OnwardLemmas
+mod LogPartLemmas
 mod BatchLemmas
 mod LineCacheLemmas
 mod PlaceOrderLemmas

@@ -9,7 +9,7 @@ use Rattle.epx_types.proofs.lists.ListPositionLemmas.{slice_get-map}
 use Rattle.epx_types.proofs.lists.MembershipLemmas.{Contains-nil, Contains-cons_cases}
 use Rattle.epx_lines.specs.Meaning.{meaning_of}
 use Rattle.epx_lines.specs.declared.Line.{Line}
-use Rattle.epx_merge.specs.inner.RedundantLines.{CachesAfter}
+use Rattle.epx_merge.specs.RedundantLines.{CachesAfter}
 
 abbrev Lines : Type 0
 Lines = List (Bor (List ℕ))

@@ -8,7 +8,7 @@ use Rattle.epx_lines.specs.Lines.{lines_of, prepend_to_first}
 use Rattle.epx_merge.specs.LogLines.{meaning_at, meanings_in, meanings_from, meanings_of}
 use Rattle.epx_merge.specs.LogLines.{meanings_left, bad_lines_among, bad_lines_of}
 use Rattle.epx_merge.specs.LaterLogs.{EndsLine}
-use Rattle.epx_merge.specs.inner.ReadFaults.{IsReadFault}
+use Rattle.epx_merge.specs.ReadFaults.{IsReadFault}
 use Rattle.epx_merge.proofs.ReadFaultLemmas.{fault_after}
 
 of_feed : (b : ℕ) (bs : List ℕ) → eqb b 10 ≡ true → lines_of (b ∷ bs) ≡ [] ∷ lines_of bs
@@ -50,7 +50,7 @@ pub lines_of-append : (lines rest : List ℕ) → EndsLine lines
 lines_of-append lines rest (inl none) = rw none refl
 lines_of-append lines rest (inr (front, is)) = rw is (lines_after front rest)
 
-meanings_in-append : (log n : ℕ) (xs ys : List (List ℕ))
+pub meanings_in-append : (log n : ℕ) (xs ys : List (List ℕ))
     → meanings_in log n (xs ++ ys) ≡ meanings_in log n xs ++ meanings_in log (n + length xs) ys
 meanings_in-append log n [] ys = let same : n ≡ n + 0 = omega arith in
     ap (λ k. meanings_in log k ys) same

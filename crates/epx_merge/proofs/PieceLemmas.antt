@@ -16,7 +16,7 @@ use Rattle.epx_merge.specs.declared.pieces.BadLine.{BadLine}
 use Rattle.epx_merge.specs.Limits.{max_log_bytes}
 use Rattle.epx_merge.specs.LogLines.{MeaningAt, meanings_in, meanings_from}
 use Rattle.epx_merge.specs.inner.ReadPieces.{IsReadBeside, AreReadBeside, lines_of_piece}
-use Rattle.epx_merge.specs.inner.RedundantLines.{DropsCached}
+use Rattle.epx_merge.specs.RedundantLines.{DropsCached}
 use Rattle.epx_merge.specs.Refusals.{NoneTooLong}
 use Rattle.epx_merge.proofs.DropsCachedLemmas.{DropsCached-append}
 
@@ -87,7 +87,7 @@ module _ {E : Type 0} (holds : List Placed → E → Type 0) (cache : List (Resu
 -- ---- how many lines there are
 
 -- a log has no more lines than bytes
-length-lines_of : (bytes : List ℕ) → length (lines_of bytes) ≤ length bytes
+pub length-lines_of : (bytes : List ℕ) → length (lines_of bytes) ≤ length bytes
 length-lines_of [] = omega arith
 length-lines_of (b ∷ bs) =
     let rest = length-lines_of bs in

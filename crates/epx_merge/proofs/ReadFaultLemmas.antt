@@ -8,7 +8,7 @@ use Rattle.epx_types.specs.declared.fault.Fault.TheVariants.{BadLine, TooManyIns
 use Rattle.epx_types.specs.declared.fault.Fault.TheVariants.{Read, Write, BadBase}
 use Rattle.epx_merge.specs.LogLines.{MeaningAt, placed_at}
 use Rattle.epx_merge.specs.LogLines.{placed_among, BadLineAt, bad_lines_at, bad_lines_among}
-use Rattle.epx_merge.specs.inner.ReadFaults.{IsReadFault}
+use Rattle.epx_merge.specs.ReadFaults.{IsReadFault}
 
 pub placed_among-append : (xs ys : List MeaningAt)
     → placed_among (xs ++ ys) ≡ placed_among xs ++ placed_among ys

@@ -4,4 +4,8 @@ pub mod Refusals
 pub mod Acceptance
 pub mod LogLaws
 pub mod LaterLogs
+pub mod ReadFaults
+pub mod RedundantLines
+pub mod NotedLines
+pub mod LogParts
 pub mod inner

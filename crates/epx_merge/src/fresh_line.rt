@@ -1,9 +1,10 @@
 //! The fresh lines of a batch, which go into the cache once the batch is read.
-ghost use Rattle.epx_merge.specs.inner.RedundantLines.{CachesSomeOf};
+ghost use Rattle.epx_merge.specs.RedundantLines.{CachesSomeOf};
 
 use crate::line::PlacedLine;
 use crate::line_cache::LineCache;
 use crate::pieces::{BadLine, Pieces, ReadPiece};
+use bumpalo::Bump;
 
 /// A line that the cache lacks: its index in the batch, and its hash. Both are only hints: a wrong
 /// one can cost time, and changes no result.
@@ -45,5 +46,51 @@ pub(crate) fn cache_batch<'a>(pieces: &Pieces, lines: &[PlacedLine<'a>], cache: 
 {
     for piece in pieces {
         cache_piece(piece, lines, cache);
+    }
+}
+
+/// Puts a copy of a fresh line of the batch into the cache.
+fn cache_copy<'a>(
+    fresh: FreshLine,
+    lines: &[PlacedLine<'_>],
+    cache: &mut LineCache<'a>,
+    copies: &'a Bump,
+)
+    ensures { CachesSomeOf lines.now cache.old cache.new }
+{
+    let Some(line) = lines.get(fresh.index) else {
+        return;
+    };
+    let _kept = cache.insert_copy(fresh.hash, line.bytes(), copies);
+}
+
+/// As `cache_piece`, for lines that do not last.
+fn cache_piece_copy<'a>(
+    piece: &Result<ReadPiece, BadLine>,
+    lines: &[PlacedLine<'_>],
+    cache: &mut LineCache<'a>,
+    copies: &'a Bump,
+)
+    ensures { CachesSomeOf lines.now cache.old cache.new }
+{
+    let Ok(piece) = piece else {
+        return;
+    };
+    for line in &piece.fresh {
+        cache_copy(*line, lines, cache, copies);
+    }
+}
+
+/// As `cache_batch`, for lines that do not last.
+pub(crate) fn cache_batch_copy<'a>(
+    pieces: &Pieces,
+    lines: &[PlacedLine<'_>],
+    cache: &mut LineCache<'a>,
+    copies: &'a Bump,
+)
+    ensures { CachesSomeOf lines.now cache.old cache.new }
+{
+    for piece in pieces {
+        cache_piece_copy(piece, lines, cache, copies);
     }
 }

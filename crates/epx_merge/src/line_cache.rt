@@ -3,6 +3,7 @@ ghost use Rattle.std.specs.Prelude.{◌≡◌, ◌∷◌, ◌++◌, [], IsTrue, 
 ghost use Rattle.std.specs.Prelude.{if◌then◌else◌, slice_get};
 ghost use Rattle.epx_lines.specs.Meaning.{meaning_of};
 
+use bumpalo::Bump;
 use epx_types::Memory;
 use std::alloc::Global;
 use std::hash::{FoldHasher, Hasher};
@@ -144,25 +145,45 @@ impl<'a> LineCache<'a> {
         self.find(hash, bytes).is_some()
     }
 
-    /// Keeps a line with this hash if a slot is free, and returns whether it did. Its number is
-    /// then the count of lines kept before. A slot with the same half of the hash counts as this
-    /// line, so a line that comes twice in a batch is kept once, and none is compared.
-    pub fn insert(&mut self, hash: u64, bytes: &'a [u8]) -> bool
-        ensures { self.new ≡ if result then self.old ++ meaning_of bytes.now ∷ [] else self.old }
-    {
+    /// The slot where a line with this hash would be kept, if one is free. A slot with the same
+    /// half of the hash counts as this line, so a line that comes twice in a batch is kept once,
+    /// and none is compared.
+    fn free_slot(&self, hash: u64) -> Option<usize> {
         let mark = hash >> 32;
         let start = (hash % SLOTS) as usize;
         for at in start..start + PROBES {
-            let Some(slot) = self.slot(at) else {
-                return false;
-            };
+            let slot = self.slot(at)?;
             if slot == FREE_SLOT {
-                return self.keep(at, mark, bytes);
+                return Some(at);
             }
             if slot >> 32 == mark {
-                return false;
+                return None;
             }
         }
-        false
+        None
+    }
+
+    /// Keeps a line with this hash if a slot is free, and returns whether it did. Its number is
+    /// then the count of lines kept before.
+    pub fn insert(&mut self, hash: u64, bytes: &'a [u8]) -> bool
+        ensures { self.new ≡ if result then self.old ++ meaning_of bytes.now ∷ [] else self.old }
+    {
+        match self.free_slot(hash) {
+            Some(at) => self.keep(at, hash >> 32, bytes),
+            None => false,
+        }
+    }
+
+    /// As `insert`, for bytes that do not last: they are copied if a slot is free.
+    pub(crate) fn insert_copy(&mut self, hash: u64, bytes: &[u8], copies: &'a Bump) -> bool
+        ensures { self.new ≡ if result then self.old ++ meaning_of bytes.now ∷ [] else self.old }
+    {
+        let Some(at) = self.free_slot(hash) else {
+            return false;
+        };
+        match copies.try_alloc_slice_copy(bytes) {
+            Ok(copy) => self.keep(at, hash >> 32, copy),
+            Err(_) => false,
+        }
     }
 }

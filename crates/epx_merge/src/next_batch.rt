@@ -1,6 +1,6 @@
 //! The next batch of lines that the workers read.
 ghost use Rattle.std.specs.Prelude.{◌≡◌, ◌<◌, ◌≤◌, ◌^◌, [], IfOk, length};
-ghost use Rattle.epx_merge.specs.inner.RedundantLines.{IsNextBatch};
+ghost use Rattle.epx_merge.specs.RedundantLines.{IsNextBatch};
 
 use crate::line::PlacedLine;
 use crate::walk::LineWalk;

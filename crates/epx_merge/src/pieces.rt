@@ -7,7 +7,7 @@ ghost use Rattle.epx_merge.specs.LogLines.{bad_lines_among};
 ghost use Rattle.epx_merge.specs.inner.ReadPieces.{AreRead, IsReadBeside, SkipsOrReads};
 ghost use Rattle.epx_merge.specs.inner.ReadPieces.{lines_of_piece, HasEntries};
 ghost use Rattle.epx_committed.specs.Ledgers.{NotesLines};
-ghost use Rattle.epx_merge.specs.inner.ReadFaults.{IsReadFault};
+ghost use Rattle.epx_merge.specs.ReadFaults.{IsReadFault};
 
 use crate::fresh_line::FreshLine;
 use crate::line::PlacedLine;

@@ -2,7 +2,7 @@
 ghost use Rattle.std.specs.Prelude.{◌≡◌, ◌<◌, ◌^◌, ◌∷◌, ◌++◌, ℕ, List, [], MatchResult, length};
 ghost use Rattle.std.specs.Thread.{IsSync};
 ghost use Rattle.epx_lines.specs.Lines.{lines_of};
-ghost use Rattle.epx_merge.specs.inner.NotedLines.{IsNoting};
+ghost use Rattle.epx_merge.specs.NotedLines.{IsNoting};
 ghost use Rattle.epx_merge.specs.LogLines.{meanings_of, bytes_of};
 ghost use Rattle.epx_merge.specs.Acceptance.{IsAccepted};
 ghost use Rattle.epx_merge.specs.LaterLogs.{EndsLine, IsMergeOnward, IsMergeWith};
@@ -24,7 +24,7 @@ use std::thread::{Threads, join_mut};
 
 /// The committed map of logs whose lines are noted, or their first refusal. The logs are neither
 /// too many nor too long.
-fn merge_noted(noted: Result<NotedLines<'_>, Fault>) -> Result<Merged, Fault>
+pub(crate) fn merge_noted(noted: Result<NotedLines<'_>, Fault>) -> Result<Merged, Fault>
     ensures { (logs : List (List ℕ)) → FitLimits logs → IsNoting (meanings_of logs) noted.entry
         → MatchResult result (IsAccepted logs) (IsRefusal logs) }
 {

@@ -1,11 +1,11 @@
 //! Reads lines batch by batch.
 ghost use Rattle.std.specs.Prelude.{◌≤◌, ◌^◌, ◌++◌, List, IfOk, MatchResult, length};
 ghost use Rattle.std.specs.Thread.{IsSync};
-ghost use Rattle.epx_merge.specs.inner.NotedLines.{AreNoted, IsNoting};
+ghost use Rattle.epx_merge.specs.NotedLines.{AreNoted, IsNoting};
 ghost use Rattle.epx_merge.specs.inner.ReadSteps.{IsReadStep};
 ghost use Rattle.epx_merge.specs.inner.ReadPieces.{AreRead, AreReadBeside, IsBatchRead, HasEntries};
 ghost use Rattle.epx_merge.specs.LogLines.{MeaningAt, bad_lines_among};
-ghost use Rattle.epx_merge.specs.inner.ReadFaults.{IsReadFault};
+ghost use Rattle.epx_merge.specs.ReadFaults.{IsReadFault};
 
 use crate::fresh_line::cache_batch;
 use crate::line::PlacedLine;
@@ -21,7 +21,7 @@ use std::thread::{Threads, join};
 
 /// The result of each piece of the lines, in order, except for lines that the cache has.
 // Workers only look lines up, so they share the cache without a lock.
-fn read_pieces<R: Threads + Sync, G: Gate + Sync>(
+pub(crate) fn read_pieces<R: Threads + Sync, G: Gate + Sync>(
     rt: &R,
     alloc: Global,
     plan: Plan,

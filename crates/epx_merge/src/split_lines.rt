@@ -6,7 +6,7 @@ use epx_types::Memory;
 use std::alloc::Global;
 
 /// The number of bytes up to the last line feed.
-fn lines_end(bytes: &[u8]) -> usize
+pub fn lines_end(bytes: &[u8]) -> usize
     ensures within { result ≤ length bytes.now }
     ensures lines { EndsLine (take result bytes.now) }
 {

@@ -8,6 +8,7 @@ mod ReturnedFaultLemmas
 mod RunEndingLemmas
 mod MergedSourceLemmas
 mod FrontSourceLemmas
+mod PartSourceLemmas
 mod UniqueAnswerWithInputLemmas
 mod AnswerWithInputLemmas
 mod InputReadingLemmas

@@ -5,10 +5,11 @@ ghost use Rattle.epx_tool.specs.inner.SourceReadings.{AreDeliveredUpTo, EndsRead
 ghost use Rattle.epx_tool.specs.inner.SourceReadings.{logs_after};
 
 use crate::front_sources::{merge_onward, read_front};
-use crate::sources::{read_onward, read_sources};
+use crate::part_sources::merge_in_parts;
+use crate::sources::read_onward;
 use epx_claims::FreeGate;
 use epx_devices::Source;
-use epx_merge::{Merged, read_logs, read_logs_during};
+use epx_merge::{Merged, read_logs_during};
 use epx_types::limits::MAX_LOGS;
 use epx_types::{Fault, Plan};
 use std::alloc::Global;
@@ -77,12 +78,11 @@ pub(crate) fn merge_sources<R: Threads + RandomSource + Sync, S: Source>(
     requires { All (λ s. S.has_failed s ≡ false) sources.old }
     ensures { EndsMerging S.remaining S.reads S.fails S.has_failed sources.old sources.new result }
 {
-    if plan.workers() > 1 && !sources.is_empty() && sources.len() <= MAX_LOGS {
-        return merge_meanwhile(rt, alloc, sources, plan);
+    if sources.len() > MAX_LOGS {
+        return Err(Fault::TooManyLogs);
     }
-    let logs = match read_sources(alloc, sources) {
-        Ok(logs) => logs,
-        Err(fault) => return Err(fault),
-    };
-    read_logs(rt, alloc, &logs, plan, &FreeGate)
+    if plan.workers() == 1 || sources.is_empty() {
+        return merge_in_parts(rt, alloc, sources, plan);
+    }
+    merge_meanwhile(rt, alloc, sources, plan)
 }

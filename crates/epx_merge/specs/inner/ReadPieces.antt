@@ -8,7 +8,7 @@ use Rattle.epx_merge.specs.declared.pieces.ReadPiece.{ReadPiece}
 use Rattle.epx_merge.specs.LogLines.{MeaningAt, placed_at, placed_among, bad_lines_at}
 use Rattle.epx_merge.specs.LogLines.{bad_lines_among}
 use Rattle.epx_merge.specs.Refusals.{IsFirstBadLine}
-use Rattle.epx_merge.specs.inner.RedundantLines.{IsRedundantIn, DropsCached, CachesSomeOf}
+use Rattle.epx_merge.specs.RedundantLines.{IsRedundantIn, DropsCached, CachesSomeOf}
 
 -- the entries of the piece are those of these lines
 abbrev pub HasEntries : List Placed → ReadPiece → Type 0

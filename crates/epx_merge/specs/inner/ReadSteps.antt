@@ -2,7 +2,7 @@
 use Rattle.std.specs.Prelude.{◌≡◌, ◌≤◌, ◌^◌, List, [], length}
 use Rattle.epx_merge.specs.LogLines.{MeaningAt, placed_among, bad_lines_among}
 use Rattle.epx_committed.specs.Ledgers.{LedgerView, NotesLines}
-use Rattle.epx_merge.specs.inner.RedundantLines.{IsNextBatch}
+use Rattle.epx_merge.specs.RedundantLines.{IsNextBatch}
 
 -- the lines that were read are noted and none of them is bad; the next batch is empty only if no
 -- line is left

@@ -1,5 +1,5 @@
 use Rattle.std.proofs.Common.{◌≡◌, ◌<◌, Contains, length, get_or, subst, sym, rules}
-use Rattle.epx_merge.specs.inner.RedundantLines.{CachesAfter}
+use Rattle.epx_merge.specs.RedundantLines.{CachesAfter}
 use Rattle.epx_merge.proofs.LineCacheLemmas.{CachesAfter-kept}
 use Rattle.epx_merge.proofs.DropsCachedLemmas.{CachesSomeOf-line}
 use Rattle.epx_merge.proofs.fresh_line.cache_line.Goals as goal

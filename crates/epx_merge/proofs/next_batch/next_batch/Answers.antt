@@ -1,5 +1,5 @@
 use Rattle.std.proofs.Common.{inl, [], rules}
-use Rattle.epx_merge.specs.inner.RedundantLines.{IsRedundantIn}
+use Rattle.epx_merge.specs.RedundantLines.{IsRedundantIn}
 use Rattle.epx_merge.proofs.DropsCachedLemmas.{batch_none, batch_more, batch_blank}
 use Rattle.epx_merge.proofs.next_batch.next_batch.Goals as goal
 

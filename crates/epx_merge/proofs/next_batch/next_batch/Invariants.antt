@@ -1,5 +1,5 @@
 use Rattle.std.proofs.Common.{◌≤◌, length}
-use Rattle.epx_merge.specs.inner.RedundantLines.{IsNextBatch}
+use Rattle.epx_merge.specs.RedundantLines.{IsNextBatch}
 use Rattle.epx_merge.proofs.next_batch.next_batch.Given as goal
 
 abbrev pub invariant-loop-walk : goal.invariant-loop-walk

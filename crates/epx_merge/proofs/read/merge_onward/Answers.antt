@@ -1,7 +1,7 @@
 use Rattle.std.proofs.Common.{◌∷◌, ◌++◌, [], ap, subst, ◌∙◌, arith, rules, List}
 use Rattle.epx_merge.specs.LogLines.{MeaningAt, meanings_of, bad_lines_among, bytes_of}
-use Rattle.epx_merge.specs.inner.ReadFaults.{IsReadFault}
-use Rattle.epx_merge.specs.inner.NotedLines.{AreNoted, IsNoting}
+use Rattle.epx_merge.specs.ReadFaults.{IsReadFault}
+use Rattle.epx_merge.specs.NotedLines.{AreNoted, IsNoting}
 use Rattle.epx_merge.proofs.AnswerLemmas.{read_fault_refuses}
 use Rattle.epx_merge.proofs.LaterLogLemmas.{few_with_later}
 use Rattle.epx_merge.proofs.OnwardLemmas.{lines_onward, fault_of_lines}

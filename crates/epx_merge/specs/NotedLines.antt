@@ -6,8 +6,8 @@ use Rattle.epx_lines.specs.declared.Line.{Line}
 use Rattle.epx_merge.specs.declared.noted_lines.NotedLines.{NotedLines}
 use Rattle.epx_merge.specs.LogLines.{MeaningAt, placed_among, bad_lines_among}
 use Rattle.epx_committed.specs.Ledgers.{LedgerView, IsLedgerOf}
-use Rattle.epx_merge.specs.inner.RedundantLines.{DropsRedundant, IsCacheOf}
-use Rattle.epx_merge.specs.inner.ReadFaults.{IsReadFault}
+use Rattle.epx_merge.specs.RedundantLines.{DropsRedundant, IsCacheOf}
+use Rattle.epx_merge.specs.ReadFaults.{IsReadFault}
 
 -- none of the lines is bad; the ledger has all but some redundant ones, and the cache recognizes
 -- only lines that the ledger has

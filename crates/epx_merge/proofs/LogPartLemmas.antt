@@ -1,0 +1,72 @@
+-- The lines of the next part of a log follow those that are read.
+use Rattle.std.proofs.Common.{◌≡◌, ◌+◌, ◌<◌, ◌^◌, ◌%◌, ◌∷◌, ◌++◌, ◌∙◌, ℕ, suc, List, [], length}
+use Rattle.std.proofs.Common.{ap, sym, arith, append-nil, append_assoc, Result, Ok, Err, OnOk}
+use Rattle.std.proofs.Math.Nat.{mod-eq_of_lt}
+use Rattle.epx_lines.specs.Lines.{lines_of}
+use Rattle.epx_merge.specs.LogLines.{MeaningAt, meaning_at, meanings_in, meanings_from}
+use Rattle.epx_merge.specs.LogLines.{meanings_of}
+use Rattle.epx_merge.specs.LaterLogs.{EndsLine}
+use Rattle.epx_merge.specs.LogParts.{lines_so_far}
+use Rattle.epx_merge.proofs.OnwardLemmas.{lines_of-append, meanings_in-append}
+
+-- what holds in any case
+pub at_ok : {X E : Type 0} (result : Result X E) (P : Type 0) → P → OnOk result P
+at_ok (Ok x) P p = p
+at_ok (Err e) P p = tt
+
+-- the lines of a part of the log after these bytes
+abbrev pub lines_of_part : List (List ℕ) → List ℕ → List ℕ → List MeaningAt
+lines_of_part ended begun bytes =
+    meanings_in (length ended) (suc (length (lines_of begun))) (lines_of bytes)
+
+pub lines_after_part : (ended : List (List ℕ)) (begun bytes : List ℕ) → EndsLine begun
+    → lines_so_far ended begun ++ lines_of_part ended begun bytes
+    ≡ lines_so_far ended (begun ++ bytes)
+lines_after_part ended begun bytes ends =
+    let log = length ended in
+    let here = meanings_in log 1 (lines_of begun) in
+    let next = lines_of_part ended begun bytes in
+    let more : 1 + length (lines_of begun) ≡ suc (length (lines_of begun)) = omega arith in
+    let whole : meanings_in log 1 (lines_of (begun ++ bytes)) ≡ here ++ next =
+    ap (meanings_in log 1) (lines_of-append begun bytes ends)
+    ∙ meanings_in-append log 1 (lines_of begun) (lines_of bytes)
+    ∙ ap (λ n. here ++ meanings_in log n (lines_of bytes)) more in
+    append_assoc (meanings_of ended) here next ∙ ap (λ l. meanings_of ended ++ l) (sym whole)
+
+-- the lines of these logs and of one more
+meanings_from-last : (n : ℕ) (logs : List (List ℕ)) (log : List ℕ)
+    → meanings_from n (logs ++ log ∷ [])
+    ≡ meanings_from n logs ++ meanings_in (n + length logs) 1 (lines_of log)
+meanings_from-last n [] log = let same : n ≡ n + 0 = omega arith in
+    append-nil (meanings_in n 1 (lines_of log)) ∙ ap (λ k. meanings_in k 1 (lines_of log)) same
+meanings_from-last n (l ∷ logs) log =
+    let same : suc n + length logs ≡ n + suc (length logs) = omega arith in
+    let here = meanings_in n 1 (lines_of l) in
+    let last = meanings_in (suc n + length logs) 1 (lines_of log) in
+    ap (λ k. here ++ k) (meanings_from-last (suc n) logs log)
+    ∙ sym (append_assoc here (meanings_from (suc n) logs) last)
+    ∙ ap (λ k. (here ++ meanings_from (suc n) logs) ++ meanings_in k 1 (lines_of log)) same
+
+-- the log ends, and of the next one nothing is read
+pub lines_after_log : (ended : List (List ℕ)) (log : List ℕ)
+    → lines_so_far ended log ≡ lines_so_far (ended ++ log ∷ []) []
+lines_after_log ended log =
+    let same : 0 + length ended ≡ length ended = omega arith in
+    ap (λ k. meanings_of ended ++ meanings_in k 1 (lines_of log)) (sym same)
+    ∙ sym (meanings_from-last 0 ended log)
+    ∙ sym (append-nil (meanings_of (ended ++ log ∷ [])))
+
+-- a number that does not wrap
+pub one_more : (line : ℕ) → line + 1 < 2 ^ 64 → (line + 1) % (2 ^ 64) ≡ suc line
+one_more line few = mod-eq_of_lt few ∙ omega arith
+
+-- the next line of a log, and those after it
+pub line_and_rest : (log line next : ℕ) (bytes here more : List ℕ)
+    → lines_of bytes ≡ here ∷ lines_of more → next ≡ suc line
+    → meanings_in log (suc line) (lines_of bytes)
+    ≡ meaning_at (record { log = log; line = next }) here
+    ∷ meanings_in log (suc next) (lines_of more)
+line_and_rest log line next bytes here more cut is =
+    ap (meanings_in log (suc line)) cut
+    ∙ ap (λ k. meaning_at (record { log = log; line = k }) here
+    ∷ meanings_in log (suc k) (lines_of more)) (sym is)
