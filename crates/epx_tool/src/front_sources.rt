@@ -16,8 +16,11 @@ use std::random::RandomSource;
 use std::thread::Threads;
 
 /// The workers begin with the lines of the first log once this many bytes are read. Then they have
-/// work for as long as a file of a few times its size is read.
+/// work for as long as a few times as many bytes of the later files are read.
 const FRONT_BYTES: usize = 2 * 1_024 * 1_024;
+
+/// The same where one file is all: there is less to read meanwhile.
+const FRONT_BYTES_ALONE: usize = 512 * 1_024;
 
 /// Reads the first source, or a front of it.
 pub(crate) fn read_front<S: Source>(alloc: Global, sources: &mut [S]) -> Result<LogPart, Fault>
@@ -30,7 +33,12 @@ pub(crate) fn read_front<S: Source>(alloc: Global, sources: &mut [S]) -> Result<
         (λ fault. EndsReading S.remaining S.reads S.fails S.has_failed sources.old sources.new
         (Err fault)) }
 {
-    read_on(0, &mut sources[0], 0, Vec::new(alloc), FRONT_BYTES)
+    let least = if sources.len() == 1 {
+        FRONT_BYTES_ALONE
+    } else {
+        FRONT_BYTES
+    };
+    read_on(0, &mut sources[0], 0, Vec::new(alloc), least)
 }
 
 /// Reads the rest of the first source, of which `lines` and then `start` are read, and then the

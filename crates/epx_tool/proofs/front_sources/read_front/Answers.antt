@@ -15,4 +15,5 @@ returns g c =
     let none : IsReadUpTo S.remaining S.reads S.has_failed first first c.new.result.items =
     rw c.new.ensures.items (IsReadUpTo-none S.reads S.remaining S.has_failed first well) in
     front_read S.remaining S.reads S.fails S.has_failed sources c.requires.few c.requires.some
-    c.requires.well source later 2097152 c.read_on.result (c.read_on.ensures first [] refl none)
+    c.requires.well source later c.if-sources-eq1.least c.read_on.result
+    (c.read_on.ensures first [] refl none)
