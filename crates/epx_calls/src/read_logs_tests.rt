@@ -4,10 +4,7 @@ use crate::fixtures::{PUT_AND_GET, expect_accepted, id, logs_of, merged_of, plan
 use crate::gates::WaitingGate;
 use bumpalo::Bump;
 use epx_claims::FreeGate;
-use epx_merge::{
-    LogReader, MAX_LOG_BYTES, Merged, RestOfLogs, read_logs, read_logs_during, read_logs_onward,
-    split_after_lines,
-};
+use epx_merge::{LineBatch, LogReader, Merged, read_logs};
 use epx_types::{Fault, Id, Memory, Plan};
 use std::alloc::Global;
 use std::process::Abort;
@@ -93,137 +90,49 @@ fn a_free_worker_reads_the_next_piece(rt: HostRuntime) -> Result<(), Fail> {
     Ok(())
 }
 
-/// The later log, or the fault in place of the later logs.
-fn later_logs(alloc: Global, later: Option<&str>) -> Result<Vec<Vec<u8>>, Fault> {
-    let Some(later) = later else {
-        return Err(Fault::Read { log: 1 });
-    };
-    match logs_of(alloc, &[later]) {
-        Ok(logs) => Ok(logs),
-        Err(_) => Err(Fault::Memory),
-    }
-}
-
-/// Reads the lines of the first log while the later one comes.
-fn read_during<R: Abort + Threads + RandomSource + Sync>(
-    rt: &R,
-    alloc: Global,
-    first: &str,
-    later: Option<&str>,
-) -> Result<Merged, Fault> {
-    let mut more = || later_logs(alloc, later);
-    read_logs_during(
-        rt,
-        alloc,
-        first.as_bytes(),
-        2,
-        &mut more,
-        plan(rt),
-        &FreeGate,
-    )
-}
-
-#[test]
-fn a_log_that_comes_later_is_merged(rt: HostRuntime) -> Result<(), Fail> {
-    let merged = expect_accepted(read_during(&rt, rt.alloc(), A, Some(LESS)))?;
-    assert!(rt; merged.len() == 2);
-    expect_position(&rt, &merged, id(0, 9), Some(0));
-    expect_position(&rt, &merged, id(1, 7), Some(1));
-    Ok(())
-}
-
-#[test]
-fn a_log_that_comes_later_has_its_number(rt: HostRuntime) -> Result<(), Fail> {
-    match read_during(&rt, rt.alloc(), A, Some("[]")) {
-        Err(Fault::BadLine { place, .. }) => assert!(rt; place.log == 1 && place.line == 1),
-        Err(Fault::Memory) => return Err(Fail::from("out of memory")),
-        _ => return Err(Fail::from("no bad line")),
-    }
-    Ok(())
-}
-
-#[test]
-fn a_log_that_does_not_come_is_refused_before_a_bad_line(rt: HostRuntime) -> Result<(), Fail> {
-    match read_during(&rt, rt.alloc(), "[]", None) {
-        Err(Fault::Read { log }) => assert!(rt; log == 1),
-        Err(Fault::Memory) => return Err(Fail::from("out of memory")),
-        _ => return Err(Fail::from("no refusal of the later log")),
-    }
-    Ok(())
-}
-
-/// What follows the first lines: the rest of a log, of which this is the start.
-fn rest_of(alloc: Global, start: &[u8], end: &[u8]) -> Result<RestOfLogs, Fault> {
-    let mut rest = Vec::from_slice(alloc, start).map_err(Memory::from)?;
-    rest.extend_from_slice(end).map_err(Memory::from)?;
-    Ok(RestOfLogs {
-        rest,
-        later: Vec::new(alloc),
-    })
-}
-
-/// Reads the whole lines of the front of a log while the rest comes.
-fn read_onward<R: Abort + Threads + RandomSource + Sync>(
-    rt: &R,
-    alloc: Global,
-    front: &[u8],
-    end: &[u8],
-) -> Result<Merged, Fault> {
-    let front = Vec::from_slice(alloc, front).map_err(Memory::from)?;
-    let (lines, start) = split_after_lines(alloc, front)?;
-    let mut more = || rest_of(alloc, &start, end);
-    read_logs_onward(rt, alloc, &lines, 1, &mut more, plan(rt), &FreeGate)
-}
-
-#[test]
-fn the_rest_of_a_log_is_merged(rt: HostRuntime) -> Result<(), Fail> {
-    for cut in [0, 1, 41, 100, 164] {
-        let (front, end) = FOUR_LINES.as_bytes().split_at(cut);
-        let merged = expect_accepted(read_onward(&rt, rt.alloc(), front, end))?;
-        assert!(rt; merged.len() == 4);
-        expect_position(&rt, &merged, id(0, 3), Some(3));
-    }
-    Ok(())
-}
-
-#[test]
-fn lines_of_the_rest_of_a_log_are_numbered_onward(rt: HostRuntime) -> Result<(), Fail> {
-    match read_onward(&rt, rt.alloc(), FOUR_LINES.as_bytes(), b"[]") {
-        Err(Fault::BadLine { place, .. }) => assert!(rt; place.log == 0 && place.line == 5),
-        Err(Fault::Memory) => return Err(Fail::from("out of memory")),
-        _ => return Err(Fail::from("no bad line")),
-    }
-    Ok(())
-}
-
-/// Reads logs, each of them in these parts.
-fn read_in_parts<R: Abort + Threads + RandomSource + Sync>(
+/// Reads logs, each of them in these parts, a batch for each. Returns how often `more` was called
+/// too.
+fn read_in_batches<R: Abort + Threads + RandomSource + Sync>(
     rt: &R,
     alloc: Global,
     logs: &[[&str; 3]],
-) -> Result<Merged, Fault> {
+) -> Result<(Result<Merged, Fault>, usize), Memory> {
     let copies = Bump::new(alloc);
     let mut reader = LogReader::new(rt, alloc, logs.len())?;
-    for log in logs {
-        for part in log {
-            let bytes = part.as_bytes();
-            assert!(rt; bytes.len() <= MAX_LOG_BYTES);
-            reader = reader.read_part(rt, alloc, &copies, bytes, plan(rt), &FreeGate);
+    let mut batch = LineBatch::new(alloc);
+    let mut calls: usize = 0;
+    for (log, parts) in logs.iter().enumerate() {
+        let mut line = 0;
+        for part in parts {
+            batch.clear();
+            line = batch.add_part(log, line, part.as_bytes())?;
+            assert!(rt; batch.len() < 10);
+            let mut more = || calls = calls.wrapping_add(1);
+            let (read, ()) = reader.read_during(
+                rt,
+                alloc,
+                &copies,
+                &batch,
+                &mut more,
+                plan(rt),
+                &FreeGate,
+            );
+            reader = read;
         }
-        reader = reader.end_log();
     }
-    reader.close()
+    Ok((reader.close(), calls))
 }
 
 #[test]
-fn logs_in_parts_are_merged(rt: HostRuntime) -> Result<(), Fail> {
+fn logs_in_batches_are_merged(rt: HostRuntime) -> Result<(), Fail> {
     let logs = [
         ["", FOUR_LINES, A],
         [LESS, A, FOUR_LINES],
         ["", "", LESS_REVERSED],
     ];
-    let merged = expect_accepted(read_in_parts(&rt, rt.alloc(), &logs))?;
-    assert!(rt; merged.len() == 6);
+    let (merged, calls) = read_in_batches(&rt, rt.alloc(), &logs)?;
+    let merged = expect_accepted(merged)?;
+    assert!(rt; merged.len() == 6 && calls == 9);
     expect_position(&rt, &merged, id(0, 3), Some(3));
     expect_position(&rt, &merged, id(0, 9), Some(4));
     expect_position(&rt, &merged, id(1, 7), Some(5));
@@ -231,12 +140,46 @@ fn logs_in_parts_are_merged(rt: HostRuntime) -> Result<(), Fail> {
 }
 
 #[test]
-fn the_first_bad_line_of_parts_is_reported(rt: HostRuntime) -> Result<(), Fail> {
+fn the_first_bad_line_of_batches_is_reported(rt: HostRuntime) -> Result<(), Fail> {
     let logs = [[A, "", LESS], [FOUR_LINES, "\n[]\n", "[]"], ["[]", "", ""]];
-    match read_in_parts(&rt, rt.alloc(), &logs) {
+    let (merged, calls) = read_in_batches(&rt, rt.alloc(), &logs)?;
+    assert!(rt; calls == 9);
+    match merged {
         Err(Fault::BadLine { place, .. }) => assert!(rt; place.log == 1 && place.line == 6),
         Err(Fault::Memory) => return Err(Fail::from("out of memory")),
         _ => return Err(Fail::from("no bad line")),
+    }
+    Ok(())
+}
+
+/// Reads four lines, while one of them waits in the gate until the others are entered and more
+/// lines are gathered. Then those are read.
+fn gathers_while_one_waits<R: Abort + Threads + RandomSource + Sync>(
+    rt: &R,
+    alloc: Global,
+    waiter: usize,
+) -> Result<(), Fail> {
+    let copies = Bump::new(alloc);
+    let reader = LogReader::new(rt, alloc, 1)?;
+    let mut here = LineBatch::new(alloc);
+    let mut next = LineBatch::new(alloc);
+    let last = here.add_part(0, 0, FOUR_LINES.as_bytes())?;
+    assert!(rt; here.len() == 4 && last == 4);
+    let plan = Plan::new(2, 1).ok_or("a plan")?;
+    let gate = WaitingGate::new(waiter, 1111);
+    let mut more = || next.add_part(0, last, A.as_bytes());
+    let (reader, gathered) = reader.read_during(rt, alloc, &copies, &here, &mut more, plan, &gate);
+    assert!(rt; gathered == Ok(5) && next.len() == 1);
+    let (reader, ()) = reader.read_during(rt, alloc, &copies, &next, &mut || (), plan, &FreeGate);
+    let merged = expect_accepted(reader.close())?;
+    assert!(rt; merged.len() == 5);
+    gate.expect_all_entered()
+}
+
+#[test]
+fn lines_are_gathered_while_others_are_read(rt: HostRuntime) -> Result<(), Fail> {
+    for waiter in 0..4 {
+        gathers_while_one_waits(&rt, rt.alloc(), waiter)?;
     }
     Ok(())
 }

@@ -11,8 +11,8 @@ use Rattle.epx_lines.specs.declared.Line.{Line}
 use Rattle.epx_merge.specs.declared.pieces.BadLine.{BadLine}
 use Rattle.epx_merge.specs.LogLines.{MeaningAt, placed_among, bad_lines_among}
 use Rattle.epx_committed.specs.Ledgers.{LedgerView, IsLedgerOf, NotesLines}
-use Rattle.epx_merge.specs.NotedLines.{AreNoted}
-use Rattle.epx_merge.specs.inner.ReadPieces.{AreRead, IsBatchRead}
+use Rattle.epx_merge.specs.inner.NotedLines.{AreNoted}
+use Rattle.epx_merge.specs.ReadPieces.{AreRead, IsBatchRead}
 use Rattle.epx_merge.specs.ReadFaults.{IsReadFault}
 use Rattle.epx_merge.specs.RedundantLines.{IsRedundant, IsCacheOf, CachesSomeOf}
 use Rattle.epx_merge.specs.RedundantLines.{DropsRedundant, DropsCached}
@@ -33,7 +33,7 @@ empty_cache : (kept : List MeaningAt) → IsCacheOf kept []
 empty_cache kept m has = absurd (Contains-nil m has)
 
 -- the cache with some of the lines in addition
-IsCacheOf-more : (cache : List (Result Line Why)) (before lines kept : List MeaningAt)
+pub IsCacheOf-more : (cache : List (Result Line Why)) (before lines kept : List MeaningAt)
     → IsCacheOf before cache → DropsCached cache lines kept → (cache' : List (Result Line Why))
     → CachesSomeOf lines cache cache' → IsCacheOf (before ++ kept) cache'
 IsCacheOf-more cache before lines kept good h cache' more m has =
@@ -105,32 +105,6 @@ so_far_first holds before left walk lines pieces cache old ledger h unread step 
       few = step.few;
     }
 
--- a part of a log is read after the lines that are noted, and nothing is left
-pub part_read : {E : Type 0} (holds : List Placed → E → Type 0) (before cut lines : List MeaningAt)
-    (pieces : List (Result E BadLine)) (old cache : List (Result Line Why)) (ledger : LedgerView)
-    → AreNoted before ledger old → DropsCached [] cut lines
-    → IsBatchRead holds old cache lines pieces
-    → IsReadSoFar holds (before ++ cut) [] [] pieces cache ledger
-part_read holds before cut lines pieces old cache ledger h drops batch =
-    let given = batch.read in
-    let uncached = DropsCached-trans old cut lines given.0 drops given.1 in
-    record {
-      seen = before ++ cut;
-      cut = [];
-      whole = sym (append-nil (before ++ cut)) ∙ sym (append-nil ((before ++ cut) ++ []));
-      batch = refl;
-      read = h.kept;
-      pending = given.0;
-      drops = DropsRedundant-append before cut [] h.kept (h.kept ++ given.0) h.drops
-          (DropsRedundant-cached old cut given.0 h.kept h.cached uncached);
-      clean = h.clean;
-      noted = h.noted;
-      given = given.2;
-      cached = IsCacheOf-more old h.kept lines given.0 h.cached given.1 cache batch.cached;
-      last = λ none. refl;
-      few = omega arith;
-    }
-
 module _ {E : Type 0} (holds : List Placed → E → Type 0) (all walk lines : List MeaningAt)
     (pieces : List (Result E BadLine)) (cache : List (Result Line Why)) (ledger : LedgerView)
     (h : IsReadSoFar holds all walk lines pieces cache ledger) where
@@ -138,11 +112,11 @@ module _ {E : Type 0} (holds : List Placed → E → Type 0) (all walk lines : L
   abbrev kept : List MeaningAt
   kept = h.read ++ h.pending
 
-  kept_clean : bad_lines_among h.pending ≡ [] → bad_lines_among kept ≡ []
+  pub kept_clean : bad_lines_among h.pending ≡ [] → bad_lines_among kept ≡ []
   kept_clean clean = bad_lines_among-append h.read h.pending
       ∙ ap (λ l. l ++ bad_lines_among h.pending) h.clean ∙ clean
 
-  kept_noted : (ledger' : LedgerView) → NotesLines (placed_among h.pending) ledger ledger'
+  pub kept_noted : (ledger' : LedgerView) → NotesLines (placed_among h.pending) ledger ledger'
       → IsLedgerOf (placed_among kept) ledger'
   kept_noted ledger' noted =
       subst (λ l. IsLedgerOf l ledger') (sym (placed_among-append h.read h.pending))

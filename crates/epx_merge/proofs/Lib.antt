@@ -4,8 +4,11 @@ mod RedundantLineLemmas
 mod DropsCachedLemmas
 pub mod LaterLogLemmas
 mod OnwardLemmas
-mod LogPartLemmas
+pub mod LogPartLemmas
+mod LogReaderLemmas
 mod BatchLemmas
+mod LineBatchLemmas
+mod LineEndLemmas
 mod LineCacheLemmas
 mod PlaceOrderLemmas
 mod ReadFaultLemmas

@@ -1,18 +1,13 @@
 -- The lines of the next part of a log follow those that are read.
-use Rattle.std.proofs.Common.{◌≡◌, ◌+◌, ◌<◌, ◌^◌, ◌%◌, ◌∷◌, ◌++◌, ◌∙◌, ℕ, suc, List, [], length}
-use Rattle.std.proofs.Common.{ap, sym, arith, append-nil, append_assoc, Result, Ok, Err, OnOk}
+use Rattle.std.proofs.Common.{◌≡◌, ◌+◌, ◌<◌, ◌≤◌, ◌^◌, ◌%◌, ◌∷◌, ◌++◌, ◌∙◌, ℕ, suc, List, []}
+use Rattle.std.proofs.Common.{ap, sym, arith, append-nil, append_assoc, length, length-append}
 use Rattle.std.proofs.Math.Nat.{mod-eq_of_lt}
 use Rattle.epx_lines.specs.Lines.{lines_of}
 use Rattle.epx_merge.specs.LogLines.{MeaningAt, meaning_at, meanings_in, meanings_from}
 use Rattle.epx_merge.specs.LogLines.{meanings_of}
-use Rattle.epx_merge.specs.LaterLogs.{EndsLine}
-use Rattle.epx_merge.specs.LogParts.{lines_so_far}
+use Rattle.epx_merge.specs.LogParts.{EndsLine, lines_so_far}
 use Rattle.epx_merge.proofs.OnwardLemmas.{lines_of-append, meanings_in-append}
-
--- what holds in any case
-pub at_ok : {X E : Type 0} (result : Result X E) (P : Type 0) → P → OnOk result P
-at_ok (Ok x) P p = p
-at_ok (Err e) P p = tt
+use Rattle.epx_merge.proofs.PieceLemmas.{length-lines_of}
 
 -- the lines of a part of the log after these bytes
 abbrev pub lines_of_part : List (List ℕ) → List ℕ → List ℕ → List MeaningAt
@@ -70,3 +65,13 @@ line_and_rest log line next bytes here more cut is =
     ap (meanings_in log (suc line)) cut
     ∙ ap (λ k. meaning_at (record { log = log; line = k }) here
     ∷ meanings_in log (suc k) (lines_of more)) (sym is)
+
+-- bytes have no more lines than they are
+pub few_lines : (bytes : List ℕ) → length (lines_of bytes) ≤ length bytes
+few_lines = length-lines_of
+
+-- the number of lines, once those of a part follow whole lines
+pub lines_counted : (begun bytes : List ℕ) → EndsLine begun
+    → length (lines_of (begun ++ bytes)) ≡ length (lines_of begun) + length (lines_of bytes)
+lines_counted begun bytes ends = ap length (lines_of-append begun bytes ends)
+    ∙ length-append (lines_of begun) (lines_of bytes)

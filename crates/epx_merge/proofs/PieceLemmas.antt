@@ -15,7 +15,7 @@ use Rattle.epx_claims.specs.Answered.{AreOrderedAnswers}
 use Rattle.epx_merge.specs.declared.pieces.BadLine.{BadLine}
 use Rattle.epx_merge.specs.Limits.{max_log_bytes}
 use Rattle.epx_merge.specs.LogLines.{MeaningAt, meanings_in, meanings_from}
-use Rattle.epx_merge.specs.inner.ReadPieces.{IsReadBeside, AreReadBeside, lines_of_piece}
+use Rattle.epx_merge.specs.ReadPieces.{IsReadBeside, AreReadBeside, lines_of_piece}
 use Rattle.epx_merge.specs.RedundantLines.{DropsCached}
 use Rattle.epx_merge.specs.Refusals.{NoneTooLong}
 use Rattle.epx_merge.proofs.DropsCachedLemmas.{DropsCached-append}

@@ -9,7 +9,7 @@ use Rattle.epx_lines.specs.declared.Line.{Line}
 use Rattle.epx_merge.specs.declared.pieces.BadLine.{BadLine}
 use Rattle.epx_merge.specs.LogLines.{MeaningAt, placed_at, placed_among, bad_lines_at}
 use Rattle.epx_merge.specs.LogLines.{bad_lines_among}
-use Rattle.epx_merge.specs.inner.ReadPieces.{IsFirstBad, AreRead, SkipsOrReads, IsReadBeside}
+use Rattle.epx_merge.specs.ReadPieces.{IsFirstBad, AreRead, SkipsOrReads, IsReadBeside}
 use Rattle.epx_merge.specs.RedundantLines.{DropsCached}
 use Rattle.epx_merge.proofs.ReadFaultLemmas.{placed_among-append, bad_lines_among-append}
 use Rattle.epx_merge.proofs.DropsCachedLemmas.{DropsCached-none, DropsCached-append}

@@ -3,9 +3,8 @@ pub mod LogLines
 pub mod Refusals
 pub mod Acceptance
 pub mod LogLaws
-pub mod LaterLogs
 pub mod ReadFaults
 pub mod RedundantLines
-pub mod NotedLines
+pub mod ReadPieces
 pub mod LogParts
 pub mod inner

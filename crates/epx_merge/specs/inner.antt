@@ -1,3 +1,3 @@
 -- Words of private clauses: no public contract speaks of them.
-pub mod ReadPieces
 pub mod ReadSteps
+pub mod NotedLines

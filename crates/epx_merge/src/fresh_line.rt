@@ -2,6 +2,7 @@
 ghost use Rattle.epx_merge.specs.RedundantLines.{CachesSomeOf};
 
 use crate::line::PlacedLine;
+use crate::line_batch::LineBatch;
 use crate::line_cache::LineCache;
 use crate::pieces::{BadLine, Pieces, ReadPiece};
 use bumpalo::Bump;
@@ -50,15 +51,10 @@ pub(crate) fn cache_batch<'a>(pieces: &Pieces, lines: &[PlacedLine<'a>], cache: 
 }
 
 /// Puts a copy of a fresh line of the batch into the cache.
-fn cache_copy<'a>(
-    fresh: FreshLine,
-    lines: &[PlacedLine<'_>],
-    cache: &mut LineCache<'a>,
-    copies: &'a Bump,
-)
-    ensures { CachesSomeOf lines.now cache.old cache.new }
+fn cache_copy<'a>(fresh: FreshLine, batch: &LineBatch, cache: &mut LineCache<'a>, copies: &'a Bump)
+    ensures { CachesSomeOf batch.now cache.old cache.new }
 {
-    let Some(line) = lines.get(fresh.index) else {
+    let Some(line) = batch.line(fresh.index) else {
         return;
     };
     let _kept = cache.insert_copy(fresh.hash, line.bytes(), copies);
@@ -67,30 +63,30 @@ fn cache_copy<'a>(
 /// As `cache_piece`, for lines that do not last.
 fn cache_piece_copy<'a>(
     piece: &Result<ReadPiece, BadLine>,
-    lines: &[PlacedLine<'_>],
+    batch: &LineBatch,
     cache: &mut LineCache<'a>,
     copies: &'a Bump,
 )
-    ensures { CachesSomeOf lines.now cache.old cache.new }
+    ensures { CachesSomeOf batch.now cache.old cache.new }
 {
     let Ok(piece) = piece else {
         return;
     };
     for line in &piece.fresh {
-        cache_copy(*line, lines, cache, copies);
+        cache_copy(*line, batch, cache, copies);
     }
 }
 
 /// As `cache_batch`, for lines that do not last.
 pub(crate) fn cache_batch_copy<'a>(
     pieces: &Pieces,
-    lines: &[PlacedLine<'_>],
+    batch: &LineBatch,
     cache: &mut LineCache<'a>,
     copies: &'a Bump,
 )
-    ensures { CachesSomeOf lines.now cache.old cache.new }
+    ensures { CachesSomeOf batch.now cache.old cache.new }
 {
     for piece in pieces {
-        cache_piece_copy(piece, lines, cache, copies);
+        cache_piece_copy(piece, batch, cache, copies);
     }
 }

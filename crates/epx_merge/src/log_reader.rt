@@ -1,166 +1,225 @@
-//! Reads logs that come part by part.
-ghost use Rattle.std.specs.Prelude.{◌≡◌, ◌+◌, ◌<◌, ◌≤◌, ◌^◌, ◌++◌, ◌∷◌, ℕ, List, suc, [], IfOk};
-ghost use Rattle.std.specs.Prelude.{MatchResult, length};
-ghost use Rattle.epx_lines.specs.Lines.{lines_of};
+//! Reads lines batch by batch. Each batch is noted while the next one is read.
+ghost use Rattle.std.specs.Prelude.{◌≤◌, ◌<◌, ◌^◌, ◌++◌, List, ℕ, [], Result, IfOk, length};
+ghost use Rattle.std.specs.Prelude.{MatchResult};
+ghost use Rattle.std.specs.Thread.{IsSync};
+ghost use Rattle.epx_types.specs.Pieces.{piece_count};
+ghost use Rattle.epx_committed.specs.Ledgers.{LedgerView};
 ghost use Rattle.epx_merge.specs.Acceptance.{IsAccepted};
-ghost use Rattle.epx_merge.specs.LaterLogs.{EndsLine};
-ghost use Rattle.epx_merge.specs.Limits.{max_log_bytes, max_logs};
-ghost use Rattle.epx_merge.specs.LogLines.{MeaningAt, meanings_in};
-ghost use Rattle.epx_merge.specs.LogParts.{HasRead};
-ghost use Rattle.epx_merge.specs.Refusals.{FitLimits, IsRefusal};
-ghost use Rattle.epx_merge.specs.NotedLines.{AreNoted, IsNoting};
+ghost use Rattle.epx_merge.specs.LogLines.{MeaningAt, meanings_of};
+ghost use Rattle.epx_merge.specs.LogParts.{AreReadUpTo, HasRead, IsReading};
+ghost use Rattle.epx_merge.specs.inner.ReadSteps.{IsNotingOf};
+ghost use Rattle.epx_merge.specs.declared.pieces.BadLine.{BadLine};
+ghost use Rattle.epx_merge.specs.declared.pieces.ReadPiece.{ReadPiece};
+ghost use Rattle.epx_merge.specs.inner.NotedLines.{IsNoting};
+ghost use Rattle.epx_merge.specs.ReadPieces.{AreReadBeside, IsReadBeside, HasEntries};
+ghost use Rattle.epx_merge.specs.ReadPieces.{lines_of_piece};
 ghost use Rattle.epx_merge.specs.RedundantLines.{DropsCached};
+ghost use Rattle.epx_merge.specs.Refusals.{FitLimits, IsRefusal};
 
 use crate::fresh_line::cache_batch_copy;
-use crate::line::PlacedLine;
+use crate::line_batch::LineBatch;
+use crate::line_cache::LineCache;
 use crate::noted_lines::NotedLines;
-use crate::pieces::note_pieces;
+use crate::pieces::{BadLine, Pieces, ReadPiece, note_pieces, read_lines};
 use crate::read::merge_noted;
-use crate::read_batches::read_pieces;
 use bumpalo::Bump;
-use epx_claims::Gate;
+use epx_claims::{Gate, claimed_map};
 use epx_committed::Merged;
-use epx_lines::{cut_line, is_blank_line};
 use epx_seed::Seed;
-use epx_types::{Fault, Memory, Place, Plan};
+use epx_types::{Fault, Memory, Plan};
 use std::alloc::Global;
+use std::mem;
 use std::random::RandomSource;
-use std::thread::Threads;
+use std::thread::{Threads, join_mut};
 
-/// What is read of logs that come part by part. After a bad line no more lines are read.
+/// What is read of logs whose lines come batch by batch. After a bad line no more lines are read.
 #[derive(Drop)]
 pub struct LogReader<'a> {
-    noted: Result<NotedLines<'a>, Fault>,
-    /// The number of the log that is read now.
-    log: usize,
-    /// The number of its lines that are read.
-    line: usize,
+    read: Result<ReadLines<'a>, Fault>,
 }
 
-/// Cuts a part of a log into its lines, of which so many came before, and leaves blank ones out.
-/// Returns the number of the last line too.
-fn cut_part<'a>(
+/// Lines that are read.
+#[derive(Drop)]
+pub(crate) struct ReadLines<'a> {
+    /// Those that are noted.
+    noted: NotedLines<'a>,
+    /// The pieces of the last batch, which are not noted yet.
+    pending: Pieces,
+}
+
+/// The entries of a piece of the batch, except for lines that the cache has, or its first bad line.
+fn read_piece(
     alloc: Global,
-    log: usize,
-    before: usize,
-    bytes: &'a [u8],
-) -> Result<(Vec<PlacedLine<'a>>, usize), Memory>
-    requires short { length bytes.now ≤ max_log_bytes }
-    ensures lines { before + length bytes.now ≤ max_log_bytes → IfOk result
-        (λ v. DropsCached [] (meanings_in log (suc before) (lines_of bytes.now)) v.0.items
-        × (v.1 ≡ before + length (lines_of bytes.now))) }
-    ensures few { IfOk result (λ v. length v.0.items ≤ max_log_bytes) }
+    plan: Plan,
+    cache: &LineCache<'_>,
+    batch: &LineBatch,
+    piece: usize,
+) -> Result<Result<ReadPiece, BadLine>, Memory>
+    requires { piece < piece_count plan.cut (length batch.now) }
+    ensures { IfOk result (IsReadBeside HasEntries cache.now
+        (lines_of_piece plan.cut piece batch.now)) }
 {
-    let mut lines = Vec::new(alloc);
-    let mut line = before;
-    let mut rest = bytes;
-    while !rest.is_empty() {
-        let (here, more) = cut_line(rest);
-        line = line.wrapping_add(1);
-        let here = PlacedLine::new(Place { log, line }, here);
-        if !here.is_blank() {
-            lines.push(here)?;
-        }
-        rest = more;
-    }
-    Ok((lines, line))
+    let (start, end) = plan.range(piece, batch.len());
+    let lines = batch.lines(alloc, start, end)?;
+    read_lines(alloc, cache, &lines, start)
 }
 
-/// Reads lines after those that are noted, and notes them.
-fn note_lines<'a, R: Threads + Sync, G: Gate + Sync>(
+/// The result of each piece of the batch, in order, except for lines that the cache has.
+fn read_pieces<R: Threads + Sync, G: Gate + Sync>(
+    rt: &R,
+    alloc: Global,
+    plan: Plan,
+    gate: &G,
+    cache: &LineCache<'_>,
+    batch: &LineBatch,
+) -> Result<Pieces, Memory>
+    requires { length batch.now ≤ 2 ^ 40 }
+    ensures { IfOk result (λ v. AreReadBeside HasEntries cache.now batch.now v.items) }
+{
+    let pieces = plan.pieces(batch.len());
+    claimed_map(rt, alloc, pieces, plan, gate, |piece| {
+        read_piece(alloc, plan, cache, batch, piece)
+    })
+}
+
+/// Runs both, the second one on this thread, or both on it.
+fn run_both<R: Threads, F: FnMut() -> A + Send, G: FnMut() -> B, A: Send, B>(
+    rt: &R,
+    alone: bool,
+    first: &mut F,
+    second: &mut G,
+) -> (A, B)
+    requires { F.pre first.old × G.pre second.old }
+    ensures { F.step first.old result.0 first.new × G.step second.old result.1 second.new }
+{
+    if alone {
+        let a = first();
+        return (a, second());
+    }
+    join_mut(rt, first, second)
+}
+
+/// What is read once the pieces before a batch are noted and those of the batch are read. Lines
+/// that may come again are copied.
+fn after_batch<'a>(
+    stepped: Result<(), Fault>,
+    read: Result<Pieces, Memory>,
+    noted: NotedLines<'a>,
+    batch: &LineBatch,
+    copies: &'a Bump,
+) -> Result<ReadLines<'a>, Fault>
+    requires { length batch.now ≤ 2 ^ 40 }
+    ensures { (lines cut : List MeaningAt) (old : LedgerView)
+        (pieces : List (Result ReadPiece BadLine))
+        → AreReadUpTo lines old noted.entry.cache pieces → DropsCached [] cut batch.now
+        → IsNotingOf pieces old noted.entry.ledger stepped
+        → IfOk read (λ v. AreReadBeside HasEntries noted.entry.cache batch.now v.items)
+        → IsReading (lines ++ cut) result }
+{
+    stepped?;
+    let pending = read?;
+    let NotedLines { ledger, mut cache } = noted;
+    cache_batch_copy(&pending, batch, &mut cache, copies);
+    Ok(ReadLines {
+        noted: NotedLines { ledger, cache },
+        pending,
+    })
+}
+
+/// Reads the lines of a batch. Meanwhile this thread notes what was read before, and calls `more`.
+fn read_on<'a, R: Threads + Sync, G: Gate + Sync, T, M: FnMut() -> T>(
     rt: &R,
     alloc: Global,
     copies: &'a Bump,
-    noted: NotedLines<'a>,
-    lines: &[PlacedLine<'_>],
+    before: ReadLines<'a>,
+    batch: &LineBatch,
+    more: &mut M,
     plan: Plan,
     gate: &G,
-) -> Result<NotedLines<'a>, Fault>
-    requires { length lines.now ≤ 2 ^ 40 }
-    ensures { (before cut : List MeaningAt)
-        → AreNoted before noted.entry.ledger noted.entry.cache
-        → DropsCached [] cut lines.now → IsNoting (before ++ cut) result }
+) -> (Result<ReadLines<'a>, Fault>, T)
+    requires few { length batch.now ≤ 2 ^ 40 }
+    requires more { M.pre more.old }
+    ensures more { M.step more.old result.1 more.new }
+    ensures lines { (lines cut : List MeaningAt)
+        → AreReadUpTo lines before.entry.noted.ledger before.entry.noted.cache
+        before.entry.pending.items
+        → DropsCached [] cut batch.now → IsReading (lines ++ cut) result.0 }
 {
-    let NotedLines {
-        mut ledger,
-        mut cache,
-    } = noted;
-    let pieces = read_pieces(rt, alloc, plan, gate, &cache, lines)?;
-    cache_batch_copy(&pieces, lines, &mut cache, copies);
-    note_pieces(pieces, &mut ledger)?;
-    Ok(NotedLines { ledger, cache })
+    let ReadLines { noted, mut pending } = before;
+    let NotedLines { mut ledger, cache } = noted;
+    let mut read = || -> Result<Pieces, Memory>
+        requires { IsSync R.row × IsSync G.row × (length batch.now ≤ 2 ^ 40) }
+        ensures { IfOk result (λ v. AreReadBeside HasEntries cache.entry batch.entry.now v.items) }
+    { read_pieces(rt, alloc, plan, gate, &cache, batch) };
+    let mut meanwhile = || -> (Result<(), Fault>, T)
+        requires { M.pre more.now }
+        ensures noted { IsNotingOf pending.entry.items ledger.entry ledger.exit result.0 }
+        ensures more { M.step more.entry.now result.1 more.exit.now }
+    {
+        let pieces = mem::replace(&mut pending, Vec::new(alloc));
+        (note_pieces(pieces, &mut ledger), more())
+    };
+    let alone = plan.workers() == 1 || batch.len() <= plan.cut();
+    let (read, (stepped, given)) = run_both(rt, alone, &mut read, &mut meanwhile);
+    let noted = NotedLines { ledger, cache };
+    (after_batch(stepped, read, noted, batch, copies), given)
 }
 
 impl<'a> LogReader<'a> {
-    /// No log is read yet. The number of logs is a hint.
+    /// No line is read yet. The number of logs is a hint.
     pub fn new<R: RandomSource>(rt: &R, alloc: Global, logs: usize) -> Result<LogReader<'a>, Memory>
-        ensures { IfOk result (HasRead [] []) }
+        ensures { IfOk result (HasRead []) }
     {
+        let noted = NotedLines::new(alloc, logs, Seed::draw(rt))?;
         Ok(LogReader {
-            noted: Ok(NotedLines::new(alloc, logs, Seed::draw(rt))?),
-            log: 0,
-            line: 0,
+            read: Ok(ReadLines {
+                noted,
+                pending: Vec::new(alloc),
+            }),
         })
     }
 
-    /// Reads the next part of the log: whole lines, or the rest of the log. Lines that may come
-    /// again are copied.
-    pub fn read_part<R: Threads + Sync, G: Gate + Sync>(
+    /// The workers read the lines of a batch. Meanwhile this thread notes what was read before, and
+    /// calls `more` once. Lines that may come again are copied.
+    pub fn read_during<R: Threads + Sync, G: Gate + Sync, T, M: FnMut() -> T>(
         self,
         rt: &R,
         alloc: Global,
         copies: &'a Bump,
-        bytes: &[u8],
+        batch: &LineBatch,
+        more: &mut M,
         plan: Plan,
         gate: &G,
-    ) -> LogReader<'a>
-        requires { length bytes.now ≤ max_log_bytes }
-        ensures { (ended : List (List ℕ)) (begun : List ℕ) → HasRead ended begun self.entry
-            → EndsLine begun → length begun + length bytes.now ≤ max_log_bytes
-            → HasRead ended (begun ++ bytes.now) result }
+    ) -> (LogReader<'a>, T)
+        requires few { length batch.now ≤ 2 ^ 40 }
+        requires more { M.pre more.old }
+        ensures more { M.step more.old result.1 more.new }
+        ensures lines { (lines cut : List MeaningAt) → HasRead lines self.entry
+            → DropsCached [] cut batch.now → HasRead (lines ++ cut) result.0 }
     {
-        let LogReader { noted, log, line } = self;
-        let noted = match noted {
-            Ok(noted) => noted,
-            Err(fault) => return LogReader {
-                noted: Err(fault),
-                log,
-                line,
-            },
+        let before = match self.read {
+            Ok(before) => before,
+            Err(fault) => return (LogReader { read: Err(fault) }, more()),
         };
-        let (lines, last) = match cut_part(alloc, log, line, bytes) {
-            Ok(cut) => cut,
-            Err(Memory) => return LogReader {
-                noted: Err(Fault::Memory),
-                log,
-                line,
-            },
-        };
-        let noted = note_lines(rt, alloc, copies, noted, &lines, plan, gate);
-        LogReader {
-            noted,
-            log,
-            line: last,
-        }
+        let (read, given) = read_on(rt, alloc, copies, before, batch, more, plan, gate);
+        (LogReader { read }, given)
     }
 
-    /// The log ends, and the next one begins.
-    pub fn end_log(self) -> LogReader<'a>
-        ensures { (ended : List (List ℕ)) (log : List ℕ) → HasRead ended log self.entry
-            → length ended < max_logs → HasRead (ended ++ log ∷ []) [] result }
+    /// Notes what is read.
+    fn note(self) -> Result<NotedLines<'a>, Fault>
+        ensures { (lines : List MeaningAt) → HasRead lines self.entry → IsNoting lines result }
     {
-        LogReader {
-            noted: self.noted,
-            log: self.log.wrapping_add(1),
-            line: 0,
-        }
+        let ReadLines { noted, pending } = self.read?;
+        let NotedLines { mut ledger, cache } = noted;
+        note_pieces(pending, &mut ledger)?;
+        Ok(NotedLines { ledger, cache })
     }
 
     /// The committed map of the logs, or their first refusal.
     pub fn close(self) -> Result<Merged, Fault>
-        ensures { (logs : List (List ℕ)) → HasRead logs [] self.entry → FitLimits logs
+        ensures { (logs : List (List ℕ)) → HasRead (meanings_of logs) self.entry → FitLimits logs
             → MatchResult result (IsAccepted logs) (IsRefusal logs) }
     {
-        merge_noted(self.noted)
+        merge_noted(self.note())
     }
 }

@@ -1,6 +1,6 @@
 //! Lines that were read.
 ghost use Rattle.std.specs.Prelude.{[], IfOk};
-ghost use Rattle.epx_merge.specs.NotedLines.{AreNoted};
+ghost use Rattle.epx_merge.specs.inner.NotedLines.{AreNoted};
 
 use crate::line_cache::LineCache;
 use epx_committed::Ledger;

@@ -4,8 +4,8 @@ ghost use Rattle.std.specs.Prelude.{MatchResult, length};
 ghost use Rattle.epx_types.specs.Pieces.{piece_count};
 ghost use Rattle.epx_merge.specs.LogLines.{MeaningAt, placed_at, placed_among, bad_lines_at};
 ghost use Rattle.epx_merge.specs.LogLines.{bad_lines_among};
-ghost use Rattle.epx_merge.specs.inner.ReadPieces.{AreRead, IsReadBeside, SkipsOrReads};
-ghost use Rattle.epx_merge.specs.inner.ReadPieces.{lines_of_piece, HasEntries};
+ghost use Rattle.epx_merge.specs.ReadPieces.{AreRead, IsReadBeside, SkipsOrReads};
+ghost use Rattle.epx_merge.specs.ReadPieces.{lines_of_piece, HasEntries};
 ghost use Rattle.epx_committed.specs.Ledgers.{NotesLines};
 ghost use Rattle.epx_merge.specs.ReadFaults.{IsReadFault};
 
@@ -90,7 +90,7 @@ fn read_if_fresh(
 
 /// The entries of the lines that the cache lacks, or the first bad line. The first line has this
 /// index in the batch.
-fn read_lines(
+pub(crate) fn read_lines(
     alloc: Global,
     cache: &LineCache<'_>,
     lines: &[PlacedLine<'_>],

@@ -1,9 +1,9 @@
 //! Reads lines batch by batch.
 ghost use Rattle.std.specs.Prelude.{◌≤◌, ◌^◌, ◌++◌, List, IfOk, MatchResult, length};
 ghost use Rattle.std.specs.Thread.{IsSync};
-ghost use Rattle.epx_merge.specs.NotedLines.{AreNoted, IsNoting};
+ghost use Rattle.epx_merge.specs.inner.NotedLines.{AreNoted, IsNoting};
 ghost use Rattle.epx_merge.specs.inner.ReadSteps.{IsReadStep};
-ghost use Rattle.epx_merge.specs.inner.ReadPieces.{AreRead, AreReadBeside, IsBatchRead, HasEntries};
+ghost use Rattle.epx_merge.specs.ReadPieces.{AreRead, AreReadBeside, IsBatchRead, HasEntries};
 ghost use Rattle.epx_merge.specs.LogLines.{MeaningAt, bad_lines_among};
 ghost use Rattle.epx_merge.specs.ReadFaults.{IsReadFault};
 

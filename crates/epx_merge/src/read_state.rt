@@ -2,7 +2,7 @@
 ghost use Rattle.std.specs.Prelude.{List, MatchResult};
 ghost use Rattle.epx_merge.specs.inner.ReadSteps.{IsReadStep};
 ghost use Rattle.epx_merge.specs.LogLines.{MeaningAt, bad_lines_among};
-ghost use Rattle.epx_merge.specs.inner.ReadPieces.{AreRead, HasEntries};
+ghost use Rattle.epx_merge.specs.ReadPieces.{AreRead, HasEntries};
 ghost use Rattle.epx_merge.specs.ReadFaults.{IsReadFault};
 
 use crate::line::PlacedLine;

@@ -1,9 +1,6 @@
-//! Splits bytes between two lines.
+//! Where the last whole line of some bytes ends.
 ghost use Rattle.std.specs.Prelude.{◌≡◌, ◌≤◌, ◌++◌, length, take, IfOk};
-ghost use Rattle.epx_merge.specs.LaterLogs.{EndsLine};
-
-use epx_types::Memory;
-use std::alloc::Global;
+ghost use Rattle.epx_merge.specs.LogParts.{EndsLine};
 
 /// The number of bytes up to the last line feed.
 pub fn lines_end(bytes: &[u8]) -> usize
@@ -15,16 +12,4 @@ pub fn lines_end(bytes: &[u8]) -> usize
         end -= 1;
     }
     end
-}
-
-/// Splits bytes after their last line feed.
-pub fn split_after_lines(alloc: Global, bytes: Vec<u8>) -> Result<(Vec<u8>, Vec<u8>), Memory>
-    ensures bytes { IfOk result (λ v. v.0.items ++ v.1.items ≡ bytes.items) }
-    ensures lines { IfOk result (λ v. EndsLine v.0.items) }
-{
-    let mut bytes = bytes;
-    let end = lines_end(&bytes);
-    let rest = Vec::from_slice(alloc, &bytes[end..])?;
-    bytes.truncate(end);
-    Ok((bytes, rest))
 }

@@ -65,18 +65,10 @@ impl<'a> LineWalk<'a> {
     pub fn after_first(later: &'a [Vec<u8>]) -> LineWalk<'a>
         ensures { result ≡ meanings_from 1 (bytes_of later.now) }
     {
-        LineWalk::after_lines(0, &[], later)
-    }
-
-    /// The lines of the rest of the first log, after so many lines, and those of the later logs.
-    pub(crate) fn after_lines(lines: usize, rest: &'a [u8], later: &'a [Vec<u8>]) -> LineWalk<'a>
-        requires { lines < 2 ^ 63 }
-        ensures { result ≡ meanings_left 0 lines rest.now (bytes_of later.now) }
-    {
         LineWalk {
             log: 0,
-            line: lines,
-            rest,
+            line: 0,
+            rest: &[],
             others: later,
         }
     }

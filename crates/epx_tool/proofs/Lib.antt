@@ -7,8 +7,7 @@ mod LogsWithInputLemmas
 mod ReturnedFaultLemmas
 mod RunEndingLemmas
 mod MergedSourceLemmas
-mod FrontSourceLemmas
-mod PartSourceLemmas
+mod GatheredLemmas
 mod UniqueAnswerWithInputLemmas
 mod AnswerWithInputLemmas
 mod InputReadingLemmas

@@ -1,23 +1,19 @@
 -- How a run ends, by how reading its sources and merging their logs ended.
-use Rattle.std.proofs.Common.{◌≡◌, ◌↔◌, ℕ, Bool, true, false, List, [], ◌∷◌, ◌++◌, length, Option}
+use Rattle.std.proofs.Common.{◌≡◌, ◌↔◌, ℕ, Bool, true, false, List, [], ◌∷◌, length, Option}
 use Rattle.std.proofs.Common.{Result, Ok, Err, Vec, Global, inl, inr, sym, subst}
 use Rattle.std.proofs.Common.{arith}
 use Rattle.std.specs.Io.KnownBytes.{Appends}
 use Rattle.std.specs.Prelude.{OnOk, IfErr, IsErr}
 use Rattle.epx_types.specs.declared.fault.Fault.{Fault}
 use Rattle.epx_types.specs.declared.fault.Fault.TheVariants.{Write}
-use Rattle.epx_types.specs.Instances.{Instance}
 use Rattle.epx_devices.specs.Deliveries.{FailRelation, ReadRelation}
 use Rattle.epx_devices.specs.Transfers.{AppendsPrefix}
-use Rattle.epx_merge.specs.declared.read.RestOfLogs.{RestOfLogs}
-use Rattle.epx_merge.specs.LaterLogs.{IsMergeOnward, IsMergeWith}
 use Rattle.epx_merge.specs.LogLines.{bytes_of}
 use Rattle.epx_compare.specs.declared.comparison.Comparison.{Comparison}
 use Rattle.epx_compare.specs.LaterLogComparisons.{IsComparisonResult, IsComparisonWith}
 use Rattle.epx_tool.specs.Runs.{IsFaultOfRun}
 use Rattle.epx_tool.specs.RunEndings.{EndsRun}
-use Rattle.epx_tool.specs.inner.SourceReadings.{EndsReading, EndsMaking, EndsMerging, IsMerging}
-use Rattle.epx_tool.specs.inner.SourceReadings.{logs_after, logs_in_parts}
+use Rattle.epx_tool.specs.inner.SourceReadings.{EndsReading, EndsMaking, logs_after}
 use Rattle.epx_tool.proofs.ReturnedFaultLemmas.{IsLogAnswer, same_error, HasRead-of_lines}
 use Rattle.epx_tool.proofs.ReturnedFaultLemmas.{HasRead-written, of_lines_not_write}
 use Rattle.epx_tool.proofs.ReturnedFaultLemmas.{run_fault_of_lines}
@@ -34,30 +30,7 @@ module _ {S : Type 0} (remaining : S → Option (List ℕ)) (reads : ReadRelatio
   made_after Made logs (Ok made) read is = (logs, read, is)
   made_after Made logs (Err fault) read is = inr (logs, read, is)
 
-  -- the later sources are read while the lines of the first log are
-  pub merged_with : (first : List ℕ) (later : Result (Vec (Vec ℕ Global) Global) Fault)
-      (result : Result (List Instance) Fault)
-      → EndsReading remaining reads fails has_failed old new (logs_after (first ∷ []) later)
-      → IsMergeWith first later result
-      → EndsMerging remaining reads fails has_failed old new result
-  merged_with first (Ok later) result read merged =
-      made_after IsMerging (first ∷ bytes_of later.items) result read merged
-  merged_with first (Err fault) result read same =
-      subst (EndsMerging remaining reads fails has_failed old new) (sym same) (inl read)
-
-  -- the same, where only the first lines of the first log are there
-  pub merged_onward : (lines : List ℕ) (more : Result RestOfLogs Fault)
-      (result : Result (List Instance) Fault)
-      → EndsReading remaining reads fails has_failed old new (logs_in_parts lines more)
-      → IsMergeOnward lines more result
-      → EndsMerging remaining reads fails has_failed old new result
-  merged_onward lines (Ok more) result read merged =
-      made_after IsMerging ((lines ++ more.rest.items) ∷ bytes_of more.later.items) result read
-      merged
-  merged_onward lines (Err fault) result read same =
-      subst (EndsMerging remaining reads fails has_failed old new) (sym same) (inl read)
-
-  -- the same, where the logs are compared
+  -- the later sources are read while the lines of the first log are compared
   pub compared_with : (first : List ℕ) (later : Result (Vec (Vec ℕ Global) Global) Fault)
       (result : Result Comparison Fault)
       → EndsReading remaining reads fails has_failed old new (logs_after (first ∷ []) later)

@@ -1,6 +1,6 @@
 -- Reading sources one after another: how far it is, and how it ends.
-use Rattle.std.specs.Prelude.{◌≡◌, ◌≤◌, ◌<◌, ◌+◌, [], ◌∷◌, ◌++◌, ◌⊎◌, ℕ, Bool, true, false, List}
-use Rattle.std.specs.Prelude.{length, take, slice_index_or, slice_set}
+use Rattle.std.specs.Prelude.{◌≡◌, ◌≤◌, ◌<◌, ◌+◌, ◌++◌, ◌⊎◌, ℕ, Bool, false, List}
+use Rattle.std.specs.Prelude.{length, take}
 use Rattle.std.specs.Prelude.{drop, All, Option, Vec, Result, Ok, Err, IfOk, IfErr, IsErrOf}
 use Rattle.std.specs.Prelude.{MatchResult}
 use Rattle.std.specs.declared.alloc.Global.{Global}
@@ -9,11 +9,9 @@ use Rattle.epx_types.specs.declared.fault.Fault.{Fault}
 use Rattle.epx_types.specs.declared.fault.Fault.TheVariants.{Write}
 use Rattle.epx_types.specs.Instances.{Instance}
 use Rattle.epx_devices.specs.Deliveries.{FailRelation, ReadRelation}
-use Rattle.epx_devices.specs.LogParts.{IsReadUpTo}
 use Rattle.epx_merge.specs.Acceptance.{IsAccepted}
 use Rattle.epx_merge.specs.Limits.{max_log_bytes}
 use Rattle.epx_merge.specs.LogLines.{bytes_of}
-use Rattle.epx_merge.specs.declared.read.RestOfLogs.{RestOfLogs}
 use Rattle.epx_merge.specs.Refusals.{FitLimits, IsRefusal}
 use Rattle.epx_tool.specs.Delivered.{EachDelivers, FirstDeliver, StopsReading}
 use Rattle.epx_tool.specs.Runs.{AreBytesOf, IsReadingRefusal}
@@ -58,29 +56,6 @@ abbrev pub logs_after : List (List ℕ) → Result (Vec (Vec ℕ Global) Global)
     → Result (List (List ℕ)) Fault
 logs_after before (Ok logs) = Ok (before ++ bytes_of logs.items)
 logs_after before (Err fault) = Err fault
-
--- these bytes of the first source are read, and nothing of the others
-pub record IsFrontRead {S : Type 0} (remaining : S → Option (List ℕ)) (reads : ReadRelation S)
-    (has_failed : S → Bool) (first now : List S) (bytes : List ℕ) : Type 0 where
-  pub source : S
-  pub after : now ≡ slice_set first 0 source
-  pub some : 0 < length first
-  pub well : All (λ s. has_failed s ≡ false) first
-  pub read : IsReadUpTo remaining reads has_failed (slice_index_or first 0 source) source bytes
-  pub short : length bytes ≤ max_log_bytes
-
--- the first source is read, or a front of it
-abbrev pub IsFrontOrAll : {S : Type 0} → (S → Option (List ℕ)) → ReadRelation S → (S → Bool)
-    → List S → List S → List ℕ → Bool → Type 0
-IsFrontOrAll remaining reads has_failed first now bytes true =
-    AreDeliveredUpTo remaining reads has_failed first now 1 (bytes ∷ [])
-IsFrontOrAll remaining reads has_failed first now bytes false =
-    IsFrontRead remaining reads has_failed first now bytes
-
--- the logs, of which the first begins with these lines
-abbrev pub logs_in_parts : List ℕ → Result RestOfLogs Fault → Result (List (List ℕ)) Fault
-logs_in_parts lines (Ok more) = Ok ((lines ++ more.rest.items) ∷ bytes_of more.later.items)
-logs_in_parts lines (Err fault) = Err fault
 
 -- how reading all sources ends, and what is then made of their logs
 abbrev pub EndsMaking : {S T : Type 0} → (S → Option (List ℕ)) → ReadRelation S → FailRelation S

@@ -1,4 +1,5 @@
-use Rattle.std.proofs.Common.{◌≡◌, ◌<◌, Contains, length, get_or, subst, sym, rules}
+use Rattle.std.proofs.Common.{◌≡◌, Contains, Some, slice_get, subst, rules}
+use Rattle.std.proofs.lemmas.Option.{slice_get_within, get_or_from_slice_get}
 use Rattle.epx_merge.specs.RedundantLines.{CachesAfter}
 use Rattle.epx_merge.proofs.LineCacheLemmas.{CachesAfter-kept}
 use Rattle.epx_merge.proofs.DropsCachedLemmas.{CachesSomeOf-line}
@@ -6,11 +7,12 @@ use Rattle.epx_merge.proofs.fresh_line.cache_copy.Goals as goal
 
 pub returns : goal.returns
 returns c =
-    let lines = c.args.lines.now in
-    let line = c.in-Some.line.now in
-    let within : c.args.fresh.index < length lines = search rules in
-    let is : line ≡ get_or lines c.args.fresh.index line = search rules in
-    let among : Contains lines line = (c.args.fresh.index, within, sym is) in
+    let lines = c.args.batch.now in
+    let line = c.in-Some.line in
+    let at : slice_get lines c.args.fresh.index ≡ Some line = search (rules, c.line.ensures) in
+    let within = slice_get_within lines c.args.fresh.index line at in
+    let is = get_or_from_slice_get lines c.args.fresh.index line line at in
+    let among : Contains lines line = (c.args.fresh.index, within, is) in
     let cached : CachesAfter c.args.cache.now line.meaning c.insert_copy-kept.new.self =
     subst (λ m. CachesAfter c.args.cache.now m c.insert_copy-kept.new.self) c.bytes.ensures
     (CachesAfter-kept c.insert_copy-kept.result c.args.cache.now c.insert_copy-kept.new.self _

@@ -1,7 +1,7 @@
 use Rattle.std.proofs.Common.{◌∷◌, ◌∙◌, ap, sym, subst}
 use Rattle.std.proofs.lemmas.List.{nil_from_length}
 use Rattle.epx_committed.specs.Ledgers.{NotesLines}
-use Rattle.epx_merge.specs.inner.ReadPieces.{AreRead, HasEntries}
+use Rattle.epx_merge.specs.ReadPieces.{AreRead, HasEntries}
 use Rattle.epx_committed.proofs.LedgerLemmas.{NotesLines-nil, NotesLines-append}
 use Rattle.epx_merge.proofs.ReadPieceLemmas.{gathering_none, gathering_more, gathering_bad}
 use Rattle.epx_merge.proofs.ReadPieceLemmas.{gathering_all}

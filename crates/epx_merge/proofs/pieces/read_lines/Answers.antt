@@ -1,6 +1,6 @@
 use Rattle.std.proofs.Common.{◌≡◌, [], ◌∷◌, rules}
 use Rattle.epx_merge.specs.LogLines.{bad_lines_at}
-use Rattle.epx_merge.specs.inner.ReadPieces.{SkipsOrReads, HasEntries}
+use Rattle.epx_merge.specs.ReadPieces.{SkipsOrReads, HasEntries}
 use Rattle.epx_merge.proofs.ReadPieceLemmas.{reading_more, reading_bad}
 use Rattle.epx_merge.proofs.pieces.read_lines.Goals as goal
 

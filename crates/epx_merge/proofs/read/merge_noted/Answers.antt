@@ -1,7 +1,7 @@
 use Rattle.std.proofs.Common.{rules}
 use Rattle.epx_merge.specs.LogLines.{meanings_of, placed_of, bad_lines_of}
 use Rattle.epx_merge.specs.ReadFaults.{IsReadFault}
-use Rattle.epx_merge.specs.NotedLines.{AreNoted}
+use Rattle.epx_merge.specs.inner.NotedLines.{AreNoted}
 use Rattle.epx_merge.proofs.PlaceOrderLemmas.{placed_in_order}
 use Rattle.epx_merge.proofs.AnswerLemmas.{ledger_answers, read_fault_refuses}
 use Rattle.epx_merge.proofs.BatchLemmas.{noted_lines}

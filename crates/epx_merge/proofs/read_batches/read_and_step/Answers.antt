@@ -1,6 +1,6 @@
 use Rattle.std.proofs.Common.{rules}
 use Rattle.std.proofs.lemmas.Result.{IfOk-at_ok}
-use Rattle.epx_merge.specs.inner.ReadPieces.{IsBatchRead, HasEntries}
+use Rattle.epx_merge.specs.ReadPieces.{IsBatchRead, HasEntries}
 use Rattle.epx_merge.specs.inner.ReadSteps.{IsReadStep}
 use Rattle.epx_merge.proofs.read_batches.read_and_step.Goals as goal
 

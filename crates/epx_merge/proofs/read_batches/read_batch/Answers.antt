@@ -1,5 +1,5 @@
 use Rattle.std.proofs.Common.{◌≡◌, subst, rules}
-use Rattle.epx_merge.specs.inner.ReadPieces.{AreReadBeside, HasEntries}
+use Rattle.epx_merge.specs.ReadPieces.{AreReadBeside, HasEntries}
 use Rattle.epx_merge.specs.RedundantLines.{CachesSomeOf}
 use Rattle.epx_merge.proofs.read_batches.read_batch.Goals as goal
 

@@ -1,6 +1,6 @@
 use Rattle.std.proofs.Common.{◌++◌, ◌<◌, [], length, sym, subst, ◌∙◌, refl, arith, rules}
 use Rattle.std.proofs.lemmas.List.{nil_from_length}
-use Rattle.epx_merge.specs.inner.ReadPieces.{AreRead, HasEntries}
+use Rattle.epx_merge.specs.ReadPieces.{AreRead, HasEntries}
 use Rattle.epx_merge.proofs.BatchLemmas.{is_some_length, so_far_first, so_far_next, so_far_less}
 use Rattle.epx_merge.proofs.BatchLemmas.{so_far_fault, so_far_over, fault_at_first}
 use Rattle.epx_merge.proofs.read_batches.read_batches.Goals as goal

@@ -1,7 +1,7 @@
 use Rattle.std.proofs.Common.{◌+◌, ◌++◌, List, length}
 use Rattle.epx_merge.specs.LogLines.{MeaningAt}
-use Rattle.epx_merge.specs.NotedLines.{AreNoted}
-use Rattle.epx_merge.specs.inner.ReadPieces.{HasEntries}
+use Rattle.epx_merge.specs.inner.NotedLines.{AreNoted}
+use Rattle.epx_merge.specs.ReadPieces.{HasEntries}
 use Rattle.epx_merge.proofs.BatchLemmas.{IsReadSoFar}
 use Rattle.epx_merge.proofs.read_batches.read_batches.Given as goal
 

@@ -1,6 +1,6 @@
 use Rattle.std.proofs.Common.{◌<◌, ◌∙◌, sym, subst, rules}
 use Rattle.std.proofs.lemmas.Result.{IfOk-weaker}
-use Rattle.epx_merge.specs.inner.ReadPieces.{IsReadBeside, lines_of_piece, HasEntries}
+use Rattle.epx_merge.specs.ReadPieces.{IsReadBeside, lines_of_piece, HasEntries}
 use Rattle.epx_merge.proofs.PieceLemmas.{read_in_order}
 use Rattle.epx_merge.proofs.read_batches.read_pieces.Goals as goal
 

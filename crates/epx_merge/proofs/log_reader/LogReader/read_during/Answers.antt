@@ -1,0 +1,14 @@
+use Rattle.std.proofs.Common.{rules}
+use Rattle.epx_merge.specs.LogLines.{bad_lines_among}
+use Rattle.epx_merge.specs.ReadFaults.{IsReadFault}
+use Rattle.epx_merge.proofs.LogReaderLemmas.{bad_stays}
+use Rattle.epx_merge.proofs.log_reader.LogReader.read_during.Goals as goal
+
+pub returns-in-Err-clause-lines : goal.returns-in-Err-clause-lines
+returns-in-Err-clause-lines g c = λ lines cut read drops.
+    let bad : IsReadFault (bad_lines_among lines) c.in-Err.fault = search (rules, read) in
+    bad_stays lines cut c.in-Err.fault bad
+
+pub returns-clause-lines : goal.returns-clause-lines
+returns-clause-lines g c = λ lines cut read drops.
+    (rw c.in-Ok.is at c.read_on-read.ensures.lines) lines cut (rw c.in-Ok.is at read) drops

@@ -1,0 +1,24 @@
+use Rattle.std.proofs.Common.{◌<◌, ◌∙◌, ap, sym, subst, rules}
+use Rattle.epx_types.specs.Pieces.{piece_count}
+use Rattle.std.proofs.lemmas.Result.{IfOk-weaker}
+use Rattle.epx_merge.specs.ReadPieces.{IsReadBeside, lines_of_piece, HasEntries}
+use Rattle.epx_merge.proofs.PieceLemmas.{read_in_order}
+use Rattle.epx_merge.proofs.log_reader.read_pieces.Goals as goal
+
+pub returns : goal.returns
+returns g c =
+    let lines = c.args.batch.now in
+    let cache = c.args.cache.now in
+    let count = c.pieces-pieces.ensures.pieces in
+    let many = count ∙ ap (piece_count c.args.plan.cut) c.len.ensures in
+    IfOk-weaker c.claimed_map.result _ _ (λ v h.
+    read_in_order HasEntries cache c.args.plan.cut
+    c.pieces-pieces.ensures.fits.some_item lines v.items (record {
+      len = h.len ∙ many;
+      each = λ i inside.
+          let a = h.each i (subst (λ n. i < n) (sym many) inside) in
+          let answer = a.2 in
+          let is : IsReadBeside HasEntries cache
+          (lines_of_piece c.args.plan.cut i lines) a.0 = search rules in
+          (a.0, a.1, is);
+    })) c.claimed_map.ensures.ok
