@@ -2,7 +2,7 @@
 ghost use Rattle.std.specs.Prelude.{◌≡◌, ◌<◌, ◌≤◌, ◌*◌, ℕ, Some, length, slice_get, IfOk};
 
 use crate::gates::WaitingGate;
-use epx_claims::{Claims, FreeGate, Gate, claimed_map};
+use epx_claims::{Claims, FreeGate, Gate, claimed_map, claimed_map_after};
 use epx_types::{Memory, Plan};
 use std::alloc::Global;
 use std::process::Abort;
@@ -59,6 +59,49 @@ fn maps_while_one_waits<R: Threads + Sync + Abort>(
     let answers = map_to_tens(rt, alloc, wanted.len(), plan, &gate)?;
     assert!(rt; answers.as_slice() == wanted);
     gate.expect_all_entered()
+}
+
+/// Maps the numbers to ten times themselves, or to an error at one of them. One thread counts
+/// something before.
+fn maps_after_one_call<R: Threads + Sync + Abort>(
+    rt: &R,
+    alloc: Global,
+    workers: usize,
+    wanted: &[usize],
+    bad: usize,
+) -> Result<(), Fail>
+    requires { length wanted.now ≤ 100 }
+{
+    let plan = Plan::new(workers, 1).ok_or("a plan")?;
+    let mut calls: usize = 0;
+    let mut first = || -> usize {
+        calls = calls.wrapping_add(1);
+        calls
+    };
+    let (given, answer) = claimed_map_after(
+        rt,
+        alloc,
+        wanted.len(),
+        plan,
+        &FreeGate,
+        &mut first,
+        |i| -> Result<usize, CallerError>
+            requires { i < 100 }
+        {
+            if i == bad {
+                Err(CallerError::At(i))
+            } else {
+                Ok(10 * i)
+            }
+        },
+    );
+    assert!(rt; given == 1 && calls == 1);
+    match &answer {
+        Ok(values) => assert!(rt; bad >= wanted.len() && values.as_slice() == wanted),
+        Err(CallerError::NoMemory) => return Err(Fail::from("out of memory")),
+        Err(trouble) => assert!(rt; bad < wanted.len() && *trouble == CallerError::At(bad)),
+    }
+    Ok(())
 }
 
 /// Maps the numbers below n to their successors, or to an error at one of them.
@@ -173,4 +216,35 @@ fn others_continue_while_one_waits(rt: HostRuntime) -> Result<(), Fail> {
         maps_while_one_waits(&rt, rt.alloc(), 2, &[0, 10, 20, 30], waiter, 1111)?;
     }
     Ok(())
+}
+
+#[test]
+fn one_call_before_any_number_is_drawn(rt: HostRuntime) -> Result<(), Fail> {
+    for workers in [1, 2, 3, 4, 5, 7, 64] {
+        for bad in [0, 4, 9] {
+            maps_after_one_call(&rt, rt.alloc(), workers, &[], bad)?;
+            maps_after_one_call(&rt, rt.alloc(), workers, &[0], bad)?;
+            maps_after_one_call(&rt, rt.alloc(), workers, &[0, 10, 20, 30, 40, 50], bad)?;
+        }
+    }
+    Ok(())
+}
+
+#[test]
+fn others_draw_while_the_call_before_waits(rt: HostRuntime) -> Result<(), Fail> {
+    let plan = Plan::new(2, 1).ok_or("a plan")?;
+    let gate = WaitingGate::new(4, 1111);
+    let mut first = || gate.wait();
+    let ((), answer) = claimed_map_after(
+        &rt,
+        rt.alloc(),
+        4,
+        plan,
+        &gate,
+        &mut first,
+        |i| ten_times(i),
+    );
+    let values = answer?;
+    assert!(rt; values.as_slice() == [0, 10, 20, 30].as_slice());
+    gate.expect_all_entered()
 }

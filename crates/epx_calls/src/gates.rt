@@ -25,6 +25,16 @@ impl WaitingGate {
         }
     }
 
+    /// Waits until all items were entered.
+    pub(crate) fn wait(&self) {
+        for _ in 0..MAX_LOADS {
+            if self.entered.load(Ordering::SeqCst) == self.all {
+                return;
+            }
+        }
+        self.gave_up.store(true, Ordering::SeqCst);
+    }
+
     /// Expects that all items were entered and that the waiting one saw it. If it did not, a
     /// worker may be missing because its thread could not be started.
     pub(crate) fn expect_all_entered(&self) -> Result<(), Fail> {
@@ -42,14 +52,8 @@ impl Gate for WaitingGate {
     fn enter(&self, piece: usize) {
         let mark = [1, 10, 100, 1000].get(piece).copied().unwrap_or(0);
         self.entered.fetch_add(mark, Ordering::SeqCst);
-        if piece != self.waiter {
-            return;
+        if piece == self.waiter {
+            self.wait();
         }
-        for _ in 0..MAX_LOADS {
-            if self.entered.load(Ordering::SeqCst) == self.all {
-                return;
-            }
-        }
-        self.gave_up.store(true, Ordering::SeqCst);
     }
 }

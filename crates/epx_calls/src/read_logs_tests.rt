@@ -111,7 +111,7 @@ fn read_in_batches<R: Abort + Threads + RandomSource + Sync>(
             let (read, ()) = reader.read_during(
                 rt,
                 alloc,
-                &copies,
+                Some(&copies),
                 &batch,
                 &mut more,
                 plan(rt),
@@ -168,9 +168,17 @@ fn gathers_while_one_waits<R: Abort + Threads + RandomSource + Sync>(
     let plan = Plan::new(2, 1).ok_or("a plan")?;
     let gate = WaitingGate::new(waiter, 1111);
     let mut more = || next.add_part(0, last, A.as_bytes());
-    let (reader, gathered) = reader.read_during(rt, alloc, &copies, &here, &mut more, plan, &gate);
+    let (reader, gathered) = reader.read_during(
+        rt,
+        alloc,
+        Some(&copies),
+        &here,
+        &mut more,
+        plan,
+        &gate,
+    );
     assert!(rt; gathered == Ok(5) && next.len() == 1);
-    let (reader, ()) = reader.read_during(rt, alloc, &copies, &next, &mut || (), plan, &FreeGate);
+    let (reader, ()) = reader.read_during(rt, alloc, None, &next, &mut || (), plan, &FreeGate);
     let merged = expect_accepted(reader.close())?;
     assert!(rt; merged.len() == 5);
     gate.expect_all_entered()

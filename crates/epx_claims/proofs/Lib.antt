@@ -7,6 +7,7 @@ pub mod SeatMoveLemmas
 pub mod ProgressLemmas
 pub mod SlotLemmas
 pub mod SeatLemmas
+pub mod SeatListLemmas
 pub mod SumLemmas
 pub mod AnswerLemmas
 pub mod JoinedPieceLemmas

@@ -9,11 +9,13 @@ mod parts;
 mod rule;
 mod seat;
 mod seat_state;
+mod seats;
+mod task;
 mod values_by_number;
 mod work;
 
 pub use claims::Claims;
 pub use gate::{FreeGate, Gate};
-pub use map::claimed_map;
+pub use map::{claimed_map, claimed_map_after};
 pub use parts::append_parts;
 pub use seat::ClaimSeat;

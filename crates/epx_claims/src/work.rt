@@ -3,12 +3,13 @@ ghost use Rattle.std.specs.Prelude.{◌≡◌, ◌<◌, ◌+◌, ◌++◌, ◌||
 ghost use Rattle.std.specs.Thread.{IsSync, IsSend};
 ghost use Rattle.epx_claims.specs.Seated.{IsSeatOf};
 ghost use Rattle.epx_claims.specs.Answered.{IsMapFault};
-ghost use Rattle.epx_claims.specs.inner.WorkResult.{HasAnswers, IsFresh};
+ghost use Rattle.epx_claims.specs.inner.WorkResult.{AreFresh, HasAnswers, IsFresh, shares};
 ghost use Rattle.epx_types.specs.declared.memory.Memory.{Memory};
 
 use crate::claims::Claims;
 use crate::gate::Gate;
 use crate::seat::ClaimSeat;
+use crate::task::Task;
 use epx_types::Memory;
 use std::alloc::Global;
 use std::thread::{Threads, join};
@@ -93,8 +94,9 @@ fn join_results<T: Drop>(
     Ok(WorkResult { seat, answers })
 }
 
-/// Splits the seat down to shares of one. Each is drawn by one worker, in its own thread if one
-/// can be started. Joins the seats and the answers on the way back.
+/// One worker draws with each seat: this thread with the first one, once it has done the task, and
+/// with each of the others a thread of its own, if one can be started. Joins the seats and the
+/// answers.
 #[cycle(workers)]
 pub(crate) fn work<
     R: Threads + Sync,
@@ -102,41 +104,37 @@ pub(crate) fn work<
     E: From<Memory> + Send + Drop,
     G: Gate + Sync,
     F: Fn(usize) -> Result<T, E> + Sync,
+    K: Task<Output = A> + Drop,
+    A,
 >(
     rt: &R,
     alloc: Global,
     claims: &Claims,
     seat: ClaimSeat,
+    others: Vec<ClaimSeat>,
     gate: &G,
     f: &F,
-) -> Result<WorkResult<T>, E>
-    requires seat { IsFresh claims.now seat.share seat }
+    task: K,
+) -> (A, Result<WorkResult<T>, E>)
+    requires seats { AreFresh claims.now (seat ∷ others.items) }
     requires calls { (i : ℕ) → i < claims.now.pieces → F.pre f.now i }
-    ensures ok { IfOk result
-        (λ w. HasAnswers (λ i x. F.post f.now i (Ok x)) claims.now seat.share true w.seat
-        w.answers.items) }
-    ensures err { IfErr result
+    requires task { K.can_run task }
+    ensures task { K.run_gives task result.0 }
+    ensures ok { IfOk result.1
+        (λ w. HasAnswers (λ i x. F.post f.now i (Ok x)) claims.now (shares (seat ∷ others.items))
+        true w.seat w.answers.items) }
+    ensures err { IfErr result.1
         (IsMapFault (λ i e. F.post f.now i (Err e)) (λ e. (m : Memory) × E.from_gives m e)
         claims.now.pieces) }
 {
-    let mut seat = seat;
-    if seat.share() < 2 {
-        return draw_all(alloc, claims, seat, gate, f);
-    }
-    let other = claims.split(&mut seat);
-    let mine = move || -> Result<WorkResult<T>, E>
-        requires { IsSync R.row × IsSync G.row × IsSync F.row × IsSend T.row × IsSend E.row
-            × IsFresh claims.now seat.share seat
-            × ((i : ℕ) → i < claims.now.pieces → F.pre f.now i) }
-        ensures ok { IfOk result
-            (λ w. HasAnswers (λ i x. F.post f.entry.now i (Ok x)) claims.entry.now seat.share true
-            w.seat w.answers.items) }
-        ensures err { IfErr result
-            (IsMapFault (λ i e. F.post f.entry.now i (Err e))
-            (λ e. (m : Memory) × E.from_gives m e) claims.entry.now.pieces) }
-    { work(rt, alloc, claims, seat, gate, f) };
+    // This thread starts all others: one that waits for a processor would start its own late.
+    let mut others = others;
+    let Some(other) = others.pop() else {
+        let given = task.run();
+        return (given, draw_all(alloc, claims, seat, gate, f));
+    };
     let theirs = move || -> Result<WorkResult<T>, E>
-        requires { IsSync R.row × IsSync G.row × IsSync F.row × IsSend T.row × IsSend E.row
+        requires { IsSync G.row × IsSync F.row × IsSend T.row × IsSend E.row
             × IsFresh claims.now other.share other
             × ((i : ℕ) → i < claims.now.pieces → F.pre f.now i) }
         ensures ok { IfOk result
@@ -145,7 +143,30 @@ pub(crate) fn work<
         ensures err { IfErr result
             (IsMapFault (λ i e. F.post f.entry.now i (Err e))
             (λ e. (m : Memory) × E.from_gives m e) claims.entry.now.pieces) }
-    { work(rt, alloc, claims, other, gate, f) };
-    let (left, right) = join(rt, mine, theirs);
-    Ok(join_results(claims, left?, right?)?)
+    { draw_all(alloc, claims, other, gate, f) };
+    let mine = move || -> (A, Result<WorkResult<T>, E>)
+        requires { IsSync R.row × IsSync G.row × IsSync F.row × IsSend T.row × IsSend E.row
+            × AreFresh claims.now (seat ∷ others.items) × K.can_run task
+            × ((i : ℕ) → i < claims.now.pieces → F.pre f.now i) }
+        ensures task { K.run_gives task result.0 }
+        ensures ok { IfOk result.1
+            (λ w. HasAnswers (λ i x. F.post f.entry.now i (Ok x)) claims.entry.now
+            (shares (seat ∷ others.items)) true w.seat w.answers.items) }
+        ensures err { IfErr result.1
+            (IsMapFault (λ i e. F.post f.entry.now i (Err e))
+            (λ e. (m : Memory) × E.from_gives m e) claims.entry.now.pieces) }
+    { work(rt, alloc, claims, seat, others, gate, f, task) };
+    let (left, (given, right)) = join(rt, theirs, mine);
+    let left = match left {
+        Ok(left) => left,
+        Err(error) => return (given, Err(error)),
+    };
+    let right = match right {
+        Ok(right) => right,
+        Err(error) => return (given, Err(error)),
+    };
+    match join_results(claims, left, right) {
+        Ok(both) => (given, Ok(both)),
+        Err(memory) => (given, Err(E::from(memory))),
+    }
 }

@@ -81,7 +81,7 @@ gathered_more m start i e rows ids low at rise is =
     (gathered_joined m (slice_range m start i) (e ∷ []) rows (positions_of m e.deps ∷ []) ids
     (missing_of m e.deps) is one)
 
--- two halves: from a to before b, and from c to before d
+-- two parts: from a to before b, and from c to before d
 pub gathered_both : (m : List Instance) (start end a b c d : ℕ) → a ≡ start → b ≡ c → d ≡ end
     → a ≤ b → c ≤ d → (rows later whole : List (List ℕ)) (ids others all : List Id)
     → whole ≡ rows ++ later → all ≡ ids ++ others → IsGatheredOf m (slice_range m a b) rows ids

@@ -107,8 +107,9 @@ fn gather_part(alloc: Global, left: &Remainder, part: Part) -> Result<Gathered, 
     Ok(Gathered { rows, missing })
 }
 
-/// The dependencies of a part of the remaining instances. The part is halved for the workers as
-/// long as it has many instances, and the results are appended on the way back.
+/// The dependencies of a part of the remaining instances. Where it has many, each of the other
+/// workers gathers those of some of the last instances, and they are appended in the end. This
+/// thread starts all others: one that waits for a processor would start its own late.
 #[cycle(workers)]
 fn gather_parts<R: Threads + Sync>(
     rt: &R,
@@ -126,26 +127,25 @@ fn gather_parts<R: Threads + Sync>(
     if workers < 2 || part.end - part.start < FEWEST_FOR_THREADS {
         return gather_part(alloc, left, part);
     }
-    let (low, high) = part.halves();
-    let others = workers / 2;
-    let ours = workers - others;
-    let mine = move || -> Result<Gathered, Memory>
-        requires { IsSync R.row × (low.start ≤ low.end) × (low.end ≤ length (left_of left.now)) }
-        ensures { IfOk result
-            (λ gathered. IsGatheredOf (left_of left.entry.now)
-            (slice_range (left_of left.entry.now) low.start low.end) gathered.rows
-            gathered.missing.items) }
-    { gather_parts(rt, alloc, left, ours, low) };
+    let (others, last) = part.without_last(workers);
+    let rest = workers - 1;
     let theirs = move || -> Result<Gathered, Memory>
-        requires { IsSync R.row × (high.start ≤ high.end)
-            × (high.end ≤ length (left_of left.now)) }
+        requires { (last.start ≤ last.end) × (last.end ≤ length (left_of left.now)) }
         ensures { IfOk result
             (λ gathered. IsGatheredOf (left_of left.entry.now)
-            (slice_range (left_of left.entry.now) high.start high.end) gathered.rows
+            (slice_range (left_of left.entry.now) last.start last.end) gathered.rows
             gathered.missing.items) }
-    { gather_parts(rt, alloc, left, others, high) };
-    let (first, second) = join(rt, mine, theirs);
-    let gathered = first?.append(second?)?;
+    { gather_part(alloc, left, last) };
+    let mine = move || -> Result<Gathered, Memory>
+        requires { IsSync R.row × (others.start ≤ others.end)
+            × (others.end ≤ length (left_of left.now)) }
+        ensures { IfOk result
+            (λ gathered. IsGatheredOf (left_of left.entry.now)
+            (slice_range (left_of left.entry.now) others.start others.end) gathered.rows
+            gathered.missing.items) }
+    { gather_parts(rt, alloc, left, rest, others) };
+    let (later, first) = join(rt, theirs, mine);
+    let gathered = first?.append(later?)?;
     Ok(gathered)
 }
 

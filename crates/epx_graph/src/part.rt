@@ -1,5 +1,5 @@
 //! Parts of the remaining instances.
-ghost use Rattle.std.specs.Prelude.{◌≡◌, ◌≤◌, [], IfOk};
+ghost use Rattle.std.specs.Prelude.{◌≡◌, ◌<◌, ◌≤◌, [], IfOk};
 
 use epx_rows::Rows;
 use epx_types::Memory;
@@ -30,27 +30,28 @@ impl Part {
         }
     }
 
-    /// The two halves. The first keeps the room for both, so that appending the second does not
-    /// move it.
-    pub(crate) fn halves(self) -> (Part, Part)
-        requires { self.start ≤ self.end }
+    /// The last of so many equal parts, and before it the others. Those keep the room for all, so
+    /// that appending the last does not move them.
+    pub(crate) fn without_last(self, parts: usize) -> (Part, Part)
+        requires part { self.start ≤ self.end }
+        requires parts { 0 < parts }
         ensures start { result.0.start ≡ self.start }
         ensures middle { result.0.end ≡ result.1.start }
         ensures end { result.1.end ≡ self.end }
-        ensures low { result.0.start ≤ result.0.end }
-        ensures high { result.1.start ≤ result.1.end }
+        ensures others { result.0.start ≤ result.0.end }
+        ensures last { result.1.start ≤ result.1.end }
     {
-        let middle = self.start + (self.end - self.start) / 2;
-        let low = Part {
+        let middle = self.end - (self.end - self.start) / parts;
+        let others = Part {
             end: middle,
             ..self
         };
-        let high = Part {
+        let last = Part {
             start: middle,
             rows: self.end - middle,
             ..self
         };
-        (low, high)
+        (others, last)
     }
 
     /// No rows, with the room of this part.

@@ -77,15 +77,18 @@ fn cache_piece_copy<'a>(
     }
 }
 
-/// As `cache_batch`, for lines that do not last.
+/// As `cache_batch`, for lines that do not last. Without room for copies none is put there.
 pub(crate) fn cache_batch_copy<'a>(
     pieces: &Pieces,
     batch: &LineBatch,
     cache: &mut LineCache<'a>,
-    copies: &'a Bump,
+    copies: Option<&'a Bump>,
 )
     ensures { CachesSomeOf batch.now cache.old cache.new }
 {
+    let Some(copies) = copies else {
+        return;
+    };
     for piece in pieces {
         cache_piece_copy(piece, batch, cache, copies);
     }

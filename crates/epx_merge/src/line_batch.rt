@@ -1,6 +1,6 @@
 //! Lines of logs, gathered for the workers.
 ghost use Rattle.std.specs.Prelude.{◌≡◌, ◌<◌, ◌≤◌, ◌+◌, ◌-◌, ◌++◌, ◌∷◌, [], List, suc, length};
-ghost use Rattle.std.specs.Prelude.{IfOk, OnOk, IfSome, slice_get, Some, take, drop};
+ghost use Rattle.std.specs.Prelude.{IfOk, OnOk, slice_get, take, drop};
 ghost use Rattle.epx_lines.specs.Lines.{lines_of};
 ghost use Rattle.epx_merge.specs.Limits.{max_log_bytes};
 ghost use Rattle.epx_merge.specs.LogLines.{MeaningAt, meanings_in};
@@ -87,7 +87,7 @@ impl LineBatch {
 
     /// The line with this index.
     pub(crate) fn line(&self, index: usize) -> Option<PlacedLine<'_>>
-        ensures { IfSome result (λ line. slice_get self.now index ≡ Some line) }
+        ensures { result ≡ slice_get self.now index }
     {
         let span = self.spans.get(index)?;
         Some(PlacedLine::new(span.place, &self.bytes[span.start..span.end]))

@@ -1,7 +1,6 @@
 //! Reads lines batch by batch. Each batch is noted while the next one is read.
 ghost use Rattle.std.specs.Prelude.{◌≤◌, ◌<◌, ◌^◌, ◌++◌, List, ℕ, [], Result, IfOk, length};
 ghost use Rattle.std.specs.Prelude.{MatchResult};
-ghost use Rattle.std.specs.Thread.{IsSync};
 ghost use Rattle.epx_types.specs.Pieces.{piece_count};
 ghost use Rattle.epx_committed.specs.Ledgers.{LedgerView};
 ghost use Rattle.epx_merge.specs.Acceptance.{IsAccepted};
@@ -23,14 +22,14 @@ use crate::noted_lines::NotedLines;
 use crate::pieces::{BadLine, Pieces, ReadPiece, note_pieces, read_lines};
 use crate::read::merge_noted;
 use bumpalo::Bump;
-use epx_claims::{Gate, claimed_map};
+use epx_claims::{Gate, claimed_map_after};
 use epx_committed::Merged;
 use epx_seed::Seed;
 use epx_types::{Fault, Memory, Plan};
 use std::alloc::Global;
 use std::mem;
 use std::random::RandomSource;
-use std::thread::{Threads, join_mut};
+use std::thread::Threads;
 
 /// What is read of logs whose lines come batch by batch. After a bad line no more lines are read.
 #[derive(Drop)]
@@ -64,49 +63,13 @@ fn read_piece(
     read_lines(alloc, cache, &lines, start)
 }
 
-/// The result of each piece of the batch, in order, except for lines that the cache has.
-fn read_pieces<R: Threads + Sync, G: Gate + Sync>(
-    rt: &R,
-    alloc: Global,
-    plan: Plan,
-    gate: &G,
-    cache: &LineCache<'_>,
-    batch: &LineBatch,
-) -> Result<Pieces, Memory>
-    requires { length batch.now ≤ 2 ^ 40 }
-    ensures { IfOk result (λ v. AreReadBeside HasEntries cache.now batch.now v.items) }
-{
-    let pieces = plan.pieces(batch.len());
-    claimed_map(rt, alloc, pieces, plan, gate, |piece| {
-        read_piece(alloc, plan, cache, batch, piece)
-    })
-}
-
-/// Runs both, the second one on this thread, or both on it.
-fn run_both<R: Threads, F: FnMut() -> A + Send, G: FnMut() -> B, A: Send, B>(
-    rt: &R,
-    alone: bool,
-    first: &mut F,
-    second: &mut G,
-) -> (A, B)
-    requires { F.pre first.old × G.pre second.old }
-    ensures { F.step first.old result.0 first.new × G.step second.old result.1 second.new }
-{
-    if alone {
-        let a = first();
-        return (a, second());
-    }
-    join_mut(rt, first, second)
-}
-
-/// What is read once the pieces before a batch are noted and those of the batch are read. Lines
-/// that may come again are copied.
+/// What is read once the pieces before a batch are noted and those of the batch are read.
 fn after_batch<'a>(
     stepped: Result<(), Fault>,
     read: Result<Pieces, Memory>,
     noted: NotedLines<'a>,
     batch: &LineBatch,
-    copies: &'a Bump,
+    copies: Option<&'a Bump>,
 ) -> Result<ReadLines<'a>, Fault>
     requires { length batch.now ≤ 2 ^ 40 }
     ensures { (lines cut : List MeaningAt) (old : LedgerView)
@@ -126,11 +89,12 @@ fn after_batch<'a>(
     })
 }
 
-/// Reads the lines of a batch. Meanwhile this thread notes what was read before, and calls `more`.
+/// Reads the lines of a batch. This thread first notes what was read before and calls `more`, and
+/// then reads lines as the other workers do.
 fn read_on<'a, R: Threads + Sync, G: Gate + Sync, T, M: FnMut() -> T>(
     rt: &R,
     alloc: Global,
-    copies: &'a Bump,
+    copies: Option<&'a Bump>,
     before: ReadLines<'a>,
     batch: &LineBatch,
     more: &mut M,
@@ -147,11 +111,7 @@ fn read_on<'a, R: Threads + Sync, G: Gate + Sync, T, M: FnMut() -> T>(
 {
     let ReadLines { noted, mut pending } = before;
     let NotedLines { mut ledger, cache } = noted;
-    let mut read = || -> Result<Pieces, Memory>
-        requires { IsSync R.row × IsSync G.row × (length batch.now ≤ 2 ^ 40) }
-        ensures { IfOk result (λ v. AreReadBeside HasEntries cache.entry batch.entry.now v.items) }
-    { read_pieces(rt, alloc, plan, gate, &cache, batch) };
-    let mut meanwhile = || -> (Result<(), Fault>, T)
+    let mut first = || -> (Result<(), Fault>, T)
         requires { M.pre more.now }
         ensures noted { IsNotingOf pending.entry.items ledger.entry ledger.exit result.0 }
         ensures more { M.step more.entry.now result.1 more.exit.now }
@@ -159,8 +119,16 @@ fn read_on<'a, R: Threads + Sync, G: Gate + Sync, T, M: FnMut() -> T>(
         let pieces = mem::replace(&mut pending, Vec::new(alloc));
         (note_pieces(pieces, &mut ledger), more())
     };
-    let alone = plan.workers() == 1 || batch.len() <= plan.cut();
-    let (read, (stepped, given)) = run_both(rt, alone, &mut read, &mut meanwhile);
+    let pieces = plan.pieces(batch.len());
+    let ((stepped, given), read) = claimed_map_after(
+        rt,
+        alloc,
+        pieces,
+        plan,
+        gate,
+        &mut first,
+        |piece| { read_piece(alloc, plan, &cache, batch, piece) },
+    );
     let noted = NotedLines { ledger, cache };
     (after_batch(stepped, read, noted, batch, copies), given)
 }
@@ -179,13 +147,14 @@ impl<'a> LogReader<'a> {
         })
     }
 
-    /// The workers read the lines of a batch. Meanwhile this thread notes what was read before, and
-    /// calls `more` once. Lines that may come again are copied.
+    /// The workers read the lines of a batch. One of them is this thread, which first notes what
+    /// was read before, and calls `more` once. Lines that may come again are copied, so that they
+    /// are read only once; after the last batch none come, and it needs no copies.
     pub fn read_during<R: Threads + Sync, G: Gate + Sync, T, M: FnMut() -> T>(
         self,
         rt: &R,
         alloc: Global,
-        copies: &'a Bump,
+        copies: Option<&'a Bump>,
         batch: &LineBatch,
         more: &mut M,
         plan: Plan,

@@ -84,7 +84,7 @@ fn read_and_gather<'a, R: Threads + RandomSource + Sync, S: Source>(
             < left_of (length sources.entry.now) at.entry.now) }
         ensures few { OnOk result (length next.exit.now ≤ 2 ^ 40) }
     { gather(alloc, sources, at, next, most) };
-    reader.read_during(rt, alloc, copies, here, &mut more, plan, &FreeGate)
+    reader.read_during(rt, alloc, Some(copies), here, &mut more, plan, &FreeGate)
 }
 
 /// The committed map of the logs of all sources, which are read in order.
@@ -116,7 +116,7 @@ fn merge_in_batches<R: Threads + RandomSource + Sync, S: Source>(
         }
         mem::swap(&mut here, &mut next);
     }
-    let (reader, ()) = reader.read_during(rt, alloc, &copies, &here, &mut || (), plan, &FreeGate);
+    let (reader, ()) = reader.read_during(rt, alloc, None, &here, &mut || (), plan, &FreeGate);
     reader.close()
 }
 

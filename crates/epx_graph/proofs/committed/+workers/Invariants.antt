@@ -2,10 +2,7 @@ use Rattle.std.proofs.Common.{◌+◌, ◌*◌}
 use Rattle.epx_graph.proofs.committed.+workers.Given as goal
 
 abbrev pub decreases-mine : goal.decreases-mine
-decreases-mine g l = 2 * l.ours + 1
-
-abbrev pub decreases-theirs : goal.decreases-theirs
-decreases-theirs g l = 2 * l.others + 1
+decreases-mine g l = 2 * l.rest + 1
 
 abbrev pub decreases-gather_parts : goal.decreases-gather_parts
 decreases-gather_parts g l = 2 * l.workers
