@@ -5,6 +5,7 @@ mod LineIndexLemmas
 mod LedgerMapLemmas
 mod SortedKeyLemmas
 mod LedgerCloseLemmas
+mod NumberRangeLemmas
 mod RowLemmas
 mod LineRowLemmas
 mod MergedMapLemmas

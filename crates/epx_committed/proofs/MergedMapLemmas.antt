@@ -12,7 +12,7 @@ use Rattle.epx_types.specs.CommittedMap.{ids_of, instance_of, position_of}
 use Rattle.epx_types.proofs.lists.MembershipLemmas.{Contains-map}
 use Rattle.epx_types.proofs.committed.AgreementLemmas.{instance_of_iff}
 use Rattle.epx_types.proofs.lists.ListPositionLemmas.{Contains-slice_get, slice_get-from_Contains}
-use Rattle.epx_types.proofs.lists.ListPositionLemmas.{slice_get-map}
+use Rattle.epx_types.proofs.lists.ListPositionLemmas.{slice_get-map, slice_get-from_map}
 use Rattle.epx_types.proofs.committed.PositionLemmas.{position_of-instance, position_of-found}
 use Rattle.epx_committed.specs.declared.rows.Row.{Row}
 use Rattle.epx_committed.specs.inner.LineRows.{instances_at, NamesItsLine, AreLineRows}
@@ -69,6 +69,12 @@ module _ (lines : List Placed) (rows : List Row) (h : AreLineRows lines rows) wh
   found_position k r x at is =
       let p = row_stands k r at in
       position_of-found (instances_at lines rows) rising_at x k p.0.instance p.3 (p.2 ∙ is)
+
+  -- a row with the Id at a position
+  pub position_there : (k : ℕ) (x : Id) → slice_get (map (λ r. r.id) rows) k ≡ Some x
+      → position_of (instances_at lines rows) x ≡ Some k
+  position_there k x at = let r = slice_get-from_map (λ (r : Row). r.id) rows k x at in
+      found_position k r.0 x r.1 r.2
 
   nowhere_at : (x : Id) → ¬ Contains (map (λ r. r.id) rows) x → (o : Option ℕ)
       → position_of (instances_at lines rows) x ≡ o → o ≡ None

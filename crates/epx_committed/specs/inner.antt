@@ -2,3 +2,4 @@
 pub mod LeastDisagreement
 pub mod LineIndexes
 pub mod LineRows
+pub mod NumberRanges

@@ -9,6 +9,7 @@ ghost use Rattle.epx_committed.specs.MergedLines.{IsMerged, IsMergeFault};
 
 use crate::line_index::LineIndex;
 use crate::merged::Merged;
+use crate::number_ranges::NumberRanges;
 use crate::placed::PlacedEntry;
 use crate::rows::{guesses_of, rows_of};
 use crate::same_entry::same_entry;
@@ -115,7 +116,8 @@ impl Ledger {
         let ranks = index.ranks(alloc, firsts.len())?;
         drop(index);
         let rows = rows_of(alloc, &firsts, &ranks)?;
-        let guesses = guesses_of(alloc, &rows)?;
+        let ranges = NumberRanges::of_rows(alloc, &rows)?;
+        let guesses = guesses_of(alloc, &rows, ranges.len())?;
         let least = least_of(disagreements)?;
         if firsts.len() > MAX_INSTANCES {
             return Err(Fault::TooManyInstances);
@@ -126,7 +128,7 @@ impl Ledger {
                 first: disagreement.first,
                 second: disagreement.second,
             }),
-            None => Ok(Merged::new(firsts, rows, guesses)),
+            None => Ok(Merged::new(firsts, rows, ranges, guesses)),
         }
     }
 }

@@ -8,6 +8,7 @@ mod ledger;
 mod line_index;
 mod merged;
 mod number_marks;
+mod number_ranges;
 mod placed;
 mod rows;
 mod same_entry;

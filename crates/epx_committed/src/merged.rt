@@ -4,8 +4,10 @@ ghost use Rattle.std.specs.Prelude.{Some};
 ghost use Rattle.epx_types.specs.CommittedMap.{ids_of, instance_of, position_of};
 ghost use Rattle.epx_types.specs.Ids.{IsRising};
 ghost use Rattle.epx_committed.specs.inner.LineRows.{AreLineRows, instances_at};
+ghost use Rattle.epx_committed.specs.inner.NumberRanges.{AreRangesIn};
 
 use crate::guesses::Guesses;
+use crate::number_ranges::NumberRanges;
 use crate::placed::PlacedEntry;
 use crate::rows::{Row, find_row};
 use epx_types::{Entry, Id};
@@ -17,39 +19,52 @@ pub struct Merged {
     lines: Vec<PlacedEntry>,
     /// The indices of the lines, by rising Id.
     rows: Vec<Row>,
+    ranges: NumberRanges,
     guesses: Guesses,
 }
 
 impl Model for Merged {
-    ghost use Rattle.std.specs.Prelude.{List};
+    ghost use Rattle.std.specs.Prelude.{List, map};
     ghost use Rattle.epx_types.specs.Instances.{Instance};
     ghost use Rattle.epx_committed.specs.inner.LineRows.{instances_at, AreLineRows};
+    ghost use Rattle.epx_committed.specs.inner.NumberRanges.{AreRangesIn};
 
     ghost Value = { List Instance };
 
     ghost view = { λ m. instances_at m.lines.items m.rows.items };
 
-    ghost invariant = { λ m. AreLineRows m.lines.items m.rows.items };
+    ghost invariant = { λ m. AreLineRows m.lines.items m.rows.items
+        × AreRangesIn (map (λ r. r.id) m.rows.items) m.ranges.ranges.items };
 }
 
 impl Merged {
-    pub(crate) fn new(lines: Vec<PlacedEntry>, rows: Vec<Row>, guesses: Guesses) -> Merged
-        requires { AreLineRows lines.items rows.items }
+    pub(crate) fn new(
+        lines: Vec<PlacedEntry>,
+        rows: Vec<Row>,
+        ranges: NumberRanges,
+        guesses: Guesses,
+    ) -> Merged
+        requires rows { AreLineRows lines.items rows.items }
+        requires ranges { AreRangesIn (map (λ r. r.id) rows.items) ranges.ranges.items }
         ensures { result ≡ instances_at lines.items rows.items }
     {
         Merged {
             lines,
             rows,
+            ranges,
             guesses,
         }
     }
 
-    /// The position of an instance. Its guess is usually right; otherwise a binary search finds
-    /// it.
+    /// The position of an instance. Most are in a range, and no row has to be loaded. After a gap
+    /// the guess is usually right; otherwise a binary search finds it.
     fn find_position(&self, id: Id) -> Option<usize>
         ensures position { result ≡ position_of self.now id }
         ensures rising { IsRising (ids_of self.now) }
     {
+        if let Some(position) = self.ranges.find(id) {
+            return Some(position);
+        }
         if let Some(position) = self.guesses.guess(id) {
             if position < self.rows.len() && self.rows[position].id == id {
                 return Some(position);

@@ -15,8 +15,8 @@ returns-then-len-gt-MAX_INSTANCES c = λ lines order ledger.
     c.self.inside.disagreements.entries (subst (IsLedgerOf lines) (sym c.self.view_is) ledger)
     (omega (arith, c.len.ensures, c.if-len-gt-MAX_INSTANCES.true))
 
-pub new-requires : goal.new-requires
-new-requires c =
+pub new-requires-clause-rows : goal.new-requires-clause-rows
+new-requires-clause-rows c =
     let rows = c.in_ok-rows.rows.items in
     AreLineRows-moved c.self.inside.firsts.items rows (AreRowsOf-read rows c.deref.ensures.value
     c.in_ok-rows.ensures.moved c.self.invariant.1 c.in_ok-rows.ensures.sorted)

@@ -10,21 +10,21 @@ index-requires c =
     omega (
       arith,
       rows.ok.0,
-      within_rows c.self.inside.lines.items rows.items c.self.invariant c.args.self.now
+      within_rows c.self.inside.lines.items rows.items c.self.invariant.0 c.args.self.now
           c.self.view_is c.args.position c.requires,
     )
 
 pub index-requires-2 : goal.index-requires-2
 index-requires-2 c =
     let lines = c.self.inside.lines in
-    let at = stands_at lines.items c.self.inside.rows.items c.self.invariant c.args.self.now
+    let at = stands_at lines.items c.self.inside.rows.items c.self.invariant.0 c.args.self.now
     c.self.view_is c.args.position c.index.result.now c.requires c.index.ensures in
     omega (arith, lines.ok.0, slice_get_within lines.items c.index.result.now.line at.0 at.1)
 
 pub returns : goal.returns
 returns c =
     let lines = c.self.inside.lines.items in
-    let at = stands_at lines c.self.inside.rows.items c.self.invariant c.args.self.now
+    let at = stands_at lines c.self.inside.rows.items c.self.invariant.0 c.args.self.now
     c.self.view_is c.args.position c.index.result.now c.requires c.index.ensures in
     let line = get_or_from_slice_get lines c.index.result.now.line at.0 c.index-2.result.now
     at.1 in
