@@ -31,7 +31,8 @@ pub(crate) fn ready_ranks(
         → AreReadyRanks (remaining done merged.now) ranks.items) }
 {
     let node_ranks = NodeRanks::of(alloc, graph)?;
-    let mut ranks = Vec::new(alloc);
+    // Most instances are ready as a rule. Room that is not used is never touched.
+    let mut ranks = Vec::with_capacity(alloc, graph.committed_len())?;
     for node in 0..graph.committed_len() {
         if let Some(rank) = rank_of(merged, graph, node, node_ranks.get(node)) {
             ranks.push(rank)?;

@@ -11,7 +11,7 @@ rank_of-requires-clause-node_rank c =
     c.in_ok-node_ranks.ensures.each c.loop-node.node c.get.result c.get.ensures
 
 pub loop-node-init : goal.loop-node-init
-loop-node-init c done is = rw c.new-ranks.ensures.items
+loop-node-init c done is = rw c.in_ok-ranks.ensures.items
     (ready_ranks_none (remaining done c.args.merged.now) c.args.graph.now)
 
 pub loop-node-preserved : goal.loop-node-preserved
