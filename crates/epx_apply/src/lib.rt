@@ -4,6 +4,7 @@
 mod key_seed;
 mod key_table;
 pub mod level_map;
+mod one_by_one;
 pub mod run;
 
 pub use level_map::{LevelMap, levels};

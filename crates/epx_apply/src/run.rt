@@ -14,6 +14,7 @@ ghost use Rattle.epx_apply.specs.inner.Effects.{replies_in, put_replies};
 ghost use Rattle.epx_claims.specs.inner.PieceItems.{items_of_piece};
 
 use crate::level_map::{LevelMap, levels_below};
+use crate::one_by_one::run_one_by_one;
 use epx_claims::{Gate, append_parts, claimed_map};
 use epx_seed::Seed;
 use epx_txn::{Effect, Store, apply, eval, merge_effects};
@@ -230,24 +231,6 @@ impl RunState {
             self.run_in_parallel(rt, alloc, commands, members, plan, gate)
         }
     }
-}
-
-/// Runs all commands one after another. Returns the store after them, and their replies.
-fn run_one_by_one(
-    alloc: Global,
-    store: Store,
-    commands: &[Command],
-) -> Result<(Store, Vec<Reply>), Memory>
-    ensures store { IfOk result (λ v. v.0 ≡ (execute (op_lists_of commands.now) store).final) }
-    ensures replies { IfOk result
-        (λ v. v.1.items ≡ (execute (op_lists_of commands.now) store).replies) }
-{
-    let mut store = store;
-    let mut replies = Vec::with_capacity(alloc, commands.len())?;
-    for command in commands {
-        replies.push(apply(alloc, &mut store, command.ops)?)?;
-    }
-    Ok((store, replies))
 }
 
 /// Returns the greatest number of levels for which threads are worth starting. With that many, a

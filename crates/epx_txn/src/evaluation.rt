@@ -11,17 +11,31 @@ use crate::store::Store;
 use epx_types::{Memory, Op, Reply, Values};
 use std::alloc::Global;
 
-/// Runs a command over a store that it only reads. Returns its reply and its writes.
+/// Returns how many values the reply to a command has, unless the command aborts: one for each
+/// `get`. It is a hint: only room depends on it.
+pub fn reply_len(ops: &[Op]) -> usize {
+    let mut values = 0usize;
+    for op in ops {
+        if matches!(op, Op::Get { .. }) {
+            values = values.saturating_add(1);
+        }
+    }
+    values
+}
+
+/// Runs a command over a store that it only reads. Returns its reply and its writes. The values
+/// read get room for `room` of them at the start.
 fn operate_all<'a>(
     alloc: Global,
     store: &Store,
     ops: &'a [Op],
+    room: usize,
 ) -> Result<(Reply, Draft<'a>), Memory>
     ensures reply { IfOk result (λ r. r.0 ≡ (command_on ops.now store.now).reply) }
     ensures writes { IfOk result (λ r. contents.entries r.1 ≡ writes_of ops.now store.now) }
 {
     let mut draft = Draft::new(alloc);
-    let mut got = Vec::new(alloc);
+    let mut got = Vec::with_capacity(alloc, room)?;
     for (index, op) in ops.iter().enumerate() {
         match operate(&mut draft, store, op)? {
             Step::Read(value) => got.push(value)?,
@@ -40,9 +54,29 @@ pub fn eval(alloc: Global, store: &Store, ops: &[Op]) -> Result<Effect, Memory>
     ensures reply { IfOk result (λ e. e.reply ≡ (command_on ops.now store.now).reply) }
     ensures writes { IfOk result (λ e. e.writes ≡ writes_of ops.now store.now) }
 {
-    let (reply, draft) = operate_all(alloc, store, ops)?;
+    let (reply, draft) = operate_all(alloc, store, ops, reply_len(ops))?;
     let writes = Writes::new(draft.into_pairs()?);
     Ok(Effect { reply, writes })
+}
+
+/// Runs a command and puts its writes into the store. Returns its reply, whose values get room for
+/// `room` of them at the start. The room never changes the result: `reply_len` is the best one.
+/// After `Memory` the store may have some of the writes.
+pub fn apply_with_room(
+    alloc: Global,
+    store: &mut Store,
+    ops: &[Op],
+    room: usize,
+) -> Result<Reply, Memory>
+    ensures reply { IfOk result (λ r. r ≡ (command_on ops.now store.old).reply) }
+    ensures after { OnOk result (store.new ≡ (command_on ops.now store.old).after) }
+{
+    if let [op] = ops {
+        return apply_lone(alloc, store, op, room);
+    }
+    let (reply, draft) = operate_all(alloc, store, ops, room)?;
+    draft.put_into(store)?;
+    Ok(reply)
 }
 
 /// Runs a command and puts its writes into the store. Returns its reply. After `Memory` the store
@@ -51,10 +85,5 @@ pub fn apply(alloc: Global, store: &mut Store, ops: &[Op]) -> Result<Reply, Memo
     ensures reply { IfOk result (λ r. r ≡ (command_on ops.now store.old).reply) }
     ensures after { OnOk result (store.new ≡ (command_on ops.now store.old).after) }
 {
-    if let [op] = ops {
-        return apply_lone(alloc, store, op);
-    }
-    let (reply, draft) = operate_all(alloc, store, ops)?;
-    draft.put_into(store)?;
-    Ok(reply)
+    apply_with_room(alloc, store, ops, reply_len(ops))
 }

@@ -18,7 +18,7 @@ pub mod store;
 mod tournament;
 
 pub use effect::{Effect, Writes};
-pub use evaluation::{apply, eval};
+pub use evaluation::{apply, apply_with_room, eval, reply_len};
 pub use keys::{touched, written};
 pub use merge::merge_effects;
 pub use store::Store;

@@ -18,13 +18,18 @@ fn read(store: &Store, op: &Op) -> Option<i64>
     }
 }
 
-/// Runs a command of one operation, and returns its reply. After `Memory` the store may have the
-/// write of the operation.
-pub(crate) fn apply_lone(alloc: Global, store: &mut Store, op: &Op) -> Result<Reply, Memory>
+/// Runs a command of one operation, and returns its reply, whose values get room for `room` of them
+/// at the start. After `Memory` the store may have the write of the operation.
+pub(crate) fn apply_lone(
+    alloc: Global,
+    store: &mut Store,
+    op: &Op,
+    room: usize,
+) -> Result<Reply, Memory>
     ensures reply { IfOk result (λ r. r ≡ (command_on (op.now ∷ []) store.old).reply) }
     ensures after { OnOk result (store.new ≡ (command_on (op.now ∷ []) store.old).after) }
 {
-    let mut got = Vec::new(alloc);
+    let mut got = Vec::with_capacity(alloc, room)?;
     match action_of(op, read(store, op)) {
         Action::Read(value) => got.push(value)?,
         Action::Write(key, value) => store.write(key, value)?,

@@ -8,7 +8,7 @@ use Rattle.epx_txn.proofs.evaluation.operate_all.Goals as goal
 use Rattle.epx_txn.proofs.evaluation.operate_all.Goals.{in-Read+in_ok-push-in-Read, in-Done}
 
 pub loop-index-init : goal.loop-index-init
-loop-index-init c = rw (c.new-draft.ensures, c.new-got.ensures.items)
+loop-index-init c = rw (c.new-draft.ensures, c.in_ok-got.ensures.items)
     (at_start c.args.ops.now c.args.store.now)
 
 pub returns-in-Abort-clause-reply : goal.returns-in-Abort-clause-reply
@@ -30,16 +30,16 @@ returns-in-Abort-clause-writes c =
 pub loop-index-preserved : goal.loop-index-preserved
 loop-index-preserved c =
     let within : c.loop-index.index < length c.args.ops.now = omega arith in
-    elim c.match-branch-2.branch [
+    elim c.match-branch-3.branch [
       | in-Read+in_ok-push-in-Read w ↦
-          let e : c.match-branch-2.got.items ≡ c.loop-index.got.items ++ w.in-Read.value ∷ [] =
+          let e : c.match-branch-3.got.items ≡ c.loop-index.got.items ++ w.in-Read.value ∷ [] =
           search rules in
           rw e (after_read c.args.ops.now c.args.store.now c.loop-index.index c.loop-index.draft
           c.operate.new.draft c.loop-index.got.items c.index-ops-index.result
           c.loop-index.invariant within c.index-ops-index.is w.in-Read.value
           (rw w.in-Read.is at c.in_ok-value.ensures))
       | in-Done w ↦
-          let e : c.match-branch-2.got.items ≡ c.loop-index.got.items = search rules in
+          let e : c.match-branch-3.got.items ≡ c.loop-index.got.items = search rules in
           rw e (after_done c.args.ops.now c.args.store.now c.loop-index.index c.loop-index.draft
           c.operate.new.draft c.loop-index.got.items c.index-ops-index.result
           c.loop-index.invariant within c.index-ops-index.is

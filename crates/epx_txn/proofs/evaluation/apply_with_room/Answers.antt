@@ -1,6 +1,6 @@
 use Rattle.std.proofs.Common.{arith}
 use Rattle.epx_types.proofs.commands.CommandLemmas.{apply_writes-writes_of}
-use Rattle.epx_txn.proofs.evaluation.apply.Goals as goal
+use Rattle.epx_txn.proofs.evaluation.apply_with_room.Goals as goal
 
 pub returns-clause-after : goal.returns-clause-after
 returns-clause-after c = grind (arith, apply_writes-writes_of c.args.ops.now c.args.store.now)
