@@ -92,6 +92,20 @@ impl<'a> LineCache<'a> {
         hasher.finish()
     }
 
+    /// How many lines with these hashes find their first slot free. They are not in the cache.
+    ///
+    /// Look up their lines soon after: the slots are then in the processor's cache. This loop does
+    /// so little that the processor loads many slots at once, where `find` waits for each.
+    pub(crate) fn count_unseen(&self, hashes: &[u64]) -> usize {
+        let mut unseen: usize = 0;
+        for hash in hashes {
+            if self.slot((*hash % SLOTS) as usize).unwrap_or(FREE_SLOT) == FREE_SLOT {
+                unseen = unseen.saturating_add(1);
+            }
+        }
+        unseen
+    }
+
     fn slot(&self, at: usize) -> Option<u64> {
         self.slots.get(at).copied()
     }

@@ -14,12 +14,8 @@ use crate::line::PlacedLine;
 use crate::line_cache::LineCache;
 use epx_committed::{Ledger, PlacedEntry};
 use epx_lines::{Line, LineFault, LineReader};
-use epx_types::plan::MAX_CUT;
 use epx_types::{Fault, Memory, Place, Plan, Why};
 use std::alloc::Global;
-
-/// A piece has room for this many entries at first, where the cache may have its lines.
-const FIRST_CAPACITY: usize = 64;
 
 /// A line with a fault, and its reason.
 #[derive(Clone, Copy, Debug)]
@@ -64,13 +60,13 @@ fn read_next(
 }
 
 /// Reads one line as `read_next` does, but skips it if the cache has it. Otherwise notes it as
-/// fresh, so that the cache has it for later batches.
+/// fresh, so that the cache has it for later batches. The numbers are its index and its hash.
 fn read_if_fresh(
     alloc: Global,
     reader: &mut LineReader,
     cache: &LineCache<'_>,
     line: &PlacedLine<'_>,
-    index: usize,
+    fresh: FreshLine,
     piece: &mut ReadPiece,
 ) -> Result<Option<BadLine>, Memory>
     ensures { let at = line.now.place in let meaning = line.now.meaning in
@@ -78,14 +74,26 @@ fn read_if_fresh(
         (SkipsOrReads cache.now line.now piece.old.entries.items piece.new.entries.items)
         (λ bad. bad_lines_at at meaning ≡ record { place = bad.place; why = bad.why } ∷ [])) }
 {
-    let hash = cache.hash_of(line.bytes());
-    if cache.contains(hash, line.bytes()) {
+    if cache.contains(fresh.hash, line.bytes()) {
         return Ok(None);
     }
     if cache.has_slots() {
-        piece.fresh.push(FreshLine { index, hash })?;
+        piece.fresh.push(fresh)?;
     }
     read_next(alloc, reader, line, &mut piece.entries)
+}
+
+/// The hashes of lines.
+fn hashes_of(
+    alloc: Global,
+    cache: &LineCache<'_>,
+    lines: &[PlacedLine<'_>],
+) -> Result<Vec<u64>, Memory> {
+    let mut hashes = Vec::with_capacity(alloc, lines.len())?;
+    for line in lines {
+        hashes.push(cache.hash_of(line.bytes()))?;
+    }
+    Ok(hashes)
 }
 
 /// The entries of the lines that the cache lacks, or the first bad line. The first line has this
@@ -99,21 +107,20 @@ pub(crate) fn read_lines(
     ensures { IfOk result (IsReadBeside HasEntries cache.now lines.now) }
 {
     let mut reader = LineReader::new(alloc);
-    let room = if cache.has_slots() {
-        FIRST_CAPACITY
-    } else {
-        MAX_CUT
-    };
+    let hashes = hashes_of(alloc, cache, lines)?;
+    let unseen = cache.count_unseen(&hashes);
     let mut piece = ReadPiece {
-        entries: Vec::with_capacity(alloc, lines.len().min(room))?,
+        entries: Vec::with_capacity(alloc, unseen)?,
         fresh: Vec::new(alloc),
     };
-    let mut index = start;
-    for line in lines {
-        if let Some(bad) = read_if_fresh(alloc, &mut reader, cache, line, index, &mut piece)? {
+    for (at, line) in lines.iter().enumerate() {
+        let fresh = FreshLine {
+            index: start.wrapping_add(at),
+            hash: hashes.get(at).copied().unwrap_or(0),
+        };
+        if let Some(bad) = read_if_fresh(alloc, &mut reader, cache, line, fresh, &mut piece)? {
             return Ok(Err(bad));
         }
-        index = index.wrapping_add(1);
     }
     Ok(Ok(piece))
 }

@@ -6,19 +6,19 @@ use Rattle.epx_merge.proofs.pieces.read_lines.Goals as goal
 
 pub returns-in-Some : goal.returns-in-Some
 returns-in-Some c =
-    let line = c.line-item.result in
+    let line = c.index-lines-at.result in
     let bad = c.in-Some.bad in
     let is_bad : bad_lines_at line.place line.meaning
     ≡ record { place = bad.place; why = bad.why } ∷ [] = search rules in
-    reading_bad c.args.cache.now c.args.lines.now c.loop-line.line-index line
-    c.loop-line.piece.entries.items c.loop-line-test.true c.line-item.is c.loop-line.invariant
+    reading_bad c.args.cache.now c.args.lines.now c.loop-at.at line
+    c.loop-at.piece.entries.items c.loop-at-test.true c.index-lines-at.is c.loop-at.invariant
     HasEntries bad is_bad
 
-pub loop-line-preserved : goal.loop-line-preserved
-loop-line-preserved c =
-    let line = c.line-item.result in
-    let next : SkipsOrReads c.args.cache.now line c.loop-line.piece.entries.items
+pub loop-at-preserved : goal.loop-at-preserved
+loop-at-preserved c =
+    let line = c.index-lines-at.result in
+    let next : SkipsOrReads c.args.cache.now line c.loop-at.piece.entries.items
     c.read_if_fresh.new.piece.entries.items = search rules in
-    reading_more c.args.cache.now c.args.lines.now c.loop-line.line-index line
-    c.loop-line.piece.entries.items c.loop-line-test.true c.line-item.is c.loop-line.invariant _
+    reading_more c.args.cache.now c.args.lines.now c.loop-at.at line
+    c.loop-at.piece.entries.items c.loop-at-test.true c.index-lines-at.is c.loop-at.invariant _
     next
