@@ -9,10 +9,12 @@ ghost use Rattle.epx_program.specs.inner.Outcomes.{TaskOutcome};
 
 use crate::inputs::sources_at;
 use epx_tool::{
-    Ask, InputQuestion, MemorySource, Question, Sink, Source, Task, run_question, run_with_input,
+    Ask, Held, InputQuestion, MemorySource, Question, Sink, Source, Task, run_question,
+    run_with_input,
 };
 use epx_types::{Fault, Memory, Plan};
 use std::alloc::Global;
+use std::mem;
 use std::random::RandomSource;
 use std::rt::Files;
 use std::thread::Threads;
@@ -47,7 +49,41 @@ fn asked_by(task: Task) -> Asked
 
 /// Writes the answer that the task asks for, and returns whether it finds something. Of what the
 /// task asks about a first text, the first source has the text and the others are the logs. If
-/// there is no source, the text is empty.
+/// there is no source, the text is empty. `held` keeps what the caller may then free.
+fn write_answer<R: Threads + RandomSource + Sync, S: Source, W: Sink>(
+    rt: &R,
+    alloc: Global,
+    task: Task,
+    plan: Plan,
+    sources: &mut [S],
+    held: &mut Held,
+    output: &mut W,
+) -> Result<bool, Fault>
+    requires sources { All (λ s. S.has_failed s ≡ false) sources.old }
+    requires output { W.has_failed output.old ≡ false }
+    ensures { TaskOutcome S.remaining S.reads S.fails task sources.old result
+        (W.is_flushed output.new) (W.has_failed output.new) (W.contents output.old)
+        (W.contents output.new) }
+{
+    let question = match asked_by(task) {
+        Asked::Logs(question) => {
+            return run_question(rt, alloc, question, sources, plan, held, output);
+        }
+        Asked::First(question) => question,
+    };
+    match sources.split_first_mut() {
+        Some((first, logs)) => run_with_input(rt, alloc, question, first, logs, plan, held, output),
+        None => {
+            let mut first = MemorySource::new(&[]);
+            let mut logs: [MemorySource; 0] = [];
+            run_with_input(
+                rt, alloc, question, &mut first, &mut logs, plan, held, output,
+            )
+        }
+    }
+}
+
+/// As `write_answer`, but it never frees what the run holds.
 fn answer<R: Threads + RandomSource + Sync, S: Source, W: Sink>(
     rt: &R,
     alloc: Global,
@@ -62,20 +98,12 @@ fn answer<R: Threads + RandomSource + Sync, S: Source, W: Sink>(
         (W.is_flushed output.new) (W.has_failed output.new) (W.contents output.old)
         (W.contents output.new) }
 {
-    let question = match asked_by(task) {
-        Asked::Logs(question) => {
-            return run_question(rt, alloc, question, sources, plan, output);
-        }
-        Asked::First(question) => question,
-    };
-    match sources.split_first_mut() {
-        Some((first, logs)) => run_with_input(rt, alloc, question, first, logs, plan, output),
-        None => {
-            let mut first = MemorySource::new(&[]);
-            let mut logs: [MemorySource; 0] = [];
-            run_with_input(rt, alloc, question, &mut first, &mut logs, plan, output)
-        }
-    }
+    let mut held = Held::nothing();
+    let answered = write_answer(rt, alloc, task, plan, sources, &mut held, output);
+    // To free the map takes up to a twelfth of a run. The process ends soon, and the system then
+    // takes all pages back at once.
+    mem::forget(held);
+    answered
 }
 
 /// Reads the texts at the paths, where a hyphen means the input, and writes the answer. If `paths`

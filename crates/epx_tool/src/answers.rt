@@ -34,7 +34,7 @@ fn answer_question<R: Threads + RandomSource + Sync>(
         Ok(merged) => merged,
         Err(fault) => return Err(fault),
     };
-    let text = text_of(rt, alloc, &kind, merged, plan)?;
+    let text = text_of(rt, alloc, &kind, &merged, plan)?;
     Ok(text)
 }
 

@@ -6,6 +6,7 @@ ghost use Rattle.epx_tool.specs.Resumption.{Resumes};
 ghost use Rattle.epx_tool.specs.inner.InputReadings.{IsReading};
 ghost use Rattle.epx_tool.specs.Questions.{IsInputAnswer};
 
+use crate::held::Held;
 use crate::input_contents::{InputContents, read_both};
 use crate::input_texts::text_from;
 use crate::question::InputQuestion;
@@ -15,12 +16,13 @@ use std::alloc::Global;
 use std::random::RandomSource;
 use std::thread::Threads;
 
-/// The answer to an input and logs, by what was read of them.
+/// The answer to an input and logs, by what was read of them. `held` keeps the map.
 fn answer_reading<R: Threads + RandomSource + Sync>(
     rt: &R,
     alloc: Global,
     read: Result<(Merged, InputContents), Fault>,
     plan: Plan,
+    held: &mut Held,
 ) -> Result<Vec<u8>, Fault>
     requires { (question : _) × (input : _) × (logs : _) × IsReading question input logs read }
     ensures { (question : _) (input : _) (logs : _) → IsReading question input logs read →
@@ -31,7 +33,9 @@ fn answer_reading<R: Threads + RandomSource + Sync>(
         Ok(read) => read,
         Err(fault) => return Err(fault),
     };
-    Ok(text_from(rt, alloc, contents, merged, plan)?)
+    let text = text_from(rt, alloc, contents, &merged, plan)?;
+    held.keep(merged);
+    Ok(text)
 }
 
 /// The answer to a question about an input and logs in memory. `resume` and `check` are this call
@@ -49,10 +53,12 @@ pub fn answer_input<R: Threads + RandomSource + Sync>(
         (λ fault. IsInputAnswer question input.now bytes (Err fault)) }
 {
     let read = read_both(rt, alloc, question, input, logs, plan);
-    answer_reading(rt, alloc, read, plan)
+    let mut held = Held::nothing();
+    answer_reading(rt, alloc, read, plan, &mut held)
 }
 
-/// Like `answer_input`, but it frees the input and the logs when they are read.
+/// Like `answer_input`, but it frees the input and the logs when they are read, and `held` keeps
+/// the map.
 pub(crate) fn answer_owned<R: Threads + RandomSource + Sync>(
     rt: &R,
     alloc: Global,
@@ -60,6 +66,7 @@ pub(crate) fn answer_owned<R: Threads + RandomSource + Sync>(
     input: Vec<u8>,
     logs: Vec<Vec<u8>>,
     plan: Plan,
+    held: &mut Held,
 ) -> Result<Vec<u8>, Fault>
     ensures { let bytes = bytes_of logs.items in
         MatchResult result (λ text. IsInputAnswer question input.items bytes (Ok text.items))
@@ -68,7 +75,7 @@ pub(crate) fn answer_owned<R: Threads + RandomSource + Sync>(
     let read = read_both(rt, alloc, question, &input, &logs, plan);
     drop(logs);
     drop(input);
-    answer_reading(rt, alloc, read, plan)
+    answer_reading(rt, alloc, read, plan, held)
 }
 
 /// The report of a run that resumes from a base, which is an earlier report. The instances that

@@ -5,6 +5,7 @@ ghost use Rattle.epx_tool.specs.Questions.{IsBadInput, IsTextWith};
 ghost use Rattle.epx_tool.specs.RunEndings.{EndsRunWithInput};
 
 use crate::findings::finds_with;
+use crate::held::Held;
 use crate::input_answers::answer_owned;
 use crate::question::InputQuestion;
 use crate::sources::read_with_input;
@@ -15,8 +16,9 @@ use std::random::RandomSource;
 use std::thread::Threads;
 
 /// Reads the logs from the sources in order, then the input from its own, and writes the answer to
-/// a question about them to the sink. Returns whether the answer finds something. `run_resume` and
-/// `run_check` are this call for one question each.
+/// a question about them to the sink. Returns whether the answer finds something. `held` keeps what
+/// the caller may then free. `run_resume` and `run_check` are this call for one question each, and
+/// free it.
 pub fn run_with_input<T: Threads + RandomSource + Sync, I: Source, S: Source, W: Sink>(
     rt: &T,
     alloc: Global,
@@ -24,6 +26,7 @@ pub fn run_with_input<T: Threads + RandomSource + Sync, I: Source, S: Source, W:
     input: &mut I,
     sources: &mut [S],
     plan: Plan,
+    held: &mut Held,
     sink: &mut W,
 ) -> Result<bool, Fault>
     requires input { I.has_failed input.old ≡ false }
@@ -43,7 +46,7 @@ pub fn run_with_input<T: Threads + RandomSource + Sync, I: Source, S: Source, W:
         Ok(read) => read,
         Err(fault) => return Err(fault),
     };
-    let answer = match answer_owned(rt, alloc, question, text, logs, plan) {
+    let answer = match answer_owned(rt, alloc, question, text, logs, plan, held) {
         Ok(answer) => answer,
         Err(fault) => return Err(fault),
     };
@@ -56,7 +59,7 @@ pub fn run_with_input<T: Threads + RandomSource + Sync, I: Source, S: Source, W:
     }
 }
 
-/// As `run_with_input`, without what the answer finds.
+/// As `run_with_input`, without what the answer finds. It frees what the run holds.
 pub(crate) fn write_with_input<T: Threads + RandomSource + Sync, I: Source, S: Source, W: Sink>(
     rt: &T,
     alloc: Global,
@@ -74,7 +77,8 @@ pub(crate) fn write_with_input<T: Threads + RandomSource + Sync, I: Source, S: S
         sources.new (W.contents sink.old) (W.contents sink.new) (W.is_flushed sink.new)
         (W.has_failed sink.new) result }
 {
-    match run_with_input(rt, alloc, question, input, sources, plan, sink) {
+    let mut held = Held::nothing();
+    match run_with_input(rt, alloc, question, input, sources, plan, &mut held, sink) {
         Ok(_) => Ok(()),
         Err(fault) => Err(fault),
     }

@@ -51,18 +51,18 @@ pub(crate) fn text_from<R: Threads + RandomSource + Sync>(
     rt: &R,
     alloc: Global,
     contents: InputContents,
-    merged: Merged,
+    merged: &Merged,
     plan: Plan,
 ) -> Result<Vec<u8>, Memory>
-    requires { length merged ≤ max_instances }
-    ensures { IfOk result (λ text. IsTextFrom contents merged text.items) }
+    requires { length merged.now ≤ max_instances }
+    ensures { IfOk result (λ text. IsTextFrom contents merged.now text.items) }
 {
     match contents {
         InputContents::Base(base) => {
             let (done, store) = base.into_parts();
             report_of(rt, alloc, merged, &done, store, plan)
         }
-        InputContents::List(ids) => verdict_of(rt, alloc, &merged, &ids, plan),
-        InputContents::Prefix(ids) => prefix_verdict_of(rt, alloc, &merged, &ids, plan),
+        InputContents::List(ids) => verdict_of(rt, alloc, merged, &ids, plan),
+        InputContents::Prefix(ids) => prefix_verdict_of(rt, alloc, merged, &ids, plan),
     }
 }

@@ -8,6 +8,7 @@ mod checked_runs;
 mod compared_sources;
 mod findings;
 mod gathered_lines;
+mod held;
 mod input_answers;
 mod input_contents;
 mod input_runs;
@@ -31,6 +32,7 @@ pub use epx_devices::{
 };
 pub use epx_names::{KeyName, read_id};
 pub use epx_words::{Flags, Task, Words, read_words};
+pub use held::Held;
 pub use input_answers::{answer_input, check, resume};
 pub use input_runs::run_with_input;
 pub use question::{InputQuestion, MapText, Question};

@@ -1,6 +1,5 @@
 //! The texts of a committed map: the report and the views.
-ghost use Rattle.std.specs.Prelude.{◌≡◌, ◌≤◌, ◌++◌, length, IfOk};
-ghost use Rattle.std.specs.Thread.{IsSync};
+ghost use Rattle.std.specs.Prelude.{◌≤◌, length, IfOk};
 ghost use Rattle.epx_types.specs.Ids.{IsRising};
 ghost use Rattle.epx_types.specs.Levels.{AreLevels};
 ghost use Rattle.epx_committed.specs.InstanceCounts.{max_instances};
@@ -10,7 +9,6 @@ ghost use Rattle.epx_tool.specs.AuditText.{IsAuditText};
 ghost use Rattle.epx_replay.specs.FoundCommands.{commands_by_id};
 ghost use Rattle.epx_tool.specs.Report.{IsReport};
 ghost use Rattle.epx_tool.specs.ResumedReport.{IsReportAfter};
-ghost use Rattle.epx_tool.specs.inner.ReportParts.{closing_text};
 ghost use Rattle.epx_tool.specs.MapTexts.{IsMapText};
 ghost use Rattle.epx_picture.specs.Pictures.{IsPicture};
 ghost use Rattle.epx_why.specs.WhyTexts.{IsWhyText, IsPathText};
@@ -20,7 +18,7 @@ use crate::question::MapText;
 use crate::report::{begin_report, end_report, level_report, order_report};
 use crate::verdict::audit_line;
 use epx_apply::{LevelMap, levels};
-use epx_graph::{Waiter, build, build_after, waiting};
+use epx_graph::{build, build_after, waiting};
 use epx_merge::Merged;
 use epx_names::KeyName;
 use epx_order::{audit, order};
@@ -32,7 +30,7 @@ use epx_types::{Id, Memory, Plan};
 use epx_why::{path_text, why_text};
 use std::alloc::Global;
 use std::random::RandomSource;
-use std::thread::{Threads, join};
+use std::thread::Threads;
 
 /// The conflict levels of the commands of some instances.
 fn command_levels(alloc: Global, merged: &Merged, ids: &[Id]) -> Result<LevelMap, Memory>
@@ -43,57 +41,27 @@ fn command_levels(alloc: Global, merged: &Merged, ids: &[Id]) -> Result<LevelMap
     levels(alloc, &commands)
 }
 
-/// Writes the rest of a report, after its replies, and frees the store. It does not need the map.
-/// With several workers another thread frees the map at the same time.
-fn write_rest<R: Threads + Sync>(
-    rt: &R,
-    alloc: Global,
-    plan: Plan,
-    merged: Merged,
-    text: Vec<u8>,
-    waiters: &[Waiter],
-    store: Store,
-) -> Result<Vec<u8>, Memory>
-    ensures { IfOk result (λ longer. longer.items
-        ≡ text.items ++ closing_text waiters.now store) }
-{
-    if plan.workers() == 1 {
-        drop(merged);
-        return end_report(rt, alloc, plan, text, waiters, store);
-    }
-    let (_, text) = join(
-        rt,
-        move || drop(merged),
-        move || -> Result<Vec<u8>, Memory>
-            requires { IsSync R.row }
-            ensures { IfOk result (λ longer. longer.items
-                ≡ text.items ++ closing_text waiters.entry.now store) }
-        { end_report(rt, alloc, plan, text, waiters, store) },
-    );
-    text
-}
-
 /// Executes the remaining instances of a committed map from a store, and returns the report.
 /// `done` has the done instances by increasing Id.
 pub(crate) fn report_of<R: Threads + RandomSource + Sync>(
     rt: &R,
     alloc: Global,
-    merged: Merged,
+    merged: &Merged,
     done: &[Id],
     store: Store,
     plan: Plan,
 ) -> Result<Vec<u8>, Memory>
-    requires few { length merged ≤ max_instances }
+    requires few { length merged.now ≤ max_instances }
     requires rising { IsRising done.now }
-    ensures { IfOk result (λ text. IsReportAfter done.now store merged text.items) }
+    ensures { IfOk result (λ text. IsReportAfter done.now store merged.now text.items) }
 {
-    let graph = build_after(rt, alloc, &merged, done, plan)?;
-    let order = order(rt, alloc, &merged, &graph)?;
+    let graph = build_after(rt, alloc, merged, done, plan)?;
+    let order = order(rt, alloc, merged, &graph)?;
     let waiters = waiting(alloc, &graph)?;
     drop(graph);
     let text = begin_report(alloc, done, &order, &waiters)?;
-    let (store, text) = replay(rt, alloc, text, store, &merged, order.ids(), plan)?;
-    write_rest(rt, alloc, plan, merged, text, &waiters, store)
+    let (store, text) = replay(rt, alloc, text, store, merged, order.ids(), plan)?;
+    end_report(rt, alloc, plan, text, &waiters, store)
 }
 
 /// The text of the execution order of a committed map.
@@ -208,20 +176,20 @@ pub(crate) fn text_of<R: Threads + RandomSource + Sync>(
     rt: &R,
     alloc: Global,
     kind: &MapText,
-    merged: Merged,
+    merged: &Merged,
     plan: Plan,
 ) -> Result<Vec<u8>, Memory>
-    requires few { length merged ≤ max_instances }
-    ensures { IfOk result (λ text. IsMapText kind.now merged text.items) }
+    requires few { length merged.now ≤ max_instances }
+    ensures { IfOk result (λ text. IsMapText kind.now merged.now text.items) }
 {
     match kind {
         MapText::Report => report_of(rt, alloc, merged, &[], Store::new(alloc), plan),
-        MapText::Order => order_of(rt, alloc, &merged, plan),
-        MapText::Levels => levels_of(rt, alloc, &merged, plan),
-        MapText::Audit => audit_of(rt, alloc, &merged, plan),
-        MapText::Graph => picture_of(rt, alloc, &merged, plan),
-        MapText::Why(id) => why_of(rt, alloc, &merged, *id, plan),
-        MapText::Path(from, to) => path_of(rt, alloc, &merged, *from, *to, plan),
-        MapText::Trace { key, reads } => trace_of(rt, alloc, &merged, key, *reads, plan),
+        MapText::Order => order_of(rt, alloc, merged, plan),
+        MapText::Levels => levels_of(rt, alloc, merged, plan),
+        MapText::Audit => audit_of(rt, alloc, merged, plan),
+        MapText::Graph => picture_of(rt, alloc, merged, plan),
+        MapText::Why(id) => why_of(rt, alloc, merged, *id, plan),
+        MapText::Path(from, to) => path_of(rt, alloc, merged, *from, *to, plan),
+        MapText::Trace { key, reads } => trace_of(rt, alloc, merged, key, *reads, plan),
     }
 }

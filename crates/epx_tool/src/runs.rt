@@ -21,6 +21,7 @@ ghost use Rattle.epx_devices.specs.Transfers.{AppendsPrefix};
 use crate::ask::Ask;
 use crate::compared_sources::compare_sources;
 use crate::findings::{Answered, finds};
+use crate::held::Held;
 use crate::map_texts::text_of;
 use crate::merged_sources::merge_sources;
 use crate::question::{MapText, Question};
@@ -59,6 +60,7 @@ fn answer_merged<R: Threads + RandomSource + Sync, S: Source>(
     kind: MapText,
     sources: &mut [S],
     plan: Plan,
+    held: &mut Held,
 ) -> Result<Answered, Fault>
     requires { All (λ s. S.has_failed s ≡ false) sources.old }
     ensures { MatchResult result
@@ -71,9 +73,10 @@ fn answer_merged<R: Threads + RandomSource + Sync, S: Source>(
         Ok(merged) => merged,
         Err(fault) => return Err(fault),
     };
-    let Ok(text) = text_of(rt, alloc, &kind, merged, plan) else {
+    let Ok(text) = text_of(rt, alloc, &kind, &merged, plan) else {
         return Err(Fault::Memory);
     };
+    held.keep(merged);
     let Ok(has_findings) = finds(alloc, &kind, &text) else {
         return Err(Fault::Memory);
     };
@@ -87,6 +90,7 @@ fn answer_sources<R: Threads + RandomSource + Sync, S: Source>(
     question: Question,
     sources: &mut [S],
     plan: Plan,
+    held: &mut Held,
 ) -> Result<Answered, Fault>
     requires { All (λ s. S.has_failed s ≡ false) sources.old }
     ensures { MatchResult result
@@ -96,20 +100,21 @@ fn answer_sources<R: Threads + RandomSource + Sync, S: Source>(
         sources.old sources.new (Err fault)) }
 {
     match question.map_text() {
-        Some(kind) => answer_merged(rt, alloc, kind, sources, plan),
+        Some(kind) => answer_merged(rt, alloc, kind, sources, plan, held),
         None => answer_compared(rt, alloc, sources, plan),
     }
 }
 
 /// Reads the logs from the sources in order, and writes the answer to a question about them to the
-/// sink. Returns whether the answer finds something. `run` and `show` are this call for one
-/// question each.
+/// sink. Returns whether the answer finds something. `held` keeps what the caller may then free.
+/// `run` and `show` are this call for one question each, and free it.
 pub fn run_question<T: Threads + RandomSource + Sync, S: Source, W: Sink>(
     rt: &T,
     alloc: Global,
     question: Question,
     sources: &mut [S],
     plan: Plan,
+    held: &mut Held,
     sink: &mut W,
 ) -> Result<bool, Fault>
     requires sources { All (λ s. S.has_failed s ≡ false) sources.old }
@@ -122,7 +127,7 @@ pub fn run_question<T: Threads + RandomSource + Sync, S: Source, W: Sink>(
         sources.old sources.new (W.contents sink.old) (W.contents sink.new) (W.is_flushed sink.new)
         (W.has_failed sink.new) (Err fault)) }
 {
-    let answered = match answer_sources(rt, alloc, question, sources, plan) {
+    let answered = match answer_sources(rt, alloc, question, sources, plan, held) {
         Ok(answered) => answered,
         Err(fault) => return Err(fault),
     };
@@ -132,7 +137,7 @@ pub fn run_question<T: Threads + RandomSource + Sync, S: Source, W: Sink>(
     }
 }
 
-/// As `run_question`, without what the answer finds.
+/// As `run_question`, without what the answer finds. It frees what the run holds.
 fn write_answer<T: Threads + RandomSource + Sync, S: Source, W: Sink>(
     rt: &T,
     alloc: Global,
@@ -147,7 +152,8 @@ fn write_answer<T: Threads + RandomSource + Sync, S: Source, W: Sink>(
         sources.old sources.new (W.contents sink.old) (W.contents sink.new) (W.is_flushed sink.new)
         (W.has_failed sink.new) result }
 {
-    match run_question(rt, alloc, question, sources, plan, sink) {
+    let mut held = Held::nothing();
+    match run_question(rt, alloc, question, sources, plan, &mut held, sink) {
         Ok(_) => Ok(()),
         Err(fault) => Err(fault),
     }

@@ -18,6 +18,6 @@ returns g c = λ question input logs given.
         c.in-Ok.read.0,
         read.1,
         text_with_input question input c.in-Ok.read.1 c.in-Ok.read.0
-            c.in_ok-text_from.field-0.items read.2 c.in_ok-text_from.ensures,
+            c.in_ok-text.text.items read.2 c.in_ok-text.ensures,
       ),
     )

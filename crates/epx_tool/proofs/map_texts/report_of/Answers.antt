@@ -11,14 +11,14 @@ use Rattle.epx_tool.proofs.map_texts.report_of.Goals as goal
 
 pub replay-requires-after_bounds : goal.replay-requires-after_bounds
 replay-requires-after_bounds g c κs within =
-    few_ids c.args.done.now c.args.merged c.in_ok-order.order
+    few_ids c.args.done.now c.args.merged.now c.in_ok-order.order
     (c.in_ok-order.ensures.order c.args.done.now c.in_ok-graph.ensures) c.ids.result.now
     c.ids.ensures c.requires.few
 
 pub returns : goal.returns
 returns g c =
     let done = c.args.done.now in
-    let m = c.args.merged in
+    let m = c.args.merged.now in
     let order = c.in_ok-order.order in
     let ids = c.ids.result.now in
     let waiting = c.deref-2.result.now in
@@ -28,10 +28,10 @@ returns g c =
     (c.deref.ensures.value ∙ sym c.deref-2.ensures.value) in
     let listed = c.in_ok-waiters.ensures (remaining done m) c.in_ok-graph.ensures in
     let ran = c.in_ok-store.ensures in
-    IfOk-weaker c.write_rest.result _ _ (λ text printed.
+    IfOk-weaker c.end_report.result _ _ (λ text printed.
     IsReportAfter-printed done m order (c.in_ok-order.ensures.order done c.in_ok-graph.ensures) ids
     c.ids.ensures c.args.store waiting commands replies c.in_ok-store.store text.items
     (subst (IsWaitingList (remaining done m)) (sym c.deref-2.ensures.value) listed) refl refl ran.0
     (resumed_text-parts done order waiting ids replies c.in_ok-store.store
     c.in_ok-text.text.items _ text.items c.ids.ensures opening ran.1 printed))
-    c.write_rest.ensures
+    c.end_report.ensures

@@ -1,6 +1,6 @@
 use Rattle.std.proofs.Common.{Some, ap, ◌∙◌, sym}
 use Rattle.epx_program.proofs.OutcomeLemmas.{outcome_of_logs, outcome_of_first, outcome_of_nothing}
-use Rattle.epx_program.proofs.do_task.answer.Goals as goal
+use Rattle.epx_program.proofs.do_task.write_answer.Goals as goal
 
 pub returns-in-Logs : goal.returns-in-Logs
 returns-in-Logs g c =
