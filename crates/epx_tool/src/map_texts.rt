@@ -61,6 +61,8 @@ pub(crate) fn report_of<R: Threads + RandomSource + Sync>(
     drop(graph);
     let text = begin_report(alloc, done, &order, &waiters)?;
     let (store, text) = replay(rt, alloc, text, store, merged, order.ids(), plan)?;
+    // The lines of the store take the room of the order.
+    drop(order);
     end_report(rt, alloc, plan, text, &waiters, store)
 }
 
