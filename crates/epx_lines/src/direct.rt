@@ -1,7 +1,7 @@
 //! Reads an instance from the tokens of its line, without a JSON value of the whole line. Each
 //! function takes the part that it is named after from the front of the tokens. None is not a
 //! fault: the caller then reads the line as a JSON value.
-ghost use Rattle.std.specs.Prelude.{◌≡◌, ◌^◌, true, Ok, Some, IfSome};
+ghost use Rattle.std.specs.Prelude.{◌≡◌, ◌↔◌, ◌^◌, true, Ok, Some, IfSome, IsTrue};
 ghost use Rattle.serde_json.specs.Data.{Members, object};
 ghost use Rattle.epx_types.specs.SmallLists.{items_of};
 ghost use Rattle.epx_types.specs.declared.fault.Why.TheVariants.{NotJson};
@@ -146,6 +146,13 @@ fn take_committed(reader: &mut Reader<'_>) -> Option<()>
     }
 }
 
+/// Whether a member has this name. Most names differ in length, and then no text is compared.
+fn is_named(name: &str, text: &str) -> bool
+    ensures { IsTrue result ↔ (name.now ≡ text.now) }
+{
+    name.len() == text.len() && name == text
+}
+
 /// Takes the value of the member with this name, and stores it in `parts`.
 fn take_member(
     alloc: Global,
@@ -156,17 +163,17 @@ fn take_member(
 ) -> Option<()>
     ensures { IfSome result (λ _. AddsMember name.now reader.old reader.new parts.old parts.new) }
 {
-    if name == "r" {
+    if is_named(name, "r") {
         parts.replica = Some(take_replica(reader)?);
-    } else if name == "i" {
+    } else if is_named(name, "i") {
         parts.number = Some(take_number(reader)?);
-    } else if name == "seq" {
+    } else if is_named(name, "seq") {
         parts.seq = Some(take_number(reader)?);
-    } else if name == "deps" {
+    } else if is_named(name, "deps") {
         parts.named = Some(take_ids(alloc, reader, &mut lists.ids)?);
-    } else if name == "ops" {
+    } else if is_named(name, "ops") {
         parts.ops = Some(take_ops(alloc, reader, &mut lists.ops)?);
-    } else if name == "status" {
+    } else if is_named(name, "status") {
         take_committed(reader)?;
     } else {
         return None;
