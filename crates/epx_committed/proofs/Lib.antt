@@ -8,6 +8,7 @@ mod LedgerCloseLemmas
 mod NumberRangeLemmas
 mod RowLemmas
 mod LineRowLemmas
+mod FirstLineLemmas
 mod MergedMapLemmas
 pub mod LineOrderLemmas
 mod EntryOrderLemmas

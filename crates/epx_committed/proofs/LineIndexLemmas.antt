@@ -9,13 +9,8 @@ use Rattle.std.proofs.lemmas.Option.{slice_get-get_or, slice_get_within, get_or_
 use Rattle.epx_types.specs.declared.id.Id.{Id}
 use Rattle.epx_types.proofs.graph.WaitingLemmas.{Id-cases}
 use Rattle.epx_types.proofs.lists.ListPositionLemmas.{Contains-slice_get}
-use Rattle.epx_types.proofs.lists.MembershipLemmas.{Contains-nil}
 use Rattle.epx_committed.specs.declared.line_index.LineIndex.{LineIndex}
 use Rattle.epx_committed.specs.inner.LineIndexes.{IsIndexOf, IsMarkIn, mark_of}
-
--- no mark but 0
-pub IsIndexOf-nil : (index : LineIndex) → ((x : Id) → mark_of index x ≡ 0) → IsIndexOf [] index
-IsIndexOf-nil index none x = subst (IsMarkIn [] x) (sym (none x)) (Contains-nil x)
 
 -- an Id without a mark is not in the list
 pub not_there : (ids : List Id) (index : LineIndex) (x : Id) → IsIndexOf ids index
@@ -34,16 +29,19 @@ IsIndexOf-same ids old new h same x = subst (IsMarkIn ids x) (sym (same x)) (h x
 
 -- ---- one more Id
 
-kept : (ids : List Id) (x y : Id) (k : ℕ) → slice_get ids k ≡ Some x
-    → slice_get (ids ++ y ∷ []) k ≡ Some x
-kept ids x y k at =
-    let within = slice_get_within ids k x at in
-    slice_get-get_or (ids ++ y ∷ []) k x (omega (arith, length_push ids y))
-    ∙ ap Some (get_or_append_left ids (y ∷ []) x k within ∙ get_or_from_slice_get ids k x x at)
+-- the values at the positions before it, and at the last position
+module _ {X : Type 0} (xs : List X) (y : X) where
+  pub slice_get-before_push : (k : ℕ) (x : X) → slice_get xs k ≡ Some x
+      → slice_get (xs ++ y ∷ []) k ≡ Some x
+  slice_get-before_push k x at =
+      let within = slice_get_within xs k x at in
+      slice_get-get_or (xs ++ y ∷ []) k x (omega (arith, length_push xs y))
+      ∙ ap Some (get_or_append_left xs (y ∷ []) x k within ∙ get_or_from_slice_get xs k x x at)
 
-last : (ids : List Id) (y : Id) → slice_get (ids ++ y ∷ []) (length ids) ≡ Some y
-last ids y = slice_get-get_or (ids ++ y ∷ []) (length ids) y (omega (arith, length_push ids y))
-    ∙ ap Some (get_or_push ids y y (length ids) refl)
+  pub slice_get-push : slice_get (xs ++ y ∷ []) (length xs) ≡ Some y
+  slice_get-push =
+      slice_get-get_or (xs ++ y ∷ []) (length xs) y (omega (arith, length_push xs y))
+      ∙ ap Some (get_or_push xs y y (length xs) refl)
 
 -- the mark of another Id stays right
 still : (ids : List Id) (x y : Id) (mark : ℕ) → x ≢ y → IsMarkIn ids x mark
@@ -52,7 +50,7 @@ still ids x y zero apart none = λ h. elim (Contains-push_cases ids y x h) [
   | inl old ↦ none old
   | inr new ↦ apart (sym new)
 ]
-still ids x y (suc k) apart at = kept ids x y k at
+still ids x y (suc k) apart at = slice_get-before_push ids y k x at
 
 module _ (ids : List Id) (y : Id) (old new : LineIndex) (h : IsIndexOf ids old)
     (here : mark_of new y ≡ length ids + 1)
@@ -62,7 +60,7 @@ module _ (ids : List Id) (y : Id) (old new : LineIndex) (h : IsIndexOf ids old)
     | inl same ↦
         let P : ℕ → Type 0 = IsMarkIn (ids ++ y ∷ []) y in
         subst (λ z. IsMarkIn (ids ++ y ∷ []) z (mark_of new z)) (sym same)
-        (subst P (sym (here ∙ add-one (length ids))) (last ids y))
+        (subst P (sym (here ∙ add-one (length ids))) (slice_get-push ids y))
     | inr other ↦ subst (IsMarkIn (ids ++ y ∷ []) x) (sym (apart x other))
         (still ids x y (mark_of old x) other (h x))
   ]

@@ -1,44 +1,46 @@
--- Rows name lines: the same lines in another order.
-use Rattle.std.proofs.Common.{◌≡◌, ◌≢◌, inl, inr, ℕ, ◌+◌, ◌<◌, ◌≤◌, List, [], ◌∷◌, ◌++◌, map}
-use Rattle.std.proofs.Common.{AllPairs}
-use Rattle.std.proofs.Common.{length, get_or, Contains, Some, slice_get, IsPermutation, refl}
-use Rattle.std.proofs.Common.{sym, ap, subst, subst₂, ◌∙◌, append_assoc, arith}
+-- Rows name lines in lists: the same lines in another order, and one more list.
+use Rattle.std.proofs.Common.{◌≡◌, ℕ, ◌<◌, ◌≤◌, List, [], ◌∷◌, ◌++◌, map, All, Vec}
+use Rattle.std.proofs.Common.{length, Contains, Some, slice_get, option_map}
+use Rattle.std.proofs.Common.{option_and_then, unwrap_or, IsPermutation, refl, sym, ap, subst, ◌∙◌}
+use Rattle.std.proofs.Common.{arith}
 use Rattle.std.specs.List.{IsDistinct}
 use Rattle.std.specs.List.Sorted.{IsSorted}
+use Rattle.std.specs.declared.alloc.Global.{Global}
 use Rattle.std.proofs.lemmas.Bool.Decides.{nat_tests}
-use Rattle.std.proofs.lemmas.List.{length-append, length-map, length_push, get_or_push}
-use Rattle.std.proofs.lemmas.List.{get_or_append_left}
-use Rattle.std.proofs.lemmas.List.Elements.{All-weaker, All-contains_itself}
-use Rattle.std.proofs.lemmas.List.Sorted.{Contains-permutation, IsPermutation-sym}
-use Rattle.std.proofs.lemmas.List.Sorted.{IsPermutation-map, length_permutation}
+use Rattle.std.proofs.lemmas.List.{length-map}
+use Rattle.std.proofs.lemmas.List.Elements.{All-head, All-tail, All-weaker, filter_map-append}
+use Rattle.std.proofs.lemmas.List.Sorted.{All-permutation, IsPermutation-map}
 use Rattle.std.proofs.lemmas.Map.Keys.{IsDistinct-IsPermutation}
 use Rattle.std.proofs.lemmas.Map.Made.{IsDistinct-from_AllPairs}
-use Rattle.std.proofs.lemmas.Option.{slice_get-get_or, get_or_from_slice_get}
+use Rattle.std.proofs.lemmas.Option.{slice_get_within, option_and_then_some}
 use Rattle.epx_types.specs.declared.id.Id.{Id}
 use Rattle.epx_types.specs.Ids.{id_cmp}
 use Rattle.epx_types.specs.Instances.{Instance}
 use Rattle.epx_types.specs.PlacedLines.{Placed}
 use Rattle.epx_types.specs.CommittedMap.{ids_of, IsCommittedBy}
-use Rattle.epx_types.proofs.lists.MembershipLemmas.{Contains-nil, Contains-head, Contains-cons}
-use Rattle.epx_types.proofs.lists.MembershipLemmas.{Contains-cons_cases}
 use Rattle.epx_types.proofs.commands.EqualityLemmas.{ids_decide}
 use Rattle.epx_types.proofs.lists.ListPositionLemmas.{slice_get-map}
-use Rattle.epx_committed.specs.declared.ledger.Disagreement.{Disagreement}
+use Rattle.epx_committed.specs.declared.ledger.FirstLines.{FirstLines}
 use Rattle.epx_committed.specs.declared.rows.Row.{Row}
+use Rattle.epx_committed.specs.declared.rows.TheConstants.{NO_LIST}
 use Rattle.epx_committed.specs.InstanceCounts.{max_instances, AreNamedBy, FewInstances}
 use Rattle.epx_committed.specs.InstanceCounts.{ManyInstances}
-use Rattle.epx_committed.specs.Ledgers.{LedgerView, IsLedgerOf}
+use Rattle.epx_committed.specs.Ledgers.{IsLedgerOf}
 use Rattle.epx_committed.specs.MergedLines.{IsMerged}
-use Rattle.epx_committed.specs.inner.LineRows.{with_ids, row_at, rows_of_lines, instances_at}
-use Rattle.epx_committed.specs.inner.LineRows.{NamesItsLine, AreLineRows}
+use Rattle.epx_committed.specs.inner.FirstLines.{AreFirstLines, ledger_view}
+use Rattle.epx_committed.specs.inner.LineRows.{line_at, instances_at, firsts_at}
+use Rattle.epx_committed.specs.inner.LineRows.{HasList, IsRowOf, NamesItsLine, AreLineRows}
 use Rattle.epx_committed.proofs.LedgerLemmas.{keys}
 use Rattle.epx_committed.proofs.LedgerMapLemmas.{same_id}
-use Rattle.epx_committed.proofs.RowLemmas.{names_of}
 use Rattle.epx_committed.proofs.LedgerCloseLemmas.{AreNamedBy-sorted, IsCommittedBy-sorted}
 use Rattle.epx_committed.proofs.LedgerCloseLemmas.{Agree-from_ledger}
+use Rattle.epx_committed.proofs.LineIndexLemmas.{slice_get-before_push}
 use Rattle.epx_committed.proofs.SortedKeyLemmas.{rising_from_sorted}
 
--- a default line, read past the end of the list
+abbrev pub Lists : Type 0
+Lists = List (Vec Placed Global)
+
+-- a default line, for a row whose indices are not in the lists
 abbrev pub default_line : Placed
 default_line = record {
   place = record { log = 0; line = 0 };
@@ -46,199 +48,184 @@ default_line = record {
 }
 
 -- the line that a row names, with the row's Id
-abbrev pub under_row : List Placed → Row → Id × Placed
-under_row lines r = (r.id, get_or lines r.line default_line)
+abbrev pub under_row : Lists → Row → Id × Placed
+under_row lists r = (r.id, unwrap_or (line_at lists r) default_line)
 
-abbrev pub under_rows : List Placed → List Row → List (Id × Placed)
-under_rows lines rows = map (under_row lines) rows
+abbrev pub under_rows : Lists → List Row → List (Id × Placed)
+under_rows lists rows = map (under_row lists) rows
 
-keys_under : (lines : List Placed) (rows : List Row)
-    → keys (under_rows lines rows) ≡ map (λ r. r.id) rows
-keys_under lines [] = refl
-keys_under lines (r ∷ rows) = ap (λ l. r.id ∷ l) (keys_under lines rows)
+pub keys_under : (lists : Lists) (rows : List Row)
+    → keys (under_rows lists rows) ≡ map (λ r. r.id) rows
+keys_under lists [] = refl
+keys_under lists (r ∷ rows) = ap (λ l. r.id ∷ l) (keys_under lists rows)
 
 -- ---- rows that name their lines
 
-module _ (lines : List Placed) where
-  line_there : (r : Row) → NamesItsLine lines r
-      → (get_or lines r.line default_line).instance.id ≡ r.id
-  line_there r h = ap (λ (p : Placed). p.instance.id)
-      (get_or_from_slice_get lines r.line h.0 default_line h.1) ∙ h.2
+module _ (lists : Lists) where
+  pub firsts_under : (rows : List Row) → All (NamesItsLine lists) rows
+      → firsts_at lists rows ≡ under_rows lists rows
+  firsts_under [] named = refl
+  firsts_under (r ∷ rows) named =
+      let h = All-head (NamesItsLine lists) r rows named in
+      let rest = firsts_under rows (All-tail (NamesItsLine lists) r rows named) in
+      rw h.1.0 (ap (λ l. (r.id, h.0) ∷ l) rest)
 
-  pub instances_under : (rows : List Row) → ((r : Row) → Contains rows r → NamesItsLine lines r)
-      → instances_at lines rows ≡ map (λ e. e.1.instance) (under_rows lines rows)
+  pub instances_under : (rows : List Row) → All (NamesItsLine lists) rows
+      → instances_at lists rows ≡ map (λ e. e.1.instance) (under_rows lists rows)
   instances_under [] named = refl
   instances_under (r ∷ rows) named =
-      let h = named r (Contains-head r rows) in
-      let first = get_or_from_slice_get lines r.line h.0 default_line h.1 in
-      let rest = instances_under rows (λ q has. named q (Contains-cons r rows q has)) in
-      rw (h.1, first) (ap (λ l. h.0.instance ∷ l) rest)
+      let h = All-head (NamesItsLine lists) r rows named in
+      let rest = instances_under rows (All-tail (NamesItsLine lists) r rows named) in
+      rw h.1.0 (ap (λ l. h.0.instance ∷ l) rest)
 
-  pub ids_under : (rows : List Row) → ((r : Row) → Contains rows r → NamesItsLine lines r)
-      → ids_of (map (λ e. e.1.instance) (under_rows lines rows)) ≡ map (λ r. r.id) rows
+  pub ids_under : (rows : List Row) → All (NamesItsLine lists) rows
+      → ids_of (map (λ e. e.1.instance) (under_rows lists rows)) ≡ map (λ r. r.id) rows
   ids_under [] named = refl
   ids_under (r ∷ rows) named =
-      let first = line_there r (named r (Contains-head r rows)) in
-      let rest = ids_under rows (λ q has. named q (Contains-cons r rows q has)) in
+      let h = All-head (NamesItsLine lists) r rows named in
+      let rest = ids_under rows (All-tail (NamesItsLine lists) r rows named) in
+      let first : (unwrap_or (line_at lists r) default_line).instance.id ≡ r.id =
+      ap (λ o. (unwrap_or o default_line).instance.id) h.1.0 ∙ h.1.1 in
       λ i. first i ∷ rest i
 
-  pub stands_under : (rows : List Row) → ((r : Row) → Contains rows r → NamesItsLine lines r)
+  pub stands_under : (rows : List Row) → All (NamesItsLine lists) rows
       → (k : ℕ) (r : Row) (p : Placed) → slice_get rows k ≡ Some r
-      → slice_get lines r.line ≡ Some p → slice_get (instances_at lines rows) k ≡ Some p.instance
+      → line_at lists r ≡ Some p → slice_get (instances_at lists rows) k ≡ Some p.instance
   stands_under rows named k r p at there =
-      let row = slice_get-map (under_row lines) rows k r at in
-      let instance = slice_get-map (λ (e : Id × Placed). e.1.instance) (under_rows lines rows) k
-      (under_row lines r) row in
+      let row = slice_get-map (under_row lists) rows k r at in
+      let instance = slice_get-map (λ (e : Id × Placed). e.1.instance) (under_rows lists rows) k
+      (under_row lists r) row in
       ap (λ (l : List Instance). slice_get l k) (instances_under rows named) ∙ instance
-      ∙ ap (λ (q : Placed). Some q.instance)
-      (get_or_from_slice_get lines r.line p default_line there)
+      ∙ ap (λ o. Some (unwrap_or o default_line).instance) there
 
--- ---- the rows of all lines
+-- ---- one more row, or one more list
 
--- rows in the order of the lines name the lines in their order
-in_order : (before lines : List Placed)
-    → under_rows (before ++ lines) (rows_of_lines (length before) lines) ≡ with_ids lines
-in_order before [] = refl
-in_order before (p ∷ lines) =
-    let all = before ++ p ∷ lines in
-    let whole : (before ++ p ∷ []) ++ lines ≡ all = append_assoc before (p ∷ []) lines in
-    let here : get_or all (length before) default_line ≡ p =
-    ap (λ (l : List Placed). get_or l (length before) default_line) (sym whole)
-    ∙ get_or_append_left (before ++ p ∷ []) lines default_line (length before)
-    (omega (arith, length_push before p)) ∙ get_or_push before p default_line
-    (length before) refl in
-    let next : length (before ++ p ∷ []) ≡ length before + 1 =
-    omega (arith, length_push before p) in
-    let rest : under_rows all (rows_of_lines (length before + 1) lines) ≡ with_ids lines =
-    subst₂ (λ (l : List Placed) (n : ℕ). under_rows l (rows_of_lines n lines)
-    ≡ with_ids lines) whole next (in_order (before ++ p ∷ []) lines) in
-    λ i. (p.instance.id, here i) ∷ rest i
+-- the first line of one more row
+pub firsts_at-push : (lists : Lists) (rows : List Row) (p : Placed) (r : Row) → IsRowOf lists p r
+    → firsts_at lists (rows ++ r ∷ []) ≡ firsts_at lists rows ++ (p.instance.id, p) ∷ []
+firsts_at-push lists rows p r is =
+    let last : firsts_at lists (r ∷ []) ≡ (p.instance.id, p) ∷ [] =
+    rw (is.0, is.1) refl in
+    filter_map-append (λ q. option_map (λ l. (q.id, l)) (line_at lists q)) rows (r ∷ [])
+    ∙ ap (λ l. firsts_at lists rows ++ l) last
 
-names_there : (before lines : List Placed) (r : Row)
-    → Contains (rows_of_lines (length before) lines) r
-    → NamesItsLine (before ++ lines) r
-names_there before [] r h = absurd (Contains-nil r h)
-names_there before (p ∷ lines) r h =
-    let all = before ++ p ∷ lines in
-    let whole : (before ++ p ∷ []) ++ lines ≡ all = append_assoc before (p ∷ []) lines in
-    let next : length (before ++ p ∷ []) ≡ length before + 1 =
-    omega (arith, length_push before p) in
-    elim (Contains-cons_cases (row_at (length before) p)
-    (rows_of_lines (length before + 1) lines) r h) [
-      | inl is ↦
-          let at : get_or all (length before) p ≡ p =
-          ap (λ (l : List Placed). get_or l (length before) p) (sym whole)
-          ∙ get_or_append_left (before ++ p ∷ []) lines p (length before)
-          (omega (arith, length_push before p)) ∙ get_or_push before p p (length before)
-          refl in
-          subst (NamesItsLine all) is (
-            p,
-            slice_get-get_or all (length before) p
-                (omega (arith, length-append before (p ∷ lines))) ∙ ap Some at,
-            refl,
-            refl,
-          )
-      | inr rest ↦
-          subst (λ (l : List Placed). NamesItsLine l r) whole
-          (names_there (before ++ p ∷ []) lines r
-          (subst (λ (n : ℕ). Contains (rows_of_lines n lines) r) (sym next) rest))
-    ]
+-- where a row's indices are
+pub line_there : (lists : Lists) (l : Vec Placed Global) (p : Placed) (r : Row)
+    → slice_get lists r.list ≡ Some l → slice_get l.items r.at ≡ Some p
+    → line_at lists r ≡ Some p
+line_there lists l p r list at = ap (option_and_then (λ m. slice_get m.items r.at)) list ∙ at
+
+-- the list that a row names, and the line in it
+pub list_of : (lists : Lists) (p : Placed) (r : Row) → line_at lists r ≡ Some p
+    → (l : Vec Placed Global) × (slice_get lists r.list ≡ Some l)
+    × (slice_get l.items r.at ≡ Some p)
+list_of lists p r named =
+    option_and_then_some (λ (m : Vec Placed Global). slice_get m.items r.at)
+    (slice_get lists r.list) p named (λ l list at. (l, list, at))
+
+-- the index of a row's list is below any bound of their number
+pub have_lists : (lists : Lists) (rows : List Row) → length lists ≤ NO_LIST
+    → All (NamesItsLine lists) rows → All HasList rows
+have_lists lists rows few named = All-weaker (NamesItsLine lists) HasList
+    (λ r h. let l = list_of lists h.0 r h.1.0 in
+    omega (arith, slice_get_within lists r.list l.0 l.1, few)) rows named
+
+module _ (lists : Lists) (more : Vec Placed Global) where
+  abbrev longer : Lists
+  longer = lists ++ more ∷ []
+
+  line_kept : (r : Row) (p : Placed) → line_at lists r ≡ Some p → line_at longer r ≡ Some p
+  line_kept r p named =
+      let l = list_of lists p r named in
+      line_there longer l.0 p r (slice_get-before_push lists more r.list l.0 l.1) l.2
+
+  -- rows keep their lines
+  pub named-push : (rows : List Row) → All (NamesItsLine lists) rows
+      → All (NamesItsLine longer) rows
+  named-push rows named = All-weaker (NamesItsLine lists) (NamesItsLine longer)
+      (λ r h. (h.0, (line_kept r h.0 h.1.0, h.1.1, h.1.2))) rows named
+
+  pub firsts_at-list : (rows : List Row) → All (NamesItsLine lists) rows
+      → firsts_at longer rows ≡ firsts_at lists rows
+  firsts_at-list [] named = refl
+  firsts_at-list (r ∷ rows) named =
+      let h = All-head (NamesItsLine lists) r rows named in
+      let rest = firsts_at-list rows (All-tail (NamesItsLine lists) r rows named) in
+      rw (h.1.0, line_kept r h.0 h.1.0) (ap (λ l. (r.id, h.0) ∷ l) rest)
 
 -- ---- rows in another order
 
--- the rows of the lines, sorted by Id, where no two lines have the same Id
-pub record AreRowsOf (lines : List Placed) (rows : List Row) : Type 0 where
-  moved : IsPermutation (rows_of_lines 0 lines) rows
-  distinct : IsDistinct same_id (map (λ p. p.instance.id) lines)
-  sorted : IsSorted id_cmp (map (λ r. r.id) rows)
-
--- the same of lines that are read from the ledger
-pub AreRowsOf-read : {read lines : List Placed} (rows : List Row) → read ≡ lines
-    → IsPermutation (rows_of_lines 0 read) rows
-    → AllPairs (λ x y. x ≢ y) (map (λ p. p.instance.id) lines)
-    → IsSorted id_cmp (map (λ r. r.id) rows) → AreRowsOf lines rows
-AreRowsOf-read {lines} rows same moved apart sorted = record {
-  moved = subst (λ l. IsPermutation (rows_of_lines 0 l) rows) same moved;
-  distinct = IsDistinct-from_AllPairs {eq = same_id} ids_decide
-      (map (λ p. p.instance.id) lines) apart;
-  sorted = sorted;
-}
+-- rows of first lines, sorted by Id
+pub record AreSortedRows (lists : Lists) (noted : FirstLines) (rows : List Row) : Type 0 where
+  pub firsts : AreFirstLines lists noted
+  pub moved : IsPermutation noted.rows.items rows
+  pub sorted : IsSorted id_cmp (map (λ r. r.id) rows)
 
 same_flips : (x y : Id) → same_id x y ≡ same_id y x
 same_flips x y = grind (arith, nat_tests)
 
-module _ (lines : List Placed) (rows : List Row) (are : AreRowsOf lines rows) where
-  under_moved : IsPermutation (with_ids lines) (under_rows lines rows)
+module _ (lists : Lists) (noted : FirstLines) (rows : List Row)
+    (are : AreSortedRows lists noted rows) where
+  abbrev old : List Row
+  old = noted.rows.items
+
+  under_moved : IsPermutation (firsts_at lists old) (under_rows lists rows)
   under_moved =
-      subst (λ (l : List (Id × Placed)). IsPermutation l (under_rows lines rows))
-      (in_order [] lines)
-      (IsPermutation-map (under_row lines) (rows_of_lines 0 lines) rows are.moved)
+      subst (λ (l : List (Id × Placed)). IsPermutation l (under_rows lists rows))
+      (sym (firsts_under lists old are.firsts.named))
+      (IsPermutation-map (under_row lists) old rows are.moved)
 
-  named_moved : (r : Row) → Contains rows r → NamesItsLine lines r
-  named_moved r h =
-      names_there [] lines r
-      (Contains-permutation rows (rows_of_lines 0 lines) r
-      (IsPermutation-sym (rows_of_lines 0 lines) rows are.moved) h)
+  named_moved : All (NamesItsLine lists) rows
+  named_moved = All-permutation (NamesItsLine lists) old rows are.moved are.firsts.named
 
-  names_moved : IsPermutation (map (λ p. p.instance.id) lines) (map (λ r. r.id) rows)
-  names_moved =
-      let P : List Id → Type 0 = λ l. IsPermutation l (map (λ r. r.id) rows) in
-      subst P (names_of 0 lines)
-      (IsPermutation-map (λ (r : Row). r.id) (rows_of_lines 0 lines) rows are.moved)
-
-  as_many_names : length (map (λ r. r.id) rows) ≡ length lines
-  as_many_names =
-      length_permutation (map (λ p. p.instance.id) lines) (map (λ r. r.id) rows) names_moved
-      ∙ length-map lines (λ (p : Placed). p.instance.id)
+  as_many_names : length (map (λ r. r.id) rows) ≡ length rows
+  as_many_names = length-map rows (λ (r : Row). r.id)
 
   distinct_rows : IsDistinct same_id (map (λ r. r.id) rows)
-  distinct_rows = IsDistinct-IsPermutation same_id same_flips (map (λ p. p.instance.id) lines)
-      (map (λ r. r.id) rows) names_moved are.distinct
+  distinct_rows = IsDistinct-IsPermutation same_id same_flips (map (λ r. r.id) old)
+      (map (λ r. r.id) rows) (IsPermutation-map (λ (r : Row). r.id) old rows are.moved)
+      (IsDistinct-from_AllPairs {eq = same_id} ids_decide (map (λ r. r.id) old)
+      are.firsts.distinct)
 
-  distinct_keys : IsDistinct same_id (keys (under_rows lines rows))
-  distinct_keys = subst (IsDistinct same_id) (sym (keys_under lines rows)) distinct_rows
+  distinct_keys : IsDistinct same_id (keys (under_rows lists rows))
+  distinct_keys = subst (IsDistinct same_id) (sym (keys_under lists rows)) distinct_rows
 
-  sorted_keys : IsSorted id_cmp (keys (under_rows lines rows))
-  sorted_keys = subst (IsSorted id_cmp) (sym (keys_under lines rows)) are.sorted
+  sorted_keys : IsSorted id_cmp (keys (under_rows lists rows))
+  sorted_keys = subst (IsSorted id_cmp) (sym (keys_under lists rows)) are.sorted
 
-  pub AreLineRows-moved : AreLineRows lines rows
+  pub AreLineRows-moved : AreLineRows lists rows
   AreLineRows-moved = record {
-    named = All-weaker (Contains rows) (NamesItsLine lines) named_moved rows
-        (All-contains_itself rows);
+    named = named_moved;
     rising = rising_from_sorted (map (λ r. r.id) rows) are.sorted distinct_rows;
   }
 
   -- ---- what the rows say of all noted lines
 
-  module _ (all : List Placed) (disagreements : List (Id × Disagreement))
-      (ledger : IsLedgerOf all
-      (record { firsts = with_ids lines; disagreements = disagreements })) where
-    abbrev noted : LedgerView
-    noted = record { firsts = with_ids lines; disagreements = disagreements }
-
+  module _ (all : List Placed) (ledger : IsLedgerOf all (ledger_view lists noted)) where
     -- the Ids of the rows are the distinct Ids of the lines
     AreNamedBy-rows : AreNamedBy all (map (λ r. r.id) rows)
-    AreNamedBy-rows = subst (AreNamedBy all) (keys_under lines rows)
-        (AreNamedBy-sorted all noted ledger (under_rows lines rows) under_moved sorted_keys
-        distinct_keys)
+    AreNamedBy-rows = subst (AreNamedBy all) (keys_under lists rows)
+        (AreNamedBy-sorted all (ledger_view lists noted) ledger (under_rows lists rows) under_moved
+        sorted_keys distinct_keys)
 
-    pub ManyInstances-rows : max_instances < length lines → ManyInstances all
+    pub ManyInstances-rows : max_instances < length rows → ManyInstances all
     ManyInstances-rows many =
         (map (λ r. r.id) rows, AreNamedBy-rows, omega (arith, as_many_names, many))
 
-    pub FewInstances-rows : length lines ≤ max_instances → FewInstances all
+    pub FewInstances-rows : length rows ≤ max_instances → FewInstances all
     FewInstances-rows few =
         (map (λ r. r.id) rows, AreNamedBy-rows, omega (arith, as_many_names, few))
 
     -- few lines without a disagreement commit the instances that the rows name
-    pub IsMerged-rows : length lines ≤ max_instances
-        → ((x : Id) → ¬ Contains (keys disagreements) x) → IsMerged all (instances_at lines rows)
+    pub IsMerged-rows : length rows ≤ max_instances
+        → ((x : Id) → ¬ Contains (keys noted.disagreements.entries) x)
+        → IsMerged all (instances_at lists rows)
     IsMerged-rows few none =
-        let agree = Agree-from_ledger all noted ledger none in
+        let agree = Agree-from_ledger all (ledger_view lists noted) ledger none in
         record {
           small = FewInstances-rows few;
           agree = agree;
-          committed = subst (IsCommittedBy all) (sym (instances_under lines rows named_moved))
-              (IsCommittedBy-sorted all noted ledger (under_rows lines rows) under_moved
-              sorted_keys distinct_keys agree);
+          committed = subst (IsCommittedBy all) (sym (instances_under lists rows named_moved))
+              (IsCommittedBy-sorted all (ledger_view lists noted) ledger (under_rows lists rows)
+              under_moved sorted_keys distinct_keys agree);
         }

@@ -3,7 +3,7 @@ use Rattle.std.proofs.Common.{◌≡◌, inl, inr, ℕ, ◌+◌, ◌<◌, ◌≤
 use Rattle.std.proofs.Common.{IfSome, None, Option, length, slice_get, refl, sym, ap, subst, ◌∙◌}
 use Rattle.std.proofs.Common.{arith}
 use Rattle.std.proofs.lemmas.Bool.{cases_lt, cases_eq}
-use Rattle.std.proofs.lemmas.List.{get_or-set_same, get_or-set_other, get_or_default}
+use Rattle.std.proofs.lemmas.List.{get_or-set_same, get_or-set_other}
 use Rattle.epx_types.specs.declared.id.Id.{Id}
 use Rattle.epx_committed.specs.declared.number_ranges.NumberRange.{NumberRange}
 use Rattle.epx_committed.specs.inner.NumberRanges.{AreRangesIn, IsInRange, Lengthens, position_in}
@@ -78,12 +78,6 @@ pub AreRangesIn-same : (ids : List Id) (old new : List NumberRange)
 AreRangesIn-same ids old new same are x h =
     ap (λ r. slice_get ids (position_in r x.number)) (same x)
     ∙ are x (subst (λ r. IsInRange r x.number) (same x) h)
-
--- the range that is read for an Id
-pub range_read : (ranges : List NumberRange) (x : Id) (range : NumberRange)
-    → x.replica < length ranges → range ≡ get_or ranges x.replica range
-    → range ≡ range_of ranges x
-range_read ranges x range within read = read ∙ get_or_default ranges x.replica range _ within
 
 -- the position that the range of an Id has for it
 pub found_in : (ranges : List NumberRange) (x : Id) (range : NumberRange)

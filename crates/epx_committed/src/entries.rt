@@ -22,15 +22,16 @@ fn seed_after(entries: &[Entry]) -> Seed {
 }
 
 /// Records each entry as a line of its own. The first is line 1.
-fn note_each(entries: Vec<Entry>, ledger: &mut Ledger) -> Result<(), Memory>
+fn note_each(alloc: Global, entries: Vec<Entry>, ledger: &mut Ledger) -> Result<(), Memory>
     ensures { OnOk result (NotesLines (entry_lines entries.items) ledger.old ledger.new) }
 {
     let mut line = 0;
+    let mut lines = Vec::with_capacity(alloc, entries.len())?;
     for entry in entries {
         line += 1;
-        ledger.note(PlacedEntry::new(Place { log: 0, line }, entry))?;
+        lines.push(PlacedEntry::new(Place { log: 0, line }, entry))?;
     }
-    Ok(())
+    ledger.note(lines)
 }
 
 /// The committed map of entries in memory, without writing and reading their text.
@@ -50,6 +51,6 @@ pub fn from_entries(alloc: Global, entries: Vec<Entry>) -> Result<Merged, Fault>
         MatchResult result (IsMerged lines) (IsMergeFault lines) }
 {
     let mut ledger = Ledger::new(alloc, seed_after(&entries));
-    note_each(entries, &mut ledger)?;
+    note_each(alloc, entries, &mut ledger)?;
     ledger.close()
 }

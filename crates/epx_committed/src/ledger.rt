@@ -1,8 +1,11 @@
-//! The first line of each instance, and the instances whose lines differ.
-ghost use Rattle.std.specs.Prelude.{◌≡◌, List, [], ◌∷◌, IfOk, OnOk, MatchResult, Some};
-ghost use Rattle.std.specs.Prelude.{slice_get};
+//! Noted lines: the first line of each instance, and the instances whose lines differ.
+ghost use Rattle.std.specs.Prelude.{◌<◌, List, [], ◌∷◌, Contains, IfOk, IfSome, OnOk, MatchResult};
+ghost use Rattle.std.specs.Prelude.{length, slice_get};
+ghost use Rattle.epx_types.specs.declared.id.Id.{Id};
 ghost use Rattle.epx_types.specs.PlacedLines.{Placed};
 ghost use Rattle.epx_committed.specs.Ledgers.{IsLedgerOf, NotesLines};
+ghost use Rattle.epx_committed.specs.inner.FirstLines.{AreFirstLines, Extends, ledger_view};
+ghost use Rattle.epx_committed.specs.inner.LineRows.{IsRowOf};
 ghost use Rattle.epx_committed.specs.inner.LeastDisagreement.{IsLeastDisagreement};
 ghost use Rattle.epx_committed.specs.LineOrder.{IsSortedByPlace};
 ghost use Rattle.epx_committed.specs.MergedLines.{IsMerged, IsMergeFault};
@@ -11,7 +14,7 @@ use crate::line_index::LineIndex;
 use crate::merged::Merged;
 use crate::number_ranges::NumberRanges;
 use crate::placed::PlacedEntry;
-use crate::rows::{guesses_of, rows_of};
+use crate::rows::{Row, guesses_of, sort_rows};
 use crate::same_entry::same_entry;
 use epx_seed::Seed;
 use epx_types::limits::MAX_INSTANCES;
@@ -27,30 +30,103 @@ pub(crate) struct Disagreement {
     pub(crate) second: Place,
 }
 
-/// Records lines one by one. Stores one entry for each instance.
+/// The first line of each instance, and the first line that differs from it.
 #[derive(Debug, Drop)]
-pub struct Ledger {
-    alloc: Global,
-    /// The first line of each instance.
-    firsts: Vec<PlacedEntry>,
-    /// Finds the first line of an Id.
+pub(crate) struct FirstLines {
+    /// A row for each instance, in the order of noting.
+    rows: Vec<Row>,
+    /// Finds the row of an Id.
     index: LineIndex,
     disagreements: IndexMap<Id, Disagreement, Seed>,
 }
 
+/// Records a line of an instance whose first line is known.
+fn compare(
+    first: &PlacedEntry,
+    line: &PlacedEntry,
+    disagreements: &mut IndexMap<Id, Disagreement, Seed>,
+) -> Result<(), Memory>
+    ensures { OnOk result ((firsts : List (Id × Placed))
+        → Contains firsts (line.now.instance.id, first.now)
+        → NotesLines (line.now ∷ [])
+        (record { firsts = firsts; disagreements = disagreements.old.entries })
+        (record { firsts = firsts; disagreements = disagreements.new.entries })) }
+{
+    let id = line.id();
+    if same_entry(first.entry(), line.entry()) || disagreements.contains_key(&id) {
+        return Ok(());
+    }
+    let disagreement = Disagreement {
+        first: first.place(),
+        second: line.place(),
+    };
+    disagreements.insert(id, disagreement)?;
+    Ok(())
+}
+
+impl FirstLines {
+    /// Records a line, which the row names.
+    fn note_line(
+        &mut self,
+        lists: &[Vec<PlacedEntry>],
+        line: &PlacedEntry,
+        row: Row,
+    ) -> Result<(), Memory>
+        requires firsts { AreFirstLines lists.now self.old }
+        requires row { IsRowOf lists.now line.now row }
+        ensures firsts { AreFirstLines lists.now self.new }
+        ensures rows { Extends self.old.rows.items self.new.rows.items }
+        ensures noted { OnOk result (NotesLines (line.now ∷ [])
+            (ledger_view lists.now self.old) (ledger_view lists.now self.new)) }
+    {
+        if let Some(index) = self.index.find(row.id) {
+            let first = self.rows[index].line_in(lists);
+            return compare(first, line, &mut self.disagreements);
+        }
+        // Reserve first, so that an Id never goes in without its row.
+        self.rows.reserve(1)?;
+        self.index.add(row.id, self.rows.len())?;
+        self.rows.push(row)?;
+        Ok(())
+    }
+
+    /// Records the lines of the list with this index.
+    fn note_list(&mut self, lists: &[Vec<PlacedEntry>], list: usize) -> Result<(), Memory>
+        requires list { list < length lists.now }
+        requires firsts { AreFirstLines lists.now self.old }
+        ensures firsts { AreFirstLines lists.now self.new }
+        ensures rows { Extends self.old.rows.items self.new.rows.items }
+        ensures noted { OnOk result (IfSome (slice_get lists.now list)
+            (λ lines. NotesLines lines.items
+            (ledger_view lists.now self.old) (ledger_view lists.now self.new))) }
+    {
+        let lines = &lists[list];
+        for at in 0..lines.len() {
+            let line = &lines[at];
+            self.note_line(lists, line, Row::of_line(line, list, at))?;
+        }
+        Ok(())
+    }
+}
+
+/// Records lists of lines. Keeps each list that has the first line of an instance.
+#[derive(Debug, Drop)]
+pub struct Ledger {
+    alloc: Global,
+    /// The lists that were kept.
+    lists: Vec<Vec<PlacedEntry>>,
+    firsts: FirstLines,
+}
+
 impl Model for Ledger {
-    ghost use Rattle.std.specs.Prelude.{◌≢◌, map, AllPairs};
     ghost use Rattle.epx_committed.specs.Ledgers.{LedgerView};
-    ghost use Rattle.epx_committed.specs.inner.LineIndexes.{IsIndexOf};
-    ghost use Rattle.epx_committed.specs.inner.LineRows.{with_ids};
+    ghost use Rattle.epx_committed.specs.inner.FirstLines.{AreFirstLines, ledger_view};
 
     ghost Value = { LedgerView };
 
-    ghost view = { λ l.
-        record { firsts = with_ids l.firsts.items; disagreements = l.disagreements.entries } };
+    ghost view = { λ l. ledger_view l.lists.items l.firsts };
 
-    ghost invariant = { λ l. IsIndexOf (map (λ p. p.instance.id) l.firsts.items) l.index
-        × AllPairs (λ x y. x ≢ y) (map (λ p. p.instance.id) l.firsts.items) };
+    ghost invariant = { λ l. AreFirstLines l.lists.items l.firsts };
 }
 
 impl Ledger {
@@ -60,44 +136,28 @@ impl Ledger {
     {
         Ledger {
             alloc,
-            firsts: Vec::new(alloc),
-            index: LineIndex::new(alloc, seed),
-            disagreements: IndexMap::with_hasher(alloc, seed),
+            lists: Vec::new(alloc),
+            firsts: FirstLines {
+                rows: Vec::new(alloc),
+                index: LineIndex::new(alloc, seed),
+                disagreements: IndexMap::with_hasher(alloc, seed),
+            },
         }
     }
 
-    /// Records one more line. Lines must come by rising place. If it runs out of memory, the line
-    /// may be recorded or not, and the ledger is of no more use.
-    pub fn note(&mut self, line: PlacedEntry) -> Result<(), Memory>
-        ensures { OnOk result (NotesLines (line ∷ []) self.old self.new) }
+    /// Records the lines of a list, which come by rising place. If it runs out of memory, some may
+    /// be recorded, and the ledger is of no more use.
+    pub fn note(&mut self, lines: Vec<PlacedEntry>) -> Result<(), Memory>
+        ensures { OnOk result (NotesLines lines.items self.old self.new) }
     {
-        let id = line.id();
-        if let Some(index) = self.index.find(id) {
-            return self.compare(index, &line);
+        let list = self.lists.len();
+        let known = self.firsts.rows.len();
+        self.lists.push(lines)?;
+        self.firsts.note_list(&self.lists, list)?;
+        if self.firsts.rows.len() == known {
+            // No line of the list is a first one, and no row names it.
+            self.lists.truncate(list);
         }
-        // Reserve first, so that an Id never goes in without its line.
-        self.firsts.reserve(1)?;
-        self.index.add(id, self.firsts.len())?;
-        self.firsts.push(line)?;
-        Ok(())
-    }
-
-    /// Records a line of an instance whose first line is at this index.
-    fn compare(&mut self, index: usize, line: &PlacedEntry) -> Result<(), Memory>
-        requires { (first : Placed)
-            × (slice_get self.now.firsts index ≡ Some (line.now.instance.id, first)) }
-        ensures { OnOk result (NotesLines (line.now ∷ []) self.old self.new) }
-    {
-        let id = line.id();
-        let first = &self.firsts[index];
-        if same_entry(first.entry(), line.entry()) || self.disagreements.contains_key(&id) {
-            return Ok(());
-        }
-        let disagreement = Disagreement {
-            first: first.place(),
-            second: line.place(),
-        };
-        self.disagreements.insert(id, disagreement)?;
         Ok(())
     }
 
@@ -109,17 +169,21 @@ impl Ledger {
     {
         let Ledger {
             alloc,
+            lists,
             firsts,
+        } = self;
+        let FirstLines {
+            rows,
             index,
             disagreements,
-        } = self;
-        let ranks = index.ranks(alloc, firsts.len())?;
+        } = firsts;
+        let ranks = index.ranks(alloc, rows.len())?;
         drop(index);
-        let rows = rows_of(alloc, &firsts, &ranks)?;
+        let rows = sort_rows(alloc, rows, &ranks)?;
         let ranges = NumberRanges::of_rows(alloc, &rows)?;
         let guesses = guesses_of(alloc, &rows, ranges.len())?;
         let least = least_of(disagreements)?;
-        if firsts.len() > MAX_INSTANCES {
+        if rows.len() > MAX_INSTANCES {
             return Err(Fault::TooManyInstances);
         }
         match least {
@@ -128,7 +192,7 @@ impl Ledger {
                 first: disagreement.first,
                 second: disagreement.second,
             }),
-            None => Ok(Merged::new(firsts, rows, ranges, guesses)),
+            None => Ok(Merged::new(lists, rows, ranges, guesses)),
         }
     }
 }

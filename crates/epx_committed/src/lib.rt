@@ -1,4 +1,4 @@
-//! The committed map of entries: lines are noted one by one, and give the map that they commit, or
+//! The committed map of entries: lists of lines are noted, and give the map that they commit, or
 //! the fault for which they commit none.
 #![tactic(auto)]
 

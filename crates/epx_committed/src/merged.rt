@@ -16,8 +16,9 @@ use std::marker::Model;
 /// The committed instances of logs that agree. Contracts see the instances by rising Id.
 #[derive(Debug, Drop)]
 pub struct Merged {
-    lines: Vec<PlacedEntry>,
-    /// The indices of the lines, by rising Id.
+    /// Lists that have the first line of each instance.
+    lists: Vec<Vec<PlacedEntry>>,
+    /// Where the first line of each instance is, by rising Id.
     rows: Vec<Row>,
     ranges: NumberRanges,
     guesses: Guesses,
@@ -31,25 +32,25 @@ impl Model for Merged {
 
     ghost Value = { List Instance };
 
-    ghost view = { λ m. instances_at m.lines.items m.rows.items };
+    ghost view = { λ m. instances_at m.lists.items m.rows.items };
 
-    ghost invariant = { λ m. AreLineRows m.lines.items m.rows.items
+    ghost invariant = { λ m. AreLineRows m.lists.items m.rows.items
         × AreRangesIn (map (λ r. r.id) m.rows.items) m.ranges.ranges.items };
 }
 
 impl Merged {
     pub(crate) fn new(
-        lines: Vec<PlacedEntry>,
+        lists: Vec<Vec<PlacedEntry>>,
         rows: Vec<Row>,
         ranges: NumberRanges,
         guesses: Guesses,
     ) -> Merged
-        requires rows { AreLineRows lines.items rows.items }
+        requires rows { AreLineRows lists.items rows.items }
         requires ranges { AreRangesIn (map (λ r. r.id) rows.items) ranges.ranges.items }
-        ensures { result ≡ instances_at lines.items rows.items }
+        ensures { result ≡ instances_at lists.items rows.items }
     {
         Merged {
-            lines,
+            lists,
             rows,
             ranges,
             guesses,
@@ -127,6 +128,6 @@ impl Merged {
         requires { position < length self.now }
         ensures { slice_get self.now position ≡ Some result.now }
     {
-        self.lines[self.rows[position].line].entry()
+        self.rows[position].line_in(&self.lists).entry()
     }
 }

@@ -150,19 +150,9 @@ pub(crate) fn note_pieces(pieces: Pieces, ledger: &mut Ledger) -> Result<(), Fau
 {
     for piece in pieces {
         match piece {
-            Ok(piece) => note_entries(piece.entries, ledger)?,
+            Ok(piece) => ledger.note(piece.entries)?,
             Err(BadLine { place, why }) => return Err(Fault::BadLine { place, why }),
         }
-    }
-    Ok(())
-}
-
-/// Records entries in order.
-fn note_entries(entries: Vec<PlacedEntry>, ledger: &mut Ledger) -> Result<(), Memory>
-    ensures { OnOk result (NotesLines entries.items ledger.old ledger.new) }
-{
-    for entry in entries {
-        ledger.note(entry)?;
     }
     Ok(())
 }

@@ -18,9 +18,9 @@ loop-piece-preserved c = λ lines all.
     gathering_more _ lines _ _ _ _ c.in-Ok.piece
     (c.in-Some.ensures.steps.0 ∙ ap (λ p. p ∷ c.next.new.self.rest.items) c.in-Ok.is)
     (λ xs ys before is. NotesLines-append xs ys c.args.ledger.now c.loop-piece.ledger
-    c.note_entries.new.ledger before
-    (subst (λ es. NotesLines es c.loop-piece.ledger c.note_entries.new.ledger) is
-    c.in_ok-note_entries-in-Ok.ensures))
+    c.note.new.self before
+    (subst (λ es. NotesLines es c.loop-piece.ledger c.note.new.self) is
+    c.in_ok-note-in-Ok.ensures))
     (c.loop-piece.invariant lines all)
 
 pub returns-in-Err : goal.returns-in-Err

@@ -1,64 +1,81 @@
-use Rattle.std.proofs.Common.{◌≡◌, ◌≢◌, ◌+◌, ◌∙◌, sym, ap, subst, List, [], ◌∷◌, ◌++◌, map, Some}
-use Rattle.std.proofs.Common.{AllPairs, length, slice_get, arith}
-use Rattle.std.proofs.lemmas.List.{length-map, map-append}
-use Rattle.epx_types.specs.declared.id.Id.{Id}
-use Rattle.epx_types.specs.PlacedLines.{Placed}
-use Rattle.epx_committed.specs.Ledgers.{LedgerView, NotesLines}
-use Rattle.epx_committed.specs.inner.LineIndexes.{IsIndexOf, mark_of}
-use Rattle.epx_committed.specs.inner.LineRows.{with_ids}
-use Rattle.epx_committed.proofs.LedgerMapLemmas.{known_line, noted_first}
-use Rattle.epx_committed.proofs.LineIndexLemmas.{there, not_there, distinct_push, IsIndexOf-push}
+use Rattle.std.proofs.Common.{◌≡◌, ◌∙◌, sym, ap, subst, subst₂, [], ◌∷◌, length, take, arith}
+use Rattle.std.proofs.lemmas.List.{take_at}
+use Rattle.epx_committed.specs.Ledgers.{NotesLines}
+use Rattle.epx_committed.specs.inner.FirstLines.{AreFirstLines, ledger_view}
+use Rattle.epx_committed.proofs.FirstLineLemmas.{AreFirstLines-list, AreFirstLines-without}
+use Rattle.epx_committed.proofs.FirstLineLemmas.{NotesLines-list, NotesLines-without}
 use Rattle.epx_committed.proofs.ledger.Ledger.note.Goals as goal
 
-abbrev names : List Placed → List Id
-names lines = map (λ p. p.instance.id) lines
+pub invariant_of-self : goal.invariant_of-self
+invariant_of-self c = subst (λ l. AreFirstLines l c.self.inside.firsts)
+    (sym c.in_err-push.ensures.items) c.self.invariant
 
-pub compare-requires : goal.compare-requires
-compare-requires c =
-    let lines = c.self.inside.firsts.items in
-    let first = known_line lines c.id-id.result c.in-Some.index
-    (there (names lines) c.self.inside.index c.id-id.result c.in-Some.index c.self.invariant.0
-    c.in-Some.ensures.some) in
-    subst (λ (n : LedgerView). (p : Placed) × (slice_get n.firsts c.in-Some.index
-    ≡ Some (c.args.line.instance.id, p))) c.self.view_is
-    (first.0, first.1 ∙ ap (λ (x : Id). Some (x, first.0)) c.id-id.ensures)
+pub note_list-requires-clause-firsts : goal.note_list-requires-clause-firsts
+note_list-requires-clause-firsts c =
+    let firsts = c.self.inside.firsts in
+    subst (λ l. AreFirstLines l firsts) (sym (c.deref.ensures.value ∙ c.in_ok-push.ensures.items))
+    (AreFirstLines-list c.self.inside.lists.items firsts c.self.invariant c.args.lines)
 
-pub invariant_of-self-2 : goal.invariant_of-self-2
-invariant_of-self-2 c =
-    let lines = c.self.inside.firsts.items in
-    let id = c.id-id.result in
-    let none = not_there (names lines) c.self.inside.index id c.self.invariant.0
-    c.in_default.ensures.none in
-    let items = c.in_ok-push.ensures.items ∙ ap (λ (l : List Placed). l ++ c.args.line ∷ [])
-    c.in_ok-reserve.ensures.items in
-    let longer : names c.push.new.self.items ≡ names lines ++ id ∷ [] =
-    ap names items ∙ map-append (λ (p : Placed). p.instance.id) lines (c.args.line ∷ [])
-    ∙ ap (λ (x : Id). names lines ++ x ∷ []) (sym c.id-id.ensures) in
-    let here : mark_of c.add.new.self id ≡ length (names lines) + 1 =
+pub invariant_of-self-then-len-known : goal.invariant_of-self-then-len-known
+invariant_of-self-then-len-known c =
+    let lists = c.self.inside.lists in
+    let old = c.self.inside.firsts in
+    let new = c.note_list.new.self in
+    let noted = c.in_ok-note_list.ensures in
+    let as_many : length new.rows.items ≡ length old.rows.items =
     omega (
       arith,
-      c.in_ok-add.ensures.here,
+      c.if-len-known.true,
       c.len.ensures,
-      ap length c.in_ok-reserve.ensures.items,
-      length-map lines (λ (p : Placed). p.instance.id),
-    ) in (
-      subst (λ (l : List Id). IsIndexOf l c.add.new.self) (sym longer)
-          (IsIndexOf-push (names lines) id c.self.inside.index c.add.new.self c.self.invariant.0
-          here c.in_ok-add.ensures.apart),
-      subst (AllPairs (λ (x y : Id). x ≢ y)) (sym longer)
-          (distinct_push (names lines) id c.self.invariant.1 none),
-    )
+      c.len-known.ensures,
+      new.rows.ok.0,
+      old.rows.ok.0,
+    ) in
+    let left : c.truncate.new.self.items ≡ lists.items =
+    c.truncate.ensures.items ∙ ap (take c.len-list.result) c.in_ok-push.ensures.items
+    ∙ take_at lists.items (c.args.lines ∷ []) c.len-list.result
+    (omega (arith, c.len-list.ensures, lists.ok.0)) in
+    subst (λ l. AreFirstLines l new) (sym left)
+    (AreFirstLines-without lists.items c.deref.result.now old new c.self.invariant noted.firsts
+    noted.rows as_many)
 
-pub returns : goal.returns
-returns c =
-    let lines = c.self.inside.firsts.items in
-    let disagreements = c.self.inside.disagreements.entries in
-    let id = c.id-id.result in
-    let after : LedgerView =
-    record { firsts = with_ids c.push.new.self.items; disagreements = disagreements } in
-    let none = not_there (names lines) c.self.inside.index id c.self.invariant.0
-    c.in_default.ensures.none in
-    let last = c.in_ok-push.ensures.items ∙ ap (λ (l : List Placed). l ++ c.args.line ∷ [])
-    c.in_ok-reserve.ensures.items in
-    subst (λ (n : LedgerView). NotesLines (c.args.line ∷ []) n after) c.self.view_is
-    (noted_first lines disagreements c.args.line id c.id-id.ensures c.push.new.self.items none last)
+pub invariant_of-self-else-len-known : goal.invariant_of-self-else-len-known
+invariant_of-self-else-len-known c = subst (λ l. AreFirstLines l c.note_list.new.self)
+    c.deref.ensures.value c.in_ok-note_list.ensures.firsts
+
+pub returns-then-len-known : goal.returns-then-len-known
+returns-then-len-known c =
+    let lists = c.self.inside.lists in
+    let old = c.self.inside.firsts in
+    let new = c.note_list.new.self in
+    let noted = c.in_ok-note_list.ensures in
+    let at : c.len-list.result ≡ length lists.items =
+    omega (arith, c.len-list.ensures, lists.ok.0) in
+    let as_many : length new.rows.items ≡ length old.rows.items =
+    omega (
+      arith,
+      c.if-len-known.true,
+      c.len.ensures,
+      c.len-known.ensures,
+      new.rows.ok.0,
+      old.rows.ok.0,
+    ) in
+    let left : c.truncate.new.self.items ≡ lists.items =
+    c.truncate.ensures.items ∙ ap (take c.len-list.result) c.in_ok-push.ensures.items
+    ∙ take_at lists.items (c.args.lines ∷ []) c.len-list.result (sym at) in
+    subst₂ (NotesLines c.args.lines.items) c.self.view_is
+    (ap (λ l. ledger_view l new) (sym left))
+    (NotesLines-without lists.items old new c.self.invariant c.args.lines c.deref.result.now
+    (c.deref.ensures.value ∙ c.in_ok-push.ensures.items) c.len-list.result at noted.noted
+    noted.firsts noted.rows as_many)
+
+pub returns-else-len-known : goal.returns-else-len-known
+returns-else-len-known c =
+    let lists = c.self.inside.lists in
+    let at : c.len-list.result ≡ length lists.items =
+    omega (arith, c.len-list.ensures, lists.ok.0) in
+    subst₂ (NotesLines c.args.lines.items) c.self.view_is
+    (ap (λ l. ledger_view l c.note_list.new.self) c.deref.ensures.value)
+    (NotesLines-list lists.items c.self.inside.firsts c.note_list.new.self c.self.invariant
+    c.args.lines c.deref.result.now (c.deref.ensures.value ∙ c.in_ok-push.ensures.items)
+    c.len-list.result at c.in_ok-note_list.ensures.noted)

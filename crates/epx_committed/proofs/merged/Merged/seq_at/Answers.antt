@@ -9,15 +9,15 @@ index-requires c =
     omega (
       arith,
       rows.ok.0,
-      within_rows c.self.inside.lines.items rows.items c.self.invariant.0 c.args.self.now
+      within_rows c.self.inside.lists.items rows.items c.self.invariant.0 c.args.self.now
           c.self.view_is c.args.position c.requires,
     )
 
 pub returns : goal.returns
 returns c =
-    let lines = c.self.inside.lines.items in
+    let lists = c.self.inside.lists.items in
     let rows = c.self.inside.rows.items in
-    let row = row_there lines rows c.self.invariant.0 c.args.self.now c.self.view_is
+    let row = row_there lists rows c.self.invariant.0 c.args.self.now c.self.view_is
     c.args.position c.index.result.now c.requires c.index.ensures in
     ap (λ m. slice_get (map (λ (i : Instance). i.seq) m) c.args.position) (sym c.self.view_is)
-    ∙ seq_stands lines rows c.self.invariant.0 c.args.position c.index.result.now row
+    ∙ seq_stands lists rows c.self.invariant.0 c.args.position c.index.result.now row

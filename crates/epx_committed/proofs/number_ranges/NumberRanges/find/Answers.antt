@@ -1,13 +1,14 @@
 use Rattle.std.proofs.Common.{ap, ◌∙◌}
+use Rattle.std.proofs.lemmas.List.{get_or_read}
 use Rattle.epx_committed.specs.inner.NumberRanges.{range_of}
-use Rattle.epx_committed.proofs.NumberRangeLemmas.{found_in, range_read}
+use Rattle.epx_committed.proofs.NumberRangeLemmas.{found_in}
 use Rattle.epx_committed.proofs.number_ranges.NumberRanges.find.Goals as goal
 
 pub returns : goal.returns
 returns c =
     let id = c.args.id in
     let read = c.in_ok-get.ensures.lookup in
-    let range = range_read c.deref.result.now id c.in_ok-get.field-0.now read.3.0 read.1
+    let range = get_or_read c.deref.result.now id.replica c.in_ok-get.field-0.now read.3.0 read.1 _
     ∙ ap (λ l. range_of l id) c.deref.ensures.value in
     found_in c.args.self.now.ranges.items id c.in_ok-get.field-0.now range c.find.result
     c.find.ensures.number c.find.ensures.position

@@ -3,6 +3,7 @@ use Rattle.std.proofs.lemmas.Option.{slice_get-get_or}
 use Rattle.epx_types.proofs.lists.ListPositionLemmas.{slice_get-map}
 use Rattle.epx_committed.specs.declared.rows.Row.{Row}
 use Rattle.epx_committed.proofs.NumberRangeLemmas.{AreRangesIn-nil}
+use Rattle.epx_committed.proofs.RowLemmas.{empty_row}
 use Rattle.epx_committed.proofs.number_ranges.NumberRanges.of_rows.Goals as goal
 
 pub loop-position-init : goal.loop-position-init
@@ -13,10 +14,9 @@ pub loop-position-preserved : goal.loop-position-preserved
 loop-position-preserved c =
     let rows = c.args.rows.now in
     let k = c.loop-position.position in
-    let none : Row = record { id = record { replica = 0; number = 0 }; seq = 0; line = 0 } in
     c.in_ok-note.ensures (map (λ (r : Row). r.id) rows)
-    (slice_get-map (λ (r : Row). r.id) rows k (get_or rows k none)
-    (slice_get-get_or rows k none c.loop-position-test.true)) c.loop-position.invariant
+    (slice_get-map (λ (r : Row). r.id) rows k (get_or rows k empty_row)
+    (slice_get-get_or rows k empty_row c.loop-position-test.true)) c.loop-position.invariant
 
 pub returns : goal.returns
 returns c = c.loop-position.invariant
