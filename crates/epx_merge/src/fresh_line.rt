@@ -36,6 +36,7 @@ fn cache_piece<'a>(
     let Ok(piece) = piece else {
         return;
     };
+    cache.make_room(&piece.fresh);
     for line in &piece.fresh {
         cache_line(*line, lines, cache);
     }
@@ -72,6 +73,7 @@ fn cache_piece_copy<'a>(
     let Ok(piece) = piece else {
         return;
     };
+    cache.make_room(&piece.fresh);
     for line in &piece.fresh {
         cache_copy(*line, batch, cache, copies);
     }

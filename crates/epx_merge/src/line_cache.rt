@@ -3,6 +3,7 @@ ghost use Rattle.std.specs.Prelude.{◌≡◌, ◌∷◌, ◌++◌, [], IsTrue, 
 ghost use Rattle.std.specs.Prelude.{if◌then◌else◌, slice_get};
 ghost use Rattle.epx_lines.specs.Meaning.{meaning_of};
 
+use crate::fresh_line::FreshLine;
 use bumpalo::Bump;
 use epx_types::Memory;
 use std::alloc::Global;
@@ -92,18 +93,38 @@ impl<'a> LineCache<'a> {
         hasher.finish()
     }
 
-    /// How many lines with these hashes find their first slot free. They are not in the cache.
+    /// Whether a line with this hash finds its first slot free. It is not in the cache then.
+    fn is_unseen(&self, hash: u64) -> bool {
+        self.slot((hash % SLOTS) as usize).unwrap_or(FREE_SLOT) == FREE_SLOT
+    }
+
+    /// How many lines with these hashes find their first slot free.
     ///
     /// Look up their lines soon after: the slots are then in the processor's cache. This loop does
     /// so little that the processor loads many slots at once, where `find` waits for each.
     pub(crate) fn count_unseen(&self, hashes: &[u64]) -> usize {
         let mut unseen: usize = 0;
         for hash in hashes {
-            if self.slot((*hash % SLOTS) as usize).unwrap_or(FREE_SLOT) == FREE_SLOT {
+            if self.is_unseen(*hash) {
                 unseen = unseen.saturating_add(1);
             }
         }
         unseen
+    }
+
+    /// Makes room for fresh lines. Put them into the cache soon after: as in `count_unseen`, the
+    /// loop loads their slots.
+    pub(crate) fn make_room(&mut self, fresh: &[FreshLine])
+        ensures { self.new ≡ self.old }
+    {
+        let mut unseen: usize = 0;
+        for line in fresh {
+            if self.is_unseen(line.hash) {
+                unseen = unseen.saturating_add(1);
+            }
+        }
+        // If there is no memory for all, each line still asks for its own.
+        let _made = self.kept.reserve(unseen);
     }
 
     fn slot(&self, at: usize) -> Option<u64> {
