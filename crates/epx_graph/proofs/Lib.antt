@@ -7,7 +7,7 @@ mod RemainderLemmas
 mod NeighbourLemmas
 mod MapNodeLemmas
 mod RisingRowLemmas
-mod GatherPartLemmas
+mod GatherPieceLemmas
 mod GatherRowLemmas
 mod BuildLemmas
 pub mod GraphExistenceLemmas

@@ -1,20 +1,17 @@
 //! Looks up each dependency once.
-ghost use Rattle.std.specs.Prelude.{◌≡◌, ◌≤◌, ◌++◌, ◌∷◌, [], length, slice_range, IfOk, OnOk};
-ghost use Rattle.std.specs.Thread.{IsSync};
+ghost use Rattle.std.specs.Prelude.{◌≡◌, ◌++◌, ◌∷◌, [], length, flat_map, IfOk, OnOk};
 ghost use Rattle.epx_types.specs.Done.{remaining_ids};
 ghost use Rattle.epx_graph.specs.inner.Remainder.{left_of};
 ghost use Rattle.epx_graph.specs.inner.Nodes.{missing_of, positions_of, IsGathered, IsGatheredOf};
+ghost use Rattle.epx_graph.specs.inner.Nodes.{instances_of_piece};
 
+use crate::instance_pieces::InstancePieces;
 use crate::left::{IdState, Remainder};
-use crate::part::Part;
+use epx_claims::{FreeGate, claimed_map};
 use epx_rows::{OpenRow, Rows};
 use epx_types::{Id, Memory, Plan};
 use std::alloc::Global;
-use std::thread::{Threads, join};
-
-/// Fewer instances than this are left to one thread: more threads would cost more time than they
-/// save.
-const FEWEST_FOR_THREADS: usize = 4_096;
+use std::thread::Threads;
 
 /// How many instances are sampled to estimate the number of dependencies.
 const SAMPLES: usize = 1_024;
@@ -91,61 +88,45 @@ impl Gathered {
     }
 }
 
-/// The dependencies of a part of the remaining instances.
-fn gather_part(alloc: Global, left: &Remainder, part: Part) -> Result<Gathered, Memory>
-    requires start { part.start ≤ part.end }
-    requires end { part.end ≤ length (left_of left.now) }
-    ensures { IfOk result
-        (λ gathered. IsGatheredOf (left_of left.now)
-        (slice_range (left_of left.now) part.start part.end) gathered.rows gathered.missing.items) }
+/// The dependencies of the instances of a piece.
+fn gather_piece(
+    alloc: Global,
+    left: &Remainder,
+    pieces: InstancePieces,
+    piece: usize,
+) -> Result<Gathered, Memory>
+    requires { pieces.instances ≡ length (left_of left.now) }
+    ensures { IfOk result (λ gathered. IsGatheredOf (left_of left.now)
+        (instances_of_piece pieces.size (left_of left.now) piece)
+        gathered.rows gathered.missing.items) }
 {
-    let mut rows = part.room(alloc)?;
+    let (start, end) = pieces.range(piece);
+    let mut rows = pieces.room(alloc, piece)?;
     let mut missing = Vec::new(alloc);
-    for index in part.start..part.end {
+    for index in start..end {
         rows = push_committed(rows, left, left.entry_at(index).deps(), &mut missing)?;
     }
     Ok(Gathered { rows, missing })
 }
 
-/// The dependencies of a part of the remaining instances. Where it has many, each of the other
-/// workers gathers those of some of the last instances, and they are appended in the end. This
-/// thread starts all others: one that waits for a processor would start its own late.
-#[cycle(workers)]
-fn gather_parts<R: Threads + Sync>(
-    rt: &R,
-    alloc: Global,
-    left: &Remainder,
-    workers: usize,
-    part: Part,
-) -> Result<Gathered, Memory>
-    requires start { part.start ≤ part.end }
-    requires end { part.end ≤ length (left_of left.now) }
-    ensures { IfOk result
-        (λ gathered. IsGatheredOf (left_of left.now)
-        (slice_range (left_of left.now) part.start part.end) gathered.rows gathered.missing.items) }
+/// What was gathered of all pieces, in order. It is appended to the first, which has room for it.
+fn join_pieces(alloc: Global, pieces: Vec<Gathered>) -> Result<Gathered, Memory>
+    ensures rows { IfOk result (λ gathered.
+        gathered.rows ≡ flat_map (λ piece. piece.rows) pieces.items) }
+    ensures missing { IfOk result (λ gathered.
+        gathered.missing.items ≡ flat_map (λ piece. piece.missing.items) pieces.items) }
 {
-    if workers < 2 || part.end - part.start < FEWEST_FOR_THREADS {
-        return gather_part(alloc, left, part);
+    let mut pieces = pieces.into_iter();
+    let mut gathered = match pieces.next() {
+        Some(first) => first,
+        None => Gathered {
+            rows: Rows::with_capacity(alloc, 0, 0)?,
+            missing: Vec::new(alloc),
+        },
+    };
+    for piece in pieces {
+        gathered = gathered.append(piece)?;
     }
-    let (others, last) = part.without_last(workers);
-    let rest = workers - 1;
-    let theirs = move || -> Result<Gathered, Memory>
-        requires { (last.start ≤ last.end) × (last.end ≤ length (left_of left.now)) }
-        ensures { IfOk result
-            (λ gathered. IsGatheredOf (left_of left.entry.now)
-            (slice_range (left_of left.entry.now) last.start last.end) gathered.rows
-            gathered.missing.items) }
-    { gather_part(alloc, left, last) };
-    let mine = move || -> Result<Gathered, Memory>
-        requires { IsSync R.row × (others.start ≤ others.end)
-            × (others.end ≤ length (left_of left.now)) }
-        ensures { IfOk result
-            (λ gathered. IsGatheredOf (left_of left.entry.now)
-            (slice_range (left_of left.entry.now) others.start others.end) gathered.rows
-            gathered.missing.items) }
-    { gather_parts(rt, alloc, left, rest, others) };
-    let (later, first) = join(rt, theirs, mine);
-    let gathered = first?.append(later?)?;
     Ok(gathered)
 }
 
@@ -167,7 +148,8 @@ fn mean_deps(left: &Remainder) -> usize {
     count.div_ceil(seen)
 }
 
-/// The dependencies of the remaining instances, each looked up once.
+/// The dependencies of the remaining instances, each looked up once. The plan's workers draw pieces
+/// of the instances.
 pub(crate) fn committed_rows<R: Threads + Sync>(
     rt: &R,
     alloc: Global,
@@ -177,6 +159,9 @@ pub(crate) fn committed_rows<R: Threads + Sync>(
     ensures { IfOk result
         (λ gathered. IsGathered (left_of left.now) gathered.rows gathered.missing.items) }
 {
-    let part = Part::all_instances(left.len(), mean_deps(left));
-    gather_parts(rt, alloc, left, plan.workers(), part)
+    let pieces = InstancePieces::new(plan, left.len(), mean_deps(left));
+    let gathered = claimed_map(rt, alloc, pieces.count, plan, &FreeGate, |piece| {
+        gather_piece(alloc, left, pieces, piece)
+    })?;
+    join_pieces(alloc, gathered)
 }

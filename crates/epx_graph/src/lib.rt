@@ -5,10 +5,10 @@
 mod build_graph;
 mod committed;
 mod graph;
+mod instance_pieces;
 pub mod laws;
 mod left;
 mod neighbours;
-mod part;
 mod search;
 mod waiters;
 

@@ -1,7 +1,7 @@
 -- The nodes and edges of a committed map, while its graph is built.
-use Rattle.std.specs.Prelude.{◌≡◌, ◌↔◌, ℕ, ◌<◌, not, List, length, take, drop, map, filter}
-use Rattle.std.specs.Prelude.{filter_map, flat_map, All, AllPairs, Contains, Some, slice_get}
-use Rattle.std.specs.Prelude.{is_some}
+use Rattle.std.specs.Prelude.{◌≡◌, ◌↔◌, ℕ, ◌<◌, ◌+◌, ◌*◌, min, not, List, length, take, drop, map}
+use Rattle.std.specs.Prelude.{filter, filter_map, flat_map, All, AllPairs, Contains, Some}
+use Rattle.std.specs.Prelude.{is_some, slice_get, slice_range}
 use Rattle.epx_types.specs.declared.id.Id.{Id}
 use Rattle.epx_types.specs.Ids.{IsRising}
 use Rattle.epx_types.specs.Instances.{Instance}
@@ -31,6 +31,15 @@ pub record IsGatheredOf (m es : List Instance) (rows : List (List ℕ)) (ids : L
   pub committed : rows ≡ all_positions m es
   pub missing : ids ≡ all_missing_of m es
   pub deps_rise : All (λ e. IsRising e.deps) es
+
+-- where a piece begins among n instances, and the one before it ends. All pieces have the same
+-- size, but the last ones may be shorter or empty
+abbrev pub first_of_piece : ℕ → ℕ → ℕ → ℕ
+first_of_piece size n piece = min (piece * size) n
+
+abbrev pub instances_of_piece : ℕ → List Instance → ℕ → List Instance
+instances_of_piece size m piece =
+    let first = first_of_piece size (length m) in slice_range m (first piece) (first (piece + 1))
 
 -- the dependencies of all instances; the Ids rise
 pub record IsGathered (m : List Instance) (rows : List (List ℕ)) (ids : List Id) : Type 0 where

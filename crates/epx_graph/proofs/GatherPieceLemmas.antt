@@ -1,7 +1,9 @@
 -- What is gathered of some instances, and of the next ones.
-use Rattle.std.proofs.Common.{◌≡◌, ℕ, ◌+◌, ◌-◌, ◌≤◌, List, [], ◌∷◌, ◌++◌, length, take, drop}
-use Rattle.std.proofs.Common.{drop-cons, get_or, Some, slice_get, refl, sym, ap, subst, ◌∙◌}
-use Rattle.std.proofs.Common.{append-nil, arith, slice_range}
+use Rattle.std.proofs.Common.{◌≡◌, ℕ, suc, ◌+◌, ◌-◌, ◌*◌, ◌<◌, ◌≤◌, List, [], ◌∷◌, ◌++◌, length}
+use Rattle.std.proofs.Common.{take, drop, drop-cons, get_or, Some, slice_get, refl, sym, ap, subst}
+use Rattle.std.proofs.Common.{◌∙◌, append-nil, arith, flat_map, slice_range, Result, Ok, Err}
+use Rattle.std.specs.Result.{IfOk}
+use Rattle.std.proofs.Math.Nat.{mul-le-mul_right}
 use Rattle.std.proofs.Math.Seq.{take-add}
 use Rattle.std.proofs.lemmas.List.{drop-drop, map-append, take_all}
 use Rattle.std.proofs.lemmas.List.Concat.{flat_map-append}
@@ -10,7 +12,9 @@ use Rattle.std.proofs.lemmas.Option.{slice_get_within, get_or_from_slice_get}
 use Rattle.epx_types.specs.declared.id.Id.{Id}
 use Rattle.epx_types.specs.Ids.{IsRising}
 use Rattle.epx_types.specs.Instances.{Instance}
+use Rattle.epx_claims.specs.Answered.{AreOrderedAnswers}
 use Rattle.epx_graph.specs.inner.Nodes.{positions_of, missing_of, IsGatheredOf}
+use Rattle.epx_graph.specs.inner.Nodes.{first_of_piece, instances_of_piece}
 
 -- a part of a list, and the next part
 parts_joined : {X : Type 0} (xs : List X) (a b c : ℕ) → a ≤ b → b ≤ c
@@ -81,20 +85,68 @@ gathered_more m start i e rows ids low at rise is =
     (gathered_joined m (slice_range m start i) (e ∷ []) rows (positions_of m e.deps ∷ []) ids
     (missing_of m e.deps) is one)
 
--- two parts: from a to before b, and from c to before d
-pub gathered_both : (m : List Instance) (start end a b c d : ℕ) → a ≡ start → b ≡ c → d ≡ end
-    → a ≤ b → c ≤ d → (rows later whole : List (List ℕ)) (ids others all : List Id)
-    → whole ≡ rows ++ later → all ≡ ids ++ others → IsGatheredOf m (slice_range m a b) rows ids
-    → IsGatheredOf m (slice_range m c d) later others
-    → IsGatheredOf m (slice_range m start end) whole all
-gathered_both m start end a b c d begins meets ends low high rows later whole ids others all
-    rows_are ids_are is are =
-    let parts : slice_range m a b ++ slice_range m c d ≡ slice_range m start end =
-    ap (λ k. slice_range m a b ++ slice_range m k d) (sym meets) ∙ parts_joined m a b d low
-    (omega (arith, meets, high)) ∙ (λ i. slice_range m (begins i) (ends i)) in
-    let joined = gathered_joined m (slice_range m a b) (slice_range m c d) rows later ids others is
-    are in
-    subst (λ xs. IsGatheredOf m (slice_range m start end) whole xs) (sym ids_are)
-    (subst (λ (r : List (List ℕ)). IsGatheredOf m (slice_range m start end) r (ids ++ others))
-    (sym rows_are)
-    (subst (λ es. IsGatheredOf m es (rows ++ later) (ids ++ others)) parts joined))
+-- what is gathered of all pieces, in order
+module _ {Z : Type 0} (rows_in : Z → List (List ℕ)) (ids_in : Z → List Id) (m : List Instance)
+    (size : ℕ) where
+  abbrev first : ℕ → ℕ
+  first = first_of_piece size (length m)
+
+  -- what is gathered of one piece
+  abbrev IsPiece : ℕ → Z → Type 0
+  IsPiece piece z = IsGatheredOf m (instances_of_piece size m piece) (rows_in z) (ids_in z)
+
+  -- a piece and later ones
+  gathered_from : (piece : ℕ) (zs : List Z) → ((i : ℕ) → i < length zs
+      → (z : Z) × (slice_get zs i ≡ Some z) × IsPiece (piece + i) z)
+      → IsGatheredOf m (slice_range m (first piece) (first (piece + length zs)))
+      (flat_map rows_in zs) (flat_map ids_in zs)
+  gathered_from piece [] each =
+      let here : piece ≡ piece + 0 = omega arith in
+      subst (λ k. IsGatheredOf m (slice_range m (first piece) (first k)) [] []) here
+      (gathered_none m (first piece) [] [] refl refl)
+  gathered_from piece (z ∷ zs) each =
+      let at = each 0 (omega arith) in
+      let same : at.0 ≡ z = cc (at.1) in
+      let here : piece + 0 ≡ piece = omega arith in
+      let one : IsPiece piece z =
+      subst (λ k. IsPiece k z) here (subst (IsPiece (piece + 0)) same at.2) in
+      let rest = gathered_from (piece + 1) zs (λ i l.
+      let next = each (suc i) (omega arith) in
+      let later : piece + suc i ≡ (piece + 1) + i = omega arith in
+      (next.0, next.1, subst (λ k. IsPiece k next.0) later next.2)) in
+      let end : (piece + 1) + length zs ≡ piece + length (z ∷ zs) = omega arith in
+      let low : piece * size ≤ (piece + 1) * size = mul-le-mul_right size (omega arith) in
+      let high : (piece + 1) * size ≤ ((piece + 1) + length zs) * size =
+      mul-le-mul_right size (omega arith) in
+      let whole : instances_of_piece size m piece
+      ++ slice_range m (first (piece + 1)) (first ((piece + 1) + length zs))
+      ≡ slice_range m (first piece) (first (piece + length (z ∷ zs))) =
+      parts_joined m (first piece) (first (piece + 1)) (first ((piece + 1) + length zs))
+      (omega arith) (omega arith)
+      ∙ ap (λ k. slice_range m (first piece) (first k)) end in
+      subst (λ es. IsGatheredOf m es (rows_in z ++ flat_map rows_in zs)
+      (ids_in z ++ flat_map ids_in zs)) whole
+      (gathered_joined m (instances_of_piece size m piece) _ (rows_in z) (flat_map rows_in zs)
+      (ids_in z) (flat_map ids_in zs) one rest)
+
+  pub gathered_all : (zs : List Z) (count : ℕ) → length m ≤ count * size
+      → AreOrderedAnswers IsPiece count zs
+      → IsGatheredOf m m (flat_map rows_in zs) (flat_map ids_in zs)
+  gathered_all zs count all are =
+      let begin : first 0 ≡ 0 = omega arith in
+      let many : count ≡ 0 + length zs = omega (arith, are.len) in
+      let end : first (0 + length zs) ≡ length m =
+      omega (arith, all, ap (λ k. k * size) many) in
+      let whole : slice_range m (first 0) (first (0 + length zs)) ≡ m =
+      (λ i. slice_range m (begin i) (end i)) ∙ whole_range m (length m) (omega arith) in
+      subst (λ es. IsGatheredOf m es (flat_map rows_in zs) (flat_map ids_in zs)) whole
+      (gathered_from 0 zs (λ i l.
+      let at = are.each i (omega (arith, l, are.len)) in
+      let here : i ≡ 0 + i = omega arith in
+      (at.0, at.1, subst (λ k. IsPiece k at.0) here at.2)))
+
+-- two clauses about one value
+pub IfOk-both : {X E : Type 0} (r : Result X E) (P Q : X → Type 0) → IfOk r P → IfOk r Q
+    → IfOk r (λ x. P x × Q x)
+IfOk-both (Ok x) P Q p q = (p, q)
+IfOk-both (Err e) P Q p q = tt
