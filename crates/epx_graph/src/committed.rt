@@ -1,5 +1,5 @@
 //! Looks up each dependency once.
-ghost use Rattle.std.specs.Prelude.{◌≡◌, ◌++◌, ◌∷◌, [], length, flat_map, IfOk, OnOk};
+ghost use Rattle.std.specs.Prelude.{◌≡◌, ◌≤◌, ◌++◌, ◌∷◌, [], length, flat_map, IfOk, OnOk};
 ghost use Rattle.epx_types.specs.Done.{remaining_ids};
 ghost use Rattle.epx_graph.specs.inner.Remainder.{left_of};
 ghost use Rattle.epx_graph.specs.inner.Nodes.{missing_of, positions_of, IsGathered, IsGatheredOf};
@@ -12,6 +12,10 @@ use epx_rows::{OpenRow, Rows};
 use epx_types::{Id, Memory, Plan};
 use std::alloc::Global;
 use std::thread::Threads;
+
+/// So many instances are loaded together, before their dependencies are looked up. In a longer run
+/// the first ones would leave the nearest cache again.
+const RUN_LEN: usize = 32;
 
 /// How many instances are sampled to estimate the number of dependencies.
 const SAMPLES: usize = 1_024;
@@ -88,6 +92,36 @@ impl Gathered {
     }
 }
 
+/// How many dependencies the instances from `start` to `end` have.
+fn count_deps(left: &Remainder, start: usize, end: usize) -> usize
+    requires { end ≤ length (left_of left.now) }
+{
+    let mut count: usize = 0;
+    for index in start..end {
+        count = count.saturating_add(left.entry_at(index).deps().len());
+    }
+    count
+}
+
+/// At the first instance of a run, makes room for all of the run's dependencies that may be
+/// missing. To count them loads the instances: this loop does so little that the processor loads
+/// many at once, where a look-up would wait for each.
+fn begin_run(
+    left: &Remainder,
+    instance: usize,
+    end: usize,
+    missing: &mut Vec<Id>,
+) -> Result<(), Memory>
+    requires { end ≤ length (left_of left.now) }
+    ensures { missing.new.items ≡ missing.old.items }
+{
+    if instance % RUN_LEN == 0 {
+        let run_end = end.min(instance.saturating_add(RUN_LEN));
+        missing.reserve(count_deps(left, instance, run_end))?;
+    }
+    Ok(())
+}
+
 /// The dependencies of the instances of a piece.
 fn gather_piece(
     alloc: Global,
@@ -104,6 +138,7 @@ fn gather_piece(
     let mut rows = pieces.room(alloc, piece)?;
     let mut missing = Vec::new(alloc);
     for index in start..end {
+        begin_run(left, index, end, &mut missing)?;
         rows = push_committed(rows, left, left.entry_at(index).deps(), &mut missing)?;
     }
     Ok(Gathered { rows, missing })

@@ -100,8 +100,8 @@ fn answer<R: Threads + RandomSource + Sync, S: Source, W: Sink>(
 {
     let mut held = Held::nothing();
     let answered = write_answer(rt, alloc, task, plan, sources, &mut held, output);
-    // To free the map takes up to a twelfth of a run. The process ends soon, and the system then
-    // takes all pages back at once.
+    // To free each allocation of the map would take time. The process ends soon, and the system
+    // then takes all pages back at once.
     mem::forget(held);
     answered
 }

@@ -1,9 +1,9 @@
 //! What a run still holds when its answer is written.
 use epx_merge::Merged;
 
-/// What a run still holds when its answer is written: the committed map. Freeing it takes up to a
-/// twelfth of a run. A caller that goes on drops it. A process that ends may forget it with
-/// `mem::forget`: the system takes its pages back at once.
+/// What a run still holds when its answer is written: the committed map. It has many allocations,
+/// and to free each takes time. A caller that goes on drops it. A process that ends may forget it
+/// with `mem::forget`: the system takes its pages back at once.
 #[derive(Drop)]
 pub struct Held {
     merged: Option<Merged>,

@@ -32,7 +32,9 @@ loop-index-preserved c =
     ap (λ xs. rows ++ positions_of m (remaining_ids done xs) ∷ []) (sym c.deps.ensures.deps)
     ∙ sym c.in_ok-rows-2.ensures.rows in
     let missing_are : missing ++ missing_of m deps ≡ c.push_committed.new.missing.items =
-    ap (λ xs. missing ++ missing_of m (remaining_ids done xs)) (sym c.deps.ensures.deps)
+    ap (λ ids. ids ++ missing_of m deps) (sym c.begin_run.ensures)
+    ∙ ap (λ xs. c.begin_run.new.missing.items ++ missing_of m (remaining_ids done xs))
+    (sym c.deps.ensures.deps)
     ∙ sym c.in_ok-rows-2.ensures.missing in
     subst (IsGatheredOf m more c.in_ok-rows-2.rows) missing_are
     (subst (λ (r : List (List ℕ)). IsGatheredOf m more r (missing ++ missing_of m deps)) rows_are
