@@ -1,5 +1,5 @@
 //! Searches for paths between the nodes of an order.
-ghost use Rattle.std.specs.Prelude.{◌≡◌, ℕ, ◌<◌, ◌≤◌, ◌⊎◌, length, slice_index, Contains, IfOk};
+ghost use Rattle.std.specs.Prelude.{◌≡◌, ℕ, ◌<◌, ◌⊎◌, length, slice_index, Contains, IfOk};
 ghost use Rattle.std.specs.Prelude.{OnOk, IsTrue};
 ghost use Rattle.epx_graph.specs.Graphs.{edges_of};
 ghost use Rattle.epx_graph.specs.NodePaths.{NodeReaches};

@@ -1,5 +1,5 @@
 //! The sources that share doubtful keys with each node.
-ghost use Rattle.std.specs.Prelude.{◌≡◌, ◌⊎◌, ℕ, ◌<◌, length, slice_index, Contains, IsTrue};
+ghost use Rattle.std.specs.Prelude.{◌≡◌, ◌⊎◌, ◌<◌, length, slice_index, Contains, IsTrue};
 ghost use Rattle.std.specs.Prelude.{IsFalse, IfOk};
 ghost use Rattle.epx_audit.specs.declared.doubtful_touches.DoubtfulTouch.{DoubtfulTouch};
 ghost use Rattle.epx_audit.specs.inner.Batches.{AreSharing};

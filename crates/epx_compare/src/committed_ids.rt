@@ -1,5 +1,5 @@
 //! The committed instances, by rising Id.
-ghost use Rattle.std.specs.Prelude.{◌≡◌, ◌↔◌, ◌<◌, length, map, Contains, IfOk, MatchOption, Some};
+ghost use Rattle.std.specs.Prelude.{◌≡◌, ◌↔◌, ◌<◌, map, Contains, IfOk, MatchOption, Some};
 ghost use Rattle.std.specs.Prelude.{slice_get};
 ghost use Rattle.epx_types.specs.Ids.{IsRising};
 

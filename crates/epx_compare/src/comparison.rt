@@ -1,9 +1,8 @@
 //! What logs say against each other, as text.
-ghost use Rattle.std.specs.Prelude.{◌≡◌, ◌↔◌, ◌<◌, ◌≤◌, ◌∷◌, ◌++◌, [], ℕ, List, length, true};
+ghost use Rattle.std.specs.Prelude.{◌≡◌, ◌↔◌, ◌<◌, ◌≤◌, ◌∷◌, ◌++◌, [], ℕ, List, true};
 ghost use Rattle.std.specs.Prelude.{IfOk, OnOk, MatchResult, Ok, Err};
 ghost use Rattle.std.specs.Thread.{IsSync};
 ghost use Rattle.epx_types.specs.PlacedLines.{Placed};
-ghost use Rattle.epx_committed.specs.InstanceCounts.{AreNamedBy, max_instances};
 ghost use Rattle.epx_merge.specs.Limits.{max_logs};
 ghost use Rattle.epx_merge.specs.LogLines.{BadLineAt, bytes_of, meanings_of};
 ghost use Rattle.epx_compare.specs.ComparisonAnswers.{Compares};

@@ -1,6 +1,6 @@
 //! The instances that a log lacks.
-ghost use Rattle.std.specs.Prelude.{◌≡◌, ◌<◌, ◌≤◌, ◌∷◌, ℕ, Bool, length, map, reverse, drop, All};
-ghost use Rattle.std.specs.Prelude.{if◌then◌else◌, IfOk, OnOk, Some, slice_get};
+ghost use Rattle.std.specs.Prelude.{◌≡◌, ◌<◌, ◌∷◌, ℕ, Bool, length, reverse, drop, All};
+ghost use Rattle.std.specs.Prelude.{if◌then◌else◌, IfOk, OnOk, Some};
 ghost use Rattle.std.specs.List.{list_any};
 ghost use Rattle.epx_types.specs.declared.id.Id.{Id};
 ghost use Rattle.epx_merge.specs.Limits.{max_logs};

@@ -1,5 +1,5 @@
 //! Builds the graph of a committed map, or of what is left of one.
-ghost use Rattle.std.specs.Prelude.{◌≡◌, ◌↔◌, ◌++◌, length, All, AllPairs, Contains, IfOk, OnOk};
+ghost use Rattle.std.specs.Prelude.{◌≡◌, length, All, AllPairs, IfOk, OnOk};
 ghost use Rattle.epx_types.specs.declared.id.Id.{Id};
 ghost use Rattle.epx_types.specs.Ids.{Below, IsRising};
 ghost use Rattle.epx_types.specs.CommittedMap.{ids_of, IsCommitted};

@@ -1,5 +1,5 @@
 //! Pieces of a batch, which workers read.
-ghost use Rattle.std.specs.Prelude.{◌≡◌, ◌<◌, ◌++◌, ◌∷◌, List, [], IfOk, OnOk, MatchOption};
+ghost use Rattle.std.specs.Prelude.{◌≡◌, ◌<◌, ◌++◌, ◌∷◌, List, [], IfOk, MatchOption};
 ghost use Rattle.std.specs.Prelude.{MatchResult, length};
 ghost use Rattle.epx_types.specs.Pieces.{piece_count};
 ghost use Rattle.epx_merge.specs.LogLines.{MeaningAt, placed_at, placed_among, bad_lines_at};

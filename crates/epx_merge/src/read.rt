@@ -1,7 +1,5 @@
 //! Reads logs: returns their committed map, or the first refusal.
-ghost use Rattle.std.specs.Prelude.{◌≡◌, ◌<◌, ◌^◌, ◌∷◌, ◌++◌, ℕ, List, [], MatchResult, length};
-ghost use Rattle.std.specs.Thread.{IsSync};
-ghost use Rattle.epx_lines.specs.Lines.{lines_of};
+ghost use Rattle.std.specs.Prelude.{◌<◌, ℕ, List, [], MatchResult};
 ghost use Rattle.epx_merge.specs.inner.NotedLines.{IsNoting};
 ghost use Rattle.epx_merge.specs.LogLines.{meanings_of, bytes_of};
 ghost use Rattle.epx_merge.specs.Acceptance.{IsAccepted};

@@ -1,5 +1,5 @@
 //! Where the last whole line of some bytes ends.
-ghost use Rattle.std.specs.Prelude.{◌≡◌, ◌≤◌, ◌++◌, length, take, IfOk};
+ghost use Rattle.std.specs.Prelude.{◌≤◌, length, take};
 ghost use Rattle.epx_merge.specs.LogParts.{EndsLine};
 
 /// The number of bytes up to the last line feed.

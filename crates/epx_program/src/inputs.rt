@@ -4,7 +4,6 @@ ghost use Rattle.std.specs.Prelude.{map, string_bytes};
 ghost use Rattle.epx_devices.specs.EitherSources.{value_by};
 ghost use Rattle.epx_devices.specs.declared.either_source.EitherSource.TheVariants as either;
 ghost use Rattle.epx_program.specs.Inputs.{path_of};
-ghost use Rattle.epx_tool.specs.Runs.{AreBytesOf};
 
 use epx_devices::{EitherSource, MemorySource, PathSource, Source};
 use std::alloc::{AllocError, Global};

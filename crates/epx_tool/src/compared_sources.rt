@@ -1,6 +1,5 @@
 //! Reads sources and compares their logs.
 ghost use Rattle.std.specs.Prelude.{◌≡◌, ◌<◌, ◌≤◌, false, length, All};
-ghost use Rattle.std.specs.Thread.{IsSync};
 ghost use Rattle.epx_compare.specs.LaterLogComparisons.{IsComparisonResult};
 ghost use Rattle.epx_tool.specs.inner.SourceReadings.{AreDeliveredUpTo, EndsMaking, EndsReading};
 ghost use Rattle.epx_tool.specs.inner.SourceReadings.{logs_after};

@@ -1,13 +1,12 @@
 //! A run: it reads logs from sources, and writes the answer to a sink.
 ghost use Rattle.std.specs.Prelude.{◌≡◌, ◌≢◌, ◌↔◌, ◌+◌, ◌<◌, ℕ, true, false, map, drop, length};
-ghost use Rattle.std.specs.Prelude.{All, None, Some, slice_get, Ok, Err, IfOk, OnOk, IfErr};
+ghost use Rattle.std.specs.Prelude.{All, None, Some, slice_get, Ok, Err, OnOk, IfErr};
 ghost use Rattle.std.specs.Prelude.{IsErrOf, MatchResult};
 ghost use Rattle.std.specs.Io.KnownBytes.{Appends, Keeps, IsAtEnd};
 ghost use Rattle.epx_merge.specs.Limits.{max_log_bytes};
-ghost use Rattle.epx_merge.specs.Refusals.{FitLimits};
 ghost use Rattle.epx_tool.specs.Answer.{Answers};
 ghost use Rattle.epx_tool.specs.Report.{IsReport};
-ghost use Rattle.epx_tool.specs.Runs.{AreBytesOf, IsFaultOfRun, IsReadingRefusal, IsRunFault};
+ghost use Rattle.epx_tool.specs.Runs.{AreBytesOf, IsFaultOfRun, IsRunFault};
 ghost use Rattle.epx_tool.specs.Sources.{EachConsumesUpTo, StopsAt};
 ghost use Rattle.epx_tool.specs.Delivered.{AnswersDelivered, EndsRefused, EndsWithout};
 ghost use Rattle.epx_tool.specs.Delivered.{WritesDelivered};

@@ -1,5 +1,5 @@
 //! The text of a trace.
-ghost use Rattle.std.specs.Prelude.{◌≡◌, ◌++◌, map, flat_map, IfOk};
+ghost use Rattle.std.specs.Prelude.{◌≡◌, map, flat_map, IfOk};
 ghost use Rattle.epx_types.specs.ExecutionOrder.{IsExecutionOrder};
 ghost use Rattle.epx_trace.specs.TraceLines.{touch_line};
 ghost use Rattle.epx_trace.specs.TraceTexts.{command_of, IsTraceText};

@@ -1,5 +1,5 @@
 //! An instance as a line commits it.
-ghost use Rattle.std.specs.Prelude.{◌≡◌, IsTrue};
+ghost use Rattle.std.specs.Prelude.{◌≡◌};
 
 use epx_types::{Entry, Id, Op};
 use std::hash::{Hash, Hasher};

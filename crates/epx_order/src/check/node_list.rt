@@ -1,13 +1,11 @@
 //! A list of instances, as a list of nodes.
 ghost use Rattle.std.specs.Prelude.{◌≡◌, ℕ, ◌<◌, List, [], ◌∷◌, ◌++◌, length, replicate};
-ghost use Rattle.std.specs.Prelude.{slice_get, slice_set, Some, true, false, IsTrue, IfOk, OnOk};
+ghost use Rattle.std.specs.Prelude.{slice_set, Some, true, false, IsTrue, IfOk, OnOk};
 ghost use Rattle.std.specs.Prelude.{MatchOption, MatchResult};
 ghost use Rattle.epx_types.specs.Instances.{Instance};
-ghost use Rattle.epx_types.specs.Readiness.{IsReady};
 ghost use Rattle.epx_graph.specs.GraphOf.{IsGraphOf};
 ghost use Rattle.epx_order.specs.inner.NodeLists.{AreListed, IsListedIfReady, IsListingFault};
 ghost use Rattle.epx_order.specs.OrderFaults.{ReadyOnce};
-ghost use Rattle.epx_components.specs.Partitions.{parts, IsPartitionOf};
 ghost use Rattle.epx_components.specs.ReadyMarks.{is_marked, AreReadyMarks};
 
 use crate::order_fault::OrderFault;
