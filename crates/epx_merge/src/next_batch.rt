@@ -9,7 +9,7 @@ use std::alloc::Global;
 
 /// The least number of lines in a batch for each of several workers, in the first log. Fewer are
 /// not worth a thread.
-const MIN_LINES_EACH: usize = 2_048;
+const MIN_LINES_EACH: usize = 4_096;
 
 /// The same in later logs. Most of their lines repeat earlier ones, and are skipped in little time.
 const MIN_LATER_LINES_EACH: usize = 8_192;
