@@ -5,20 +5,32 @@
     report = epx.report(["0.jsonl", "1.jsonl"])
     report.store["alice"], report.replies[0].values
 
-A log is a path, or its bytes. `Fault` is raised where epx refuses the logs. Nothing but the
-standard library is needed, and the program at `epx.PROGRAM`. `python3 tools/epx.py` compares the
-answers with those of examples/.
+A log is a path, or its bytes. `Fault` is raised where epx refuses the logs, and with
+`exit_code=True` `Finding` where an answer finds something. Nothing but the standard library is
+needed, and the program at `epx.PROGRAM`. `python3 tools/epx.py` compares the answers with those of
+examples/.
 """
 
 import contextlib
 import dataclasses
+import functools
 import json
 import pathlib
 import subprocess
 import sys
 import tempfile
 
-PROGRAM = pathlib.Path(__file__).resolve().parent.parent / "crates/epx/out/epx"
+HERE = pathlib.Path(__file__).resolve().parent
+FINDS = 5  # the status of an answer that finds something, with `--exit-code`
+
+
+def find_program():
+    """The program that was built or installed with this module, else `epx` of the path."""
+    places = (HERE.parent / "crates/epx/out/epx", HERE.parent.parent / "bin/epx")
+    return next((str(place) for place in places if place.is_file()), "epx")
+
+
+PROGRAM = find_program()
 
 
 class Fault(Exception):
@@ -30,6 +42,15 @@ class Fault(Exception):
         words = text.split()
         self.status = status
         self.number = int(words[2][:-1]) if words[:2] == ["epx:", "fault"] else None
+
+
+class Finding(Exception):
+    """An answer that finds something, where `exit_code` asks for this: in `answer` what the call
+    else returns."""
+
+    def __init__(self, text, answer):
+        super().__init__(text)
+        self.answer = answer
 
 
 @dataclasses.dataclass(frozen=True, order=True)
@@ -80,61 +101,117 @@ class Ordered:
     leader: Id
 
 
-def report(logs, workers=4):
-    """The report of logs."""
-    return read_report(ask("run", [], logs, workers))
+@dataclasses.dataclass(frozen=True)
+class Level:
+    """A ready instance, and the conflict level of its command."""
+
+    id: Id
+    level: int
 
 
-def resume(base, logs, workers=4):
-    """The report that resumes from an earlier one, a path, its bytes or a `Report`."""
+def report(logs, workers=4, exit_code=False):
+    """The report of logs. With `exit_code` it is a finding that an instance waits."""
+    return ask("run", logs, workers, exit_code, read_report)
+
+
+def resume(base, logs, workers=4, exit_code=False):
+    """The report that resumes from an earlier one, a path, its bytes or a `Report`. With
+    `exit_code` it is a finding that an instance waits."""
     first = base.text if isinstance(base, Report) else base
-    return read_report(ask("resume", [first], logs, workers))
+    return ask("resume", [first, *logs], workers, exit_code, read_report)
 
 
-def order(logs, workers=4):
-    """The ready instances in execution order."""
-    rows = map(json.loads, ask("order", [], logs, workers).splitlines())
-    return [Ordered(Id(*row[1:3]), row[3], Id(*row[4:])) for row in rows if row[0] == "order"]
+def order(logs, workers=4, exit_code=False):
+    """The ready instances in execution order. With `exit_code` it is a finding that others
+    wait."""
+    return ask("order", logs, workers, exit_code, read_order)
 
 
-def audit(logs, workers=4):
-    """The least two ready instances that conflict and are not related, or None: covered."""
-    row = json.loads(ask("audit", [], logs, workers))
-    return None if row == ["covered"] else (Id(*row[1:3]), Id(*row[3:]))
+def levels(logs, workers=4, exit_code=False):
+    """The conflict levels of the ready instances, in execution order. With `exit_code` it is a
+    finding that others wait."""
+    return ask("levels", logs, workers, exit_code, read_levels)
 
 
-def check(instances, logs, workers=4, prefix=False):
+def graph(logs, workers=4):
+    """The dependency graph as a text in DOT, the language of Graphviz."""
+    return ask("graph", logs, workers, False, bytes.decode)
+
+
+def audit(logs, workers=4, exit_code=False):
+    """The least two ready instances that conflict and are not related, or None: covered. With
+    `exit_code` such a pair is a finding."""
+    return ask("audit", logs, workers, exit_code, read_pair)
+
+
+def check(instances, logs, workers=4, prefix=False, exit_code=False):
     """What is wrong with a list of instances as an order, or as the beginning of one, as a row of
-    the answer, or None: lawful."""
+    the answer, or None: lawful. With `exit_code` all but lawful is a finding."""
     lines = "".join(f"[{one.replica},{one.number}]\n" for one in instances)
     options = ["--prefix"] if prefix else []
-    row = json.loads(ask("check", [lines.encode()], logs, workers, options))
-    return None if row == ["lawful"] else tuple(row)
+    return ask("check", [lines.encode(), *logs], workers, exit_code, read_verdict, options)
 
 
-def compare(logs, workers=4):
-    """What the logs say against each other, as the rows of the answer."""
-    return [tuple(json.loads(line)) for line in ask("compare", [], logs, workers).splitlines()]
+def compare(logs, workers=4, exit_code=False):
+    """What the logs say against each other, as the rows of the answer. With `exit_code` a row
+    `bad`, `differs` or `lacks` is a finding."""
+    return ask("compare", logs, workers, exit_code, read_rows)
 
 
 def why(one, logs, workers=4):
     """Why an instance is executed where it is, or why it is not, as the rows of the answer."""
-    text = ask("why", [], logs, workers, subject=f"{one.replica}.{one.number}")
-    return [tuple(json.loads(line)) for line in text.splitlines()]
+    return ask("why", logs, workers, False, read_rows, subject=name_of(one))
 
 
 def path(one, other, logs, workers=4):
     """The instances of a shortest path of dependencies, or None."""
-    options = ["--reaches", f"{other.replica}.{other.number}"]
-    text = ask("why", [], logs, workers, options, subject=f"{one.replica}.{one.number}")
-    row = json.loads(text)
-    return None if row == ["none"] else [Id(*pair) for pair in row[1:]]
+    options = ["--reaches", name_of(other)]
+    return ask("why", logs, workers, False, read_path, options, name_of(one))
 
 
 def trace(key, logs, workers=4, reads=False):
     """The executed commands that write a key, or read it too, as the rows of the answer."""
-    text = ask("trace", [], logs, workers, ["--reads"] if reads else [], subject=key)
+    options = ["--reads"] if reads else []
+    return ask("trace", logs, workers, False, read_rows, options, key)
+
+
+def name_of(one):
+    """An instance as words of the command line name it."""
+    return f"{one.replica}.{one.number}"
+
+
+def read_rows(text):
+    """The rows of an answer."""
     return [tuple(json.loads(line)) for line in text.splitlines()]
+
+
+def read_order(text):
+    """The rows `order` of an answer."""
+    rows = read_rows(text)
+    return [Ordered(Id(*row[1:3]), row[3], Id(*row[4:])) for row in rows if row[0] == "order"]
+
+
+def read_levels(text):
+    """The rows `level` of an answer."""
+    return [Level(Id(*row[1:3]), row[3]) for row in read_rows(text) if row[0] == "level"]
+
+
+def read_pair(text):
+    """The two instances of an audit, or None."""
+    row = json.loads(text)
+    return None if row == ["covered"] else (Id(*row[1:3]), Id(*row[3:]))
+
+
+def read_verdict(text):
+    """What a check found, or None."""
+    row = json.loads(text)
+    return None if row == ["lawful"] else tuple(row)
+
+
+def read_path(text):
+    """The instances of a path, or None."""
+    row = json.loads(text)
+    return None if row == ["none"] else [Id(*pair) for pair in row[1:]]
 
 
 def read_report(text):
@@ -154,16 +231,20 @@ def read_report(text):
     return found
 
 
-def ask(command, firsts, logs, workers, options=(), subject=None):
-    """What a subcommand answers about an instance, a key, a base or a list, and logs."""
+def ask(command, texts, workers, exit_code, read, options=(), subject=None):
+    """What a subcommand answers about texts, the base or the list first, as `read` reads it."""
+    options = [*options, "--exit-code"] if exit_code else options
     with contextlib.ExitStack() as stack:
-        paths = [path_of(text, stack) for text in [*firsts, *logs]]
+        paths = [path_of(text, stack) for text in texts]
         paths = paths if subject is None else [subject, *paths]
         words = [PROGRAM, command, *options, "--workers", str(workers), "--", *paths]
         ended = subprocess.run(words, capture_output=True, check=False)
-    if ended.returncode:
+    if ended.returncode not in (0, FINDS):
         raise Fault(ended.stderr.decode().strip(), ended.returncode)
-    return ended.stdout
+    answer = read(ended.stdout)
+    if ended.returncode == FINDS:
+        raise Finding(f"epx {command} finds something", answer)
+    return answer
 
 
 def path_of(text, stack):
@@ -176,10 +257,17 @@ def path_of(text, stack):
     return file.name
 
 
-def test():
+def raised(kind, call):
+    """The exception of this kind that a call raises."""
+    try:
+        call()
+    except kind as found:
+        return found
+    raise AssertionError(f"no {kind.__name__} was raised")
+
+
+def test_answers(examples, logs):
     """Compares answers with the examples."""
-    examples = PROGRAM.parents[3] / "examples"
-    logs = sorted(examples.glob("replicas/*.jsonl"))
     found = report(logs)
     assert found.text == (examples / "replicas/all.report").read_bytes()
     assert found == report([log.read_bytes() for log in logs], workers=1)
@@ -187,9 +275,11 @@ def test():
     assert found.replies[4] == Reply(Id(1, 1), (), 0)
     assert found.waiting == [Waiting(Id(2, 1), Id(2, 2))]
     assert [one.id for one in order(logs)] == [one.id for one in found.replies]
+    assert [one.id for one in levels(logs)] == [one.id for one in found.replies]
+    assert levels(logs)[-1] == Level(Id(2, 3), 3)
+    assert graph(logs) == (examples / "replicas/all.dot").read_text()
     assert audit(logs) is None and check([one.id for one in order(logs)], logs) is None
     assert check([], logs)[0] == "missing" and check([], logs, prefix=True) is None
-    assert audit([examples / "unrelated.jsonl"]) is not None
     kinds = [row[0] for row in compare(sorted(examples.glob("corrupted/*.jsonl")))]
     assert kinds == ["log"] * 5 + ["bad", "differs"] + ["lacks"] * 4 + ["missing"]
     assert why(Id(2, 1), logs) == [("waiting", 2, 1, 2, 2), ("needs", 2, 2, 1)]
@@ -199,13 +289,38 @@ def test():
     assert trace("bob", logs, reads=True)[2] == ("read", 1, 1, 50)
     halves = [examples / "halves/first.jsonl", examples / "halves/second.jsonl"]
     assert resume(report(halves[:1]), halves[1:]).store == found.store
-    try:
-        report([b"{}"])
-    except Fault as fault:
-        assert (fault.number, fault.status) == (4, 1)
-    else:
-        raise AssertionError("a bad line was taken")
-    print("the answers are those of examples/")
+
+
+def test_findings(examples, logs):
+    """Asks for findings where there is one, where there is none, and of no logs."""
+    unrelated, one = [examples / "unrelated.jsonl"], [examples / "one.jsonl"]
+    for ask_for in (report, order, levels, functools.partial(resume, report([]))):
+        assert raised(Finding, lambda: ask_for(logs, exit_code=True)).answer == ask_for(logs)
+        assert ask_for(one, exit_code=True) == ask_for(one)
+    assert raised(Finding, lambda: audit(unrelated, exit_code=True)).answer == audit(unrelated)
+    assert audit(logs, exit_code=True) is None and audit(unrelated) is not None
+    assert raised(Finding, lambda: check([], logs, exit_code=True)).answer == check([], logs)
+    assert check([], logs, prefix=True, exit_code=True) is None
+    assert raised(Finding, lambda: compare(logs, exit_code=True)).answer == compare(logs)
+    assert compare(one, exit_code=True) == compare(one)
+    for ask_for in (report, order, levels, audit, compare):
+        fault = raised(Fault, lambda: ask_for([], exit_code=True))
+        assert (fault.number, fault.status) == (None, 2)
+    fault = raised(Fault, lambda: report([b"{}"]))
+    assert (fault.number, fault.status) == (4, 1)
+
+
+def test():
+    """Compares answers with the examples of the repository."""
+    examples = HERE.parent / "examples"
+    if not examples.is_dir():
+        print(f"epx.py: there is no folder {examples} to compare with", file=sys.stderr)
+        return 2
+    logs = sorted(examples.glob("replicas/*.jsonl"))
+    test_answers(examples, logs)
+    test_findings(examples, logs)
+    print("the answers are those of examples/, and the findings as well")
+    return 0
 
 
 if __name__ == "__main__":
