@@ -1,18 +1,52 @@
-# Completion of epx for bash.
+# Completion of epx for bash, which tools/manual writes.
+
+# Offers those of these words that begin as the word at the cursor does, and no files.
+_epx_offer() {
+    compopt +o default +o bashdefault
+    mapfile -t COMPREPLY < <(compgen -W "$1" -- "${COMP_WORDS[COMP_CWORD]}")
+}
+
+# Offers subcommands: all of them where none begins as a misspelt word does.
+_epx_offer_commands() {
+    local commands="run order levels graph resume audit check compare why trace help"
+    _epx_offer "$commands"
+    [ "${#COMPREPLY[@]}" -gt 0 ] || read -ra COMPREPLY <<<"$commands"
+}
+
 _epx() {
-    local word=${COMP_WORDS[COMP_CWORD]} options="--workers --cut --explain --help"
-    case ${COMP_WORDS[1]} in audit|check|compare) options+=" --exit-code" ;; esac
-    case ${COMP_WORDS[1]} in
-        check) options+=" --prefix" ;;
-        why) options+=" --reaches" ;;
-        trace) options+=" --reads" ;;
+    local cursor=${COMP_WORDS[COMP_CWORD]} options firsts word is_value="" is_ended=""
+    case "$COMP_CWORD ${COMP_WORDS[1]}" in
+        "1 -"*) _epx_offer "--help --version"; return ;;
+        "1 "* | "2 help") _epx_offer_commands; return ;;
     esac
-    if [ "$COMP_CWORD" -eq 1 ]; then
-        COMPREPLY=($(compgen -W "run order levels graph resume audit check compare why trace help --help --version" -- "$word"))
-    elif [ "${word#-}" != "$word" ]; then
-        COMPREPLY=($(compgen -W "$options" -- "$word"))
-    else
-        COMPREPLY=($(compgen -f -- "$word"))
+    # the options of the subcommand, and how many names that are no paths come first
+    case ${COMP_WORDS[1]} in
+        run|order|levels|graph|resume) options=" --workers --cut --explain --help " firsts=0 ;;
+        audit|compare) options=" --workers --cut --explain --exit-code --help " firsts=0 ;;
+        check) options=" --workers --cut --explain --exit-code --prefix --help " firsts=0 ;;
+        why) options=" --workers --cut --explain --reaches --help " firsts=1 ;;
+        trace) options=" --workers --cut --explain --reads --help " firsts=1 ;;
+        *) _epx_offer ""; return ;;
+    esac
+    for word in "${COMP_WORDS[@]:2:COMP_CWORD-2}"; do
+        if [ -n "$is_value" ]; then
+            # bash takes --workers=4 for three words
+            [ "$word" = "=" ] || is_value=""
+        elif [ -z "$is_ended" ] && [[ $word == -?* ]]; then
+            options=${options/ "$word" / }
+            case $word in --) is_ended=1 ;; --workers | --cut | --reaches) is_value=1 ;; esac
+        else
+            firsts=$((firsts - 1))
+        fi
+    done
+    if [ -n "$is_value" ]; then
+        _epx_offer ""
+    elif [ -z "$is_ended" ] && [[ $cursor == -* ]]; then
+        _epx_offer "$options"
+    elif [ "$firsts" -gt 0 ]; then
+        _epx_offer ""
     fi
 }
-complete -o filenames -F _epx epx
+
+# Where a path is, nothing is offered above, and bash completes it as it does for other commands.
+complete -o bashdefault -o default -F _epx epx

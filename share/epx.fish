@@ -1,0 +1,71 @@
+# Completion of epx for fish, which tools/manual writes.
+
+# Whether the subcommand before the cursor is one of these.
+function __epx_in
+    set -l words (commandline -opc)
+    contains -- "$words[2]" $argv
+end
+
+# Whether a subcommand is at the cursor, first or after `help`.
+function __epx_at_command
+    set -l words (commandline -opc)
+    test (count $words) -eq 1; or test (count $words) -eq 2 -a "$words[2]" = help
+end
+
+# Whether a path may be at the cursor: not where an option or its value is, and not before the names
+# that are no paths.
+function __epx_at_path
+    set -l words (commandline -opc)
+    set -l firsts
+    switch "$words[2]"
+        case run order levels graph resume audit check compare
+            set firsts 0
+        case why trace
+            set firsts 1
+        case '*'
+            return 1
+    end
+    set -e words[1..2]
+    set -l is_value
+    set -l is_ended
+    for word in $words
+        if set -q is_value[1]
+            set is_value
+        else if not set -q is_ended[1]; and string match -q -- '-?*' $word
+            switch $word
+                case --
+                    set is_ended 1
+                case --workers --cut --reaches
+                    set is_value 1
+            end
+        else
+            set firsts (math $firsts - 1)
+        end
+    end
+    set -q is_ended[1]; or not string match -q -- '-*' (commandline -ct); or return 1
+    not set -q is_value[1]; and test $firsts -le 0
+end
+
+complete -c epx -f
+complete -c epx -n __epx_at_path -F
+complete -c epx -n 'test (count (commandline -opc)) -eq 1; and not __fish_contains_opt help' -l help -d 'Print help'
+complete -c epx -n 'test (count (commandline -opc)) -eq 1; and not __fish_contains_opt version' -l version -d 'Print version'
+complete -c epx -n __epx_at_command -a run -d 'Prints the report: replies, what must wait, the final store'
+complete -c epx -n __epx_at_command -a order -d 'Prints the execution order'
+complete -c epx -n __epx_at_command -a levels -d 'Prints the conflict levels of the commands'
+complete -c epx -n __epx_at_command -a graph -d 'Prints the dependency graph, to be drawn by Graphviz'
+complete -c epx -n __epx_at_command -a resume -d 'Goes on from an earlier report, and prints the report'
+complete -c epx -n __epx_at_command -a audit -d 'Says whether the logs are covered'
+complete -c epx -n __epx_at_command -a check -d 'Says whether a list of instances is an order that the protocol allows'
+complete -c epx -n __epx_at_command -a compare -d 'Says what the logs say against each other'
+complete -c epx -n __epx_at_command -a why -d 'Says why an instance is executed where it is, or why it is not'
+complete -c epx -n __epx_at_command -a trace -d 'Prints which executed commands write a key'
+complete -c epx -n __epx_at_command -a help -d 'Print this message or the help of the given subcommand(s)'
+complete -c epx -n '__epx_in run order levels graph resume audit check compare why trace; and not __fish_contains_opt workers' -l workers -x -d 'Workers that share the work, 1 to 64'
+complete -c epx -n '__epx_in run order levels graph resume audit check compare why trace; and not __fish_contains_opt cut' -l cut -x -d 'Items in a piece of work, 1 to 65536'
+complete -c epx -n '__epx_in run order levels graph resume audit check compare why trace; and not __fish_contains_opt explain' -l explain -d 'Explains a fault in one more line'
+complete -c epx -n '__epx_in run order levels graph resume audit check compare why trace; and not __fish_contains_opt help' -l help -d 'Print help'
+complete -c epx -n '__epx_in audit check compare; and not __fish_contains_opt exit-code' -l exit-code -d 'Exits with status 5 if something was found'
+complete -c epx -n '__epx_in check; and not __fish_contains_opt prefix' -l prefix -d 'Lets the list lack ready instances, as that of a live replica does'
+complete -c epx -n '__epx_in why; and not __fish_contains_opt reaches' -l reaches -x -d 'Prints a shortest path of dependencies to this instance instead'
+complete -c epx -n '__epx_in trace; and not __fish_contains_opt reads' -l reads -d 'Prints the commands that read the key, too'
