@@ -7,8 +7,8 @@
 
 A log is a path, or its bytes. `Fault` is raised where epx refuses the logs, and with
 `exit_code=True` `Finding` where an answer finds something. Nothing but the standard library is
-needed, and the program at `epx.PROGRAM`. `python3 tools/epx.py` compares the answers with those of
-examples/.
+needed, and the program at `epx.PROGRAM`: where there is none, `FileNotFoundError` is raised.
+`python3 tools/epx.py` compares the answers with those of examples/.
 """
 
 import contextlib
