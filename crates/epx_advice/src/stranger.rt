@@ -1,0 +1,43 @@
+//! Explains that a listed instance is not ready.
+use crate::listed::Listed;
+use epx_committed::Merged;
+use epx_graph::{Waiter, build, waiting};
+use epx_types::{Id, Memory, Plan};
+use std::alloc::Global;
+use std::thread::Threads;
+
+/// The missing instance that an instance waits for, if it waits.
+fn missing_of(waiters: &[Waiter], id: Id) -> Option<Id> {
+    match waiters.binary_search_by_key(&id, |waiter| waiter.id) {
+        Ok(index) => match waiters.get(index) {
+            Some(waiter) => Some(waiter.missing),
+            None => None,
+        },
+        Err(_) => None,
+    }
+}
+
+/// Says whether no log commits the instance, or what it waits for.
+pub(crate) fn explain_stranger<R: Threads + Sync>(
+    rt: &R,
+    alloc: Global,
+    merged: &Merged,
+    listed: Listed,
+    plan: Plan,
+) -> Result<Option<String>, Memory> {
+    let id = listed.id;
+    if merged.get(id).is_none() {
+        return Ok(Some(format!(in alloc;
+            "LIST has {id} at {listed}, which no log commits: is a LOG missing?"
+        )?));
+    }
+    let graph = build(rt, alloc, merged, plan)?;
+    let waiters = waiting(alloc, &graph)?;
+    match missing_of(&waiters, id) {
+        Some(missing) => Ok(Some(format!(in alloc;
+            "LIST has {id} at {listed}, which waits for {missing}; no log commits {missing}: \
+is a LOG missing?"
+        )?)),
+        None => Ok(None),
+    }
+}
