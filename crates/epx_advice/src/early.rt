@@ -40,15 +40,13 @@ fn explain_path(
     let Some(late) = nodes.id(last) else {
         return Ok(None);
     };
-    let id = listed.id;
+    let begin = listed.show(alloc)?;
     let place = explain_place(alloc, nodes, list, last)?;
     if path.len() <= 2 {
-        return Ok(Some(format!(in alloc;
-            "LIST has {id} at {listed}; it depends on {late}, {place}"
-        )?));
+        return Ok(Some(format!(in alloc; "{begin}; it depends on {late}, {place}")?));
     }
     let shown = show_path(alloc, nodes, path)?;
-    Ok(Some(format!(in alloc; "LIST has {id} at {listed}; it reaches {late} by {shown}, {place}")?))
+    Ok(Some(format!(in alloc; "{begin}; it reaches {late} by {shown}, {place}")?))
 }
 
 /// Names what a listed instance reaches outside its component and the list has later or not at

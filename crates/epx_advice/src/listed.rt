@@ -23,6 +23,14 @@ impl fmt::Display for Listed {
     }
 }
 
+impl Listed {
+    /// Says what the list has where. It is the beginning of an explanation.
+    pub fn show(&self, alloc: Global) -> Result<String, Memory> {
+        let Listed { id, position, line } = *self;
+        Ok(format!(in alloc; "LIST has {id} at position {position} (from 0), line {line}")?)
+    }
+}
+
 /// The number of each line that is not blank.
 fn line_numbers(alloc: Global, list: &[u8]) -> Result<Vec<usize>, Memory> {
     let lines = cut_lines(alloc, list)?;

@@ -54,10 +54,10 @@ fn explain_left_out(
     let Some(other) = nodes.id(node) else {
         return Ok(None);
     };
-    let id = listed.id;
+    let begin = listed.show(alloc)?;
     Ok(Some(format!(in alloc;
-        "LIST has {id} at {listed}, with seq {seq}, and lacks {other} of its component, which \
-comes before it with seq {other_seq}"
+        "{begin}, with seq {seq}; {other} of its component comes before it, with seq \
+{other_seq}, and LIST does not have it"
     )?))
 }
 
@@ -69,10 +69,11 @@ fn explain_order(
     other: Listed,
     other_seq: u64,
 ) -> Result<Option<String>, Memory> {
-    let (id, other_id) = (listed.id, other.id);
+    let begin = listed.show(alloc)?;
+    let other_id = other.id;
     Ok(Some(format!(in alloc;
-        "LIST has {id} at {listed}, with seq {seq}; {other_id} of its component comes after it \
-with seq {other_seq}, and LIST has it earlier, at {other}"
+        "{begin}, with seq {seq}; {other_id} of its component comes after it, with seq \
+{other_seq}, and LIST has it earlier, at {other}"
     )?))
 }
 

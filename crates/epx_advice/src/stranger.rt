@@ -26,17 +26,15 @@ pub(crate) fn explain_stranger<R: Threads + Sync>(
     plan: Plan,
 ) -> Result<Option<String>, Memory> {
     let id = listed.id;
+    let begin = listed.show(alloc)?;
     if merged.get(id).is_none() {
-        return Ok(Some(format!(in alloc;
-            "LIST has {id} at {listed}, which no log commits: is a LOG missing?"
-        )?));
+        return Ok(Some(format!(in alloc; "{begin}; no log commits it: is a LOG missing?")?));
     }
     let graph = build(rt, alloc, merged, plan)?;
     let waiters = waiting(alloc, &graph)?;
     match missing_of(&waiters, id) {
         Some(missing) => Ok(Some(format!(in alloc;
-            "LIST has {id} at {listed}, which waits for {missing}; no log commits {missing}: \
-is a LOG missing?"
+            "{begin}; it waits for {missing}, which no log commits: is a LOG missing?"
         )?)),
         None => Ok(None),
     }

@@ -18,12 +18,11 @@ fn explain_repeat(
     listed: Listed,
 ) -> Result<Option<String>, Memory> {
     let id = listed.id;
-    match list.iter().find(|other| other.id == id) {
-        Some(first) => Ok(Some(format!(in alloc;
-            "LIST has {id} at {listed}, and before that at {first}"
-        )?)),
-        None => Ok(None),
-    }
+    let Some(first) = list.iter().find(|other| other.id == id) else {
+        return Ok(None);
+    };
+    let begin = listed.show(alloc)?;
+    Ok(Some(format!(in alloc; "{begin}, and before that at {first}")?))
 }
 
 /// The position that a fault names, if it names one.
