@@ -5,6 +5,7 @@ import contextlib
 import os
 import pathlib
 import signal
+import subprocess
 import sys
 import threading
 import time
@@ -48,23 +49,27 @@ def count(word):
     return int(word)
 
 
-def some_of(names):
+def some_of(names, said=None):
     """Reads words with commas between them, each of which must be one of these names."""
 
     def read(word):
         for name in word.split(","):
             if name not in names:
-                raise argparse.ArgumentTypeError(f"{name!r} is none of {', '.join(names)}")
+                raise argparse.ArgumentTypeError(f"{name!r} is none of {said or ', '.join(names)}")
         return word.split(",")
 
     return read
+
+
+# Reads numbers of workers, with commas between them.
+workers = some_of([str(number) for number in range(1, 65)], "1 to 64")
 
 
 def built(program):
     """The absolute path of a program, which must be there."""
     path = pathlib.Path(program).absolute()
     if not path.is_file() or not os.access(path, os.X_OK):
-        stop(f"there is no program {program}: ./epx --version builds it")
+        stop(f"there is no program {program}: ./epx run builds it")
     return str(path)
 
 
@@ -119,6 +124,9 @@ def run(main):
     try:
         status = main()
         sys.stdout.flush()
+    except subprocess.CalledProcessError as error:
+        command = " ".join(map(str, error.cmd[:2]))
+        stop(f"{command} .. ended with {error.returncode}: {(error.stderr or b'')[:200]!r}")
     except BrokenPipeError:
         # whoever read the output has enough of it
         os.dup2(os.open(os.devnull, os.O_WRONLY), 1)
