@@ -1,13 +1,114 @@
 //! Explains which line of a base or a list is bad.
-use crate::contents::{Contents, read_again};
-use crate::inputs::Input;
-use crate::lines::line_at;
+use crate::contents::read_again;
+use crate::file_kind::explain_file_kind;
+use crate::inputs::{Input, Role};
+use crate::lines::{LogLine, line_at};
+use crate::list_line::explain_list_line;
+use crate::looks::{Looks, is_report_line, looks_of};
+use crate::not_json::explain_text;
 use crate::shown::show_bytes;
+use epx_lines::{MAX_LINE_BYTES, read_json};
 use epx_types::Memory;
+use serde_json::Value;
 use std::alloc::Global;
 use std::rt::Files;
 
-/// Shows the line, or says that the input ends before it.
+const FIRST_LINE: &str = "a report begins with [\"executed\",E,\"waiting\",W,\"components\",C]";
+
+const FURTHER_LINE: &str =
+    "a further line of a report begins with \"done\", \"reply\", \"waiting\" or \"store\"";
+
+const OUT_OF_PLACE: &str = "it may not follow the lines before it, or a part of it is wrong: \
+docs/FORMAT.md has the lines of a base";
+
+/// What an input is in place of a base or of a list.
+fn explain_looks(role: Role, looks: Looks) -> Option<&'static str> {
+    match (role, looks) {
+        (Role::List, Looks::Log) => {
+            Some("it looks like a log: LIST comes first, as in epx check LIST LOG..")
+        }
+        (Role::List, Looks::Report) => {
+            Some("it looks like a report: each line of LIST must be [replica,number]")
+        }
+        (Role::Base, Looks::Log) => {
+            Some("it looks like a log: BASE comes first, as in epx resume BASE LOG..")
+        }
+        (Role::Base, Looks::List) => Some("it looks like a list: BASE must be a report"),
+        _ => None,
+    }
+}
+
+/// What a JSON value must be as a line of a base.
+fn expected_line(value: &Value, number: usize) -> &'static str {
+    if number <= 1 {
+        FIRST_LINE
+    } else if is_report_line(value) {
+        OUT_OF_PLACE
+    } else {
+        FURTHER_LINE
+    }
+}
+
+/// Explains a line of a base that is JSON, or None if it is none.
+fn explain_json_line(
+    alloc: Global,
+    line: LogLine<'_>,
+    number: usize,
+) -> Result<Option<&'static str>, Memory> {
+    match read_json(alloc, line.bytes)? {
+        Some(value) => Ok(Some(expected_line(&value, number))),
+        None => Ok(None),
+    }
+}
+
+/// Explains a line of a base.
+fn explain_report_line(
+    alloc: Global,
+    line: LogLine<'_>,
+    number: usize,
+) -> Result<String, Memory> {
+    if let Some(text) = explain_file_kind(alloc, line)? {
+        return Ok(text);
+    }
+    let length = line.bytes.len();
+    if length > MAX_LINE_BYTES {
+        return Ok(format!(in alloc;
+            "line {number} has {length} bytes, and at most {MAX_LINE_BYTES} are allowed"
+        )?);
+    }
+    let shown = show_bytes(alloc, line.bytes)?;
+    if let Some(expected) = explain_json_line(alloc, line, number)? {
+        return Ok(format!(in alloc; "line {number} is {shown}: {expected}")?);
+    }
+    match explain_text(alloc, line, "[")? {
+        Some(text) => Ok(format!(in alloc; "line {number} is {shown}: {text}")?),
+        None => Ok(format!(in alloc; "line {number} is {shown}")?),
+    }
+}
+
+/// Explains a line of a base or a list.
+fn explain_input_line(
+    alloc: Global,
+    role: Role,
+    bytes: &[u8],
+    number: usize,
+) -> Result<String, Memory> {
+    if let Some(text) = explain_looks(role, looks_of(alloc, bytes)?) {
+        return Ok(String::from_str(alloc, text)?);
+    }
+    let Some(line) = line_at(bytes, number) else {
+        if bytes.is_empty() {
+            return Ok(String::from_str(alloc, "it is empty")?);
+        }
+        return Ok(format!(in alloc; "it ends before line {number}: cut off?")?);
+    };
+    match role {
+        Role::List => explain_list_line(alloc, line, number),
+        _ => explain_report_line(alloc, line, number),
+    }
+}
+
+/// Says what a line must be, or that the input ends before it.
 pub(crate) fn explain_base_line<R: Files>(
     rt: &R,
     alloc: Global,
@@ -15,17 +116,14 @@ pub(crate) fn explain_base_line<R: Files>(
     line: usize,
 ) -> Result<String, Memory> {
     let name = input.name(alloc)?;
-    let bytes = match read_again(rt, alloc, input.origin)? {
-        Contents::Bytes(bytes) => bytes,
-        Contents::Unread(reason) => {
-            return Ok(format!(in alloc; "{name}, which {reason}: line {line} is not shown")?);
+    let contents = read_again(rt, alloc, input)?;
+    match contents.bytes() {
+        Ok(bytes) => {
+            let text = explain_input_line(alloc, input.role, bytes, line)?;
+            Ok(format!(in alloc; "{name}; {text}")?)
         }
-    };
-    match line_at(&bytes, line) {
-        Some(found) => {
-            let text = show_bytes(alloc, found.bytes)?;
-            Ok(format!(in alloc; "{name}; line {line} is {text}")?)
+        Err(reason) => {
+            Ok(format!(in alloc; "{name}, which {reason}: line {line} is not shown")?)
         }
-        None => Ok(format!(in alloc; "{name}; it ends before line {line}: cut off?")?),
     }
 }

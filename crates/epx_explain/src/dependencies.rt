@@ -8,8 +8,7 @@ use std::alloc::Global;
 
 /// Whether the list has a number for each replica, or null, as replicas keep their dependencies.
 fn has_number_a_replica(deps: &[Value]) -> bool {
-    deps.iter().any(|dep| dep.is_number())
-        && deps.iter().all(|dep| dep.is_number() || dep.is_null())
+    !deps.is_empty() && deps.iter().all(|dep| dep.is_number() || dep.is_null())
 }
 
 /// Explains the first element that is no Id.
@@ -30,7 +29,8 @@ fn explain_list(alloc: Global, deps: &[Value]) -> Result<Option<String>, Memory>
     if has_number_a_replica(deps) {
         return Ok(Some(String::from_str(
             alloc,
-            "deps is a list of numbers: one number a replica? see docs/INPUT.md",
+            "deps has no pairs: one number or null a replica? tools/expand writes pairs, as \
+docs/INPUT.md says",
         )?));
     }
     let count = deps.len();

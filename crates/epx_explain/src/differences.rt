@@ -1,5 +1,5 @@
 //! Explains how two lines that commit one instance differ.
-use crate::contents::{Contents, read_again};
+use crate::contents::read_again;
 use crate::inputs::{Input, Inputs};
 use crate::lines::line_at;
 use epx_lines::{Line, LineFault, read_line};
@@ -14,10 +14,11 @@ fn read_entry<R: Files>(
     input: Input<'_>,
     line: usize,
 ) -> Result<Option<Entry>, Memory> {
-    let Contents::Bytes(bytes) = read_again(rt, alloc, input.origin)? else {
+    let contents = read_again(rt, alloc, input)?;
+    let Ok(bytes) = contents.bytes() else {
         return Ok(None);
     };
-    let Some(found) = line_at(&bytes, line) else {
+    let Some(found) = line_at(bytes, line) else {
         return Ok(None);
     };
     match read_line(alloc, found.bytes) {
@@ -47,7 +48,7 @@ fn names_of_differences(first: &Entry, second: &Entry) -> Option<&'static str> {
 /// Which inputs the places are in.
 fn name_both(
     alloc: Global,
-    inputs: Inputs<'_>,
+    inputs: &Inputs<'_>,
     first: Place,
     second: Place,
 ) -> Result<String, Memory> {
@@ -63,7 +64,7 @@ fn name_both(
 pub(crate) fn explain_differences<R: Files>(
     rt: &R,
     alloc: Global,
-    inputs: Inputs<'_>,
+    inputs: &Inputs<'_>,
     first: Place,
     second: Place,
 ) -> Result<String, Memory> {

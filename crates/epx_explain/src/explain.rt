@@ -1,32 +1,43 @@
 //! Explains a fault.
 use crate::base_line::explain_base_line;
 use crate::differences::explain_differences;
-use crate::inputs::{FirstInput, Inputs};
+use crate::inputs::Inputs;
 use crate::log_line::explain_bad_line;
 use crate::reading::{explain_length, explain_log_count, explain_read};
+use epx_types::limits::MAX_INSTANCES;
 use epx_types::{Fault, Memory};
 use std::alloc::Global;
 use std::rt::Files;
 
+const MEMORY: &str = "what helps: --workers 1; or run the logs in parts: epx run over a part, then \
+epx resume over its report and the next part";
+
 const WRITE: &str =
     "standard output took no more: is the disk full, or has the reader closed the pipe?";
+
+/// Explains that the logs commit too many instances.
+fn explain_instance_count(alloc: Global) -> Result<String, Memory> {
+    Ok(format!(in alloc;
+        "at most {MAX_INSTANCES} instances are allowed; run the logs in parts: epx run over a part, \
+then epx resume over its report and the next part; what waits is in no report's store, so hand its \
+lines in again with the next part"
+    )?)
+}
 
 /// Explains a fault in one line, without a line feed. None if there is nothing to add to the
 /// fault's own text.
 ///
 /// Opens the files that the command line names again, and reads those of logs whose lines are
-/// bad. `paths` are those of the command line, or None if log 0 is standard input. `first` says
-/// whether the first of them is that of a base or of a list.
+/// bad, if their bytes were not kept.
 pub fn explain_fault<R: Files>(
     rt: &R,
     alloc: Global,
     fault: Fault,
-    paths: Option<&[String]>,
-    first: FirstInput,
+    inputs: &Inputs<'_>,
 ) -> Result<Option<String>, Memory> {
-    let inputs = Inputs { paths, first };
     let text = match fault {
-        Fault::Memory | Fault::TooManyInstances => return Ok(None),
+        Fault::Memory => String::from_str(alloc, MEMORY)?,
+        Fault::TooManyInstances => explain_instance_count(alloc)?,
         Fault::TooManyLogs => explain_log_count(alloc, inputs)?,
         Fault::LogTooLong { log } => explain_length(rt, alloc, inputs.numbered(log))?,
         Fault::BadLine { place, why } => {

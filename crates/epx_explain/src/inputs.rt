@@ -46,31 +46,44 @@ pub(crate) enum Origin<'a> {
 pub(crate) struct Input<'a> {
     pub role: Role,
     pub origin: Origin<'a>,
+    /// The bytes that were kept while it was read.
+    pub kept: Option<&'a [u8]>,
 }
 
 impl<'a> Input<'a> {
+    /// Where it is, as `run/2.jsonl`.
+    pub fn location(&self, alloc: Global) -> Result<String, Memory> {
+        match self.origin {
+            Origin::StandardInput => Ok(String::from_str(alloc, "standard input")?),
+            Origin::File(path) => show_text(alloc, path),
+            Origin::Unnamed => Ok(String::from_str(alloc, "not named")?),
+        }
+    }
+
     /// Which input it is, as `log 2 is run/2.jsonl`.
     pub fn name(&self, alloc: Global) -> Result<String, Memory> {
         let role = self.role;
-        match self.origin {
-            Origin::StandardInput => Ok(format!(in alloc; "{role} is standard input")?),
-            Origin::File(path) => {
-                let path = show_text(alloc, path)?;
-                Ok(format!(in alloc; "{role} is {path}")?)
-            }
-            Origin::Unnamed => Ok(format!(in alloc; "{role} is not named")?),
-        }
+        let location = self.location(alloc)?;
+        Ok(format!(in alloc; "{role} is {location}")?)
     }
 }
 
-/// The inputs of a command. Without paths, log 0 is standard input.
+/// The inputs of a command.
 #[derive(Clone, Copy)]
-pub(crate) struct Inputs<'a> {
+pub struct Inputs<'a> {
+    /// The paths of the command line. If there are none, log 0 is standard input.
     pub paths: Option<&'a [String]>,
+    /// What the first path names.
     pub first: FirstInput,
+    /// By the index of a path, the bytes that were kept while it was read. None for a file, which
+    /// can be read again. May be shorter than the paths.
+    pub kept: &'a [Option<Vec<u8>>],
 }
 
-fn origin_at<'a>(paths: &'a [String], index: usize) -> Origin<'a> {
+fn origin_at<'a>(paths: Option<&'a [String]>, index: usize) -> Origin<'a> {
+    let Some(paths) = paths else {
+        return Origin::StandardInput;
+    };
     match paths.get(index) {
         Some(path) if path.as_str() == "-" => Origin::StandardInput,
         Some(path) => Origin::File(path.as_str()),
@@ -78,16 +91,24 @@ fn origin_at<'a>(paths: &'a [String], index: usize) -> Origin<'a> {
     }
 }
 
-fn log_input<'a>(paths: &'a [String], log: usize) -> Input<'a> {
-    Input {
-        role: Role::Log(log),
-        origin: origin_at(paths, log),
+fn kept_at<'a>(kept: &'a [Option<Vec<u8>>], index: usize) -> Option<&'a [u8]> {
+    match kept.get(index) {
+        Some(Some(bytes)) => Some(bytes.as_slice()),
+        _ => None,
     }
 }
 
 impl<'a> Inputs<'a> {
+    fn at(&self, role: Role, index: usize) -> Input<'a> {
+        Input {
+            role,
+            origin: origin_at(self.paths, index),
+            kept: kept_at(self.kept, index),
+        }
+    }
+
     /// How many logs the command line names.
-    pub fn count_logs(&self) -> usize {
+    pub(crate) fn count_logs(&self) -> usize {
         match (self.paths, self.first) {
             (None, _) => 1,
             (Some(paths), FirstInput::None) => paths.len(),
@@ -96,35 +117,26 @@ impl<'a> Inputs<'a> {
     }
 
     /// BASE or LIST, if the command has one.
-    pub fn first_input(&self) -> Option<Input<'a>> {
-        let role = match self.first {
-            FirstInput::None => return None,
-            FirstInput::Base => Role::Base,
-            FirstInput::List => Role::List,
-        };
-        let origin = match self.paths {
-            Some(paths) => origin_at(paths, 0),
-            None => Origin::Unnamed,
-        };
-        Some(Input { role, origin })
+    pub(crate) fn first_input(&self) -> Option<Input<'a>> {
+        match self.first {
+            FirstInput::None => None,
+            FirstInput::Base => Some(self.at(Role::Base, 0)),
+            FirstInput::List => Some(self.at(Role::List, 0)),
+        }
     }
 
     /// The log with this number.
-    pub fn log(&self, log: usize) -> Input<'a> {
-        match (self.paths, self.first) {
-            (None, _) => Input {
-                role: Role::Log(log),
-                origin: Origin::StandardInput,
-            },
-            (Some(paths), FirstInput::None) => log_input(paths, log),
-            (Some([_, logs @ ..]), _) => log_input(logs, log),
-            (Some([]), _) => log_input(&[], log),
-        }
+    pub(crate) fn log(&self, log: usize) -> Input<'a> {
+        let index = match self.first {
+            FirstInput::None => log,
+            _ => log.saturating_add(1),
+        };
+        self.at(Role::Log(log), index)
     }
 
     /// The input with this number in a fault of reading: BASE and LIST have the number after the
     /// last log.
-    pub fn numbered(&self, number: usize) -> Input<'a> {
+    pub(crate) fn numbered(&self, number: usize) -> Input<'a> {
         match self.first_input() {
             Some(input) if number >= self.count_logs() => input,
             _ => self.log(number),

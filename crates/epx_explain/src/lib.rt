@@ -1,20 +1,27 @@
-//! Explains faults to a person: which file it is, where in it, and what was expected. No clause
-//! says what the texts are: each function returns for every input, and breaks no rule on the way.
+//! Explains faults and comparisons to a person: which file it is, where in it, and what was
+//! expected. No clause says what the texts are: each function returns for every input, and breaks
+//! no rule on the way.
 #![tactic(auto)]
 
+mod answer;
 mod base_line;
+mod comparison;
 mod contents;
 mod dependencies;
 mod differences;
 mod explain;
+mod file_kind;
 mod inputs;
 mod lines;
+mod list_line;
 mod log_line;
+mod looks;
 mod members;
 mod not_json;
 mod operations;
 mod reading;
 mod shown;
 
+pub use comparison::explain_comparison;
 pub use explain::explain_fault;
-pub use inputs::FirstInput;
+pub use inputs::{FirstInput, Inputs};

@@ -1,10 +1,10 @@
-//! Finds a line of a log.
-use epx_lines::cut_line;
+//! Finds a line of an input.
+use epx_lines::{cut_line, is_blank_line};
 
-/// A line of a log.
+/// A line of an input.
 #[derive(Clone, Copy)]
 pub(crate) struct LogLine<'a> {
-    /// The whole log.
+    /// The whole input.
     pub log: &'a [u8],
     /// The line without its line feed.
     pub bytes: &'a [u8],
@@ -26,6 +26,19 @@ pub(crate) fn line_at(log: &[u8], number: usize) -> Option<LogLine<'_>> {
             });
         }
         left -= 1;
+        rest = more;
+    }
+    None
+}
+
+/// The first line that is not blank, without its line feed.
+pub(crate) fn first_line(input: &[u8]) -> Option<&[u8]> {
+    let mut rest = input;
+    while !rest.is_empty() {
+        let (bytes, more) = cut_line(rest);
+        if !is_blank_line(bytes) {
+            return Some(bytes);
+        }
         rest = more;
     }
     None

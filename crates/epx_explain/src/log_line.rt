@@ -1,11 +1,14 @@
 //! Explains why a line of a log is bad.
 use crate::contents::{Contents, read_again};
+use crate::file_kind::explain_file_kind;
 use crate::dependencies::explain_deps;
 use crate::inputs::Input;
 use crate::lines::{LogLine, line_at};
+use crate::looks::{Looks, looks_by};
 use crate::members::{explain_kind, explain_number, explain_status};
-use crate::not_json::{encoding_of, explain_text};
+use crate::not_json::explain_text;
 use crate::operations::explain_ops;
+use crate::shown::show_value;
 use epx_lines::{MAX_LINE_BYTES, read_json};
 use epx_types::{Memory, Why};
 use serde_json::Value;
@@ -33,24 +36,47 @@ several lines?"
     }
 }
 
+/// Why a line may be too long.
+fn explain_long_text(alloc: Global, line: LogLine<'_>) -> Result<String, Memory> {
+    if let Some(text) = explain_file_kind(alloc, line)? {
+        return Ok(text);
+    }
+    let text = if line.bytes.len() == line.log.len() {
+        "a log without line feeds?"
+    } else {
+        "are there several instances in it? write one a line"
+    };
+    Ok(String::from_str(alloc, text)?)
+}
+
 fn explain_too_long(alloc: Global, line: LogLine<'_>) -> Result<Option<String>, Memory> {
     let length = line.bytes.len();
     if length <= MAX_LINE_BYTES {
         return Ok(None);
     }
-    let advice = match encoding_of(line) {
-        Some(encoding) => encoding,
-        None if line.bytes.len() == line.log.len() => "a log without line feeds?",
-        None => "are there several instances in it? write one a line",
-    };
+    let text = explain_long_text(alloc, line)?;
     Ok(Some(format!(in alloc;
-        "the line has {length} bytes, and at most {MAX_LINE_BYTES} are allowed: {advice}"
+        "the line has {length} bytes, and at most {MAX_LINE_BYTES} are allowed: {text}"
     )?))
+}
+
+/// Explains a line that is no object: as one of a list or of a report, if it looks so.
+fn explain_not_object(alloc: Global, value: &Value) -> Result<Option<String>, Memory> {
+    let advice = match looks_by(value) {
+        Looks::List => "as in a list: LIST comes before the logs, as in epx check LIST LOG..",
+        Looks::Report => {
+            "as in a report, which is no log: BASE comes before the logs, as in \
+epx resume BASE LOG.."
+        }
+        _ => return explain_kind(alloc, value),
+    };
+    let shown = show_value(alloc, value)?;
+    Ok(Some(format!(in alloc; "the line is {shown}, {advice}")?))
 }
 
 fn explain_value(alloc: Global, value: &Value, why: Why) -> Result<Option<String>, Memory> {
     match why {
-        Why::NotObject => explain_kind(alloc, value),
+        Why::NotObject => explain_not_object(alloc, value),
         Why::Replica => explain_number(alloc, value, "r", MAX_REPLICA),
         Why::Number => explain_number(alloc, value, "i", u64::MAX),
         Why::Seq => explain_number(alloc, value, "seq", u64::MAX),
@@ -65,7 +91,7 @@ fn explain_value(alloc: Global, value: &Value, why: Why) -> Result<Option<String
 fn explain_line(alloc: Global, line: LogLine<'_>, why: Why) -> Result<Option<String>, Memory> {
     match why {
         Why::TooLong => explain_too_long(alloc, line),
-        Why::NotJson => explain_text(alloc, line),
+        Why::NotJson => explain_text(alloc, line, "{"),
         _ => match read_json(alloc, line.bytes)? {
             Some(value) => explain_value(alloc, &value, why),
             None => Ok(None),
@@ -73,7 +99,28 @@ fn explain_line(alloc: Global, line: LogLine<'_>, why: Why) -> Result<Option<Str
     }
 }
 
-/// Reads the line again, and says what is wrong with it.
+/// Says what is wrong with the line of this number.
+pub(crate) fn explain_line_of(
+    alloc: Global,
+    contents: &Contents<'_>,
+    number: usize,
+    why: Why,
+) -> Result<String, Memory> {
+    let expected = expected_text(why);
+    let bytes = match contents.bytes() {
+        Ok(bytes) => bytes,
+        Err(reason) => return Ok(format!(in alloc; "it {reason}; {expected}")?),
+    };
+    let Some(line) = line_at(bytes, number) else {
+        return Ok(format!(in alloc; "it has no line {number} now; {expected}")?);
+    };
+    match explain_line(alloc, line, why)? {
+        Some(text) => Ok(text),
+        None => Ok(format!(in alloc; "it has changed; {expected}")?),
+    }
+}
+
+/// Names the input of a bad line, and says what is wrong with the line.
 pub(crate) fn explain_bad_line<R: Files>(
     rt: &R,
     alloc: Global,
@@ -82,18 +129,7 @@ pub(crate) fn explain_bad_line<R: Files>(
     why: Why,
 ) -> Result<String, Memory> {
     let name = input.name(alloc)?;
-    let expected = expected_text(why);
-    let bytes = match read_again(rt, alloc, input.origin)? {
-        Contents::Bytes(bytes) => bytes,
-        Contents::Unread(reason) => {
-            return Ok(format!(in alloc; "{name}, which {reason}; {expected}")?);
-        }
-    };
-    let Some(line) = line_at(&bytes, number) else {
-        return Ok(format!(in alloc; "{name}, which has no line {number} now; {expected}")?);
-    };
-    match explain_line(alloc, line, why)? {
-        Some(text) => Ok(format!(in alloc; "{name}; {text}")?),
-        None => Ok(format!(in alloc; "{name}, which has changed; {expected}")?),
-    }
+    let contents = read_again(rt, alloc, input)?;
+    let text = explain_line_of(alloc, &contents, number, why)?;
+    Ok(format!(in alloc; "{name}; {text}")?)
 }

@@ -1,41 +1,16 @@
 //! Explains a line that is no JSON text.
+use crate::file_kind::explain_file_kind;
 use crate::lines::LogLine;
 use crate::shown::show_bytes;
 use epx_types::Memory;
 use serde_json::{Error, Value};
 use std::alloc::Global;
 
-/// A zero byte among so many first bytes of a line is a sign of UTF-16.
-const SAMPLE_BYTES: usize = 64;
-
 /// So many bytes before the bad one are shown.
 const SHOWN_BEFORE: usize = 20;
 
 /// JSON may be nested so deep.
 const MAX_NESTING: usize = 127;
-
-const UTF_16: &str = "the log looks like UTF-16: convert it to UTF-8";
-
-/// What else than JSON in UTF-8 the bytes look like.
-pub(crate) fn encoding_of(line: LogLine<'_>) -> Option<&'static str> {
-    match line.log {
-        [0x1f, 0x8b, ..] => return Some("the log looks like gzip: decompress it"),
-        [0x28, 0xb5, 0x2f, 0xfd, ..] => return Some("the log looks like zstd: decompress it"),
-        [0xff, 0xfe, ..] | [0xfe, 0xff, ..] => return Some(UTF_16),
-        _ => {}
-    }
-    if let [0xef, 0xbb, 0xbf, ..] = line.bytes {
-        return Some("the line begins with a byte order mark: remove these three bytes");
-    }
-    let sample = &line.bytes[..line.bytes.len().min(SAMPLE_BYTES)];
-    if !sample.contains(&0) {
-        return None;
-    }
-    if sample.iter().all(|byte| *byte == 0) {
-        return Some("the line begins with zero bytes: cut off by a crash?");
-    }
-    Some(UTF_16)
-}
 
 /// Whether a line looks like the first of several that one JSON value is written over.
 fn is_begun(bytes: &[u8]) -> bool {
@@ -97,8 +72,13 @@ fn show_before(alloc: Global, before: &[u8]) -> Result<String, Memory> {
     show_bytes(alloc, &before[start..])
 }
 
-/// Explains bytes that do not belong after others.
-fn explain_place(alloc: Global, before: &[u8], after: &[u8]) -> Result<String, Memory> {
+/// Explains bytes that do not belong after others. A line must begin with `opening`.
+fn explain_place(
+    alloc: Global,
+    opening: &str,
+    before: &[u8],
+    after: &[u8],
+) -> Result<String, Memory> {
     if let Err(bad) = str::from_utf8(after) {
         if bad.valid_up_to() == 0 {
             return Ok(String::from_str(alloc, "the byte is not UTF-8")?);
@@ -109,7 +89,7 @@ fn explain_place(alloc: Global, before: &[u8], after: &[u8]) -> Result<String, M
     }
     let shown = show_bytes(alloc, after)?;
     if before.is_empty() {
-        return Ok(format!(in alloc; "the line must begin with {{, not `{shown}`")?);
+        return Ok(format!(in alloc; "the line must begin with {opening}, not `{shown}`")?);
     }
     if is_json(alloc, before)? {
         return Ok(format!(in alloc; "after the value comes `{shown}`: one instance a line")?);
@@ -129,38 +109,52 @@ fn is_number_out_of_range(alloc: Global, error: &Error) -> Result<bool, Memory> 
 }
 
 /// Explains what is wrong at the place of an error.
-fn explain_syntax(alloc: Global, line: LogLine<'_>, error: &Error) -> Result<String, Memory> {
+fn explain_syntax(
+    alloc: Global,
+    line: LogLine<'_>,
+    opening: &str,
+    error: &Error,
+) -> Result<String, Memory> {
     let offset = error.column().saturating_sub(1).min(line.bytes.len());
     let (before, after) = line.bytes.split_at(offset);
     if is_number_out_of_range(alloc, error)? {
         let front = show_before(alloc, before)?;
         return Ok(format!(in alloc; "the number is too large at the end of `{front}`")?);
     }
-    explain_place(alloc, before, after)
+    explain_place(alloc, opening, before, after)
 }
 
-fn explain_error(alloc: Global, line: LogLine<'_>, error: &Error) -> Result<String, Memory> {
+fn explain_error(
+    alloc: Global,
+    line: LogLine<'_>,
+    opening: &str,
+    error: &Error,
+) -> Result<String, Memory> {
     let end = explain_end(line);
     if error.is_eof() {
         let length = line.bytes.len();
         return Ok(format!(in alloc; "byte {length}: the line ends within its JSON value; {end}")?);
     }
     let column = error.column();
-    let text = explain_syntax(alloc, line, error)?;
+    let text = explain_syntax(alloc, line, opening, error)?;
     if line.has_line_feed {
         return Ok(format!(in alloc; "byte {column}: {text}")?);
     }
     Ok(format!(in alloc; "byte {column}: {text}; {end}")?)
 }
 
-/// Explains a line that is no JSON text.
-pub(crate) fn explain_text(alloc: Global, line: LogLine<'_>) -> Result<Option<String>, Memory> {
-    if let Some(encoding) = encoding_of(line) {
-        return Ok(Some(String::from_str(alloc, encoding)?));
+/// Explains a line that is no JSON text, and must be one that begins with `opening`.
+pub(crate) fn explain_text(
+    alloc: Global,
+    line: LogLine<'_>,
+    opening: &str,
+) -> Result<Option<String>, Memory> {
+    if let Some(text) = explain_file_kind(alloc, line)? {
+        return Ok(Some(text));
     }
     match Value::from_slice(alloc, line.bytes) {
         Ok(_) => Ok(None),
         Err(error) if error.is_memory() => Err(Memory),
-        Err(error) => Ok(Some(explain_error(alloc, line, &error)?)),
+        Err(error) => Ok(Some(explain_error(alloc, line, opening, &error)?)),
     }
 }

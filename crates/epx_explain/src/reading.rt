@@ -70,7 +70,7 @@ fn explain_cut(alloc: Global, input: Input<'_>) -> Result<String, Memory> {
         (Role::Log(_), _) => {
             Ok(String::from_str(
                 alloc,
-                "; split -C 64M cuts a log at line feeds into several",
+                "; split -C 64M - PREFIX cuts it at line feeds into several logs",
             )?)
         }
         _ => Ok(String::new(alloc)),
@@ -99,10 +99,10 @@ pub(crate) fn explain_length<R: Files>(
 }
 
 /// Explains that there are too many logs.
-pub(crate) fn explain_log_count(alloc: Global, inputs: Inputs<'_>) -> Result<String, Memory> {
+pub(crate) fn explain_log_count(alloc: Global, inputs: &Inputs<'_>) -> Result<String, Memory> {
     let count = inputs.count_logs();
     Ok(format!(in alloc;
-        "{count} logs are named, and at most {MAX_LOGS} are allowed; \
-several can be joined into one"
+        "{count} logs are named, and at most {MAX_LOGS} are allowed; join some that end with a \
+line feed: cat a b > c; or run a part, and epx resume over its report takes the rest in parts"
     )?)
 }

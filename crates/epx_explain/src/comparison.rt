@@ -1,0 +1,106 @@
+//! Explains the answer of a comparison.
+use crate::answer::{BadLine, Difference, LogFindings, read_answer};
+use crate::contents::{Contents, read_again};
+use crate::inputs::{Input, Inputs};
+use crate::lines::first_line;
+use crate::log_line::explain_line_of;
+use epx_types::Memory;
+use std::alloc::Global;
+use std::rt::Files;
+
+const NO_INSTANCE: &str = "no line commits an instance: is it a log? ";
+
+/// Says how many lines are bad beside the first, if any.
+fn explain_further(alloc: Global, bad: usize) -> Result<String, Memory> {
+    match bad.saturating_sub(1) {
+        0 => Ok(String::new(alloc)),
+        1 => Ok(String::from_str(alloc, "; 1 more line is bad")?),
+        count => Ok(format!(in alloc; "; {count} more lines are bad")?),
+    }
+}
+
+/// Explains the first bad line of a log.
+fn explain_first_bad(
+    alloc: Global,
+    contents: &Contents<'_>,
+    findings: LogFindings,
+    bad: BadLine,
+) -> Result<String, Memory> {
+    let front = if findings.lines == 0 { NO_INSTANCE } else { "" };
+    let line = bad.line;
+    let text = explain_line_of(alloc, contents, line, bad.why)?;
+    let further = explain_further(alloc, findings.bad)?;
+    Ok(format!(in alloc; "{front}line {line}: {text}{further}")?)
+}
+
+/// Why no line of a log without bad lines commits an instance.
+fn explain_nothing(contents: &Contents<'_>) -> &'static str {
+    match contents.bytes() {
+        Err(_) => "no line commits an instance: is it empty?",
+        Ok([]) => "it is empty",
+        Ok(bytes) if first_line(bytes).is_none() => "it has blank lines alone",
+        Ok(_) => "no line commits an instance: all are accepted or pre-accepted",
+    }
+}
+
+/// Names a log, and explains what a comparison finds of it.
+fn explain_log<R: Files>(
+    rt: &R,
+    alloc: Global,
+    input: Input<'_>,
+    findings: LogFindings,
+) -> Result<String, Memory> {
+    let name = input.name(alloc)?;
+    if let Some(bad) = findings.first_bad {
+        let contents = read_again(rt, alloc, input)?;
+        let text = explain_first_bad(alloc, &contents, findings, bad)?;
+        return Ok(format!(in alloc; "{name}; {text}")?);
+    }
+    if findings.lines == 0 {
+        let contents = read_again(rt, alloc, input)?;
+        let text = explain_nothing(&contents);
+        return Ok(format!(in alloc; "{name}; {text}")?);
+    }
+    Ok(name)
+}
+
+/// Names the inputs of a difference, and the members.
+fn explain_difference(
+    alloc: Global,
+    inputs: &Inputs<'_>,
+    difference: &Difference<'_>,
+) -> Result<String, Memory> {
+    let replica = difference.replica;
+    let number = difference.number;
+    let members = difference.members;
+    let first = inputs.log(difference.first.log).location(alloc)?;
+    let first_line = difference.first.line;
+    let second = inputs.log(difference.second.log).location(alloc)?;
+    let second_line = difference.second.line;
+    Ok(format!(in alloc;
+        "instance {replica}.{number} differs in {members} between {first} line {first_line} and \
+{second} line {second_line}"
+    )?)
+}
+
+/// Explains the answer of a comparison, which is printed as ever, in lines without line feeds.
+///
+/// Each log has one line: which path it is, what its first bad line has in place of what was
+/// expected, and why it has no instance. A further line has the first difference. Reads those
+/// logs again of which nothing was kept and that have bad lines or no instance.
+pub fn explain_comparison<R: Files>(
+    rt: &R,
+    alloc: Global,
+    inputs: &Inputs<'_>,
+    answer: &[u8],
+) -> Result<Vec<String>, Memory> {
+    let answer = read_answer(alloc, answer)?;
+    let mut lines = Vec::new(alloc);
+    for (log, findings) in answer.logs.iter().enumerate() {
+        lines.push(explain_log(rt, alloc, inputs.log(log), *findings)?)?;
+    }
+    if let Some(difference) = &answer.difference {
+        lines.push(explain_difference(alloc, inputs, difference)?)?;
+    }
+    Ok(lines)
+}
