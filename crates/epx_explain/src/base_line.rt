@@ -3,11 +3,11 @@ use crate::contents::read_again;
 use crate::file_kind::explain_file_kind;
 use crate::inputs::{Input, Role};
 use crate::lines::{LogLine, line_at};
-use crate::list_line::explain_list_line;
+use crate::list_line::{explain_list_line, is_array_begun};
 use crate::looks::{Looks, is_report_line, looks_of};
 use crate::not_json::explain_text;
 use crate::shown::show_bytes;
-use epx_lines::{MAX_LINE_BYTES, read_json};
+use epx_lines::{MAX_LINE_BYTES, is_blank_line, read_json};
 use epx_types::Memory;
 use serde_json::Value;
 use std::alloc::Global;
@@ -38,35 +38,39 @@ fn explain_looks(role: Role, looks: Looks) -> Option<&'static str> {
     }
 }
 
-/// What a JSON value must be as a line of a base.
-fn expected_line(value: &Value, number: usize) -> &'static str {
+/// How a line of a base must begin.
+fn expected_line(number: usize) -> &'static str {
     if number <= 1 {
         FIRST_LINE
-    } else if is_report_line(value) {
-        OUT_OF_PLACE
     } else {
         FURTHER_LINE
     }
 }
 
-/// Explains a line of a base that is JSON, or None if it is none.
-fn explain_json_line(
-    alloc: Global,
-    line: LogLine<'_>,
-    number: usize,
-) -> Result<Option<&'static str>, Memory> {
-    match read_json(alloc, line.bytes)? {
-        Some(value) => Ok(Some(expected_line(&value, number))),
-        None => Ok(None),
+/// What is wrong with a line of a base that is JSON.
+fn explain_value(value: &Value, number: usize) -> &'static str {
+    if number > 1 && is_report_line(value) {
+        OUT_OF_PLACE
+    } else {
+        expected_line(number)
     }
 }
 
+/// What is wrong with a line of a base.
+fn explain_form(alloc: Global, line: LogLine<'_>, number: usize) -> Result<String, Memory> {
+    if let Some(value) = read_json(alloc, line.bytes)? {
+        return Ok(String::from_str(alloc, explain_value(&value, number))?);
+    }
+    if is_array_begun(line.bytes) {
+        if let Some(text) = explain_text(alloc, line)? {
+            return Ok(text);
+        }
+    }
+    Ok(String::from_str(alloc, expected_line(number))?)
+}
+
 /// Explains a line of a base.
-fn explain_report_line(
-    alloc: Global,
-    line: LogLine<'_>,
-    number: usize,
-) -> Result<String, Memory> {
+fn explain_report_line(alloc: Global, line: LogLine<'_>, number: usize) -> Result<String, Memory> {
     if let Some(text) = explain_file_kind(alloc, line)? {
         return Ok(text);
     }
@@ -76,14 +80,12 @@ fn explain_report_line(
             "line {number} has {length} bytes, and at most {MAX_LINE_BYTES} are allowed"
         )?);
     }
+    let text = explain_form(alloc, line, number)?;
+    if is_blank_line(line.bytes) {
+        return Ok(format!(in alloc; "line {number} is blank: {text}")?);
+    }
     let shown = show_bytes(alloc, line.bytes)?;
-    if let Some(expected) = explain_json_line(alloc, line, number)? {
-        return Ok(format!(in alloc; "line {number} is {shown}: {expected}")?);
-    }
-    match explain_text(alloc, line, "[")? {
-        Some(text) => Ok(format!(in alloc; "line {number} is {shown}: {text}")?),
-        None => Ok(format!(in alloc; "line {number} is {shown}")?),
-    }
+    Ok(format!(in alloc; "line {number} is {shown}: {text}")?)
 }
 
 /// Explains a line of a base or a list.

@@ -11,6 +11,11 @@ use std::alloc::Global;
 /// The greatest replica.
 const MAX_REPLICA: u64 = 255;
 
+/// Whether a line begins as an array does.
+pub(crate) fn is_array_begun(bytes: &[u8]) -> bool {
+    matches!(bytes.trim_ascii_start(), [b'[', ..])
+}
+
 /// Explains an element. None if it is a whole number of at most `most`.
 fn explain_element(
     alloc: Global,
@@ -35,7 +40,7 @@ fn explain_parts(alloc: Global, value: &Value) -> Result<Option<String>, Memory>
     };
     let [replica, number] = parts.as_slice() else {
         let count = parts.len();
-        return Ok(Some(format!(in alloc; "it has {count} elements")?));
+        return Ok(Some(format!(in alloc; "it has {count} in place of 2 elements")?));
     };
     if let Some(text) = explain_element(alloc, 0, "replica", replica, MAX_REPLICA)? {
         return Ok(Some(text));
@@ -53,7 +58,8 @@ fn explain_form(alloc: Global, line: LogLine<'_>) -> Result<Option<String>, Memo
     }
     match read_json(alloc, line.bytes)? {
         Some(value) => explain_parts(alloc, &value),
-        None => explain_text(alloc, line, "["),
+        None if is_array_begun(line.bytes) => explain_text(alloc, line),
+        None => Ok(Some(String::from_str(alloc, "it does not begin with [")?)),
     }
 }
 
@@ -69,9 +75,7 @@ pub(crate) fn explain_list_line(
     let shown = show_bytes(alloc, line.bytes)?;
     match explain_form(alloc, line)? {
         Some(text) => {
-            Ok(format!(in alloc;
-                "line {number} is {shown}, and must be [replica,number]: {text}"
-            )?)
+            Ok(format!(in alloc; "line {number} is {shown}, and must be [replica,number]: {text}")?)
         }
         None => Ok(format!(in alloc; "line {number} is {shown}: has the file changed?")?),
     }

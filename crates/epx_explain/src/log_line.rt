@@ -1,7 +1,7 @@
 //! Explains why a line of a log is bad.
 use crate::contents::{Contents, read_again};
-use crate::file_kind::explain_file_kind;
 use crate::dependencies::explain_deps;
+use crate::file_kind::explain_file_kind;
 use crate::inputs::Input;
 use crate::lines::{LogLine, line_at};
 use crate::looks::{Looks, looks_by};
@@ -91,7 +91,7 @@ fn explain_value(alloc: Global, value: &Value, why: Why) -> Result<Option<String
 fn explain_line(alloc: Global, line: LogLine<'_>, why: Why) -> Result<Option<String>, Memory> {
     match why {
         Why::TooLong => explain_too_long(alloc, line),
-        Why::NotJson => explain_text(alloc, line, "{"),
+        Why::NotJson => explain_text(alloc, line),
         _ => match read_json(alloc, line.bytes)? {
             Some(value) => explain_value(alloc, &value, why),
             None => Ok(None),

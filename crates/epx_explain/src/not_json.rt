@@ -72,13 +72,8 @@ fn show_before(alloc: Global, before: &[u8]) -> Result<String, Memory> {
     show_bytes(alloc, &before[start..])
 }
 
-/// Explains bytes that do not belong after others. A line must begin with `opening`.
-fn explain_place(
-    alloc: Global,
-    opening: &str,
-    before: &[u8],
-    after: &[u8],
-) -> Result<String, Memory> {
+/// Explains bytes that do not belong after others.
+fn explain_place(alloc: Global, before: &[u8], after: &[u8]) -> Result<String, Memory> {
     if let Err(bad) = str::from_utf8(after) {
         if bad.valid_up_to() == 0 {
             return Ok(String::from_str(alloc, "the byte is not UTF-8")?);
@@ -89,7 +84,7 @@ fn explain_place(
     }
     let shown = show_bytes(alloc, after)?;
     if before.is_empty() {
-        return Ok(format!(in alloc; "the line must begin with {opening}, not `{shown}`")?);
+        return Ok(format!(in alloc; "the line must begin with {{, not `{shown}`")?);
     }
     if is_json(alloc, before)? {
         return Ok(format!(in alloc; "after the value comes `{shown}`: one instance a line")?);
@@ -109,52 +104,38 @@ fn is_number_out_of_range(alloc: Global, error: &Error) -> Result<bool, Memory> 
 }
 
 /// Explains what is wrong at the place of an error.
-fn explain_syntax(
-    alloc: Global,
-    line: LogLine<'_>,
-    opening: &str,
-    error: &Error,
-) -> Result<String, Memory> {
+fn explain_syntax(alloc: Global, line: LogLine<'_>, error: &Error) -> Result<String, Memory> {
     let offset = error.column().saturating_sub(1).min(line.bytes.len());
     let (before, after) = line.bytes.split_at(offset);
     if is_number_out_of_range(alloc, error)? {
         let front = show_before(alloc, before)?;
         return Ok(format!(in alloc; "the number is too large at the end of `{front}`")?);
     }
-    explain_place(alloc, opening, before, after)
+    explain_place(alloc, before, after)
 }
 
-fn explain_error(
-    alloc: Global,
-    line: LogLine<'_>,
-    opening: &str,
-    error: &Error,
-) -> Result<String, Memory> {
+fn explain_error(alloc: Global, line: LogLine<'_>, error: &Error) -> Result<String, Memory> {
     let end = explain_end(line);
     if error.is_eof() {
         let length = line.bytes.len();
         return Ok(format!(in alloc; "byte {length}: the line ends within its JSON value; {end}")?);
     }
     let column = error.column();
-    let text = explain_syntax(alloc, line, opening, error)?;
+    let text = explain_syntax(alloc, line, error)?;
     if line.has_line_feed {
         return Ok(format!(in alloc; "byte {column}: {text}")?);
     }
     Ok(format!(in alloc; "byte {column}: {text}; {end}")?)
 }
 
-/// Explains a line that is no JSON text, and must be one that begins with `opening`.
-pub(crate) fn explain_text(
-    alloc: Global,
-    line: LogLine<'_>,
-    opening: &str,
-) -> Result<Option<String>, Memory> {
+/// Explains a line that is no JSON text.
+pub(crate) fn explain_text(alloc: Global, line: LogLine<'_>) -> Result<Option<String>, Memory> {
     if let Some(text) = explain_file_kind(alloc, line)? {
         return Ok(Some(text));
     }
     match Value::from_slice(alloc, line.bytes) {
         Ok(_) => Ok(None),
         Err(error) if error.is_memory() => Err(Memory),
-        Err(error) => Ok(Some(explain_error(alloc, line, opening, &error)?)),
+        Err(error) => Ok(Some(explain_error(alloc, line, &error)?)),
     }
 }
