@@ -1,6 +1,6 @@
 //! The line that explains a fault.
 
-use epx_explain::{FirstInput, explain_fault};
+use epx_explain::{FirstInput, Inputs, explain_fault};
 use epx_tool::{Flags, Task, Words};
 use epx_types::Fault;
 use std::alloc::AllocGlobal;
@@ -38,7 +38,12 @@ pub(crate) fn explain_failure<R: AllocGlobal + Eprint + Files>(
         Some(paths) => Some(paths.as_slice()),
         None => None,
     };
-    if let Ok(Some(line)) = explain_fault(rt, rt.alloc(), fault, paths, first) {
+    let inputs = Inputs {
+        paths,
+        first,
+        kept: &[],
+    };
+    if let Ok(Some(line)) = explain_fault(rt, rt.alloc(), fault, &inputs) {
         let _printed = eprintln!(rt; "epx: {line}");
     }
 }
