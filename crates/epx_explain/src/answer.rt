@@ -1,4 +1,5 @@
 //! Reads what a comparison says of logs.
+use epx_lines::cut_line;
 use epx_types::{Memory, Place, Why};
 use std::alloc::Global;
 use std::str;
@@ -98,9 +99,9 @@ fn read_bad_line(rest: &str) -> Option<BadLine> {
     })
 }
 
-/// Reads the rest of `["differs",r,i,[MEMBER,..],[GROUP,..]]`, up to the first place of the second
-/// group.
-fn read_difference<'a>(rest: &'a str) -> Option<Difference<'a>> {
+/// Reads `["differs",r,i,[MEMBER,..],[GROUP,..]]`, up to the first place of the second group.
+fn read_difference<'a>(line: &'a str) -> Option<Difference<'a>> {
+    let rest = line.strip_prefix("[\"differs\",")?;
     let (head, groups) = rest.split_once("],[[[")?;
     let (instance, members) = head.split_once(",[")?;
     let (replica, number) = instance.split_once(',')?;
@@ -142,18 +143,20 @@ fn take_line(logs: &mut Vec<LogFindings>, line: &str) -> Result<bool, Memory> {
 /// Reads the answer of a comparison up to its first difference.
 pub(crate) fn read_answer<'a>(alloc: Global, answer: &'a [u8]) -> Result<Answer<'a>, Memory> {
     let mut logs = Vec::new(alloc);
-    let mut difference = None;
-    for bytes in answer.split(|byte| *byte == b'\n') {
+    let mut rest = answer;
+    while !rest.is_empty() {
+        let (bytes, more) = cut_line(rest);
         let Ok(line) = str::from_utf8(bytes) else {
             break;
         };
         if !take_line(&mut logs, line)? {
-            difference = match line.strip_prefix("[\"differs\",") {
-                Some(rest) => read_difference(rest),
-                None => None,
-            };
-            break;
+            let difference = read_difference(line);
+            return Ok(Answer { logs, difference });
         }
+        rest = more;
     }
-    Ok(Answer { logs, difference })
+    Ok(Answer {
+        logs,
+        difference: None,
+    })
 }

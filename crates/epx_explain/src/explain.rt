@@ -18,9 +18,9 @@ const WRITE: &str =
 /// Explains that the logs commit too many instances.
 fn explain_instance_count(alloc: Global) -> Result<String, Memory> {
     Ok(format!(in alloc;
-        "at most {MAX_INSTANCES} instances are allowed; run the logs in parts: epx run over a part, \
-then epx resume over its report and the next part; what waits is in no report's store, so hand its \
-lines in again with the next part"
+        "at most {MAX_INSTANCES} instances are allowed; run the logs in parts: epx run over a \
+part, then epx resume over its report and the next part; what waits is in no report's store, so \
+hand its lines in again with the next part"
     )?)
 }
 

@@ -15,11 +15,21 @@ fn sample_of(bytes: &[u8]) -> &[u8] {
 
 /// Whether every second byte is zero, and no other byte is. `first` is the index of the first zero.
 fn alternates(sample: &[u8], first: usize) -> bool {
+    for (index, byte) in sample.iter().enumerate() {
+        if (*byte == 0) != (index % 2 == first) {
+            return false;
+        }
+    }
     sample.len() >= LEAST_SAMPLE
-        && sample
-            .iter()
-            .enumerate()
-            .all(|(index, byte)| (*byte == 0) == (index % 2 == first))
+}
+
+fn index_of_zero(bytes: &[u8]) -> Option<usize> {
+    for (index, byte) in bytes.iter().enumerate() {
+        if *byte == 0 {
+            return Some(index);
+        }
+    }
+    None
 }
 
 /// What an input is by its first bytes.
@@ -57,11 +67,11 @@ fn explain_kind_of(input: &[u8]) -> Option<&'static str> {
 
 /// Explains a line with zero bytes.
 fn explain_zeros(alloc: Global, bytes: &[u8]) -> Result<Option<String>, Memory> {
-    let Some(first) = bytes.iter().position(|byte| *byte == 0) else {
+    let Some(first) = index_of_zero(bytes) else {
         return Ok(None);
     };
     let sample = sample_of(bytes);
-    if sample.iter().all(|byte| *byte == 0) {
+    if [0; SAMPLE_BYTES].starts_with(sample) {
         return Ok(Some(String::from_str(
             alloc,
             "the line begins with zero bytes: cut off by a crash?",

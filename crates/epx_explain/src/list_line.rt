@@ -1,6 +1,7 @@
 //! Explains a bad line of a list.
 use crate::file_kind::explain_file_kind;
 use crate::lines::LogLine;
+use crate::members::is_whole_number;
 use crate::not_json::explain_text;
 use crate::shown::{show_bytes, show_value};
 use epx_lines::{MAX_LINE_BYTES, read_json};
@@ -24,7 +25,7 @@ fn explain_element(
     value: &Value,
     most: u64,
 ) -> Result<Option<String>, Memory> {
-    if value.as_u64().is_some_and(|number| number <= most) {
+    if is_whole_number(value, most) {
         return Ok(None);
     }
     let shown = show_value(alloc, value)?;

@@ -25,6 +25,14 @@ pub(crate) fn explain_kind(alloc: Global, value: &Value) -> Result<Option<String
     Ok(Some(format!(in alloc; "the line is {kind}, and must be an object: one instance a line")?))
 }
 
+/// Whether a value is a whole number of at most `most`.
+pub(crate) fn is_whole_number(value: &Value, most: u64) -> bool {
+    match value.as_u64() {
+        Some(number) => number <= most,
+        None => false,
+    }
+}
+
 /// Explains a member that must be a whole number of at most `most`.
 pub(crate) fn explain_number(
     alloc: Global,
@@ -37,7 +45,7 @@ pub(crate) fn explain_number(
             "\"{name}\" is missing: it must be a whole number from 0 to {most}"
         )?));
     };
-    if value.as_u64().is_some_and(|number| number <= most) {
+    if is_whole_number(value, most) {
         return Ok(None);
     }
     let shown = show_value(alloc, value)?;
