@@ -9,7 +9,6 @@ use crate::not_json::explain_text;
 use crate::shown::show_bytes;
 use epx_lines::{MAX_LINE_BYTES, is_blank_line, read_json};
 use epx_types::Memory;
-use serde_json::Value;
 use std::alloc::Global;
 use std::rt::Files;
 
@@ -38,35 +37,27 @@ fn explain_looks(role: Role, looks: Looks) -> Option<&'static str> {
     }
 }
 
-/// How a line of a base must begin.
-fn expected_line(number: usize) -> &'static str {
-    if number <= 1 {
-        FIRST_LINE
-    } else {
-        FURTHER_LINE
-    }
-}
-
-/// What is wrong with a line of a base that is JSON.
-fn explain_value(value: &Value, number: usize) -> &'static str {
-    if number > 1 && is_report_line(value) {
-        OUT_OF_PLACE
-    } else {
-        expected_line(number)
+/// What is wrong with a line of a base. `is_known` says whether it begins as a line of a report.
+fn explain_place(number: usize, is_known: bool) -> &'static str {
+    match (number, is_known) {
+        (0 | 1, _) => FIRST_LINE,
+        (_, true) => OUT_OF_PLACE,
+        (_, false) => FURTHER_LINE,
     }
 }
 
 /// What is wrong with a line of a base.
 fn explain_form(alloc: Global, line: LogLine<'_>, number: usize) -> Result<String, Memory> {
     if let Some(value) = read_json(alloc, line.bytes)? {
-        return Ok(String::from_str(alloc, explain_value(&value, number))?);
+        let text = explain_place(number, is_report_line(&value));
+        return Ok(String::from_str(alloc, text)?);
     }
     if is_array_begun(line.bytes) {
         if let Some(text) = explain_text(alloc, line)? {
             return Ok(text);
         }
     }
-    Ok(String::from_str(alloc, expected_line(number))?)
+    Ok(String::from_str(alloc, explain_place(number, false))?)
 }
 
 /// Explains a line of a base.

@@ -10,15 +10,6 @@ use std::rt::Files;
 
 const NO_INSTANCE: &str = "no line commits an instance: is it a log? ";
 
-/// Says how many lines are bad beside the first, if any.
-fn explain_further(alloc: Global, bad: usize) -> Result<String, Memory> {
-    match bad.saturating_sub(1) {
-        0 => Ok(String::new(alloc)),
-        1 => Ok(String::from_str(alloc, "; 1 more line is bad")?),
-        count => Ok(format!(in alloc; "; {count} more lines are bad")?),
-    }
-}
-
 /// Explains the first bad line of a log.
 fn explain_first_bad(
     alloc: Global,
@@ -29,8 +20,10 @@ fn explain_first_bad(
     let front = if findings.lines == 0 { NO_INSTANCE } else { "" };
     let line = bad.line;
     let text = explain_line_of(alloc, contents, line, bad.why)?;
-    let further = explain_further(alloc, findings.bad)?;
-    Ok(format!(in alloc; "{front}line {line}: {text}{further}")?)
+    match findings.bad.saturating_sub(1) {
+        0 => Ok(format!(in alloc; "{front}line {line}: {text}")?),
+        count => Ok(format!(in alloc; "{front}line {line}: {text}; further bad lines: {count}")?),
+    }
 }
 
 /// Why no line of a log without bad lines commits an instance.

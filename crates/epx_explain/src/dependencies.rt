@@ -8,7 +8,12 @@ use std::alloc::Global;
 
 /// Whether the list has a number for each replica, or null, as replicas keep their dependencies.
 fn has_number_a_replica(deps: &[Value]) -> bool {
-    !deps.is_empty() && deps.iter().all(|dep| dep.is_number() || dep.is_null())
+    for dep in deps {
+        if !dep.is_number() && !dep.is_null() {
+            return false;
+        }
+    }
+    !deps.is_empty()
 }
 
 /// Explains the first element that is no Id.

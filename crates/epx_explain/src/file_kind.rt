@@ -32,9 +32,10 @@ fn index_of_zero(bytes: &[u8]) -> Option<usize> {
     None
 }
 
-/// What an input is by its first bytes.
+/// What kind of file an input is, by its first bytes, if it is no text in UTF-8.
 fn explain_front(input: &[u8]) -> Option<&'static str> {
-    match input {
+    let sample = sample_of(input);
+    match sample {
         [0x1f, 0x8b, ..] => Some("it looks like gzip; decompress it: gzip -d"),
         [0xfd, b'7', b'z', b'X', b'Z', 0, ..] => Some("it looks like xz; decompress it: xz -d"),
         [0x28, 0xb5, 0x2f, 0xfd, ..] => Some("it looks like zstd; decompress it: zstd -d"),
@@ -46,23 +47,14 @@ fn explain_front(input: &[u8]) -> Option<&'static str> {
         [0xff, 0xfe, ..] | [0xfe, 0xff, ..] => {
             Some("it looks like UTF-16; convert it: iconv -f UTF-16 -t UTF-8")
         }
+        _ if alternates(sample, 1) => {
+            Some("it looks like UTF-16; convert it: iconv -f UTF-16LE -t UTF-8")
+        }
+        _ if alternates(sample, 0) => {
+            Some("it looks like UTF-16; convert it: iconv -f UTF-16BE -t UTF-8")
+        }
         _ => None,
     }
-}
-
-/// What kind of file an input is, if it is no text in UTF-8.
-fn explain_kind_of(input: &[u8]) -> Option<&'static str> {
-    if let Some(text) = explain_front(input) {
-        return Some(text);
-    }
-    let sample = sample_of(input);
-    if alternates(sample, 1) {
-        return Some("it looks like UTF-16; convert it: iconv -f UTF-16LE -t UTF-8");
-    }
-    if alternates(sample, 0) {
-        return Some("it looks like UTF-16; convert it: iconv -f UTF-16BE -t UTF-8");
-    }
-    None
 }
 
 /// Explains a line with zero bytes.
@@ -93,7 +85,7 @@ pub(crate) fn explain_file_kind(
     alloc: Global,
     line: LogLine<'_>,
 ) -> Result<Option<String>, Memory> {
-    if let Some(text) = explain_kind_of(line.log) {
+    if let Some(text) = explain_front(line.log) {
         return Ok(Some(String::from_str(alloc, text)?));
     }
     if let [0xef, 0xbb, 0xbf, ..] = line.bytes {
