@@ -76,11 +76,11 @@ fn explain_difference(
     )?)
 }
 
-/// Explains the answer of a comparison, which is printed as ever, in lines without line feeds.
+/// Explains the answer of a comparison, whose text is `answer`, in lines without line feeds.
 ///
-/// Each log has one line: which path it is, what its first bad line has in place of what was
-/// expected, and why it has no instance. A further line has the first difference. Reads those
-/// logs again of which nothing was kept and that have bad lines or no instance.
+/// Each log has one line: which path it is, what is wrong with its first bad line, and why it has
+/// no instance. A last line has the first difference. A log is read again if it has bad lines or
+/// no instance and its bytes were not kept, and then once.
 pub fn explain_comparison<R: Files>(
     rt: &R,
     alloc: Global,

@@ -75,8 +75,8 @@ pub struct Inputs<'a> {
     pub paths: Option<&'a [String]>,
     /// What the first path names.
     pub first: FirstInput,
-    /// By the index of a path, the bytes that were kept while it was read. None for a file, which
-    /// can be read again. May be shorter than the paths.
+    /// By the index of a path, the bytes that were kept while it was read. None for a file that
+    /// can be read again. The slice may end before the paths do: nothing was kept of the others.
     pub kept: &'a [Option<Vec<u8>>],
 }
 
@@ -91,19 +91,16 @@ fn origin_at<'a>(paths: Option<&'a [String]>, index: usize) -> Origin<'a> {
     }
 }
 
-fn kept_at<'a>(kept: &'a [Option<Vec<u8>>], index: usize) -> Option<&'a [u8]> {
-    match kept.get(index) {
-        Some(Some(bytes)) => Some(bytes.as_slice()),
-        _ => None,
-    }
-}
-
 impl<'a> Inputs<'a> {
     fn at(&self, role: Role, index: usize) -> Input<'a> {
+        let kept = match self.kept.get(index) {
+            Some(Some(bytes)) => Some(bytes.as_slice()),
+            _ => None,
+        };
         Input {
             role,
             origin: origin_at(self.paths, index),
-            kept: kept_at(self.kept, index),
+            kept,
         }
     }
 

@@ -36,25 +36,16 @@ several lines?"
     }
 }
 
-/// Why a line may be too long.
-fn explain_long_text(alloc: Global, line: LogLine<'_>) -> Result<String, Memory> {
-    if let Some(text) = explain_file_kind(alloc, line)? {
-        return Ok(text);
-    }
-    let text = if line.bytes.len() == line.log.len() {
-        "a log without line feeds?"
-    } else {
-        "are there several instances in it? write one a line"
-    };
-    Ok(String::from_str(alloc, text)?)
-}
-
 fn explain_too_long(alloc: Global, line: LogLine<'_>) -> Result<Option<String>, Memory> {
     let length = line.bytes.len();
     if length <= MAX_LINE_BYTES {
         return Ok(None);
     }
-    let text = explain_long_text(alloc, line)?;
+    let text = match explain_file_kind(alloc, line)? {
+        Some(text) => text,
+        None if length == line.log.len() => String::from_str(alloc, "a log without line feeds?")?,
+        None => String::from_str(alloc, "are there several instances in it? write one a line")?,
+    };
     Ok(Some(format!(in alloc;
         "the line has {length} bytes, and at most {MAX_LINE_BYTES} are allowed: {text}"
     )?))
