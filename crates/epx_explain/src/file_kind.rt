@@ -36,10 +36,10 @@ fn index_of_zero(bytes: &[u8]) -> Option<usize> {
 fn explain_front(input: &[u8]) -> Option<&'static str> {
     let sample = sample_of(input);
     match sample {
-        [0x1f, 0x8b, ..] => Some("it looks like gzip; decompress it: gzip -d"),
-        [0xfd, b'7', b'z', b'X', b'Z', 0, ..] => Some("it looks like xz; decompress it: xz -d"),
-        [0x28, 0xb5, 0x2f, 0xfd, ..] => Some("it looks like zstd; decompress it: zstd -d"),
-        [b'B', b'Z', b'h', ..] => Some("it looks like bzip2; decompress it: bzip2 -d"),
+        [0x1f, 0x8b, ..] => Some("it looks like gzip; decompress it: gzip -dc"),
+        [0xfd, b'7', b'z', b'X', b'Z', 0, ..] => Some("it looks like xz; decompress it: xz -dc"),
+        [0x28, 0xb5, 0x2f, 0xfd, ..] => Some("it looks like zstd; decompress it: zstd -dc"),
+        [b'B', b'Z', b'h', ..] => Some("it looks like bzip2; decompress it: bzip2 -dc"),
         [b'P', b'K', 3, 4, ..] | [b'P', b'K', 5, 6, ..] => {
             Some("it looks like a zip archive; unpack it: unzip")
         }
