@@ -5,18 +5,15 @@
 use epx_devices::{StdSink, StdSource};
 use epx_program::{InputKind, start};
 use std::io::IsTerminal;
-use std::os::unix::fs::FileTypeExt;
 use std::process::ExitCode;
 use std::{env, fs};
 
 /// What standard input is.
 fn kind_of_input(rt: &HostRuntime) -> InputKind {
     if rt.stdin().is_terminal() {
-        return InputKind::Terminal;
-    }
-    match fs::metadata(rt, "/dev/stdin") {
-        Ok(data) if data.file_type().is_fifo() => InputKind::Pipe,
-        _ => InputKind::Other,
+        InputKind::Terminal
+    } else {
+        InputKind::Other
     }
 }
 

@@ -6,16 +6,16 @@ use std::alloc::Global;
 /// A search level by level. It meets nodes in the order of the paths to them: shorter ones first,
 /// and those of one length by their Ids, since the edges of a node rise by Id.
 #[derive(Drop)]
-struct Search {
+struct LateSearch {
     /// For each node that was met the node before it on its path. That of the start is itself.
     before: Vec<Option<usize>>,
     /// The nodes that were met, in order.
     met: Vec<usize>,
 }
 
-impl Search {
-    fn new(alloc: Global, nodes: usize) -> Result<Search, Memory> {
-        Ok(Search {
+impl LateSearch {
+    fn new(alloc: Global, nodes: usize) -> Result<LateSearch, Memory> {
+        Ok(LateSearch {
             before: vec![in alloc; None; nodes]?,
             met: Vec::new(alloc),
         })
@@ -70,7 +70,7 @@ pub(crate) fn path_to_late_node(
     position: usize,
 ) -> Result<Option<Vec<usize>>, Memory> {
     let component = nodes.leader(start);
-    let mut search = Search::new(alloc, nodes.len())?;
+    let mut search = LateSearch::new(alloc, nodes.len())?;
     search.meet(start, start)?;
     // Each node is met once at most.
     for turn in 0..nodes.len() {

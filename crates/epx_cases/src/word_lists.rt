@@ -76,7 +76,7 @@ const TOO_MANY_LOGS: [&str; 68] = [
 ];
 
 /// Words of every kind. Each list begins with the name of the program.
-pub(crate) fn word_lists() -> [&'static [&'static str]; 107] {
+pub(crate) fn word_lists() -> [&'static [&'static str]; 130] {
     [
         &["epx"],
         &["epx", "--help"],
@@ -178,6 +178,19 @@ pub(crate) fn word_lists() -> [&'static [&'static str]; 107] {
             "component.jsonl",
         ],
         &["epx", "run", "--exit-code", "0.jsonl"],
+        &["epx", "run", "--exit-code", "0.jsonl", "1.jsonl", "2.jsonl"],
+        &["epx", "order", "--exit-code", "component.jsonl"],
+        &["epx", "levels", "--exit-code", "2.jsonl"],
+        &[
+            "epx",
+            "resume",
+            "--exit-code",
+            "first.report",
+            "second.jsonl",
+        ],
+        &["epx", "run", "--exit-code"],
+        &["epx", "compare"],
+        &["epx", "comapre", "0.jsonl"],
         &["epx", "run", "long.jsonl"],
         &["epx", "run", "0.jsonl", "cut_off.jsonl"],
         &["epx", "run", "0.jsonl", "other.jsonl"],
@@ -227,6 +240,42 @@ pub(crate) fn word_lists() -> [&'static [&'static str]; 107] {
         &["epx", "run", "--explain", "explained/cut_off.jsonl"],
         &["epx", "run", "--explain", "explained/zeros.jsonl"],
         &["epx", "run", "--explain", "explained/too_long.jsonl"],
+        &["epx", "run", "--explain", "explained/xz.jsonl"],
+        &["epx", "run", "--explain", "explained/zstd.jsonl"],
+        &["epx", "run", "--explain", "explained/bzip2.jsonl"],
+        &["epx", "run", "--explain", "explained/zip.jsonl"],
+        &["epx", "run", "--explain", "explained/program.jsonl"],
+        &["epx", "run", "--explain", "explained/utf_16_unmarked.jsonl"],
+        &["epx", "run", "--explain", "explained/zeros_within.jsonl"],
+        &["epx", "run", "--explain", "explained/nulls.jsonl"],
+        &["epx", "run", "--explain", "explained/list.jsonl"],
+        &["epx", "run", "--explain", "explained/report.jsonl"],
+        &[
+            "epx",
+            "check",
+            "--explain",
+            "explained/replica.list",
+            "component.jsonl",
+        ],
+        &["epx", "check", "--explain", "early.list", "component.jsonl"],
+        &[
+            "epx",
+            "compare",
+            "--explain",
+            "0.jsonl",
+            "other.jsonl",
+            "explained/gzip.jsonl",
+            "explained/accepted.jsonl",
+        ],
+        &["epx", "trace", "--explain", "0.jsonl", "1.jsonl"],
+        &["epx", "trace", "--explain", "nobody", "0.jsonl"],
+        &[
+            "epx",
+            "resume",
+            "--explain",
+            "explained/waiting.report",
+            "0.jsonl",
+        ],
     ]
 }
 
@@ -236,8 +285,8 @@ pub(crate) fn lists_with_input() -> [(&'static [&'static str], InputKind); 6] {
         (&["epx", "run", "apart.jsonl", "-", "-"], InputKind::Other),
         (&["epx", "-"], InputKind::Other),
         (&["epx"], InputKind::Terminal),
-        (&["epx", "run"], InputKind::Pipe),
-        (&["epx", "run", "-"], InputKind::Pipe),
-        (&["epx", "check", "--explain", "-"], InputKind::Pipe),
+        (&["epx", "run"], InputKind::Other),
+        (&["epx", "run", "-"], InputKind::Other),
+        (&["epx", "check", "--explain", "-"], InputKind::Other),
     ]
 }

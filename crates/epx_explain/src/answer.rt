@@ -1,8 +1,8 @@
 //! Reads what a comparison says of logs.
-use epx_lines::cut_line;
+use epx_lines::{cut_line, read_json};
 use epx_types::{Memory, Place, Why};
+use serde_json::Value;
 use std::alloc::Global;
-use std::str;
 
 /// The first bad line of a log.
 #[derive(Clone, Copy)]
@@ -21,142 +21,165 @@ pub(crate) struct LogFindings {
     pub first_bad: Option<BadLine>,
 }
 
-/// An instance that two lines commit differently, and the members in which they differ, as the
-/// answer has them.
-#[derive(Clone, Copy)]
-pub(crate) struct Difference<'a> {
-    pub replica: &'a str,
-    pub number: &'a str,
-    pub members: &'a str,
+/// An instance that two lines commit differently.
+#[derive(Drop)]
+pub(crate) struct Difference {
+    pub replica: u64,
+    pub number: u64,
+    /// The members in which the lines differ, with commas between them.
+    pub members: String,
     pub first: Place,
     pub second: Place,
 }
 
 /// What a comparison says of all logs.
 #[derive(Drop)]
-pub(crate) struct Answer<'a> {
+pub(crate) struct Answer {
     pub logs: Vec<LogFindings>,
     /// The first difference.
-    pub difference: Option<Difference<'a>>,
+    pub difference: Option<Difference>,
 }
 
-/// The number with which a text begins.
-fn leading_number(text: &str) -> usize {
-    let mut number = 0_usize;
-    for byte in text.bytes() {
-        if !byte.is_ascii_digit() {
-            return number;
-        }
-        let digit = usize::from(byte.saturating_sub(b'0'));
-        number = number.saturating_mul(10).saturating_add(digit);
-    }
-    number
+fn count_of(value: &Value) -> Option<usize> {
+    usize::try_from(value.as_u64()?).ok()
 }
 
-/// Reads `L,N..` as a place.
-fn read_place(text: &str) -> Option<Place> {
-    let (log, line) = text.split_once(',')?;
+/// Reads `[L,N]`.
+fn read_place(value: &Value) -> Option<Place> {
+    let [log, line] = value.as_array()?.as_slice() else {
+        return None;
+    };
     Some(Place {
-        log: leading_number(log),
-        line: leading_number(line),
+        log: count_of(log)?,
+        line: count_of(line)?,
     })
 }
 
-/// Reads the rest of `["log",L,lines,bad]`.
-fn read_log(rest: &str) -> Option<LogFindings> {
-    let (_, counts) = rest.split_once(',')?;
-    let (lines, bad) = counts.split_once(',')?;
-    Some(LogFindings {
-        lines: leading_number(lines),
-        bad: leading_number(bad),
-        first_bad: None,
-    })
+/// The first place of a group.
+fn first_place(group: &Value) -> Option<Place> {
+    read_place(group.as_array()?.as_slice().first()?)
 }
 
-/// Reads the rest of `["bad",L,N,"WHY"]` from the name of the reason on.
-fn read_why(rest: &str) -> Option<Why> {
-    match rest {
-        "\"TooLong\"]" => Some(Why::TooLong),
-        "\"NotJson\"]" => Some(Why::NotJson),
-        "\"NotObject\"]" => Some(Why::NotObject),
-        "\"Replica\"]" => Some(Why::Replica),
-        "\"Number\"]" => Some(Why::Number),
-        "\"Seq\"]" => Some(Why::Seq),
-        "\"Status\"]" => Some(Why::Status),
-        "\"Deps\"]" => Some(Why::Deps),
-        "\"Ops\"]" => Some(Why::Ops),
+/// The reason why a line is bad, by its name.
+fn read_why(name: &str) -> Option<Why> {
+    match name {
+        "TooLong" => Some(Why::TooLong),
+        "NotJson" => Some(Why::NotJson),
+        "NotObject" => Some(Why::NotObject),
+        "Replica" => Some(Why::Replica),
+        "Number" => Some(Why::Number),
+        "Seq" => Some(Why::Seq),
+        "Status" => Some(Why::Status),
+        "Deps" => Some(Why::Deps),
+        "Ops" => Some(Why::Ops),
         _ => None,
     }
 }
 
-/// Reads the rest of `["bad",L,N,"WHY"]`, without the log.
-fn read_bad_line(rest: &str) -> Option<BadLine> {
-    let (_, rest) = rest.split_once(',')?;
-    let (line, why) = rest.split_once(',')?;
-    Some(BadLine {
-        line: leading_number(line),
-        why: read_why(why)?,
-    })
+/// Takes note of `["bad",L,N,"WHY"]`, if it is the first bad line of its log.
+fn note_bad_line(logs: &mut [LogFindings], log: &Value, line: &Value, why: &Value) -> Option<()> {
+    let findings = logs.get_mut(count_of(log)?)?;
+    if findings.first_bad.is_none() {
+        findings.first_bad = Some(BadLine {
+            line: count_of(line)?,
+            why: read_why(why.as_str()?)?,
+        });
+    }
+    Some(())
+}
+
+/// Takes `["log",L,lines,bad]`.
+fn take_log(logs: &mut Vec<LogFindings>, lines: &Value, bad: &Value) -> Result<(), Memory> {
+    let (Some(lines), Some(bad)) = (count_of(lines), count_of(bad)) else {
+        return Ok(());
+    };
+    logs.push(LogFindings {
+        lines,
+        bad,
+        first_bad: None,
+    })?;
+    Ok(())
+}
+
+/// The members of a difference, as they are shown.
+fn show_members(alloc: Global, members: &Value) -> Result<String, Memory> {
+    let mut text = String::new(alloc);
+    let Some(members) = members.as_array() else {
+        return Ok(text);
+    };
+    for member in members.as_slice() {
+        if !text.as_str().is_empty() {
+            text.push_str(", ")?;
+        }
+        write!(text, "{member}")?;
+    }
+    Ok(text)
 }
 
 /// Reads `["differs",r,i,[MEMBER,..],[GROUP,..]]`, up to the first place of the second group.
-fn read_difference<'a>(line: &'a str) -> Option<Difference<'a>> {
-    let rest = line.strip_prefix("[\"differs\",")?;
-    let (head, groups) = rest.split_once("],[[[")?;
-    let (instance, members) = head.split_once(",[")?;
-    let (replica, number) = instance.split_once(',')?;
-    let (_, others) = groups.split_once("]],[[")?;
-    Some(Difference {
+fn read_difference(alloc: Global, parts: &[Value]) -> Result<Option<Difference>, Memory> {
+    let [_, replica, number, members, groups] = parts else {
+        return Ok(None);
+    };
+    let (Some(replica), Some(number)) = (replica.as_u64(), number.as_u64()) else {
+        return Ok(None);
+    };
+    let Some(groups) = groups.as_array() else {
+        return Ok(None);
+    };
+    let [one, other, ..] = groups.as_slice() else {
+        return Ok(None);
+    };
+    let (Some(first), Some(second)) = (first_place(one), first_place(other)) else {
+        return Ok(None);
+    };
+    let members = show_members(alloc, members)?;
+    Ok(Some(Difference {
         replica,
         number,
         members,
-        first: read_place(groups)?,
-        second: read_place(others)?,
-    })
+        first,
+        second,
+    }))
 }
 
-/// Takes note of a bad line, if it is the first of its log.
-fn note_bad_line(logs: &mut [LogFindings], rest: &str) {
-    let Some(log) = logs.get_mut(leading_number(rest)) else {
-        return;
-    };
-    if log.first_bad.is_none() {
-        log.first_bad = read_bad_line(rest);
-    }
-}
-
-/// Takes a line about a log or a bad line. False if it is another line.
-fn take_line(logs: &mut Vec<LogFindings>, line: &str) -> Result<bool, Memory> {
-    if let Some(rest) = line.strip_prefix("[\"bad\",") {
-        note_bad_line(logs.as_mut_slice(), rest);
-        return Ok(true);
-    }
-    let Some(rest) = line.strip_prefix("[\"log\",") else {
+/// Takes a line of the answer. False if it is the last that is needed: the lines about logs and bad
+/// lines come first, and then the differences.
+fn take_line(alloc: Global, answer: &mut Answer, line: &Value) -> Result<bool, Memory> {
+    let Some(parts) = line.as_array() else {
         return Ok(false);
     };
-    if let Some(findings) = read_log(rest) {
-        logs.push(findings)?;
+    let parts = parts.as_slice();
+    let [name, log, second, third] = parts else {
+        answer.difference = read_difference(alloc, parts)?;
+        return Ok(false);
+    };
+    match name.as_str() {
+        Some("log") => take_log(&mut answer.logs, second, third)?,
+        Some("bad") => {
+            let _noted = note_bad_line(answer.logs.as_mut_slice(), log, second, third);
+        }
+        _ => return Ok(false),
     }
     Ok(true)
 }
 
 /// Reads the answer of a comparison up to its first difference.
-pub(crate) fn read_answer<'a>(alloc: Global, answer: &'a [u8]) -> Result<Answer<'a>, Memory> {
-    let mut logs = Vec::new(alloc);
-    let mut rest = answer;
+pub(crate) fn read_answer(alloc: Global, text: &[u8]) -> Result<Answer, Memory> {
+    let mut answer = Answer {
+        logs: Vec::new(alloc),
+        difference: None,
+    };
+    let mut rest = text;
     while !rest.is_empty() {
         let (bytes, more) = cut_line(rest);
-        let Ok(line) = str::from_utf8(bytes) else {
+        let Some(line) = read_json(alloc, bytes)? else {
             break;
         };
-        if !take_line(&mut logs, line)? {
-            let difference = read_difference(line);
-            return Ok(Answer { logs, difference });
+        if !take_line(alloc, &mut answer, &line)? {
+            break;
         }
         rest = more;
     }
-    Ok(Answer {
-        logs,
-        difference: None,
-    })
+    Ok(answer)
 }

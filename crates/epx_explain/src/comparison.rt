@@ -61,11 +61,11 @@ fn explain_log<R: Files>(
 fn explain_difference(
     alloc: Global,
     inputs: &Inputs<'_>,
-    difference: &Difference<'_>,
+    difference: &Difference,
 ) -> Result<String, Memory> {
     let replica = difference.replica;
     let number = difference.number;
-    let members = difference.members;
+    let members = difference.members.as_str();
     let first = inputs.log(difference.first.log).location(alloc)?;
     let first_line = difference.first.line;
     let second = inputs.log(difference.second.log).location(alloc)?;

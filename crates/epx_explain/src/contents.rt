@@ -1,5 +1,5 @@
 //! The bytes of an input: those that were kept, or those that are read again.
-use crate::inputs::{Input, Origin};
+use crate::inputs::{Input, Inputs, Origin};
 use epx_devices::{PathSource, read_log};
 use epx_types::{Fault, Memory};
 use std::alloc::Global;
@@ -8,7 +8,7 @@ use std::rt::Files;
 
 /// What an input holds.
 #[derive(Drop)]
-pub(crate) enum Contents<'a> {
+pub enum Contents<'a> {
     /// These bytes were kept while it was read.
     Kept(&'a [u8]),
     /// It holds these bytes now.
@@ -64,5 +64,17 @@ pub(crate) fn read_again<'a, R: Files>(
         Origin::File(path) => read_file(rt, alloc, path),
         Origin::StandardInput => Ok(Contents::Unread("cannot be read again")),
         Origin::Unnamed => Ok(Contents::Unread("cannot be read")),
+    }
+}
+
+/// The bytes of BASE or LIST: those that were kept, or those that the file holds now.
+pub fn read_first_again<'a, R: Files>(
+    rt: &R,
+    alloc: Global,
+    inputs: &Inputs<'a>,
+) -> Result<Contents<'a>, Memory> {
+    match inputs.first_input() {
+        Some(input) => read_again(rt, alloc, input),
+        None => Ok(Contents::Unread("is not named")),
     }
 }

@@ -18,7 +18,8 @@ use Rattle.epx_tool.specs.WithInput.{AnswersWithInput}
 use Rattle.epx_tool.specs.declared.question.InputQuestion.{InputQuestion}
 use Rattle.epx_tool.specs.declared.question.Question.{Question}
 use Rattle.epx_program.specs.declared.do_task.Asked.TheVariants as asked
-use Rattle.epx_program.specs.Endings.{AddsAnswer, AddsPart, FindsTo, IsTaskResult, IsTaskAnswer}
+use Rattle.epx_program.specs.Endings.{AddsAnswer, AddsPart, IsFindingTo, IsTaskResult}
+use Rattle.epx_program.specs.Endings.{IsTaskAnswer}
 use Rattle.epx_program.specs.Endings.{IsTaskFault, IsTaskText, IsAnswerTo, IsFaultOf, asked_of}
 use Rattle.epx_program.specs.Endings.{on_first_and_logs}
 use Rattle.epx_program.specs.Inputs.{HasFailedRead, OneHasFailedRead}
@@ -147,10 +148,7 @@ module _ {S : Type 0} (remaining : S → Option (List ℕ)) (reads : ReadRelatio
     -- the answer to logs is that of the task, with what it finds
     text_of_logs : (found : Bool) (texts : List (List ℕ)) (text : List ℕ)
         → AnswersFinding question found texts (Ok text) → IsTaskText task found texts text
-    text_of_logs found texts text h = record {
-      answer = subst (λ a. IsAnswerTo a texts (Ok text)) (sym is) h.0;
-      finds = subst (λ a. (found ≡ true) ↔ FindsTo a texts text) (sym is) h.1;
-    }
+    text_of_logs found texts text h = subst (λ a. IsFindingTo a found texts text) (sym is) h
 
     logs_answered : (found : Bool)
         → EndsRun remaining reads fails has_failed (AnswersFinding question found) before after old
@@ -216,10 +214,9 @@ module _ {S : Type 0} (remaining : S → Option (List ℕ)) (reads : ReadRelatio
             → AnswersWithInput (IsBadInput question) (IsFindingWith question found) input logs
             (Ok text)
             → IsTaskText task found texts text
-        text_of_first found text h = record {
-          answer = answers_first text (h.0, (h.1.0, h.1.1, h.1.2.0));
-          finds = subst (λ a. (found ≡ true) ↔ FindsTo a texts text) (sym is) h.1.2.1;
-        }
+        text_of_first found text h = subst (λ a. IsFindingTo a found texts text) (sym is)
+            (same (λ i ls. AnswersWithInput (IsBadInput question) (IsFindingWith question found) i
+            ls (Ok text)) h)
 
         faults_first : (fault : Fault)
             → IsRunFaultWithInput (IsBadInput question) (IsTextWith question) input logs fault

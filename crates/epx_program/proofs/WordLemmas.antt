@@ -15,7 +15,7 @@ use Rattle.epx_words.specs.App.{epx_app}
 use Rattle.epx_words.specs.Requests.{ArePathsOf, AsksFor, FitFlags, FitsRows, IfText, IfWork}
 use Rattle.epx_words.specs.Requests.{IsBare, IsWork, flags_of, task_name}
 use Rattle.epx_words.specs.ExitStatus.{IsTaken, IsTextStatus}
-use Rattle.epx_words.specs.Subjects.{NamesSubject}
+use Rattle.epx_words.specs.Subjects.{NamesAll}
 use Rattle.epx_words.specs.SubcommandRows.{Given, IsCutOf, IsWorkersOf, name_in, rows_in}
 use Rattle.epx_words.specs.declared.words.Task.TheVariants.{Run}
 use Rattle.epx_words.specs.declared.words.Words.{Words}
@@ -72,9 +72,9 @@ module _ (words : List Text) where
   work_fits (text said status) is_task is_workers is_cut are_paths are_parts = tt
 
   text_ends : (asked : Words)
-      → IfText (λ status. (takes epx_app words ≡ false) ⊎ (¬ NamesSubject given)) asked
+      → IfText (λ status. (takes epx_app words ≡ false) ⊎ (¬ NamesAll given)) asked
       → IfText (IsTextStatus kinds given) asked
-      → IfText (λ status. ((takes epx_app words ≡ false) ⊎ (¬ NamesSubject given))
+      → IfText (λ status. ((takes epx_app words ≡ false) ⊎ (¬ NamesAll given))
       × IsTextStatus kinds given status) asked
   text_ends (Work task plan paths) refused ends = tt
   text_ends (WorkWith task plan paths flags) refused ends = tt
@@ -98,7 +98,7 @@ module _ (words : List Text) where
       (λ asked. IsWork asked → FitFlags (flags_of asked) (rows_in given)))
       → (¬ IsBare words → IfOk read (λ asked. IsWork asked ↔ IsTaken kinds given))
       → (¬ IsBare words → IfOk read
-      (IfText (λ status. (takes epx_app words ≡ false) ⊎ (¬ NamesSubject given))))
+      (IfText (λ status. (takes epx_app words ≡ false) ⊎ (¬ NamesAll given))))
       → (¬ IsBare words → IfOk read (IfText (IsTextStatus kinds given)))
       → IfOk read (Asks words)
   asks (Ok asked) bare is_task is_workers is_cut are_paths are_parts flags taken refused ends =

@@ -15,7 +15,7 @@ use Rattle.epx_devices.specs.Transfers.{AppendsPrefix}
 use Rattle.epx_words.specs.App.{epx_app}
 use Rattle.epx_words.specs.Requests.{AsksFor, FitFlags, IfText, IfWork, IsBare, IsWork, flags_of}
 use Rattle.epx_words.specs.SubcommandRows.{rows_in}
-use Rattle.epx_words.specs.Subjects.{NamesSubject}
+use Rattle.epx_words.specs.Subjects.{NamesAll}
 use Rattle.epx_words.specs.ExitStatus.{IsTaken, IsTextStatus}
 use Rattle.epx_words.specs.declared.words.Task.{Task}
 use Rattle.epx_words.specs.declared.words.Task.TheVariants.{Run}
@@ -40,7 +40,7 @@ pub record Asks (words : List Text) (wanted : Words) : Type 0 where
   pub taken : ¬ IsBare words
       → IsWork wanted ↔ IsTaken (fault_of epx_app words) (subcommand_of epx_app words)
   pub text : ¬ IsBare words → IfText (λ status. ((takes epx_app words ≡ false)
-      ⊎ (¬ NamesSubject (subcommand_of epx_app words)))
+      ⊎ (¬ NamesAll (subcommand_of epx_app words)))
       × IsTextStatus (fault_of epx_app words) (subcommand_of epx_app words) status) wanted
 
 -- how the program ends after a text with this status: a text of status 0 is appended to the

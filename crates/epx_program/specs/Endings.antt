@@ -1,5 +1,5 @@
 -- What a task writes, and the exit status of the program.
-use Rattle.std.specs.Prelude.{◌≡◌, ◌≢◌, ◌⊎◌, ◌↔◌, ℕ, Bool, true, List, [], ◌∷◌, length, Option}
+use Rattle.std.specs.Prelude.{◌≡◌, ◌≢◌, ◌⊎◌, ℕ, Bool, true, List, [], ◌∷◌, length, Option}
 use Rattle.std.specs.Prelude.{Result, Ok, Err}
 use Rattle.std.specs.Prelude.{MatchResult}
 use Rattle.std.specs.Io.KnownBytes.{Appends, Keeps}
@@ -11,10 +11,11 @@ use Rattle.epx_words.specs.declared.words.Task.{Task}
 use Rattle.epx_words.specs.declared.words.Task.TheVariants.{Run, Order, Levels, Graph, Resume}
 use Rattle.epx_words.specs.declared.words.Task.TheVariants.{Audit, Check, CheckPrefix, Compare}
 use Rattle.epx_words.specs.declared.words.Task.TheVariants.{Why, Path, Trace}
-use Rattle.epx_tool.specs.Findings.{Finds, FindsWith}
+use Rattle.epx_tool.specs.Findings.{AnswersFinding, IsFindingWith}
 use Rattle.epx_tool.specs.Questions.{AnswersQuestion, IsBadInput, IsInputAnswer, IsTextWith}
 use Rattle.epx_tool.specs.Runs.{IsFaultOfRun}
 use Rattle.epx_tool.specs.RunsWithInput.{IsRunFaultWithInput}
+use Rattle.epx_tool.specs.WithInput.{AnswersWithInput}
 use Rattle.epx_tool.specs.declared.ask.Ask.TheVariants as ask
 use Rattle.epx_tool.specs.declared.question.InputQuestion.TheVariants as about
 use Rattle.epx_tool.specs.declared.question.Question.TheVariants.{Report, View}
@@ -48,10 +49,12 @@ IsAnswerTo (asked.Logs question) texts answer = AnswersQuestion question texts a
 IsAnswerTo (asked.First question) texts answer =
     on_first_and_logs (λ input logs. IsInputAnswer question input logs answer) texts
 
--- this text, which answers what is asked, finds something
-abbrev pub FindsTo : Asked → List (List ℕ) → List ℕ → Type 0
-FindsTo (asked.Logs question) texts text = Finds question texts text
-FindsTo (asked.First question) texts text = FindsWith question text
+-- this text is the answer, and `found` is whether it finds something
+abbrev pub IsFindingTo : Asked → Bool → List (List ℕ) → List ℕ → Type 0
+IsFindingTo (asked.Logs question) found texts text = AnswersFinding question found texts (Ok text)
+IsFindingTo (asked.First question) found texts text = on_first_and_logs
+    (λ input logs. AnswersWithInput (IsBadInput question) (IsFindingWith question found) input logs
+    (Ok text)) texts
 
 -- the faults of a run that writes it, with those of devices
 abbrev pub IsFaultOf : Asked → List (List ℕ) → Fault → Type 0
@@ -69,10 +72,8 @@ abbrev pub IsTaskFault : Task → List (List ℕ) → Fault → Type 0
 IsTaskFault task = IsFaultOf (asked_of task)
 
 -- the text is the answer of the task to these texts, and `found` is whether it finds something
-pub record IsTaskText (task : Task) (found : Bool) (texts : List (List ℕ)) (text : List ℕ) : Type
-    0 where
-  pub answer : IsTaskAnswer task texts (Ok text)
-  pub finds : (found ≡ true) ↔ FindsTo (asked_of task) texts text
+abbrev pub IsTaskText : Task → Bool → List (List ℕ) → List ℕ → Type 0
+IsTaskText task = IsFindingTo (asked_of task)
 
 -- the answer of the task to these texts is appended
 abbrev pub AppendsAnswer : Task → Bool → List (List ℕ) → Option (List ℕ) → Option (List ℕ) → Type 0

@@ -8,13 +8,13 @@ ghost use Rattle.epx_program.specs.Inputs.{HasFailedRead, IsInputAlone, text_cou
 ghost use Rattle.epx_program.specs.inner.Outcomes.{TaskOutcome};
 
 use crate::inputs::sources_at;
+use crate::left::Left;
 use epx_tool::{
     Ask, Held, InputQuestion, MemorySource, Question, Sink, Source, Task, run_question,
     run_with_input,
 };
 use epx_types::{Fault, Memory, Plan};
 use std::alloc::Global;
-use std::mem;
 use std::random::RandomSource;
 use std::rt::Files;
 use std::thread::Threads;
@@ -83,38 +83,18 @@ fn write_answer<R: Threads + RandomSource + Sync, S: Source, W: Sink>(
     }
 }
 
-/// As `write_answer`, but it never frees what the run holds.
-fn answer<R: Threads + RandomSource + Sync, S: Source, W: Sink>(
-    rt: &R,
-    alloc: Global,
-    task: Task,
-    plan: Plan,
-    sources: &mut [S],
-    output: &mut W,
-) -> Result<bool, Fault>
-    requires sources { All (λ s. S.has_failed s ≡ false) sources.old }
-    requires output { W.has_failed output.old ≡ false }
-    ensures { TaskOutcome S.remaining S.reads S.fails task sources.old result
-        (W.is_flushed output.new) (W.has_failed output.new) (W.contents output.old)
-        (W.contents output.new) }
-{
-    let mut held = Held::nothing();
-    let answered = write_answer(rt, alloc, task, plan, sources, &mut held, output);
-    // To free each allocation of the map would take time. The process ends soon, and the system
-    // then takes all pages back at once.
-    mem::forget(held);
-    answered
-}
-
 /// Reads the texts at the paths, where a hyphen means the input, and writes the answer. If `paths`
-/// is None, it reads the input alone. Returns whether the answer finds something.
+/// is None, it reads the input alone. Returns whether the answer finds something. `left` gets what
+/// the run holds, and with `keeps` the bytes that can be read only once.
 pub(crate) fn do_task<R: Files + Threads + RandomSource + Sync, I: Source + Drop, W: Sink>(
     rt: &R,
     alloc: Global,
     task: Task,
     plan: Plan,
     paths: &Option<Vec<String>>,
+    keeps: bool,
     input: I,
+    left: &mut Left,
     output: &mut W,
 ) -> Result<bool, Fault>
     requires input { I.has_failed input ≡ false }
@@ -137,10 +117,12 @@ pub(crate) fn do_task<R: Files + Threads + RandomSource + Sync, I: Source + Drop
     let Some(paths) = paths else {
         let mut sources = Vec::new(alloc);
         sources.push(input).map_err(Memory::from)?;
-        return answer(rt, alloc, task, plan, &mut sources, output);
+        return write_answer(rt, alloc, task, plan, &mut sources, &mut left.held, output);
     };
-    let Ok(mut sources) = sources_at(rt, alloc, paths, input) else {
+    let Ok(mut sources) = sources_at(rt, alloc, paths, keeps, input) else {
         return Err(Fault::Memory);
     };
-    answer(rt, alloc, task, plan, &mut sources, output)
+    let done = write_answer(rt, alloc, task, plan, &mut sources, &mut left.held, output);
+    left.keep(&mut sources);
+    done
 }

@@ -6,11 +6,8 @@ use std::io::Eprint;
 /// What standard input is.
 #[derive(Clone, Copy, Debug, PartialEq, Eq)]
 pub enum InputKind {
-    /// A terminal.
     Terminal,
-    /// A pipe.
-    Pipe,
-    /// A file, a device, or closed.
+    /// A pipe, a file, a device, or closed.
     Other,
 }
 
@@ -27,22 +24,16 @@ fn other_paths(task: Task) -> usize {
     }
 }
 
-/// Whether the paths have a log, or the input is read as a base or a list.
-fn has_log_or_input(task: Task, paths: &[String]) -> bool {
-    paths.len() > other_paths(task) || paths.iter().any(|path| path.as_str() == "-")
-}
-
 /// The line about what a task reads, if there is one.
 fn reading_line(kind: InputKind, task: Task, paths: &Option<Vec<String>>) -> Option<&'static str> {
     match (kind, paths) {
         (InputKind::Terminal, None) => Some(FROM_TERMINAL),
-        (InputKind::Pipe, Some(paths)) if !has_log_or_input(task, paths) => Some(NOTHING),
+        (_, Some(paths)) if paths.len() <= other_paths(task) => Some(NOTHING),
         _ => None,
     }
 }
 
-/// Writes a line to standard error where the words ask for one log from a terminal, or for no log
-/// while something is piped in.
+/// Writes a line to standard error where the words ask for one log from a terminal, or for no log.
 pub(crate) fn say_what_is_read(rt: &impl Eprint, kind: InputKind, words: &Words) {
     let line = match words {
         Words::Work { task, paths, .. } | Words::WorkWith { task, paths, .. } => {

@@ -5,8 +5,9 @@ ghost use Rattle.epx_devices.specs.EitherSources.{value_by};
 ghost use Rattle.epx_devices.specs.declared.either_source.EitherSource.TheVariants as either;
 ghost use Rattle.epx_program.specs.Inputs.{path_of};
 
-use epx_devices::{EitherSource, MemorySource, PathSource, Source};
+use epx_devices::{EitherSource, KeptSource, MemorySource, PathSource, Source};
 use std::alloc::{AllocError, Global};
+use std::fs;
 use std::rt::Files;
 
 /// The path that means the input.
@@ -17,6 +18,14 @@ pub(crate) type Input<'a, R, I> = EitherSource<
     PathSource<'a, R>,
     EitherSource<I, MemorySource<'static>>,
 >;
+
+/// Whether the path leads to a file that can be read again. A pipe gives its bytes only once.
+fn can_be_read_again<R: Files>(rt: &R, path: &str) -> bool {
+    match fs::metadata(rt, path) {
+        Ok(data) => path != INPUT && data.is_file(),
+        Err(_) => false,
+    }
+}
 
 /// The source at a path. The first hyphen takes the input.
 fn source_at<'a, R: Files, I: Source>(
@@ -40,13 +49,15 @@ fn source_at<'a, R: Files, I: Source>(
     }
 }
 
-/// A source for each path. No file is opened yet.
+/// A source for each path. No file is opened yet. With `keeps` the bytes that can be read only once
+/// are kept.
 pub(crate) fn sources_at<'a, R: Files, I: Source + Drop>(
     rt: &'a R,
     alloc: Global,
     paths: &'a [String],
+    keeps: bool,
     input: I,
-) -> Result<Vec<Input<'a, R, I>>, AllocError>
+) -> Result<Vec<KeptSource<Input<'a, R, I>>>, AllocError>
     requires { I.has_failed input ≡ false }
     ensures paths { IfOk result
         (λ sources. map path_of sources.items ≡ map string_bytes paths.now) }
@@ -59,7 +70,9 @@ pub(crate) fn sources_at<'a, R: Files, I: Source + Drop>(
     let mut input = Some(input);
     let mut sources = Vec::with_capacity(alloc, paths.len())?;
     for path in paths {
-        sources.push(source_at(rt, path.as_str(), &mut input))?;
+        let source = source_at(rt, path.as_str(), &mut input);
+        let keeps_it = keeps && !can_be_read_again(rt, path.as_str());
+        sources.push(KeptSource::new(alloc, source, keeps_it))?;
     }
     Ok(sources)
 }

@@ -3,9 +3,10 @@
 
 mod do_task;
 mod exit_report;
-mod explain_failure;
+mod explain;
 pub mod input_kind;
 mod inputs;
+mod left;
 mod program;
 mod read_args;
 

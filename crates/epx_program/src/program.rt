@@ -12,26 +12,27 @@ ghost use Rattle.epx_program.specs.Inputs.{HasFailedRead};
 
 use crate::do_task::do_task;
 use crate::exit_report::{print_text, report_fault, report_task};
-use crate::explain_failure::{explain_failure, first_input};
+use crate::explain::explain;
 use crate::input_kind::{InputKind, say_what_is_read};
+use crate::left::Left;
 use crate::read_args::read_args;
-use epx_explain::FirstInput;
 use epx_tool::{Flags, Sink, Source, Task, Words};
 use epx_types::{Fault, Memory, Plan};
 use std::alloc::AllocGlobal;
 use std::env::Args;
 use std::io::{self, Eprint, ErrorKind};
+use std::mem;
 use std::process::ExitCode;
 use std::random::RandomSource;
 use std::rt::Files;
 use std::thread::Threads;
 
 /// Does a task, and returns the exit status. With `--exit-code` the status of an answer says
-/// whether it finds something. With `--explain` a further line on standard error explains a fault.
+/// whether it finds something. With `--explain` further lines on standard error explain a fault, or
+/// what an answer finds.
 fn do_work<R, I, W>(
     rt: &R,
     flags: Flags,
-    first: FirstInput,
     task: Task,
     plan: Plan,
     paths: Option<Vec<String>>,
@@ -53,9 +54,26 @@ where
     ensures nothing { W.has_failed output.new ≡ false → ¬ IsAnswerStatus result
         → Keeps (W.contents output.old) (W.contents output.new) }
 {
-    let done = do_task(rt, rt.alloc(), task, plan, &paths, input, output);
+    let asked = &task;
+    let mut left = Left::nothing(rt.alloc());
+    let done = do_task(
+        rt,
+        rt.alloc(),
+        *asked,
+        plan,
+        &paths,
+        flags.explain,
+        input,
+        &mut left,
+        output,
+    );
     let status = report_task(rt, flags.exit_code, done);
-    explain_failure(rt, flags, first, &paths, done);
+    if flags.explain {
+        explain(rt, asked, plan, &paths, &left, done);
+    }
+    // To free each allocation of the map would take time. The process ends soon, and the system
+    // then takes all pages back at once.
+    mem::forget(left);
     status
 }
 
@@ -87,21 +105,20 @@ where
     ensures nothing { W.has_failed output.new ≡ false → ¬ IsAnswerStatus result
         → Keeps (W.contents output.old) (W.contents output.new) }
 {
-    let first = first_input(&words);
     match words {
         Words::Work { task, plan, paths } => {
             let flags = Flags {
                 exit_code: false,
                 explain: false,
             };
-            do_work(rt, flags, first, task, plan, paths, input, output)
+            do_work(rt, flags, task, plan, paths, input, output)
         }
         Words::WorkWith {
             task,
             plan,
             paths,
             flags,
-        } => do_work(rt, flags, first, task, plan, paths, input, output),
+        } => do_work(rt, flags, task, plan, paths, input, output),
         Words::Text { text, status } => print_text(rt, text.as_str(), status, output),
     }
 }

@@ -23,8 +23,10 @@ mod ReportBaseLemmas
 mod KnownTextLemmas
 mod OrderTextLemmas
 mod VerdictLemmas
+mod VerdictLineLemmas
 mod CheckLemmas
 mod LawfulListLemmas
 mod ReportRangeLemmas
 mod ResumableAnswersLemmas
+mod FindingLemmas
 mod PlainRunLemmas

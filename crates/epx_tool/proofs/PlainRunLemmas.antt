@@ -1,14 +1,25 @@
 -- Runs that say what their answer finds, without it.
-use Rattle.std.proofs.Common.{ℕ, Bool, List, Option, Ok}
+use Rattle.std.proofs.Common.{ℕ, Bool, List, Option, Some, None, Ok}
 use Rattle.epx_devices.specs.Deliveries.{FailRelation, ReadRelation}
 use Rattle.epx_tool.specs.Findings.{AnswersFindingBy, IsFindingWith}
-use Rattle.epx_tool.specs.Questions.{AnswersBy, IsBadInput, IsTextWith}
+use Rattle.epx_tool.specs.Questions.{AnswersBy, IsBadInput, IsInputAnswer, IsTextWith}
 use Rattle.epx_tool.specs.RunEndings.{EndsRun, EndsRunWithInput}
 use Rattle.epx_tool.specs.WithInput.{AnswersWithInput}
 use Rattle.epx_tool.specs.inner.SourceReadings.{EndsMaking}
 use Rattle.epx_tool.specs.declared.question.InputQuestion.{InputQuestion}
 use Rattle.epx_tool.specs.declared.question.MapText.{MapText}
 use Rattle.epx_tool.proofs.RunEndingLemmas.{writes_weaker}
+
+pub answer_plain : (answered : Option MapText) (found : Bool) (logs : List (List ℕ)) (text : List ℕ)
+    → AnswersFindingBy answered found logs (Ok text) → AnswersBy answered logs (Ok text)
+answer_plain (Some kind) found logs text h = (h.0, h.1, h.2.0)
+answer_plain None found logs text h = h.0
+
+pub text_plain : (question : InputQuestion) (found : Bool) (input : List ℕ) (logs : List (List ℕ))
+    (text : List ℕ)
+    → AnswersWithInput (IsBadInput question) (IsFindingWith question found) input logs (Ok text)
+    → IsInputAnswer question input logs (Ok text)
+text_plain question found input logs text h = (h.0, (h.1.0, h.1.1, h.1.2.0))
 
 module _ {S : Type 0} (remaining : S → Option (List ℕ)) (reads : ReadRelation S)
     (fails : FailRelation S) (has_failed : S → Bool) where
@@ -17,7 +28,7 @@ module _ {S : Type 0} (remaining : S → Option (List ℕ)) (reads : ReadRelatio
         → EndsMaking remaining reads fails has_failed (AnswersFindingBy answered found) old new
         (Ok text)
         → EndsMaking remaining reads fails has_failed (AnswersBy answered) old new (Ok text)
-    making_plain text h = (h.0, h.1, h.2.0)
+    making_plain text h = (h.0, h.1, answer_plain answered found h.0 text h.2)
 
     pub run_plain : (was now : Option (List ℕ)) (is_flushed sink_failed : Bool)
         → EndsRun remaining reads fails has_failed (AnswersFindingBy answered found) old new was now
@@ -26,12 +37,12 @@ module _ {S : Type 0} (remaining : S → Option (List ℕ)) (reads : ReadRelatio
         sink_failed (Ok tt)
     run_plain was now is_flushed sink_failed run = record {
       sink = writes_weaker _ _ _ _ _ _ _ _ _ was now is_flushed sink_failed
-          (λ P Q f h logs are. f logs (h logs are)) (λ logs text answer. answer.0)
+          (λ P Q f h logs are. f logs (h logs are)) (answer_plain answered found)
           (λ h. record {
             logs = h.logs;
             delivered = h.delivered;
             text = h.text;
-            answer = h.answer.0;
+            answer = answer_plain answered found h.logs h.text h.answer;
             written = h.written;
           }) run.sink;
       sources = run.sources;
@@ -40,11 +51,6 @@ module _ {S : Type 0} (remaining : S → Option (List ℕ)) (reads : ReadRelatio
   module _ {I : Type 0} (input_remaining : I → Option (List ℕ)) (input_reads : ReadRelation I)
       (input_fails : FailRelation I) (input_failed : I → Bool) (question : InputQuestion)
       (found : Bool) where
-    text_plain : (input : List ℕ) (logs : List (List ℕ)) (text : List ℕ)
-        → AnswersWithInput (IsBadInput question) (IsFindingWith question found) input logs (Ok text)
-        → AnswersWithInput (IsBadInput question) (IsTextWith question) input logs (Ok text)
-    text_plain input logs text h = (h.0, (h.1.0, h.1.1, h.1.2.0))
-
     pub input_run_plain : (first last : I) (old new : List S) (was now : Option (List ℕ))
         (is_flushed sink_failed : Bool)
         → EndsRunWithInput input_remaining input_reads input_fails input_failed remaining reads
@@ -56,13 +62,13 @@ module _ {S : Type 0} (remaining : S → Option (List ℕ)) (reads : ReadRelatio
     input_run_plain first last old new was now is_flushed sink_failed run = record {
       sink = writes_weaker _ _ _ _ _ _ _ _ _ was now is_flushed sink_failed
           (λ P Q f h input logs is are. f (input, logs) (h input logs is are))
-          (λ given text. text_plain given.0 given.1 text)
+          (λ given text. text_plain question found given.0 given.1 text)
           (λ h. record {
             input = h.input;
             logs = h.logs;
             delivered = h.delivered;
             text = h.text;
-            answer = text_plain h.input h.logs h.text h.answer;
+            answer = text_plain question found h.input h.logs h.text h.answer;
             written = h.written;
           }) run.sink;
       sources = run.sources;

@@ -69,7 +69,7 @@ answer_is_base logs text answer m accepted =
     (report_leaves logs answer.0 answer.1 [] contents.empty none tt text report)
 
 -- a base has only one list of done instances and one store
-base_is_one : (bytes : List ℕ) (done other : List Id) (stored held : Contents)
+pub base_is_one : (bytes : List ℕ) (done other : List Id) (stored held : Contents)
     → IsBase bytes done stored → IsBase bytes other held → (done ≡ other) × (stored ≡ held)
 base_is_one bytes done other stored held p q =
     let a = p.read in

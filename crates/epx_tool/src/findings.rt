@@ -1,50 +1,45 @@
-//! Whether an answer finds something wrong.
-ghost use Rattle.std.specs.Prelude.{◌≡◌, ◌≢◌, ◌↔◌, ℕ, List, true, IfOk, Some};
+//! Whether an answer finds something.
+ghost use Rattle.std.specs.Prelude.{◌≡◌, ◌≢◌, ◌↔◌, List, false, true, IfOk};
+ghost use Rattle.epx_types.specs.Instances.{Instance};
+ghost use Rattle.epx_types.specs.WaitingLists.{IsWaitingList};
 ghost use Rattle.epx_report.specs.ViewLines.{name_line};
-ghost use Rattle.epx_tool.specs.Findings.{FindsBy, FindsWith};
+ghost use Rattle.epx_tool.specs.Findings.{SomeWaits};
 
-use crate::question::{InputQuestion, MapText};
+use epx_graph::Waiter;
 use epx_report::name_line;
 use epx_types::Memory;
 use std::alloc::Global;
 
-/// An answer to logs, and whether it finds something.
+/// An answer, and whether it finds something.
 #[derive(Drop)]
 pub(crate) struct Answered {
     pub(crate) text: Vec<u8>,
     pub(crate) has_findings: bool,
 }
 
+/// An answer that finds nothing.
+pub(crate) fn plain(text: Vec<u8>) -> Answered
+    ensures text { result.text ≡ text }
+    ensures found { result.has_findings ≡ false }
+{
+    Answered {
+        text,
+        has_findings: false,
+    }
+}
+
 /// Whether a text is not the line of this name alone.
-fn is_other(alloc: Global, text: &[u8], name: &str) -> Result<bool, Memory>
+pub(crate) fn is_other(alloc: Global, text: &[u8], name: &str) -> Result<bool, Memory>
     ensures { IfOk result (λ other. (other ≡ true) ↔ (text.now ≢ name_line name.now)) }
 {
     let line = name_line(alloc, name)?;
     Ok(text != line.as_slice())
 }
 
-/// Whether this text of a committed map finds something.
-pub(crate) fn finds(alloc: Global, kind: &MapText, text: &[u8]) -> Result<bool, Memory>
-    ensures { IfOk result (λ found. (logs : List (List ℕ))
-        → (found ≡ true) ↔ FindsBy (Some kind.now) logs text.now) }
+/// Whether instances wait, by the waiting list of their map.
+pub(crate) fn some_wait(waiters: &[Waiter]) -> bool
+    ensures { (m : List Instance) → IsWaitingList m waiters.now
+        → (result ≡ true) ↔ SomeWaits m }
 {
-    match kind {
-        MapText::Audit => is_other(alloc, text, "covered"),
-        MapText::Report | MapText::Order | MapText::Levels | MapText::Graph => Ok(false),
-        MapText::Why(_) | MapText::Path(_, _) | MapText::Trace { .. } => Ok(false),
-    }
-}
-
-/// Whether this answer to a question about an input finds something.
-pub(crate) fn finds_with(
-    alloc: Global,
-    question: InputQuestion,
-    text: &[u8],
-) -> Result<bool, Memory>
-    ensures { IfOk result (λ found. (found ≡ true) ↔ FindsWith question text.now) }
-{
-    match question {
-        InputQuestion::Check | InputQuestion::CheckPrefix => is_other(alloc, text, "lawful"),
-        InputQuestion::Resume => Ok(false),
-    }
+    !waiters.is_empty()
 }

@@ -3,9 +3,12 @@ ghost use Rattle.std.specs.Prelude.{MatchResult, Ok, Err};
 ghost use Rattle.epx_merge.specs.LogLines.{bytes_of};
 ghost use Rattle.epx_tool.specs.CheckAnswers.{Checks};
 ghost use Rattle.epx_tool.specs.Resumption.{Resumes};
+ghost use Rattle.epx_tool.specs.Findings.{IsFindingWith};
 ghost use Rattle.epx_tool.specs.inner.InputReadings.{IsReading};
-ghost use Rattle.epx_tool.specs.Questions.{IsInputAnswer};
+ghost use Rattle.epx_tool.specs.Questions.{IsBadInput, IsInputAnswer};
+ghost use Rattle.epx_tool.specs.WithInput.{AnswersWithInput};
 
+use crate::findings::Answered;
 use crate::held::Held;
 use crate::input_contents::{InputContents, read_both};
 use crate::input_texts::text_from;
@@ -16,26 +19,28 @@ use std::alloc::Global;
 use std::random::RandomSource;
 use std::thread::Threads;
 
-/// The answer to an input and logs, by what was read of them. `held` keeps the map.
+/// The answer to an input and logs, by what was read of them, and whether it finds something.
+/// `held` keeps the map.
 fn answer_reading<R: Threads + RandomSource + Sync>(
     rt: &R,
     alloc: Global,
     read: Result<(Merged, InputContents), Fault>,
     plan: Plan,
     held: &mut Held,
-) -> Result<Vec<u8>, Fault>
+) -> Result<Answered, Fault>
     requires { (question : _) × (input : _) × (logs : _) × IsReading question input logs read }
     ensures { (question : _) (input : _) (logs : _) → IsReading question input logs read →
-        MatchResult result (λ text. IsInputAnswer question input logs (Ok text.items))
+        MatchResult result (λ answered. AnswersWithInput (IsBadInput question)
+        (IsFindingWith question answered.has_findings) input logs (Ok answered.text.items))
         (λ fault. IsInputAnswer question input logs (Err fault)) }
 {
     let (merged, contents) = match read {
         Ok(read) => read,
         Err(fault) => return Err(fault),
     };
-    let text = text_from(rt, alloc, contents, &merged, plan)?;
+    let answered = text_from(rt, alloc, contents, &merged, plan)?;
     held.keep(merged);
-    Ok(text)
+    Ok(answered)
 }
 
 /// The answer to a question about an input and logs in memory. `resume` and `check` are this call
@@ -54,11 +59,14 @@ pub fn answer_input<R: Threads + RandomSource + Sync>(
 {
     let read = read_both(rt, alloc, question, input, logs, plan);
     let mut held = Held::nothing();
-    answer_reading(rt, alloc, read, plan, &mut held)
+    match answer_reading(rt, alloc, read, plan, &mut held) {
+        Ok(answered) => Ok(answered.text),
+        Err(fault) => Err(fault),
+    }
 }
 
-/// Like `answer_input`, but it frees the input and the logs when they are read, and `held` keeps
-/// the map.
+/// Like `answer_input`, with whether the answer finds something. It frees the input and the logs
+/// when they are read, and `held` keeps the map.
 pub(crate) fn answer_owned<R: Threads + RandomSource + Sync>(
     rt: &R,
     alloc: Global,
@@ -67,9 +75,10 @@ pub(crate) fn answer_owned<R: Threads + RandomSource + Sync>(
     logs: Vec<Vec<u8>>,
     plan: Plan,
     held: &mut Held,
-) -> Result<Vec<u8>, Fault>
+) -> Result<Answered, Fault>
     ensures { let bytes = bytes_of logs.items in
-        MatchResult result (λ text. IsInputAnswer question input.items bytes (Ok text.items))
+        MatchResult result (λ answered. AnswersWithInput (IsBadInput question)
+        (IsFindingWith question answered.has_findings) input.items bytes (Ok answered.text.items))
         (λ fault. IsInputAnswer question input.items bytes (Err fault)) }
 {
     let read = read_both(rt, alloc, question, &input, &logs, plan);

@@ -4,7 +4,6 @@ ghost use Rattle.epx_tool.specs.Findings.{IsFindingWith};
 ghost use Rattle.epx_tool.specs.Questions.{IsBadInput, IsTextWith};
 ghost use Rattle.epx_tool.specs.RunEndings.{EndsRunWithInput};
 
-use crate::findings::finds_with;
 use crate::held::Held;
 use crate::input_answers::answer_owned;
 use crate::question::InputQuestion;
@@ -46,15 +45,15 @@ pub fn run_with_input<T: Threads + RandomSource + Sync, I: Source, S: Source, W:
         Ok(read) => read,
         Err(fault) => return Err(fault),
     };
-    let answer = match answer_owned(rt, alloc, question, text, logs, plan, held) {
-        Ok(answer) => answer,
+    let answered = match answer_owned(rt, alloc, question, text, logs, plan, held) {
+        Ok(answered) => answered,
         Err(fault) => return Err(fault),
     };
-    let Ok(found) = finds_with(alloc, question, &answer) else {
-        return Err(Fault::Memory);
-    };
-    match write_out(&answer, sink) {
-        Ok(()) => Ok(found),
+    match write_out(&answered.text, sink) {
+        Ok(()) => {
+            held.keep_text(answered.text);
+            Ok(answered.has_findings)
+        }
         Err(fault) => Err(fault),
     }
 }

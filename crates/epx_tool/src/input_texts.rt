@@ -1,9 +1,11 @@
 //! The texts of a committed map and an extra input: the resumed report, and the verdict on a list.
-ghost use Rattle.std.specs.Prelude.{◌≤◌, length, IfOk};
+ghost use Rattle.std.specs.Prelude.{◌≡◌, ◌≢◌, ◌≤◌, ◌↔◌, length, true, IfOk};
 ghost use Rattle.epx_committed.specs.InstanceCounts.{max_instances};
 ghost use Rattle.epx_tool.specs.Verdicts.{IsPrefixVerdict, IsVerdict};
-ghost use Rattle.epx_tool.specs.inner.InputReadings.{IsTextFrom};
+ghost use Rattle.epx_report.specs.ViewLines.{lawful_line};
+ghost use Rattle.epx_tool.specs.inner.InputReadings.{FindsFrom, IsTextFrom};
 
+use crate::findings::{Answered, is_other};
 use crate::input_contents::InputContents;
 use crate::map_texts::report_of;
 use crate::verdict::verdict_line;
@@ -22,12 +24,16 @@ fn verdict_of<R: Threads + Sync>(
     merged: &Merged,
     ids: &[Id],
     plan: Plan,
-) -> Result<Vec<u8>, Memory>
-    ensures { IfOk result (λ text. IsVerdict merged.now ids.now text.items) }
+) -> Result<Answered, Memory>
+    ensures text { IfOk result (λ answered. IsVerdict merged.now ids.now answered.text.items) }
+    ensures found { IfOk result (λ answered. (answered.has_findings ≡ true)
+        ↔ (answered.text.items ≢ lawful_line)) }
 {
     let graph = build(rt, alloc, merged, plan)?;
     let found = check_order(alloc, merged, &graph, ids);
-    verdict_line(alloc, found)
+    let text = verdict_line(alloc, found)?;
+    let has_findings = is_other(alloc, &text, "lawful")?;
+    Ok(Answered { text, has_findings })
 }
 
 /// The verdict on a list of instances as a beginning, over a committed map.
@@ -37,25 +43,32 @@ fn prefix_verdict_of<R: Threads + Sync>(
     merged: &Merged,
     ids: &[Id],
     plan: Plan,
-) -> Result<Vec<u8>, Memory>
-    ensures { IfOk result (λ text. IsPrefixVerdict merged.now ids.now text.items) }
+) -> Result<Answered, Memory>
+    ensures text { IfOk result
+        (λ answered. IsPrefixVerdict merged.now ids.now answered.text.items) }
+    ensures found { IfOk result (λ answered. (answered.has_findings ≡ true)
+        ↔ (answered.text.items ≢ lawful_line)) }
 {
     let graph = build(rt, alloc, merged, plan)?;
     let found = check_prefix(alloc, merged, &graph, ids);
-    verdict_line(alloc, found)
+    let text = verdict_line(alloc, found)?;
+    let has_findings = is_other(alloc, &text, "lawful")?;
+    Ok(Answered { text, has_findings })
 }
 
 /// The text that a committed map has with the contents of an input: its report after the instances
-/// of a base are done, or the verdict on a list.
+/// of a base are done, or the verdict on a list; and whether it finds something.
 pub(crate) fn text_from<R: Threads + RandomSource + Sync>(
     rt: &R,
     alloc: Global,
     contents: InputContents,
     merged: &Merged,
     plan: Plan,
-) -> Result<Vec<u8>, Memory>
+) -> Result<Answered, Memory>
     requires { length merged.now ≤ max_instances }
-    ensures { IfOk result (λ text. IsTextFrom contents merged.now text.items) }
+    ensures text { IfOk result (λ answered. IsTextFrom contents merged.now answered.text.items) }
+    ensures found { IfOk result (λ answered. (answered.has_findings ≡ true)
+        ↔ FindsFrom contents merged.now answered.text.items) }
 {
     match contents {
         InputContents::Base(base) => {

@@ -1,19 +1,23 @@
 //! The texts of a committed map: the report and the views.
-ghost use Rattle.std.specs.Prelude.{◌≤◌, length, IfOk};
+ghost use Rattle.std.specs.Prelude.{◌≡◌, ◌≢◌, ◌≤◌, ◌↔◌, length, true, IfOk};
+ghost use Rattle.epx_types.specs.Done.{remaining};
 ghost use Rattle.epx_types.specs.Ids.{IsRising};
 ghost use Rattle.epx_types.specs.Levels.{AreLevels};
 ghost use Rattle.epx_committed.specs.InstanceCounts.{max_instances};
+ghost use Rattle.epx_report.specs.ViewLines.{covered_line};
 ghost use Rattle.epx_tool.specs.OrderText.{IsOrderText};
 ghost use Rattle.epx_tool.specs.LevelText.{IsLevelText};
 ghost use Rattle.epx_tool.specs.AuditText.{IsAuditText};
 ghost use Rattle.epx_replay.specs.FoundCommands.{commands_by_id};
 ghost use Rattle.epx_tool.specs.Report.{IsReport};
 ghost use Rattle.epx_tool.specs.ResumedReport.{IsReportAfter};
+ghost use Rattle.epx_tool.specs.Findings.{FindsIn, SomeWaits};
 ghost use Rattle.epx_tool.specs.MapTexts.{IsMapText};
 ghost use Rattle.epx_picture.specs.Pictures.{IsPicture};
 ghost use Rattle.epx_why.specs.WhyTexts.{IsWhyText, IsPathText};
 ghost use Rattle.epx_trace.specs.TraceTexts.{IsTraceText};
 
+use crate::findings::{Answered, is_other, plain, some_wait};
 use crate::question::MapText;
 use crate::report::{begin_report, end_report, level_report, order_report};
 use crate::verdict::audit_line;
@@ -50,20 +54,25 @@ pub(crate) fn report_of<R: Threads + RandomSource + Sync>(
     done: &[Id],
     store: Store,
     plan: Plan,
-) -> Result<Vec<u8>, Memory>
+) -> Result<Answered, Memory>
     requires few { length merged.now ≤ max_instances }
     requires rising { IsRising done.now }
-    ensures { IfOk result (λ text. IsReportAfter done.now store merged.now text.items) }
+    ensures text { IfOk result (λ answered.
+        IsReportAfter done.now store merged.now answered.text.items) }
+    ensures found { IfOk result (λ answered. (answered.has_findings ≡ true)
+        ↔ SomeWaits (remaining done.now merged.now)) }
 {
     let graph = build_after(rt, alloc, merged, done, plan)?;
     let order = order(rt, alloc, merged, &graph)?;
     let waiters = waiting(alloc, &graph)?;
+    let has_findings = some_wait(&waiters);
     drop(graph);
     let text = begin_report(alloc, done, &order, &waiters)?;
     let (store, text) = replay(rt, alloc, text, store, merged, order.ids(), plan)?;
     // The lines of the store take the room of the order.
     drop(order);
-    end_report(rt, alloc, plan, text, &waiters, store)
+    let text = end_report(rt, alloc, plan, text, &waiters, store)?;
+    Ok(Answered { text, has_findings })
 }
 
 /// The text of the execution order of a committed map.
@@ -72,13 +81,17 @@ fn order_of<R: Threads + Sync>(
     alloc: Global,
     merged: &Merged,
     plan: Plan,
-) -> Result<Vec<u8>, Memory>
-    ensures { IfOk result (λ text. IsOrderText merged.now text.items) }
+) -> Result<Answered, Memory>
+    ensures text { IfOk result (λ answered. IsOrderText merged.now answered.text.items) }
+    ensures found { IfOk result (λ answered. (answered.has_findings ≡ true)
+        ↔ SomeWaits merged.now) }
 {
     let graph = build(rt, alloc, merged, plan)?;
     let order = order(rt, alloc, merged, &graph)?;
     let waiters = waiting(alloc, &graph)?;
-    order_report(alloc, &order, &waiters)
+    let has_findings = some_wait(&waiters);
+    let text = order_report(alloc, &order, &waiters)?;
+    Ok(Answered { text, has_findings })
 }
 
 /// The text of the conflict levels of a committed map, in execution order.
@@ -87,14 +100,18 @@ fn levels_of<R: Threads + Sync>(
     alloc: Global,
     merged: &Merged,
     plan: Plan,
-) -> Result<Vec<u8>, Memory>
-    ensures { IfOk result (λ text. IsLevelText merged.now text.items) }
+) -> Result<Answered, Memory>
+    ensures text { IfOk result (λ answered. IsLevelText merged.now answered.text.items) }
+    ensures found { IfOk result (λ answered. (answered.has_findings ≡ true)
+        ↔ SomeWaits merged.now) }
 {
     let graph = build(rt, alloc, merged, plan)?;
     let order = order(rt, alloc, merged, &graph)?;
     let waiters = waiting(alloc, &graph)?;
+    let has_findings = some_wait(&waiters);
     let levels = command_levels(alloc, merged, order.ids())?;
-    level_report(alloc, &order, &waiters, &levels)
+    let text = level_report(alloc, &order, &waiters, &levels)?;
+    Ok(Answered { text, has_findings })
 }
 
 /// The text of the audit of a committed map.
@@ -103,13 +120,17 @@ fn audit_of<R: Threads + Sync>(
     alloc: Global,
     merged: &Merged,
     plan: Plan,
-) -> Result<Vec<u8>, Memory>
-    ensures { IfOk result (λ text. IsAuditText merged.now text.items) }
+) -> Result<Answered, Memory>
+    ensures text { IfOk result (λ answered. IsAuditText merged.now answered.text.items) }
+    ensures found { IfOk result (λ answered. (answered.has_findings ≡ true)
+        ↔ (answered.text.items ≢ covered_line)) }
 {
     let graph = build(rt, alloc, merged, plan)?;
     let order = order(rt, alloc, merged, &graph)?;
     let found = audit(alloc, merged, &graph, &order)?;
-    audit_line(alloc, found)
+    let text = audit_line(alloc, found)?;
+    let has_findings = is_other(alloc, &text, "covered")?;
+    Ok(Answered { text, has_findings })
 }
 
 /// The picture of the dependency graph of a committed map.
@@ -173,25 +194,29 @@ fn trace_of<R: Threads + Sync>(
     trace_text(alloc, merged, &order, &key, reads)
 }
 
-/// A text of a committed map.
+/// A text of a committed map, and whether it finds something.
 pub(crate) fn text_of<R: Threads + RandomSource + Sync>(
     rt: &R,
     alloc: Global,
     kind: &MapText,
     merged: &Merged,
     plan: Plan,
-) -> Result<Vec<u8>, Memory>
+) -> Result<Answered, Memory>
     requires few { length merged.now ≤ max_instances }
-    ensures { IfOk result (λ text. IsMapText kind.now merged.now text.items) }
+    ensures text { IfOk result (λ answered. IsMapText kind.now merged.now answered.text.items) }
+    ensures found { IfOk result (λ answered. (answered.has_findings ≡ true)
+        ↔ FindsIn kind.now merged.now answered.text.items) }
 {
     match kind {
         MapText::Report => report_of(rt, alloc, merged, &[], Store::new(alloc), plan),
         MapText::Order => order_of(rt, alloc, merged, plan),
         MapText::Levels => levels_of(rt, alloc, merged, plan),
         MapText::Audit => audit_of(rt, alloc, merged, plan),
-        MapText::Graph => picture_of(rt, alloc, merged, plan),
-        MapText::Why(id) => why_of(rt, alloc, merged, *id, plan),
-        MapText::Path(from, to) => path_of(rt, alloc, merged, *from, *to, plan),
-        MapText::Trace { key, reads } => trace_of(rt, alloc, merged, key, *reads, plan),
+        MapText::Graph => Ok(plain(picture_of(rt, alloc, merged, plan)?)),
+        MapText::Why(id) => Ok(plain(why_of(rt, alloc, merged, *id, plan)?)),
+        MapText::Path(from, to) => Ok(plain(path_of(rt, alloc, merged, *from, *to, plan)?)),
+        MapText::Trace { key, reads } => {
+            Ok(plain(trace_of(rt, alloc, merged, key, *reads, plan)?))
+        }
     }
 }

@@ -19,7 +19,7 @@ ghost use Rattle.epx_devices.specs.Transfers.{AppendsPrefix};
 
 use crate::ask::Ask;
 use crate::compared_sources::compare_sources;
-use crate::findings::{Answered, finds};
+use crate::findings::Answered;
 use crate::held::Held;
 use crate::map_texts::text_of;
 use crate::merged_sources::merge_sources;
@@ -72,14 +72,11 @@ fn answer_merged<R: Threads + RandomSource + Sync, S: Source>(
         Ok(merged) => merged,
         Err(fault) => return Err(fault),
     };
-    let Ok(text) = text_of(rt, alloc, &kind, &merged, plan) else {
+    let Ok(answered) = text_of(rt, alloc, &kind, &merged, plan) else {
         return Err(Fault::Memory);
     };
     held.keep(merged);
-    let Ok(has_findings) = finds(alloc, &kind, &text) else {
-        return Err(Fault::Memory);
-    };
-    Ok(Answered { text, has_findings })
+    Ok(answered)
 }
 
 /// The answer to a question about the logs of all sources, which are read in order.
@@ -131,7 +128,10 @@ pub fn run_question<T: Threads + RandomSource + Sync, S: Source, W: Sink>(
         Err(fault) => return Err(fault),
     };
     match write_out(&answered.text, sink) {
-        Ok(()) => Ok(answered.has_findings),
+        Ok(()) => {
+            held.keep_text(answered.text);
+            Ok(answered.has_findings)
+        }
         Err(fault) => Err(fault),
     }
 }

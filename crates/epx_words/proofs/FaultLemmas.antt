@@ -20,9 +20,10 @@ use Rattle.epx_words.proofs.TaskLemmas.{IsKnownName, StopsAtTask, walk_task}
 use Rattle.epx_words.proofs.SoundArgumentLemmas.{HasNumbers, IsFirstThere, code_to_first}
 use Rattle.epx_words.proofs.SoundArgumentLemmas.{code_to_first_keep, code_to_logs}
 use Rattle.epx_words.proofs.SoundArgumentLemmas.{code_to_logs_keep, first_has_row, level_numbers}
+use Rattle.epx_words.proofs.SoundArgumentLemmas.{prefix_to_first, prefix_to_first_keep}
 use Rattle.epx_words.proofs.SoundArgumentLemmas.{reaches_to_first, reaches_to_first_keep}
-use Rattle.epx_words.proofs.SoundArgumentLemmas.{reads_to_first, reads_to_first_keep, to_first}
-use Rattle.epx_words.proofs.SoundArgumentLemmas.{to_first_keep, to_logs, to_logs_keep}
+use Rattle.epx_words.proofs.SoundArgumentLemmas.{reads_to_first, reads_to_first_keep}
+use Rattle.epx_words.proofs.SoundArgumentLemmas.{to_logs, to_logs_keep}
 
 pub epx_is_simple : is_simple epx_app ≡ true
 unfolding clap_on_literals
@@ -58,12 +59,13 @@ module _ (name : Text) (rest : List Text) where
   base_numbers : IsFaultless (leaf_of (base_app name)) rest
       → HasNumbers (rows_after (leaf_of (base_app name)).rules [] rest)
   base_numbers none =
-      level_numbers (leaf_of (base_app name)) to_first refl refl to_first_keep rest none
+      level_numbers (leaf_of (base_app name)) code_to_first refl refl code_to_first_keep rest none
 
   list_numbers : IsFaultless (leaf_of (list_app name)) rest
       → HasNumbers (rows_after (leaf_of (list_app name)).rules [] rest)
   list_numbers none =
-      level_numbers (leaf_of (list_app name)) code_to_first refl refl code_to_first_keep rest none
+      level_numbers (leaf_of (list_app name)) prefix_to_first refl refl prefix_to_first_keep rest
+      none
 
   why_numbers : IsFaultless (leaf_of (why_app name)) rest
       → HasNumbers (rows_after (leaf_of (why_app name)).rules [] rest)
@@ -176,11 +178,11 @@ module _ (rest : List Text) where
 task_works : (name : Text) (rest : List Text) → IsTaskName name
     → entered_fault app (Some (name, rest)) ≡ [] → AsksForWork (entered app (Some (name, rest)))
 task_works name rest (inl is) = named name (codes "run") rest is
-    (over_logs rest (codes "run") is_run (refl, (refl, (refl, (refl, tt)))))
+    (over_findings rest (codes "run") is_run (refl, (refl, (refl, (refl, tt)))))
 task_works name rest (inr (inl is)) = named name (codes "order") rest is
-    (over_logs rest (codes "order") is_order (refl, (refl, (refl, (refl, tt)))))
+    (over_findings rest (codes "order") is_order (refl, (refl, (refl, (refl, tt)))))
 task_works name rest (inr (inr (inl is))) = named name (codes "levels") rest is
-    (over_logs rest (codes "levels") is_levels (refl, (refl, (refl, (refl, tt)))))
+    (over_findings rest (codes "levels") is_levels (refl, (refl, (refl, (refl, tt)))))
 task_works name rest (inr (inr (inr (inl is)))) = named name (codes "graph") rest is
     (over_logs rest (codes "graph") is_graph (refl, (refl, (refl, (refl, tt)))))
 task_works name rest (inr (inr (inr (inr (inl is))))) = named name (codes "resume") rest is

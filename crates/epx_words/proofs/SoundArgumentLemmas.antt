@@ -67,7 +67,10 @@ abbrev pub code_to_logs : List Rule
 code_to_logs = flag_leaf (codes "exit-code") ∷ to_logs
 
 abbrev pub code_to_first : List Rule
-code_to_first = flag_leaf (codes "exit-code") ∷ flag_leaf (codes "prefix") ∷ to_first
+code_to_first = flag_leaf (codes "exit-code") ∷ to_first
+
+abbrev pub prefix_to_first : List Rule
+prefix_to_first = flag_leaf (codes "exit-code") ∷ flag_leaf (codes "prefix") ∷ to_first
 
 abbrev pub reaches_to_first : List Rule
 reaches_to_first = reaches_leaf ∷ to_first
@@ -193,26 +196,26 @@ no_default_keeps a none rows ok = subst AreSound (sym (no_default a rows none)) 
 
 -- an argument that keeps rows sound, used or not
 abbrev pub Keeps : Rule → Type 0
-Keeps a = KeepsSound false a × DefaultKeeps a
+Keeps a = KeepsSound true a × DefaultKeeps a
 
 flag_is_kept : (name : Text) → bytes_eq name (codes "workers") ≡ false
     → bytes_eq name (codes "cut") ≡ false → bytes_eq name (codes "first") ≡ false
     → Keeps (flag_leaf name)
 flag_is_kept name workers cut first =
-    (flag_keeps name workers cut first false, flag_default_keeps name workers cut first)
+    (flag_keeps name workers cut first true, flag_default_keeps name workers cut first)
 
 pub to_logs_keep : AllByRecursion Keeps to_logs
 to_logs_keep = (
-  (logs_keep false 1, no_default_keeps (logs_leaf 1) refl),
-  ((help_keeps false, no_default_keeps (filled help_rule) refl), tt),
+  (logs_keep true 1, no_default_keeps (logs_leaf 1) refl),
+  ((help_keeps true, no_default_keeps (filled help_rule) refl), tt),
 )
 
 pub to_first_keep : AllByRecursion Keeps to_first
 to_first_keep = (
-  (first_keeps false, no_default_keeps first_leaf refl),
+  (first_keeps true, no_default_keeps first_leaf refl),
   (
-    (logs_keep false 2, no_default_keeps (logs_leaf 2) refl),
-    ((help_keeps false, no_default_keeps (filled help_rule) refl), tt),
+    (logs_keep true 2, no_default_keeps (logs_leaf 2) refl),
+    ((help_keeps true, no_default_keeps (filled help_rule) refl), tt),
   ),
 )
 
@@ -220,29 +223,32 @@ pub code_to_logs_keep : AllByRecursion Keeps code_to_logs
 code_to_logs_keep = (flag_is_kept (codes "exit-code") refl refl refl, to_logs_keep)
 
 pub code_to_first_keep : AllByRecursion Keeps code_to_first
-code_to_first_keep = (
+code_to_first_keep = (flag_is_kept (codes "exit-code") refl refl refl, to_first_keep)
+
+pub prefix_to_first_keep : AllByRecursion Keeps prefix_to_first
+prefix_to_first_keep = (
   flag_is_kept (codes "exit-code") refl refl refl,
   (flag_is_kept (codes "prefix") refl refl refl, to_first_keep),
 )
 
 pub reaches_to_first_keep : AllByRecursion Keeps reaches_to_first
 reaches_to_first_keep =
-    ((reaches_keeps false, no_default_keeps reaches_leaf refl), to_first_keep)
+    ((reaches_keeps true, no_default_keeps reaches_leaf refl), to_first_keep)
 
 pub reads_to_first_keep : AllByRecursion Keeps reads_to_first
 reads_to_first_keep = (flag_is_kept (codes "reads") refl refl refl, to_first_keep)
 
 uses_keep : (rules : List Rule) → AllByRecursion Keeps rules
-    → AllByRecursion (KeepsSound false) rules
+    → AllByRecursion (KeepsSound true) rules
 uses_keep [] keep = tt
 uses_keep (a ∷ rest) keep = (keep.0.0, uses_keep rest keep.1)
 
 numbers_and_keep : (rest : List Rule) → AllByRecursion Keeps rest
-    → AllByRecursion (KeepsSound false) (numbers_and rest)
+    → AllByRecursion (KeepsSound true) (numbers_and rest)
 numbers_and_keep rest keep = (
-  number_keeps (codes "workers") (codes "4") 64 workers_fit false,
+  number_keeps (codes "workers") (codes "4") 64 workers_fit true,
   (
-    number_keeps (codes "cut") (codes "256") 65536 cut_fits false,
+    number_keeps (codes "cut") (codes "256") 65536 cut_fits true,
     ((flag_is_kept (codes "explain") refl refl refl).0, uses_keep rest keep),
   ),
 )
@@ -297,13 +303,13 @@ numbers_have_rows rest keep rows ok =
 
 -- a level of the parse in which clap finds no fault ends with both numbers
 pub level_numbers : (s : Shape) (rest : List Rule) → s.rules ≡ numbers_and rest
-    → s.args_override_self ≡ false → AllByRecursion Keeps rest → (words : List Text)
+    → s.args_override_self ≡ true → AllByRecursion Keeps rest → (words : List Text)
     → level_fault s [] nothing_held words false [] ≡ [] → HasNumbers (rows_after s.rules [] words)
 level_numbers s rest are again keep words none =
     let end = (walk s.rules [] nothing_held words).held in
     let walked = walk_fault s [] (walk_from nothing_held) words in
     let keeps = subst (λ b. AllByRecursion (KeepsSound b) s.rules) (sym again)
-    (subst (AllByRecursion (KeepsSound false)) (sym are) (numbers_and_keep rest keep)) in
+    (subst (AllByRecursion (KeepsSound true)) (sym are) (numbers_and_keep rest keep)) in
     let sound = settled_sound s keeps end
     (none_first (settle_fault s.rules s.args_override_self end) _ (none_after walked _ none))
     (walk_sound s keeps [] (walk_from nothing_held) words (none_first walked _ none) tt) in

@@ -1,5 +1,5 @@
 -- What clap's matches ask for is what the words ask for, by the shape of the program.
-use Rattle.std.proofs.Common.{◌≡◌, ◌↔◌, ◌∙◌, ℕ, true, false, List, [], ap, refl, subst, sym}
+use Rattle.std.proofs.Common.{◌≡◌, ◌↔◌, ◌∙◌, ℕ, Bool, true, false, List, [], ap, refl, subst, sym}
 use Rattle.std.proofs.Common.{true≢false, codes, Option, Some, None, inl, inr}
 use Rattle.std.proofs.lemmas.Slice.Eq.{bytes_eq-Decides}
 use Rattle.std.specs.Option.{IfSome}
@@ -12,8 +12,9 @@ use Rattle.epx_types.specs.Pieces.{PlanNumbers}
 use Rattle.epx_words.specs.App.{epx_app}
 use Rattle.epx_words.specs.ExitStatus.{IsTaken}
 use Rattle.epx_words.specs.Requests.{AsksFor, FitFlags, FitsRows, HasInputPath, IfText, IfWork}
-use Rattle.epx_words.specs.Requests.{IsMeaningOf, IsWork, flags_of, task_name}
-use Rattle.epx_words.specs.Subjects.{IsIdName, IsNameOf, NameIds, NamesSubject}
+use Rattle.epx_words.specs.Requests.{IsMeaningOf, IsText, IsWork, flags_of, task_name}
+use Rattle.epx_words.specs.Subjects.{IsIdName, IsNameOf, NameIds, NamesAll, NamesLogs}
+use Rattle.epx_words.specs.Subjects.{NamesSubject}
 use Rattle.epx_words.specs.SubcommandRows.{Given, NeedsFirst, first_in, rows_in}
 use Rattle.epx_words.specs.declared.words.Task.{Task}
 use Rattle.epx_words.specs.declared.words.Task.TheVariants as task
@@ -93,11 +94,11 @@ names_subject (Some p) t plan paths asks = subject_of t p asks.task asks.parts
 pub is_taken : (kinds : Kinds) (given : Given) (asked : Words) → kinds ≡ []
     → IsMeaningOf given asked → IsWork asked ↔ IsTaken kinds given
 is_taken kinds given (words.Work t plan paths) none means = (
-  λ work. (none, names_subject given t plan _ means.0),
+  λ work. (none, (names_subject given t plan _ means.0, means.2)),
   λ taken. tt,
 )
 is_taken kinds given (words.WorkWith t plan paths flags) none means = (
-  λ work. (none, names_subject given t plan _ means.0),
+  λ work. (none, (names_subject given t plan _ means.0, means.2)),
   λ taken. tt,
 )
 is_taken kinds given (words.Text text status) none means = (
@@ -129,11 +130,20 @@ module _ (given : Given) where
   has_flags (words.WorkWith t plan paths flags) means work = means.1
   has_flags (words.Text text status) means work = absurd work
 
-  pub no_subject_named : (asked : Words) → IsMeaningOf given asked
-      → IfText (λ status. (¬ NamesSubject given) × (status ≡ 2)) asked
-  no_subject_named (words.Work t plan paths) means = tt
-  no_subject_named (words.WorkWith t plan paths flags) means = tt
-  no_subject_named (words.Text text status) means = means
+  pub not_all_named : (asked : Words) → IsMeaningOf given asked
+      → IfText (λ status. (¬ NamesAll given) × (status ≡ 2)) asked
+  not_all_named (words.Work t plan paths) means = tt
+  not_all_named (words.WorkWith t plan paths flags) means = tt
+  not_all_named (words.Text text status) means = means
+
+-- a refusal of words that ask for a status and name no log
+pub no_log_named : (given : Given) (rows : List Row) (named : Bool) (asked : Words)
+    → rows_in given ≡ rows → (named ≡ true) ↔ NamesLogs rows → named ≡ false → IsText 2 asked
+    → IsMeaningOf given asked
+no_log_named given rows named (words.Work t plan paths) are means none is = absurd is
+no_log_named given rows named (words.WorkWith t plan paths flags) are means none is = absurd is
+no_log_named given rows named (words.Text text status) are means none is =
+    (λ all. true≢false (sym (means.1 (subst NamesLogs are all.1)) ∙ none), is)
 
 -- what holds of each status of a text
 pub text_weaker : (P Q : ℕ → Type 0) (asked : Words) → ((status : ℕ) → P status → Q status)

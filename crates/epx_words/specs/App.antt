@@ -58,9 +58,12 @@ abbrev pub finding_app : Text → App
 finding_app name =
     with_rule (with_rule (numbers_app name) (flag_rule (codes "exit-code"))) logs_rule
 
--- a subcommand over a base and logs
+-- a subcommand over a base and logs, which can find something
 abbrev pub base_app : Text → App
-base_app name = with_rule (with_rule (numbers_app name) first_rule) logs_rule
+base_app name =
+    with_rule
+    (with_rule (with_rule (numbers_app name) (flag_rule (codes "exit-code"))) first_rule)
+    logs_rule
 
 -- a subcommand over a list and logs, which can find something
 abbrev pub list_app : Text → App
@@ -83,17 +86,22 @@ trace_app name =
     with_rule (with_rule (with_rule (numbers_app name) (flag_rule (codes "reads"))) first_rule)
     logs_rule
 
--- the program without its subcommands
+-- the program without its subcommands; of an option that is given twice the last counts
 abbrev pub epx_top : App
-epx_top = on_top (λ shape. record shape { has_version = true; subcommand_required = true })
+epx_top = on_top
+    (λ shape. record shape {
+      has_version = true;
+      subcommand_required = true;
+      args_override_self = true;
+    })
     (new_app (codes "epx"))
 
 -- the program with the subcommands `run`, `order`, `levels` and `graph`
 abbrev pub runs_app : App
 runs_app =
     with_subcommand
-    (with_subcommand (with_subcommand (with_subcommand epx_top (work_app (codes "run")).top)
-    (work_app (codes "order")).top) (work_app (codes "levels")).top)
+    (with_subcommand (with_subcommand (with_subcommand epx_top (finding_app (codes "run")).top)
+    (finding_app (codes "order")).top) (finding_app (codes "levels")).top)
     (work_app (codes "graph")).top
 
 -- and `resume`, `audit`, `check` and `compare`

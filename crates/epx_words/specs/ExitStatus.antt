@@ -4,7 +4,7 @@ use Rattle.clap.specs.Words.{IsAmong, Kinds}
 use Rattle.clap.specs.declared.error.kind.ErrorKind.{ErrorKind}
 use Rattle.clap.specs.declared.error.kind.ErrorKind.TheVariants.{DisplayHelp, DisplayVersion}
 use Rattle.epx_words.specs.SubcommandRows.{Given}
-use Rattle.epx_words.specs.Subjects.{NamesSubject}
+use Rattle.epx_words.specs.Subjects.{NamesAll}
 
 -- 0 after the help or the version, and 2 after a refusal
 abbrev pub status_of_kind : ErrorKind → ℕ
@@ -17,11 +17,11 @@ abbrev pub IsExitStatus : Kinds → ℕ → Type 0
 IsExitStatus kinds status = (kind : ErrorKind) × IsAmong kind kinds
     × (status ≡ status_of_kind kind)
 
--- the words are taken: clap finds no fault, and what is to name an instance or a key names one
+-- the words are taken: clap finds no fault, and they name all that they ask about
 abbrev pub IsTaken : Kinds → Given → Type 0
-IsTaken kinds given = (kinds ≡ []) × NamesSubject given
+IsTaken kinds given = (kinds ≡ []) × NamesAll given
 
 -- the status after words that are not taken
 abbrev pub IsTextStatus : Kinds → Given → ℕ → Type 0
 IsTextStatus kinds given status =
-    IsExitStatus kinds status ⊎ ((¬ NamesSubject given) × (status ≡ 2))
+    IsExitStatus kinds status ⊎ ((¬ NamesAll given) × (status ≡ 2))

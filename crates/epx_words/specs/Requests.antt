@@ -11,7 +11,7 @@ use Rattle.epx_words.specs.declared.words.Words.TheVariants as words
 use Rattle.epx_words.specs.declared.words.Flags.{Flags}
 use Rattle.epx_words.specs.SubcommandRows.{Given, HasFlag, IsCutOf, IsWorkersOf, first_in, logs_in}
 use Rattle.epx_words.specs.SubcommandRows.{name_in, reaches_in, rows_in}
-use Rattle.epx_words.specs.Subjects.{IsNameOf, NamesSubject}
+use Rattle.epx_words.specs.Subjects.{IsNameOf, NamesAll, NamesLogs}
 
 -- the words are the program's name at most, or this and a hyphen: they name no subcommand
 abbrev pub IsBare : List Text → Type 0
@@ -122,13 +122,13 @@ pub record AsksFor (given : Given) (asked : Task) (cutting : PlanNumbers)
   pub paths : ArePathsOf asked (rows_in given) logs
   pub parts : FitsRows asked (rows_in given)
 
--- the words ask for that work; or they are refused with status 2, since what is to name an instance
--- or a key names none
+-- the words ask for that work; or they are refused with status 2, since they do not name all that
+-- they ask about
 abbrev pub IsMeaningOf : Given → Words → Type 0
 IsMeaningOf given (words.Work task plan paths) =
     AsksFor given task plan (option_map (λ list. map string_bytes list.items) paths)
-    × FitFlags no_flags (rows_in given)
+    × FitFlags no_flags (rows_in given) × NamesLogs (rows_in given)
 IsMeaningOf given (words.WorkWith task plan paths flags) =
     AsksFor given task plan (option_map (λ list. map string_bytes list.items) paths)
-    × FitFlags flags (rows_in given)
-IsMeaningOf given (words.Text text status) = (¬ NamesSubject given) × (status ≡ 2)
+    × FitFlags flags (rows_in given) × NamesLogs (rows_in given)
+IsMeaningOf given (words.Text text status) = (¬ NamesAll given) × (status ≡ 2)

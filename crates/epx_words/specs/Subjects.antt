@@ -1,12 +1,13 @@
--- The instances and the key that a subcommand names.
-use Rattle.std.specs.Prelude.{◌≡◌, ⊤, List, Some, None, codes, MatchOption}
+-- What a subcommand has to name: an instance or a key that it is about, and a log where its status
+-- is asked for.
+use Rattle.std.specs.Prelude.{◌≡◌, ◌≢◌, ⊤, List, [], Some, None, codes, MatchOption}
 use Rattle.std.specs.Option.{IfSome}
 use Rattle.clap.specs.Words.{Row, Text}
 use Rattle.epx_types.specs.Faults.{id_text}
 use Rattle.epx_types.specs.Keys.{FitsKey}
 use Rattle.epx_types.specs.declared.id.Id.{Id}
 use Rattle.epx_names.specs.IdNames.{FitsIdTypes}
-use Rattle.epx_words.specs.SubcommandRows.{Given, first_in, reaches_in}
+use Rattle.epx_words.specs.SubcommandRows.{Given, HasFlag, first_in, logs_in, reaches_in, rows_in}
 
 -- the text names x, as faults name it
 abbrev pub IsNameOf : Id → Text → Type 0
@@ -29,3 +30,11 @@ abbrev pub NamesSubject : Given → Type 0
 NamesSubject None = ⊤
 NamesSubject (Some p) =
     (p.0 ≡ codes "why" → NameIds p.1) × (p.0 ≡ codes "trace" → NamesKey p.1)
+
+-- with `--exit-code` there is a log: a status is about something
+abbrev pub NamesLogs : List Row → Type 0
+NamesLogs rows = HasFlag (codes "exit-code") rows → logs_in rows ≢ []
+
+-- the words name all that they ask about
+abbrev pub NamesAll : Given → Type 0
+NamesAll given = NamesSubject given × NamesLogs (rows_in given)

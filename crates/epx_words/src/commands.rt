@@ -229,6 +229,12 @@ Example:
   epx trace alice examples/replicas/*.jsonl",
 };
 
+/// What `--exit-code` asks of a subcommand that executes or orders instances.
+const IF_WAITING: &str = "Exits with status 5 if an instance waits";
+
+/// What it asks of a subcommand that says what is wrong.
+const IF_FOUND: &str = "Exits with status 5 if something was found";
+
 /// An option whose value is a number from 1 to `most`.
 fn number_option<'a>(
     alloc: Global,
@@ -278,20 +284,20 @@ fn subcommand<'a>(alloc: Global, name: &'a str, help: Help) -> Result<Command<'a
     let cut = number_option(alloc, "cut", "M", "256", MAX_CUT).help(
         "Items in a piece of work, 1 to 65536",
     );
-    let explain = flag(alloc, "explain", "Explains a fault in one more line");
+    let explain = flag(
+        alloc,
+        "explain",
+        "Explains a fault or a finding in further lines",
+    );
     let numbered = with_help(alloc, name, help).arg(workers)?.arg(cut)?;
     numbered.arg(explain)
 }
 
-/// The flag `--exit-code`.
-fn exit_code<'a>(alloc: Global) -> Arg<'a>
+/// The flag `--exit-code`, of a subcommand that finds this.
+fn exit_code<'a>(alloc: Global, found: &'a str) -> Arg<'a>
     ensures { rule_of result ≡ flag_rule (codes "exit-code") }
 {
-    flag(
-        alloc,
-        "exit-code",
-        "Exits with status 5 if something was found",
-    )
+    flag(alloc, "exit-code", found)
 }
 
 /// The option `--reaches`, whose value is the name of an instance.
@@ -338,11 +344,12 @@ fn finding_subcommand<'a>(
     alloc: Global,
     name: &'a str,
     help: Help,
+    found: &'a str,
 ) -> Result<Command<'a>, AllocError>
     ensures { IfOk result (λ c. app_of c ≡ finding_app name.entry.now) }
 {
     subcommand(alloc, name, help)?
-        .arg(exit_code(alloc))?
+        .arg(exit_code(alloc, found))?
         .arg(logs(alloc))
 }
 
@@ -351,9 +358,8 @@ fn resume<'a>(alloc: Global) -> Result<Command<'a>, AllocError>
     ensures { IfOk result (λ c. app_of c ≡ base_app (codes "resume")) }
 {
     let base = first(alloc, "BASE", "The earlier report to go on from");
-    subcommand(alloc, "resume", RESUME)?
-        .arg(base)?
-        .arg(logs(alloc))
+    let resume = subcommand(alloc, "resume", RESUME)?.arg(exit_code(alloc, IF_WAITING))?;
+    resume.arg(base)?.arg(logs(alloc))
 }
 
 /// The subcommand `check`, whose arguments are LIST and logs.
@@ -366,7 +372,7 @@ fn check<'a>(alloc: Global) -> Result<Command<'a>, AllocError>
         "prefix",
         "Lets the list lack ready instances, as that of a live replica does",
     );
-    let flagged = subcommand(alloc, "check", CHECK)?.arg(exit_code(alloc))?;
+    let flagged = subcommand(alloc, "check", CHECK)?.arg(exit_code(alloc, IF_FOUND))?;
     let check = flagged.arg(prefix)?;
     check.arg(list)?.arg(logs(alloc))
 }
@@ -391,7 +397,8 @@ fn trace<'a>(alloc: Global) -> Result<Command<'a>, AllocError>
 }
 
 /// The program without its subcommands. Its usage line has the subcommand as optional: `epx` with
-/// no arguments reads one log from standard input.
+/// no arguments reads one log from standard input. Of an option that is given twice the last
+/// counts, so that words override those of an alias.
 fn start<'a>(alloc: Global) -> Command<'a>
     ensures { app_of result ≡ epx_top }
 {
@@ -401,15 +408,16 @@ fn start<'a>(alloc: Global) -> Command<'a>
         .override_usage("epx [COMMAND]")
         .version(VERSION)
         .subcommand_required(true)
+        .args_override_self(true)
 }
 
 /// The program with the subcommands `run`, `order`, `levels` and `graph`.
 fn with_runs<'a>(alloc: Global) -> Result<Command<'a>, AllocError>
     ensures { IfOk result (λ c. app_of c ≡ runs_app) }
 {
-    let run = logs_subcommand(alloc, "run", RUN)?;
-    let order = logs_subcommand(alloc, "order", ORDER)?;
-    let levels = logs_subcommand(alloc, "levels", LEVELS)?;
+    let run = finding_subcommand(alloc, "run", RUN, IF_WAITING)?;
+    let order = finding_subcommand(alloc, "order", ORDER, IF_WAITING)?;
+    let levels = finding_subcommand(alloc, "levels", LEVELS, IF_WAITING)?;
     let graph = logs_subcommand(alloc, "graph", GRAPH)?;
     start(alloc)
         .subcommand(run)?
@@ -423,9 +431,9 @@ fn with_checks<'a>(alloc: Global) -> Result<Command<'a>, AllocError>
     ensures { IfOk result (λ c. app_of c ≡ checks_app) }
 {
     let resume = resume(alloc)?;
-    let audit = finding_subcommand(alloc, "audit", AUDIT)?;
+    let audit = finding_subcommand(alloc, "audit", AUDIT, IF_FOUND)?;
     let check = check(alloc)?;
-    let compare = finding_subcommand(alloc, "compare", COMPARE)?;
+    let compare = finding_subcommand(alloc, "compare", COMPARE, IF_FOUND)?;
     with_runs(alloc)?
         .subcommand(resume)?
         .subcommand(audit)?

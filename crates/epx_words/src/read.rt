@@ -9,7 +9,7 @@ ghost use Rattle.epx_words.specs.Requests.{AreFirstAndLogs, ArePathsOf, FitFlags
 ghost use Rattle.epx_words.specs.Requests.{IfWork, IsBare, IsMeaningOf, IsText, IsWork, flags_of};
 ghost use Rattle.epx_words.specs.Requests.{task_name, HasInputPath};
 ghost use Rattle.epx_words.specs.ExitStatus.{IsTaken, IsTextStatus, status_of_kind};
-ghost use Rattle.epx_words.specs.Subjects.{NamesSubject};
+ghost use Rattle.epx_words.specs.Subjects.{NamesAll, NamesLogs};
 ghost use Rattle.epx_words.specs.SubcommandRows.{AsksForWork, IsCutOf, IsNumberUpTo, IsWorkersOf};
 ghost use Rattle.epx_words.specs.SubcommandRows.{first_in, logs_in, name_in, rows_in};
 
@@ -95,6 +95,31 @@ fn refuse_subject(alloc: Global, name: &str) -> Result<Words, AllocError>
     Ok(Words::Text { text, status: 2 })
 }
 
+/// The text with status 2 if a status is asked for, and no log is named.
+fn refuse_status(alloc: Global) -> Result<Words, AllocError>
+    ensures { IfOk result (IsText 2) }
+{
+    let text = String::from_str(alloc, NO_LOG)?;
+    Ok(Words::Text { text, status: 2 })
+}
+
+/// Whether no log is named.
+fn has_no_log(matches: &ArgMatches<'_>) -> bool
+    ensures { (result ≡ true) ↔ (logs_in (rows_of (found_of matches.now)) ≡ []) }
+{
+    match matches.get_strs("logs") {
+        Some(logs) => logs.is_empty(),
+        None => true,
+    }
+}
+
+/// Whether a log is named wherever a status is asked for.
+fn names_logs(matches: &ArgMatches<'_>) -> bool
+    ensures { (result ≡ true) ↔ NamesLogs (rows_of (found_of matches.now)) }
+{
+    !has_flag(matches, "exit-code") || !has_no_log(matches)
+}
+
 /// The flags of the matched subcommand.
 fn flags_of(matches: &ArgMatches<'_>) -> Flags
     ensures { FitFlags result (rows_of (found_of matches.now)) }
@@ -116,6 +141,9 @@ fn work_of(alloc: Global, matches: &ArgMatches<'_>) -> Result<Words, AllocError>
     let Some(task) = task_of(name, given) else {
         return refuse_subject(alloc, name);
     };
+    if !names_logs(given) {
+        return refuse_status(alloc);
+    }
     let plan = plan_of(given);
     let paths = Some(paths_of(alloc, task, given)?);
     let flags = flags_of(given);
@@ -139,6 +167,10 @@ fn status_of(kind: ErrorKind) -> u8
         _ => 2,
     }
 }
+
+/// The text if a status is asked for, and no log is named.
+const NO_LOG: &str = "error: with '--exit-code' there must be a LOG, '-' for standard input\n\n\
+For more information, try '--help'.\n";
 
 /// Added to the text for an unknown subcommand, which is mostly the path of a log.
 const HINT: &str = "To execute logs, put 'run' before them: 'epx run LOG..'.\n";
@@ -171,11 +203,12 @@ fn is_bare(words: &[&str]) -> bool
 
 /// Reads a command line, whose first word is the program's name.
 ///
-/// The result is `Work` exactly if clap finds no fault and what is to name an instance or a key
-/// names one, or if the words name no subcommand: then it is `Run` with 4 workers, 256 items a
-/// piece and no paths. Otherwise it is `Text`. The one error is running out of memory. With
-/// `--exit-code` or `--explain` the work is `WorkWith`, `check --prefix` is the task `CheckPrefix`,
-/// and `why --reaches` is the task `Path`.
+/// The result is `Work` exactly if clap finds no fault and the words name all that they ask about,
+/// or if the words name no subcommand: then it is `Run` with 4 workers, 256 items a piece and no
+/// paths. Otherwise it is `Text`. The words have to name an instance or a key where the subcommand
+/// is about one, and a log where `--exit-code` is there. The one error is running out of memory.
+/// With `--exit-code` or `--explain` the work is `WorkWith`, `check --prefix` is the task
+/// `CheckPrefix`, and `why --reaches` is the task `Path`.
 pub fn read_words(alloc: Global, words: &[&str]) -> Result<Words, Memory>
     ensures bare { IsBare (map (λ w. w.now) words.now)
         → IfOk result (λ asked. asked ≡ Words.Work Task.Run (record { workers = 4; cut = 256 })
@@ -206,7 +239,7 @@ pub fn read_words(alloc: Global, words: &[&str]) -> Result<Words, Memory>
         IsWork asked ↔ IsTaken (fault_of epx_app texts) (subcommand_of epx_app texts)) }
     ensures refused { let texts = map (λ w. w.now) words.now in
         ¬ IsBare texts → IfOk result (IfText (λ status.
-        (takes epx_app texts ≡ false) ⊎ (¬ NamesSubject (subcommand_of epx_app texts)))) }
+        (takes epx_app texts ≡ false) ⊎ (¬ NamesAll (subcommand_of epx_app texts)))) }
     ensures status { let texts = map (λ w. w.now) words.now in
         ¬ IsBare texts → IfOk result (IfText
         (IsTextStatus (fault_of epx_app texts) (subcommand_of epx_app texts))) }

@@ -1,16 +1,19 @@
 -- What is read of an extra input and logs.
-use Rattle.std.specs.Prelude.{ℕ, List, Result, Ok, Err}
+use Rattle.std.specs.Prelude.{◌≢◌, ℕ, List, Result, Ok, Err}
 use Rattle.epx_types.specs.declared.fault.Fault.{Fault}
+use Rattle.epx_types.specs.Done.{remaining}
 use Rattle.epx_types.specs.Instances.{Instance}
 use Rattle.epx_merge.specs.Acceptance.{IsAccepted}
 use Rattle.epx_report.specs.declared.base.BaseFault.{BaseFault}
 use Rattle.epx_report.specs.Bases.{IsBase, IsBaseFault}
 use Rattle.epx_report.specs.Lists.{IsList, IsListFault}
+use Rattle.epx_report.specs.ViewLines.{lawful_line}
 use Rattle.epx_tool.specs.declared.input_contents.InputContents.{InputContents}
 use Rattle.epx_tool.specs.declared.input_contents.InputContents.TheVariants as contents
 use Rattle.epx_tool.specs.declared.question.InputQuestion.{InputQuestion}
 use Rattle.epx_tool.specs.declared.question.InputQuestion.TheVariants.{Resume, Check}
 use Rattle.epx_tool.specs.declared.question.InputQuestion.TheVariants.{CheckPrefix}
+use Rattle.epx_tool.specs.Findings.{SomeWaits}
 use Rattle.epx_tool.specs.ResumedReport.{IsReportAfter}
 use Rattle.epx_tool.specs.Verdicts.{IsPrefixVerdict, IsVerdict}
 use Rattle.epx_tool.specs.WithInput.{IsShort, IsRefusalWithInput}
@@ -42,3 +45,9 @@ abbrev pub IsTextFrom : InputContents → List Instance → List ℕ → Type 0
 IsTextFrom (contents.Base base) m text = IsReportAfter base.done base.stored m text
 IsTextFrom (contents.List ids) m text = IsVerdict m ids.items text
 IsTextFrom (contents.Prefix ids) m text = IsPrefixVerdict m ids.items text
+
+-- and what it finds
+abbrev pub FindsFrom : InputContents → List Instance → List ℕ → Type 0
+FindsFrom (contents.Base base) m text = SomeWaits (remaining base.done m)
+FindsFrom (contents.List ids) m text = text ≢ lawful_line
+FindsFrom (contents.Prefix ids) m text = text ≢ lawful_line

@@ -16,9 +16,9 @@ returns-clause-answered g c =
     let count = ap length c.deref_mut-2.ensures.value ∙ each ∙ sym (length-map paths string_bytes)
     in
     let old = g.W.Sink.contents c.args.output.now in
-    let new = g.W.Sink.contents c.answer-2.new.output in
-    rw c.in-Some.is (subst (λ n. IfOk c.answer-2.result
-    (λ found. AddsAnswer c.args.task found n old new)) count c.answer-2.ensures.answered)
+    let new = g.W.Sink.contents c.write_answer-done.new.output in
+    rw c.in-Some.is (subst (λ n. IfOk c.write_answer-done.result
+    (λ found. AddsAnswer c.args.task found n old new)) count c.write_answer-done.ensures.answered)
 
 pub returns-clause-part : goal.returns-clause-part
 returns-clause-part g c =
@@ -28,16 +28,16 @@ returns-clause-part g c =
     let count = ap length c.deref_mut-2.ensures.value ∙ each ∙ sym (length-map paths string_bytes)
     in
     let old = g.W.Sink.contents c.args.output.now in
-    let new = g.W.Sink.contents c.answer-2.new.output in
+    let new = g.W.Sink.contents c.write_answer-done.new.output in
     rw c.in-Some.is (λ failed. subst (λ n. AddsPart c.args.task n old new) count
-    (c.answer-2.ensures.part failed))
+    (c.write_answer-done.ensures.part failed))
 
 pub returns-clause-unread : goal.returns-clause-unread
 returns-clause-unread g c = rw c.in-Some.is (λ log failed hyphen.
     let is : c.in-Ok.sources.items ≡ Second (First c.args.input) ∷ [] =
     c.in-Ok.ensures.input (ap (map string_bytes) c.deref.ensures.value ∙ hyphen) in
     let one = subst (OneHasFailedRead _ _) (c.deref_mut-2.ensures.value ∙ is)
-    (c.answer-2.ensures.unread log failed) in
+    (c.write_answer-done.ensures.unread log failed) in
     input_failed _ _ g.I.Source.reads g.I.Source.fails _ _ c.args.input (alone _ _ _ one))
 
 pub returns-in_default-sources_at-clause-unread : goal.returns-in_default-sources_at-clause-unread

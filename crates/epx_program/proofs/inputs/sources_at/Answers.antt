@@ -10,17 +10,19 @@ use Rattle.epx_program.proofs.inputs.sources_at.Goals as goal
 pub loop-path-preserved : goal.loop-path-preserved
 loop-path-preserved g c =
     let before = c.loop-path.invariant in
-    let said = c.source_at.ensures in
+    let said = c.source_at-source.ensures in
+    let kept = c.new.ensures in
     rw c.in_ok-push.ensures.items record {
       paths = map-push _ _ _ _ _ _ _ c.loop-path-test.true c.path-item.is
-          (rw said.path c.as_str.ensures.value) before.paths;
+          (rw (kept, said.path) c.as_str.ensures.value) before.paths;
       failed = All-push (λ s. value_by (λ f. f.failed)
-          (value_by g.I.Source.has_failed (λ _. false)) s ≡ false) _ _ before.failed said.failed;
+          (value_by g.I.Source.has_failed (λ _. false)) s ≡ false) _ _ before.failed
+          (rw kept said.failed);
       left = said.left;
       fresh = λ none. absurd (omega (arith, none));
       given = alone-push path_of string_bytes _ _ _ _ _ _ _ c.loop-path-test.true c.path-item.is
           before.paths
-          (λ start hyphen. said.input c.args.input (c.as_str.ensures.value ∙ hyphen)
+          (λ start hyphen. kept ∙ said.input c.args.input (c.as_str.ensures.value ∙ hyphen)
           (before.fresh start));
     }
 

@@ -1,7 +1,7 @@
 use Rattle.std.proofs.Common.{subst}
 use Rattle.epx_tool.specs.inner.InputReadings.{IsReading}
 use Rattle.epx_tool.proofs.AcceptedLogLemmas.{accepted_are_few}
-use Rattle.epx_tool.proofs.InputReadingLemmas.{text_with_input}
+use Rattle.epx_tool.proofs.FindingLemmas.{finding_with_input}
 use Rattle.epx_tool.proofs.input_answers.answer_reading.Goals as goal
 
 pub text_from-requires-after_bounds : goal.text_from-requires-after_bounds
@@ -12,12 +12,14 @@ text_from-requires-after_bounds g c κs within =
 
 pub returns : goal.returns
 returns g c = λ question input logs given.
-    let read = subst (IsReading question input logs) c.in-Ok.is given in (
+    let read = subst (IsReading question input logs) c.in-Ok.is given in
+    let answered = c.in_ok-answered.answered in (
       read.0,
       (
         c.in-Ok.read.0,
         read.1,
-        text_with_input question input c.in-Ok.read.1 c.in-Ok.read.0
-            c.in_ok-text.text.items read.2 c.in_ok-text.ensures,
+        finding_with_input question input c.in-Ok.read.1 c.in-Ok.read.0 answered.text.items
+            answered.has_findings read.2 c.in_ok-answered.ensures.text
+            c.in_ok-answered.ensures.found,
       ),
     )

@@ -1,5 +1,4 @@
 use Rattle.std.proofs.Common.{refl, sym, ap, subst, ◌∙◌}
-use Rattle.std.proofs.lemmas.Result.{IfOk-weaker}
 use Rattle.epx_types.specs.Done.{remaining}
 use Rattle.epx_types.specs.Execution.{execute}
 use Rattle.epx_types.specs.WaitingLists.{IsWaitingList}
@@ -15,23 +14,28 @@ replay-requires-after_bounds g c κs within =
     (c.in_ok-order.ensures.order c.args.done.now c.in_ok-graph.ensures) c.ids.result.now
     c.ids.ensures c.requires.few
 
-pub returns : goal.returns
-returns g c =
+pub returns-clause-text : goal.returns-clause-text
+returns-clause-text g c =
     let done = c.args.done.now in
     let m = c.args.merged.now in
     let order = c.in_ok-order.order in
     let ids = c.ids.result.now in
-    let waiting = c.deref-2.result.now in
+    let waiting = c.deref-3.result.now in
     let commands = commands_by_id m ids in
     let replies = (execute commands c.args.store).replies in
     let opening = c.in_ok-text.ensures ∙ ap (opening_text done order)
-    (c.deref.ensures.value ∙ sym c.deref-2.ensures.value) in
+    (c.deref-2.ensures.value ∙ sym c.deref-3.ensures.value) in
     let listed = c.in_ok-waiters.ensures (remaining done m) c.in_ok-graph.ensures in
     let ran = c.in_ok-store.ensures in
-    IfOk-weaker c.end_report.result _ _ (λ text printed.
+    let text = c.in_ok-text-2.text.items in
     IsReportAfter-printed done m order (c.in_ok-order.ensures.order done c.in_ok-graph.ensures) ids
-    c.ids.ensures c.args.store waiting commands replies c.in_ok-store.store text.items
-    (subst (IsWaitingList (remaining done m)) (sym c.deref-2.ensures.value) listed) refl refl ran.0
+    c.ids.ensures c.args.store waiting commands replies c.in_ok-store.store text
+    (subst (IsWaitingList (remaining done m)) (sym c.deref-3.ensures.value) listed) refl refl ran.0
     (resumed_text-parts done order waiting ids replies c.in_ok-store.store
-    c.in_ok-text.text.items _ text.items c.ids.ensures opening ran.1 printed))
-    c.end_report.ensures
+    c.in_ok-text.text.items _ text c.ids.ensures opening ran.1 c.in_ok-text-2.ensures)
+
+pub returns-clause-found : goal.returns-clause-found
+returns-clause-found g c =
+    let left = remaining c.args.done.now c.args.merged.now in
+    c.some_wait-has_findings.ensures left (subst (IsWaitingList left) (sym c.deref.ensures.value)
+    (c.in_ok-waiters.ensures left c.in_ok-graph.ensures))

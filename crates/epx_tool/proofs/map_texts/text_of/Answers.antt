@@ -1,50 +1,72 @@
-use Rattle.std.proofs.Common.{[], IfOk, sym, subst}
+use Rattle.std.proofs.Common.{◌≡◌, ◌↔◌, List, [], true, IfOk, sym, subst}
 use Rattle.std.proofs.lemmas.Result.{IfOk-weaker}
 use Rattle.epx_types.specs.Contents.{Contents}
+use Rattle.epx_types.specs.Instances.{Instance}
+use Rattle.epx_types.proofs.remaining.RemainingLemmas.{remaining-nil}
+use Rattle.epx_picture.specs.Pictures.{IsPicture}
+use Rattle.epx_trace.specs.TraceTexts.{IsTraceText}
+use Rattle.epx_tool.specs.Findings.{FindsIn, SomeWaits}
 use Rattle.epx_tool.specs.MapTexts.{IsMapText}
 use Rattle.epx_tool.specs.ResumedReport.{IsReportAfter}
 use Rattle.epx_tool.proofs.ReportLemmas.{IsReport-after_nothing}
 use Rattle.epx_tool.proofs.map_texts.text_of.Goals as goal
 
-pub returns-in-Report : goal.returns-in-Report
-returns-in-Report g c =
-    subst (λ kind. IfOk c.report_of.result (λ text. IsMapText kind c.args.merged.now text.items))
-    (sym c.in-Report.is) (IfOk-weaker c.report_of.result _ _ (λ text is.
-    IsReport-after_nothing c.args.merged.now text.items
-    (subst (λ (s : Contents). IsReportAfter [] s c.args.merged.now text.items) c.new.ensures is))
-    c.report_of.ensures)
+pub returns-in-Report-clause-text : goal.returns-in-Report-clause-text
+returns-in-Report-clause-text g c =
+    let m = c.args.merged.now in
+    subst (λ kind. IfOk c.report_of.result (λ a. IsMapText kind m a.text.items))
+    (sym c.in-Report.is) (IfOk-weaker c.report_of.result _ _ (λ a is.
+    IsReport-after_nothing m a.text.items
+    (subst (λ (s : Contents). IsReportAfter [] s m a.text.items) c.new.ensures is))
+    c.report_of.ensures.text)
 
-pub returns-in-Order : goal.returns-in-Order
-returns-in-Order g c =
-    subst (λ kind. IfOk c.order_of.result (λ text. IsMapText kind c.args.merged.now text.items))
-    (sym c.in-Order.is) c.order_of.ensures
+pub returns-in-Report-clause-found : goal.returns-in-Report-clause-found
+returns-in-Report-clause-found g c =
+    let m = c.args.merged.now in
+    subst (λ kind. IfOk c.report_of.result
+    (λ a. (a.has_findings ≡ true) ↔ FindsIn kind m a.text.items))
+    (sym c.in-Report.is) (IfOk-weaker c.report_of.result _ _ (λ a finds.
+    subst (λ (l : List Instance). (a.has_findings ≡ true) ↔ SomeWaits l) (remaining-nil m) finds)
+    c.report_of.ensures.found)
 
-pub returns-in-Levels : goal.returns-in-Levels
-returns-in-Levels g c =
-    subst (λ kind. IfOk c.levels_of.result (λ text. IsMapText kind c.args.merged.now text.items))
-    (sym c.in-Levels.is) c.levels_of.ensures
+pub returns-in-Order-clause-text : goal.returns-in-Order-clause-text
+returns-in-Order-clause-text g c = subst
+    (λ kind. IfOk c.order_of.result (λ a. IsMapText kind c.args.merged.now a.text.items))
+    (sym c.in-Order.is) c.order_of.ensures.text
 
-pub returns-in-Audit : goal.returns-in-Audit
-returns-in-Audit g c =
-    subst (λ kind. IfOk c.audit_of.result (λ text. IsMapText kind c.args.merged.now text.items))
-    (sym c.in-Audit.is) c.audit_of.ensures
+pub returns-in-Order-clause-found : goal.returns-in-Order-clause-found
+returns-in-Order-clause-found g c = subst
+    (λ kind. IfOk c.order_of.result
+    (λ a. (a.has_findings ≡ true) ↔ FindsIn kind c.args.merged.now a.text.items))
+    (sym c.in-Order.is) c.order_of.ensures.found
 
-pub returns-in-Graph : goal.returns-in-Graph
-returns-in-Graph g c =
-    subst (λ kind. IfOk c.picture_of.result (λ text. IsMapText kind c.args.merged.now text.items))
-    (sym c.in-Graph.is) c.picture_of.ensures
+pub returns-in-Levels-clause-text : goal.returns-in-Levels-clause-text
+returns-in-Levels-clause-text g c = subst
+    (λ kind. IfOk c.levels_of.result (λ a. IsMapText kind c.args.merged.now a.text.items))
+    (sym c.in-Levels.is) c.levels_of.ensures.text
 
-pub returns-in-Why : goal.returns-in-Why
-returns-in-Why g c =
-    subst (λ kind. IfOk c.why_of.result (λ text. IsMapText kind c.args.merged.now text.items))
-    (sym c.in-Why.is) c.why_of.ensures
+pub returns-in-Levels-clause-found : goal.returns-in-Levels-clause-found
+returns-in-Levels-clause-found g c = subst
+    (λ kind. IfOk c.levels_of.result
+    (λ a. (a.has_findings ≡ true) ↔ FindsIn kind c.args.merged.now a.text.items))
+    (sym c.in-Levels.is) c.levels_of.ensures.found
 
-pub returns-in-Path : goal.returns-in-Path
-returns-in-Path g c =
-    subst (λ kind. IfOk c.path_of.result (λ text. IsMapText kind c.args.merged.now text.items))
-    (sym c.in-Path.is) c.path_of.ensures
+pub returns-in-Audit-clause-found : goal.returns-in-Audit-clause-found
+returns-in-Audit-clause-found g c = subst
+    (λ kind. IfOk c.audit_of.result
+    (λ a. (a.has_findings ≡ true) ↔ FindsIn kind c.args.merged.now a.text.items))
+    (sym c.in-Audit.is) c.audit_of.ensures.found
 
-pub returns-in-Trace : goal.returns-in-Trace
-returns-in-Trace g c =
-    subst (λ kind. IfOk c.trace_of.result (λ text. IsMapText kind c.args.merged.now text.items))
-    (sym c.in-Trace.is) c.trace_of.ensures
+pub returns-in_ok-picture_of-in-Graph-clause-text : goal.returns-in_ok-picture_of-in-Graph-clause-text
+returns-in_ok-picture_of-in-Graph-clause-text g c =
+    let m = c.args.merged.now in
+    subst (λ kind. IsMapText kind m c.plain.result.text.items) (sym c.in-Graph.is)
+    (subst (λ t. IsPicture m t.items) (sym c.plain.ensures.text)
+    c.in_ok-picture_of-in-Graph.ensures)
+
+pub returns-in_ok-trace_of-in-Trace-clause-text : goal.returns-in_ok-trace_of-in-Trace-clause-text
+returns-in_ok-trace_of-in-Trace-clause-text g c =
+    let m = c.args.merged.now in
+    subst (λ kind. IsMapText kind m c.plain-in-Trace.result.text.items) (sym c.in-Trace.is)
+    (subst (λ t. IsTraceText m c.in-Trace.key.text.bytes c.in-Trace.reads t.items)
+    (sym c.plain-in-Trace.ensures.text) c.in_ok-trace_of-in-Trace.ensures)

@@ -6,6 +6,7 @@ use Rattle.epx_words.proofs.commands.start.Goals as goal
 pub returns : goal.returns
 returns c =
     rw (
+      c.args_override_self.ensures,
       c.subcommand_required.ensures,
       c.version.ensures,
       c.override_usage.ensures,
@@ -13,5 +14,9 @@ returns c =
       c.about.ensures,
     )
     (ap
-    (on_top (λ (shape : Shape). record shape { has_version = true; subcommand_required = true }))
-    c.new.ensures.app)
+    (on_top
+    (λ (shape : Shape). record shape {
+      has_version = true;
+      subcommand_required = true;
+      args_override_self = true;
+    })) c.new.ensures.app)

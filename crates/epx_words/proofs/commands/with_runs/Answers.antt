@@ -1,29 +1,29 @@
 use Rattle.std.proofs.Common.{codes, refl}
 use Rattle.std.proofs.lemmas.Result.{IfOk-weaker}
 use Rattle.clap.specs.Words.{App, with_subcommand}
-use Rattle.epx_words.specs.App.{epx_top, work_app}
+use Rattle.epx_words.specs.App.{epx_top, finding_app, work_app}
 use Rattle.epx_words.proofs.CommandLemmas.{with_command}
 use Rattle.epx_words.proofs.commands.with_runs.Goals as goal
 
 abbrev run : App
-run = with_subcommand epx_top (work_app (codes "run")).top
+run = with_subcommand epx_top (finding_app (codes "run")).top
 
 abbrev order : App
-order = with_subcommand run (work_app (codes "order")).top
+order = with_subcommand run (finding_app (codes "order")).top
 
 abbrev levels : App
-levels = with_subcommand order (work_app (codes "levels")).top
+levels = with_subcommand order (finding_app (codes "levels")).top
 
 pub returns : goal.returns
 returns c =
     let one = with_command c.start.result c.in_ok-run.run' c.in_ok-subcommand.field-0 epx_top
-    (work_app (codes "run")) c.in_ok-subcommand.ensures c.start.ensures c.in_ok-run.ensures
+    (finding_app (codes "run")) c.in_ok-subcommand.ensures c.start.ensures c.in_ok-run.ensures
     refl in
     let two = with_command c.in_ok-subcommand.field-0 c.in_ok-order.order
-    c.in_ok-subcommand-2.field-0 run (work_app (codes "order")) c.in_ok-subcommand-2.ensures
+    c.in_ok-subcommand-2.field-0 run (finding_app (codes "order")) c.in_ok-subcommand-2.ensures
     one c.in_ok-order.ensures refl in
     let three = with_command c.in_ok-subcommand-2.field-0 c.in_ok-levels.levels
-    c.in_ok-subcommand-3.field-0 order (work_app (codes "levels")) c.in_ok-subcommand-3.ensures
+    c.in_ok-subcommand-3.field-0 order (finding_app (codes "levels")) c.in_ok-subcommand-3.ensures
     two c.in_ok-levels.ensures refl in
     IfOk-weaker c.subcommand-4.result _ _ (λ made added.
     with_command c.in_ok-subcommand-3.field-0 c.in_ok-graph.graph made levels

@@ -6,10 +6,10 @@ use Rattle.clap.proofs.WalkLemmas.{IfOk-both}
 use Rattle.epx_words.specs.App.{epx_app}
 use Rattle.epx_words.specs.ExitStatus.{IsExitStatus}
 use Rattle.epx_words.specs.Requests.{ArePathsOf, FitsRows, task_name}
-use Rattle.epx_words.specs.Subjects.{NamesSubject}
+use Rattle.epx_words.specs.Subjects.{NamesAll}
 use Rattle.epx_words.specs.SubcommandRows.{AsksForWork, IsCutOf, IsWorkersOf, name_in, rows_in}
 use Rattle.epx_words.proofs.WorkLemmas.{given_by_epx, has_flags, has_part, is_taken, means_by_epx}
-use Rattle.epx_words.proofs.WorkLemmas.{no_subject_named, text_weaker}
+use Rattle.epx_words.proofs.WorkLemmas.{not_all_named, text_weaker}
 use Rattle.epx_words.proofs.FaultLemmas.{epx_is_free, asks_for_work}
 use Rattle.epx_words.proofs.StatusLemmas.{is_not_taken, has_exit_status, is_refused}
 use Rattle.epx_words.proofs.read.read_words.Goals as goal
@@ -94,8 +94,8 @@ returns-in_ok-work_of-in-Ok-clause-refused c bare =
     let given = subcommand_of epx_app texts in
     let means = means_by_epx _ c.in_ok-command.ensures texts (subcommand_rows_of c.in-Ok.matches)
     c.in-Ok.ensures.matches c.in_ok-work_of-in-Ok.field-0 c.in_ok-work_of-in-Ok.ensures in
-    text_weaker (λ status. (¬ NamesSubject given) × (status ≡ 2)) _ c.in_ok-work_of-in-Ok.field-0
-    (λ status h. inr h.0) (no_subject_named given c.in_ok-work_of-in-Ok.field-0 means)
+    text_weaker (λ status. (¬ NamesAll given) × (status ≡ 2)) _ c.in_ok-work_of-in-Ok.field-0
+    (λ status h. inr h.0) (not_all_named given c.in_ok-work_of-in-Ok.field-0 means)
 
 pub returns-in_ok-work_of-in-Ok-clause-status : goal.returns-in_ok-work_of-in-Ok-clause-status
 returns-in_ok-work_of-in-Ok-clause-status c bare =
@@ -103,8 +103,8 @@ returns-in_ok-work_of-in-Ok-clause-status c bare =
     let given = subcommand_of epx_app texts in
     let means = means_by_epx _ c.in_ok-command.ensures texts (subcommand_rows_of c.in-Ok.matches)
     c.in-Ok.ensures.matches c.in_ok-work_of-in-Ok.field-0 c.in_ok-work_of-in-Ok.ensures in
-    text_weaker (λ status. (¬ NamesSubject given) × (status ≡ 2)) _ c.in_ok-work_of-in-Ok.field-0
-    (λ status h. inr h) (no_subject_named given c.in_ok-work_of-in-Ok.field-0 means)
+    text_weaker (λ status. (¬ NamesAll given) × (status ≡ 2)) _ c.in_ok-work_of-in-Ok.field-0
+    (λ status h. inr h) (not_all_named given c.in_ok-work_of-in-Ok.field-0 means)
 
 pub returns-in-Err-clause-taken : goal.returns-in-Err-clause-taken
 returns-in-Err-clause-taken c bare =
