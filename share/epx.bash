@@ -21,8 +21,8 @@ _epx() {
     esac
     # the options of the subcommand, and how many names that are no paths come first
     case ${COMP_WORDS[1]} in
-        run|order|levels|graph|resume) options=" --workers --cut --explain --help " firsts=0 ;;
-        audit|compare) options=" --workers --cut --explain --exit-code --help " firsts=0 ;;
+        run|order|levels|resume|audit|compare) options=" --workers --cut --explain --exit-code --help " firsts=0 ;;
+        graph) options=" --workers --cut --explain --help " firsts=0 ;;
         check) options=" --workers --cut --explain --exit-code --prefix --help " firsts=0 ;;
         why) options=" --workers --cut --explain --reaches --help " firsts=1 ;;
         trace) options=" --workers --cut --explain --reads --help " firsts=1 ;;

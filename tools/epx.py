@@ -324,4 +324,10 @@ def test():
 
 
 if __name__ == "__main__":
-    sys.exit(test())
+    if len(sys.argv) == 1:
+        sys.exit(test())
+    if sys.argv[1:] in (["-h"], ["--help"]):
+        print(__doc__.strip())
+        sys.exit(0)
+    print("epx.py: takes no words; --help says what it is", file=sys.stderr)
+    sys.exit(2)

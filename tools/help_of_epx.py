@@ -70,6 +70,13 @@ def subcommands():
     return found
 
 
+def answers_at_once():
+    """All words that ask for help or the version, each with the text for them, as the gate saw
+    them."""
+    form = r'^== \["epx".*"(?:-h|--help|help|-V|--version)"\]\n(?:(?!== ).*\n)+'
+    return "".join(re.findall(form, PRINTED.read_text(), re.M))
+
+
 def top_options():
     """The options of the program itself."""
     return options_of(help_texts()["epx"])
