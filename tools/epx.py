@@ -25,8 +25,12 @@ FINDS = 5  # the status of an answer that finds something, with `--exit-code`
 
 
 def find_program():
-    """The program that was built or installed with this module, else `epx` of the path."""
-    places = (HERE.parent / "crates/epx/out/epx", HERE.parent.parent / "bin/epx")
+    """The program that was built, unpacked or installed with this module, else `epx` of the
+    path."""
+    places = [HERE.parent / "crates/epx/out/epx", HERE.parent.parent / "bin/epx"]
+    if not (HERE.parent / "crates").exists():
+        # in the repository this file is the script that builds
+        places.insert(0, HERE.parent / "epx")
     return next((str(place) for place in places if place.is_file()), "epx")
 
 
