@@ -4,9 +4,11 @@ repository. A module, and no tool itself."""
 import hashlib
 import posixpath
 import re
+import textwrap
 
 from command_line import TOP
 
+WIDTH = 100
 PAGES = ("CLI", "COMPARING", "EMBEDDING", "FORMAT", "INPUT", "INSTALL", "RECIPES")
 
 README = """# epx {version}
@@ -34,7 +36,7 @@ module:
 | [docs/FORMAT.md](docs/FORMAT.md) | logs, operations, the report, bases, lists, comparisons |
 | [docs/INPUT.md](docs/INPUT.md) | from a replica to a log |
 | [docs/COMPARING.md](docs/COMPARING.md) | from five logs to the odd replica |
-| [docs/RECIPES.md](docs/RECIPES.md) | figures of a graph by `jq`, and two runs side by side |
+| [docs/RECIPES.md](docs/RECIPES.md) | figures of a graph by `jq`, and orders of other protocols |
 | [docs/EMBEDDING.md](docs/EMBEDDING.md) | epx from Python, Go and others |
 | [docs/INSTALL.md](docs/INSTALL.md) | where the files go |
 | [examples/](examples/README.md) | logs with what epx prints of them |
@@ -44,11 +46,18 @@ module:
 
 PROVED = """# What is proved of the program
 
-{origin}
+Each function of `epx` is proved to meet its contract before it is built.
 
-The SHA-256 of `epx` is `{sum}`. To prove it again, take the repository at that commit and run
-`rt ci`, which the toolchain has. The definitions that the contracts use are there in the folders
-`crates/*/specs`, and `docs/MODEL.md` says in plain words what each of them means.
+| What | Which |
+|---|---|
+| version | {version} |
+| sources | {origin} |
+| toolchain, which proves and builds | `{kit}` |
+| SHA-256 of `epx` | `{sum}` |
+
+To prove it again, take the repository at that commit and run `rt ci`. The definitions that the
+contracts use are there in the folders `crates/*/specs`, and `docs/MODEL.md` says in plain words
+what each of them means.
 
 ## The theorem
 
@@ -92,6 +101,15 @@ def contract(path, function):
     return "\n".join(lines)
 
 
+def fill(paragraph):
+    """A paragraph whose lines end by the width of pages, where it is nothing but words."""
+    is_wide = max(map(len, paragraph.split("\n"))) > WIDTH
+    if not is_wide or paragraph.startswith(("|", "    ", "- ", "#", "```")):
+        return paragraph
+    end = "\n" if paragraph.endswith("\n") else ""
+    return textwrap.fill(paragraph, WIDTH, break_long_words=False, break_on_hyphens=False) + end
+
+
 def fit(place, text, names):
     """A page as it must be at a place of the archive that has files of these names. What the
     archive does not have is named as of the repository."""
@@ -109,7 +127,8 @@ def fit(place, text, names):
 
     text = re.sub(r"(?<!!)\[([^\]\[]+)\]\(([^)\s]+)\)", link, text)
     text = re.sub(r"`(tools/(?!install)\w+)[^`]*`", tool, text)
-    return text.replace("tools/install", "./install")
+    text = text.replace("tools/install", "./install")
+    return "\n\n".join(map(fill, text.split("\n\n")))
 
 
 def install_page():
@@ -119,16 +138,19 @@ def install_page():
     return f"# Installing\n\n{head}\n\n## Files\n\n{files}\n"
 
 
-def proved_page(origin, program):
+def proved_page(version, origin, program):
     """PROVED.md, for a program of these bytes."""
     theorem = section("README.md", "The theorem")
+    trusted = section("docs/PROOFS.md", "What is trusted")
     return PROVED.format(
+        version=version,
         origin=origin,
+        kit=re.search(r"rattle-kit-\w+", trusted)[0],
         sum=hashlib.sha256(program).hexdigest(),
         theorem=theorem[: theorem.index("\n- **Trusted**")],
         run=contract("crates/epx_tool/src/runs.rt", "run"),
         start=contract("crates/epx_program/src/program.rt", "start"),
-        trusted=section("docs/PROOFS.md", "What is trusted"),
+        trusted=fit("docs/PROOFS.md", trusted, ()),
         words=section("docs/MODEL.md", "Words of the libraries"),
     )
 
@@ -151,7 +173,7 @@ def pages(version, origin, program, names):
     made["CHANGELOG.md"] = (TOP / "CHANGELOG.md").read_text()
     examples = (TOP / "examples/README.md").read_text()
     made["examples/README.md"] = examples[: examples.index("\nThe worked cases of `epx_cases`")]
-    made["PROVED.md"] = proved_page(origin, program)
+    made["PROVED.md"] = proved_page(version, origin, program)
     made["README.md"] = readme(version, program)
     names = {*names, *made}
     return {place: fit(place, text, names) for place, text in made.items()}
