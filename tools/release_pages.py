@@ -40,6 +40,8 @@ module:
 | [docs/EMBEDDING.md](docs/EMBEDDING.md) | epx from Python, Go and others |
 | [docs/INSTALL.md](docs/INSTALL.md) | where the files go |
 | [examples/](examples/README.md) | logs with what epx prints of them |
+| `share/` | the manual page, completions, and all texts of help |
+| `tools/` | the Python module, and `tools/expand`, which [docs/INPUT.md](docs/INPUT.md) is about |
 | [PROVED.md](PROVED.md) | what is proved of the program, and what is trusted |
 | [CHANGELOG.md](CHANGELOG.md) | what each version can do |
 """
