@@ -96,11 +96,10 @@ def section(page, heading):
 
 
 def contract(path, function):
-    """The lines of a public function before its body, as an indented block."""
+    """The lines of a public function before its body, as a block."""
     text = (TOP / path).read_text()
     found = re.search(rf"^pub fn {function}<.*?(?=^\{{)", text, re.M | re.S)[0]
-    lines = [f"    {line}" if line else "" for line in found.rstrip("\n").split("\n")]
-    return "\n".join(lines)
+    return f"```\n{found}```"
 
 
 def fill(paragraph):
