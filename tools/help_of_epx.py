@@ -71,10 +71,13 @@ def subcommands():
 
 
 def answers_at_once():
-    """All words that ask for help or the version, each with the text for them, as the gate saw
+    """All words that ask for help or the version, each with the first text that the gate saw for
     them."""
-    form = r'^== \["epx".*"(?:-h|--help|help|-V|--version)"\]\n(?:(?!== ).*\n)+'
-    return "".join(re.findall(form, PRINTED.read_text(), re.M))
+    form = r'^(== \["epx".*"(?:-h|--help|help|-V|--version)"\]\n)((?:(?!== ).*\n)+)'
+    found = {}
+    for words, text in re.findall(form, PRINTED.read_text(), re.M):
+        found.setdefault(words, text)
+    return "".join(words + text for words, text in found.items())
 
 
 def top_options():
