@@ -6,17 +6,17 @@ use Rattle.std.specs.Prelude.{IfSome, MatchResult, Result}
 use Rattle.std.proofs.lemmas.Grind.{common_steps, flat_map-append}
 use Rattle.epx_types.specs.declared.fault.Fault.{Fault}
 use Rattle.epx_types.specs.declared.fault.Fault.TheVariants.{Memory, LogTooLong, Read}
-use Rattle.epx_types.specs.declared.limits.TheConstants.{MAX_LOG_BYTES}
+use Rattle.epx_devices.specs.Limits.{max_log_bytes}
 use Rattle.epx_devices.specs.Deliveries.{FailRelation, ReadRelation, ReadStep, AreReads, Delivers}
 use Rattle.epx_devices.specs.declared.transfer.LogPart.{LogPart}
 use Rattle.epx_devices.specs.LogParts.{EndsLog, EndsPart, IsFrontOfLog, IsReadUpTo}
 use Rattle.epx_devices.proofs.KnownBytesLemmas.{Appends-trans, Consumes-trans, take-more}
 use Rattle.std.specs.Io.KnownBytes.{Appends, Consumes, IsAtEnd, Keeps}
 
--- the sink has accepted the first n bytes, and no call has failed
+-- the sink has accepted the first n bytes, and no further call has failed
 pub record IsWritten {S : Type 0} (contents : S → Option (List ℕ)) (has_failed : S → Bool)
     (first now : S) (bytes : List ℕ) (n : ℕ) : Type 0 where
-  pub whole : has_failed now ≡ false
+  pub whole : has_failed now ≡ has_failed first
   pub within : n ≤ length bytes
   pub appended : Appends (contents first) (contents now) (take n bytes)
 
@@ -45,7 +45,7 @@ pub IsWritten-step : {S : Type 0} (contents : S → Option (List ℕ)) (has_fail
     → IsWritten contents has_failed first now bytes n
     → k ≤ length (take (length bytes - n) (drop n bytes))
     → Appends (contents now) (contents later) (take k (take (length bytes - n) (drop n bytes)))
-    → has_failed later ≡ false → IsWritten contents has_failed first later bytes (n + k)
+    → has_failed later ≡ has_failed first → IsWritten contents has_failed first later bytes (n + k)
 IsWritten-step contents has_failed first now later bytes n k sofar few appended whole =
     let all = Appends-trans (contents first) (contents now) (contents later) (take n bytes)
     (take k (drop n bytes)) sofar.appended (rw take-rest at appended) in
@@ -85,7 +85,7 @@ module _ {S : Type 0} (reads : ReadRelation S) where
     pub IsReadUpTo-step : (first now later : S) (bytes part : List ℕ) (room : ℕ)
         → IsReadUpTo remaining reads has_failed first now bytes
         → Consumes (remaining now) (remaining later) part → reads now room part later
-        → length bytes + length part ≤ 67108865 → has_failed later ≡ false
+        → length bytes + length part ≤ max_log_bytes + 1 → has_failed later ≡ false
         → IsReadUpTo remaining reads has_failed first later (bytes ++ part)
     IsReadUpTo-step first now later bytes part room sofar consumed read few whole = record {
       whole = whole;
@@ -109,7 +109,7 @@ module _ {S : Type 0} (reads : ReadRelation S) where
         (sofar : IsReadUpTo remaining reads has_failed first now bytes) where
       pub log_ends : (room : ℕ) → 0 < room → reads now room [] later
           → Consumes (remaining now) (remaining later) [] → IsAtEnd (remaining later)
-          → has_failed later ≡ false → length bytes ≤ MAX_LOG_BYTES
+          → has_failed later ≡ false → length bytes ≤ max_log_bytes
           → EndsLog remaining reads fails has_failed log first later (Ok bytes)
       log_ends room has_room read consumed ended whole short =
           let all = rw (append-nil bytes) at (Consumes-trans (remaining first) (remaining now)
@@ -158,7 +158,7 @@ module _ {S : Type 0} (reads : ReadRelation S) where
             no_further = (bytes, all, sofar.few);
           }
 
-      pub too_long : length bytes ≡ MAX_LOG_BYTES + 1
+      pub too_long : length bytes ≡ max_log_bytes + 1
           → EndsLog remaining reads fails has_failed log first now (Err (LogTooLong log))
       too_long many = record {
         bytes = tt;
@@ -188,14 +188,14 @@ module _ {S : Type 0} (reads : ReadRelation S) where
     -- no part has more bytes than a log may have, so such a part is the last
     pub whole_log : (fails : FailRelation S) (log : ℕ) (first now : S) (head : List ℕ)
         (result : Result LogPart Fault)
-        → EndsPart remaining reads fails has_failed log first now head (MAX_LOG_BYTES + 1) result
+        → EndsPart remaining reads fails has_failed log first now head (max_log_bytes + 1) result
         → MatchResult result (λ part.
         EndsLog remaining reads fails has_failed log first now (Ok (head ++ part.bytes.items)))
         (λ fault. EndsLog remaining reads fails has_failed log first now (Err fault))
     whole_log fails log first now head (Err fault) ends = ends
     whole_log fails log first now head (Ok part) ends = all part.is_last ends where
       all : (is_last : Bool) → IsFrontOfLog remaining reads fails has_failed log first now
-          (length head + (MAX_LOG_BYTES + 1)) (head ++ part.bytes.items) is_last
+          (length head + (max_log_bytes + 1)) (head ++ part.bytes.items) is_last
           → EndsLog remaining reads fails has_failed log first now (Ok (head ++ part.bytes.items))
       all true is = is
       all false is = absurd (omega (arith, is.1, is.2))

@@ -2,7 +2,7 @@
 use Rattle.std.specs.Prelude.{◌≡◌, ℕ, ◌+◌, ◌<◌, List, [], ◌∷◌, length, flat_map}
 use Rattle.epx_types.specs.declared.fault.Fault.{Fault}
 use Rattle.epx_types.specs.declared.fault.Fault.TheVariants.{Memory, LogTooLong, Read}
-use Rattle.epx_types.specs.declared.limits.TheConstants.{MAX_LOG_BYTES}
+use Rattle.epx_devices.specs.Limits.{max_log_bytes}
 
 -- a read with this much room returned these bytes and left the source in this state
 abbrev pub ReadRelation : Type 0 → Type 1
@@ -57,6 +57,6 @@ pub record DeliversThenFails {S : Type 0} (reads : ReadRelation S) (fails : Fail
 abbrev pub IsLogStop : {S : Type 0} → ReadRelation S → FailRelation S → ℕ → S → S → Fault → Type 0
 IsLogStop reads fails log first now Memory = Unit {0}
 IsLogStop reads fails log first now (LogTooLong k) =
-    (k ≡ log) × DeliversExactly reads first now (MAX_LOG_BYTES + 1)
+    (k ≡ log) × DeliversExactly reads first now (max_log_bytes + 1)
 IsLogStop reads fails log first now (Read k) = (k ≡ log) × DeliversThenFails reads fails first now
 IsLogStop reads fails log first now _ = ⊥

@@ -1,6 +1,6 @@
 -- Models of readers, writers and files that record whether a call has failed.
-use Rattle.std.specs.Prelude.{◌≡◌, ℕ, Bool, List, Option, Some, IfSome}
-use Rattle.std.specs.Io.KnownBytes.{Consumes}
+use Rattle.std.specs.Prelude.{◌≡◌, ◌⊎◌, ℕ, Bool, true, List, Option, None, Some, MatchOption}
+use Rattle.epx_devices.specs.Deliveries.{FailRelation, ReadRelation}
 
 pub record ReaderState (R : Type 0) : Type 0 where
   pub reader : R
@@ -12,20 +12,43 @@ pub record WriterState (W : Type 0) : Type 0 where
   pub flushed : Bool
   pub failed : Bool
 
--- the file at this path, which is present once it is open
-pub record PathState (F : Type 0) : Type 0 where
+-- the file at this path, which is present once it is open, and what opens it
+pub record PathState (O F : Type 0) : Type 0 where
+  pub opener : O
   pub path : List ℕ
   pub file : Option F
   pub failed : Bool
 
--- these are the next bytes of the file that was open, or of the one that this read opened
-abbrev pub ReadsNext : {F : Type 0} → (F → Option (List ℕ)) → Option F → Option F → List ℕ → Type 0
-ReadsNext {F} remaining old new bytes = (before : F) × (after : F)
-    × IfSome old (λ first. first ≡ before) × (new ≡ Some after)
-    × Consumes (remaining before) (remaining after) bytes
+-- the opener opened this file at this path
+abbrev pub OpenRelation : Type 0 → Type 0 → Type 1
+OpenRelation O F = O → List ℕ → F → Type 0
 
--- a read of the file at the path returned these bytes
-abbrev pub ReadsPath : {F : Type 0} → (F → Option (List ℕ))
-    → PathState F → PathState F → List ℕ → Type 0
-ReadsPath remaining old new bytes =
-    (new.path ≡ old.path) × ReadsNext remaining old.file new.file bytes
+-- the opener could not open a file at this path
+abbrev pub RefuseRelation : Type 0 → Type 1
+RefuseRelation O = O → List ℕ → Type 0
+
+-- the next read reads from this file: the one that is open, or one that is opened at the path
+abbrev pub IsNextFile : {O F : Type 0} → OpenRelation O F → PathState O F → F → Type 0
+IsNextFile opens s file = MatchOption s.file (opens s.opener s.path file) (λ first. first ≡ file)
+
+abbrev pub IsSamePath : {O F : Type 0} → PathState O F → PathState O F → Type 0
+IsSamePath s t = (t.opener ≡ s.opener) × (t.path ≡ s.path)
+
+-- one read of the next file returned these bytes, and that file is open now
+abbrev pub ReadsPath : {O F : Type 0} → OpenRelation O F → ReadRelation F
+    → ReadRelation (PathState O F)
+ReadsPath {O} {F} opens reads s room bytes t = IsSamePath s t × ((before : F) × (after : F)
+    × IsNextFile opens s before × (t.file ≡ Some after) × reads before room bytes after)
+
+-- no file was open and none could be opened, or one read of the next file failed
+abbrev pub FailsPathYet : {O F : Type 0} → OpenRelation O F → RefuseRelation O → FailRelation F
+    → FailRelation (PathState O F)
+FailsPathYet {O} {F} opens refuses fails s t = IsSamePath s t
+    × (((s.file ≡ None) × (t.file ≡ None) × refuses s.opener s.path)
+    ⊎ ((before : F) × (after : F)
+    × IsNextFile opens s before × (t.file ≡ Some after) × fails before after))
+
+-- the same, and the source knows that it has failed
+abbrev pub FailsPath : {O F : Type 0} → OpenRelation O F → RefuseRelation O → FailRelation F
+    → FailRelation (PathState O F)
+FailsPath opens refuses fails s t = (t.failed ≡ true) × FailsPathYet opens refuses fails s t

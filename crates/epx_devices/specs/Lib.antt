@@ -1,4 +1,6 @@
+pub mod Limits
 pub mod Devices
+pub mod Reads
 pub mod Fuses
 pub mod Deliveries
 pub mod Transfers
@@ -6,3 +8,4 @@ pub mod LogParts
 pub mod EitherSources
 pub mod DeviceStates
 pub mod MemorySink
+pub mod inner

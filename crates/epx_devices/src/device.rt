@@ -4,6 +4,7 @@ ghost use Rattle.std.specs.Prelude.{IsErr, length, take};
 ghost use Rattle.std.specs.Io.{ReadsAtMost, WritesAtMost};
 ghost use Rattle.std.specs.Io.KnownBytes.{Keeps, ReadConsumes, WriteAppends};
 ghost use Rattle.epx_devices.specs.Devices.{AcceptsSome, failed_after};
+ghost use Rattle.epx_devices.specs.Reads.{IsOneRead};
 
 /// A call on a device failed.
 #[derive(Clone, Copy, Debug, PartialEq, Eq)]
@@ -17,7 +18,7 @@ pub trait Source {
     // A read with room for this many bytes returned these bytes, and left the source in this
     // state. Generic code can get this fact only from a call of `read_some`. So it relates an
     // answer to the bytes that were read, also for files, whose bytes are not known before.
-    ghost reads: { Self → ℕ → List ℕ → Self → Type 0 } = { λ _ _ _ _. ⊤ };
+    ghost reads: { Self → ℕ → List ℕ → Self → Type 0 };
 
     // A read failed, and left the source in this state.
     ghost fails: { Self → Self → Type 0 } = { λ _ _. ⊤ };
@@ -38,6 +39,10 @@ pub trait Source {
     /// Whether a call has returned an error.
     fn failed(&self) -> bool
         ensures { result ≡ has_failed self.now };
+
+    // No source says less of a read than this.
+    ghost is_one_read: { (s : Self) (room : ℕ) (bytes : List ℕ) (t : Self)
+        → reads s room bytes t → IsOneRead (remaining s) (remaining t) room bytes };
 }
 
 /// A device to which bytes are written.

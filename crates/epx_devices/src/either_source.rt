@@ -1,5 +1,6 @@
 //! A source of one of two types.
 ghost use Rattle.epx_devices.specs.EitherSources.{fails_by, reads_by, value_by};
+ghost use Rattle.epx_devices.specs.inner.EitherReads.{either_is_one_read};
 
 use crate::device::{DeviceFault, Source};
 
@@ -18,6 +19,9 @@ impl<A: Source, B: Source> Source for EitherSource<A, B> {
     ghost fails = { λ s t. fails_by A.fails B.fails s t };
 
     ghost has_failed = { λ s. value_by A.has_failed B.has_failed s };
+
+    ghost is_one_read = { λ s room bytes t read. either_is_one_read A.remaining B.remaining
+        A.reads B.reads A.is_one_read B.is_one_read s room bytes t read };
 
     fn read_some(&mut self, part: &mut [u8]) -> Result<usize, DeviceFault> {
         match self {

@@ -1,9 +1,10 @@
 //! A source over memory that fails after a set number of bytes.
-ghost use Rattle.std.specs.Prelude.{◌≡◌, ◌≤◌, ◌↔◌, ◌++◌, false, Some, IfOk, OnErr, IsErr, length};
+ghost use Rattle.std.specs.Prelude.{◌≡◌, ◌≤◌, ◌↔◌, false, Some, IfOk, OnErr, IsErr, length};
 ghost use Rattle.std.specs.Prelude.{min, take, drop};
 ghost use Rattle.std.specs.Io.{ReadsAtMost};
 ghost use Rattle.std.specs.Io.KnownBytes.{ReadConsumes};
 ghost use Rattle.epx_devices.specs.Devices.{failed_after};
+ghost use Rattle.epx_devices.specs.Reads.{IsOneRead};
 ghost use Rattle.epx_devices.specs.Fuses.{IsSpent, allowed, after_failure, after_transfer};
 
 use crate::device::{DeviceFault, Source};
@@ -60,16 +61,19 @@ impl<'a> FuseSource<'a> {
 impl Source for FuseSource<'_> {
     ghost remaining = { λ s. Some s.bytes };
 
-    ghost reads = { λ s _ bytes t. s.bytes ≡ bytes ++ t.bytes };
+    ghost reads = { λ s room bytes t. IsOneRead (Some s.bytes) (Some t.bytes) room bytes };
 
     ghost fails = { λ s t. IsSpent s × (t ≡ after_failure s) };
 
     ghost has_failed = { λ s. s.failed };
 
+    ghost is_one_read = { λ s room bytes t read. read };
+
     fn read_some(&mut self, part: &mut [u8]) -> Result<usize, DeviceFault>
         ensures bound { ReadsAtMost result part.new }
         ensures bytes { ReadConsumes (Some self.old.bytes) (Some self.new.bytes) result part.new }
-        ensures delivered { IfOk result (λ n. self.old.bytes ≡ take n part.new ++ self.new.bytes) }
+        ensures delivered { IfOk result (λ n. IsOneRead (Some self.old.bytes)
+            (Some self.new.bytes) (length part.new) (take n part.new)) }
         ensures failing { OnErr result (IsSpent self.old × (self.new ≡ after_failure self.old)) }
         ensures failures { self.new.failed ≡ failed_after self.old.failed result }
 

@@ -1,9 +1,10 @@
 //! A source over memory, whose bytes are known.
-ghost use Rattle.std.specs.Prelude.{◌≡◌, ◌++◌, false, List, ℕ, Some, Ok, IfOk, OnErr, length, min};
+ghost use Rattle.std.specs.Prelude.{◌≡◌, false, List, ℕ, Some, Ok, IfOk, OnErr, length, min};
 ghost use Rattle.std.specs.Prelude.{take};
 ghost use Rattle.std.specs.Io.{ReadsAtMost};
 ghost use Rattle.std.specs.Io.KnownBytes.{ReadConsumes};
 ghost use Rattle.epx_devices.specs.Devices.{failed_after};
+ghost use Rattle.epx_devices.specs.Reads.{IsOneRead};
 
 use crate::device::{DeviceFault, Source};
 use std::marker::Model;
@@ -31,16 +32,19 @@ impl<'a> MemorySource<'a> {
 impl Source for MemorySource<'_> {
     ghost remaining = { λ s. Some s };
 
-    ghost reads = { λ s _ bytes t. s ≡ bytes ++ t };
+    ghost reads = { λ s room bytes t. IsOneRead (Some s) (Some t) room bytes };
 
     ghost fails = { λ _ _. ⊥ };
 
     ghost has_failed = { λ _. false };
 
+    ghost is_one_read = { λ s room bytes t read. read };
+
     fn read_some(&mut self, part: &mut [u8]) -> Result<usize, DeviceFault>
         ensures bound { ReadsAtMost result part.new }
         ensures bytes { ReadConsumes (Some self.old) (Some self.new) result part.new }
-        ensures delivered { IfOk result (λ n. self.old ≡ take n part.new ++ self.new) }
+        ensures delivered { IfOk result (λ n.
+            IsOneRead (Some self.old) (Some self.new) (length part.new) (take n part.new)) }
         ensures failing { OnErr result ⊥ }
         ensures whole { result ≡ Ok (min (length part.new) (length self.old)) }
     {

@@ -1,42 +1,51 @@
 //! A source over the file at a path.
-ghost use Rattle.std.specs.Prelude.{◌≡◌, true, false, take, None, IfOk, OnErr, option_and_then};
+ghost use Rattle.std.specs.Prelude.{◌≡◌, true, false, take, length, None, IfOk, OnErr};
+ghost use Rattle.std.specs.Prelude.{option_and_then};
 ghost use Rattle.std.specs.Io.{ReadsAtMost};
 ghost use Rattle.std.specs.Io.KnownBytes.{ReadConsumes};
 ghost use Rattle.epx_devices.specs.Devices.{failed_after};
-ghost use Rattle.epx_devices.specs.DeviceStates.{ReadsNext, ReadsPath};
+ghost use Rattle.epx_devices.specs.DeviceStates.{FailsPath, FailsPathYet, IsSamePath, ReadsPath};
+ghost use Rattle.epx_devices.specs.inner.PathReads.{path_is_one_read};
 
 use crate::device::{DeviceFault, Source};
-use crate::retry::retry_read;
+use crate::opener::Opener;
 use std::marker::Model;
-use std::rt::Files;
-use std::{fs, io};
 
 /// Reads the file at a path. The first read opens the file. So if the file cannot be opened, that
-/// read fails, and a source that is never read opens nothing. An interrupted read is repeated, up
-/// to `MAX_RETRIES` times.
+/// read fails, and a source that is never read opens nothing.
 #[derive(Drop)]
-pub struct PathSource<'a, R: Files> {
-    rt: &'a R,
+pub struct PathSource<'a, O: Opener> {
+    opener: &'a O,
     path: &'a str,
-    file: Option<R::File>,
+    file: Option<O::Opened>,
     failed: bool,
 }
 
-impl<'a, R: Files> Model for PathSource<'a, R> {
+impl<'a, O: Opener> Model for PathSource<'a, O> {
     ghost use Rattle.epx_devices.specs.DeviceStates.{PathState};
 
-    ghost Value = { PathState R.File };
+    ghost Value = { PathState O O.Opened };
 
-    ghost view = { λ s. record { path = s.path.now; file = s.file; failed = s.failed } };
+    ghost view = { λ s. record {
+      opener = s.opener.now;
+      path = s.path.now;
+      file = s.file;
+      failed = s.failed;
+    } };
 }
 
-impl<'a, R: Files> PathSource<'a, R> {
+impl<'a, O: Opener> PathSource<'a, O> {
     /// Opens nothing: the first read opens the file.
-    pub fn new(rt: &'a R, path: &'a str) -> PathSource<'a, R>
-        ensures { result ≡ record { path = path.now; file = None; failed = false } }
+    pub fn new(opener: &'a O, path: &'a str) -> PathSource<'a, O>
+        ensures { result ≡ record {
+          opener = opener.now;
+          path = path.now;
+          file = None;
+          failed = false;
+        } }
     {
         PathSource {
-            rt,
+            opener,
             path,
             file: None,
             failed: false,
@@ -44,47 +53,50 @@ impl<'a, R: Files> PathSource<'a, R> {
     }
 
     /// Reads the next bytes of the file, and opens it first if it is not open.
-    fn next_bytes(&mut self, part: &mut [u8]) -> io::Result<usize>
+    fn next_bytes(&mut self, part: &mut [u8]) -> Result<usize, DeviceFault>
         ensures bound { ReadsAtMost result part.new }
-        ensures bytes { let left = option_and_then R.File.remaining self.new.file in
-            ReadConsumes (option_and_then R.File.remaining self.old.file) left result part.new }
-        ensures given { IfOk result
-            (λ count. ReadsNext R.File.remaining self.old.file self.new.file
-            (take count part.new)) }
-        ensures path { self.new.path ≡ self.old.path }
+        ensures bytes { let left = option_and_then O.Opened.remaining self.new.file in
+            ReadConsumes (option_and_then O.Opened.remaining self.old.file) left result part.new }
+        ensures given { IfOk result (λ count. ReadsPath O.opens O.Opened.reads
+            self.old (length part.new) (take count part.new) self.new) }
+        ensures failing { OnErr result
+            (FailsPathYet O.opens O.refuses O.Opened.fails self.old self.new) }
         ensures failed { self.new.failed ≡ self.old.failed }
     {
         let mut file = match self.file.take() {
             Some(file) => file,
-            None => fs::open(self.rt, self.path)?,
+            None => self.opener.open(self.path)?,
         };
-        let count = retry_read(&mut file, part);
+        let count = file.read_some(part);
         self.file = Some(file);
         count
     }
 }
 
-impl<'a, R: Files> Source for PathSource<'a, R> {
+impl<'a, O: Opener> Source for PathSource<'a, O> {
     // The bytes that the remaining reads of the open file will return.
-    ghost remaining = { λ s. option_and_then R.File.remaining s.file };
+    ghost remaining = { λ s. option_and_then O.Opened.remaining s.file };
 
-    ghost reads = { λ s _ bytes t. ReadsPath R.File.remaining s t bytes };
+    ghost reads = { λ s room bytes t. ReadsPath O.opens O.Opened.reads s room bytes t };
 
-    ghost fails = { λ s t. (t.path ≡ s.path) × (t.failed ≡ true) };
+    ghost fails = { λ s t. FailsPath O.opens O.refuses O.Opened.fails s t };
 
     ghost has_failed = { λ s. s.failed };
 
+    ghost is_one_read = { λ s room bytes t read. path_is_one_read O.opens O.Opened.remaining
+        O.Opened.reads O.Opened.is_one_read s room bytes t read };
+
     fn read_some(&mut self, part: &mut [u8]) -> Result<usize, DeviceFault>
         ensures bound { ReadsAtMost result part.new }
-        ensures bytes { let left = option_and_then R.File.remaining self.new.file in
-            ReadConsumes (option_and_then R.File.remaining self.old.file) left result part.new }
-        ensures delivered { IfOk result (λ n.
-            ReadsPath R.File.remaining self.old self.new (take n part.new)) }
+        ensures bytes { let left = option_and_then O.Opened.remaining self.new.file in
+            ReadConsumes (option_and_then O.Opened.remaining self.old.file) left result part.new }
+        ensures delivered { IfOk result (λ n. ReadsPath O.opens O.Opened.reads
+            self.old (length part.new) (take n part.new) self.new) }
         ensures failing { OnErr result
-            ((self.new.path ≡ self.old.path) × (self.new.failed ≡ true)) }
+            (FailsPath O.opens O.refuses O.Opened.fails self.old self.new) }
         ensures failures { self.new.failed ≡ failed_after self.old.failed result }
 
-        ensures path { self.new.path ≡ self.old.path }
+        ensures path { IsSamePath self.old self.new }
     {
         match self.next_bytes(part) {
             Ok(count) => Ok(count),

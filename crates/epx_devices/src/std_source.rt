@@ -1,6 +1,7 @@
 //! A source over std's readers.
 ghost use Rattle.std.specs.Prelude.{◌≡◌, true, false};
-ghost use Rattle.std.specs.Io.KnownBytes.{Consumes};
+ghost use Rattle.std.specs.Io.KnownBytes.{Keeps};
+ghost use Rattle.epx_devices.specs.Reads.{IsOneRead};
 
 use crate::device::{DeviceFault, Source};
 use crate::retry::retry_read;
@@ -36,11 +37,15 @@ impl<R: Read> StdSource<R> {
 impl<R: Read> Source for StdSource<R> {
     ghost remaining = { λ s. R.remaining s.reader };
 
-    ghost reads = { λ s _ bytes t. Consumes (R.remaining s.reader) (R.remaining t.reader) bytes };
+    ghost reads = { λ s room bytes t.
+        IsOneRead (R.remaining s.reader) (R.remaining t.reader) room bytes };
 
-    ghost fails = { λ _ t. t.failed ≡ true };
+    ghost fails = { λ s t. Keeps (R.remaining s.reader) (R.remaining t.reader)
+        × (t.failed ≡ true) };
 
     ghost has_failed = { λ s. s.failed };
+
+    ghost is_one_read = { λ s room bytes t read. read };
 
     fn read_some(&mut self, part: &mut [u8]) -> Result<usize, DeviceFault> {
         match retry_read(&mut self.reader, part) {

@@ -1,8 +1,10 @@
 //! Reading a whole log, and writing a whole text.
 ghost use Rattle.std.specs.Prelude.{◌≡◌, ◌≤◌, ◌↔◌, ◌+◌, ◌++◌, ℕ, List, true, false, length, IfOk};
-ghost use Rattle.std.specs.Prelude.{OnOk, IfErr, IfSome, IsErr, IsErrOf};
+ghost use Rattle.std.specs.Prelude.{OnOk, IfErr, IfSome, IsErrOf};
 ghost use Rattle.std.specs.Io.KnownBytes.{Appends, IsAtEnd};
 ghost use Rattle.epx_devices.specs.Deliveries.{DeliversAll, IsLogStop};
+ghost use Rattle.epx_devices.specs.Devices.{failed_after};
+ghost use Rattle.epx_devices.specs.Limits.{max_log_bytes};
 ghost use Rattle.epx_devices.specs.LogParts.{EndsPart, IsReadUpTo};
 ghost use Rattle.epx_devices.specs.Transfers.{IsReadLogFault, ConsumesUpTo, ConsumesExactly};
 ghost use Rattle.epx_devices.specs.Transfers.{AppendsPrefix};
@@ -32,7 +34,7 @@ pub fn read_on<R: Source>(
     most: usize,
 ) -> Result<LogPart, Fault>
     requires well { R.has_failed source.old ≡ false }
-    requires few { before + length bytes.items ≤ MAX_LOG_BYTES + 1 }
+    requires few { before + length bytes.items ≤ max_log_bytes + 1 }
     ensures { (first : _) (head : List ℕ) → length head ≡ before
         → IsReadUpTo R.remaining R.reads R.has_failed first source.old (head ++ bytes.items)
         → EndsPart R.remaining R.reads R.fails R.has_failed log first source.new head most result }
@@ -75,30 +77,28 @@ pub fn read_log<R: Source>(alloc: Global, log: usize, source: &mut R) -> Result<
     ensures delivered { IfOk result (λ bytes.
         DeliversAll R.reads source.old source.new bytes.items) }
     ensures end { OnOk result (IsAtEnd (R.remaining source.new)) }
-    ensures fits { IfOk result (λ bytes. length bytes.items ≤ MAX_LOG_BYTES) }
+    ensures fits { IfOk result (λ bytes. length bytes.items ≤ max_log_bytes) }
 
     ensures faults { IfErr result (IsReadLogFault log) }
     ensures stops { IfErr result (IsLogStop R.reads R.fails log source.old source.new) }
     ensures failed { IsErrOf result (Fault.Read log) ↔ (R.has_failed source.new ≡ true) }
     ensures too_long { IsErrOf result (Fault.LogTooLong log)
-        → ConsumesExactly (R.remaining source.old) (R.remaining source.new) (MAX_LOG_BYTES + 1) }
+        → ConsumesExactly (R.remaining source.old) (R.remaining source.new) (max_log_bytes + 1) }
     ensures no_further { ConsumesUpTo (R.remaining source.old) (R.remaining source.new)
-        (MAX_LOG_BYTES + 1) }
+        (max_log_bytes + 1) }
 {
     let part = read_on(log, source, 0, Vec::new(alloc), MAX_LOG_BYTES + 1)?;
     Ok(part.bytes)
 }
 
 /// Writes all bytes to the sink and flushes it. If the sink fails, it has accepted a prefix of the
-/// bytes, and the fault is `Write`.
+/// bytes, and the fault is `Write`. Whether a call had failed before does not matter.
 pub fn write_out<W: Sink>(bytes: &[u8], sink: &mut W) -> Result<(), Fault>
-    requires { W.has_failed sink.old ≡ false }
-
     ensures bytes { OnOk result (Appends (W.contents sink.old) (W.contents sink.new) bytes.now) }
     ensures flushed { OnOk result (W.is_flushed sink.new ≡ true) }
 
     ensures faults { IfErr result (λ fault. fault ≡ Fault.Write) }
-    ensures failed { IsErr result ↔ (W.has_failed sink.new ≡ true) }
+    ensures failed { W.has_failed sink.new ≡ failed_after (W.has_failed sink.old) result }
     ensures prefix { AppendsPrefix (W.contents sink.old) (W.contents sink.new) bytes.now }
 {
     let mut taken = 0;

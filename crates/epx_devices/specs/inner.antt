@@ -1,0 +1,2 @@
+pub mod EitherReads
+pub mod PathReads
