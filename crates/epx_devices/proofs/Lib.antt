@@ -1,3 +1,4 @@
 pub mod KnownBytesLemmas
 pub mod TransferLemmas
 pub mod EitherSourceLemmas
+pub mod DeliveryLemmas

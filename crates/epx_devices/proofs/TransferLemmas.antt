@@ -20,7 +20,7 @@ pub record IsWritten {S : Type 0} (contents : S → Option (List ℕ)) (has_fail
   pub within : n ≤ length bytes
   pub appended : Appends (contents first) (contents now) (take n bytes)
 
-none_consumed : (o : Option (List ℕ)) → Consumes o o []
+pub none_consumed : (o : Option (List ℕ)) → Consumes o o []
 none_consumed None = tt
 none_consumed (Some xs) = refl
 
@@ -29,7 +29,7 @@ kept_consumes None b kept = tt
 kept_consumes (Some xs) None kept = absurd kept
 kept_consumes (Some xs) (Some ys) kept = sym kept
 
-known_at_end : (a b : Option (List ℕ)) (bytes : List ℕ) → Consumes a b bytes → IsAtEnd b
+pub known_at_end : (a b : Option (List ℕ)) (bytes : List ℕ) → Consumes a b bytes → IsAtEnd b
     → IfSome a (λ all. bytes ≡ all)
 known_at_end None b bytes consumed ended = tt
 known_at_end (Some xs) None bytes consumed ended = absurd consumed

@@ -7,5 +7,6 @@ pub mod Transfers
 pub mod LogParts
 pub mod EitherSources
 pub mod DeviceStates
+pub mod DeliveryLaws
 pub mod MemorySink
 pub mod inner

@@ -1,0 +1,130 @@
+-- What the reads of a source deliver, as its bytes are known or its file is opened.
+use Rattle.std.proofs.Common.{◌≡◌, ℕ, List, [], ◌∷◌, ◌++◌, ◌<◌, flat_map, Option, None, Some, refl, sym}
+use Rattle.std.proofs.Common.{subst, ap, ◌∙◌, append-nil}
+use Rattle.std.specs.Prelude.{IfSome, MatchOption}
+use Rattle.std.specs.Io.KnownBytes.{Consumes}
+use Rattle.epx_devices.specs.Deliveries.{ReadRelation, ReadStep, AreReads, Delivers, DeliversAll}
+use Rattle.epx_devices.specs.DeliveryLaws.{AllAreTheKnown, DeliversOpened, PathDeliversOpened}
+use Rattle.epx_devices.specs.DeviceStates.{OpenRelation, PathState, IsNextFile, ReadsPath}
+use Rattle.epx_devices.specs.inner.EitherReads.{AreOneReads}
+use Rattle.epx_devices.proofs.KnownBytesLemmas.{Consumes-trans}
+use Rattle.epx_devices.proofs.TransferLemmas.{known_at_end, none_consumed}
+
+module _ {S : Type 0} (remaining : S → Option (List ℕ)) (reads : ReadRelation S)
+    (law : AreOneReads remaining reads) where
+  reads_consume : (first now : S) (steps : List (ReadStep S)) → AreReads reads first steps now
+      → Consumes (remaining first) (remaining now) (flat_map (λ (r : ReadStep S). r.bytes) steps)
+  reads_consume first now [] h =
+      subst (λ s. Consumes (remaining first) (remaining s) []) h (none_consumed (remaining first))
+  reads_consume first now (r ∷ rest) h =
+      Consumes-trans (remaining first) (remaining r.next) (remaining now) r.bytes _
+      (law first r.room r.bytes r.next h.0).1 (reads_consume r.next now rest h.1)
+
+  pub all_are_known : AllAreTheKnown remaining reads
+  all_are_known first now bytes all =
+      let last = law all.last all.room [] now all.ended in
+      let sofar = subst (λ b. Consumes (remaining first) (remaining all.last) b)
+      (sym all.before.returned)
+      (reads_consume first all.last all.before.steps all.before.in_turn) in
+      let whole = subst (λ b. Consumes (remaining first) (remaining now) b) (append-nil bytes)
+      (Consumes-trans (remaining first) (remaining all.last) (remaining now) bytes [] sofar last.1)
+      in
+      known_at_end (remaining first) (remaining now) bytes whole (last.2 refl all.has_room)
+
+module _ {O F : Type 0} (opens : OpenRelation O F) (reads : ReadRelation F) where
+  abbrev path_reads : ReadRelation (PathState O F)
+  path_reads = ReadsPath opens reads
+
+  -- reads of one file, from this one on
+  record FileReads (file : F) (now : Option F) (bytes : List ℕ) : Type 0 where
+    steps : List (ReadStep F)
+    last : F
+    is_last : now ≡ Some last
+    in_turn : AreReads reads file steps last
+    returned : bytes ≡ flat_map (λ (r : ReadStep F). r.bytes) steps
+
+  same_file : (s : PathState O F) (file before : F) → s.file ≡ Some file
+      → IsNextFile opens s before → file ≡ before
+  same_file s file before is next =
+      subst (λ f. MatchOption f (opens s.opener s.path before) (λ first. first ≡ before)) is next
+
+  open_reads : (s : PathState O F) (file : F) → s.file ≡ Some file
+      → (steps : List (ReadStep (PathState O F))) (now : PathState O F)
+      → AreReads path_reads s steps now
+      → FileReads file now.file (flat_map (λ (r : ReadStep (PathState O F)). r.bytes) steps)
+  open_reads s file is [] now h = record {
+    steps = [];
+    last = file;
+    is_last = subst (λ (t : PathState O F). t.file ≡ Some file) h is;
+    in_turn = refl;
+    returned = refl;
+  }
+  open_reads s file is (r ∷ rest) now h =
+      let before = h.0.1.0 in
+      let after = h.0.1.1 in
+      let later = open_reads r.next after h.0.1.3 rest now h.1 in
+      let read = subst (λ f. reads f r.room r.bytes after)
+      (sym (same_file s file before is h.0.1.2)) h.0.1.4 in
+      let step : ReadStep F = record { room = r.room; bytes = r.bytes; next = after } in
+      record {
+        steps = step ∷ later.steps;
+        last = later.last;
+        is_last = later.is_last;
+        in_turn = (read, later.in_turn);
+        returned = ap (λ bs. r.bytes ++ bs) later.returned;
+      }
+
+  opened_now : (s : PathState O F) (file : F) → s.file ≡ None → IsNextFile opens s file
+      → opens s.opener s.path file
+  opened_now s file closed next =
+      subst (λ f. MatchOption f (opens s.opener s.path file) (λ first. first ≡ file)) closed next
+
+  from_steps : (first now last : PathState O F) (room : ℕ) (bytes : List ℕ) → first.file ≡ None
+      → (steps : List (ReadStep (PathState O F))) → AreReads path_reads first steps last
+      → bytes ≡ flat_map (λ (r : ReadStep (PathState O F)). r.bytes) steps
+      → 0 < room → path_reads last room [] now
+      → DeliversOpened opens reads first.opener first.path now.file bytes
+  from_steps first now last room bytes closed [] h returned has_room ended =
+      let read = subst (λ (s : PathState O F). path_reads s room [] now) (sym h) ended in
+      record {
+        opened = read.1.0;
+        at_path = opened_now first read.1.0 closed read.1.2;
+        last = read.1.1;
+        is_last = read.1.3;
+        all = record {
+          last = read.1.0;
+          before = record { steps = []; in_turn = refl; returned = returned };
+          room = room;
+          has_room = has_room;
+          ended = read.1.4;
+        };
+      }
+  from_steps first now last room bytes closed (r ∷ rest) h returned has_room ended =
+      let file = h.0.1.0 in
+      let after = h.0.1.1 in
+      let later = open_reads r.next after h.0.1.3 rest last h.1 in
+      let step : ReadStep F = record { room = r.room; bytes = r.bytes; next = after } in
+      let end = subst (λ f. reads f room [] ended.1.1)
+      (sym (same_file last later.last ended.1.0 later.is_last ended.1.2)) ended.1.4 in
+      record {
+        opened = file;
+        at_path = opened_now first file closed h.0.1.2;
+        last = ended.1.1;
+        is_last = ended.1.3;
+        all = record {
+          last = later.last;
+          before = record {
+            steps = step ∷ later.steps;
+            in_turn = (h.0.1.4, later.in_turn);
+            returned = returned ∙ ap (λ bs. r.bytes ++ bs) later.returned;
+          };
+          room = room;
+          has_room = has_room;
+          ended = end;
+        };
+      }
+
+  pub path_delivers_opened : PathDeliversOpened opens reads
+  path_delivers_opened first now bytes closed all =
+      from_steps first now all.last all.room bytes closed all.before.steps all.before.in_turn
+      all.before.returned all.has_room all.ended
