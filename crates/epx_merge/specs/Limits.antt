@@ -1,9 +1,10 @@
 -- Limits of logs.
 use Rattle.std.specs.Prelude.{ℕ}
-use Rattle.epx_types.specs.declared.limits.TheConstants.{MAX_LOGS, MAX_LOG_BYTES}
 
+-- the greatest number of logs
 abbrev pub max_logs : ℕ
-max_logs = MAX_LOGS
+max_logs = 64
 
+-- the greatest length of a log, in bytes: 64 MiB
 abbrev pub max_log_bytes : ℕ
-max_log_bytes = MAX_LOG_BYTES
+max_log_bytes = 67108864
