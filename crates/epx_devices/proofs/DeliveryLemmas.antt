@@ -1,11 +1,13 @@
 -- What the reads of a source deliver, as its bytes are known or its file is opened.
 use Rattle.std.proofs.Common.{◌≡◌, ℕ, List, [], ◌∷◌, ◌++◌, ◌<◌, flat_map, Option, None, Some, refl, sym}
-use Rattle.std.proofs.Common.{subst, ap, ◌∙◌, append-nil}
-use Rattle.std.specs.Prelude.{IfSome, MatchOption}
+use Rattle.std.proofs.Common.{subst, ap, ◌∙◌, append-nil, append_assoc}
+use Rattle.std.specs.Prelude.{MatchOption}
 use Rattle.std.specs.Io.KnownBytes.{Consumes}
-use Rattle.epx_devices.specs.Deliveries.{ReadRelation, ReadStep, AreReads, Delivers, DeliversAll}
-use Rattle.epx_devices.specs.DeliveryLaws.{AllAreTheKnown, DeliversOpened, PathDeliversOpened}
-use Rattle.epx_devices.specs.DeviceStates.{OpenRelation, PathState, IsNextFile, ReadsPath}
+use Rattle.epx_devices.specs.Deliveries.{ReadRelation, ReadStep, AreReads}
+use Rattle.epx_devices.specs.DeliveryLaws.{AllAreReturned, AllAreTheKnown, DeliversOpened}
+use Rattle.epx_devices.specs.DeliveryLaws.{FileReturnsAll, PathDeliversOpened}
+use Rattle.epx_devices.specs.DeviceStates.{OpenRelation, PathState, IsNextFile, IsUnread}
+use Rattle.epx_devices.specs.DeviceStates.{ReaderState, ReadsPath, ReadsReader}
 use Rattle.epx_devices.specs.inner.EitherReads.{AreOneReads}
 use Rattle.epx_devices.proofs.KnownBytesLemmas.{Consumes-trans}
 use Rattle.epx_devices.proofs.TransferLemmas.{known_at_end, none_consumed}
@@ -128,3 +130,28 @@ module _ {O F : Type 0} (opens : OpenRelation O F) (reads : ReadRelation F) wher
   path_delivers_opened first now bytes closed all =
       from_steps first now all.last all.room bytes closed all.before.steps all.before.in_turn
       all.before.returned all.has_room all.ended
+
+module _ {R : Type 0} (remaining : R → Option (List ℕ)) where
+  reads_return : (first now : ReaderState R) (steps : List (ReadStep (ReaderState R)))
+      → AreReads (ReadsReader remaining) first steps now
+      → now.returned ≡ first.returned ++ flat_map (λ (r : ReadStep (ReaderState R)). r.bytes) steps
+  reads_return first now [] h =
+      ap (λ (s : ReaderState R). s.returned) (sym h) ∙ sym (append-nil first.returned)
+  reads_return first now (r ∷ rest) h =
+      let later = flat_map (λ (r : ReadStep (ReaderState R)). r.bytes) rest in
+      reads_return r.next now rest h.1 ∙ ap (λ bs. bs ++ later) h.0.1
+      ∙ append_assoc first.returned r.bytes later
+
+  pub all_returned : AllAreReturned (ReadsReader remaining)
+  all_returned first now bytes all =
+      all.ended.1 ∙ append-nil all.last.returned
+      ∙ reads_return first all.last all.before.steps all.before.in_turn
+      ∙ ap (λ bs. first.returned ++ bs) (sym all.before.returned)
+
+  pub file_returned : {O : Type 0} → FileReturnsAll {O = O} {F = R}
+      (ReadsPath (λ opener path file. IsUnread file) (ReadsReader remaining))
+  file_returned first now bytes closed all =
+      let from = path_delivers_opened (λ opener path file. IsUnread file) (ReadsReader remaining)
+      first now bytes closed all in
+      let whole = all_returned from.opened from.last bytes from.all in
+      (from.last, from.is_last, whole ∙ ap (λ bs. bs ++ bytes) from.at_path.0)

@@ -1,10 +1,30 @@
 -- Models of readers, writers and files that record whether a call has failed.
-use Rattle.std.specs.Prelude.{◌≡◌, ◌⊎◌, ℕ, Bool, true, List, Option, None, Some, MatchOption}
+use Rattle.std.specs.Prelude.{◌≡◌, ◌⊎◌, ℕ, Bool, true, false, List, [], ◌++◌, Option, None}
+use Rattle.std.specs.Prelude.{Some, MatchOption}
+use Rattle.std.specs.Io.KnownBytes.{Keeps}
 use Rattle.epx_devices.specs.Deliveries.{FailRelation, ReadRelation}
+use Rattle.epx_devices.specs.Reads.{IsOneRead}
 
 pub record ReaderState (R : Type 0) : Type 0 where
   pub reader : R
+  -- all bytes that it has returned
+  pub returned : List ℕ
   pub failed : Bool
+
+-- nothing was read from it, and no call has failed
+abbrev pub IsUnread : {R : Type 0} → ReaderState R → Type 0
+IsUnread s = (s.returned ≡ []) × (s.failed ≡ false)
+
+-- one read of the reader returned these bytes, which it has returned since
+abbrev pub ReadsReader : {R : Type 0} → (R → Option (List ℕ)) → ReadRelation (ReaderState R)
+ReadsReader remaining s room bytes t =
+    IsOneRead (remaining s.reader) (remaining t.reader) room bytes
+    × (t.returned ≡ s.returned ++ bytes)
+
+-- a read of the reader failed, and lost no bytes that were known
+abbrev pub FailsReader : {R : Type 0} → (R → Option (List ℕ)) → FailRelation (ReaderState R)
+FailsReader remaining s t = Keeps (remaining s.reader) (remaining t.reader)
+    × (t.returned ≡ s.returned) × (t.failed ≡ true)
 
 pub record WriterState (W : Type 0) : Type 0 where
   pub writer : W

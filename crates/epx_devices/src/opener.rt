@@ -1,5 +1,6 @@
 //! What opens the files at paths.
 ghost use Rattle.std.specs.Prelude.{⊤, ℕ, List, IfOk, OnErr};
+ghost use Rattle.epx_devices.specs.DeviceStates.{IsUnread};
 
 use crate::device::{DeviceFault, Source};
 use crate::std_source::StdSource;
@@ -26,6 +27,8 @@ pub trait Opener {
 /// Files of the system. No contract of the system says which file is at a path.
 impl<R: Files> Opener for R {
     type Opened = StdSource<R::File>;
+
+    ghost opens = { λ _ _ file. IsUnread file };
 
     fn open(&self, path: &str) -> Result<StdSource<R::File>, DeviceFault> {
         match fs::open(self, path) {

@@ -1,10 +1,10 @@
 //! A source over std's readers.
-ghost use Rattle.std.specs.Prelude.{◌≡◌, true, false};
-ghost use Rattle.std.specs.Io.KnownBytes.{Keeps};
-ghost use Rattle.epx_devices.specs.Reads.{IsOneRead};
+ghost use Rattle.std.specs.Prelude.{◌≡◌, false, []};
+ghost use Rattle.epx_devices.specs.DeviceStates.{FailsReader, ReadsReader};
 
 use crate::device::{DeviceFault, Source};
 use crate::retry::retry_read;
+use crate::returned::Returned;
 use std::io::Read;
 use std::marker::Model;
 
@@ -12,6 +12,7 @@ use std::marker::Model;
 #[derive(Drop)]
 pub struct StdSource<R> {
     reader: R,
+    returned: Returned,
     failed: bool,
 }
 
@@ -20,15 +21,20 @@ impl<R> Model for StdSource<R> {
 
     ghost Value = { ReaderState R };
 
-    ghost view = { λ s. record { reader = s.reader; failed = s.failed } };
+    ghost view = { λ s. record {
+      reader = s.reader;
+      returned = s.returned.bytes;
+      failed = s.failed;
+    } };
 }
 
 impl<R: Read> StdSource<R> {
     pub fn new(reader: R) -> StdSource<R>
-        ensures { result ≡ record { reader = reader; failed = false } }
+        ensures { result ≡ record { reader = reader; returned = []; failed = false } }
     {
         StdSource {
             reader,
+            returned: Returned::new(),
             failed: false,
         }
     }
@@ -37,19 +43,20 @@ impl<R: Read> StdSource<R> {
 impl<R: Read> Source for StdSource<R> {
     ghost remaining = { λ s. R.remaining s.reader };
 
-    ghost reads = { λ s room bytes t.
-        IsOneRead (R.remaining s.reader) (R.remaining t.reader) room bytes };
+    ghost reads = { λ s room bytes t. ReadsReader R.remaining s room bytes t };
 
-    ghost fails = { λ s t. Keeps (R.remaining s.reader) (R.remaining t.reader)
-        × (t.failed ≡ true) };
+    ghost fails = { λ s t. FailsReader R.remaining s t };
 
     ghost has_failed = { λ s. s.failed };
 
-    ghost is_one_read = { λ s room bytes t read. read };
+    ghost is_one_read = { λ s room bytes t read. read.0 };
 
     fn read_some(&mut self, part: &mut [u8]) -> Result<usize, DeviceFault> {
         match retry_read(&mut self.reader, part) {
-            Ok(count) => Ok(count),
+            Ok(count) => {
+                self.returned.note(&part[..count]);
+                Ok(count)
+            }
             Err(_) => {
                 self.failed = true;
                 Err(DeviceFault)

@@ -12,7 +12,7 @@ IsInputAlone None = ⊤
 IsInputAlone (Some paths) = paths ≡ codes "-" ∷ []
 
 -- the path of a source: that of its file, or a hyphen
-abbrev pub path_of : {F J : Type 0} → EitherSource (PathState F) J → List ℕ
+abbrev pub path_of : {O F J : Type 0} → EitherSource (PathState O F) J → List ℕ
 path_of source = value_by (λ file. file.path) (λ input. codes "-") source
 
 -- the number of texts that are read: one if there are no paths, otherwise one a path
