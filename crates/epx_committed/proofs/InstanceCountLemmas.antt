@@ -10,7 +10,8 @@ use Rattle.epx_types.proofs.lists.MembershipLemmas.{Contains-map, Contains-from_
 use Rattle.epx_types.proofs.lists.RisingIdLemmas.{AllPairs-from_IsRising, IsRising-from_AllPairs}
 use Rattle.epx_types.proofs.lists.RisingListLemmas.{rising_list}
 use Rattle.epx_types.proofs.lists.TotalOrderLemmas.{below_irrefl, below_trans, same_rising}
-use Rattle.epx_committed.specs.InstanceCounts.{max_instances, AreNamedBy, FewInstances}
+use Rattle.epx_types.specs.Limits.{max_instances}
+use Rattle.epx_committed.specs.InstanceCounts.{AreNamedBy, FewInstances}
 use Rattle.epx_committed.specs.InstanceCounts.{ManyInstances}
 
 named_within : (lines : List Placed) (xs ys : List Id) → AreNamedBy lines xs → AreNamedBy lines ys

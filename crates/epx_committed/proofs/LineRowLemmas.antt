@@ -23,7 +23,8 @@ use Rattle.epx_types.proofs.lists.ListPositionLemmas.{slice_get-map}
 use Rattle.epx_committed.specs.declared.ledger.FirstLines.{FirstLines}
 use Rattle.epx_committed.specs.declared.rows.Row.{Row}
 use Rattle.epx_committed.specs.declared.rows.TheConstants.{NO_LIST}
-use Rattle.epx_committed.specs.InstanceCounts.{max_instances, AreNamedBy, FewInstances}
+use Rattle.epx_types.specs.Limits.{max_instances}
+use Rattle.epx_committed.specs.InstanceCounts.{AreNamedBy, FewInstances}
 use Rattle.epx_committed.specs.InstanceCounts.{ManyInstances}
 use Rattle.epx_committed.specs.Ledgers.{IsLedgerOf}
 use Rattle.epx_committed.specs.MergedLines.{IsMerged}

@@ -2,11 +2,8 @@
 use Rattle.std.specs.Prelude.{◌≡◌, ℕ, ◌<◌, ◌≤◌, List, length, Contains}
 use Rattle.epx_types.specs.declared.id.Id.{Id}
 use Rattle.epx_types.specs.Ids.{IsRising}
+use Rattle.epx_types.specs.Limits.{max_instances}
 use Rattle.epx_types.specs.PlacedLines.{Placed}
-
--- the greatest number of distinct instances: 2^20
-abbrev pub max_instances : ℕ
-max_instances = 1048576
 
 -- the distinct Ids of the lines, by rising Id
 pub record AreNamedBy (lines : List Placed) (ids : List Id) : Type 0 where

@@ -5,7 +5,7 @@ use Rattle.epx_types.specs.declared.fault.Fault.{Fault}
 use Rattle.epx_types.specs.declared.fault.Fault.TheVariants.{Memory, TooManyLogs, LogTooLong}
 use Rattle.epx_types.specs.declared.fault.Fault.TheVariants.{TooManyInstances}
 use Rattle.epx_committed.proofs.InstanceCountLemmas.{few_or_many, not_few_and_many}
-use Rattle.epx_merge.specs.Limits.{max_logs}
+use Rattle.epx_types.specs.Limits.{max_logs}
 use Rattle.epx_merge.specs.LogLines.{placed_of}
 use Rattle.epx_merge.proofs.ExistenceLemmas.{long_cases}
 use Rattle.epx_merge.proofs.UniquenessLemmas.{same_long}

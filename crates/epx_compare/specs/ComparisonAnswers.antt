@@ -3,7 +3,7 @@ use Rattle.std.specs.Prelude.{ℕ, ◌<◌, ◌≤◌, List, length, Result, Ok,
 use Rattle.epx_types.specs.declared.fault.Fault.{Fault}
 use Rattle.epx_types.specs.declared.fault.Fault.TheVariants.{Memory, TooManyLogs, LogTooLong}
 use Rattle.epx_types.specs.declared.fault.Fault.TheVariants.{TooManyInstances}
-use Rattle.epx_merge.specs.Limits.{max_logs}
+use Rattle.epx_types.specs.Limits.{max_logs}
 use Rattle.epx_merge.specs.LogLines.{placed_of}
 use Rattle.epx_committed.specs.InstanceCounts.{FewInstances, ManyInstances}
 use Rattle.epx_merge.specs.Refusals.{FitLimits, IsFirstTooLong}

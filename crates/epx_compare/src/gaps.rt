@@ -3,7 +3,7 @@ ghost use Rattle.std.specs.Prelude.{◌≡◌, ◌<◌, ◌∷◌, ℕ, Bool, le
 ghost use Rattle.std.specs.Prelude.{if◌then◌else◌, IfOk, OnOk, Some};
 ghost use Rattle.std.specs.List.{list_any};
 ghost use Rattle.epx_types.specs.declared.id.Id.{Id};
-ghost use Rattle.epx_merge.specs.Limits.{max_logs};
+ghost use Rattle.epx_types.specs.Limits.{max_logs};
 ghost use Rattle.epx_compare.specs.Gaps.{gaps_of, goes_on, widened};
 ghost use Rattle.epx_compare.specs.inner.LogMarks.{is_line_in, is_marked, IsMarking};
 

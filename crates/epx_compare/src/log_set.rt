@@ -1,6 +1,6 @@
 //! A set of logs.
 ghost use Rattle.std.specs.Prelude.{◌≡◌, ◌<◌, ◌==◌, ◌||◌, ℕ, false};
-ghost use Rattle.epx_merge.specs.Limits.{max_logs};
+ghost use Rattle.epx_types.specs.Limits.{max_logs};
 ghost use Rattle.epx_compare.specs.inner.LogMarks.{has_log};
 
 /// A set of logs: a bit for each log, of which there are at most 64.

@@ -6,7 +6,7 @@ use Rattle.std.specs.Prelude.{IfSome, MatchResult, Result}
 use Rattle.std.proofs.lemmas.Grind.{common_steps, flat_map-append}
 use Rattle.epx_types.specs.declared.fault.Fault.{Fault}
 use Rattle.epx_types.specs.declared.fault.Fault.TheVariants.{Memory, LogTooLong, Read}
-use Rattle.epx_devices.specs.Limits.{max_log_bytes}
+use Rattle.epx_types.specs.Limits.{max_log_bytes}
 use Rattle.epx_devices.specs.Deliveries.{FailRelation, ReadRelation, ReadStep, AreReads, Delivers}
 use Rattle.epx_devices.specs.declared.transfer.LogPart.{LogPart}
 use Rattle.epx_devices.specs.LogParts.{EndsLog, EndsPart, IsFrontOfLog, IsReadUpTo}

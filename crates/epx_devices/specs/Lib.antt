@@ -1,4 +1,3 @@
-pub mod Limits
 pub mod Devices
 pub mod Reads
 pub mod Fuses

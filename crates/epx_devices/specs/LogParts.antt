@@ -4,7 +4,7 @@ use Rattle.std.specs.Prelude.{Result, Ok, Err, IfOk, OnOk, IfErr, IfSome, IsErrO
 use Rattle.std.specs.Io.KnownBytes.{Consumes, IsAtEnd}
 use Rattle.epx_types.specs.declared.fault.Fault.{Fault}
 use Rattle.epx_types.specs.declared.fault.Fault.TheVariants.{LogTooLong, Read}
-use Rattle.epx_devices.specs.Limits.{max_log_bytes}
+use Rattle.epx_types.specs.Limits.{max_log_bytes}
 use Rattle.epx_devices.specs.declared.transfer.LogPart.{LogPart}
 use Rattle.epx_devices.specs.Deliveries.{FailRelation, ReadRelation, Delivers, DeliversAll}
 use Rattle.epx_devices.specs.Deliveries.{IsLogStop}

@@ -56,6 +56,8 @@ impl<S: Source> Source for KeptSource<S> {
 
     ghost has_failed = { λ s. S.has_failed s };
 
+    ghost is_one_read = { λ s room bytes t read. S.is_one_read s room bytes t read };
+
     fn read_some(&mut self, part: &mut [u8]) -> Result<usize, DeviceFault> {
         match self.source.read_some(part) {
             Ok(count) => {

@@ -8,10 +8,10 @@ use Rattle.epx_types.specs.declared.reply.Reply.TheVariants.{Abort}
 use Rattle.epx_types.specs.Ids.{IsRising}
 use Rattle.epx_types.specs.Instances.{Instance}
 use Rattle.epx_types.specs.Contents.{Contents}
-use Rattle.epx_types.specs.CommittedMap.{ids_of, instance_of}
+use Rattle.epx_types.specs.CommittedMap.{ids_of, instance_of, ops_or_empty, commands_in}
 use Rattle.epx_types.specs.Conflicts.{IsCovered}
 use Rattle.epx_types.specs.Execution.{execute}
-use Rattle.epx_types.specs.LawfulOrders.{IsLawful, ops_or_empty, commands_in}
+use Rattle.epx_types.specs.LawfulOrders.{IsLawful}
 use Rattle.epx_types.proofs.commands.ExecutionLemmas.{length-replies, execute-append}
 use Rattle.epx_types.proofs.lists.BeforeLemmas.{slice_get-append_left}
 use Rattle.epx_types.proofs.orders.LawfulExecutionLemmas.{reply-lawful}

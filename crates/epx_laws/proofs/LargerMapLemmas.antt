@@ -9,14 +9,13 @@ use Rattle.epx_types.specs.declared.reply.Reply.TheVariants.{Abort}
 use Rattle.epx_types.specs.Ids.{IsRising}
 use Rattle.epx_types.specs.Instances.{Instance}
 use Rattle.epx_types.specs.Contents.{Contents}
-use Rattle.epx_types.specs.CommittedMap.{ids_of, instance_of, IsCommitted}
+use Rattle.epx_types.specs.CommittedMap.{ids_of, instance_of, ops_or_empty, commands_in, IsCommitted}
 use Rattle.epx_types.specs.Conflicts.{IsCovered}
 use Rattle.epx_types.specs.Execution.{execute}
 use Rattle.epx_types.specs.Reaching.{DependsOn, Reaches}
 use Rattle.epx_types.specs.Readiness.{IsReady}
 use Rattle.epx_types.specs.Done.{remaining_ids}
-use Rattle.epx_types.specs.LawfulOrders.{SequenceBefore, IsLawfulFor, IsLawful, ops_or_empty}
-use Rattle.epx_types.specs.LawfulOrders.{commands_in}
+use Rattle.epx_types.specs.LawfulOrders.{SequenceBefore, IsLawfulFor, IsLawful}
 use Rattle.epx_types.proofs.committed.AgreementLemmas.{IsRising-same, instance_of_iff}
 use Rattle.epx_types.proofs.committed.AgreementLemmas.{instance_of-found, instance_of-finds}
 use Rattle.epx_types.proofs.graph.DependencyLemmas.{IsCommitted-from_Contains}

@@ -4,11 +4,11 @@ use Rattle.epx_types.specs.declared.id.Id.{Id}
 use Rattle.epx_types.specs.Ids.{IsRising}
 use Rattle.epx_types.specs.Instances.{Instance}
 use Rattle.epx_types.specs.Contents.{Contents}
-use Rattle.epx_types.specs.CommittedMap.{ids_of}
+use Rattle.epx_types.specs.CommittedMap.{ids_of, commands_in}
 use Rattle.epx_types.specs.Conflicts.{IsCovered}
 use Rattle.epx_types.specs.Execution.{execute}
 use Rattle.epx_types.specs.LawfulBeginnings.{IsLawfulBeginning}
-use Rattle.epx_types.specs.LawfulOrders.{IsLawful, commands_in}
+use Rattle.epx_types.specs.LawfulOrders.{IsLawful}
 
 -- what a list begins with is a lawful beginning if the list is one
 abbrev pub BeginningsBeginLawfully : Type 0

@@ -4,12 +4,12 @@ use Rattle.epx_types.specs.declared.id.Id.{Id}
 use Rattle.epx_types.specs.Ids.{IsRising}
 use Rattle.epx_types.specs.Instances.{Instance}
 use Rattle.epx_types.specs.PlacedLines.{Placed}
-use Rattle.epx_types.specs.CommittedMap.{ids_of, IsCommittedBy}
+use Rattle.epx_types.specs.CommittedMap.{ids_of, commands_in, IsCommittedBy}
 use Rattle.epx_types.specs.Contents.{Contents}
 use Rattle.epx_types.specs.Execution.{execute}
 use Rattle.epx_types.specs.Readiness.{IsReady}
 use Rattle.epx_types.specs.Conflicts.{IsCovered}
-use Rattle.epx_types.specs.LawfulOrders.{IsLawful, commands_in}
+use Rattle.epx_types.specs.LawfulOrders.{IsLawful}
 
 -- each instance of m is an instance of the other map
 abbrev pub IsWithin : List Instance → List Instance → Type 0

@@ -7,13 +7,13 @@ use Rattle.epx_types.specs.declared.reply.Reply.{Reply}
 use Rattle.epx_types.specs.Ids.{IsRising}
 use Rattle.epx_types.specs.Instances.{Instance}
 use Rattle.epx_types.specs.Contents.{Contents}
-use Rattle.epx_types.specs.CommittedMap.{ids_of}
+use Rattle.epx_types.specs.CommittedMap.{ids_of, commands_in}
 use Rattle.epx_types.specs.Execution.{execute, Execution}
 use Rattle.epx_types.specs.Reaching.{Reaches}
 use Rattle.epx_types.specs.Readiness.{IsReady}
 use Rattle.epx_types.specs.Conflicts.{IsCovered}
 use Rattle.epx_types.specs.ExecutionOrder.{Ranked, ranked_ids, IsExecutionOrder}
-use Rattle.epx_types.specs.LawfulOrders.{IsLawfulFor, IsLawful, commands_in}
+use Rattle.epx_types.specs.LawfulOrders.{IsLawfulFor, IsLawful}
 use Rattle.epx_types.specs.Done.{remaining, remaining_ids}
 use Rattle.epx_types.specs.Sound.{IsSound, HasRemaining}
 

@@ -7,7 +7,7 @@ use Rattle.epx_types.specs.declared.fault.Fault.TheVariants.{Memory, TooManyLogs
 use Rattle.epx_types.specs.declared.fault.Fault.TheVariants.{BadLine}
 use Rattle.epx_types.specs.Instances.{Instance}
 use Rattle.epx_committed.proofs.MergedLinesLemmas.{merged_or_fault}
-use Rattle.epx_merge.specs.Limits.{max_logs, max_log_bytes}
+use Rattle.epx_types.specs.Limits.{max_logs, max_log_bytes}
 use Rattle.epx_merge.specs.LogLines.{placed_of, BadLineAt, bad_lines_of}
 use Rattle.epx_merge.specs.Refusals.{IsFirstTooLong, NoneTooLong, AreWellFormed, IsRefusal}
 use Rattle.epx_merge.specs.Acceptance.{IsAccepted}

@@ -5,7 +5,7 @@ use Rattle.std.proofs.lemmas.List.{length-map}
 use Rattle.epx_lines.specs.Lines.{lines_of}
 use Rattle.epx_merge.specs.LogLines.{meanings_in, meanings_from, meanings_of}
 use Rattle.epx_merge.specs.LogLines.{bytes_of}
-use Rattle.epx_merge.specs.Limits.{max_logs}
+use Rattle.epx_types.specs.Limits.{max_logs}
 
 pub lines_with_later : (first : List ℕ) (later : List (List ℕ))
     → meanings_of (first ∷ []) ++ meanings_from 1 later ≡ meanings_of (first ∷ later)

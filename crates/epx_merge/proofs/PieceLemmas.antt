@@ -13,7 +13,7 @@ use Rattle.epx_lines.specs.declared.Line.{Line}
 use Rattle.epx_lines.specs.Lines.{lines_of, prepend_to_first}
 use Rattle.epx_claims.specs.Answered.{AreOrderedAnswers}
 use Rattle.epx_merge.specs.declared.pieces.BadLine.{BadLine}
-use Rattle.epx_merge.specs.Limits.{max_log_bytes}
+use Rattle.epx_types.specs.Limits.{max_log_bytes}
 use Rattle.epx_merge.specs.LogLines.{MeaningAt, meanings_in, meanings_from}
 use Rattle.epx_merge.specs.ReadPieces.{IsReadBeside, AreReadBeside, lines_of_piece}
 use Rattle.epx_merge.specs.RedundantLines.{DropsCached}

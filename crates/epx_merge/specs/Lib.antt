@@ -1,4 +1,3 @@
-pub mod Limits
 pub mod LogLines
 pub mod Refusals
 pub mod Acceptance

@@ -8,7 +8,7 @@ use Rattle.epx_types.specs.declared.fault.Fault.TheVariants.{Read, Write, BadBas
 use Rattle.epx_types.specs.declared.fault.Why.{Why}
 use Rattle.epx_committed.specs.InstanceCounts.{FewInstances, ManyInstances}
 use Rattle.epx_committed.specs.MergedLines.{IsDisagreementAt}
-use Rattle.epx_merge.specs.Limits.{max_logs, max_log_bytes}
+use Rattle.epx_types.specs.Limits.{max_logs, max_log_bytes}
 use Rattle.epx_merge.specs.LogLines.{placed_of, BadLineAt, bad_lines_of}
 
 -- ---- the least log that is too long

@@ -2,7 +2,7 @@
 ghost use Rattle.std.specs.Prelude.{◌≡◌, ◌<◌, ◌≤◌, ◌+◌, ◌-◌, ◌++◌, ◌∷◌, [], List, suc, length};
 ghost use Rattle.std.specs.Prelude.{IfOk, OnOk, slice_get, take, drop};
 ghost use Rattle.epx_lines.specs.Lines.{lines_of};
-ghost use Rattle.epx_merge.specs.Limits.{max_log_bytes};
+ghost use Rattle.epx_types.specs.Limits.{max_log_bytes};
 ghost use Rattle.epx_merge.specs.LogLines.{MeaningAt, meanings_in};
 ghost use Rattle.epx_merge.specs.RedundantLines.{DropsCached};
 

@@ -1,2 +1,1 @@
-pub mod FoundCommands
 pub mod Replays

@@ -2,7 +2,7 @@
 ghost use Rattle.std.specs.Prelude.{◌≡◌, ◌<◌, ◌≤◌, ◌^◌, ◌++◌, length, flat_map, map, zip, IfOk};
 ghost use Rattle.std.specs.Thread.{IsSync};
 ghost use Rattle.epx_report.specs.ReportLines.{reply_line};
-ghost use Rattle.epx_replay.specs.FoundCommands.{commands_by_id};
+ghost use Rattle.epx_types.specs.CommittedMap.{commands_in};
 ghost use Rattle.epx_replay.specs.Replays.{Executes, Replays};
 
 use crate::commands::all_commands;
@@ -63,7 +63,7 @@ fn write_and_find<'a, R: Threads + Sync>(
     ensures text { IfOk result (λ v. v.0.items
         ≡ text.items ++ flat_map reply_line (zip ids.now replies.items)) }
     ensures found { IfOk result (λ v. map (λ c. c.ops.now) v.1.items
-        ≡ commands_by_id merged.now later.now) }
+        ≡ commands_in merged.now later.now) }
 {
     let text = append_lines(rt, alloc, plan, text, ids, &replies)?;
     let commands = all_commands(rt, alloc, merged, later, plan)?;
@@ -102,7 +102,7 @@ fn run_and_write<'a, R: Threads + RandomSource + Sync>(
     ensures ran { IfOk result (λ v. Executes (map (λ c. c.ops.now) commands.entry.items)
         store v.store v.replies.items) }
     ensures found { IfOk result (λ v. map (λ c. c.ops.now) v.next.items
-        ≡ commands_by_id merged.now later.now) }
+        ≡ commands_in merged.now later.now) }
 {
     if plan.workers() == 1 {
         let (text, next) = write_and_find(rt, alloc, plan, text, merged, ids, replies, later)?;
@@ -123,7 +123,7 @@ fn run_and_write<'a, R: Threads + RandomSource + Sync>(
             ensures { IfOk result (λ v. (v.0.items
                 ≡ text.items ++ flat_map reply_line (zip ids.entry.now replies.items))
                 × (map (λ c. c.ops.now) v.1.items
-                ≡ commands_by_id merged.entry.now later.entry.now)) }
+                ≡ commands_in merged.entry.now later.entry.now)) }
         { write_and_find(rt, alloc, plan, text, merged, ids, replies, later) },
         move || -> Result<(Store, Vec<Reply>), Memory>
             requires { IsSync R.row × (length commands.items ≤ 2 ^ 40) }
@@ -168,7 +168,7 @@ pub fn replay<R: Threads + RandomSource + Sync>(
     plan: Plan,
 ) -> Result<(Store, Vec<u8>), Memory>
     requires { length ids.now ≤ 2 ^ 40 }
-    ensures { IfOk result (λ v. Replays ids.now (commands_by_id merged.now ids.now)
+    ensures { IfOk result (λ v. Replays ids.now (commands_in merged.now ids.now)
         store v.0 text.items v.1.items) }
 {
     let len = batch_len(plan, ids.len());

@@ -2,7 +2,7 @@
 ghost use Rattle.std.specs.Prelude.{◌≡◌, ◌<◌, ◌≤◌, ◌^◌, length, map, IfOk};
 ghost use Rattle.epx_types.specs.Pieces.{piece_count};
 ghost use Rattle.epx_claims.specs.inner.PieceItems.{items_of_piece};
-ghost use Rattle.epx_replay.specs.FoundCommands.{commands_by_id};
+ghost use Rattle.epx_types.specs.CommittedMap.{commands_in};
 
 use epx_claims::{FreeGate, append_parts, claimed_map};
 use epx_committed::Merged;
@@ -17,7 +17,7 @@ pub fn commands_of<'a>(
     ids: &[Id],
 ) -> Result<Vec<Command<'a>>, Memory>
     ensures { IfOk result (λ commands. map (λ c. c.ops.now) commands.items
-        ≡ commands_by_id merged.now ids.now) }
+        ≡ commands_in merged.now ids.now) }
 {
     let mut commands = Vec::with_capacity(alloc, ids.len())?;
     for id in ids {
@@ -40,7 +40,7 @@ fn commands_of_piece<'a>(
 ) -> Result<Vec<Command<'a>>, Memory>
     requires { piece < piece_count plan.cut (length ids.now) }
     ensures { IfOk result (λ commands. map (λ c. c.ops.now) commands.items
-        ≡ commands_by_id merged.now (items_of_piece plan.cut ids.now piece)) }
+        ≡ commands_in merged.now (items_of_piece plan.cut ids.now piece)) }
 {
     let (start, end) = plan.range(piece, ids.len());
     commands_of(alloc, merged, &ids[start..end])
@@ -56,7 +56,7 @@ pub(crate) fn all_commands<'a, R: Threads + Sync>(
 ) -> Result<Vec<Command<'a>>, Memory>
     requires { length ids.now ≤ 2 ^ 40 }
     ensures { IfOk result (λ commands. map (λ c. c.ops.now) commands.items
-        ≡ commands_by_id merged.now ids.now) }
+        ≡ commands_in merged.now ids.now) }
 {
     if plan.workers() == 1 {
         return commands_of(alloc, merged, ids);

@@ -10,7 +10,7 @@ use Rattle.epx_types.proofs.lists.MembershipLemmas.{Contains-map, Contains-from_
 use Rattle.epx_types.proofs.lists.RisingIdLemmas.{AllPairs-from_IsRising}
 use Rattle.epx_types.proofs.lists.TotalOrderLemmas.{below_irrefl, below_trans, same_rising}
 use Rattle.epx_types.proofs.lists.ComparisonLemmas.{id_cmp_total}
-use Rattle.epx_committed.specs.InstanceCounts.{max_instances}
+use Rattle.epx_types.specs.Limits.{max_instances}
 use Rattle.epx_merge.specs.LogLines.{placed_of}
 use Rattle.epx_committed.specs.InstanceCounts.{AreNamedBy}
 use Rattle.epx_merge.specs.Acceptance.{IsAccepted}

@@ -17,7 +17,7 @@ use Rattle.epx_compare.proofs.ComparisonAnswerLemmas.{compares_exists}
 use Rattle.epx_tool.specs.declared.question.MapText.{MapText}
 use Rattle.epx_tool.specs.declared.question.MapText.TheVariants.{Report, Order, Levels, Audit}
 use Rattle.epx_tool.specs.declared.question.MapText.TheVariants.{Graph, Why, Path, Trace}
-use Rattle.epx_tool.specs.Report.{IsReport, report_text, commands_of}
+use Rattle.epx_tool.specs.Report.{IsReport, report_text}
 use Rattle.epx_tool.specs.OrderText.{IsOrderText, order_text}
 use Rattle.epx_tool.specs.LevelText.{IsLevelText, level_text}
 use Rattle.epx_tool.specs.AuditText.{IsAuditText}
@@ -33,7 +33,7 @@ module _ (m : List Instance) (rising : IsRising (ids_of m)) where
   report_exists =
       let order = execution_order_exists m rising in
       let waiting = waiting_list_exists m rising in (
-        report_text order.0 waiting.0 (execute (commands_of m order.0) contents.empty),
+        report_text order.0 waiting.0 (execute (commands_in m (ranked_ids order.0)) contents.empty),
         record {
           order = order.0;
           waiting = waiting.0;
@@ -61,7 +61,7 @@ module _ (m : List Instance) (rising : IsRising (ids_of m)) where
   level_text_exists =
       let order = execution_order_exists m rising in
       let waiting = waiting_list_exists m rising in
-      let levels = levels_exist (commands_of m order.0) in (
+      let levels = levels_exist (commands_in m (ranked_ids order.0)) in (
         level_text order.0 levels.0 waiting.0,
         record {
           order = order.0;

@@ -8,7 +8,7 @@ use Rattle.epx_types.specs.declared.fault.Fault.TheVariants.{BadBase}
 use Rattle.epx_types.specs.Ids.{IsRising}
 use Rattle.epx_types.specs.Instances.{Instance}
 use Rattle.epx_types.specs.CommittedMap.{ids_of}
-use Rattle.epx_merge.specs.Limits.{max_logs, max_log_bytes}
+use Rattle.epx_types.specs.Limits.{max_logs, max_log_bytes}
 use Rattle.epx_merge.proofs.ExistenceLemmas.{answered_always, long_cases}
 use Rattle.epx_tool.specs.WithInput.{IsShort, AnswersWithInput}
 use Rattle.epx_tool.proofs.LogsWithInputLemmas.{last_too_long, first_too_long_with_input}

@@ -4,7 +4,7 @@ use Rattle.std.proofs.Common.{get_or, set, All, Option, Some, ap, ◌∙◌, sub
 use Rattle.std.proofs.lemmas.List.{length-set, get_or-set_same}
 use Rattle.std.proofs.lemmas.Option.{slice_get_within, slice_get-get_or, get_or_from_slice_get}
 use Rattle.epx_types.specs.declared.fault.Fault.{Fault}
-use Rattle.epx_merge.specs.Limits.{max_log_bytes}
+use Rattle.epx_types.specs.Limits.{max_log_bytes}
 use Rattle.epx_merge.specs.Refusals.{NoneTooLong}
 use Rattle.epx_devices.specs.Deliveries.{FailRelation, ReadRelation, DeliversAll, IsLogStop}
 use Rattle.epx_tool.specs.Delivered.{FirstDeliver, StopsReading}

@@ -4,17 +4,14 @@ use Rattle.std.specs.FinMap as contents
 use Rattle.epx_types.specs.declared.id.Id.{Id}
 use Rattle.epx_types.specs.declared.op.Op.{Op}
 use Rattle.epx_types.specs.Instances.{Instance}
-use Rattle.epx_types.specs.CommittedMap.{instance_of}
+use Rattle.epx_types.specs.CommittedMap.{instance_of, ops_or_empty, commands_in}
 use Rattle.epx_types.specs.ExecutionOrder.{Ranked, ranked_ids}
-use Rattle.epx_types.specs.LawfulOrders as lawful
-use Rattle.epx_types.specs.LawfulOrders.{IsLawful, commands_in}
+use Rattle.epx_types.specs.LawfulOrders.{IsLawful}
 use Rattle.epx_types.proofs.orders.ExecutionOrderLemmas.{IsExecutionOrder-IsLawful}
 use Rattle.epx_types.proofs.orders.LawfulExecutionLemmas.{final-lawful, reply-lawful}
 use Rattle.epx_merge.specs.Acceptance.{IsAccepted}
 use Rattle.epx_merge.proofs.UniquenessLemmas.{accepted_unique}
 use Rattle.epx_report.specs.Lists.{IsList}
-use Rattle.epx_replay.specs.FoundCommands.{ops_found}
-use Rattle.epx_tool.specs.Report.{commands_of}
 use Rattle.epx_report.specs.ViewLines.{lawful_line}
 use Rattle.epx_tool.specs.CheckAnswers.{Checks}
 use Rattle.epx_tool.specs.CheckLaws.{LawfulTextMeansLawful, LawfulListExecutesAlike}
@@ -40,24 +37,13 @@ lawful_text_means_lawful list logs ids m short is accepted = (
 
 -- ---- executed
 
-same_ops : (e : Option Instance) → ops_found e ≡ lawful.ops_or_empty e
-same_ops None = refl
-same_ops (Some e) = refl
-
-pub commands_of-in : (m : List Instance) (order : List Ranked)
-    → commands_of m order ≡ commands_in m (ranked_ids order)
-commands_of-in m [] = refl
-commands_of-in m (r ∷ order) = ap₂ (λ (o : List Op) os. o ∷ os) (same_ops (instance_of m r.id))
-    (commands_of-in m order)
-
 pub lawful_list_executes_alike : LawfulListExecutesAlike
 lawful_list_executes_alike list logs said ids m is accepted covered order ordered =
     let rising = accepted.committed.rising in
     let of_list = lawful_if_reported list logs ids m is accepted said in
     let of_order = IsExecutionOrder-IsLawful m order ordered in
-    let same = commands_of-in m order in
-    rw same (record {
+    record {
       final = final-lawful m rising covered (ranked_ids order) ids of_order of_list contents.empty;
       replies = λ i j x at to. reply-lawful m rising covered (ranked_ids order) ids of_order
           of_list contents.empty j i x to at;
-    })
+    }

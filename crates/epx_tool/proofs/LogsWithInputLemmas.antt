@@ -9,7 +9,7 @@ use Rattle.epx_types.specs.declared.fault.Fault.TheVariants.{Memory, TooManyLogs
 use Rattle.epx_types.specs.declared.fault.Fault.TheVariants.{BadLine, TooManyInstances, Disagree}
 use Rattle.epx_types.specs.declared.fault.Fault.TheVariants.{Read, Write, BadBase}
 use Rattle.epx_types.specs.Instances.{Instance}
-use Rattle.epx_merge.specs.Limits.{max_log_bytes}
+use Rattle.epx_types.specs.Limits.{max_log_bytes}
 use Rattle.epx_merge.specs.Refusals.{FitLimits, IsFirstTooLong, NoneTooLong, IsRefusal}
 use Rattle.epx_devices.specs.Transfers.{IsReadLogFault, ConsumesExactly}
 use Rattle.epx_tool.specs.Runs.{NoneTooLongBefore, IsReadingRefusal}

@@ -8,7 +8,7 @@ use Rattle.epx_types.specs.declared.reply.Reply.{Reply}
 use Rattle.epx_types.specs.Ids.{IsRising}
 use Rattle.epx_types.specs.Contents.{Contents}
 use Rattle.epx_types.specs.Instances.{Instance}
-use Rattle.epx_types.specs.CommittedMap.{instance_of}
+use Rattle.epx_types.specs.CommittedMap.{instance_of, ops_or_empty}
 use Rattle.epx_types.specs.Done.{remaining}
 use Rattle.epx_types.specs.Execution.{execute, Execution}
 use Rattle.epx_types.specs.ExecutionOrder.{Ranked, IsExecutionOrder, ranked_ids, component_count}
@@ -23,8 +23,7 @@ use Rattle.epx_report.specs.ReportLines.{store_line}
 use Rattle.epx_report.specs.ReportBases.{replied_ids, AreLinesInOrder, AreDoneAfter}
 use Rattle.epx_report.specs.ReportReadings.{ReportData, text_of_report}
 use Rattle.epx_report.proofs.ReportBaseLemmas.{report_is_a_base}
-use Rattle.epx_replay.specs.FoundCommands.{ops_found}
-use Rattle.epx_tool.specs.Report.{IsReport, commands_of, report_text}
+use Rattle.epx_tool.specs.Report.{IsReport, report_text}
 use Rattle.epx_tool.specs.ResumedReport.{IsReportAfter}
 use Rattle.epx_tool.specs.ResumptionLaws.{ReportIsAfterNothing, ReportIsBase, reported_of, run_in}
 use Rattle.epx_tool.proofs.ReportLemmas.{executed_is_left, IsReport-after_nothing}
@@ -39,7 +38,7 @@ after_nothing m text p =
       listed = subst (λ (l : List Instance). IsWaitingList l p.waiting) whole p.listed;
       printed =
           p.printed ∙ ap (λ (l : List Instance). report_text p.order p.waiting
-          (execute (commands_of l p.order) contents.empty)) whole;
+          (execute (commands_in l (ranked_ids p.order)) contents.empty)) whole;
     }
 
 pub report_is_after_nothing : ReportIsAfterNothing
@@ -63,8 +62,8 @@ module _ (done : List Id) (stored : Contents) (m : List Instance) (text : List �
 
   as_many : length run.replies ≡ length (ranked_ids p.order)
   as_many =
-      length-replies (commands_of (remaining done m) p.order) stored
-      ∙ length-map p.order (λ r. ops_found (instance_of (remaining done m) r.id))
+      length-replies (commands_in (remaining done m) (ranked_ids p.order)) stored
+      ∙ length-map p.order (λ r. ops_or_empty (instance_of (remaining done m) r.id))
       ∙ sym (length-map p.order (λ (r : Ranked). r.id))
 
   pub replied : replied_ids written.replies ≡ ranked_ids p.order

@@ -13,9 +13,9 @@ use Rattle.epx_types.specs.Execution.{execute}
 use Rattle.epx_types.specs.ExecutionOrder.{Ranked, IsExecutionOrder, ranked_ids}
 use Rattle.epx_types.specs.WaitingLists.{Waiting, IsWaitingList}
 use Rattle.epx_types.specs.Levels.{AreLevels}
-use Rattle.epx_committed.specs.InstanceCounts.{max_instances}
-use Rattle.epx_replay.specs.FoundCommands.{commands_by_id}
-use Rattle.epx_tool.specs.Report.{IsReport, commands_of, report_text}
+use Rattle.epx_types.specs.Limits.{max_instances}
+use Rattle.epx_types.specs.CommittedMap.{commands_in}
+use Rattle.epx_tool.specs.Report.{IsReport, report_text}
 use Rattle.epx_tool.specs.ResumedReport.{IsReportAfter, resumed_text}
 use Rattle.epx_tool.specs.LevelText.{IsLevelText, level_text}
 use Rattle.epx_tool.specs.AuditText.{IsAuditText}
@@ -54,7 +54,7 @@ module _ (done : List Id) (m : List Instance) (order : List Ranked)
 
   pub IsReportAfter-printed : (stored : Contents) (waiting : List Waiting)
       (commands : List (List Op)) (replies : List Reply) (final : Contents) (text : List ℕ)
-      → IsWaitingList (remaining done m) waiting → commands ≡ commands_by_id m ids
+      → IsWaitingList (remaining done m) waiting → commands ≡ commands_in m ids
       → replies ≡ (execute commands stored).replies → final ≡ (execute commands stored).final
       → text ≡ resumed_text done order waiting (record { replies = replies; final = final })
       → IsReportAfter done stored m text
@@ -70,7 +70,7 @@ module _ (done : List Id) (m : List Instance) (order : List Ranked)
             (e_replies ∙ ap (λ cs. (execute cs stored).replies) all)
             (e_final ∙ ap (λ cs. (execute cs stored).final) all);
       } where
-        all : commands ≡ commands_of (remaining done m) order
+        all : commands ≡ commands_in (remaining done m) (ranked_ids order)
         all = commands_are (remaining done m) order ids commands are
             (e_commands ∙ sym (commands-left done m ids executed_is_left))
 
@@ -85,13 +85,13 @@ IsReport-after_nothing m text p =
       listed = subst (λ (l : List Instance). IsWaitingList l p.waiting) whole p.listed;
       printed =
           p.printed ∙ ap (λ (l : List Instance). report_text p.order p.waiting
-          (execute (commands_of l p.order) contents.empty)) whole;
+          (execute (commands_in l (ranked_ids p.order)) contents.empty)) whole;
     }
 
 pub IsLevelText-printed : (m : List Instance) (order : List Ranked) (waiting : List Waiting)
     (commands : List (List Op)) (ids : List Id) (levels : List ℕ) (text : List ℕ)
     → IsExecutionOrder m order → IsWaitingList m waiting → ids ≡ ranked_ids order
-    → commands ≡ commands_by_id m ids → AreLevels commands levels
+    → commands ≡ commands_in m ids → AreLevels commands levels
     → text ≡ level_text order levels waiting → IsLevelText m text
 IsLevelText-printed m order waiting commands ids levels text ordered listed e_ids e_commands
     levelled printed = record {

@@ -20,7 +20,7 @@ use Rattle.epx_types.specs.Keys.{FitsKey, key_cmp}
 use Rattle.epx_types.specs.Contents.{Contents}
 use Rattle.epx_types.specs.Instances.{Instance}
 use Rattle.epx_types.specs.PlacedLines.{Placed}
-use Rattle.epx_types.specs.CommittedMap.{ids_of, instance_of, IsCommitted}
+use Rattle.epx_types.specs.CommittedMap.{ids_of, instance_of, ops_or_empty, IsCommitted}
 use Rattle.epx_types.specs.Reaching.{DependsOn, IsPath, Reaches}
 use Rattle.epx_types.specs.Done.{remaining}
 use Rattle.epx_types.specs.ExecutionOrder.{Ranked, ranked_ids}
@@ -40,7 +40,7 @@ use Rattle.epx_lines.specs.Lines.{lines_of}
 use Rattle.epx_lines.specs.Meaning.{meaning_of}
 use Rattle.epx_lines.specs.declared.Line.{Line}
 use Rattle.epx_lines.specs.declared.Line.TheVariants.{Blank, Entry}
-use Rattle.epx_committed.specs.InstanceCounts.{max_instances}
+use Rattle.epx_types.specs.Limits.{max_instances}
 use Rattle.epx_merge.specs.LogLines.{MeaningAt, meanings_in, meanings_from, meanings_of, placed_at}
 use Rattle.epx_merge.specs.Acceptance.{IsAccepted}
 use Rattle.epx_report.specs.ReportReadings.{FitsNumbers, FitsReply, FitsReportData}
@@ -49,8 +49,6 @@ use Rattle.epx_report.proofs.LineRangeLemmas.{IsStoreKey, FitsCommand, FitsInsta
 use Rattle.epx_report.proofs.LineRangeLemmas.{line_fits, of_all}
 use Rattle.epx_report.proofs.BaseRangeLemmas.{FitsBase}
 use Rattle.epx_report.proofs.ExecutionRangeLemmas.{execute_fits}
-use Rattle.epx_replay.specs.FoundCommands.{ops_found}
-use Rattle.epx_tool.specs.Report.{commands_of}
 use Rattle.epx_tool.specs.ResumedReport.{IsReportAfter}
 use Rattle.epx_tool.specs.ResumptionLaws.{reported_of, run_in}
 use Rattle.epx_tool.proofs.RemainingCommandLemmas.{length-remaining}
@@ -161,15 +159,15 @@ CommandFits : Instance → Type 0
 CommandFits e = FitsCommand e.ops
 
 ops_fit : (l : List Instance) → AllByRecursion CommandFits l → (x : Id)
-    → FitsCommand (ops_found (instance_of l x))
+    → FitsCommand (ops_or_empty (instance_of l x))
 unfolding CommandFits
 ops_fit [] h x = record { each = tt; few = omega arith }
 ops_fit (e ∷ l) h x =
-    by_test (λ (o : Option Instance). FitsCommand (ops_found o)) (is_eq (id_cmp e.id x)) (Some e)
+    by_test (λ (o : Option Instance). FitsCommand (ops_or_empty o)) (is_eq (id_cmp e.id x)) (Some e)
     (instance_of l x) (λ _. h.0) (λ _. ops_fit l h.1 x)
 
 commands_fit : (l : List Instance) → AllByRecursion CommandFits l → (order : List Ranked)
-    → AllByRecursion FitsCommand (commands_of l order)
+    → AllByRecursion FitsCommand (commands_in l (ranked_ids order))
 commands_fit l h [] = tt
 commands_fit l h (r ∷ order) = (ops_fit l h r.id, commands_fit l h order)
 
@@ -234,7 +232,7 @@ module _ (done : List Id) (stored : Contents) (m : List Instance) (text : List �
   unfolding IsStoredPair FitsReplied FitsWaiting
   reported_fit few =
       let commands = commands_fit left left_fits p.order in
-      let run = execute_fits (commands_of left p.order) stored commands base.stored in
+      let run = execute_fits (commands_in left (ranked_ids p.order)) stored commands base.stored in
       let final = (run_in done stored m text p).final in
       let many = count done stored m text p in
       let fewer_left = length-remaining done m in

@@ -27,7 +27,6 @@ use Rattle.epx_report.proofs.BaseRangeLemmas.{FitsBase, base_fits, empty_fits}
 use Rattle.epx_report.proofs.RisingListLemmas.{same_ids}
 use Rattle.epx_report.proofs.DoneInstanceLemmas.{base_done_rise}
 use Rattle.epx_report.proofs.ReportBaseLemmas.{done_after_exists}
-use Rattle.epx_tool.specs.Report.{commands_of}
 use Rattle.epx_tool.specs.ResumedReport.{IsReportAfter}
 use Rattle.epx_tool.specs.Resumption.{IsResumedText}
 use Rattle.epx_tool.specs.ResumableAnswers.{HasBaseAfter, AnswerIsBase, ResumptionIsBase}
@@ -35,7 +34,6 @@ use Rattle.epx_tool.specs.ResumableAnswers.{IsSoundBase, ReportOfAPartIsSound}
 use Rattle.epx_tool.specs.ResumableAnswers.{ResumedReportIsSound, ResumedReportRepeatsTheWhole}
 use Rattle.epx_tool.specs.ResumableAnswers.{LastReportIsTheWhole}
 use Rattle.epx_tool.proofs.AcceptedLogLemmas.{accepted_are_few}
-use Rattle.epx_tool.proofs.LawfulListLemmas.{commands_of-in}
 use Rattle.epx_tool.proofs.ReportBaseLemmas.{after_nothing, report_is_base, written, replied}
 use Rattle.epx_tool.proofs.ReportRangeLemmas.{accepted_fit, reported_fit}
 
@@ -104,9 +102,9 @@ left_is_sound m rising done stored sound rest has text left =
     left.now left.done_now.each in
     record {
       done = left.now;
-      stored = (execute (commands_of (remaining done rest) left.order) stored).final;
+      stored = (execute (commands_in (remaining done rest) (ranked_ids left.order)) stored).final;
       base = left.base;
-      sound = rw (commands_of-in (remaining done rest) left.order) again;
+      sound = again;
     }
 
 pub report_of_a_part_is_sound : ReportOfAPartIsSound
@@ -161,10 +159,7 @@ resumed_report_repeats_the_whole m base logs g covered text resumed whole q =
           let at = in_zip (ranked_ids p.order) _ r c in
           let is = reply-resumed m g.rising b.done b.stored b.sound g.rest g.has
           (ranked_ids p.order) lawful covered order all at.0 r.0 at.1 in
-          let reply =
-          rw (← commands_of-in (remaining b.done g.rest) p.order, ← commands_of-in m q.order)
-          at is.2 in
-          from_zip order _ r is.0 is.1 (sym reply ∙ at.2);
+          from_zip order _ r is.0 is.1 (sym is.2 ∙ at.2);
     }
 
 pub last_report_is_the_whole : LastReportIsTheWhole
@@ -172,7 +167,8 @@ last_report_is_the_whole logs m accepted covered text b done whole answer =
     let rising = accepted.committed.rising in
     let w = report_of_a_part_is_sound m rising logs m accepted (λ e c. c) whole answer in
     let left = answer_is_base logs whole answer m accepted in
-    let final = (execute (commands_of (remaining [] m) left.order) contents.empty).final in
+    let final =
+    (execute (commands_in (remaining [] m) (ranked_ids left.order)) contents.empty).final in
     let one = base_is_one whole left.now w.done final w.stored left.base w.base in
     let lawful : IsLawful m (ranked_ids left.order) =
     subst (λ (l : List Instance). IsLawful l (ranked_ids left.order)) (remaining-nil m)

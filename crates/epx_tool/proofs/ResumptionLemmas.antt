@@ -14,7 +14,6 @@ use Rattle.epx_types.proofs.orders.OrderExistenceLemmas.{execution_order_exists}
 use Rattle.epx_types.proofs.orders.OrderExistenceLemmas.{waiting_list_exists}
 use Rattle.epx_report.specs.Bases.{IsBadBase}
 use Rattle.epx_report.proofs.BaseLemmas.{base_or_bad_base}
-use Rattle.epx_tool.specs.Report.{commands_of}
 use Rattle.epx_tool.specs.ResumedReport.{IsReportAfter, resumed_text}
 use Rattle.epx_tool.specs.Resumption.{IsResumedText}
 use Rattle.epx_tool.specs.ResumptionLaws.{ResumptionExists, ResumptionIsOne}
@@ -28,7 +27,7 @@ IsReportAfter-unique done stored m text other p q =
     let order = IsExecutionOrder-unique (remaining done m) p.order q.order p.ordered q.ordered in
     let waiting = IsWaitingList-unique (remaining done m) p.waiting q.waiting p.listed q.listed in
     p.printed ∙ ap₂ (λ o w. resumed_text done o w
-    (execute (commands_of (remaining done m) o) stored)) order waiting ∙ sym q.printed
+    (execute (commands_in (remaining done m) (ranked_ids o)) stored)) order waiting ∙ sym q.printed
 
 report_after_exists : (done : List Id) (stored : Contents) (m : List Instance)
     → IsRising (ids_of m) → (text : List ℕ) × IsReportAfter done stored m text
@@ -37,7 +36,7 @@ report_after_exists done stored m rising =
     let order = execution_order_exists (remaining done m) left in
     let waiting = waiting_list_exists (remaining done m) left in (
       resumed_text done order.0 waiting.0
-          (execute (commands_of (remaining done m) order.0) stored),
+          (execute (commands_in (remaining done m) (ranked_ids order.0)) stored),
       record {
         order = order.0;
         waiting = waiting.0;

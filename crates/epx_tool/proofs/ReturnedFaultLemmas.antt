@@ -11,7 +11,7 @@ use Rattle.epx_types.specs.declared.fault.Fault.TheVariants.{Memory, TooManyLogs
 use Rattle.epx_types.specs.declared.fault.Fault.TheVariants.{BadLine, TooManyInstances, Disagree}
 use Rattle.epx_types.specs.declared.fault.Fault.TheVariants.{Read, Write}
 use Rattle.epx_types.specs.Instances.{Instance}
-use Rattle.epx_merge.specs.Limits.{max_logs}
+use Rattle.epx_types.specs.Limits.{max_logs}
 use Rattle.epx_compare.specs.ComparisonAnswers.{IsComparisonRefusal}
 use Rattle.epx_merge.specs.Refusals.{FitLimits, IsRefusal}
 use Rattle.epx_devices.specs.Transfers.{IsReadLogFault}

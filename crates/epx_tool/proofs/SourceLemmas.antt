@@ -16,7 +16,7 @@ use Rattle.epx_types.specs.declared.fault.Fault.TheVariants.{Memory, TooManyLogs
 use Rattle.epx_types.specs.declared.fault.Fault.TheVariants.{BadLine, TooManyInstances, Disagree}
 use Rattle.epx_types.specs.declared.fault.Fault.TheVariants.{Read, Write, BadBase}
 use Rattle.epx_types.proofs.lists.ListPositionLemmas.{slice_get-map, slice_get-from_map}
-use Rattle.epx_merge.specs.Limits.{max_logs, max_log_bytes}
+use Rattle.epx_types.specs.Limits.{max_logs, max_log_bytes}
 use Rattle.epx_merge.specs.Refusals.{FitLimits}
 use Rattle.epx_devices.specs.Transfers.{IsReadLogFault, ConsumesUpTo, ConsumesExactly}
 use Rattle.epx_tool.specs.Runs.{AreBytesOf, NoneTooLongBefore, IsReadingRefusal}

@@ -10,7 +10,7 @@ use Rattle.epx_types.specs.declared.fault.Fault.TheVariants.{Read, Write}
 use Rattle.epx_devices.specs.Deliveries.{FailRelation, ReadRelation, DeliversAll, IsLogStop}
 use Rattle.epx_devices.specs.LogParts.{EndsLog}
 use Rattle.epx_devices.specs.Transfers.{IsReadLogFault, ConsumesUpTo, ConsumesExactly}
-use Rattle.epx_merge.specs.Limits.{max_logs, max_log_bytes}
+use Rattle.epx_types.specs.Limits.{max_logs, max_log_bytes}
 use Rattle.epx_tool.specs.inner.SourceReadings.{AreDeliveredUpTo, EndsReading}
 use Rattle.epx_tool.proofs.ConsumedLemmas.{none_consumed}
 use Rattle.epx_tool.proofs.DeliveredLemmas.{delivered_step, stops_reading}

@@ -12,7 +12,7 @@ use Rattle.epx_types.proofs.levels.LevelLemmas.{AreLevels-unique}
 use Rattle.epx_types.proofs.graph.WaitingListLemmas.{IsWaitingList-unique}
 use Rattle.epx_merge.proofs.UniquenessLemmas.{accepted_unique, accepted_not_refused}
 use Rattle.epx_merge.proofs.UniquenessLemmas.{refusal_unique}
-use Rattle.epx_tool.specs.Report.{IsReport, report_text, commands_of}
+use Rattle.epx_tool.specs.Report.{IsReport, report_text}
 use Rattle.epx_tool.specs.OrderText.{IsOrderText, order_text}
 use Rattle.epx_tool.specs.LevelText.{IsLevelText, level_text}
 use Rattle.epx_tool.specs.AuditText.{IsAuditText}
@@ -34,7 +34,7 @@ pub IsReport-unique : (m : List Instance) (text other : List ℕ) → IsReport m
 IsReport-unique m text other p q =
     let order = IsExecutionOrder-unique m p.order q.order p.ordered q.ordered in
     let waiting = IsWaitingList-unique m p.waiting q.waiting p.listed q.listed in
-    p.printed ∙ ap₂ (λ o w. report_text o w (execute (commands_of m o) contents.empty)) order
+    p.printed ∙ ap₂ (λ o w. report_text o w (execute (commands_in m (ranked_ids o)) contents.empty)) order
     waiting ∙ sym q.printed
 
 pub IsOrderText-unique : (m : List Instance) (text other : List ℕ) → IsOrderText m text
@@ -49,8 +49,8 @@ pub IsLevelText-unique : (m : List Instance) (text other : List ℕ) → IsLevel
 IsLevelText-unique m text other p q =
     let order = IsExecutionOrder-unique m p.order q.order p.ordered q.ordered in
     let waiting = IsWaitingList-unique m p.waiting q.waiting p.listed q.listed in
-    let levels = AreLevels-unique (commands_of m q.order) p.levels q.levels
-    (subst (λ o. AreLevels (commands_of m o) p.levels) order p.levelled) q.levelled in
+    let levels = AreLevels-unique (commands_in m (ranked_ids q.order)) p.levels q.levels
+    (subst (λ o. AreLevels (commands_in m (ranked_ids o)) p.levels) order p.levelled) q.levelled in
     p.printed ∙ ap₂ (λ o w. level_text o p.levels w) order waiting
     ∙ ap (λ ls. level_text q.order ls q.waiting) levels ∙ sym q.printed
 

@@ -7,7 +7,7 @@ use Rattle.epx_types.specs.declared.fault.Fault.TheVariants.{Memory, TooManyLogs
 use Rattle.epx_types.specs.declared.fault.Fault.TheVariants.{BadLine, TooManyInstances, Disagree}
 use Rattle.epx_types.specs.declared.fault.Fault.TheVariants.{Read, Write, BadBase}
 use Rattle.epx_types.specs.Instances.{Instance}
-use Rattle.epx_merge.specs.Limits.{max_logs, max_log_bytes}
+use Rattle.epx_types.specs.Limits.{max_logs, max_log_bytes}
 use Rattle.epx_merge.specs.Refusals.{IsFirstTooLong, IsRefusal}
 use Rattle.epx_merge.specs.Acceptance.{IsAccepted}
 use Rattle.epx_merge.proofs.UniquenessLemmas.{accepted_unique, accepted_not_refused}

@@ -8,11 +8,11 @@ use Rattle.epx_types.specs.Instances.{Instance}
 use Rattle.epx_types.specs.Conflicts.{IsCovered}
 use Rattle.epx_types.specs.Execution.{execute, Execution}
 use Rattle.epx_types.specs.ExecutionOrder.{Ranked, IsExecutionOrder, ranked_ids}
-use Rattle.epx_types.specs.LawfulOrders.{IsLawful, commands_in}
+use Rattle.epx_types.specs.CommittedMap.{commands_in}
+use Rattle.epx_types.specs.LawfulOrders.{IsLawful}
 use Rattle.epx_merge.specs.Acceptance.{IsAccepted}
 use Rattle.epx_report.specs.Lists.{IsList}
 use Rattle.epx_tool.specs.WithInput.{IsShort}
-use Rattle.epx_tool.specs.Report.{commands_of}
 use Rattle.epx_report.specs.ViewLines.{lawful_line}
 use Rattle.epx_tool.specs.CheckAnswers.{Checks}
 
@@ -47,4 +47,4 @@ LawfulListExecutesAlike = (list : List ℕ) (logs : List (List ℕ))
     → IsAccepted logs m → IsCovered m →
     (order : List Ranked) → IsExecutionOrder m order
     → ExecuteAlike ids (ranked_ids order) (execute (commands_in m ids) contents.empty)
-    (execute (commands_of m order) contents.empty)
+    (execute (commands_in m (ranked_ids order)) contents.empty)

@@ -5,7 +5,7 @@ use Rattle.std.specs.Prelude.{Result, Ok}
 use Rattle.epx_types.specs.declared.fault.Fault.{Fault}
 use Rattle.epx_types.specs.declared.fault.Fault.TheVariants.{Memory, TooManyLogs}
 use Rattle.epx_types.specs.Instances.{Instance}
-use Rattle.epx_merge.specs.Limits.{max_logs}
+use Rattle.epx_types.specs.Limits.{max_logs}
 use Rattle.epx_merge.specs.Refusals.{NoneTooLong, IsRefusal}
 use Rattle.epx_devices.specs.Deliveries.{FailRelation, ReadRelation, DeliversAll, IsLogStop}
 use Rattle.epx_tool.specs.Answer.{Answers}

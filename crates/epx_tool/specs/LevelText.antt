@@ -4,7 +4,6 @@ use Rattle.epx_types.specs.Instances.{Instance}
 use Rattle.epx_types.specs.ExecutionOrder.{Ranked, IsExecutionOrder, ranked_ids, component_count}
 use Rattle.epx_types.specs.Levels.{AreLevels}
 use Rattle.epx_types.specs.WaitingLists.{Waiting, IsWaitingList}
-use Rattle.epx_tool.specs.Report.{commands_of}
 use Rattle.epx_report.specs.ReportLines.{header_line, waiting_line}
 use Rattle.epx_report.specs.ViewLines.{level_line}
 
@@ -21,6 +20,6 @@ pub record IsLevelText (m : List Instance) (text : List ℕ) : Type 0 where
   pub levels : List ℕ
   pub waiting : List Waiting
   pub ordered : IsExecutionOrder m order
-  pub levelled : AreLevels (commands_of m order) levels
+  pub levelled : AreLevels (commands_in m (ranked_ids order)) levels
   pub listed : IsWaitingList m waiting
   pub printed : text ≡ level_text order levels waiting

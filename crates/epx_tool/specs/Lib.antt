@@ -22,7 +22,6 @@ pub mod DeliveredWithInput
 pub mod Questions
 pub mod RunEndings
 pub mod Findings
-pub use Rattle.epx_devices.specs.Limits as DeviceLimits
 pub use Rattle.epx_devices.specs.Devices
 pub use Rattle.epx_devices.specs.Reads
 pub use Rattle.epx_devices.specs.MemorySink

@@ -1,18 +1,12 @@
 -- The text of a report.
-use Rattle.std.specs.Prelude.{◌≡◌, ℕ, List, ◌++◌, map, length, flat_map, zip}
+use Rattle.std.specs.Prelude.{◌≡◌, ℕ, List, ◌++◌, length, flat_map, zip}
 use Rattle.std.specs.FinMap as contents
-use Rattle.epx_types.specs.declared.op.Op.{Op}
 use Rattle.epx_types.specs.Instances.{Instance}
-use Rattle.epx_types.specs.CommittedMap.{instance_of}
+use Rattle.epx_types.specs.CommittedMap.{commands_in}
 use Rattle.epx_types.specs.Execution.{execute, Execution}
 use Rattle.epx_types.specs.ExecutionOrder.{Ranked, IsExecutionOrder, ranked_ids, component_count}
 use Rattle.epx_types.specs.WaitingLists.{Waiting, IsWaitingList}
-use Rattle.epx_replay.specs.FoundCommands.{ops_found}
 use Rattle.epx_report.specs.ReportLines.{header_line, reply_line, waiting_line, store_line}
-
--- the commands of the instances of an order
-abbrev pub commands_of : List Instance → List Ranked → List (List Op)
-commands_of m order = map (λ r. ops_found (instance_of m r.id)) order
 
 -- the header, the replies in execution order, the instances that wait, and the store, by the bytes
 -- of its keys
@@ -29,4 +23,5 @@ pub record IsReport (m : List Instance) (text : List ℕ) : Type 0 where
   pub waiting : List Waiting
   pub ordered : IsExecutionOrder m order
   pub listed : IsWaitingList m waiting
-  pub printed : text ≡ report_text order waiting (execute (commands_of m order) contents.empty)
+  pub printed : text ≡ report_text order waiting
+      (execute (commands_in m (ranked_ids order)) contents.empty)

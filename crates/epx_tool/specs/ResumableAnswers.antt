@@ -16,7 +16,7 @@ use Rattle.epx_types.specs.Sound.{IsSound, HasRemaining}
 use Rattle.epx_merge.specs.Acceptance.{IsAccepted}
 use Rattle.epx_report.specs.Bases.{IsBase}
 use Rattle.epx_tool.specs.Answer.{IsAnswer}
-use Rattle.epx_tool.specs.Report.{IsReport, commands_of}
+use Rattle.epx_tool.specs.Report.{IsReport}
 use Rattle.epx_tool.specs.ResumedReport.{IsReportAfter}
 use Rattle.epx_tool.specs.Resumption.{Resumes}
 use Rattle.epx_tool.specs.ResumptionLaws.{run_in}
@@ -36,7 +36,8 @@ pub record HasBaseAfter (done : List Id) (stored : Contents) (m : List Instance)
   pub now : List Id
   pub ordered : IsExecutionOrder (remaining done m) order
   pub done_now : AreDoneAfterBoth done (ranked_ids order) now
-  pub base : IsBase text now (execute (commands_of (remaining done m) order) stored).final
+  pub base : IsBase text now
+      (execute (commands_in (remaining done m) (ranked_ids order)) stored).final
 
 -- the answer to logs is a base
 abbrev pub AnswerIsBase : Type 0
@@ -85,7 +86,7 @@ ResumedReportIsSound = (m : List Instance) (base : List ℕ) (logs : List (List 
 abbrev pub replies_by_report : (m : List Instance) (text : List ℕ) → IsReport m text
     → List (Id × Reply)
 replies_by_report m text p =
-    zip (ranked_ids p.order) (execute (commands_of m p.order) contents.empty).replies
+    zip (ranked_ids p.order) (execute (commands_in m (ranked_ids p.order)) contents.empty).replies
 
 -- the replies of a report that resumes from a base
 abbrev pub replies_after : (done : List Id) (stored : Contents) (m : List Instance) (text : List ℕ)

@@ -10,7 +10,6 @@ use Rattle.epx_types.specs.ExecutionOrder.{Ranked, IsExecutionOrder, ranked_ids,
 use Rattle.epx_types.specs.WaitingLists.{Waiting, IsWaitingList}
 use Rattle.epx_report.specs.ReportLines.{header_line, done_line, reply_line, waiting_line}
 use Rattle.epx_report.specs.ReportLines.{store_line}
-use Rattle.epx_tool.specs.Report.{commands_of}
 
 -- the header, the done instances, the replies in execution order, the instances that wait, and the
 -- store, by the bytes of its keys
@@ -31,4 +30,5 @@ pub record IsReportAfter (done : List Id) (stored : Contents) (m : List Instance
   pub ordered : IsExecutionOrder (remaining done m) order
   pub listed : IsWaitingList (remaining done m) waiting
   pub printed : text
-      ≡ resumed_text done order waiting (execute (commands_of (remaining done m) order) stored)
+      ≡ resumed_text done order waiting
+      (execute (commands_in (remaining done m) (ranked_ids order)) stored)

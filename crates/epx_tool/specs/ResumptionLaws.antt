@@ -13,7 +13,7 @@ use Rattle.epx_types.specs.ExecutionOrder.{Ranked, ranked_ids, component_count}
 use Rattle.epx_types.specs.WaitingLists.{Waiting}
 use Rattle.epx_report.specs.Bases.{IsBase}
 use Rattle.epx_report.specs.ReportReadings.{ReportData, FitsReportData}
-use Rattle.epx_tool.specs.Report.{IsReport, commands_of}
+use Rattle.epx_tool.specs.Report.{IsReport}
 use Rattle.epx_tool.specs.ResumedReport.{IsReportAfter}
 use Rattle.epx_tool.specs.Resumption.{Resumes}
 
@@ -45,7 +45,7 @@ reported_of done order waiting run = record {
 -- the execution of a report
 abbrev pub run_in : (done : List Id) (stored : Contents) (m : List Instance) (text : List ℕ)
     → IsReportAfter done stored m text → Execution
-run_in done stored m text p = execute (commands_of (remaining done m) p.order) stored
+run_in done stored m text p = execute (commands_in (remaining done m) (ranked_ids p.order)) stored
 
 -- a report whose numbers and texts fit their types is a base. Its done instances were done before
 -- or are executed in the report, and its store is the final store of the report.

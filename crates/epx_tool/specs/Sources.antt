@@ -6,7 +6,7 @@ use Rattle.std.specs.Io.KnownBytes.{IsAtEnd}
 use Rattle.epx_types.specs.declared.fault.Fault.{Fault}
 use Rattle.epx_types.specs.declared.fault.Fault.TheVariants.{TooManyLogs, LogTooLong, Read}
 use Rattle.epx_devices.specs.Transfers.{ConsumesUpTo}
-use Rattle.epx_merge.specs.Limits.{max_logs, max_log_bytes}
+use Rattle.epx_types.specs.Limits.{max_logs, max_log_bytes}
 
 -- at most n bytes are taken from each source
 abbrev pub EachConsumesUpTo : {S : Type 0} → (S → Option (List ℕ)) → List S → List S → ℕ → Type 0

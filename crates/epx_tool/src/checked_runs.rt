@@ -4,7 +4,7 @@ ghost use Rattle.std.specs.Prelude.{◌≡◌, ◌≢◌, ◌↔◌, ◌+◌, �
 ghost use Rattle.std.specs.Prelude.{Some, slice_get, Ok, OnOk, IfErr, IsErrOf};
 ghost use Rattle.std.specs.Io.KnownBytes.{Appends, Keeps, IsAtEnd};
 ghost use Rattle.epx_report.specs.Lists.{IsBadList};
-ghost use Rattle.epx_merge.specs.Limits.{max_log_bytes};
+ghost use Rattle.epx_types.specs.Limits.{max_logs, max_log_bytes};
 ghost use Rattle.epx_tool.specs.CheckAnswers.{IsCheckText, Checks};
 ghost use Rattle.epx_tool.specs.Runs.{AreBytesOf};
 ghost use Rattle.epx_tool.specs.RunsWithInput.{IsRunFaultWithInput};
@@ -15,7 +15,6 @@ ghost use Rattle.epx_devices.specs.Transfers.{AppendsPrefix, ConsumesUpTo};
 use crate::input_runs::write_with_input;
 use crate::question::InputQuestion;
 use epx_devices::{Sink, Source};
-use epx_types::limits::MAX_LOGS;
 use epx_types::{Fault, Plan};
 use std::alloc::Global;
 use std::random::RandomSource;
@@ -80,7 +79,7 @@ pub fn run_check<T: Threads + RandomSource + Sync, L: Source, S: Source, W: Sink
         → drop (log + 1) sources.new ≡ drop (log + 1) sources.old }
     ensures list_untouched { (log : ℕ) → StopsAt result log → log < length sources.old
         → list.new ≡ list.old }
-    ensures too_many { IsErrOf result Fault.TooManyLogs ↔ (MAX_LOGS < length sources.old) }
+    ensures too_many { IsErrOf result Fault.TooManyLogs ↔ (max_logs < length sources.old) }
     ensures none_read { IsErrOf result Fault.TooManyLogs → (sources.new ≡ sources.old)
         × (list.new ≡ list.old) }
 {

@@ -1,5 +1,6 @@
 //! Reads sources and compares their logs.
 ghost use Rattle.std.specs.Prelude.{◌≡◌, ◌<◌, ◌≤◌, false, length, All};
+ghost use Rattle.epx_types.specs.Limits.{max_logs};
 ghost use Rattle.epx_compare.specs.LaterLogComparisons.{IsComparisonResult};
 ghost use Rattle.epx_tool.specs.inner.SourceReadings.{AreDeliveredUpTo, EndsMaking, EndsReading};
 ghost use Rattle.epx_tool.specs.inner.SourceReadings.{logs_after};
@@ -22,7 +23,7 @@ fn compare_meanwhile<R: Threads + RandomSource + Sync, S: Source>(
     plan: Plan,
 ) -> Result<Comparison, Fault>
     requires some { 0 < length sources.old }
-    requires few { length sources.old ≤ MAX_LOGS }
+    requires few { length sources.old ≤ max_logs }
     requires well { All (λ s. S.has_failed s ≡ false) sources.old }
     ensures { EndsMaking S.remaining S.reads S.fails S.has_failed IsComparisonResult sources.old
         sources.new result }
@@ -32,7 +33,7 @@ fn compare_meanwhile<R: Threads + RandomSource + Sync, S: Source>(
         Err(fault) => return Err(fault),
     };
     let mut more = || -> Result<Vec<Vec<u8>>, Fault>
-        requires { (length sources.now ≤ MAX_LOGS) × ((first : _) × (before : _)
+        requires { (length sources.now ≤ max_logs) × ((first : _) × (before : _)
             × AreDeliveredUpTo S.remaining S.reads S.has_failed first sources.now 1 before) }
         ensures { (first : _) (before : _)
             → AreDeliveredUpTo S.remaining S.reads S.has_failed first sources.entry.now 1 before

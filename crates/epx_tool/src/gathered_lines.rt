@@ -2,6 +2,7 @@
 ghost use Rattle.std.specs.Prelude.{◌≡◌, ◌≤◌, ◌<◌, ◌+◌, ◌++◌, ◌^◌, List, [], length, take, drop};
 ghost use Rattle.std.specs.Prelude.{true, false};
 ghost use Rattle.std.specs.Prelude.{OnOk, Err, MatchResult};
+ghost use Rattle.epx_types.specs.Limits.{max_logs};
 ghost use Rattle.epx_merge.specs.LogLines.{MeaningAt};
 ghost use Rattle.epx_merge.specs.LogParts.{EndsLine};
 ghost use Rattle.epx_merge.specs.RedundantLines.{DropsCached};
@@ -11,7 +12,6 @@ ghost use Rattle.epx_tool.specs.inner.SourceReadings.{EndsReading};
 use epx_devices::{LogPart, Source, read_on};
 use epx_merge::{LineBatch, lines_end};
 use epx_types::Fault;
-use epx_types::limits::MAX_LOGS;
 use std::alloc::Global;
 use std::mem;
 
@@ -68,7 +68,7 @@ fn gather_part<S: Source>(
     batch: &mut LineBatch,
 ) -> Result<(), Fault>
     requires within { at.old.log < length sources.old }
-    requires few { length sources.old ≤ MAX_LOGS }
+    requires few { length sources.old ≤ max_logs }
     requires begun { (first : _) × (lines : _)
         × AreGathered S.remaining S.reads S.has_failed first sources.old at.old lines }
     ensures lines { (first : _) (lines cut : List MeaningAt)
@@ -151,7 +151,7 @@ pub(crate) fn gather<S: Source>(
     most: usize,
 ) -> Result<(), Fault>
     requires within { at.old.log < length sources.old }
-    requires few { length sources.old ≤ MAX_LOGS }
+    requires few { length sources.old ≤ max_logs }
     requires empty { batch.old ≡ [] }
     requires most { most ≤ 2 ^ 32 }
     requires begun { (first : _) × (lines : _)

@@ -1,6 +1,6 @@
 //! The texts of a committed map and an extra input: the resumed report, and the verdict on a list.
 ghost use Rattle.std.specs.Prelude.{◌≡◌, ◌≢◌, ◌≤◌, ◌↔◌, length, true, IfOk};
-ghost use Rattle.epx_committed.specs.InstanceCounts.{max_instances};
+ghost use Rattle.epx_types.specs.Limits.{max_instances};
 ghost use Rattle.epx_tool.specs.Verdicts.{IsPrefixVerdict, IsVerdict};
 ghost use Rattle.epx_report.specs.ViewLines.{lawful_line};
 ghost use Rattle.epx_tool.specs.inner.InputReadings.{FindsFrom, IsTextFrom};

@@ -3,12 +3,12 @@ ghost use Rattle.std.specs.Prelude.{◌≡◌, ◌≢◌, ◌≤◌, ◌↔◌, 
 ghost use Rattle.epx_types.specs.Done.{remaining};
 ghost use Rattle.epx_types.specs.Ids.{IsRising};
 ghost use Rattle.epx_types.specs.Levels.{AreLevels};
-ghost use Rattle.epx_committed.specs.InstanceCounts.{max_instances};
+ghost use Rattle.epx_types.specs.Limits.{max_instances};
 ghost use Rattle.epx_report.specs.ViewLines.{covered_line};
 ghost use Rattle.epx_tool.specs.OrderText.{IsOrderText};
 ghost use Rattle.epx_tool.specs.LevelText.{IsLevelText};
 ghost use Rattle.epx_tool.specs.AuditText.{IsAuditText};
-ghost use Rattle.epx_replay.specs.FoundCommands.{commands_by_id};
+ghost use Rattle.epx_types.specs.CommittedMap.{commands_in};
 ghost use Rattle.epx_tool.specs.Report.{IsReport};
 ghost use Rattle.epx_tool.specs.ResumedReport.{IsReportAfter};
 ghost use Rattle.epx_tool.specs.Findings.{FindsIn, SomeWaits};
@@ -39,7 +39,7 @@ use std::thread::Threads;
 /// The conflict levels of the commands of some instances.
 fn command_levels(alloc: Global, merged: &Merged, ids: &[Id]) -> Result<LevelMap, Memory>
     ensures { IfOk result
-        (AreLevels (commands_by_id merged.now ids.now)) }
+        (AreLevels (commands_in merged.now ids.now)) }
 {
     let commands = commands_of(alloc, merged, ids)?;
     levels(alloc, &commands)

@@ -1,6 +1,7 @@
 //! Reads sources and merges their logs. Lines are read while the next ones are gathered.
 ghost use Rattle.std.specs.Prelude.{◌≡◌, ◌≤◌, ◌<◌, ◌++◌, ◌^◌, [], false, length, All, List};
 ghost use Rattle.std.specs.Prelude.{OnOk, Err, MatchResult};
+ghost use Rattle.epx_types.specs.Limits.{max_logs};
 ghost use Rattle.epx_merge.specs.LogLines.{MeaningAt};
 ghost use Rattle.epx_merge.specs.LogParts.{HasRead};
 ghost use Rattle.epx_merge.specs.RedundantLines.{DropsCached};
@@ -49,7 +50,7 @@ fn read_and_gather<'a, R: Threads + RandomSource + Sync, S: Source>(
     plan: Plan,
 ) -> (LogReader<'a>, Result<(), Fault>)
     requires within { at.old.log < length sources.old }
-    requires few { length sources.old ≤ MAX_LOGS }
+    requires few { length sources.old ≤ max_logs }
     requires here { length here.now ≤ 2 ^ 40 }
     requires next { next.old ≡ [] }
     requires begun { (first : _) × (lines : _)
@@ -69,7 +70,7 @@ fn read_and_gather<'a, R: Threads + RandomSource + Sync, S: Source>(
 {
     let most = lines_wanted(plan, here.len(), at.logs());
     let mut more = || -> Result<(), Fault>
-        requires { (at.now.log < length sources.now) × (length sources.now ≤ MAX_LOGS)
+        requires { (at.now.log < length sources.now) × (length sources.now ≤ max_logs)
             × (next.now ≡ []) × (most ≤ 2 ^ 32) × ((first : _) × (lines : _)
             × AreGathered S.remaining S.reads S.has_failed first sources.now at.now lines) }
         ensures lines { (first : _) (lines : List MeaningAt)
@@ -94,7 +95,7 @@ fn merge_in_batches<R: Threads + RandomSource + Sync, S: Source>(
     sources: &mut [S],
     plan: Plan,
 ) -> Result<Merged, Fault>
-    requires few { length sources.old ≤ MAX_LOGS }
+    requires few { length sources.old ≤ max_logs }
     requires well { All (λ s. S.has_failed s ≡ false) sources.old }
     ensures { EndsMerging S.remaining S.reads S.fails S.has_failed sources.old sources.new result }
 {

@@ -3,7 +3,7 @@ ghost use Rattle.std.specs.Prelude.{◌≡◌, ◌≢◌, ◌↔◌, ◌+◌, �
 ghost use Rattle.std.specs.Prelude.{All, None, Some, slice_get, Ok, Err, OnOk, IfErr};
 ghost use Rattle.std.specs.Prelude.{IsErrOf, MatchResult};
 ghost use Rattle.std.specs.Io.KnownBytes.{Appends, Keeps, IsAtEnd};
-ghost use Rattle.epx_merge.specs.Limits.{max_log_bytes};
+ghost use Rattle.epx_types.specs.Limits.{max_logs, max_log_bytes};
 ghost use Rattle.epx_tool.specs.Answer.{Answers};
 ghost use Rattle.epx_tool.specs.Report.{IsReport};
 ghost use Rattle.epx_tool.specs.Runs.{AreBytesOf, IsFaultOfRun, IsRunFault};
@@ -26,7 +26,6 @@ use crate::merged_sources::merge_sources;
 use crate::question::{MapText, Question};
 use epx_compare::Comparison;
 use epx_devices::{Sink, Source, write_out};
-use epx_types::limits::MAX_LOGS;
 use epx_types::{Fault, Plan};
 use std::alloc::Global;
 use std::random::RandomSource;
@@ -201,7 +200,7 @@ pub fn run<T: Threads + RandomSource + Sync, S: Source, W: Sink>(
     ensures ended { OnOk result (All (λ s. IsAtEnd (S.remaining s)) sources.new) }
     ensures no_further { (log : ℕ) → StopsAt result log
         → drop (log + 1) sources.new ≡ drop (log + 1) sources.old }
-    ensures too_many { IsErrOf result Fault.TooManyLogs ↔ (MAX_LOGS < length sources.old) }
+    ensures too_many { IsErrOf result Fault.TooManyLogs ↔ (max_logs < length sources.old) }
     ensures none_read { IsErrOf result Fault.TooManyLogs → sources.new ≡ sources.old }
 {
     write_answer(rt, alloc, Question::Report, sources, plan, sink)
@@ -250,7 +249,7 @@ pub fn show<T: Threads + RandomSource + Sync, S: Source, W: Sink>(
     ensures ended { OnOk result (All (λ s. IsAtEnd (S.remaining s)) sources.new) }
     ensures no_further { (log : ℕ) → StopsAt result log
         → drop (log + 1) sources.new ≡ drop (log + 1) sources.old }
-    ensures too_many { IsErrOf result Fault.TooManyLogs ↔ (MAX_LOGS < length sources.old) }
+    ensures too_many { IsErrOf result Fault.TooManyLogs ↔ (max_logs < length sources.old) }
     ensures none_read { IsErrOf result Fault.TooManyLogs → sources.new ≡ sources.old }
 {
     write_answer(rt, alloc, Question::View(ask), sources, plan, sink)

@@ -1,6 +1,7 @@
 //! Reads sources to their ends.
 ghost use Rattle.std.specs.Prelude.{◌≡◌, ◌+◌, ◌<◌, ◌≤◌, ◌++◌, ◌∷◌, [], false, length, All, Some};
 ghost use Rattle.std.specs.Prelude.{IfOk, IfErr, IsErrOf, MatchResult, Err};
+ghost use Rattle.epx_types.specs.Limits.{max_logs};
 ghost use Rattle.epx_merge.specs.Refusals.{FitLimits};
 ghost use Rattle.epx_merge.specs.LogLines.{bytes_of};
 ghost use Rattle.epx_tool.specs.Runs.{AreBytesOf};
@@ -22,7 +23,7 @@ pub(crate) fn read_next<S: Source>(
     sources: &mut [S],
 ) -> Result<Vec<u8>, Fault>
     requires within { log < length sources.old }
-    requires few { length sources.old ≤ MAX_LOGS }
+    requires few { length sources.old ≤ max_logs }
     requires well { All (λ s. S.has_failed s ≡ false) sources.old }
     ensures { (first : _) (before : _)
         → AreDeliveredUpTo S.remaining S.reads S.has_failed first sources.old log before
@@ -41,7 +42,7 @@ pub(crate) fn read_onward<S: Source>(
     start: usize,
     sources: &mut [S],
 ) -> Result<Vec<Vec<u8>>, Fault>
-    requires few { length sources.old ≤ MAX_LOGS }
+    requires few { length sources.old ≤ max_logs }
     requires begun { (first : _) × (before : _)
         × AreDeliveredUpTo S.remaining S.reads S.has_failed first sources.old start before }
     ensures { (first : _) (before : _)

@@ -1,16 +1,16 @@
 -- The text of a trace of a committed map.
-use Rattle.std.specs.Prelude.{◌≡◌, ℕ, Bool, List, [], map, flat_map, option_map, unwrap_or}
+use Rattle.std.specs.Prelude.{◌≡◌, ℕ, Bool, List, map, flat_map}
 use Rattle.std.specs.FinMap as contents
 use Rattle.epx_types.specs.declared.id.Id.{Id}
 use Rattle.epx_types.specs.Instances.{Instance}
-use Rattle.epx_types.specs.CommittedMap.{instance_of}
+use Rattle.epx_types.specs.CommittedMap.{instance_of, ops_or_empty}
 use Rattle.epx_types.specs.ExecutionOrder.{Ranked, IsExecutionOrder, ranked_ids}
 use Rattle.epx_trace.specs.Traces.{IdCommand, trace_of}
 use Rattle.epx_trace.specs.TraceLines.{touch_line}
 
 -- an instance and its command in the map
 abbrev pub command_of : List Instance → Id → IdCommand
-command_of m x = (x, unwrap_or (option_map (λ e. e.ops) (instance_of m x)) [])
+command_of m x = (x, ops_or_empty (instance_of m x))
 
 -- the instances of an order, each with its command
 abbrev pub ordered_commands : List Instance → List Ranked → List IdCommand

@@ -1,7 +1,9 @@
 -- The committed map: the instances that lines commit, each once, by rising Id.
-use Rattle.std.specs.Prelude.{◌≡◌, ℕ, List, map, Contains, Option, find, position}
+use Rattle.std.specs.Prelude.{◌≡◌, ℕ, List, [], map, Contains, Option, None, Some}
+use Rattle.std.specs.Prelude.{find, position}
 use Rattle.std.specs.Ordering.{is_eq}
 use Rattle.epx_types.specs.declared.id.Id.{Id}
+use Rattle.epx_types.specs.declared.op.Op.{Op}
 use Rattle.epx_types.specs.Ids.{id_cmp, IsRising}
 use Rattle.epx_types.specs.Instances.{Instance}
 use Rattle.epx_types.specs.PlacedLines.{Placed}
@@ -11,6 +13,15 @@ ids_of m = map (λ e. e.id) m
 
 abbrev pub instance_of : List Instance → Id → Option Instance
 instance_of m x = find (λ e. is_eq (id_cmp e.id x)) m
+
+-- the operations of an instance, none where there is no instance
+abbrev pub ops_or_empty : Option Instance → List Op
+ops_or_empty None = []
+ops_or_empty (Some e) = e.ops
+
+-- the commands of some instances of a map
+abbrev pub commands_in : List Instance → List Id → List (List Op)
+commands_in m ids = map (λ x. ops_or_empty (instance_of m x)) ids
 
 -- the position of an Id among the committed instances, from 0
 abbrev pub position_of : List Instance → Id → Option ℕ

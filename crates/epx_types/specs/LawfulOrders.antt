@@ -1,12 +1,9 @@
 -- The orders that the protocol allows.
-use Rattle.std.specs.Prelude.{◌≡◌, ◌≢◌, ℕ, ◌<◌, true, List, [], map, Contains, AllPairs, Option}
-use Rattle.std.specs.Prelude.{Some, None, slice_get}
+use Rattle.std.specs.Prelude.{◌≡◌, ◌≢◌, ℕ, ◌<◌, true, List, Contains, AllPairs, Some, slice_get}
 use Rattle.std.specs.Ordering.{nat_cmp, ordering_then, is_lt}
 use Rattle.epx_types.specs.declared.id.Id.{Id}
-use Rattle.epx_types.specs.declared.op.Op.{Op}
 use Rattle.epx_types.specs.Ids.{id_cmp}
 use Rattle.epx_types.specs.Instances.{Instance}
-use Rattle.epx_types.specs.CommittedMap.{instance_of}
 use Rattle.epx_types.specs.Readiness.{IsReady}
 use Rattle.epx_types.specs.Reaching.{Reaches}
 use Rattle.epx_types.specs.Components.{InOneComponent}
@@ -39,11 +36,3 @@ pub record IsLawfulFor (m : List Instance) (Member : Id → Type 0) (ids : List 
 
 abbrev pub IsLawful : List Instance → List Id → Type 0
 IsLawful m ids = IsLawfulFor m (IsReady m) ids
-
-abbrev pub ops_or_empty : Option Instance → List Op
-ops_or_empty None = []
-ops_or_empty (Some e) = e.ops
-
--- the commands of some instances of a map
-abbrev pub commands_in : List Instance → List Id → List (List Op)
-commands_in m ids = map (λ x. ops_or_empty (instance_of m x)) ids

@@ -24,6 +24,7 @@ pub mod LawfulBeginnings
 pub mod Conflicts
 pub mod Levels
 pub mod Rearrangements
+pub mod Limits
 pub mod Pieces
 pub mod Done
 pub mod Sound

@@ -7,7 +7,8 @@ use Rattle.epx_types.specs.Contents.{Contents}
 use Rattle.epx_types.specs.Execution.{execute}
 use Rattle.epx_types.specs.Readiness.{IsReady}
 use Rattle.epx_types.specs.Reaching.{Reaches}
-use Rattle.epx_types.specs.LawfulOrders.{IsLawfulFor, commands_in}
+use Rattle.epx_types.specs.CommittedMap.{commands_in}
+use Rattle.epx_types.specs.LawfulOrders.{IsLawfulFor}
 
 -- The done instances are ready and include all that they reach. Some list that is lawful for them
 -- leaves the contents c, executed from the empty contents

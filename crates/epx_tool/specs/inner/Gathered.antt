@@ -4,7 +4,7 @@ use Rattle.std.specs.Prelude.{length, slice_index_or, slice_set}
 use Rattle.epx_devices.specs.Deliveries.{ReadRelation}
 use Rattle.epx_devices.specs.LogParts.{IsReadUpTo}
 use Rattle.epx_lines.specs.Lines.{lines_of}
-use Rattle.epx_merge.specs.Limits.{max_log_bytes}
+use Rattle.epx_types.specs.Limits.{max_log_bytes}
 use Rattle.epx_merge.specs.LogLines.{MeaningAt}
 use Rattle.epx_merge.specs.LogParts.{EndsLine, lines_so_far}
 use Rattle.epx_tool.specs.declared.gathered_lines.Position.{Position}

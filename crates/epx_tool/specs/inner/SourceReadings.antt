@@ -10,7 +10,7 @@ use Rattle.epx_types.specs.declared.fault.Fault.TheVariants.{Write}
 use Rattle.epx_types.specs.Instances.{Instance}
 use Rattle.epx_devices.specs.Deliveries.{FailRelation, ReadRelation}
 use Rattle.epx_merge.specs.Acceptance.{IsAccepted}
-use Rattle.epx_merge.specs.Limits.{max_log_bytes}
+use Rattle.epx_types.specs.Limits.{max_log_bytes}
 use Rattle.epx_merge.specs.LogLines.{bytes_of}
 use Rattle.epx_merge.specs.Refusals.{FitLimits, IsRefusal}
 use Rattle.epx_tool.specs.Delivered.{EachDelivers, FirstDeliver, StopsReading}

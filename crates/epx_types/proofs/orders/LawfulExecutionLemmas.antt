@@ -10,11 +10,11 @@ use Rattle.epx_types.specs.Ids.{IsRising}
 use Rattle.epx_types.specs.Instances.{Instance}
 use Rattle.epx_types.specs.Contents.{Contents}
 use Rattle.epx_types.specs.Conflicts.{Conflict, IsCovered}
-use Rattle.epx_types.specs.CommittedMap.{ids_of, instance_of}
+use Rattle.epx_types.specs.CommittedMap.{ids_of, instance_of, ops_or_empty, commands_in}
 use Rattle.epx_types.specs.Execution.{execute}
 use Rattle.epx_types.specs.Reaching.{Reaches}
 use Rattle.epx_types.specs.Readiness.{IsReady}
-use Rattle.epx_types.specs.LawfulOrders.{Before, IsLawful, ops_or_empty, commands_in}
+use Rattle.epx_types.specs.LawfulOrders.{Before, IsLawful}
 use Rattle.epx_types.proofs.committed.AgreementLemmas.{instance_of_iff}
 use Rattle.epx_types.proofs.commands.ExecutionLemmas.{length-replies}
 use Rattle.epx_types.proofs.orders.LawfulOrderLemmas.{Before-in_first, Before-in_second}

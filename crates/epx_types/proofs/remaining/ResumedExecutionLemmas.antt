@@ -12,14 +12,14 @@ use Rattle.epx_types.specs.declared.reply.Reply.TheVariants.{Abort}
 use Rattle.epx_types.specs.Ids.{IsRising}
 use Rattle.epx_types.specs.Instances.{Instance}
 use Rattle.epx_types.specs.Contents.{Contents}
-use Rattle.epx_types.specs.CommittedMap.{ids_of, instance_of}
+use Rattle.epx_types.specs.CommittedMap.{ids_of, instance_of, ops_or_empty, commands_in}
 use Rattle.epx_types.specs.Conflicts.{IsCovered}
 use Rattle.epx_types.specs.Execution.{execute}
 use Rattle.epx_types.specs.Reaching.{Reaches}
 use Rattle.epx_types.specs.Readiness.{IsReady}
 use Rattle.epx_types.specs.Done.{remaining, remaining_ids}
 use Rattle.epx_types.specs.Sound.{IsSound, HasRemaining}
-use Rattle.epx_types.specs.LawfulOrders.{IsLawfulFor, IsLawful, ops_or_empty, commands_in}
+use Rattle.epx_types.specs.LawfulOrders.{IsLawfulFor, IsLawful}
 use Rattle.epx_types.proofs.remaining.RemainingLemmas.{remaining-nil}
 use Rattle.epx_types.proofs.commands.ExecutionLemmas.{length-replies, execute-append}
 use Rattle.epx_types.proofs.lists.MembershipLemmas.{Contains-nil}

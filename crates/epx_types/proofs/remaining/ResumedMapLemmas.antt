@@ -4,14 +4,13 @@ use Rattle.std.proofs.Common.{◌≡◌, ◌⊎◌, List, Contains, sym, ap, ◌
 use Rattle.epx_types.specs.declared.id.Id.{Id}
 use Rattle.epx_types.specs.Ids.{IsRising}
 use Rattle.epx_types.specs.Instances.{Instance}
-use Rattle.epx_types.specs.CommittedMap.{ids_of, instance_of, IsCommitted}
+use Rattle.epx_types.specs.CommittedMap.{ids_of, instance_of, ops_or_empty, commands_in, IsCommitted}
 use Rattle.epx_types.specs.Reaching.{DependsOn, Reaches}
 use Rattle.epx_types.specs.Readiness.{IsReady}
 use Rattle.epx_types.specs.Components.{InOneComponent}
 use Rattle.epx_types.specs.Done.{without_deps, remaining}
 use Rattle.epx_types.specs.Sound.{HasRemaining}
-use Rattle.epx_types.specs.LawfulOrders.{Before, SequenceBefore, IsLawful, ops_or_empty}
-use Rattle.epx_types.specs.LawfulOrders.{commands_in}
+use Rattle.epx_types.specs.LawfulOrders.{Before, SequenceBefore, IsLawful}
 use Rattle.epx_types.proofs.lists.MembershipLemmas.{Contains-from_map, map-agree}
 use Rattle.epx_types.proofs.committed.AgreementLemmas.{IsRising-same, instance_of-found}
 use Rattle.epx_types.proofs.committed.AgreementLemmas.{instance_of-finds, instance_of_iff}

@@ -1,7 +1,7 @@
 use Rattle.std.proofs.Common.{◌≡◌, ◌≤◌, List, [], Vec, ℕ, length, arith}
 use Rattle.std.proofs.lemmas.List.{length-map}
 use Rattle.std.specs.declared.alloc.Global.{Global}
-use Rattle.epx_merge.specs.Limits.{max_logs}
+use Rattle.epx_types.specs.Limits.{max_logs}
 use Rattle.epx_merge.specs.LogLines.{MeaningAt, bytes_of, meanings_of}
 use Rattle.epx_merge.specs.Refusals.{NoneTooLong}
 use Rattle.epx_versions.specs.declared.noted_lines.NotedLines.{NotedLines}

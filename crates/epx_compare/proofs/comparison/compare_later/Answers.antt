@@ -2,7 +2,7 @@ use Rattle.std.proofs.Common.{◌≡◌, ◌∙◌, ◌∷◌, ◌++◌, ◌+◌
 use Rattle.std.proofs.Common.{rules}
 use Rattle.std.proofs.lemmas.List.{length-map}
 use Rattle.std.specs.declared.alloc.Global.{Global}
-use Rattle.epx_merge.specs.Limits.{max_logs}
+use Rattle.epx_types.specs.Limits.{max_logs}
 use Rattle.epx_merge.specs.LogLines.{MeaningAt, bytes_of, meanings_from, meanings_of}
 use Rattle.epx_merge.specs.Refusals.{NoneTooLong}
 use Rattle.epx_merge.proofs.LaterLogLemmas.{few_with_later, lines_with_later}

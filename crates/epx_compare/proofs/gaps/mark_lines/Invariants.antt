@@ -1,6 +1,6 @@
 use Rattle.std.proofs.Common.{◌≡◌, ℕ, ◌<◌, length, take}
 use Rattle.std.specs.List.{list_any}
-use Rattle.epx_merge.specs.Limits.{max_logs}
+use Rattle.epx_types.specs.Limits.{max_logs}
 use Rattle.epx_compare.specs.inner.LogMarks.{is_line_in, is_marked}
 use Rattle.epx_compare.proofs.gaps.mark_lines.Given as goal
 

@@ -1,6 +1,6 @@
 use Rattle.std.proofs.Common.{◌≤◌, length, arith, rules}
 use Rattle.std.proofs.lemmas.List.{length-map}
-use Rattle.epx_merge.specs.Limits.{max_logs}
+use Rattle.epx_types.specs.Limits.{max_logs}
 use Rattle.epx_merge.specs.LogLines.{meanings_of, bytes_of}
 use Rattle.epx_merge.specs.inner.NotedLines.{IsNoting}
 use Rattle.epx_merge.proofs.read.read_logs.Goals as goal

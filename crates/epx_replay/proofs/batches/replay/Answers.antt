@@ -1,8 +1,7 @@
 use Rattle.std.proofs.Common.{◌≡◌, ◌≤◌, ◌<◌, ◌∙◌, drop, length, slice_range, sym, subst, rules}
 use Rattle.std.proofs.lemmas.List.{length-map}
 use Rattle.std.proofs.lemmas.List.Folds.{drop_split}
-use Rattle.epx_types.specs.CommittedMap.{instance_of}
-use Rattle.epx_replay.specs.FoundCommands.{commands_by_id, ops_found}
+use Rattle.epx_types.specs.CommittedMap.{instance_of, ops_or_empty, commands_in}
 use Rattle.epx_replay.specs.Replays.{Executes}
 use Rattle.epx_replay.proofs.ReplayLemmas.{as_many_in_range, map-range, replay_goes_on}
 use Rattle.epx_replay.proofs.batches.replay.Goals as goal
@@ -15,14 +14,14 @@ loop-end-preserved g c =
     let end = c.loop-end.end in
     let next = c.loop-end.next in
     let after = c.min-after.result in
-    let commands = commands_by_id m ids in
+    let commands = commands_in m ids in
     let order : next ≤ after = search rules in
     let within : after ≤ length ids = search rules in
     let on : next < length ids → next < after = λ l. search rules in
     let same : length ids ≡ length commands =
-    sym (length-map ids (λ x. ops_found (instance_of m x)))
+    sym (length-map ids (λ x. ops_or_empty (instance_of m x)))
     in
-    let found = h.4 ∙ map-range (λ x. ops_found (instance_of m x)) ids end next in
+    let found = h.4 ∙ map-range (λ x. ops_or_empty (instance_of m x)) ids end next in
     let ran = subst (λ ops. Executes ops c.loop-end.store c.in_ok-executed.executed.store
     c.in_ok-executed.executed.replies.items) found c.in_ok-executed.ensures.ran in (
       h.1,

@@ -1,11 +1,9 @@
 use Rattle.std.proofs.Common.{◌≡◌, ◌++◌, ◌∙◌, map, flat_map, refl, ap, rules}
 use Rattle.std.proofs.lemmas.List.{map-append}
 use Rattle.epx_types.specs.declared.command.Command.{Command}
-use Rattle.epx_types.specs.CommittedMap.{instance_of}
+use Rattle.epx_types.specs.CommittedMap.{instance_of, ops_or_empty, commands_in}
 use Rattle.epx_claims.specs.inner.PieceItems.{items_of_piece}
 use Rattle.epx_claims.proofs.JoinedPieceLemmas.{parts_joined}
-use Rattle.epx_replay.specs.FoundCommands.{ops_found}
-use Rattle.epx_replay.specs.FoundCommands.{commands_by_id}
 use Rattle.epx_replay.proofs.ReplayLemmas.{map-flat_map}
 use Rattle.epx_replay.proofs.commands.all_commands.Goals as goal
 
@@ -21,13 +19,13 @@ returns g c =
     c.in_ok-all.ensures.items in
     ap (map (λ (c : Command). c.ops.now)) joined
     ∙ map-flat_map (λ (c : Command). c.ops.now) (λ part. part.items) c.in_ok-parts.parts.items
-    ∙ parts_joined cut c.pieces-pieces.ensures.fits.some_item (commands_by_id m) refl
-    (map-append (λ x. ops_found (instance_of m x))) ids
+    ∙ parts_joined cut c.pieces-pieces.ensures.fits.some_item (commands_in m) refl
+    (map-append (λ x. ops_or_empty (instance_of m x))) ids
     (λ part. map (λ (c : Command). c.ops.now) part.items) c.in_ok-parts.parts.items
     (done.len ∙ count)
     (λ i inside.
     let part = done.each i (rw count inside) in
     let answer = part.2 in
     let is : map (λ (c : Command). c.ops.now) part.0.items
-    ≡ commands_by_id m (items_of_piece cut ids i) = search rules in
+    ≡ commands_in m (items_of_piece cut ids i) = search rules in
     (part.0, part.1, is))

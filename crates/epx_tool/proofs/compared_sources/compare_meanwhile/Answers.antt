@@ -1,5 +1,5 @@
 use Rattle.std.proofs.Common.{◌≤◌, ◌∷◌, [], List, ℕ, length, inl, subst, arith, rules}
-use Rattle.epx_merge.specs.Limits.{max_logs}
+use Rattle.epx_types.specs.Limits.{max_logs}
 use Rattle.epx_compare.specs.LaterLogComparisons.{IsComparisonResult, IsComparisonWith}
 use Rattle.epx_tool.specs.inner.SourceReadings.{EndsMaking}
 use Rattle.epx_tool.proofs.MergedSourceLemmas.{compared_with}

@@ -1,6 +1,6 @@
 use Rattle.std.proofs.Common.{refl, sym, subst}
 use Rattle.epx_types.specs.WaitingLists.{IsWaitingList}
-use Rattle.epx_replay.specs.FoundCommands.{commands_by_id}
+use Rattle.epx_types.specs.CommittedMap.{commands_in}
 use Rattle.epx_tool.proofs.ReportLemmas.{IsLevelText-printed}
 use Rattle.epx_tool.proofs.map_texts.levels_of.Goals as goal
 
@@ -8,7 +8,7 @@ pub returns-clause-text : goal.returns-clause-text
 returns-clause-text g c =
     let m = c.args.merged.now in
     let ids = c.ids.result.now in
-    IsLevelText-printed m c.in_ok-order.order c.deref-2.result.now (commands_by_id m ids) ids
+    IsLevelText-printed m c.in_ok-order.order c.deref-2.result.now (commands_in m ids) ids
     c.in_ok-levels.levels c.in_ok-text.text.items
     (c.in_ok-order.ensures.whole c.in_ok-graph.ensures.graph)
     (subst (IsWaitingList m) (sym c.deref-2.ensures.value)

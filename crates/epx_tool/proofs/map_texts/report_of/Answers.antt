@@ -2,7 +2,7 @@ use Rattle.std.proofs.Common.{refl, sym, ap, subst, ◌∙◌}
 use Rattle.epx_types.specs.Done.{remaining}
 use Rattle.epx_types.specs.Execution.{execute}
 use Rattle.epx_types.specs.WaitingLists.{IsWaitingList}
-use Rattle.epx_replay.specs.FoundCommands.{commands_by_id}
+use Rattle.epx_types.specs.CommittedMap.{commands_in}
 use Rattle.epx_tool.specs.inner.ReportParts.{opening_text}
 use Rattle.epx_tool.proofs.ReportLemmas.{few_ids, IsReportAfter-printed}
 use Rattle.epx_tool.proofs.ReportPartsLemmas.{resumed_text-parts}
@@ -21,7 +21,7 @@ returns-clause-text g c =
     let order = c.in_ok-order.order in
     let ids = c.ids.result.now in
     let waiting = c.deref-3.result.now in
-    let commands = commands_by_id m ids in
+    let commands = commands_in m ids in
     let replies = (execute commands c.args.store).replies in
     let opening = c.in_ok-text.ensures ∙ ap (opening_text done order)
     (c.deref-2.ensures.value ∙ sym c.deref-3.ensures.value) in
