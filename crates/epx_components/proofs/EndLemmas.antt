@@ -64,9 +64,15 @@ end_partition edges n s component from to w len is =
           (is j (omega arith) ∙ ap Closed (sym e));
       counted = All-from_get_or (λ c. c < s.count) component 0
           (λ k l. w.finished.counted k _ (is k (omega arith)));
+      each = λ c l.
+          let e = w.finished.each c l in
+          let low : e.0 < length component =
+          omega (arith, closed_below edges n n s e.0 c w e.1) in
+          (e.0, low, get_or_default component e.0 c 0 low ∙ number e.0 c e.1);
       listed = λ k l. w.finished.listed k _ (is k (omega arith));
       nodes = All-from_get_or (λ k. k < length component) s.order 0
           (λ i l. omega (arith, below i l));
+      once = w.finished.once;
       sorted = λ i j le l. w.finished.sorted i j _ _ le l (is _ (below i (omega arith)))
           (is _ (below j l));
     }

@@ -53,6 +53,14 @@ finish_last_group edges n seen s visits start w at in' last off =
     (is_closed start s.count _ _ _ (at _)
     (w.row.is_open_at (start + (i - length s.order))
     (omega (arith, length-append s.order group, length-drop start s.opened))) (omega arith)) in
+    let was_open : (i : ℕ) → length s.order ≤ i → i < length all
+    → visit_of s.visits (get_or all i 0) ≡ Open (start + (i - length s.order)) = λ i le l.
+    rw (
+      get_or-append_right s.order group (length s.order) i 0 refl le,
+      get_or-drop start s.opened (i - length s.order) 0,
+    )
+    (w.row.is_open_at (start + (i - length s.order))
+    (omega (arith, length-append s.order group, length-drop start s.opened))) in
     record {
       counted = counted;
       joined = λ k j c ek ej. elim (was k c ek) [
@@ -100,6 +108,40 @@ finish_last_group edges n seen s visits start w at in' last off =
             let same : Closed s.count ≡ Closed d = sym (now j h l) ∙ ej in
             let d_is : s.count ≡ d = cc in
             omega (arith, counted _ c ei)
+      ];
+      once = λ i j l h same. elim (cases_lt j (length s.order)) [
+        | inl before ↦ w.finished.once i j l before
+            (sym (get_or_append_left s.order group 0 i (omega arith))
+            ∙ (same ∙ get_or_append_left s.order group 0 j before))
+        | inr after ↦
+            let at_j = was_open j (omega arith) h in
+            elim (cases_lt i (length s.order)) [
+              | inl before ↦
+                  let c = w.finished.closed i before in
+                  let at_i : visit_of s.visits (get_or all i 0) ≡ Closed c.0 =
+                  rw (get_or_append_left s.order group 0 i before) c.1 in
+                  let wrong : Closed c.0 ≡ Open (start + (j - length s.order)) =
+                  sym at_i ∙ (ap (visit_of s.visits) same ∙ at_j) in
+                  cc
+              | inr both ↦
+                  let at_i = was_open i (omega arith) (omega arith) in
+                  let one : Open (start + (i - length s.order))
+                  ≡ Open (start + (j - length s.order)) =
+                  sym at_i ∙ (ap (visit_of s.visits) same ∙ at_j) in
+                  let position : start + (i - length s.order) ≡ start + (j - length s.order) =
+                  cc in
+                  absurd (omega (arith, position, l, both))
+            ]
+      ];
+      each = λ c l. elim (cases_lt c s.count) [
+        | inl less ↦
+            let e = w.finished.each c less in
+            (e.0, stays_closed start s.count _ _ c (at _) e.1)
+        | inr more ↦
+            let is : s.count ≡ c = omega arith in
+            let first = now (length s.order) (omega arith)
+            (omega (arith, length-append s.order group, length-drop start s.opened)) in
+            (get_or all (length s.order) 0, first ∙ ap Closed is)
       ];
       count_below = omega (
         arith,

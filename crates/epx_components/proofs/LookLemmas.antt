@@ -73,6 +73,8 @@ look_keeps edges n seen s k p w is left leads =
         listed = w.finished.listed;
         closed = w.finished.closed;
         sorted = w.finished.sorted;
+        once = w.finished.once;
+        each = w.finished.each;
         count_below = w.finished.count_below;
       };
     }

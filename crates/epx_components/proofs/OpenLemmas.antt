@@ -66,6 +66,8 @@ enter_finished edges visits looked_at order count k m d l un =
       listed = λ j c h. d.listed j c (back j c h);
       closed = λ i h. ((d.closed i h).0, on _ _ (d.closed i h).1);
       sorted = λ i j b c le h e g. d.sorted i j b c le h (back _ b e) (back _ c g);
+      once = d.once;
+      each = λ c h. ((d.each c h).0, on _ c (d.each c h).1);
       count_below = d.count_below;
     }
 

@@ -1,7 +1,7 @@
 -- The components of a graph's nodes, numbered so that no edge leads to a component with a greater
 -- number.
-use Rattle.std.specs.Prelude.{◌≡◌, ℕ, ◌<◌, ◌≤◌, List, length, slice_index, slice_index_or, Bool}
-use Rattle.std.specs.Prelude.{false, Contains, All}
+use Rattle.std.specs.Prelude.{◌≡◌, ◌≢◌, ℕ, ◌<◌, ◌≤◌, List, length, slice_index, Bool}
+use Rattle.std.specs.Prelude.{slice_index_or, false, Contains, All}
 use Rattle.epx_graph.specs.Graphs.{DependencyGraph, edges_of}
 use Rattle.epx_graph.specs.NodePaths.{NodeReaches}
 use Rattle.epx_components.specs.declared.partition.Partition.{Partition}
@@ -30,10 +30,14 @@ pub record IsPartition (edges : ℕ → List ℕ) (p : ComponentParts) : Type 0 
   pub within : (k j : ℕ) → Contains (edges k) j → j < length p.component
   pub falls : EdgesFall edges p.component
   pub joined : MembersReach edges p.component
+  -- the components in use are those below the count
   pub counted : All (λ c. c < p.count) p.component
-  -- the order has each node, by rising component
+  pub each : (c : ℕ) → c < p.count → Contains p.component c
+  -- the order has each node once, by rising component
   pub listed : (k : ℕ) → k < length p.component → Contains p.order k
   pub nodes : All (λ k. k < length p.component) p.order
+  pub once : (i j : ℕ) → i < j → j < length p.order
+      → slice_index p.order i ≢ slice_index p.order j
   pub sorted : (i j : ℕ) → i ≤ j → j < length p.order
       → slice_index p.component (slice_index p.order i)
       ≤ slice_index p.component (slice_index p.order j)

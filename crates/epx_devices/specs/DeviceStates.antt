@@ -28,6 +28,8 @@ FailsReader remaining s t = Keeps (remaining s.reader) (remaining t.reader)
 
 pub record WriterState (W : Type 0) : Type 0 where
   pub writer : W
+  -- all bytes that it has accepted
+  pub taken : List ℕ
   -- a flush succeeded, and nothing was written after it
   pub flushed : Bool
   pub failed : Bool

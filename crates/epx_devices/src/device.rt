@@ -48,7 +48,7 @@ pub trait Source {
 /// A device to which bytes are written.
 pub trait Sink {
     // The bytes that the sink has accepted, if they are known.
-    ghost contents: { Self → Option (List ℕ) } = { λ _. None };
+    ghost contents: { Self → Option (List ℕ) };
 
     // Whether the sink buffers none of the bytes that it has accepted.
     ghost is_flushed: { Self → Bool };

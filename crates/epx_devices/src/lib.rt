@@ -14,10 +14,10 @@ mod memory_source;
 mod opener;
 mod path_source;
 mod retry;
-mod returned;
 mod std_sink;
 mod std_source;
 mod transfer;
+mod transferred;
 
 pub use device::{DeviceFault, Sink, Source};
 pub use either_source::EitherSource;

@@ -1,8 +1,12 @@
 //! A sink over std's writers.
-ghost use Rattle.std.specs.Prelude.{◌≡◌, false};
+ghost use Rattle.std.specs.Prelude.{◌≡◌, true, false, Some, [], OnOk};
+ghost use Rattle.std.specs.Io.{WritesAtMost};
+ghost use Rattle.std.specs.Io.KnownBytes.{Keeps, WriteAppends};
+ghost use Rattle.epx_devices.specs.Devices.{AcceptsSome, failed_after};
 
 use crate::device::{DeviceFault, Sink};
 use crate::retry::{retry_flush, retry_write};
+use crate::transferred::Transferred;
 use std::io::Write;
 use std::marker::Model;
 
@@ -11,6 +15,7 @@ use std::marker::Model;
 #[derive(Drop)]
 pub struct StdSink<W> {
     writer: W,
+    taken: Transferred,
     flushed: bool,
     failed: bool,
 }
@@ -20,15 +25,22 @@ impl<W> Model for StdSink<W> {
 
     ghost Value = { WriterState W };
 
-    ghost view = { λ s. record { writer = s.writer; flushed = s.flushed; failed = s.failed } };
+    ghost view = { λ s. record {
+      writer = s.writer;
+      taken = s.taken.bytes;
+      flushed = s.flushed;
+      failed = s.failed;
+    } };
 }
 
 impl<W: Write> StdSink<W> {
     pub fn new(writer: W) -> StdSink<W>
-        ensures { result ≡ record { writer = writer; flushed = false; failed = false } }
+        ensures { result
+            ≡ record { writer = writer; taken = []; flushed = false; failed = false } }
     {
         StdSink {
             writer,
+            taken: Transferred::new(),
             flushed: false,
             failed: false,
         }
@@ -36,16 +48,27 @@ impl<W: Write> StdSink<W> {
 }
 
 impl<W: Write> Sink for StdSink<W> {
-    ghost contents = { λ s. W.contents s.writer };
+    ghost contents = { λ s. Some s.taken };
 
     ghost is_flushed = { λ s. s.flushed };
 
     ghost has_failed = { λ s. s.failed };
 
-    fn write_some(&mut self, part: &[u8]) -> Result<usize, DeviceFault> {
+    fn write_some(&mut self, part: &[u8]) -> Result<usize, DeviceFault>
+        ensures bound { WritesAtMost result part.now }
+        ensures some { AcceptsSome result part.now }
+        ensures bytes { WriteAppends (Some self.old.taken) (Some self.new.taken) result part.now }
+        ensures failures { self.new.failed ≡ failed_after self.old.failed result }
+
+        ensures written { WriteAppends (W.contents self.old.writer) (W.contents self.new.writer)
+            result part.now }
+    {
         self.flushed = false;
         match retry_write(&mut self.writer, part) {
-            Ok(count) if count > 0 || part.is_empty() => Ok(count),
+            Ok(count) if count > 0 || part.is_empty() => {
+                self.taken.note(&part[..count]);
+                Ok(count)
+            }
             _ => {
                 self.failed = true;
                 Err(DeviceFault)
@@ -53,7 +76,13 @@ impl<W: Write> Sink for StdSink<W> {
         }
     }
 
-    fn flush(&mut self) -> Result<(), DeviceFault> {
+    fn flush(&mut self) -> Result<(), DeviceFault>
+        ensures flushed { OnOk result (self.new.flushed ≡ true) }
+        ensures bytes { Keeps (Some self.old.taken) (Some self.new.taken) }
+        ensures failures { self.new.failed ≡ failed_after self.old.failed result }
+
+        ensures kept { Keeps (W.contents self.old.writer) (W.contents self.new.writer) }
+    {
         match retry_flush(&mut self.writer) {
             Ok(()) => {
                 self.flushed = true;

@@ -4,7 +4,7 @@ ghost use Rattle.epx_devices.specs.DeviceStates.{FailsReader, ReadsReader};
 
 use crate::device::{DeviceFault, Source};
 use crate::retry::retry_read;
-use crate::returned::Returned;
+use crate::transferred::Transferred;
 use std::io::Read;
 use std::marker::Model;
 
@@ -12,7 +12,7 @@ use std::marker::Model;
 #[derive(Drop)]
 pub struct StdSource<R> {
     reader: R,
-    returned: Returned,
+    returned: Transferred,
     failed: bool,
 }
 
@@ -34,7 +34,7 @@ impl<R: Read> StdSource<R> {
     {
         StdSource {
             reader,
-            returned: Returned::new(),
+            returned: Transferred::new(),
             failed: false,
         }
     }

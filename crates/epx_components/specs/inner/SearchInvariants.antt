@@ -35,6 +35,8 @@ pub record AreFinished (edges : ℕ → List ℕ) (visits : List Visit) (looked_
   pub sorted : (i j c d : ℕ) → i ≤ j → j < length order
       → visit_of visits (slice_index order i) ≡ Closed c
       → visit_of visits (slice_index order j) ≡ Closed d → c ≤ d
+  pub once : (i j : ℕ) → i < j → j < length order → slice_index order i ≢ slice_index order j
+  pub each : (c : ℕ) → c < count → (k : ℕ) × (visit_of visits k ≡ Closed c)
   pub count_below : count ≤ length order
 
 -- a search of n nodes that has seen all nodes below `seen`

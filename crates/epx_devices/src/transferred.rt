@@ -1,4 +1,4 @@
-//! The bytes that a source has returned, for clauses alone.
+//! The bytes that a device has transferred, for clauses alone.
 ghost use Rattle.std.specs.Prelude.{◌≡◌, ℕ, List, [], ◌++◌};
 ghost use Rattle.std.specs.Borrow.{ftrue};
 
@@ -6,24 +6,25 @@ use std::marker::{Model, PhantomData};
 
 /// A list of bytes that only clauses read. It takes no memory.
 #[derive(Drop)]
-pub(crate) struct Returned {
+pub(crate) struct Transferred {
     marker: PhantomData<u8>,
     pub ghost bytes: { List ℕ },
 }
 
-impl Model for Returned {
+impl Model for Transferred {
     ghost also_owns = { λ _. ftrue };
 }
 
-impl Returned {
-    pub(crate) fn new() -> Returned
+impl Transferred {
+    pub(crate) fn new() -> Transferred
         ensures { result.bytes ≡ [] }
     {
-        Returned {
+        Transferred {
             marker: PhantomData,
         }
     }
 
+    /// Appends these bytes.
     pub(crate) fn note(&mut self, _part: &[u8])
         ensures { self.new.bytes ≡ self.old.bytes ++ _part.now }
     {}

@@ -21,17 +21,17 @@ use denote.Triple.Entry.{on_entry}
 use denote.Triple.Spec.{Meets, triple_of}
 use denote.Triple.Table.{entered}
 use denote.Triple.Walked.{says, ends_at, walked, walk_Meets}
-use Rattle.epx_devices.specs.declared.returned.Returned.{Returned}
-use Rattle.epx_devices.specs.contracts.returned.Returned as T
-use Rattle.epx_devices.specs.contracts.returned.Returned.new.Key.{name as #it}
-use Rattle.epx_devices.specs.contracts.returned.Returned.new as it
-use Rattle.epx_devices.proofs.returned.Returned.new.Statement as stated
-use Rattle.epx_devices.proofs.returned.Returned.new.Code as code
+use Rattle.epx_devices.specs.declared.transferred.Transferred.{Transferred}
+use Rattle.epx_devices.specs.contracts.transferred.Transferred as T
+use Rattle.epx_devices.specs.contracts.transferred.Transferred.new.Key.{name as #it}
+use Rattle.epx_devices.specs.contracts.transferred.Transferred.new as it
+use Rattle.epx_devices.proofs.transferred.Transferred.new.Statement as stated
+use Rattle.epx_devices.proofs.transferred.Transferred.new.Code as code
 
 abbrev v : Val
 v = vstruct (vcons (vstruct vnil) vnil)
 
-abbrev r : Returned
+abbrev r : Transferred
 r = record { marker = record {}; bytes = [] }
 
 meets : {M : Type 1} {𝓤 : Ura M} (𝓛 : Logic 𝓤) → (at_mem : Memory → SProp 𝓤) (run : Routine → Fun 𝓤) (𝓣 : Tables 𝓤 𝓛.H)

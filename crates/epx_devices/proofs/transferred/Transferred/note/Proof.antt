@@ -25,12 +25,12 @@ use denote.Triple.Entry.{on_entry}
 use denote.Triple.Spec.{Meets, triple_of}
 use denote.Triple.Table.{entered}
 use denote.Triple.Walked.{says, Stays, stay_ref, walk_of, AllGo, Goes-ref, Walks, ends_at, walked, walk_Meets}
-use Rattle.epx_devices.specs.declared.returned.Returned.{Returned}
-use Rattle.epx_devices.specs.contracts.returned.Returned as T
-use Rattle.epx_devices.specs.contracts.returned.Returned.note.Key.{name as #it}
-use Rattle.epx_devices.specs.contracts.returned.Returned.note as it
-use Rattle.epx_devices.proofs.returned.Returned.note.Statement as stated
-use Rattle.epx_devices.proofs.returned.Returned.note.Code as code
+use Rattle.epx_devices.specs.declared.transferred.Transferred.{Transferred}
+use Rattle.epx_devices.specs.contracts.transferred.Transferred as T
+use Rattle.epx_devices.specs.contracts.transferred.Transferred.note.Key.{name as #it}
+use Rattle.epx_devices.specs.contracts.transferred.Transferred.note as it
+use Rattle.epx_devices.proofs.transferred.Transferred.note.Statement as stated
+use Rattle.epx_devices.proofs.transferred.Transferred.note.Code as code
 use denote.Ref.{Bor}
 use denote.Builtin.{u8}
 use denote.Exit.{yes}
@@ -39,18 +39,18 @@ use denote.Triple.Walked.{stay_none_slice, Goes-none_slice}
 use Rattle.std.proofs.Common.{◌<◌, ◌^◌, length}
 
 abbrev Arg : Type 0
-Arg = MutBor Returned × (Bor (List ℕ) × Unit {0})
+Arg = MutBor Transferred × (Bor (List ℕ) × Unit {0})
 
 abbrev stayed : Stays (it.ended).signature.params (it.ended).kept
 stayed = (stay_ref (0 ∷ []) tt (plain (λ _. T.the_row)), (stay_none_slice (1 ∷ []) tt (plain (λ _. u8)) yes, tt))
 
-module _ {M : Type 1} {𝓤 : Ura M} (𝓛 : Logic 𝓤) (at_mem : Memory → SProp 𝓤) (run : Routine → Fun 𝓤) (κ κ' : Lft) (q q' : Share) (b o : ℕ) (γ : GName) (h : Returned) (k : Bor (List ℕ)) where
+module _ {M : Type 1} {𝓤 : Ura M} (𝓛 : Logic 𝓤) (at_mem : Memory → SProp 𝓤) (run : Routine → Fun 𝓤) (κ κ' : Lft) (q q' : Share) (b o : ℕ) (γ : GName) (h : Transferred) (k : Bor (List ℕ)) where
   open 𝓛 use {H, A}
 
   abbrev x : Arg
   x = (record { ref_ptr = (b, o); ghost_name = γ; now = h }, (k, tt))
 
-  abbrev h' : Returned
+  abbrev h' : Transferred
   h' = record { marker = h.marker; bytes = h.bytes ++ k.now }
 
   abbrev at : List Val × (List Val × Unit {0})
