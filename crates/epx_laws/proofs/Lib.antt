@@ -2,3 +2,11 @@ mod ComponentCountLemmas
 mod LargerMapLemmas
 mod BeginningLemmas
 mod RemainingReadinessLemmas
+mod RenamedContentsLemmas
+mod RenamedExecutionLemmas
+mod RenamedConflictLemmas
+mod RenamedAnswerLemmas
+mod SameGraphLemmas
+mod RenamedMapLemmas
+mod NameLemmas
+mod RenamedLineLemmas

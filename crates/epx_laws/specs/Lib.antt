@@ -12,3 +12,5 @@ pub mod BeginningLaws
 pub mod ResumedRunLaws
 pub mod ComparisonLaws
 pub mod AtMostOne
+pub mod Renaming
+pub mod RenamingLaws

@@ -14,4 +14,5 @@ pub mod levels;
 pub mod order;
 pub mod pieces;
 pub mod reaching;
+pub mod renaming;
 pub mod resumed_runs;

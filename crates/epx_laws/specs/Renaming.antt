@@ -1,0 +1,82 @@
+-- Renamings of keys and values, and what they make of commands, replies, contents, instances and
+-- lines.
+use Rattle.std.specs.Prelude.{◌≡◌, ℕ, ℤ, Bool, true, false, List, map, Contains, Option}
+use Rattle.std.specs.Prelude.{option_map}
+use Rattle.std.specs.FinMap as contents
+use Rattle.epx_types.specs.declared.op.Op.{Op}
+use Rattle.epx_types.specs.declared.op.Op.TheVariants.{Get, Put, Del, Add, Is, Floor, Copy}
+use Rattle.epx_types.specs.declared.reply.Reply.{Reply}
+use Rattle.epx_types.specs.declared.reply.Reply.TheVariants.{Values, Abort}
+use Rattle.epx_types.specs.Instances.{Instance}
+use Rattle.epx_types.specs.PlacedLines.{Placed}
+use Rattle.epx_types.specs.Contents.{Contents}
+use Rattle.epx_types.specs.Execution.{Execution}
+
+-- different arguments have different results
+abbrev pub IsInjective : {X Y : Type 0} → (X → Y) → Type 0
+IsInjective {X} f = (x y : X) → f x ≡ f y → x ≡ y
+
+-- a renaming: a function of keys and a function of values, each injective
+pub record Renaming : Type 0 where
+  pub key : List ℕ → List ℕ
+  pub value : ℤ → ℤ
+  pub keys_injective : IsInjective key
+  pub values_injective : IsInjective value
+
+-- absence has no other name
+abbrev pub renamed_value : Renaming → Option ℤ → Option ℤ
+renamed_value r v = option_map r.value v
+
+-- amounts and bounds are not values of keys, and stay
+abbrev pub renamed_op : Renaming → Op → Op
+renamed_op r (Get k) = Get (r.key k)
+renamed_op r (Put k v) = Put (r.key k) (r.value v)
+renamed_op r (Del k) = Del (r.key k)
+renamed_op r (Add k n) = Add (r.key k) n
+renamed_op r (Is k v) = Is (r.key k) (renamed_value r v)
+renamed_op r (Floor k least) = Floor (r.key k) least
+renamed_op r (Copy k j) = Copy (r.key k) (r.key j)
+
+abbrev pub renamed_command : Renaming → List Op → List Op
+renamed_command r ops = map (renamed_op r) ops
+
+abbrev pub renamed_commands : Renaming → List (List Op) → List (List Op)
+renamed_commands r commands = map (renamed_command r) commands
+
+abbrev pub renamed_reply : Renaming → Reply → Reply
+renamed_reply r (Values got) = Values (map (renamed_value r) got)
+renamed_reply r (Abort j) = Abort j
+
+abbrev pub renamed_contents : Renaming → Contents → Contents
+renamed_contents r c = contents.from_entries
+    (map (λ e. (r.key e.0, r.value e.1)) (contents.entries c))
+
+abbrev pub renamed_execution : Renaming → Execution → Execution
+renamed_execution r e =
+    record { replies = map (renamed_reply r) e.replies; final = renamed_contents r e.final }
+
+-- Id, sequence number and dependencies stay
+abbrev pub renamed_instance : Renaming → Instance → Instance
+renamed_instance r e = record e { ops = renamed_command r e.ops }
+
+abbrev pub renamed_map : Renaming → List Instance → List Instance
+renamed_map r m = map (renamed_instance r) m
+
+abbrev pub renamed_line : Renaming → Placed → Placed
+renamed_line r p = record p { instance = renamed_instance r p.instance }
+
+abbrev pub renamed_lines : Renaming → List Placed → List Placed
+renamed_lines r lines = map (renamed_line r) lines
+
+-- `add` and `floor` calculate with values; the other operations only move and compare them
+abbrev pub is_arithmetic : Op → Bool
+is_arithmetic (Get k) = false
+is_arithmetic (Put k v) = false
+is_arithmetic (Del k) = false
+is_arithmetic (Add k n) = true
+is_arithmetic (Is k v) = false
+is_arithmetic (Floor k least) = true
+is_arithmetic (Copy k j) = false
+
+abbrev pub HasNoArithmetic : List Op → Type 0
+HasNoArithmetic ops = (op : Op) → Contains ops op → is_arithmetic op ≡ false
