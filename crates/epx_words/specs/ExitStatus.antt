@@ -21,7 +21,7 @@ IsExitStatus kinds status = (kind : ErrorKind) × IsAmong kind kinds
 abbrev pub IsTaken : Kinds → Given → Type 0
 IsTaken kinds given = (kinds ≡ []) × NamesAll given
 
--- the status after words that are not taken
+-- the status after words that are not taken: clap finds a fault, or else they name too little
 abbrev pub IsTextStatus : Kinds → Given → ℕ → Type 0
 IsTextStatus kinds given status =
-    IsExitStatus kinds status ⊎ ((¬ NamesAll given) × (status ≡ 2))
+    IsExitStatus kinds status ⊎ ((kinds ≡ []) × (¬ NamesAll given) × (status ≡ 2))

@@ -100,11 +100,14 @@ returns-in_ok-work_of-in-Ok-clause-refused c bare =
 pub returns-in_ok-work_of-in-Ok-clause-status : goal.returns-in_ok-work_of-in-Ok-clause-status
 returns-in_ok-work_of-in-Ok-clause-status c bare =
     let texts = map (λ w. w.now) c.args.words.now in
+    let app_is = c.in_ok-command.ensures in
+    let none = sym (ap (λ a. fault_of a texts) app_is)
+    ∙ c.in-Ok.ensures.kinds (ap is_simple_and_free app_is ∙ epx_is_free) in
     let given = subcommand_of epx_app texts in
-    let means = means_by_epx _ c.in_ok-command.ensures texts (subcommand_rows_of c.in-Ok.matches)
+    let means = means_by_epx _ app_is texts (subcommand_rows_of c.in-Ok.matches)
     c.in-Ok.ensures.matches c.in_ok-work_of-in-Ok.field-0 c.in_ok-work_of-in-Ok.ensures in
     text_weaker (λ status. (¬ NamesAll given) × (status ≡ 2)) _ c.in_ok-work_of-in-Ok.field-0
-    (λ status h. inr h) (not_all_named given c.in_ok-work_of-in-Ok.field-0 means)
+    (λ status h. inr (none, h.0, h.1)) (not_all_named given c.in_ok-work_of-in-Ok.field-0 means)
 
 pub returns-in-Err-clause-taken : goal.returns-in-Err-clause-taken
 returns-in-Err-clause-taken c bare =
