@@ -12,7 +12,7 @@ pub trait Opener {
     type Opened: Source + Drop;
 
     // At this path this source was opened. Generic code can get this fact only from a call of
-    // `open`. So it tells a source as it was opened from one that has been read.
+    // `open`. So it is what a source is as it was opened, and not one that has been read.
     ghost opens: { Self → List ℕ → Self.Opened → Type 0 } = { λ _ _ _. ⊤ };
 
     // At this path none could be opened.

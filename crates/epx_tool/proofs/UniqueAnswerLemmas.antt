@@ -34,7 +34,8 @@ pub IsReport-unique : (m : List Instance) (text other : List ℕ) → IsReport m
 IsReport-unique m text other p q =
     let order = IsExecutionOrder-unique m p.order q.order p.ordered q.ordered in
     let waiting = IsWaitingList-unique m p.waiting q.waiting p.listed q.listed in
-    p.printed ∙ ap₂ (λ o w. report_text o w (execute (commands_in m (ranked_ids o)) contents.empty)) order
+    p.printed
+    ∙ ap₂ (λ o w. report_text o w (execute (commands_in m (ranked_ids o)) contents.empty)) order
     waiting ∙ sym q.printed
 
 pub IsOrderText-unique : (m : List Instance) (text other : List ℕ) → IsOrderText m text
