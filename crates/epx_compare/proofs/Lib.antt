@@ -15,6 +15,10 @@ mod DifferenceTextLemmas
 mod NamedLemmas
 mod ComparisonLawLemmas
 mod NoDifferenceLemmas
+mod GapLawLemmas
+mod OwnLineLemmas
+mod AlikeLogLemmas
+mod GroupLawLemmas
 mod ComparisonExistenceLemmas
 pub mod ComparisonAnswerLemmas
 mod NotedLogLemmas

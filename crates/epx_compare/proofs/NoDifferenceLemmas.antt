@@ -36,15 +36,15 @@ use Rattle.epx_versions.specs.inner.EqualVersions.{commands_decide}
 
 -- ---- texts that are empty
 
-left_nil : {X : Type 0} (xs ys : List X) → xs ++ ys ≡ [] → xs ≡ []
+pub left_nil : {X : Type 0} (xs ys : List X) → xs ++ ys ≡ [] → xs ≡ []
 left_nil [] ys none = refl
 left_nil (x ∷ xs) ys none = absurd (cc none)
 
-right_nil : {X : Type 0} (xs ys : List X) → xs ++ ys ≡ [] → ys ≡ []
+pub right_nil : {X : Type 0} (xs ys : List X) → xs ++ ys ≡ [] → ys ≡ []
 right_nil [] ys none = none
 right_nil (x ∷ xs) ys none = absurd (cc none)
 
-both_nil : {X : Type 0} (xs ys : List X) → xs ≡ [] → ys ≡ [] → xs ++ ys ≡ []
+pub both_nil : {X : Type 0} (xs ys : List X) → xs ≡ [] → ys ≡ [] → xs ++ ys ≡ []
 both_nil xs ys first rest = λ i. first i ++ rest i
 
 each_nil : {X Y : Type 0} (f : X → List Y) (xs : List X) → flat_map f xs ≡ [] → (x : X)
@@ -64,7 +64,7 @@ all_nil f (x ∷ xs) none =
     (all_nil f xs (λ y among. none y (Contains-cons x xs y among)))
 
 -- a line ends with a line feed
-line_not_nil : (ds : List Data) → ¬ (line_of ds ≡ [])
+pub line_not_nil : (ds : List Data) → ¬ (line_of ds ≡ [])
 line_not_nil ds none =
     let rest = right_nil (compact_text (array_of ds)) (line_feed ∷ []) none in absurd (cc rest)
 

@@ -1,12 +1,13 @@
 -- Laws of what logs say against each other.
-use Rattle.std.specs.Prelude.{◌≡◌, ◌↔◌, ℕ, List, [], flat_map}
+use Rattle.std.specs.Prelude.{◌≡◌, ◌↔◌, ℕ, List, [], ◌∷◌, flat_map, Contains}
 use Rattle.epx_types.specs.declared.id.Id.{Id}
 use Rattle.epx_types.specs.Instances.{Instance}
+use Rattle.epx_types.specs.CommittedMap.{IsCommittedBy}
 use Rattle.epx_committed.specs.InstanceCounts.{AreNamedBy, FewInstances}
 use Rattle.epx_merge.specs.Acceptance.{IsAccepted}
 use Rattle.epx_merge.specs.LogLines.{placed_of, bad_lines_of}
 use Rattle.epx_merge.specs.Refusals.{FitLimits}
-use Rattle.epx_compare.specs.Comparisons.{IsComparison, bad_text, difference_text}
+use Rattle.epx_compare.specs.Comparisons.{IsComparison, HasFindings, bad_text, difference_text}
 
 -- all logs say something against each other
 abbrev pub ComparisonExists : Type 0
@@ -27,3 +28,11 @@ abbrev pub NothingDiffersWhereLogsAgree : Type 0
 NothingDiffersWhereLogsAgree = (logs : List (List ℕ)) (ids : List Id) → FitLimits logs
     → FewInstances (placed_of logs) → AreNamedBy (placed_of logs) ids
     → SaysNothingDiffers logs ids ↔ ((m : List Instance) × IsAccepted logs m)
+
+-- nothing is found wrong exactly where the logs are accepted and each of them alone commits what
+-- all of them commit
+abbrev pub NothingFoundWhereLogsAreAlike : Type 0
+NothingFoundWhereLogsAreAlike = (logs : List (List ℕ)) → FitLimits logs
+    → FewInstances (placed_of logs) → (¬ HasFindings logs)
+    ↔ ((m : List Instance) × IsAccepted logs m
+    × ((log : List ℕ) → Contains logs log → IsCommittedBy (placed_of (log ∷ [])) m))

@@ -9,4 +9,6 @@ pub mod Comparisons
 pub mod ComparisonAnswers
 pub mod LaterLogComparisons
 pub mod ComparisonLaws
+pub mod GapLaws
+pub mod GroupLaws
 pub mod inner

@@ -1,6 +1,9 @@
 //! Laws of what logs say against each other: each function's contract is a law.
 ghost use Rattle.epx_compare.specs.ComparisonLaws.{ComparisonExists, ComparisonIsOne};
 ghost use Rattle.epx_compare.specs.ComparisonLaws.{NothingDiffersWhereLogsAgree};
+ghost use Rattle.epx_compare.specs.ComparisonLaws.{NothingFoundWhereLogsAreAlike};
+ghost use Rattle.epx_compare.specs.GapLaws.{GapsAreOfTheLacked};
+ghost use Rattle.epx_compare.specs.GroupLaws.{GroupsAreOfTheSame, DependentsHaveLines};
 
 /// All logs have a comparison.
 pub fn comparison_exists()
@@ -15,4 +18,24 @@ pub fn comparison_is_one()
 /// A comparison has no bad line and no difference exactly where the logs are accepted.
 pub fn nothing_differs_where_logs_agree()
     ensures { NothingDiffersWhereLogsAgree }
+{}
+
+/// Exactly the lacked instances are in a gap, and gaps of one replica do not touch.
+pub fn gaps_are_of_the_lacked()
+    ensures { GapsAreOfTheLacked }
+{}
+
+/// Nothing is found wrong exactly where each log alone commits what all of them commit.
+pub fn nothing_found_where_logs_are_alike()
+    ensures { NothingFoundWhereLogsAreAlike }
+{}
+
+/// Lines have their places in one group exactly if they commit the same.
+pub fn groups_are_of_the_same()
+    ensures { GroupsAreOfTheSame }
+{}
+
+/// An instance is counted among those that depend on another exactly if one of its lines does.
+pub fn dependents_have_lines()
+    ensures { DependentsHaveLines }
 {}

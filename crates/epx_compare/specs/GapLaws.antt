@@ -1,0 +1,46 @@
+-- Laws of the gaps of a log.
+use Rattle.std.specs.Prelude.{◌≡◌, ◌↔◌, ◌<◌, ◌≤◌, Bool, true, false, List, Contains, AllPairs}
+use Rattle.epx_types.specs.declared.id.Id.{Id}
+use Rattle.epx_types.specs.Ids.{IsRising}
+use Rattle.epx_compare.specs.Gaps.{Gap, gaps_of}
+
+-- the first and the last instance of a gap, and all between
+abbrev pub first_of : Gap → Id
+first_of gap = record { replica = gap.replica; number = gap.from }
+
+abbrev pub last_of : Gap → Id
+last_of gap = record { replica = gap.replica; number = gap.to }
+
+abbrev pub IsInGap : Gap → Id → Type 0
+IsInGap gap x = (x.replica ≡ gap.replica) × (gap.from ≤ x.number) × (x.number ≤ gap.to)
+
+-- the log lacks this one of the Ids
+pub record IsLacked (has : Id → Bool) (ids : List Id) (x : Id) : Type 0 where
+  pub among : Contains ids x
+  pub lacks : has x ≡ false
+
+-- the gap goes from an Id that is lacked to one that is
+pub record HasLackedEnds (has : Id → Bool) (ids : List Id) (gap : Gap) : Type 0 where
+  pub upward : gap.from ≤ gap.to
+  pub first : IsLacked has ids (first_of gap)
+  pub last : IsLacked has ids (last_of gap)
+
+-- between two gaps of one replica this Id is not lacked
+pub record IsBetween (has : Id → Bool) (ids : List Id) (g h : Gap) (x : Id) : Type 0 where
+  pub among : Contains ids x
+  pub had : has x ≡ true
+  pub replica : x.replica ≡ g.replica
+  pub after : g.to < x.number
+  pub before : x.number < h.from
+
+-- exactly the Ids in a gap are lacked, and so are the ends of each gap; of two gaps of one replica
+-- the first is the lower one, and some Id between them is not lacked
+pub record AreGaps (has : Id → Bool) (ids : List Id) (gaps : List Gap) : Type 0 where
+  pub lacked : (x : Id) → Contains ids x
+      → (has x ≡ false) ↔ ((gap : Gap) × Contains gaps gap × IsInGap gap x)
+  pub ends : (gap : Gap) → Contains gaps gap → HasLackedEnds has ids gap
+  pub apart : AllPairs (λ g h. g.replica ≡ h.replica → (x : Id) × IsBetween has ids g h x) gaps
+
+abbrev pub GapsAreOfTheLacked : Type 0
+GapsAreOfTheLacked = (has : Id → Bool) (ids : List Id) → IsRising ids
+    → AreGaps has ids (gaps_of has ids)
