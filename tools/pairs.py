@@ -1,0 +1,324 @@
+"""The pairs that say what one number a replica means. A module, and no tool itself.
+
+A rule is made of all instances that are committed. Then it gives the pairs of each.
+"""
+
+import bisect
+import collections
+import heapq
+
+MOST_REPLICAS = 256
+
+
+def accesses(ops):
+    """The keys of a command, each with whether it is written."""
+    found = {}
+    for name, key, *rest in ops:
+        found[key] = found.get(key, False) or name in ("put", "del", "add")
+        if name == "copy":
+            found[rest[0]] = True
+    return found
+
+
+def bounds_of(line):
+    """The numbers of a line, by replica. None is -1, and those at the end are left out."""
+    bounds = [-1 if number is None else number for number in line["deps"]]
+    while bounds and bounds[-1] < 0:
+        bounds.pop()
+    return bounds
+
+
+def first_gap(numbers, first):
+    """The least number from the first on that is not among them."""
+    return next(it for it in range(first, first + len(numbers) + 1) if it not in numbers)
+
+
+def pair_of(replica, number):
+    """An instance, with the text that it has as a dependency."""
+    return replica, number, f"[{replica},{number}]"
+
+
+class Rule:
+    """What the logs commit, as lines by replica and number, and what a base has done.
+
+    Then `pairs` gives those of a line, rising. They are made once, so that they cost little."""
+
+    def __init__(self, commits, done, first):
+        known = {replica: set(lines) for replica, lines in commits.items()}
+        for replica, number in done:
+            known.setdefault(replica, set()).add(number)
+        self.gaps = [first] * MOST_REPLICAS
+        for replica, numbers in known.items():
+            self.gaps[replica] = first_gap(numbers, first)
+
+    def gaps_up_to(self, bounds):
+        """The first instance of each replica that is not committed, where a number names it."""
+        return [pair_of(replica, self.gaps[replica]) for replica, most in enumerate(bounds)
+                if most >= self.gaps[replica]]  # fmt: skip
+
+
+class Conflicting(Rule):
+    """Numbers mean the conflicting instances up to them.
+
+    For each key and each replica it knows the instances that use the key, rising: their numbers,
+    their pairs, and the position among them of the last that writes it, or -1."""
+
+    def __init__(self, commits, done, first):
+        super().__init__(commits, done, first)
+        self.users = collections.defaultdict(dict)
+        for replica, lines in commits.items():
+            for number in sorted(lines):
+                pair = pair_of(replica, number)
+                for key, writes in accesses(lines[number]["ops"]).items():
+                    known = self.users[key]
+                    if replica not in known:
+                        known[replica] = [], [], []
+                    numbers, pairs, writers = known[replica]
+                    last = writers[-1] if writers else -1
+                    writers.append(len(numbers) if writes else last)
+                    numbers.append(number)
+                    pairs.append(pair)
+
+    def pairs(self, line):
+        bounds, own, before = bounds_of(line), line["r"], line["i"] - 1
+        found = self.gaps_up_to(bounds)
+        for key, writes in accesses(line["ops"]).items():
+            for replica, (numbers, pairs, writers) in self.users[key].items():
+                mosts = [bounds[replica]] if replica < len(bounds) else []
+                if replica == own:
+                    # Commands of one replica may cross, so its own array may name a later one.
+                    mosts.append(before)
+                for most in mosts:
+                    end = bisect.bisect_right(numbers, most)
+                    last = writers[end - 1] if end else -1
+                    if writes:
+                        found += pairs[max(last, 0) : end]
+                    elif last >= 0:
+                        found.append(pairs[last])
+        return sorted({*found} - {pair_of(own, line["i"])})
+
+
+class Node:
+    """A committed instance, and its prefix: the instances of its replica up to it.
+
+    Positions count the committed instances of a replica, from 0; -1 is none of them. A reach is a
+    list of the last position that is reached of each replica. It says all, since whatever is
+    reached is so with its prefix."""
+
+    __slots__ = "heads", "open_at", "rank", "reach", "own", "hub", "next"
+
+    def __init__(self, heads):
+        # The last position of each replica up to the instance's number for it.
+        self.heads = heads
+        # The rank of the strongly connected component of its prefix: above those that it reaches.
+        self.rank = None
+        # What its prefix reaches, and what the instance itself does.
+        self.reach = self.own = None
+        # The last position of its prefix from which all that its component reaches is reached.
+        self.hub = None
+        # Where the instance reaches itself, the one after it in the ring of those of its component,
+        # which is itself where it is alone.
+        self.next = None
+
+    def is_cyclic(self):
+        """Whether the instance reaches itself, and so all that its prefix does."""
+        return self.own is self.reach
+
+
+def joined(reach, other):
+    return list(map(max, reach, other))
+
+
+class Search:
+    """The strongly connected components of prefixes, by Gabow's algorithm with two stacks.
+
+    A prefix leads to the one before it, and to those that the numbers of its last instance
+    name."""
+
+    def __init__(self, chains):
+        self.chains, self.rank = chains, 0
+        self.nothing = [-1] * len(chains)
+        self.opened = [0] * len(chains)
+        # Open prefixes, where a component of them may begin, and which numbers are to be followed.
+        self.path, self.roots, self.todo = [], [], []
+        for replica, chain in enumerate(chains):
+            for position, node in enumerate(chain):
+                if node.rank is None:
+                    self.open(replica, position)
+                    self.follow()
+
+    def open(self, replica, position):
+        """Opens a prefix and those before it. The shortest of them is followed first."""
+        chain, begin = self.chains[replica], self.opened[replica]
+        self.opened[replica] = position + 1
+        for at in range(position, begin - 1, -1):
+            chain[at].open_at = len(self.path)
+            self.roots.append(len(self.path))
+            self.path.append((replica, at))
+            self.todo.append((replica, at, 0))
+        if begin and chain[begin - 1].rank is None:
+            self.meet(chain[begin - 1])
+
+    def meet(self, node):
+        """All that was opened since this prefix is in one component with it."""
+        while self.roots[-1] > node.open_at:
+            self.roots.pop()
+
+    def follow(self):
+        chains, opened, todo, roots = self.chains, self.opened, self.todo, self.roots
+        while todo:
+            replica, position, begin = todo.pop()
+            node = chains[replica][position]
+            for other in range(begin, len(chains)):
+                head = node.heads[other]
+                if head >= opened[other]:
+                    todo.append((replica, position, other + 1))
+                    self.open(other, head)
+                    break
+                if head >= 0 and chains[other][head].rank is None:
+                    self.meet(chains[other][head])
+            else:
+                if roots[-1] == node.open_at:
+                    if node.open_at == len(self.path) - 1:
+                        self.close_one(node)
+                    else:
+                        self.close(node.open_at)
+
+    def close(self, begin):
+        """Ends a component, which is whatever was opened from there on."""
+        self.roots.pop()
+        members = sorted(self.path[begin:])
+        del self.path[begin:]
+        nodes = [self.chains[replica][position] for replica, position in members]
+        for node in nodes:
+            node.rank = self.rank
+        parts = [self.reach_of(node) for node in nodes]
+        befores = [self.chains[replica][position - 1] if position else None
+                   for replica, position in members]  # fmt: skip
+        whole = self.nothing
+        for before, (reach, _) in zip(befores, parts):
+            whole = joined(whole, reach)
+            if before and before.rank != self.rank:
+                whole = joined(whole, before.reach)
+        for replica, position in members:
+            whole[replica] = max(whole[replica], position)
+        for node, place, before, (reach, is_cyclic) in zip(nodes, members, befores, parts):
+            node.reach, node.own = whole, whole if is_cyclic else reach
+            is_hub = is_cyclic or not before or before.rank != self.rank
+            node.hub = place[1] if is_hub else before.hub
+        ring = [pair for pair in zip(members, nodes) if pair[1].own is whole]
+        for (_, node), (place, _) in zip(ring, ring[1:] + ring[:1]):
+            node.next = place
+        self.rank += 1
+
+    def close_one(self, node):
+        """Ends a component of one prefix."""
+        self.roots.pop()
+        replica, position = self.path.pop()
+        node.rank, node.hub = self.rank, position
+        reach, is_cyclic = self.reach_of(node)
+        before = self.chains[replica][position - 1].reach if position else self.nothing
+        node.reach = joined(reach, before)
+        node.reach[replica] = position
+        node.own = node.reach if is_cyclic else reach
+        node.next = (replica, position) if is_cyclic else None
+        self.rank += 1
+
+    def reach_of(self, node):
+        """What the numbers of an instance reach outside its component, and whether they lead back
+        into it."""
+        reach, is_cyclic = self.nothing, False
+        for other, head in enumerate(node.heads):
+            if head >= 0:
+                prefix = self.chains[other][head]
+                if prefix.rank == node.rank:
+                    is_cyclic = True
+                elif reach is self.nothing:
+                    reach = prefix.reach
+                elif head > reach[other]:
+                    reach = joined(reach, prefix.reach)
+        return reach, is_cyclic
+
+
+class All(Rule):
+    """Numbers mean all instances up to them.
+
+    An instance names what nothing else that it reaches does. Those that reach each other name the
+    next of them, in a ring, and share what they name besides."""
+
+    def __init__(self, commits, done, first):
+        super().__init__(commits, done, first)
+        # What a base has done leads to nothing: whatever it reaches is done too.
+        done = set(done)
+        self.numbers = [[] for _ in range(max(commits, default=-1) + 1)]
+        for replica, lines in commits.items():
+            self.numbers[replica] = sorted(it for it in lines if (replica, it) not in done)
+        self.named = [[pair_of(replica, number) for number in numbers]
+                      for replica, numbers in enumerate(self.numbers)]  # fmt: skip
+        self.chains = [[Node(self.heads_of(bounds_of(commits[replica][number])))
+                        for number in numbers]
+                       for replica, numbers in enumerate(self.numbers)]  # fmt: skip
+        Search(self.chains)
+        # By rank, what those of a ring reach by the pairs that they have so far.
+        self.shared = {}
+
+    def heads_of(self, bounds):
+        heads = [-1] * len(self.numbers)
+        for replica, (most, numbers) in enumerate(zip(bounds, self.numbers)):
+            if most >= 0:
+                heads[replica] = bisect.bisect_right(numbers, most) - 1
+        return heads
+
+    def node_of(self, line, bounds):
+        """The node of an instance. One that is done has none, and gets one of its own."""
+        numbers = self.numbers[line["r"]]
+        position = bisect.bisect_left(numbers, line["i"])
+        if position < len(numbers) and numbers[position] == line["i"]:
+            return self.chains[line["r"]][position]
+        return Node(self.heads_of(bounds))
+
+    def pairs(self, line):
+        bounds = bounds_of(line)
+        node, found = self.node_of(line, bounds), self.gaps_up_to(bounds)
+        reached = self.shared.get(node.rank) if node.next else None
+        reached = self.add_pairs(found, node, reached or [-1] * len(self.chains))
+        if node.next:
+            self.shared[node.rank] = joined(reached, node.heads)
+            replica, position = node.next
+            found.append(self.named[replica][position])
+        found.sort()
+        own = pair_of(line["r"], line["i"])
+        return [pair for pair in found if pair != own] if own in found else found
+
+    def add_pairs(self, found, node, reached):
+        """Adds the pairs of an instance, where so much of what it reaches is reached without."""
+        chains, ring = self.chains, node.rank if node.next else None
+        # Those of the highest rank are last, and come first: no other one reaches them.
+        heads = sorted([(chains[replica][head].rank, replica, head)
+                        for replica, head in enumerate(node.heads) if head > reached[replica]])
+        while len(heads) > 1 or heads and ring is not None:
+            rank, replica, position = heads.pop()
+            if rank != ring:
+                position = chains[replica][position].hub
+            other = chains[replica][position]
+            if rank != ring or not other.next:
+                found.append(self.named[replica][position])
+                reached = joined(reached, other.own)
+            heads = [head for head in heads if head[2] > reached[head[1]]]
+            if position - 1 > reached[replica]:
+                rank = chains[replica][position - 1].rank
+                bisect.insort(heads, (rank, replica, position - 1))
+        for _, replica, position in heads:
+            # Only one replica is left, so what is reached of others is not asked for.
+            chain, named, most = chains[replica], self.named[replica], reached[replica]
+            while position > most:
+                position = chain[position].hub
+                found.append(named[position])
+                other = chain[position].own[replica]
+                if other > most:
+                    most = other
+                position -= 1
+        return reached
+
+
+KINDS = {"conflicting": Conflicting, "all": All}
