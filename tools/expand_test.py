@@ -14,6 +14,8 @@ from pairs import KINDS, All, Conflicting, accesses
 
 ENCODER = json.JSONEncoder(separators=(",", ":"))
 WORDS = {kind: f"--{word}" for word, kind in KINDS.items()}
+# How the two lines begin that ask for a meaning.
+WHICH = "--conflicting or --all is missing: does your replica look for conflicts"
 
 
 def expand(paths, folder, kind, base=None, first=0):
@@ -249,6 +251,107 @@ def holds(program, seed, folder):
     return covered == '["covered"]\n' and replies <= wanted and is_same
 
 
+def random_lines(rng, replicas, most):
+    """Instances with any numbers, also such as no replica would have: with cycles, with numbers
+    above all that there are, and without some instances. Few or many have no number."""
+    first, hole, none = rng.choice((0, 1)), rng.choice((0, 0.1, 0.3)), rng.choice((0, 0.4, 0.8))
+    top = rng.choice((most // 3, most + 2))
+    lines = []
+    for replica in range(replicas):
+        for number in range(first, first + rng.randint(1, most)):
+            deps = [None if rng.random() < none else rng.randint(-1, top) for _ in range(replicas)]
+            ops = [operation(rng, f"k{rng.randrange(3)}", number)]
+            line = {"r": replica, "i": number, "seq": rng.randrange(4), "deps": deps, "ops": ops}
+            if rng.random() >= hole:
+                lines.append(line)
+    return lines or [line], first
+
+
+def all_pairs(line, first):
+    """Each instance up to the numbers of a line."""
+    return {(replica, number) for replica, most in enumerate(line["deps"])
+            for number in range(first, (-1 if most is None else most) + 1)
+            if (replica, number) != (line["r"], line["i"])}  # fmt: skip
+
+
+def reached(place, named):
+    """The instances that one reaches by at least one step. What is not committed ends a path."""
+    found, todo = set(), [place]
+    while todo:
+        new = named.get(todo.pop(), set()) - found
+        found |= new
+        todo += new
+    return found
+
+
+def reaches_alike(rng):
+    """Whether the pairs of random lines reach the committed instances that all pairs would, and of
+    those that are not committed the first of each replica. A base may have done some."""
+    lines, first = random_lines(rng, rng.randint(1, 4), rng.choice((3, 7)))
+    commits = collections.defaultdict(dict)
+    for line in lines:
+        commits[line["r"]][line["i"]] = line
+    places = [(line["r"], line["i"]) for line in lines]
+    done = {place for place in places if rng.random() < rng.choice((0, 0, 0.2))}
+    rule = All(commits, done, first)
+    left = [line for place, line in zip(places, lines) if place not in done]
+    few = {(line["r"], line["i"]): set(rule.pairs(line)) for line in sorted(left, key=place_of)}
+    whole = {(line["r"], line["i"]): all_pairs(line, first) - done for line in left}
+    for place in whole:
+        wanted = reached(place, whole)
+        gaps = collections.defaultdict(list)
+        for replica, number in wanted - {*places}:
+            gaps[replica].append(number)
+        wanted = wanted & {*places} | {(replica, min(them)) for replica, them in gaps.items()}
+        if reached(place, few) - {place} != wanted - {place}:
+            return False
+    return True
+
+
+def place_of(line):
+    return line["r"], line["i"]
+
+
+def random_holds(program, seed, folder):
+    """Whether it is so for 1,000 random sets of lines, and epx has one report of all pairs and of
+    the tool's for ten."""
+    rng = random.Random(seed)
+    if not all([reaches_alike(rng) for _ in range(1000)]):
+        return False
+    for at in range(10):
+        lines, first = random_lines(rng, rng.randint(2, 5), 30)
+        (folder / f"{at}").mkdir()
+        whole = [line | {"deps": sorted(all_pairs(line, first))} for line in lines]
+        paths = write_logs(folder / f"{at}/whole", [whole])
+        expand(write_logs(folder / f"{at}/numbers", [lines]), folder / f"{at}/few", All, None, first)
+        if ask(program, "run", *paths) != ask(program, "run", folder / f"{at}/few/0.jsonl"):
+            return False
+    return True
+
+
+def many_holds(program, seed, folder):
+    """Whether logs with an instance of too many dependencies have the same store where a first
+    part is run, and the rest is expanded with its report as base."""
+    rng = random.Random(seed)
+    for word, kind in KINDS.items():
+        (folder / word).mkdir()
+        early = [{"r": 0, "i": i, "seq": 1, "deps": [], "ops": [["get", "a"], ["put", f"k{i}", i]]}
+                 for i in range(rng.randint(257, 400))]  # fmt: skip
+        last = {"r": 1, "i": 0, "seq": 2, "deps": [len(early) - 1], "ops": [["put", "a", 1]]}
+        expand(write_logs(folder / word / "early", [early]), folder / word / "first", kind)
+        report = ask(program, "run", folder / word / "first/0.jsonl")
+        (folder / word / "base").write_text(report)
+        paths = write_logs(folder / word / "late", [[last]])
+        expand(paths, folder / word / "second", kind, folder / word / "base")
+        found = ask(program, "resume", folder / word / "base", folder / word / "second/0.jsonl")
+        stored = {text_of(["store", f"k{line['i']}", line["i"]]) for line in early}
+        if {*lines_of(found, "store")} != stored | {text_of(["store", "a", 1])}:
+            return False
+        if lines_of(found, "reply") != [text_of(["reply", 1, 0, "ok", []])]:
+            return False
+    return True
+
+
 GOOD = {"r": 0, "i": 0, "seq": 1, "deps": [None, 3], "ops": [["get", "a"]]}
 # Lines that must be refused, and what is said of each.
 BAD_LINES = (
@@ -286,8 +389,8 @@ def bad_logs():
     reads = (json.dumps(GOOD | {"i": i + 1, "deps": []}) + "\n" for i in range(257))
     last = json.dumps(GOOD | {"i": 258, "deps": [257], "ops": [["put", "a", 1]]})
     log = "".join([*reads, last]).encode()
-    yield log, "bad.jsonl: 0.258 has 258 dependencies", "--conflicting"
-    yield log, "bad.jsonl: 0.258 has 258 dependencies", "--all"
+    for word in KINDS:
+        yield log, "bad.jsonl line 258: 0.258 has 258 dependencies", f"--{word}"
 
 
 def is_refused(words, status, why, folder):
@@ -305,9 +408,54 @@ def is_refused(words, status, why, folder):
     return True
 
 
-def other_numbers():
-    """A log that commits one instance twice, with different numbers."""
-    return "".join(json.dumps(GOOD | {"deps": deps}) + "\n" for deps in ([], [None, -1], [None, 0]))
+# What two lines that commit one instance may not disagree in.
+DIFFERENCES = (
+    ({"deps": [None, 2]}, "numbers in deps"),
+    ({"deps": [None, 3, 0]}, "numbers in deps"),
+    ({"deps": []}, "numbers in deps"),
+    ({"seq": 2}, "seq"),
+    ({"ops": []}, "ops"),
+    ({"ops": [["get", "b"]]}, "ops"),
+    ({"ops": [["get", "a"], ["get", "a"]]}, "ops"),
+)
+# What is the same command: other orders, members, texts and statuses, and what is passed over.
+SAME = (
+    {"deps": [-1, 3]},
+    {"deps": [None, 3, None, -1]},
+    {"status": "executed", "note": 1},
+    {"status": "accepted", "seq": 7, "deps": None},
+)
+
+
+def disagreeing_logs():
+    """Pairs of logs that commit one instance in two ways, each with what is said."""
+    for change, why in DIFFERENCES:
+        yield GOOD | change, why
+        yield dict(reversed((GOOD | change).items())), why
+
+
+def disagreements(folder):
+    """How many of two lines that disagree, or that agree, are not refused, or taken, as they should
+    be, and of how many."""
+    wrong = tried = 0
+    agreed = [GOOD, *(GOOD | change for change in SAME), dict(reversed(GOOD.items()))]
+    for word in KINDS:
+        for other, why in disagreeing_logs():
+            for logs in ([*agreed, other],), (agreed, [{"r": 1} | GOOD | {"i": 1}, other]):
+                room = folder / f"disagree{tried}"
+                write_logs(room, logs)
+                names = [path.name for path in sorted(room.iterdir())]
+                place = f"{names[-1]} line {len(logs[-1])}"
+                said = f"0.jsonl line 1 and {place} commit 0.0 with different {why}"
+                wrong += not is_refused([f"--{word}", *names, "--out", "out"], 1, said, room)
+                tried += 1
+        expand(write_logs(folder / f"agree-{word}", [agreed, agreed]), folder / word, KINDS[word])
+        lines = [json.loads(line) for path in sorted((folder / word).iterdir())
+                 for line in path.read_text().splitlines()]  # fmt: skip
+        deps = [line["deps"] for line in lines if line.get("status") != "accepted"]
+        wrong += len(deps) != 10 or deps != [[[1, 0]]] * 10
+        tried += 1
+    return wrong, tried
 
 
 def cases_of_words(folder):
@@ -318,14 +466,12 @@ def cases_of_words(folder):
         (folder / name / "0.jsonl").write_text(json.dumps(GOOD))
     (folder / "link").symlink_to("a")
     (folder / "base").write_text('["executed",0,"waiting",0,"components",0]\n["done",0]\n')
-    (folder / "twice").write_text(other_numbers())
     low = "a/0.jsonl line 1: i is below 1, where --first says that instances begin"
     yield ["a/0.jsonl", "--out", "out"], 2, WHICH
     yield [], 2, WHICH
     yield ["--all", "--conflicting", "a/0.jsonl"], 2, "argument --conflicting: not allowed with"
     yield ["--first", "2", "a/0.jsonl"], 2, "argument --first: invalid choice: 2"
     yield ["--all", "--first", "1", "a/0.jsonl", "--out", "out"], 1, low
-    yield ["--all", "twice", "--out", "out"], 1, "two lines commit 0.0 with different numbers"
     yield ["--unknown"], 2, "unrecognized arguments: --unknown"
     yield ["--seed", "x"], 2, "argument --seed"
     for *words, status, why in (
@@ -349,25 +495,36 @@ def refusals(folder):
     wrong = sum(not is_refused(*case, folder) for case in cases)
     for text, why, meaning in bad_logs():
         (folder / "bad.jsonl").write_bytes(text)
-        words = [meaning, "a/0.jsonl", "bad.jsonl", "--out", "out"]
+        words = [meaning, "bad.jsonl", "--out", "out"]
         wrong += not is_refused(words, 1, why, folder)
-    return wrong, len(cases) + sum(1 for _ in bad_logs())
+    (folder / "pairs").mkdir()
+    more, tried = disagreements(folder / "pairs")
+    return wrong + more, tried + len(cases) + sum(1 for _ in bad_logs())
+
+
+# What is tried, and how often.
+TRIALS = {
+    "bank": (holds, 5),
+    "set of clusters": (cluster_holds, 5),
+    "compacted cluster": (compacted_holds, 5),
+    "set of random lines": (random_holds, 2),
+    "instance of many dependencies": (many_holds, 1),
+}
 
 
 def test(program, seed):
     """Compares the answers of expanded logs, and tries what must be refused."""
     rng = random.Random(seed)
-    kinds = {"bank": holds, "cluster": cluster_holds, "compacted cluster": compacted_holds}
-    cases = [(kind, seed) for kind in kinds for seed in rng.sample(range(1_000_000), 5)]
-    for kind, seed in counted("banks and sets of clusters", cases):
+    cases = [(kind, seed) for kind, (_, count) in TRIALS.items()
+             for seed in rng.sample(range(1_000_000), count)]  # fmt: skip
+    for kind, seed in counted("banks, and sets of clusters and of lines", cases):
         with tempfile.TemporaryDirectory() as folder:
-            if not kinds[kind](program, seed, pathlib.Path(folder)):
+            if not TRIALS[kind][0](program, seed, pathlib.Path(folder)):
                 print(f"WRONG: the {kind} of seed {seed} has other answers")
                 return 1
     with tempfile.TemporaryDirectory() as folder:
         wrong, tried = refusals(pathlib.Path(folder))
     print("tools/expand: 5 banks of 2,000 instances, 30 clusters of 400 and 10 of 600 have the "
-          f"same answers once expanded; {tried} refusals, {wrong} of them wrong")  # fmt: skip
+          "same answers once expanded; 2,000 sets of random lines reach the same, and 20 have the "
+          f"same report; {tried} refusals and agreements, {wrong} of them wrong")  # fmt: skip
     return 1 if wrong else 0
-
-

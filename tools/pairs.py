@@ -3,6 +3,7 @@
 A rule is made of all instances that are committed. Then it gives the pairs of each.
 """
 
+import array
 import bisect
 import collections
 import heapq
@@ -33,11 +34,6 @@ def first_gap(numbers, first):
     return next(it for it in range(first, first + len(numbers) + 1) if it not in numbers)
 
 
-def pair_of(replica, number):
-    """An instance, with the text that it has as a dependency."""
-    return replica, number, f"[{replica},{number}]"
-
-
 class Rule:
     """What the logs commit, as lines by replica and number, and what a base has done.
 
@@ -53,49 +49,57 @@ class Rule:
 
     def gaps_up_to(self, bounds):
         """The first instance of each replica that is not committed, where a number names it."""
-        return [pair_of(replica, self.gaps[replica]) for replica, most in enumerate(bounds)
+        return [(replica, self.gaps[replica]) for replica, most in enumerate(bounds)
                 if most >= self.gaps[replica]]  # fmt: skip
 
 
 class Conflicting(Rule):
     """Numbers mean the conflicting instances up to them.
 
-    For each key and each replica it knows the instances that use the key, rising: their numbers,
-    their pairs, and the position among them of the last that writes it, or -1."""
+    For each key and each replica it knows the numbers of the instances that use the key, rising,
+    and for each of them the position of the last one up to it that writes the key, or -1."""
 
     def __init__(self, commits, done, first):
         super().__init__(commits, done, first)
         self.users = collections.defaultdict(dict)
         for replica, lines in commits.items():
             for number in sorted(lines):
-                pair = pair_of(replica, number)
                 for key, writes in accesses(lines[number]["ops"]).items():
-                    known = self.users[key]
-                    if replica not in known:
-                        known[replica] = [], [], []
-                    numbers, pairs, writers = known[replica]
+                    users = self.users[key]
+                    if replica not in users:
+                        # Arrays, since they are together in memory, and this is much of the time.
+                        users[replica] = array.array("Q"), array.array("q")
+                    numbers, writers = users[replica]
                     last = writers[-1] if writers else -1
                     writers.append(len(numbers) if writes else last)
                     numbers.append(number)
-                    pairs.append(pair)
 
     def pairs(self, line):
         bounds, own, before = bounds_of(line), line["r"], line["i"] - 1
-        found = self.gaps_up_to(bounds)
+        found = collections.defaultdict(list)
+        for replica, gap in self.gaps_up_to(bounds):
+            found[replica].append(gap)
         for key, writes in accesses(line["ops"]).items():
-            for replica, (numbers, pairs, writers) in self.users[key].items():
-                mosts = [bounds[replica]] if replica < len(bounds) else []
-                if replica == own:
-                    # Commands of one replica may cross, so its own array may name a later one.
-                    mosts.append(before)
-                for most in mosts:
-                    end = bisect.bisect_right(numbers, most)
-                    last = writers[end - 1] if end else -1
-                    if writes:
-                        found += pairs[max(last, 0) : end]
-                    elif last >= 0:
-                        found.append(pairs[last])
-        return sorted({*found} - {pair_of(own, line["i"])})
+            users = self.users[key]
+            for replica, known in users.items():
+                if replica < len(bounds) and bounds[replica] >= 0:
+                    found[replica] += last_users(*known, bounds[replica], writes)
+            # Commands of one replica may cross, so its own array may name a later one too.
+            found[own] += last_users(*users[own], before, writes)
+        pairs = [(replica, number) for replica in sorted(found)
+                 for number in sorted({*found[replica]})]  # fmt: skip
+        if own < len(bounds) and bounds[own] > before:
+            pairs = [pair for pair in pairs if pair != (own, before + 1)]
+        return pairs
+
+
+def last_users(numbers, writers, most, writes):
+    """The last writer of a key up to a number and, where the key is written, its readers since."""
+    end = bisect.bisect_right(numbers, most)
+    last = writers[end - 1] if end else -1
+    if writes:
+        return numbers[max(last, 0) : end]
+    return numbers[last : last + 1]
 
 
 class Node:
@@ -126,7 +130,7 @@ class Node:
 
 
 def joined(reach, other):
-    return list(map(max, reach, other))
+    return [one if one > two else two for one, two in zip(reach, other)]
 
 
 class Search:
@@ -138,12 +142,13 @@ class Search:
     def __init__(self, chains):
         self.chains, self.rank = chains, 0
         self.nothing = [-1] * len(chains)
-        self.opened = [0] * len(chains)
+        # How many prefixes of each replica are opened, and how many of these belong to a component.
+        self.opened, self.closed = [0] * len(chains), [0] * len(chains)
         # Open prefixes, where a component of them may begin, and which numbers are to be followed.
         self.path, self.roots, self.todo = [], [], []
         for replica, chain in enumerate(chains):
-            for position, node in enumerate(chain):
-                if node.rank is None:
+            for position in range(len(chain)):
+                if position >= self.closed[replica]:
                     self.open(replica, position)
                     self.follow()
 
@@ -156,7 +161,7 @@ class Search:
             self.roots.append(len(self.path))
             self.path.append((replica, at))
             self.todo.append((replica, at, 0))
-        if begin and chain[begin - 1].rank is None:
+        if begin > self.closed[replica]:
             self.meet(chain[begin - 1])
 
     def meet(self, node):
@@ -165,30 +170,36 @@ class Search:
             self.roots.pop()
 
     def follow(self):
-        chains, opened, todo, roots = self.chains, self.opened, self.todo, self.roots
+        chains, todo, closed, opened = self.chains, self.todo, self.closed, self.opened
         while todo:
             replica, position, begin = todo.pop()
             node = chains[replica][position]
-            for other in range(begin, len(chains)):
-                head = node.heads[other]
-                if head >= opened[other]:
-                    todo.append((replica, position, other + 1))
-                    self.open(other, head)
-                    break
-                if head >= 0 and chains[other][head].rank is None:
+            heads = node.heads
+            for other in range(begin, len(heads)):
+                head = heads[other]
+                if head >= closed[other]:
+                    if head >= opened[other]:
+                        todo.append((replica, position, other + 1))
+                        self.open(other, head)
+                        break
                     self.meet(chains[other][head])
             else:
-                if roots[-1] == node.open_at:
-                    if node.open_at == len(self.path) - 1:
-                        self.close_one(node)
-                    else:
-                        self.close(node.open_at)
+                if self.roots[-1] == node.open_at:
+                    self.close(node)
 
-    def close(self, begin):
-        """Ends a component, which is whatever was opened from there on."""
+    def close(self, node):
+        """Ends a component, which is whatever was opened since a prefix."""
         self.roots.pop()
-        members = sorted(self.path[begin:])
-        del self.path[begin:]
+        if node.open_at == len(self.path) - 1:
+            self.close_one(node)
+        else:
+            members = sorted(self.path[node.open_at :])
+            del self.path[node.open_at :]
+            self.close_all(members)
+        self.rank += 1
+
+    def close_all(self, members):
+        """Ends a component of several prefixes."""
         nodes = [self.chains[replica][position] for replica, position in members]
         for node in nodes:
             node.rank = self.rank
@@ -202,6 +213,7 @@ class Search:
                 whole = joined(whole, before.reach)
         for replica, position in members:
             whole[replica] = max(whole[replica], position)
+            self.closed[replica] = position + 1
         for node, place, before, (reach, is_cyclic) in zip(nodes, members, befores, parts):
             node.reach, node.own = whole, whole if is_cyclic else reach
             is_hub = is_cyclic or not before or before.rank != self.rank
@@ -209,12 +221,11 @@ class Search:
         ring = [pair for pair in zip(members, nodes) if pair[1].own is whole]
         for (_, node), (place, _) in zip(ring, ring[1:] + ring[:1]):
             node.next = place
-        self.rank += 1
 
     def close_one(self, node):
         """Ends a component of one prefix."""
-        self.roots.pop()
         replica, position = self.path.pop()
+        self.closed[replica] = position + 1
         node.rank, node.hub = self.rank, position
         reach, is_cyclic = self.reach_of(node)
         before = self.chains[replica][position - 1].reach if position else self.nothing
@@ -222,7 +233,6 @@ class Search:
         node.reach[replica] = position
         node.own = node.reach if is_cyclic else reach
         node.next = (replica, position) if is_cyclic else None
-        self.rank += 1
 
     def reach_of(self, node):
         """What the numbers of an instance reach outside its component, and whether they lead back
@@ -253,49 +263,54 @@ class All(Rule):
         self.numbers = [[] for _ in range(max(commits, default=-1) + 1)]
         for replica, lines in commits.items():
             self.numbers[replica] = sorted(it for it in lines if (replica, it) not in done)
-        self.named = [[pair_of(replica, number) for number in numbers]
+        self.positions = [{number: position for position, number in enumerate(numbers)}
+                          for numbers in self.numbers]  # fmt: skip
+        self.named = [[(replica, number) for number in numbers]
                       for replica, numbers in enumerate(self.numbers)]  # fmt: skip
         self.chains = [[Node(self.heads_of(bounds_of(commits[replica][number])))
                         for number in numbers]
                        for replica, numbers in enumerate(self.numbers)]  # fmt: skip
         Search(self.chains)
+        # By position, what an instance, or the hub in its place, reaches of its own replica.
+        self.lows = [[chain[node.hub].own[replica] for node in chain]
+                     for replica, chain in enumerate(self.chains)]  # fmt: skip
         # By rank, what those of a ring reach by the pairs that they have so far.
         self.shared = {}
 
     def heads_of(self, bounds):
-        heads = [-1] * len(self.numbers)
-        for replica, (most, numbers) in enumerate(zip(bounds, self.numbers)):
-            if most >= 0:
-                heads[replica] = bisect.bisect_right(numbers, most) - 1
+        heads = []
+        for replica, positions in enumerate(self.positions):
+            most = bounds[replica] if replica < len(bounds) else -1
+            head = positions.get(most)
+            if head is None:
+                head = bisect.bisect_right(self.numbers[replica], most) - 1
+            heads.append(head)
         return heads
 
-    def node_of(self, line, bounds):
-        """The node of an instance. One that is done has none, and gets one of its own."""
-        numbers = self.numbers[line["r"]]
-        position = bisect.bisect_left(numbers, line["i"])
-        if position < len(numbers) and numbers[position] == line["i"]:
-            return self.chains[line["r"]][position]
-        return Node(self.heads_of(bounds))
-
     def pairs(self, line):
-        bounds = bounds_of(line)
-        node, found = self.node_of(line, bounds), self.gaps_up_to(bounds)
-        reached = self.shared.get(node.rank) if node.next else None
-        reached = self.add_pairs(found, node, reached or [-1] * len(self.chains))
-        if node.next:
+        bounds, position = bounds_of(line), self.positions[line["r"]].get(line["i"])
+        # One that is done has no node, and gets one of its own.
+        is_done = position is None
+        node = Node(self.heads_of(bounds)) if is_done else self.chains[line["r"]][position]
+        found = self.gaps_up_to(bounds)
+        if not node.next:
+            self.add_pairs(found, node, [-1] * len(self.chains))
+        else:
+            reached = self.shared.get(node.rank) or [-1] * len(self.chains)
+            reached = self.add_pairs(found, node, reached)
             self.shared[node.rank] = joined(reached, node.heads)
-            replica, position = node.next
-            found.append(self.named[replica][position])
+            if node.next != (line["r"], position):
+                found.append(self.named[node.next[0]][node.next[1]])
         found.sort()
-        own = pair_of(line["r"], line["i"])
-        return [pair for pair in found if pair != own] if own in found else found
+        return found
 
     def add_pairs(self, found, node, reached):
         """Adds the pairs of an instance, where so much of what it reaches is reached without."""
         chains, ring = self.chains, node.rank if node.next else None
         # Those of the highest rank are last, and come first: no other one reaches them.
-        heads = sorted([(chains[replica][head].rank, replica, head)
-                        for replica, head in enumerate(node.heads) if head > reached[replica]])
+        heads = [(chains[replica][head].rank, replica, head)
+                 for replica, head in enumerate(node.heads) if head > reached[replica]]
+        heads.sort()
         while len(heads) > 1 or heads and ring is not None:
             rank, replica, position = heads.pop()
             if rank != ring:
@@ -310,14 +325,13 @@ class All(Rule):
                 bisect.insort(heads, (rank, replica, position - 1))
         for _, replica, position in heads:
             # Only one replica is left, so what is reached of others is not asked for.
-            chain, named, most = chains[replica], self.named[replica], reached[replica]
-            while position > most:
-                position = chain[position].hub
-                found.append(named[position])
-                other = chain[position].own[replica]
-                if other > most:
-                    most = other
-                position -= 1
+            lows, at, most = self.lows[replica], position, reached[replica]
+            while at > most:
+                if lows[at] > most:
+                    most = lows[at]
+                at -= 1
+            found += self.named[replica][at + 2 : position + 1]
+            found.append(self.named[replica][chains[replica][at + 1].hub])
         return reached
 
 
