@@ -86,11 +86,10 @@ class Conflicting(Rule):
                     found[replica] += last_users(*known, bounds[replica], writes)
             # Commands of one replica may cross, so its own array may name a later one too.
             found[own] += last_users(*users[own], before, writes)
-        pairs = [(replica, number) for replica in sorted(found)
-                 for number in sorted({*found[replica]})]  # fmt: skip
         if own < len(bounds) and bounds[own] > before:
-            pairs = [pair for pair in pairs if pair != (own, before + 1)]
-        return pairs
+            found[own] = [number for number in found[own] if number != line["i"]]
+        return [(replica, number) for replica in sorted(found)
+                for number in sorted({*found[replica]})]  # fmt: skip
 
 
 def last_users(numbers, writers, most, writes):
@@ -142,7 +141,7 @@ class Search:
     def __init__(self, chains):
         self.chains, self.rank = chains, 0
         self.nothing = [-1] * len(chains)
-        # How many prefixes of each replica are opened, and how many of these belong to a component.
+        # How many prefixes of each replica are opened, and how many of these are in a component.
         self.opened, self.closed = [0] * len(chains), [0] * len(chains)
         # Open prefixes, where a component of them may begin, and which numbers are to be followed.
         self.path, self.roots, self.todo = [], [], []
@@ -274,8 +273,8 @@ class All(Rule):
         # By position, what an instance, or the hub in its place, reaches of its own replica.
         self.lows = [[chain[node.hub].own[replica] for node in chain]
                      for replica, chain in enumerate(self.chains)]  # fmt: skip
-        # By rank, what those of a ring reach by the pairs that they have so far.
-        self.shared = {}
+        # What the instances name that reach themselves.
+        self.cyclic = self.share_out()
 
     def heads_of(self, bounds):
         heads = []
@@ -287,30 +286,38 @@ class All(Rule):
             heads.append(head)
         return heads
 
+    def share_out(self):
+        """The pairs of those that reach themselves. Each names the next one of its ring, and what
+        those before it have left of what its numbers mean."""
+        shared, pairs = {}, {}
+        for replica, chain in enumerate(self.chains):
+            for position, node in enumerate(chain):
+                if node.next:
+                    found = pairs[replica, position] = []
+                    known = shared.get(node.rank) or [-1] * len(self.chains)
+                    known = self.add_pairs(found, node, known)
+                    shared[node.rank] = joined(known, node.heads)
+                    if node.next != (replica, position):
+                        found.append(self.named[node.next[0]][node.next[1]])
+        return pairs
+
     def pairs(self, line):
-        bounds, position = bounds_of(line), self.positions[line["r"]].get(line["i"])
-        # One that is done has no node, and gets one of its own.
-        is_done = position is None
-        node = Node(self.heads_of(bounds)) if is_done else self.chains[line["r"]][position]
-        found = self.gaps_up_to(bounds)
-        if not node.next:
-            self.add_pairs(found, node, [-1] * len(self.chains))
+        replica, bounds = line["r"], bounds_of(line)
+        position, found = self.positions[replica].get(line["i"]), self.gaps_up_to(bounds)
+        # One that a base has done has no node, and gets one of its own.
+        node = Node(self.heads_of(bounds)) if position is None else self.chains[replica][position]
+        if node.next:
+            found += self.cyclic[replica, position]
         else:
-            reached = self.shared.get(node.rank) or [-1] * len(self.chains)
-            reached = self.add_pairs(found, node, reached)
-            self.shared[node.rank] = joined(reached, node.heads)
-            if node.next != (line["r"], position):
-                found.append(self.named[node.next[0]][node.next[1]])
-        found.sort()
-        return found
+            self.add_pairs(found, node, [-1] * len(self.chains))
+        return sorted(found)
 
     def add_pairs(self, found, node, reached):
         """Adds the pairs of an instance, where so much of what it reaches is reached without."""
         chains, ring = self.chains, node.rank if node.next else None
         # Those of the highest rank are last, and come first: no other one reaches them.
-        heads = [(chains[replica][head].rank, replica, head)
-                 for replica, head in enumerate(node.heads) if head > reached[replica]]
-        heads.sort()
+        heads = sorted((chains[replica][head].rank, replica, head)
+                       for replica, head in enumerate(node.heads) if head > reached[replica])
         while len(heads) > 1 or heads and ring is not None:
             rank, replica, position = heads.pop()
             if rank != ring:
