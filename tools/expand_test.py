@@ -286,7 +286,8 @@ def reached(place, named):
 
 def reaches_alike(rng):
     """Whether the pairs of random lines reach the committed instances that all pairs would, and of
-    those that are not committed the first of each replica. A base may have done some."""
+    those that are not committed the first of each replica. A base may have done some. None of the
+    pairs of an instance may reach another one of them, but where it reaches itself."""
     lines, first = random_lines(rng, rng.randint(1, 4), rng.choice((3, 7)))
     commits = collections.defaultdict(dict)
     for line in lines:
@@ -303,7 +304,11 @@ def reaches_alike(rng):
         for replica, number in wanted - {*places}:
             gaps[replica].append(number)
         wanted = wanted & {*places} | {(replica, min(them)) for replica, them in gaps.items()}
-        if reached(place, few) - {place} != wanted - {place}:
+        found = reached(place, few)
+        if found - {place} != wanted - {place}:
+            return False
+        named = few[place] & {*places}
+        if place not in wanted and any(named & reached(it, few) - {it} for it in named):
             return False
     return True
 
@@ -320,12 +325,30 @@ def random_holds(program, seed, folder):
         return False
     for at in range(10):
         lines, first = random_lines(rng, rng.randint(2, 5), 30)
-        (folder / f"{at}").mkdir()
+        room = folder / f"{at}"
+        room.mkdir()
         whole = [line | {"deps": sorted(all_pairs(line, first))} for line in lines]
-        paths = write_logs(folder / f"{at}/whole", [whole])
-        expand(write_logs(folder / f"{at}/numbers", [lines]), folder / f"{at}/few", All, None, first)
-        if ask(program, "run", *paths) != ask(program, "run", folder / f"{at}/few/0.jsonl"):
+        paths = write_logs(room / "whole", [whole])
+        expand(write_logs(room / "numbers", [lines]), room / "few", All, None, first)
+        if ask(program, "run", *paths) != ask(program, "run", room / "few/0.jsonl"):
             return False
+    return True
+
+
+def large_holds(_, seed, folder):
+    """Whether a cluster that is large enough for several processes has the pairs that one finds."""
+    logs = cluster(random.Random(seed), 3, 45_000)
+    commits = collections.defaultdict(dict)
+    for line in (line for lines in logs for line in lines):
+        commits[line["r"]][line["i"]] = line
+    for word, kind in KINDS.items():
+        expand(write_logs(folder / word / "numbers", logs), folder / word / "pairs", kind)
+        rule = kind(commits, (), 0)
+        for number, lines in enumerate(logs):
+            with open(folder / word / f"pairs/{number}.jsonl") as found:
+                for line, text in zip(lines, found, strict=True):
+                    if text != text_of(line | {"deps": rule.pairs(line)}) + "\n":
+                        return False
     return True
 
 
@@ -397,7 +420,8 @@ def is_refused(words, status, why, folder):
     """Whether words are refused with one line that says why, or the lines that ask for a meaning,
     and nothing is written."""
     before = sorted(folder.rglob("*"))
-    ended = subprocess.run([TOP / "tools/expand", *words], cwd=folder, capture_output=True, text=True)
+    words = [TOP / "tools/expand", *words]
+    ended = subprocess.run(words, cwd=folder, capture_output=True, text=True)
     is_right = ended.returncode == status and ended.stderr.startswith(f"tools/expand: {why}")
     count = 2 if why == WHICH else 1
     is_right = is_right and ended.stderr.count("\n") == count and not ended.stdout
@@ -435,8 +459,8 @@ def disagreeing_logs():
 
 
 def disagreements(folder):
-    """How many of two lines that disagree, or that agree, are not refused, or taken, as they should
-    be, and of how many."""
+    """How many logs with lines that disagree, or that agree, are not refused, or taken, as they
+    should be, and of how many."""
     wrong = tried = 0
     agreed = [GOOD, *(GOOD | change for change in SAME), dict(reversed(GOOD.items()))]
     for word in KINDS:
@@ -508,6 +532,7 @@ TRIALS = {
     "set of clusters": (cluster_holds, 5),
     "compacted cluster": (compacted_holds, 5),
     "set of random lines": (random_holds, 2),
+    "large cluster": (large_holds, 1),
     "instance of many dependencies": (many_holds, 1),
 }
 
@@ -525,6 +550,7 @@ def test(program, seed):
     with tempfile.TemporaryDirectory() as folder:
         wrong, tried = refusals(pathlib.Path(folder))
     print("tools/expand: 5 banks of 2,000 instances, 30 clusters of 400 and 10 of 600 have the "
-          "same answers once expanded; 2,000 sets of random lines reach the same, and 20 have the "
-          f"same report; {tried} refusals and agreements, {wrong} of them wrong")  # fmt: skip
+          "same answers once expanded; 2,000 sets of random lines reach the same, 20 have the same "
+          "report, and 45,000 instances the same pairs by several processes; "
+          f"{tried} refusals and agreements, {wrong} of them wrong")  # fmt: skip
     return 1 if wrong else 0

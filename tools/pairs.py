@@ -119,8 +119,8 @@ class Node:
         self.reach = self.own = None
         # The last position of its prefix from which all that its component reaches is reached.
         self.hub = None
-        # Where the instance reaches itself, the one after it in the ring of those of its component,
-        # which is itself where it is alone.
+        # Where the instance reaches itself, the next one in the ring of its component. One that is
+        # alone is its own next.
         self.next = None
 
     def is_cyclic(self):
