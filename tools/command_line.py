@@ -2,6 +2,7 @@
 
 import argparse
 import contextlib
+import importlib
 import os
 import pathlib
 import signal
@@ -71,6 +72,13 @@ def built(program):
     if not path.is_file() or not os.access(path, os.X_OK):
         stop(f"there is no program {program}: ./epx run builds it")
     return str(path)
+
+
+def load_test(module):
+    """The test of a tool, which a module of the repository has."""
+    if not (TOP / f"tools/{module}.py").is_file():
+        stop("the test is a part of the repository, and of no archive")
+    return importlib.import_module(module).test
 
 
 def counted(what, items):

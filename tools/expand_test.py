@@ -10,7 +10,8 @@ import subprocess
 import tempfile
 
 from command_line import TOP, counted
-from pairs import KINDS, All, Conflicting, accesses
+from logs import accesses
+from pairs import KINDS, All, Conflicting
 
 ENCODER = json.JSONEncoder(separators=(",", ":"))
 WORDS = {kind: f"--{word}" for word, kind in KINDS.items()}

@@ -6,19 +6,10 @@ A rule is made of all instances that are committed. Then it gives the pairs of e
 import array
 import bisect
 import collections
-import heapq
+
+from logs import accesses
 
 MOST_REPLICAS = 256
-
-
-def accesses(ops):
-    """The keys of a command, each with whether it is written."""
-    found = {}
-    for name, key, *rest in ops:
-        found[key] = found.get(key, False) or name in ("put", "del", "add")
-        if name == "copy":
-            found[rest[0]] = True
-    return found
 
 
 def bounds_of(line):
