@@ -19,10 +19,10 @@ WORDS = {kind: f"--{word}" for word, kind in KINDS.items()}
 WHICH = "--conflicting or --all is missing: does your replica look for conflicts"
 
 
-def expand(paths, folder, kind, base=None, first=0):
+def expand(paths, folder, kind, base=None, first=0, more=()):
     """Expands logs as a user does."""
     words = [TOP / "tools/expand", WORDS[kind], *paths, "--out", folder, "--first", str(first)]
-    words += ["--base", base] if base else []
+    words += [*more, "--base", base] if base else more
     subprocess.run(words, check=True, capture_output=True)
 
 
@@ -174,6 +174,10 @@ def executes_alike(program, rng, folder, kind, keys):
     named = {place: named_by(commands.values(), line, kind) for place, line in commands.items()}
     expand(write_logs(folder / "numbers", logs), folder / "expanded", kind, None, first)
     paths = sorted((folder / "expanded").glob("*.jsonl"))
+    numbers = sorted((folder / "numbers").iterdir())
+    expand(numbers, folder / "texts", kind, None, first, ["--texts"])
+    if any(path.read_text() != (folder / "texts" / path.name).read_text() for path in paths):
+        return False
     order = executed(rng, commands, named)
     (folder / "list").write_text("".join(f"[{replica},{number}]\n" for replica, number in order))
     verdict = ask(program, "check", folder / "list", *paths)
@@ -410,6 +414,11 @@ def bad_logs():
     for member in GOOD:
         rest = {name: value for name, value in GOOD.items() if name != member}
         yield json.dumps(rest).encode(), f"bad.jsonl line 1: {member} is missing", "--conflicting"
+    for ops in ([["put", "a", None]], [["put", "", "x"]], [["put", "a", ["\ud800"]]]):
+        text = json.dumps(GOOD | {"ops": [["put", "a", {"x": 1.5}], *ops]}).encode()
+        yield text, "bad.jsonl line 1: ops has no operation at place 1", "--all --texts"
+    text = b'{"r":0,"i":0,"seq":1,"deps":[],"ops":[["put","a",' + b"[" * 128 + b"]" * 128 + b"]]}"
+    yield text, "bad.jsonl line 1: ops has no operation at place 0", "--all --texts"
     reads = (json.dumps(GOOD | {"i": i + 1, "deps": []}) + "\n" for i in range(257))
     last = json.dumps(GOOD | {"i": 258, "deps": [257], "ops": [["put", "a", 1]]})
     log = "".join([*reads, last]).encode()
@@ -450,6 +459,38 @@ SAME = (
     {"status": "executed", "note": 1},
     {"status": "accepted", "seq": 7, "deps": None},
 )
+
+
+# The same with --texts: a value with another that differs from it, and some that equal it.
+TEXTS = (
+    ("1", "true", ("1.0", "10e-1")),
+    ("0.1", "0.10000000000000001", ("0.10", "1e-1")),
+    ('{"x":[1],"y":0}', '{"x":[1,0],"y":0}', ('{"y":0,"x":[1.0]}',)),
+    ("[" * 127 + "]" * 127, "[" * 126 + "]" * 126, ()),
+)
+
+
+def log_of_values(path, values):
+    """Writes a log that commits one instance once for each text of a value."""
+    texts = [f'{{"r":0,"i":0,"seq":1,"deps":[0],"ops":[["put","a",{value}]]}}\n' for value in values]
+    path.write_text("".join(texts), encoding="utf-8")
+
+
+def disagreements_of_texts(folder):
+    """How many logs of values that are equal, or that are not, are not taken, or refused, as they
+    should be, and of how many."""
+    wrong = 0
+    for number, (value, other, same) in enumerate(TEXTS):
+        room = folder / f"texts{number}"
+        room.mkdir()
+        log_of_values(room / "good", [value, *same])
+        expand([room / "good"], room / "out", All, more=["--texts"])
+        found, wanted = ((room / name).read_text() for name in ("out/good", "good"))
+        wrong += found != wanted.replace('"deps":[0]', '"deps":[]')
+        log_of_values(room / "bad", [value, *same, other])
+        said = f"bad line 1 and bad line {len(same) + 2} commit 0.0 with different ops"
+        wrong += not is_refused(["--all", "--texts", "bad", "--out", "new"], 1, said, room)
+    return wrong, 2 * len(TEXTS)
 
 
 def disagreeing_logs():
@@ -520,11 +561,12 @@ def refusals(folder):
     wrong = sum(not is_refused(*case, folder) for case in cases)
     for text, why, meaning in bad_logs():
         (folder / "bad.jsonl").write_bytes(text)
-        words = [meaning, "bad.jsonl", "--out", "out"]
+        words = [*meaning.split(), "bad.jsonl", "--out", "out"]
         wrong += not is_refused(words, 1, why, folder)
     (folder / "pairs").mkdir()
-    more, tried = disagreements(folder / "pairs")
-    return wrong + more, tried + len(cases) + sum(1 for _ in bad_logs())
+    found = [disagreements(folder / "pairs"), disagreements_of_texts(folder / "pairs")]
+    wrong += sum(more for more, _ in found)
+    return wrong, sum(tried for _, tried in found) + len(cases) + sum(1 for _ in bad_logs())
 
 
 # What is tried, and how often.
