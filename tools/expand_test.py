@@ -9,9 +9,11 @@ import random
 import subprocess
 import tempfile
 
+import trials
 from command_line import TOP, counted
 from logs import accesses
 from pairs import KINDS, All, Conflicting
+from trials import conflict
 
 ENCODER = json.JSONEncoder(separators=(",", ":"))
 WORDS = {kind: f"--{word}" for word, kind in KINDS.items()}
@@ -83,20 +85,15 @@ def cluster(rng, replicas, instances, most_keys=2, first=0):
     return logs
 
 
-def conflict(line, other):
-    own, keys = accesses(line["ops"]), accesses(other["ops"])
-    return any(key in keys and (writes or keys[key]) for key, writes in own.items())
-
-
 def named_by(commands, line, kind):
     """All instances that the numbers of a line mean."""
-    named = []
+    named, own = [], accesses(line["ops"])
     for other in commands:
         most = line["deps"][other["r"]]
         is_named = most is not None and other["i"] <= most
         if kind is Conflicting:
             is_before = other["r"] == line["r"] and other["i"] < line["i"]
-            is_named = (is_named or is_before) and conflict(line, other)
+            is_named = (is_named or is_before) and conflict(own, accesses(other["ops"]))
         if is_named and other is not line:
             named.append((other["r"], other["i"]))
     return sorted(named)
@@ -148,11 +145,7 @@ def text_of(value):
 
 def write_logs(folder, logs):
     """Writes logs of these lines, and returns their paths."""
-    folder.mkdir(parents=True)
-    paths = [folder / f"{number}.jsonl" for number in range(len(logs))]
-    for path, lines in zip(paths, logs):
-        path.write_text("".join(text_of(line) + "\n" for line in lines))
-    return paths
+    return trials.write_logs(folder, [map(text_of, lines) for lines in logs])
 
 
 def cluster_holds(program, seed, folder):
@@ -429,17 +422,8 @@ def bad_logs():
 def is_refused(words, status, why, folder):
     """Whether words are refused with one line that says why, or the lines that ask for a meaning,
     and nothing is written."""
-    before = sorted(folder.rglob("*"))
-    words = [TOP / "tools/expand", *words]
-    ended = subprocess.run(words, cwd=folder, capture_output=True, text=True)
-    is_right = ended.returncode == status and ended.stderr.startswith(f"tools/expand: {why}")
-    count = 2 if why == WHICH else 1
-    is_right = is_right and ended.stderr.count("\n") == count and not ended.stdout
-    if not is_right or sorted(folder.rglob("*")) != before:
-        print(f"WRONG: {words} ended with {ended.returncode} and not with {status}: {why}\n"
-              f"{ended.stdout}{ended.stderr}", end="")  # fmt: skip
-        return False
-    return True
+    lines = 2 if why == WHICH else 1
+    return trials.is_refused("expand", words, status, why, folder, lines=lines)
 
 
 # What two lines that commit one instance may not disagree in.

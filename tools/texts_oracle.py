@@ -5,10 +5,7 @@ import decimal
 import json
 
 from logs import accesses
-
-
-def conflict(own, other):
-    return any(key in other and (writes or other[key]) for key, writes in own.items())
+from trials import conflict
 
 
 def plain(value):

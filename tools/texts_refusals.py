@@ -1,8 +1,10 @@
 """What tools/texts must refuse: words, lines of logs, and answers. A module, and no tool itself."""
 
+import functools
 import json
 import subprocess
 
+import trials
 from command_line import TOP
 
 GOOD = {"r": 0, "i": 0, "seq": 1, "deps": [[1, 3]], "ops": [["get", "a"]]}
@@ -124,18 +126,7 @@ BAD_TRACES = (
 TRACES = ((b"", b""), (b'["read",0,0,0]\n', b'["read",0,0,"x"]\n'))
 
 
-def is_refused(words, status, why, folder, text=b""):
-    """Whether words are refused with one line that says why, and nothing is written."""
-    before = {path: path.stat().st_mtime_ns for path in folder.rglob("*")}
-    ended = subprocess.run([TOP / "tools/texts", *words], cwd=folder, input=text,
-                           capture_output=True, check=False)  # fmt: skip
-    said = ended.stderr.decode()
-    is_right = ended.returncode == status and said.startswith(f"tools/texts: {why}")
-    is_right = is_right and said.count("\n") == 1 and not ended.stdout
-    is_right = is_right and before == {it: it.stat().st_mtime_ns for it in folder.rglob("*")}
-    if not is_right:
-        print(f"WRONG: {words} ended with {ended.returncode} and not with {status}: {why}\n{said}")
-    return is_right
+is_refused = functools.partial(trials.is_refused, "texts")
 
 
 def is_trace_taken(folder, text, wanted):

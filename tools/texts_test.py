@@ -11,14 +11,15 @@ import re
 import subprocess
 import tempfile
 
-import exact_json
 import renaming
 import texts_back
 import texts_refusals
 from command_line import TOP, counted
+from expand_test import cluster
 from logs import accesses
-from texts_oracle import Store, conflict, parsed, places_in, plain, rows_of, wanted_audit
-from texts_oracle import wanted_levels, wanted_report
+from texts_oracle import Store, parsed, places_in, plain, rows_of, wanted_audit, wanted_levels
+from texts_oracle import wanted_report
+from trials import conflict, write_logs
 
 
 def load_tool():
@@ -110,14 +111,6 @@ def logs_of(rng, commands):
             early = json.dumps(early | {"ops": "any"})
             lines.insert(rng.randint(0, len(lines)), rng.choice(("", " \t", early)))
     return logs
-
-
-def write_logs(folder, logs):
-    folder.mkdir()
-    paths = [folder / f"{number}.jsonl" for number in range(len(logs))]
-    for path, lines in zip(paths, logs):
-        path.write_text("".join(line + "\n" for line in lines))
-    return paths
 
 
 def differing(rng, logs):
@@ -403,6 +396,52 @@ def expands_alike(count, program, seed, folder):
         count.compare("expanded", seed, text or why, wanted)
 
 
+def give_texts(rng, logs):
+    """Gives the commands of a cluster values of texts, longer keys and, to some, long batches."""
+    value = values_of(rng)
+    for command in {id(line): line for lines in logs for line in lines}.values():
+        ops = [["put" if more else name, key * 30, *(json.loads(value(rng)) for _ in more)]
+               for name, key, *more in command["ops"]]  # fmt: skip
+        command["ops"] = ops * rng.choice((1, 1, 1, 30))
+
+
+def composed(program, folder, word, logs, base=None):
+    """The report over logs that are expanded and then renamed, turned back. A base is for both."""
+    paths = write_logs(folder / "logs", [map(json.dumps, lines) for lines in logs])
+    words = [TOP / "tools/expand", word, "--texts", *paths, "--out", folder / "pairs"]
+    words += ["--base", base] if base else []
+    subprocess.run(words, check=True, capture_output=True)
+    out = folder / "out"
+    names = TOOL.rename([folder / "pairs" / path.name for path in paths], out, base=base)
+    asked = ["resume", out / base.name] if base else ["run"]
+    return turned(out, names, ask(program, *asked, *(out / path.name for path in paths)))[0]
+
+
+BOTH = "bases with replies in them and after them"
+
+
+def resumes_alike(count, program, seed, folder):
+    """Compares the report over logs of a cluster, which lack an instance, with what comes of a
+    first part of them, and of what is left with the report of that part as a base."""
+    rng, word = random.Random(seed), ("--all", "--conflicting")[seed % 2]
+    logs = [[line for line in lines if (line["r"], line["i"]) != (0, 100)]
+            for lines in cluster(rng, 3, 400)]  # fmt: skip
+    give_texts(rng, logs)
+    whole = composed(program, folder / "whole", word, logs)
+    early = [[line for line in lines if line["i"] < 60] for lines in logs]
+    report = composed(program, folder / "early", word, early)
+    (folder / "base").write_bytes(report)
+    done = places_in(report, "reply")
+    late = [[line for line in lines if (line["r"], line["i"]) not in done] for lines in logs]
+    found = composed(program, folder / "late", word, late, folder / "base")
+    # A cluster may be one great cycle, of which nothing is executed in one of the parts.
+    count.same[BOTH] += bool(done and places_in(found, "reply") and places_in(found, "waiting"))
+    for kind in ("reply", "waiting", "store"):
+        ended, before, wanted = ({row for row in rows_of(text) if row[1][0][1] == kind}
+                                 for text in (found, report, whole))  # fmt: skip
+        count.compare("composed", seed, ended | before if kind == "reply" else ended, wanted)
+
+
 def partner_is_refused(count, program, folder):
     """Asks for the pair of an audit whose first instance has a lower partner in its second part
     than in its first."""
@@ -420,7 +459,8 @@ def partner_is_refused(count, program, folder):
 def test(program, seed):
     """Compares answers turned back, and tries what must be refused."""
     rng, count = random.Random(seed), Count()
-    calls = {exact_holds: 80, damaged_holds: 80, texts_hold: 80, expands_alike: 20}
+    calls = {exact_holds: 80, damaged_holds: 80, texts_hold: 80, expands_alike: 20,
+             resumes_alike: 10}  # fmt: skip
     cases = [(call, seed) for call, often in calls.items()
              for seed in rng.sample(range(1_000_000), often)]  # fmt: skip
     for call, number in counted("clusters", cases):
@@ -428,6 +468,8 @@ def test(program, seed):
             call(count, program, number, pathlib.Path(folder))
         if count.wrong:
             return 1
+    if count.same[BOTH] < 5:
+        count.wrong_answer(BOTH, seed, count.same[BOTH], "5 or more")
     with tempfile.TemporaryDirectory() as folder:
         partner_is_refused(count, program, pathlib.Path(folder))
     with tempfile.TemporaryDirectory() as folder:
