@@ -11,6 +11,7 @@ mod LineBatchLemmas
 mod LineEndLemmas
 mod LineCacheLemmas
 mod PlaceOrderLemmas
+mod WalkLemmas
 mod ReadFaultLemmas
 mod AnswerLemmas
 pub mod UniquenessLemmas

@@ -47,7 +47,7 @@ module _ {Y : Type 0} (place : Y → Place) (given : MeaningAt → List Y)
 
 -- ---- all lines
 
-in_log : (log n : ℕ) (ls : List (List ℕ)) (x : MeaningAt) → Contains (meanings_in log n ls) x
+pub in_log : (log n : ℕ) (ls : List (List ℕ)) (x : MeaningAt) → Contains (meanings_in log n ls) x
     → (x.place.log ≡ log) × (n ≤ x.place.line)
 in_log log n [] x h = absurd (Contains-nil x h)
 in_log log n (l ∷ ls) x h =
@@ -70,7 +70,7 @@ lines_in_order log n (l ∷ ls) = (
   lines_in_order log (suc n) ls,
 )
 
-from_log : (n : ℕ) (logs : List (List ℕ)) (x : MeaningAt) → Contains (meanings_from n logs) x
+pub from_log : (n : ℕ) (logs : List (List ℕ)) (x : MeaningAt) → Contains (meanings_from n logs) x
     → n ≤ x.place.log
 from_log n [] x h = absurd (Contains-nil x h)
 from_log n (log ∷ logs) x h =

@@ -1,5 +1,6 @@
 //! Iterates over the lines of logs.
-ghost use Rattle.std.specs.Prelude.{◌≡◌, ◌<◌, ◌^◌, ◌∷◌, [], MatchOption};
+ghost use Rattle.std.specs.Prelude.{◌≡◌, ◌≢◌, ◌↔◌, ◌<◌, ◌^◌, ◌∷◌, [], true, false, Contains};
+ghost use Rattle.std.specs.Prelude.{MatchOption, Some, slice_get};
 ghost use Rattle.epx_merge.specs.LogLines.{meanings_of, meanings_from, meanings_left, bytes_of};
 
 use crate::line::PlacedLine;
@@ -74,7 +75,10 @@ impl<'a> LineWalk<'a> {
     }
 
     /// Whether the next line is one of the first log.
-    pub fn is_in_first_log(&self) -> bool {
+    pub fn is_in_first_log(&self) -> bool
+        ensures { (result ≡ true)
+            ↔ ((line : _) × Contains self.now line × (line.place.log ≡ 0)) }
+    {
         self.log == 0 && !self.rest.is_empty()
     }
 
@@ -84,7 +88,11 @@ impl<'a> LineWalk<'a> {
     }
 
     /// Whether the last line was the last one of its log.
-    pub fn ends_log(&self) -> bool {
+    pub fn ends_log(&self) -> bool
+        ensures ended { result ≡ true
+            → (line : _) → slice_get self.now 0 ≡ Some line → line.place.line ≡ 1 }
+        ensures more { result ≡ false → self.now ≢ [] }
+    {
         self.rest.is_empty()
     }
 

@@ -1,1 +1,2 @@
+pub mod ReplyLengths
 pub mod inner

@@ -3,6 +3,7 @@ ghost use Rattle.std.specs.Prelude.{◌≡◌, IfOk, OnOk};
 ghost use Rattle.std.specs.FinMap as contents;
 ghost use Rattle.epx_types.specs.Commands.{command_on};
 ghost use Rattle.epx_types.specs.Writes.{writes_of};
+ghost use Rattle.epx_txn.specs.ReplyLengths.{reply_length};
 
 use crate::draft::{Draft, Step, operate};
 use crate::effect::{Effect, Writes};
@@ -12,12 +13,14 @@ use epx_types::{Memory, Op, Reply, Values};
 use std::alloc::Global;
 
 /// Returns how many values the reply to a command has, unless the command aborts: one for each
-/// `get`. It is a hint: only room depends on it.
-pub fn reply_len(ops: &[Op]) -> usize {
-    let mut values = 0usize;
+/// `get`.
+pub fn reply_len(ops: &[Op]) -> usize
+    ensures { result ≡ reply_length ops.now }
+{
+    let mut values = 0;
     for op in ops {
         if matches!(op, Op::Get { .. }) {
-            values = values.saturating_add(1);
+            values += 1;
         }
     }
     values
