@@ -21,9 +21,11 @@ use Rattle.epx_report.specs.declared.form.BaseLine.{BaseLine}
 use Rattle.epx_report.specs.declared.form.BaseLine.TheVariants.{Header, Done, Reply, Waiting, Store}
 use Rattle.epx_report.specs.Forms.{id_from, counts_of, header_of, id_line_of, short_line_of}
 use Rattle.epx_report.specs.Forms.{form_of_list, form_of, base_line_of}
-use Rattle.epx_report.specs.Seen.{Seen, nothing_seen, after, after_with}
-use Rattle.epx_report.specs.Bases.{after_line, or_line_number, reading, put_pairs, IsBase}
+use Rattle.epx_report.specs.inner.Seen.{Seen, nothing_seen, after, after_with}
+use Rattle.epx_report.specs.Bases.{IsBase}
+use Rattle.epx_report.specs.inner.BaseReadings.{after_line, or_line_number, reading, put_pairs}
 use Rattle.epx_report.specs.ReportReadings.{FitsNumbers}
+use Rattle.epx_report.proofs.BaseLemmas.{reading_of_base}
 use Rattle.epx_report.proofs.RisingListLemmas.{Contains-insert_cases}
 use Rattle.epx_report.proofs.JsonStringLemmas.{by_branch, IfSome-branch, IfSome-map, IfSome-and_then}
 use Rattle.epx_report.proofs.JsonStringLemmas.{IfSome-trivial}
@@ -189,7 +191,8 @@ pub record FitsBase (ids : List Id) (c : Contents) : Type 0 where
 -- the instances and the store of a base are within their limits
 pub base_fits : (bytes : List ℕ) (done : List Id) (stored : Contents) → IsBase bytes done stored
     → FitsBase done stored
-base_fits bytes done stored h =
+base_fits bytes done stored is =
+    let h = reading_of_base bytes done stored is in
     let seen : FitsSeen h.seen =
     subst (λ (r : Result Seen ℕ). IfOk r FitsSeen) h.read
     (reading_fits nothing_seen 1 (lines_of bytes) nothing_fits) in

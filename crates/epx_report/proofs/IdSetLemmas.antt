@@ -30,7 +30,7 @@ use Rattle.epx_types.proofs.lists.TotalOrderLemmas.{below_irrefl, below_trans, b
 use Rattle.epx_types.proofs.lists.RisingIdLemmas.{AllPairs-from_IsRising, BelowAll-from_each}
 use Rattle.epx_types.proofs.remaining.RemainingLemmas.{is_among_cases}
 use Rattle.epx_lines.proofs.EntryLemmas.{IsRising-insert, IsRising-fold}
-use Rattle.epx_report.specs.Seen.{last, is_after_last}
+use Rattle.epx_report.specs.inner.Seen.{last, is_after_last}
 use Rattle.epx_report.specs.inner.IdSets.{with_late, AreRisingAndLate}
 use Rattle.epx_report.proofs.RisingListLemmas.{Contains-insert_itself, Contains-insert_other}
 use Rattle.epx_report.proofs.RisingListLemmas.{Contains-insert_cases, same_ids, last-cons}
@@ -65,7 +65,7 @@ Contains-with_cases rising (y ∷ late) x h =
       | inr rest ↦ inr (Contains-cons y late x rest)
     ]
 
-not_among : (xs : List Id) (x : Id) → ¬ Contains xs x → is_among xs x ≡ false
+pub not_among : (xs : List Id) (x : Id) → ¬ Contains xs x → is_among xs x ≡ false
 not_among xs x h = elim (is_among_cases xs x)
     [ inl found ↦ absurd (h found.1) | inr missed ↦ missed.0 ]
 
@@ -84,7 +84,7 @@ last-push [] x = refl
 last-push (y ∷ []) x = refl
 last-push (y ∷ z ∷ zs) x = last-cons y z (zs ++ x ∷ []) ∙ last-push (z ∷ zs) x
 
-above_each : (xs : List Id) (x y : Id) → IsRising xs → is_after_last id_cmp (last xs) x ≡ true
+pub above_each : (xs : List Id) (x y : Id) → IsRising xs → is_after_last id_cmp (last xs) x ≡ true
     → Contains xs y → Below y x
 above_each [] x y rising past h = absurd (Contains-nil y h)
 above_each (z ∷ []) x y rising past h =
@@ -111,7 +111,7 @@ within_not_above xs x rising h =
       | inr level ↦ level
     ]
 
-IsRising-push : (xs : List Id) (x : Id) → IsRising xs → ((y : Id) → Contains xs y → Below y x)
+pub IsRising-push : (xs : List Id) (x : Id) → IsRising xs → ((y : Id) → Contains xs y → Below y x)
     → IsRising (xs ++ x ∷ [])
 IsRising-push [] x rising each = (tt, tt)
 IsRising-push (y ∷ xs) x rising each = (

@@ -1,6 +1,13 @@
 pub mod ValueListLemmas
 pub mod NamedFormLemmas
 pub mod ArrayLemmas
+pub mod BadLineLemmas
+pub mod SaidLineLemmas
+pub mod LineOrderLemmas
+pub mod WholeBaseLemmas
+pub mod BegunBaseLemmas
+pub mod FurtherLineLemmas
+pub mod BaseReadingLemmas
 pub mod BaseLemmas
 pub mod ListLemmas
 pub mod LineFeedLemmas
@@ -9,7 +16,6 @@ pub mod ReportFormLemmas
 pub mod ReportReadingLemmas
 pub mod RisingListLemmas
 pub mod ReportBaseLemmas
-pub mod DoneInstanceLemmas
 pub mod IdSetLemmas
 pub mod JsonStringLemmas
 pub mod JsonValueLemmas

@@ -1,13 +1,169 @@
--- Any bytes are a list or a bad list.
-use Rattle.std.proofs.Common.{◌≡◌, ◌⊎◌, inl, inr, ℕ, List, Result, Ok, Err, refl}
+-- Reading the lines of a text finds the instances of a list, or the first bad line.
+use Rattle.std.proofs.Common.{◌≡◌, ◌⊎◌, inl, inr, ℕ, zero, suc, ◌+◌, ◌-◌, Bool, true, false, List}
+use Rattle.std.proofs.Common.{[], ◌∷◌, ◌++◌, map, take, Option, Some, None, Result, Ok, Err, refl}
+use Rattle.std.proofs.Common.{sym, ap, ap₂, ◌∙◌, subst, arith, append-nil, append_assoc}
 use Rattle.epx_types.specs.declared.id.Id.{Id}
-use Rattle.epx_report.specs.Lists.{list_reading, IsList, IsBadList}
-use Rattle.epx_report.specs.ListLaws.{ListOrBadList}
+use Rattle.epx_lines.specs.Lines.{lines_of}
+use Rattle.epx_lines.specs.Meaning.{is_blank}
+use Rattle.epx_report.specs.Lists.{listed_id_of, filled_lines, NameIds, AreListLines, IsList}
+use Rattle.epx_report.specs.Lists.{IsBadList}
+use Rattle.epx_report.specs.ListLaws.{ListOrBadList, ListIsNoBadList, ListNamesOneList}
+use Rattle.epx_report.specs.ListLaws.{BadListIsBadAtOneLine}
+use Rattle.epx_report.specs.inner.ListReadings.{read_list_lines, list_reading}
+use Rattle.epx_report.proofs.BadLineLemmas.{none_bad, one_bad}
+use Rattle.epx_report.proofs.SaidLineLemmas.{first_some, same_somes}
+
+-- ---- one line more
+
+blank_more : (l : List ℕ) (ls : List (List ℕ)) (ids : List Id) → is_blank l ≡ true
+    → NameIds ls ids → NameIds (l ∷ ls) ids
+blank_more l ls ids e h = rw e h
+
+blank_less : (l : List ℕ) (ls : List (List ℕ)) (ids : List Id) → is_blank l ≡ true
+    → NameIds (l ∷ ls) ids → NameIds ls ids
+blank_less l ls ids e h = rw e at h
+
+filled : (l : List ℕ) (ls : List (List ℕ)) → is_blank l ≡ false
+    → filled_lines (l ∷ ls) ≡ l ∷ filled_lines ls
+filled l ls e = rw e refl
+
+id_more : (l : List ℕ) (ls : List (List ℕ)) (x : Id) (ids : List Id) → is_blank l ≡ false
+    → listed_id_of l ≡ Some x → NameIds ls ids → NameIds (l ∷ ls) (x ∷ ids)
+id_more l ls x ids e named h =
+    ap (map listed_id_of) (filled l ls e) ∙ ap₂ (λ o os. o ∷ os) named h
+
+id_less : (l : List ℕ) (ls : List (List ℕ)) (ids : List Id) → is_blank l ≡ false
+    → NameIds (l ∷ ls) ids
+    → (x : Id) × (rest : List Id) × (listed_id_of l ≡ Some x) × NameIds ls rest × (ids ≡ x ∷ rest)
+id_less l ls ids e h = first_some (listed_id_of l) (map listed_id_of (filled_lines ls)) ids
+    (sym (ap (map listed_id_of) (filled l ls e)) ∙ h)
+
+-- ---- reading all lines
+
+-- what reading says of the lines: the first one has the number n
+abbrev Reads : List Id → ℕ → List (List ℕ) → Result (List Id) ℕ → Type 0
+Reads ids n ls (Ok all) = (more : List Id) × NameIds ls more × (all ≡ ids ++ more)
+Reads ids n ls (Err line) =
+    (k : ℕ) × (line ≡ n + k) × AreListLines (take k ls) × ¬ AreListLines (take (suc k) ls)
+
+reads_blank : (ids : List Id) (n : ℕ) (l : List ℕ) (ls : List (List ℕ)) (r : Result (List Id) ℕ)
+    → is_blank l ≡ true → Reads ids (n + 1) ls r → Reads ids n (l ∷ ls) r
+reads_blank ids n l ls (Ok all) e h = (h.0, blank_more l ls h.0 e h.1, h.2)
+reads_blank ids n l ls (Err line) e h = (
+  suc h.0,
+  omega (arith, h.1),
+  (h.2.0, blank_more l (take h.0 ls) h.2.0 e h.2.1),
+  λ good. h.3 (good.0, blank_less l (take (suc h.0) ls) good.0 e good.1),
+)
+
+reads_id : (ids : List Id) (n : ℕ) (l : List ℕ) (ls : List (List ℕ)) (x : Id)
+    (r : Result (List Id) ℕ) → is_blank l ≡ false → listed_id_of l ≡ Some x
+    → Reads (ids ++ x ∷ []) (n + 1) ls r → Reads ids n (l ∷ ls) r
+reads_id ids n l ls x (Ok all) e named h =
+    (x ∷ h.0, id_more l ls x h.0 e named h.1, h.2 ∙ append_assoc ids (x ∷ []) h.0)
+reads_id ids n l ls x (Err line) e named h = (
+  suc h.0,
+  omega (arith, h.1),
+  (x ∷ h.2.0, id_more l (take h.0 ls) x h.2.0 e named h.2.1),
+  λ good. let less = id_less l (take (suc h.0) ls) good.0 e good.1 in h.3 (less.1, less.3),
+)
+
+-- a line that is not blank and names no instance
+not_list_line : (l : List ℕ) → is_blank l ≡ false → listed_id_of l ≡ None
+    → ¬ AreListLines (l ∷ [])
+not_list_line l e none good = let less = id_less l [] good.0 e good.1 in cc (none, less.2)
+
+reads_on : (ids : List Id) (n : ℕ) (l : List ℕ) (ls : List (List ℕ)) (blank : Bool)
+    (o : Option Id) → is_blank l ≡ blank → listed_id_of l ≡ o
+    → ((more : List Id) → Reads more (n + 1) ls (read_list_lines more (n + 1) ls))
+    → Reads ids n (l ∷ ls) (read_list_lines ids n (l ∷ ls))
+reads_on ids n l ls true o e named rest =
+    rw e (reads_blank ids n l ls (read_list_lines ids (n + 1) ls) e (rest ids))
+reads_on ids n l ls false (Some x) e named rest =
+    rw (e, named) (reads_id ids n l ls x (read_list_lines (ids ++ x ∷ []) (n + 1) ls) e named
+    (rest (ids ++ x ∷ [])))
+reads_on ids n l ls false None e named rest =
+    rw (e, named) (0, omega arith, ([], refl), not_list_line l e named)
+
+reads_all : (ids : List Id) (n : ℕ) (ls : List (List ℕ))
+    → Reads ids n ls (read_list_lines ids n ls)
+reads_all ids n [] = ([], refl, sym (append-nil ids))
+reads_all ids n (l ∷ ls) = reads_on ids n l ls (is_blank l) (listed_id_of l) refl refl
+    (λ more. reads_all more (n + 1) ls)
+
+-- ---- lists and bad lists
+
+-- the first lines of a list are lines of a list
+fewer_lines : (n : ℕ) (ls : List (List ℕ)) → AreListLines ls → AreListLines (take n ls)
+fewer_lines zero ls h = ([], refl)
+fewer_lines (suc n) [] h = h
+fewer_lines (suc n) (l ∷ ls) h = fewer (is_blank l) refl (fewer_lines n ls)
+  where
+    fewer : (blank : Bool) → is_blank l ≡ blank
+        → (AreListLines ls → AreListLines (take n ls)) → AreListLines (l ∷ take n ls)
+    fewer true e shorter =
+        let rest = shorter (h.0, blank_less l ls h.0 e h.1) in
+        (rest.0, blank_more l (take n ls) rest.0 e rest.1)
+    fewer false e shorter =
+        let less = id_less l ls h.0 e h.1 in
+        let rest = shorter (less.1, less.3) in
+        (less.0 ∷ rest.0, id_more l (take n ls) less.0 rest.0 e less.2 rest.1)
+
+-- what reading yields is the list
+pub list_is_read : (bytes : List ℕ) (ids : List Id) → list_reading bytes ≡ Ok ids
+    → IsList bytes ids
+list_is_read bytes ids e =
+    let all = subst (Reads [] 1 (lines_of bytes)) e (reads_all [] 1 (lines_of bytes)) in
+    subst (NameIds (lines_of bytes)) (sym all.2) all.1
+
+-- the line at which reading stops is the first bad one
+pub bad_list_is_read : (bytes : List ℕ) (line : ℕ) → list_reading bytes ≡ Err line
+    → IsBadList bytes line
+bad_list_is_read bytes line e =
+    let stopped = subst (Reads [] 1 (lines_of bytes)) e (reads_all [] 1 (lines_of bytes)) in
+    let before : stopped.0 ≡ line - 1 = omega (arith, stopped.1) in
+    let here : suc stopped.0 ≡ line = omega (arith, stopped.1) in
+    record {
+      good_before = subst (λ k. AreListLines (take k (lines_of bytes))) before stopped.2;
+      bad_with = subst (λ k. ¬ AreListLines (take k (lines_of bytes))) here stopped.3;
+    }
 
 one_or_the_other : (bytes : List ℕ) (r : Result (List Id) ℕ) → list_reading bytes ≡ r
     → ((ids : List Id) × IsList bytes ids) ⊎ ((line : ℕ) × IsBadList bytes line)
-one_or_the_other bytes (Ok ids) e = inl (ids, e)
-one_or_the_other bytes (Err n) e = inr (n, e)
+one_or_the_other bytes (Ok ids) e = inl (ids, list_is_read bytes ids e)
+one_or_the_other bytes (Err n) e = inr (n, bad_list_is_read bytes n e)
 
 pub list_or_bad_list : ListOrBadList
 list_or_bad_list bytes = one_or_the_other bytes (list_reading bytes) refl
+
+pub list_is_no_bad_list : ListIsNoBadList
+list_is_no_bad_list bytes ids line is =
+    none_bad AreListLines fewer_lines (lines_of bytes) line (ids, is)
+
+pub list_names_one_list : ListNamesOneList
+list_names_one_list bytes ids other p q = same_somes ids other (sym p ∙ q)
+
+pub bad_list_is_bad_at_one_line : BadListIsBadAtOneLine
+bad_list_is_bad_at_one_line bytes = one_bad AreListLines fewer_lines (lines_of bytes)
+
+-- ---- reading finds every list and every bad list
+
+pub reading_of_list : (bytes : List ℕ) (ids : List Id) → IsList bytes ids
+    → list_reading bytes ≡ Ok ids
+reading_of_list bytes ids is = found (list_reading bytes) refl
+  where
+    found : (r : Result (List Id) ℕ) → list_reading bytes ≡ r → list_reading bytes ≡ Ok ids
+    found (Ok other) e = e ∙ ap Ok
+        (list_names_one_list bytes other ids (list_is_read bytes other e) is)
+    found (Err line) e =
+        absurd (list_is_no_bad_list bytes ids line is (bad_list_is_read bytes line e))
+
+pub reading_of_bad_list : (bytes : List ℕ) (line : ℕ) → IsBadList bytes line
+    → list_reading bytes ≡ Err line
+reading_of_bad_list bytes line bad = found (list_reading bytes) refl
+  where
+    found : (r : Result (List Id) ℕ) → list_reading bytes ≡ r → list_reading bytes ≡ Err line
+    found (Ok ids) e =
+        absurd (list_is_no_bad_list bytes ids line (list_is_read bytes ids e) bad)
+    found (Err other) e = e ∙ ap Err
+        (bad_list_is_bad_at_one_line bytes other line (bad_list_is_read bytes other e) bad)

@@ -1,7 +1,7 @@
 -- Reading the text of a report yields what its lines say.
-use Rattle.std.proofs.Common.{◌≡◌, ℕ, suc, ◌+◌, ℤ, true, List, [], ◌∷◌, ◌++◌, length, map}
-use Rattle.std.proofs.Common.{flat_map, All, IsUtf8, Option, Some, None, Result, refl, sym, ap}
-use Rattle.std.proofs.Common.{ap₂, ◌∙◌, arith, append_assoc, append-nil}
+use Rattle.std.proofs.Common.{◌≡◌, ℕ, suc, ℤ, true, List, [], ◌∷◌, ◌++◌, length, map, flat_map}
+use Rattle.std.proofs.Common.{All, IsUtf8, Some, refl, sym, ap, ap₂, ◌∙◌, arith, append_assoc}
+use Rattle.std.proofs.Common.{append-nil}
 use Rattle.std.proofs.lemmas.List.{map-append}
 use Rattle.std.specs.Int.{w64}
 use Rattle.std.specs.Int.RustNames.{FitsSigned}
@@ -12,45 +12,23 @@ use Rattle.epx_types.specs.declared.reply.Reply.{Reply}
 use Rattle.epx_types.specs.WaitingLists.{Waiting}
 use Rattle.epx_types.specs.Keys.{FitsKey}
 use Rattle.epx_lines.specs.Lines.{lines_of}
+use Rattle.epx_report.specs.declared.form.Counts.{Counts}
 use Rattle.epx_report.specs.declared.form.BaseLine.{BaseLine}
 use Rattle.epx_report.specs.declared.form.BaseLine.TheVariants as line
 use Rattle.epx_report.specs.Forms.{base_line_of}
-use Rattle.epx_report.specs.Seen.{Seen, nothing_seen, after}
-use Rattle.epx_report.specs.Bases.{or_line_number, reading}
-use Rattle.epx_report.specs.ReportLines.{array_of, header_data, done_data, reply_data, waiting_data}
-use Rattle.epx_report.specs.ReportLines.{store_data, done_line, reply_line, waiting_line, store_line}
-use Rattle.epx_report.specs.ReportReadings.{ReportData, text_of_report, said, FitsNumbers, FitsReply}
-use Rattle.epx_report.specs.ReportReadings.{FitsReportData, read_base_lines, ReportIsReadAsItSays}
+use Rattle.epx_report.specs.Bases.{lines_in_order}
+use Rattle.epx_report.specs.ReportLines.{array_of, header_data, done_data, reply_data}
+use Rattle.epx_report.specs.ReportLines.{waiting_data, store_data, done_line, reply_line}
+use Rattle.epx_report.specs.ReportLines.{waiting_line, store_line}
+use Rattle.epx_report.specs.ReportReadings.{ReportData, text_of_report, parts_of_report}
+use Rattle.epx_report.specs.ReportReadings.{FitsNumbers, FitsReply, FitsReportData}
+use Rattle.epx_report.specs.ReportReadings.{ReportIsReadAsItSays}
 use Rattle.epx_report.proofs.LineFeedLemmas.{is_unbroken, lines_of-unbroken, lines_of-each}
 use Rattle.epx_report.proofs.WrittenDataLemmas.{IsPlain, is_unbroken-compact_text}
-use Rattle.epx_report.proofs.ReportFormLemmas.{plain_header, plain_done, plain_reply, plain_waiting}
-use Rattle.epx_report.proofs.ReportFormLemmas.{plain_store, base_line_of-header, base_line_of-done}
-use Rattle.epx_report.proofs.ReportFormLemmas.{base_line_of-reply, base_line_of-waiting}
-use Rattle.epx_report.proofs.ReportFormLemmas.{base_line_of-store}
-
--- ---- lines with known meanings
-
-same_next : (n : ℕ) (o : Option Seen) (f g : Seen → Result Seen ℕ) → ((s : Seen) → f s ≡ g s)
-    → or_line_number n o f ≡ or_line_number n o g
-same_next n None f g h = refl
-same_next n (Some s) f g h = h s
-
-head_is : (x y : Option BaseLine) (xs ys : List (Option BaseLine)) → x ∷ xs ≡ y ∷ ys → x ≡ y
-head_is x y xs ys e = cc
-
-tail_is : (x y : Option BaseLine) (xs ys : List (Option BaseLine)) → x ∷ xs ≡ y ∷ ys → xs ≡ ys
-tail_is x y xs ys e = cc
-
-reading-says : (s : Seen) (n : ℕ) (texts : List (List ℕ)) (ls : List BaseLine)
-    → map base_line_of texts ≡ map Some ls → reading s n texts ≡ read_base_lines s n ls
-reading-says s n [] [] e = refl
-reading-says s n [] (l ∷ ls) e = absurd (cc e)
-reading-says s n (t ∷ ts) [] e = absurd (cc e)
-reading-says s n (t ∷ ts) (l ∷ ls) e =
-    let first = head_is (base_line_of t) (Some l) (map base_line_of ts) (map Some ls) e in
-    let rest = tail_is (base_line_of t) (Some l) (map base_line_of ts) (map Some ls) e in
-    rw first (same_next n (after s l) (λ u. reading u (n + 1) ts)
-    (λ u. read_base_lines u (n + 1) ls) (λ u. reading-says u (n + 1) ts ls rest))
+use Rattle.epx_report.proofs.ReportFormLemmas.{plain_header, plain_done, plain_reply}
+use Rattle.epx_report.proofs.ReportFormLemmas.{plain_waiting, plain_store, base_line_of-header}
+use Rattle.epx_report.proofs.ReportFormLemmas.{base_line_of-done, base_line_of-reply}
+use Rattle.epx_report.proofs.ReportFormLemmas.{base_line_of-waiting, base_line_of-store}
 
 -- ---- blocks of lines
 
@@ -82,6 +60,14 @@ text_of ds = compact_text (array_of ds)
 
 unbroken : (ds : List Data) → IsPlain (array_of ds) → is_unbroken (text_of ds) ≡ true
 unbroken ds h = is_unbroken-compact_text (array_of ds) h
+
+-- what the lines of a report say
+abbrev said : ReportData → List BaseLine
+said r =
+    line.Header (record { executed = length r.replies; waiting = length r.waiting })
+    ∷ (map line.Done r.done
+    ++ (map (λ p. line.Reply p.0) r.replies
+    ++ (map (λ w. line.Waiting w.id) r.waiting ++ map (λ p. line.Store p.0 p.1) r.stored)))
 
 module _ (r : ReportData) (h : FitsReportData r) where
   header_text : List ℕ
@@ -145,6 +131,20 @@ module _ (r : ReportData) (h : FitsReportData r) where
       ap₂ (λ l ls. l ∷ ls) (base_line_of-header (length r.replies) (length r.waiting) r.components
       h.replies_counted h.waiting_counted h.few_components) done
 
+map_named : {X Y Z : Type 0} (name : X → Y) (says : Y → Z) (xs : List X)
+    → map (λ x. says (name x)) xs ≡ map says (map name xs)
+map_named name says [] = refl
+map_named name says (x ∷ xs) = ap (λ ls. says (name x) ∷ ls) (map_named name says xs)
+
+said_in_order : (r : ReportData) → said r ≡ lines_in_order (parts_of_report r)
+said_in_order r =
+    let stored = map (λ (p : List ℕ × ℤ). line.Store p.0 p.1) r.stored in
+    let header : Counts = record { executed = length r.replies; waiting = length r.waiting } in
+    ap (λ ls. line.Header header ∷ (map line.Done r.done ++ ls))
+    (ap₂ (λ a b. a ++ b) (map_named (λ (p : Id × Reply). p.0) line.Reply r.replies)
+    (ap (λ a. a ++ stored) (map_named (λ (w : Waiting). w.id) line.Waiting r.waiting)))
+
 pub report_is_read_as_it_says : ReportIsReadAsItSays
-report_is_read_as_it_says r h = ap (reading nothing_seen 1) (lines_of-reported r h)
-    ∙ reading-says nothing_seen 1 (texts r h) (said r) (texts_say r h)
+report_is_read_as_it_says r h =
+    ap (map base_line_of) (lines_of-reported r h)
+    ∙ (texts_say r h ∙ ap (map Some) (said_in_order r))

@@ -13,7 +13,7 @@ use Rattle.epx_types.proofs.lists.ComparisonLemmas.{id_cmp_total, id_cmp-IsAntis
 use Rattle.epx_types.proofs.lists.TotalOrderLemmas.{below_irrefl, below_trans, same_rising}
 use Rattle.epx_types.proofs.lists.RisingIdLemmas.{AllPairs-from_IsRising}
 use Rattle.epx_types.proofs.keys.SortedEntryLemmas.{first_of, second_of}
-use Rattle.epx_report.specs.Seen.{last, is_after_last}
+use Rattle.epx_report.specs.inner.Seen.{last, is_after_last}
 
 -- ---- an inserted Id
 
@@ -78,7 +78,7 @@ above_last [] y ys h = refl
 above_last (x ∷ []) y ys h = h.0.0
 above_last (x ∷ z ∷ zs) y ys h = rw (last-cons x z zs) (above_last (z ∷ zs) y ys h.1)
 
-is_true : (b : Bool) → T b → b ≡ true
+pub is_true : (b : Bool) → T b → b ≡ true
 is_true true h = refl
 is_true false h = absurd h
 

@@ -1,53 +1,104 @@
--- What a base is, by reading its lines in order.
-use Rattle.std.specs.Prelude.{◌≡◌, ℕ, ℤ, ◌+◌, List, [], ◌∷◌, Option, Some, None, Result, Ok, Err}
-use Rattle.std.specs.Prelude.{option_and_then, if◌then◌else◌}
+-- What a base is: an earlier report, whose lines are in order and are as many as its header says.
+use Rattle.std.specs.Prelude.{◌≡◌, ◌≢◌, ◌⊎◌, ◌↔◌, ℕ, ℤ, ◌+◌, List, ◌∷◌, ◌++◌, length, map, Contains}
+use Rattle.std.specs.Prelude.{AllPairs, IsTrue, Some}
 use Rattle.std.specs.FinMap as contents
+use Rattle.std.specs.FinMap.{is_sorted}
 use Rattle.epx_types.specs.declared.fault.Fault.{Fault}
 use Rattle.epx_types.specs.declared.fault.Fault.TheVariants as fault
 use Rattle.epx_types.specs.declared.id.Id.{Id}
 use Rattle.epx_types.specs.Contents.{Contents}
+use Rattle.epx_types.specs.Ids.{IsRising}
+use Rattle.epx_types.specs.Keys.{key_cmp}
 use Rattle.epx_lines.specs.Lines.{lines_of}
 use Rattle.epx_report.specs.declared.base.BaseFault.{BaseFault}
 use Rattle.epx_report.specs.declared.base.BaseFault.TheVariants.{Memory, Bad}
+use Rattle.epx_report.specs.declared.form.BaseLine.{BaseLine}
+use Rattle.epx_report.specs.declared.form.BaseLine.TheVariants as line
+use Rattle.epx_report.specs.declared.form.Counts.{Counts}
+use Rattle.epx_report.specs.BadLines.{IsFirstBadLine}
 use Rattle.epx_report.specs.Forms.{base_line_of}
-use Rattle.epx_report.specs.Seen.{Seen, nothing_seen, after, is_complete}
 
--- the state after one more line, if the line is allowed at its position
-abbrev pub after_line : Seen → List ℕ → Option Seen
-after_line s bytes = option_and_then (after s) (base_line_of bytes)
+-- ---- the lines of a base
 
--- `next` of the state, if the line was allowed at its position, and the line's number otherwise
-abbrev pub or_line_number : {S : Type 0} → ℕ → Option S → (S → Result S ℕ) → Result S ℕ
-or_line_number n None next = Err n
-or_line_number n (Some s) next = next s
+-- each line has one of the forms, and this is what the lines say
+abbrev pub Say : List (List ℕ) → List BaseLine → Type 0
+Say lines said = map base_line_of lines ≡ map Some said
 
--- what all lines say, or the number of the first line that is not allowed at its position; if the
--- text ends too early, this is the number of the missing line; the first line has the number n
-abbrev pub reading : Seen → ℕ → List (List ℕ) → Result Seen ℕ
-reading s n [] = if is_complete s then Ok s else Err n
-reading s n (l ∷ ls) = or_line_number n (after_line s l) (λ t. reading t (n + 1) ls)
+-- what the lines of each kind say: the header; the instances of the done lines, of the reply lines
+-- and of the waiting lines; the keys and values of the store lines
+pub record BaseParts : Type 0 where
+  pub counts : Counts
+  pub done : List Id
+  pub replied : List Id
+  pub waiting : List Id
+  pub stored : List (List ℕ × ℤ)
 
--- what all lines of the bytes say; the first line has the number 1
-abbrev pub base_reading : List ℕ → Result Seen ℕ
-base_reading bytes = reading nothing_seen 1 (lines_of bytes)
+-- the header, then the done lines, the reply lines, the waiting lines and the store lines
+abbrev pub lines_in_order : BaseParts → List BaseLine
+lines_in_order p =
+    line.Header p.counts
+    ∷ (map line.Done p.done
+    ++ (map line.Reply p.replied
+    ++ (map line.Waiting p.waiting ++ map (λ e. line.Store e.0 e.1) p.stored)))
 
--- the contents after values are put under keys, one after another
-abbrev pub put_pairs : List (List ℕ × ℤ) → Contents → Contents
-put_pairs [] c = c
-put_pairs (p ∷ ps) c = put_pairs ps (contents.insert c p.0 p.1)
+-- no two lines name one instance, and done lines and waiting lines rise
+pub record AreDistinctIds (done replied waiting : List Id) : Type 0 where
+  pub done_rise : IsRising done
+  pub replied_once : AllPairs (λ x y. x ≢ y) replied
+  pub replied_new : (x : Id) → Contains replied x → ¬ Contains done x
+  pub waiting_rise : IsRising waiting
+  pub waiting_left : (x : Id) → Contains waiting x
+      → (¬ Contains done x) × (¬ Contains replied x)
 
--- the bytes are a base: `done` has the instances of its done lines and reply lines, rising, and
--- `stored` has the values of its store lines
+-- the keys of store lines rise too, and there are as many replies and waiting lines as the header
+-- says
+pub record AreBaseParts (p : BaseParts) : Type 0 where
+  pub distinct : AreDistinctIds p.done p.replied p.waiting
+  pub stored_rise : IsTrue (is_sorted key_cmp p.stored)
+  pub replies_counted : length p.replied ≡ p.counts.executed
+  pub waiting_counted : length p.waiting ≡ p.counts.waiting
+
+-- ---- a base
+
+-- the instances of the done lines and of the reply lines, each once, by rising Id
+pub record AreDoneIn (before replied done : List Id) : Type 0 where
+  pub rising : IsRising done
+  pub each : (x : Id) → Contains done x ↔ Contains before x ⊎ Contains replied x
+
+-- The bytes are a base. `done` has the instances of its done lines and reply lines. The entries of
+-- `stored` are those of its store lines.
 pub record IsBase (bytes : List ℕ) (done : List Id) (stored : Contents) : Type 0 where
-  pub seen : Seen
-  pub read : base_reading bytes ≡ Ok seen
-  pub done_is : done ≡ seen.done
-  pub stored_is : stored ≡ put_pairs seen.stored contents.empty
+  pub parts : BaseParts
+  pub said : Say (lines_of bytes) (lines_in_order parts)
+  pub are_parts : AreBaseParts parts
+  pub are_done : AreDoneIn parts.done parts.replied done
+  pub are_stored : contents.entries stored ≡ parts.stored
 
--- `line` is the number of the first line that is not allowed at its position, or one more than the
--- number of lines if the text ends too early
+-- ---- a bad base
+
+-- all lines of a base say this
+abbrev pub AreWhole : List BaseLine → Type 0
+AreWhole said = (p : BaseParts) × (said ≡ lines_in_order p) × AreBaseParts p
+
+-- The lines are the first lines of a base: further lines make them whole. Only what these say
+-- counts, so the numbers of their Ids have no limit.
+pub record BeginBase (lines : List (List ℕ)) : Type 0 where
+  pub said : List BaseLine
+  pub more : List BaseLine
+  pub are_said : Say lines said
+  pub whole : AreWhole (said ++ more)
+
+-- the lines begin a base, but some are missing at the end; `line` is the number of the first one
+pub record EndsEarly (lines : List (List ℕ)) (line : ℕ) : Type 0 where
+  pub line_is : line ≡ length lines + 1
+  pub begins : BeginBase lines
+  pub not_whole : (said : List BaseLine) → Say lines said → ¬ AreWhole said
+
+-- `line` is the number of the first line with which no base begins, or one more than the number of
+-- lines if the text ends too early
 abbrev pub IsBadBase : List ℕ → ℕ → Type 0
-IsBadBase bytes line = base_reading bytes ≡ Err line
+IsBadBase bytes line =
+    IsFirstBadLine BeginBase (lines_of bytes) line ⊎ EndsEarly (lines_of bytes) line
 
 -- `Memory` says nothing about the bytes
 abbrev pub IsBaseFault : List ℕ → BaseFault → Type 0

@@ -1,5 +1,5 @@
 pub mod Forms
-pub mod Seen
+pub mod BadLines
 pub mod Bases
 pub mod Laws
 pub mod Lists

@@ -1,18 +1,15 @@
 -- A report, and the result of reading it as a base.
-use Rattle.std.specs.Prelude.{◌≡◌, ℕ, ℤ, ◌+◌, ◌^◌, ◌<◌, ◌≤◌, List, [], ◌∷◌, ◌++◌, length, map}
-use Rattle.std.specs.Prelude.{flat_map, All, Option, IfSome, IsUtf8, Result, Ok, Err}
-use Rattle.std.specs.Prelude.{if◌then◌else◌}
+use Rattle.std.specs.Prelude.{ℕ, ℤ, ◌^◌, ◌<◌, ◌≤◌, List, ◌++◌, length, map, flat_map, All}
+use Rattle.std.specs.Prelude.{Option, IfSome, IsUtf8}
 use Rattle.std.specs.Int.{w64}
 use Rattle.std.specs.Int.RustNames.{FitsSigned}
 use Rattle.epx_types.specs.declared.id.Id.{Id}
 use Rattle.epx_types.specs.declared.reply.Reply.{Reply}
 use Rattle.epx_types.specs.declared.reply.Reply.TheVariants.{Values, Abort}
-use Rattle.epx_types.specs.WaitingLists.{Waiting}
+use Rattle.epx_types.specs.WaitingLists.{Waiting, waiting_ids}
 use Rattle.epx_types.specs.Keys.{FitsKey}
-use Rattle.epx_report.specs.declared.form.BaseLine.{BaseLine}
-use Rattle.epx_report.specs.declared.form.BaseLine.TheVariants as line
-use Rattle.epx_report.specs.Seen.{Seen, nothing_seen, after, is_complete}
-use Rattle.epx_report.specs.Bases.{or_line_number, base_reading}
+use Rattle.epx_lines.specs.Lines.{lines_of}
+use Rattle.epx_report.specs.Bases.{BaseParts, Say, lines_in_order}
 use Rattle.epx_report.specs.ReportLines.{header_line, done_line, reply_line, waiting_line}
 use Rattle.epx_report.specs.ReportLines.{store_line}
 
@@ -26,6 +23,9 @@ pub record ReportData : Type 0 where
   pub waiting : List Waiting
   pub stored : List (List ℕ × ℤ)
 
+abbrev pub replied_ids : List (Id × Reply) → List Id
+replied_ids replies = map (λ p. p.0) replies
+
 abbrev pub text_of_report : ReportData → List ℕ
 text_of_report r =
     header_line (length r.replies) (length r.waiting) r.components
@@ -33,13 +33,16 @@ text_of_report r =
     ++ (flat_map reply_line r.replies
     ++ (flat_map waiting_line r.waiting ++ flat_map store_line r.stored)))
 
--- what the lines of a report say, in order
-abbrev pub said : ReportData → List BaseLine
-said r =
-    line.Header (record { executed = length r.replies; waiting = length r.waiting })
-    ∷ (map line.Done r.done
-    ++ (map (λ p. line.Reply p.0) r.replies
-    ++ (map (λ w. line.Waiting w.id) r.waiting ++ map (λ p. line.Store p.0 p.1) r.stored)))
+-- what the lines of a report say, by kind
+abbrev pub parts_of_report : ReportData → BaseParts
+parts_of_report r =
+    record {
+      counts = record { executed = length r.replies; waiting = length r.waiting };
+      done = r.done;
+      replied = replied_ids r.replies;
+      waiting = waiting_ids r.waiting;
+      stored = r.stored;
+    }
 
 -- ---- the numbers and texts of a report are within their limits
 
@@ -62,13 +65,7 @@ pub record FitsReportData (r : ReportData) : Type 0 where
   pub waiting_fit : All (λ w. FitsNumbers w.id × FitsNumbers w.missing) r.waiting
   pub stored_fit : All (λ p. FitsKey p.0 × IsUtf8 p.0 × FitsSigned w64 p.1) r.stored
 
--- ---- reading lines with known meanings
-
-abbrev pub read_base_lines : Seen → ℕ → List BaseLine → Result Seen ℕ
-read_base_lines s n [] = if is_complete s then Ok s else Err n
-read_base_lines s n (l ∷ ls) = or_line_number n (after s l) (λ t. read_base_lines t (n + 1) ls)
-
--- reading the text of a report yields what its lines say
+-- the lines of the text of a report say what the report was written from
 abbrev pub ReportIsReadAsItSays : Type 0
 ReportIsReadAsItSays = (r : ReportData) → FitsReportData r
-    → base_reading (text_of_report r) ≡ read_base_lines nothing_seen 1 (said r)
+    → Say (lines_of (text_of_report r)) (lines_in_order (parts_of_report r))

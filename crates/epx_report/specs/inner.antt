@@ -1,3 +1,6 @@
 -- Words of private clauses: no public contract speaks of them.
 pub mod IdSets
 pub mod LineTokens
+pub mod Seen
+pub mod BaseReadings
+pub mod ListReadings

@@ -26,7 +26,7 @@ pub fn bad_base_is_bad_at_one_line()
     ensures { BadBaseIsBadAtOneLine }
 {}
 
-/// Reading the text of a report, with or without done lines, yields what its lines say.
+/// The lines of the text of a report, with or without done lines, say what it was written from.
 pub fn report_is_read_as_it_says()
     ensures { ReportIsReadAsItSays }
 {}

@@ -1,9 +1,9 @@
 //! The state of reading the lines of a base one after another.
 ghost use Rattle.std.specs.Prelude.{◌≡◌, None, IfOk};
 ghost use Rattle.std.specs.FinMap as contents;
-ghost use Rattle.epx_report.specs.Seen.{nothing_seen, after_done, after_reply, after_waiting};
-ghost use Rattle.epx_report.specs.Seen.{after_store, after_with, after, some_if, is_complete};
-ghost use Rattle.epx_report.specs.Bases.{after_line, put_pairs};
+ghost use Rattle.epx_report.specs.inner.Seen.{nothing_seen, after_done, after_reply, after_waiting};
+ghost use Rattle.epx_report.specs.inner.Seen.{after_store, after_with, after, some_if, is_complete};
+ghost use Rattle.epx_report.specs.inner.BaseReadings.{after_line, put_pairs};
 
 use crate::base::Base;
 use crate::form::{BaseLine, Counts};
@@ -41,7 +41,7 @@ pub(crate) struct Progress {
 }
 
 impl Model for Progress {
-    ghost use Rattle.epx_report.specs.Seen.{Seen};
+    ghost use Rattle.epx_report.specs.inner.Seen.{Seen};
 
     ghost Value = { Seen };
 
@@ -135,7 +135,7 @@ impl Progress {
     }
 
     /// Takes one more line that was read. False if it is not allowed at its position.
-    #[tactic(auto, unfolding(crate::specs::Seen::after))]
+    #[tactic(auto, unfolding(crate::specs::inner::Seen::after))]
     pub(crate) fn take(&mut self, line: BaseLine) -> Result<bool, Memory>
         ensures { IfOk result (λ is_allowed. after self.old line ≡ some_if is_allowed self.new) }
     {

@@ -1,6 +1,6 @@
 use Rattle.std.proofs.Common.{◌≡◌, ◌+◌, ◌≤◌, length}
 use Rattle.epx_lines.specs.Lines.{lines_of}
-use Rattle.epx_report.specs.Bases.{reading, base_reading}
+use Rattle.epx_report.specs.inner.BaseReadings.{reading, base_reading}
 use Rattle.epx_report.proofs.base.read_base.Given as goal
 
 -- each line takes at least one byte

@@ -1,6 +1,6 @@
 use Rattle.std.proofs.Common.{◌≡◌, ◌+◌, ◌≤◌, length}
 use Rattle.epx_lines.specs.Lines.{lines_of}
-use Rattle.epx_report.specs.Lists.{read_list_lines, list_reading}
+use Rattle.epx_report.specs.inner.ListReadings.{read_list_lines, list_reading}
 use Rattle.epx_report.proofs.list.read_list.Given as goal
 
 -- each line takes at least one byte

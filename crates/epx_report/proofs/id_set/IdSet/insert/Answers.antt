@@ -2,7 +2,7 @@ use Rattle.std.proofs.Common.{◌≡◌, true, false, not, sym, ap, ◌∙◌, s
 use Rattle.std.specs.BTreeSet.{insert_key}
 use Rattle.epx_types.specs.Ids.{id_cmp}
 use Rattle.epx_types.specs.Done.{is_among}
-use Rattle.epx_report.specs.Seen.{last, is_after_last}
+use Rattle.epx_report.specs.inner.Seen.{last, is_after_last}
 use Rattle.epx_report.specs.inner.IdSets.{with_late, AreRisingAndLate}
 use Rattle.epx_report.proofs.IdSetLemmas.{above_is_new, pushed, with_late-pushed, found_rising}
 use Rattle.epx_report.proofs.IdSetLemmas.{found_late, already_there, late_inserted}
