@@ -18,6 +18,7 @@ mod NoDifferenceLemmas
 mod GapLawLemmas
 mod OwnLineLemmas
 mod AlikeLogLemmas
+mod MemberLawLemmas
 mod GroupLawLemmas
 mod ComparisonExistenceLemmas
 pub mod ComparisonAnswerLemmas

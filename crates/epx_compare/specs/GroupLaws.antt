@@ -1,9 +1,12 @@
--- Laws of the groups of lines that commit the same, and of the dependents of what is unmet.
-use Rattle.std.specs.Prelude.{◌≡◌, ◌↔◌, true, List, Contains, AllPairs}
+-- Laws of the members in which lines differ, of the groups of lines that commit the same, and of
+-- the dependents of what is unmet.
+use Rattle.std.specs.Prelude.{◌≡◌, ◌≢◌, ◌↔◌, true, List, Contains, AllPairs}
 use Rattle.epx_types.specs.declared.id.Id.{Id}
 use Rattle.epx_types.specs.declared.place.Place.{Place}
+use Rattle.epx_types.specs.Instances.{Instance}
 use Rattle.epx_types.specs.PlacedLines.{Placed, HaveDistinctPlaces}
-use Rattle.epx_compare.specs.Differences.{groups_of}
+use Rattle.epx_versions.specs.SameInstances.{same_seq, same_deps, same_ops}
+use Rattle.epx_compare.specs.Differences.{groups_of, some_differ}
 use Rattle.epx_compare.specs.Unmet.{depends_on}
 
 -- each line has its place in one group, groups have places of lines alone and are not empty, and
@@ -22,6 +25,20 @@ pub record AreGroups (lines : List Placed) (groups : List (List Place)) : Type 0
 abbrev pub GroupsAreOfTheSame : Type 0
 GroupsAreOfTheSame = (lines : List Placed) → HaveDistinctPlaces lines
     → AreGroups lines (groups_of lines)
+
+-- this part of two of the lines is not equal
+abbrev pub TwoDiffer : {A : Type 0} → (Instance → A) → List Placed → Type 0
+TwoDiffer part lines = (p q : Placed) × Contains lines p × Contains lines q
+    × (part p.instance ≢ part q.instance)
+
+-- a member is named exactly if it is not equal in two of the lines
+pub record MembersAreOfTheDifferent : Type 0 where
+  pub seq : (lines : List Placed)
+      → (some_differ same_seq lines ≡ true) ↔ TwoDiffer (λ e. e.seq) lines
+  pub deps : (lines : List Placed)
+      → (some_differ same_deps lines ≡ true) ↔ TwoDiffer (λ e. e.deps) lines
+  pub ops : (lines : List Placed)
+      → (some_differ same_ops lines ≡ true) ↔ TwoDiffer (λ e. e.ops) lines
 
 -- y is counted among those that depend on x exactly if a line of y has x as a dependency
 abbrev pub DependentsHaveLines : Type 0

@@ -4,6 +4,7 @@ ghost use Rattle.epx_compare.specs.ComparisonLaws.{NothingDiffersWhereLogsAgree}
 ghost use Rattle.epx_compare.specs.ComparisonLaws.{NothingFoundWhereLogsAreAlike};
 ghost use Rattle.epx_compare.specs.GapLaws.{GapsAreOfTheLacked};
 ghost use Rattle.epx_compare.specs.GroupLaws.{GroupsAreOfTheSame, DependentsHaveLines};
+ghost use Rattle.epx_compare.specs.GroupLaws.{MembersAreOfTheDifferent};
 
 /// All logs have a comparison.
 pub fn comparison_exists()
@@ -28,6 +29,11 @@ pub fn gaps_are_of_the_lacked()
 /// Nothing is found wrong exactly where each log alone commits what all of them commit.
 pub fn nothing_found_where_logs_are_alike()
     ensures { NothingFoundWhereLogsAreAlike }
+{}
+
+/// A member is named exactly if it is not equal in two of the lines.
+pub fn members_are_of_the_different()
+    ensures { MembersAreOfTheDifferent }
 {}
 
 /// Lines have their places in one group exactly if they commit the same.
