@@ -5,8 +5,9 @@ use Rattle.epx_types.specs.declared.fault.Fault.{Fault}
 use Rattle.epx_types.specs.declared.fault.Fault.TheVariants.{Memory}
 use Rattle.epx_types.specs.Ids.{IsRising}
 use Rattle.epx_types.specs.Instances.{Instance}
-use Rattle.epx_types.specs.CommittedMap.{ids_of}
+use Rattle.epx_types.specs.CommittedMap.{ids_of, commands_in}
 use Rattle.epx_types.specs.Execution.{execute}
+use Rattle.epx_types.specs.ExecutionOrder.{ranked_ids}
 use Rattle.epx_types.proofs.orders.OrderExistenceLemmas.{execution_order_exists}
 use Rattle.epx_types.proofs.orders.OrderExistenceLemmas.{waiting_list_exists}
 use Rattle.epx_types.proofs.levels.LevelExistenceLemmas.{levels_exist}

@@ -5,7 +5,8 @@ use Rattle.epx_types.specs.Ids.{IsRising}
 use Rattle.epx_types.specs.Instances.{Instance}
 use Rattle.epx_types.specs.CommittedMap.{ids_of}
 use Rattle.epx_report.specs.Lists.{IsBadList}
-use Rattle.epx_report.proofs.ListLemmas.{list_or_bad_list}
+use Rattle.epx_report.proofs.ListLemmas.{list_or_bad_list, list_is_no_bad_list}
+use Rattle.epx_report.proofs.ListLemmas.{list_names_one_list, bad_list_is_bad_at_one_line}
 use Rattle.epx_tool.specs.CheckAnswers.{IsCheckText}
 use Rattle.epx_tool.specs.CheckLaws.{CheckExists, CheckIsOne}
 use Rattle.epx_tool.specs.Verdicts.{IsVerdict, order_fault_text}
@@ -24,19 +25,14 @@ verdict_exists m ids rising =
     ]
 
 module _ (list : List ℕ) where
-  one_bad_line : (line other : ℕ) → IsBadList list line → IsBadList list other → line ≡ other
-  one_bad_line line other p q = cc (p, q)
-
   no_bad_list : (m : List Instance) (text : List ℕ) (line : ℕ) → IsCheckText list m text
       → ¬ IsBadList list line
-  no_bad_list m text line p bad = let read = p.1 in cc (read, bad)
+  no_bad_list m text line p = list_is_no_bad_list list p.0 line p.1
 
   checked_one : (m : List Instance) (text other : List ℕ) → IsCheckText list m text
       → IsCheckText list m other → text ≡ other
   checked_one m text other p q =
-      let a = p.1 in
-      let b = q.1 in
-      let same : p.0 ≡ q.0 = cc (a, b) in
+      let same = list_names_one_list list p.0 q.0 p.1 q.1 in
       IsVerdict-unique m q.0 text other (subst (λ (ids : List Id). IsVerdict m ids text) same p.2)
       q.2
 
@@ -50,8 +46,9 @@ module _ (list : List ℕ) where
       ]
 
 pub check_is_one : CheckIsOne
-check_is_one list logs = AnswersWithInput-unique IsBadList list logs (one_bad_line list)
-    IsCheckText (checked_one list) (no_bad_list list)
+check_is_one list logs =
+    AnswersWithInput-unique IsBadList list logs (bad_list_is_bad_at_one_line list) IsCheckText
+    (checked_one list) (no_bad_list list)
 
 pub check_exists : CheckExists
 check_exists list logs = answer_with_input_exists IsBadList IsCheckText list (checked_or_bad list)

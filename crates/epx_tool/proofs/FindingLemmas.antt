@@ -13,7 +13,7 @@ use Rattle.epx_tool.specs.declared.question.InputQuestion.TheVariants.{Resume, C
 use Rattle.epx_tool.specs.declared.question.InputQuestion.TheVariants.{CheckPrefix}
 use Rattle.epx_tool.specs.inner.InputReadings.{FindsFrom, IsContents, IsTextFrom}
 use Rattle.epx_tool.proofs.InputReadingLemmas.{text_with_input}
-use Rattle.epx_tool.proofs.ResumableAnswersLemmas.{base_is_one}
+use Rattle.epx_report.proofs.BaseLemmas.{base_says_one_thing}
 
 pub some_wait : (m : List Instance) (waiting : List Waiting) (empty : Bool)
     → IsWaitingList m waiting → empty ≡ (length waiting == 0) → (not empty ≡ true) ↔ SomeWaits m
@@ -35,7 +35,7 @@ finds_with_input : (question : InputQuestion) (input : List ℕ) (read : InputCo
 finds_with_input Resume input (contents.Base base) m text found is finds = (
   λ e. (base.done, base.stored, is, finds.0 e),
   λ h. finds.1 (subst (λ done. SomeWaits (remaining done m))
-      (base_is_one input h.0 base.done h.1 base.stored h.2 is).0 h.3),
+      (base_says_one_thing input h.0 base.done h.1 base.stored h.2 is).0 h.3),
 )
 finds_with_input Check input (contents.List ids) m text found is finds = finds
 finds_with_input CheckPrefix input (contents.Prefix ids) m text found is finds = finds

@@ -1,10 +1,10 @@
--- A list that is reported as lawful is lawful. Over covered logs it executes as the report says.
+-- A list that is reported as lawful is lawful. If the logs are reported as covered, it executes as
+-- the report says.
 use Rattle.std.proofs.Common.{◌≡◌, ℕ, List, [], ◌∷◌, Option, Some, None, Ok, refl, ap₂, subst, inl}
 use Rattle.std.specs.FinMap as contents
 use Rattle.epx_types.specs.declared.id.Id.{Id}
 use Rattle.epx_types.specs.declared.op.Op.{Op}
 use Rattle.epx_types.specs.Instances.{Instance}
-use Rattle.epx_types.specs.CommittedMap.{instance_of, ops_or_empty, commands_in}
 use Rattle.epx_types.specs.ExecutionOrder.{Ranked, ranked_ids}
 use Rattle.epx_types.specs.LawfulOrders.{IsLawful}
 use Rattle.epx_types.proofs.orders.ExecutionOrderLemmas.{IsExecutionOrder-IsLawful}
@@ -13,8 +13,10 @@ use Rattle.epx_merge.specs.Acceptance.{IsAccepted}
 use Rattle.epx_merge.proofs.UniquenessLemmas.{accepted_unique}
 use Rattle.epx_report.specs.Lists.{IsList}
 use Rattle.epx_report.specs.ViewLines.{lawful_line}
+use Rattle.epx_report.proofs.ListLemmas.{list_names_one_list}
 use Rattle.epx_tool.specs.CheckAnswers.{Checks}
 use Rattle.epx_tool.specs.CheckLaws.{LawfulTextMeansLawful, LawfulListExecutesAlike}
+use Rattle.epx_tool.proofs.CoveredTextLemmas.{covered_if_reported}
 use Rattle.epx_tool.proofs.VerdictLemmas.{lawful-from_verdict}
 
 -- ---- reported as lawful
@@ -23,8 +25,7 @@ lawful_if_reported : (list : List ℕ) (logs : List (List ℕ)) (ids : List Id) 
     → IsList list ids → IsAccepted logs m → Checks list logs (Ok lawful_line) → IsLawful m ids
 lawful_if_reported list logs ids m is accepted said =
     let same : said.1.0 ≡ m = accepted_unique logs said.1.0 m said.1.1 accepted in
-    let read = said.1.2.1 in
-    let one : said.1.2.0 ≡ ids = cc (read, is) in
+    let one = list_names_one_list list said.1.2.0 ids said.1.2.1 is in
     subst (λ (m : List Instance). IsLawful m ids) same
     (subst (λ (ids : List Id). IsLawful said.1.0 ids) one
     (lawful-from_verdict said.1.0 said.1.2.0 said.1.2.2))
@@ -38,7 +39,8 @@ lawful_text_means_lawful list logs ids m short is accepted = (
 -- ---- executed
 
 pub lawful_list_executes_alike : LawfulListExecutesAlike
-lawful_list_executes_alike list logs said ids m is accepted covered order ordered =
+lawful_list_executes_alike list logs said audited ids m is accepted order ordered =
+    let covered = covered_if_reported logs m accepted audited in
     let rising = accepted.committed.rising in
     let of_list = lawful_if_reported list logs ids m is accepted said in
     let of_order = IsExecutionOrder-IsLawful m order ordered in

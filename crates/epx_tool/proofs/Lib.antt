@@ -25,6 +25,7 @@ mod OrderTextLemmas
 mod VerdictLemmas
 mod VerdictLineLemmas
 mod CheckLemmas
+mod CoveredTextLemmas
 mod LawfulListLemmas
 mod ReportRangeLemmas
 mod ResumableAnswersLemmas

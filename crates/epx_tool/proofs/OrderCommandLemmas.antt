@@ -3,7 +3,7 @@ use Rattle.std.proofs.Common.{◌≡◌, List, [], ◌∷◌, refl, sym, ap, ◌
 use Rattle.epx_types.specs.declared.id.Id.{Id}
 use Rattle.epx_types.specs.declared.op.Op.{Op}
 use Rattle.epx_types.specs.Instances.{Instance}
-use Rattle.epx_types.specs.CommittedMap.{instance_of, ops_or_empty, commands_in}
+use Rattle.epx_types.specs.CommittedMap.{commands_in}
 use Rattle.epx_types.specs.ExecutionOrder.{Ranked, ranked_ids}
 
 pub commands_are : (m : List Instance) (order : List Ranked) (ids : List Id)

@@ -8,7 +8,7 @@ use Rattle.epx_types.specs.declared.reply.Reply.{Reply}
 use Rattle.epx_types.specs.Ids.{IsRising}
 use Rattle.epx_types.specs.Contents.{Contents}
 use Rattle.epx_types.specs.Instances.{Instance}
-use Rattle.epx_types.specs.CommittedMap.{instance_of, ops_or_empty}
+use Rattle.epx_types.specs.CommittedMap.{instance_of, ops_or_empty, commands_in}
 use Rattle.epx_types.specs.Done.{remaining}
 use Rattle.epx_types.specs.Execution.{execute, Execution}
 use Rattle.epx_types.specs.ExecutionOrder.{Ranked, IsExecutionOrder, ranked_ids, component_count}
@@ -20,8 +20,8 @@ use Rattle.epx_types.proofs.lists.MembershipLemmas.{Contains-from_map}
 use Rattle.epx_report.specs.Bases.{IsBase}
 use Rattle.epx_report.specs.ReportLines.{header_line, done_line, reply_line, waiting_line}
 use Rattle.epx_report.specs.ReportLines.{store_line}
-use Rattle.epx_report.specs.ReportBases.{replied_ids, AreLinesInOrder, AreDoneAfter}
-use Rattle.epx_report.specs.ReportReadings.{ReportData, text_of_report}
+use Rattle.epx_report.specs.ReportBases.{AreLinesInOrder, AreDoneAfter}
+use Rattle.epx_report.specs.ReportReadings.{ReportData, replied_ids, text_of_report}
 use Rattle.epx_report.proofs.ReportBaseLemmas.{report_is_a_base}
 use Rattle.epx_tool.specs.Report.{IsReport, report_text}
 use Rattle.epx_tool.specs.ResumedReport.{IsReportAfter}
@@ -63,8 +63,7 @@ module _ (done : List Id) (stored : Contents) (m : List Instance) (text : List �
   as_many : length run.replies ≡ length (ranked_ids p.order)
   as_many =
       length-replies (commands_in (remaining done m) (ranked_ids p.order)) stored
-      ∙ length-map p.order (λ r. ops_or_empty (instance_of (remaining done m) r.id))
-      ∙ sym (length-map p.order (λ (r : Ranked). r.id))
+      ∙ length-map (ranked_ids p.order) (λ x. ops_or_empty (instance_of (remaining done m) x))
 
   pub replied : replied_ids written.replies ≡ ranked_ids p.order
   replied = replied_ids-zip (ranked_ids p.order) run.replies as_many

@@ -21,6 +21,7 @@ use Rattle.epx_types.specs.Contents.{Contents}
 use Rattle.epx_types.specs.Instances.{Instance}
 use Rattle.epx_types.specs.PlacedLines.{Placed}
 use Rattle.epx_types.specs.CommittedMap.{ids_of, instance_of, ops_or_empty, IsCommitted}
+use Rattle.epx_types.specs.CommittedMap.{commands_in}
 use Rattle.epx_types.specs.Reaching.{DependsOn, IsPath, Reaches}
 use Rattle.epx_types.specs.Done.{remaining}
 use Rattle.epx_types.specs.ExecutionOrder.{Ranked, ranked_ids}

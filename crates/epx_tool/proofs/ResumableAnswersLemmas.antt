@@ -6,7 +6,7 @@ use Rattle.epx_types.specs.declared.id.Id.{Id}
 use Rattle.epx_types.specs.Ids.{IsRising}
 use Rattle.epx_types.specs.Contents.{Contents}
 use Rattle.epx_types.specs.Instances.{Instance}
-use Rattle.epx_types.specs.CommittedMap.{ids_of}
+use Rattle.epx_types.specs.CommittedMap.{ids_of, commands_in}
 use Rattle.epx_types.specs.Done.{remaining}
 use Rattle.epx_types.specs.Execution.{execute}
 use Rattle.epx_types.specs.ExecutionOrder.{ranked_ids}
@@ -25,7 +25,7 @@ use Rattle.epx_merge.proofs.UniquenessLemmas.{accepted_unique}
 use Rattle.epx_report.specs.Bases.{IsBase}
 use Rattle.epx_report.proofs.BaseRangeLemmas.{FitsBase, base_fits, empty_fits}
 use Rattle.epx_report.proofs.RisingListLemmas.{same_ids}
-use Rattle.epx_report.proofs.DoneInstanceLemmas.{base_done_rise}
+use Rattle.epx_report.proofs.BaseLemmas.{base_says_one_thing}
 use Rattle.epx_report.proofs.ReportBaseLemmas.{done_after_exists}
 use Rattle.epx_tool.specs.ResumedReport.{IsReportAfter}
 use Rattle.epx_tool.specs.Resumption.{IsResumedText}
@@ -66,20 +66,11 @@ answer_is_base logs text answer m accepted =
     subst (λ (m : List Instance). HasBaseAfter [] contents.empty m text) same
     (report_leaves logs answer.0 answer.1 [] contents.empty none tt text report)
 
--- a base has only one list of done instances and one store
-pub base_is_one : (bytes : List ℕ) (done other : List Id) (stored held : Contents)
-    → IsBase bytes done stored → IsBase bytes other held → (done ≡ other) × (stored ≡ held)
-base_is_one bytes done other stored held p q =
-    let a = p.read in
-    let b = q.read in
-    let seen : p.seen ≡ q.seen = cc (a, b) in
-    (cc (seen, p.done_is, q.done_is), cc (seen, p.stored_is, q.stored_is))
-
 resumed_report : (base : List ℕ) (m : List Instance) (text : List ℕ) → IsResumedText base m text
     → (done : List Id) (stored : Contents) → IsBase base done stored
     → IsReportAfter done stored m text
 resumed_report base m text p done stored is =
-    let one = base_is_one base p.0 done p.1 stored p.2 is in
+    let one = base_says_one_thing base p.0 done p.1 stored p.2 is in
     subst (λ (s : Contents). IsReportAfter done s m text) one.1
     (subst (λ (d : List Id). IsReportAfter d p.1 m text) one.0 p.3)
 
@@ -89,7 +80,7 @@ resumption_is_base base logs text resumed done stored is m accepted =
     let after = subst (λ (m : List Instance). IsResumedText base m text) same resumed.1.2 in
     let report = resumed_report base m text after done stored is in
     report_leaves logs m accepted done stored (base_fits base done stored is)
-    (base_done_rise base done stored is) text report
+    is.are_done.rising text report
 
 -- ---- the base that an answer leaves is sound
 
@@ -169,7 +160,7 @@ last_report_is_the_whole logs m accepted covered text b done whole answer =
     let left = answer_is_base logs whole answer m accepted in
     let final =
     (execute (commands_in (remaining [] m) (ranked_ids left.order)) contents.empty).final in
-    let one = base_is_one whole left.now w.done final w.stored left.base w.base in
+    let one = base_says_one_thing whole left.now w.done final w.stored left.base w.base in
     let lawful : IsLawful m (ranked_ids left.order) =
     subst (λ (l : List Instance). IsLawful l (ranked_ids left.order)) (remaining-nil m)
     (IsExecutionOrder-IsLawful (remaining [] m) left.order left.ordered) in
@@ -177,8 +168,8 @@ last_report_is_the_whole logs m accepted covered text b done whole answer =
     λ x ready. subst (λ (ids : List Id). Contains ids x) one.0
     ((left.done_now.each x).1 (inr (lawful.whole x ready))) in
     let ids : w.done ≡ b.done =
-    same_ids w.done b.done (base_done_rise whole w.done w.stored w.base)
-    (base_done_rise text b.done b.stored b.base) (λ x c. done x (w.sound.ready x c))
+    same_ids w.done b.done w.base.are_done.rising
+    b.base.are_done.rising (λ x c. done x (w.sound.ready x c))
     (λ x c. all_done x (b.sound.ready x c)) in
     let stored : w.stored ≡ b.stored =
     IsSound-final m rising w.done w.stored w.sound covered all_done _ lawful

@@ -4,16 +4,18 @@ use Rattle.epx_types.specs.declared.id.Id.{Id}
 use Rattle.epx_types.specs.Contents.{Contents}
 use Rattle.epx_types.specs.Ids.{IsRising}
 use Rattle.epx_types.specs.Instances.{Instance}
-use Rattle.epx_types.specs.CommittedMap.{ids_of}
+use Rattle.epx_types.specs.CommittedMap.{ids_of, commands_in}
 use Rattle.epx_types.specs.Done.{remaining}
 use Rattle.epx_types.specs.Execution.{execute}
+use Rattle.epx_types.specs.ExecutionOrder.{ranked_ids}
 use Rattle.epx_types.proofs.remaining.RemainingLemmas.{IsRising-remaining}
 use Rattle.epx_types.proofs.orders.ExecutionOrderLemmas.{IsExecutionOrder-unique}
 use Rattle.epx_types.proofs.graph.WaitingListLemmas.{IsWaitingList-unique}
 use Rattle.epx_types.proofs.orders.OrderExistenceLemmas.{execution_order_exists}
 use Rattle.epx_types.proofs.orders.OrderExistenceLemmas.{waiting_list_exists}
 use Rattle.epx_report.specs.Bases.{IsBadBase}
-use Rattle.epx_report.proofs.BaseLemmas.{base_or_bad_base}
+use Rattle.epx_report.proofs.BaseLemmas.{base_or_bad_base, base_is_no_bad_base}
+use Rattle.epx_report.proofs.BaseLemmas.{base_says_one_thing, bad_base_is_bad_at_one_line}
 use Rattle.epx_tool.specs.ResumedReport.{IsReportAfter, resumed_text}
 use Rattle.epx_tool.specs.Resumption.{IsResumedText}
 use Rattle.epx_tool.specs.ResumptionLaws.{ResumptionExists, ResumptionIsOne}
@@ -49,29 +51,22 @@ report_after_exists done stored m rising =
 -- ---- one answer
 
 module _ (base : List ℕ) where
-  bad_line_one : (line other : ℕ) → IsBadBase base line → IsBadBase base other → line ≡ other
-  bad_line_one line other p q = cc (p, q)
-
   no_bad_base : (m : List Instance) (text : List ℕ) (line : ℕ) → IsResumedText base m text
       → ¬ IsBadBase base line
-  no_bad_base m text line p bad = let read = p.2.read in cc (read, bad)
+  no_bad_base m text line p = base_is_no_bad_base base p.0 p.1 line p.2
 
   resumed_one : (m : List Instance) (text other : List ℕ) → IsResumedText base m text
       → IsResumedText base m other → text ≡ other
   resumed_one m text other p q =
-      let a = p.2.read in
-      let b = q.2.read in
-      let seen : p.2.seen ≡ q.2.seen = cc (a, b) in
-      let done : p.0 ≡ q.0 = cc (seen, p.2.done_is, q.2.done_is) in
-      let stored : p.1 ≡ q.1 = cc (seen, p.2.stored_is, q.2.stored_is) in
+      let one = base_says_one_thing base p.0 q.0 p.1 q.1 p.2 q.2 in
       let P : List Id → Contents → Type 0 = λ d s. IsReportAfter d s m text in
       IsReportAfter-unique q.0 q.1 m text other
-      (subst (λ (s : Contents). P q.0 s) stored (subst (λ (d : List Id). P d p.1) done p.3))
+      (subst (λ (s : Contents). P q.0 s) one.1 (subst (λ (d : List Id). P d p.1) one.0 p.3))
       q.3
 
 pub resumption_is_one : ResumptionIsOne
 resumption_is_one base logs =
-    AnswersWithInput-unique IsBadBase base logs (bad_line_one base) IsResumedText
+    AnswersWithInput-unique IsBadBase base logs (bad_base_is_bad_at_one_line base) IsResumedText
     (resumed_one base) (no_bad_base base)
 
 -- ---- an answer

@@ -1,12 +1,13 @@
 -- How a run ends, by how reading its sources ended and by what it wrote.
-use Rattle.std.proofs.Common.{◌≡◌, ◌↔◌, ◌<◌, ◌≤◌, ℕ, Bool, true, false, List, length, Option}
-use Rattle.std.proofs.Common.{Result, Ok, Err, IsErrOf, sym, subst, inr, arith}
+use Rattle.std.proofs.Common.{◌≡◌, ◌↔◌, ◌<◌, ◌≤◌, ◌||◌, ℕ, Bool, true, false, List, length, Option}
+use Rattle.std.proofs.Common.{Result, Ok, Err, IsErrOf, refl, sym, subst, inr, arith}
 use Rattle.std.proofs.lemmas.Option.{slice_get_within}
 use Rattle.std.proofs.lemmas.Result.{on_ok_weaker, IfErr-weaker}
 use Rattle.std.specs.Io.KnownBytes.{Appends}
 use Rattle.std.specs.Prelude.{OnOk, IfErr, IsErr}
 use Rattle.epx_types.specs.declared.fault.Fault.{Fault}
 use Rattle.epx_types.specs.declared.fault.Fault.TheVariants.{TooManyLogs, Read, Write}
+use Rattle.epx_devices.specs.Devices.{failed_after}
 use Rattle.epx_devices.specs.Transfers.{AppendsPrefix}
 use Rattle.epx_tool.specs.RunEndings.{WritesAnswer}
 use Rattle.epx_tool.specs.Sources.{LeavesSources, LeavesInput}
@@ -14,6 +15,15 @@ use Rattle.epx_tool.proofs.ConsumedLemmas.{as_many_consumed}
 use Rattle.epx_tool.proofs.ReturnedFaultLemmas.{same_error, same_error_iff, same_stop, HasRead}
 use Rattle.epx_tool.proofs.ReturnedFaultLemmas.{neither, other_iff, same_past_end, written_iff}
 use Rattle.epx_tool.proofs.ReturnedFaultLemmas.{ok_is_no_fault, on_ok, keeps_itself}
+
+-- a device that had not failed has failed exactly where this call returned an error
+pub failed_first : {T E : Type 0} (before now : Bool) (result : Result T E) → before ≡ false
+    → now ≡ failed_after before result → IsErr result ↔ (now ≡ true)
+failed_first before now (Ok x) well is =
+    let same : now ≡ false = subst (λ b. now ≡ b || false) well is in
+    (λ bad. absurd (cc bad), λ yes. absurd (cc (same, yes)))
+failed_first before now (Err fault) well is =
+    (λ bad. subst (λ b. now ≡ b || true) well is, λ yes. refl)
 
 -- ---- the sources
 

@@ -8,6 +8,8 @@ use Rattle.epx_types.specs.Instances.{Instance}
 use Rattle.epx_types.specs.Execution.{execute}
 use Rattle.epx_types.proofs.orders.ExecutionOrderLemmas.{IsExecutionOrder-unique}
 use Rattle.epx_types.specs.Levels.{AreLevels}
+use Rattle.epx_types.specs.ExecutionOrder.{ranked_ids}
+use Rattle.epx_types.specs.CommittedMap.{commands_in}
 use Rattle.epx_types.proofs.levels.LevelLemmas.{AreLevels-unique}
 use Rattle.epx_types.proofs.graph.WaitingListLemmas.{IsWaitingList-unique}
 use Rattle.epx_merge.proofs.UniquenessLemmas.{accepted_unique, accepted_not_refused}

@@ -1,11 +1,15 @@
 -- Laws of answers.
-use Rattle.std.specs.Prelude.{◌≡◌, ◌≢◌, ℕ, List, Result, Err}
+use Rattle.std.specs.Prelude.{◌≡◌, ◌≢◌, ◌↔◌, ℕ, List, Result, Ok, Err}
 use Rattle.epx_types.specs.declared.fault.Fault.{Fault}
 use Rattle.epx_types.specs.declared.fault.Fault.TheVariants.{Memory}
 use Rattle.epx_types.specs.Ids.{IsRising}
 use Rattle.epx_types.specs.Instances.{Instance}
 use Rattle.epx_types.specs.CommittedMap.{ids_of}
+use Rattle.epx_types.specs.Conflicts.{IsCovered}
+use Rattle.epx_merge.specs.Acceptance.{IsAccepted}
+use Rattle.epx_report.specs.ViewLines.{covered_line}
 use Rattle.epx_tool.specs.declared.ask.Ask.{Ask}
+use Rattle.epx_tool.specs.declared.ask.Ask.TheVariants.{Audit}
 use Rattle.epx_tool.specs.declared.question.MapText.{MapText}
 use Rattle.epx_tool.specs.Report.{IsReport}
 use Rattle.epx_tool.specs.OrderText.{IsOrderText}
@@ -65,3 +69,8 @@ AnswerIsOne = (logs : List (List ℕ)) (a b : Result (List ℕ) Fault) → a ≢
 abbrev pub ViewIsOne : Type 0
 ViewIsOne = (ask : Ask) (logs : List (List ℕ)) (a b : Result (List ℕ) Fault) → a ≢ Err Memory
     → b ≢ Err Memory → AnswersView ask logs a → AnswersView ask logs b → a ≡ b
+
+-- the audit of logs says that they are covered exactly if they are
+abbrev pub CoveredTextMeansCovered : Type 0
+CoveredTextMeansCovered = (logs : List (List ℕ)) (m : List Instance) → IsAccepted logs m →
+    AnswersView Audit logs (Ok covered_line) ↔ IsCovered m

@@ -5,7 +5,6 @@ use Rattle.epx_types.specs.declared.id.Id.{Id}
 use Rattle.epx_types.specs.declared.fault.Fault.{Fault}
 use Rattle.epx_types.specs.declared.fault.Fault.TheVariants.{Memory}
 use Rattle.epx_types.specs.Instances.{Instance}
-use Rattle.epx_types.specs.Conflicts.{IsCovered}
 use Rattle.epx_types.specs.Execution.{execute, Execution}
 use Rattle.epx_types.specs.ExecutionOrder.{Ranked, IsExecutionOrder, ranked_ids}
 use Rattle.epx_types.specs.CommittedMap.{commands_in}
@@ -13,8 +12,10 @@ use Rattle.epx_types.specs.LawfulOrders.{IsLawful}
 use Rattle.epx_merge.specs.Acceptance.{IsAccepted}
 use Rattle.epx_report.specs.Lists.{IsList}
 use Rattle.epx_tool.specs.WithInput.{IsShort}
-use Rattle.epx_report.specs.ViewLines.{lawful_line}
+use Rattle.epx_report.specs.ViewLines.{covered_line, lawful_line}
 use Rattle.epx_tool.specs.CheckAnswers.{Checks}
+use Rattle.epx_tool.specs.Questions.{AnswersView}
+use Rattle.epx_tool.specs.declared.ask.Ask.TheVariants.{Audit}
 
 -- a list and logs have an answer other than out of memory
 abbrev pub CheckExists : Type 0
@@ -39,12 +40,12 @@ pub record ExecuteAlike (ids other : List Id) (run run' : Execution) : Type 0 wh
   pub replies : (i j : ℕ) (x : Id) → slice_get ids i ≡ Some x → slice_get other j ≡ Some x
       → slice_get run.replies i ≡ slice_get run'.replies j
 
--- if the list is reported as lawful and the logs are covered, the list executes like the report of
+-- if the list is reported as lawful and the logs as covered, the list executes like the report of
 -- the logs: from the empty store, with the same replies and the same final store
 abbrev pub LawfulListExecutesAlike : Type 0
 LawfulListExecutesAlike = (list : List ℕ) (logs : List (List ℕ))
-    → Checks list logs (Ok lawful_line) → (ids : List Id) (m : List Instance) → IsList list ids
-    → IsAccepted logs m → IsCovered m →
+    → Checks list logs (Ok lawful_line) → AnswersView Audit logs (Ok covered_line)
+    → (ids : List Id) (m : List Instance) → IsList list ids → IsAccepted logs m →
     (order : List Ranked) → IsExecutionOrder m order
     → ExecuteAlike ids (ranked_ids order) (execute (commands_in m ids) contents.empty)
     (execute (commands_in m (ranked_ids order)) contents.empty)

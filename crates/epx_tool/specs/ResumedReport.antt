@@ -8,6 +8,7 @@ use Rattle.epx_types.specs.Done.{remaining}
 use Rattle.epx_types.specs.Execution.{execute, Execution}
 use Rattle.epx_types.specs.ExecutionOrder.{Ranked, IsExecutionOrder, ranked_ids, component_count}
 use Rattle.epx_types.specs.WaitingLists.{Waiting, IsWaitingList}
+use Rattle.epx_types.specs.CommittedMap.{commands_in}
 use Rattle.epx_report.specs.ReportLines.{header_line, done_line, reply_line, waiting_line}
 use Rattle.epx_report.specs.ReportLines.{store_line}
 

@@ -11,6 +11,7 @@ use Rattle.epx_types.specs.Done.{remaining}
 use Rattle.epx_types.specs.Execution.{execute, Execution}
 use Rattle.epx_types.specs.ExecutionOrder.{Ranked, ranked_ids, component_count}
 use Rattle.epx_types.specs.WaitingLists.{Waiting}
+use Rattle.epx_types.specs.CommittedMap.{commands_in}
 use Rattle.epx_report.specs.Bases.{IsBase}
 use Rattle.epx_report.specs.ReportReadings.{ReportData, FitsReportData}
 use Rattle.epx_tool.specs.Report.{IsReport}

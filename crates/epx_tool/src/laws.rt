@@ -4,6 +4,7 @@ ghost use Rattle.epx_tool.specs.AnswerLaws.{ReportExists, MapTextExists, ReportI
 ghost use Rattle.epx_tool.specs.AnswerLaws.{OrderTextIsOne, LevelTextIsOne, AuditTextIsOne};
 ghost use Rattle.epx_tool.specs.AnswerLaws.{AnswerExists, ViewExists, AnswerIsOne, ViewIsOne};
 ghost use Rattle.epx_tool.specs.CheckLaws.{CheckExists, CheckIsOne, LawfulTextMeansLawful};
+ghost use Rattle.epx_tool.specs.AnswerLaws.{CoveredTextMeansCovered};
 ghost use Rattle.epx_tool.specs.CheckLaws.{LawfulListExecutesAlike};
 ghost use Rattle.epx_tool.specs.ResumableAnswers.{AnswerIsBase, ResumptionIsBase};
 ghost use Rattle.epx_tool.specs.ResumableAnswers.{ReportOfAPartIsSound, ResumedReportIsSound};
@@ -100,7 +101,13 @@ pub fn lawful_text_means_lawful()
     ensures { LawfulTextMeansLawful }
 {}
 
-/// Over covered logs, a list that is reported as lawful executes as the report of the logs says.
+/// The audit of logs says that they are covered exactly if they are.
+pub fn covered_text_means_covered()
+    ensures { CoveredTextMeansCovered }
+{}
+
+/// If logs are reported as covered, a list that is reported as lawful executes as their report
+/// says.
 pub fn lawful_list_executes_alike()
     ensures { LawfulListExecutesAlike }
 {}

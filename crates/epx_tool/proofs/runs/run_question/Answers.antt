@@ -1,8 +1,10 @@
 use Rattle.std.proofs.Common.{List, Ok, Err, ℕ, subst, sym}
+use Rattle.epx_types.specs.declared.fault.Fault.{Fault}
 use Rattle.epx_tool.specs.Questions.{AnswersQuestion, map_text_of}
 use Rattle.epx_tool.specs.inner.SourceReadings.{EndsMaking}
 use Rattle.epx_tool.proofs.MergedSourceLemmas.{run_refused, run_written}
 use Rattle.epx_tool.proofs.PlainRunLemmas.{making_plain}
+use Rattle.epx_tool.proofs.RunEndingLemmas.{failed_first}
 use Rattle.epx_tool.proofs.ReturnedFaultLemmas.{question_answer}
 use Rattle.epx_tool.proofs.runs.run_question.Goals as goal
 
@@ -24,4 +26,6 @@ returns-in-Err-write_out g c =
     (Err c.in-Err-write_out.fault)
     (subst (λ (text : List ℕ). EndsMaking S.remaining S.reads S.fails S.has_failed Answer
     c.args.sources.now c.answer_sources.new.sources (Ok text)) (sym c.deref.ensures.value) made)
-    failed.bytes failed.flushed failed.faults failed.failed failed.prefix
+    failed.bytes failed.flushed failed.faults
+    (failed_first {T = Unit {0}} {E = Fault} _ _ (Err c.in-Err-write_out.fault) c.requires.sink
+    failed.failed) failed.prefix
