@@ -322,9 +322,9 @@ pub fn run_from<R: Threads + RandomSource + Sync, G: Gate + Sync>(
 }
 
 /// Executes the commands in order. Returns their replies and changes the store as a single thread
-/// would that executes them one after another. The plan, the gate and the random seed never change
-/// the result. The commands run on a copy of the store, which replaces the store at the end, so
-/// after an error the store is unchanged. One worker needs no levels.
+/// would that executes them one after another. The plan, the gate and the random seed change no
+/// result, memory aside. The commands run on a copy of the store, which replaces the store at the
+/// end, so after an error the store is unchanged. One worker needs no levels.
 pub fn run_order<R: Threads + RandomSource + Sync, G: Gate + Sync>(
     rt: &R,
     alloc: Global,

@@ -1,8 +1,8 @@
-//! The fault of a list that is not a lawful order.
+//! The fault of a list that is not a lawful order, or not the beginning of one.
 use epx_types::{Id, Memory};
 
-/// Why a list of instances is not a lawful order. A `place` is a position in the list, counted
-/// from 0.
+/// Why a list of instances is not a lawful order, or not the beginning of one. A `place` is a
+/// position in the list, counted from 0.
 #[derive(Clone, Copy, Debug, PartialEq, Eq)]
 pub enum OrderFault {
     /// Memory ran out before the list was checked.
@@ -11,13 +11,13 @@ pub enum OrderFault {
     Stranger { place: usize },
     /// The instance at this position is also listed at an earlier one.
     Repeat { place: usize },
-    /// This ready instance is not in the list.
+    /// This ready instance is not in the list. A beginning may lack any.
     Missing { id: Id },
-    /// The instance at this position reaches another one, outside its component, that is listed
-    /// later.
+    /// The instance at this position reaches another one, outside its component, that is not listed
+    /// before it.
     Early { place: usize },
     /// An instance of the same component that belongs after the instance at this position is
-    /// listed before it.
+    /// listed before it; or one that belongs before it is left out of a beginning.
     Sequence { place: usize },
 }
 

@@ -46,7 +46,7 @@ kind_ends _ = inr refl
 status_ends : (kinds : Kinds) (given : Given) (status : ℕ) → IsTextStatus kinds given status
     → IsTextEnd status
 status_ends kinds given status (inl is) = subst IsTextEnd (sym is.2) (kind_ends is.0)
-status_ends kinds given status (inr is) = inr is.1
+status_ends kinds given status (inr is) = inr is.2
 
 text_ends : (kinds : Kinds) (given : Given) (wanted : Words)
     → IfText (IsTextStatus kinds given) wanted → IfText IsTextEnd wanted

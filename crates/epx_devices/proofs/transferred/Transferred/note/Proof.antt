@@ -44,59 +44,115 @@ abbrev Arg : Type 0
 Arg = MutBor Transferred × (Bor (List ℕ) × Unit {0})
 
 abbrev stayed : Stays (it.ended).signature.params (it.ended).kept
-stayed = (stay_ref (0 ∷ []) tt (plain (λ _. T.the_row)), (stay_none_slice (1 ∷
-    []) tt (plain (λ _. u8)) yes, tt))
+stayed = (
+  stay_ref (0 ∷ []) tt (plain (λ _. T.the_row)),
+  (
+    stay_none_slice (1 ∷
+        []) tt (plain (λ _. u8)) yes,
+    tt,
+  ),
+)
 
 module _ {M : Type 1} {𝓤 : Ura M} (𝓛 : Logic 𝓤) (at_mem : Memory → SProp 𝓤) (run : Routine →
     Fun 𝓤) (κ κ' : Lft) (q q' : Share) (b o : ℕ) (γ : GName) (h : Transferred) (k : Bor (List ℕ))
-    where
-  open 𝓛 use {H, A}
+  where
+    open 𝓛 use {H, A}
 
-  abbrev x : Arg
-  x = (record { ref_ptr = (b, o); ghost_name = γ; now = h }, (k, tt))
+    abbrev x : Arg
+    x = (record { ref_ptr = (b, o); ghost_name = γ; now = h }, (k, tt))
 
-  abbrev h' : Transferred
-  h' = record { marker = h.marker; bytes = h.bytes ++ k.now }
+    abbrev h' : Transferred
+    h' = record { marker = h.marker; bytes = h.bytes ++ k.now }
 
-  abbrev at : List Val × (List Val × Unit {0})
-  at = (vptr b o ∷ [], (slice_val k.ref_ptr (length k.now) ∷ [], tt))
+    abbrev at : List Val × (List Val × Unit {0})
+    at = (vptr b o ∷ [], (slice_val k.ref_ptr (length k.now) ∷ [], tt))
 
-  abbrev rest : base.Fml.Fml
-  rest = owns (ShrSlice (named 1) κ' u8 ∷ []) x.1 at.1
+    abbrev rest : base.Fml.Fml
+    rest = owns (ShrSlice (named 1) κ' u8 ∷ []) x.1 at.1
 
-  abbrev Post : Val → SProp 𝓤
-  Post = (walk_of 𝓛 it.ended stayed (it.clauses 𝓛 at_mem run)).post (((κ, (κ', tt)), (q, (q',
-      tt)), tt, x, at), tt)
+    abbrev Post : Val → SProp 𝓤
+    Post = (walk_of 𝓛 it.ended stayed (it.clauses 𝓛 at_mem run)).post (
+      (
+        (κ, (κ', tt)),
+        (
+          q,
+          (
+            q',
+            tt,
+          ),
+        ),
+        tt,
+        x,
+        at,
+      ),
+      tt,
+    )
 
-  exits : ent 𝓤 (sep 𝓤 (A.obs γ ((T.the_row).coded.code h')) (sep 𝓤 (A.bor κ (Body (mem T.the_row)
-      b o γ)) (sep 𝓤 (A.lft κ q) (sep 𝓤 (types.Logic.sem 𝓛 rest) (sep 𝓤 (A.lft κ' q') (emp 𝓤))))))
-      (Post vunit)
-  exits =
-      qed 𝓛 (‵ (fobs γ ((T.the_row).coded.code h')) ∷ ‵ (fbor κ (Body (mem T.the_row) b o γ)) ∷
-          ‵ (flft κ q) ∷ ‵ rest ∷ (‵ (flft κ' q') ⊛ ‵ ftrue) ∷ []) ∵
-      suffices ! _ (ends_at 𝓛 it.ended stayed (it.clauses 𝓛 at_mem run) (((κ, (κ', tt)), (q, (q',
-          tt)), tt, x, at), tt) vunit tt (h', (tt, tt)) (tt, (tt, tt))) $ says ! refl $
-          move ! (2 ∷ 4 ∷ []) $ join ! $
-      frame ! $ feq_i ! (List Val) (vptr b o ∷ []) (vptr b o ∷ []) refl $ fjoin3 ! $ fjoin ! $
-      feq_i ! (List Val) (vunit ∷ []) (vunit ∷ []) refl $ move ! (1 ∷ 0 ∷ []) $ done !
+    exits : ent 𝓤 (sep 𝓤 (A.obs γ ((T.the_row).coded.code h')) (sep 𝓤 (A.bor κ (Body (mem T.the_row)
+        b o γ)) (sep 𝓤 (A.lft κ q) (sep 𝓤 (types.Logic.sem 𝓛 rest) (sep 𝓤 (A.lft κ' q') (emp 𝓤))))))
+        (Post vunit)
+    exits =
+        qed 𝓛 (‵ (fobs γ ((T.the_row).coded.code h')) ∷ ‵ (fbor κ (Body (mem T.the_row) b o γ)) ∷
+        ‵ (flft κ q) ∷ ‵ rest ∷ (‵ (flft κ' q') ⊛ ‵ ftrue) ∷ []) ∵
+        suffices ! _ (ends_at 𝓛 it.ended stayed (it.clauses 𝓛 at_mem run) (
+          (
+            (κ, (κ', tt)),
+            (
+              q,
+              (
+                q',
+                tt,
+              ),
+            ),
+            tt,
+            x,
+            at,
+          ),
+          tt,
+        ) vunit tt (h', (tt, tt)) (tt, (tt, tt))) $ says ! refl $
+        move ! (2 ∷ 4 ∷ []) $ join ! $
+        frame ! $ feq_i ! (List Val) (vptr b o ∷ []) (vptr b o ∷ []) refl $ fjoin3 ! $ fjoin ! $
+        feq_i ! (List Val) (vunit ∷ []) (vunit ∷ []) refl $ move ! (1 ∷ 0 ∷ []) $ done !
 
-  module _ (C : Calls 𝓤 H) (Λ : Loops 𝓤 H) where
-    walk : length k.now < 2 ^ 64 → ent 𝓤 (on_entry 𝓛 it.signature (κ, (κ', tt)) (q, (q',
-        tt)) x at) (WpFn 𝓤 H C Λ code.function (vptr b o ∷ slice_val k.ref_ptr (length k.now) ∷
-        []) Post)
-    walk fk =
-        qed 𝓛 ((‵ (flft κ q) ⊛ (‵ (flft κ' q') ⊛ ‵ ftrue)) ∷
-            ‵ (owns (MutRef (named 0) κ T.the_row ∷ ShrSlice (named 1) κ' u8 ∷ []) x at) ∷ []) ∵
-            split ! $ move ! (2 ∷ []) $ fsplit ! $ fsplit3 ! $ drop ! $ move ! (0 ∷ 1 ∷ 3 ∷ []) $
-        enter ! C Λ code.function (vptr b o ∷ slice_val k.ref_ptr (length k.now) ∷ []) _ $
-        alloc_all ! (λ l. pass_all ! refl ((tt, tt), ((tt, (tt, (record { fits =
-            fk }, tt))), tt)) $
-        move ! (0 ∷ 1 ∷ 2 ∷ []) $ opens ! tt T.the_row {h = h} b o (λ vs.
-        sets ! (of_opd ! (unit_lit !)) refl (tt, tt) $
-        move ! (1 ∷ []) $ use1 𝓛 (‵ ((T.the_row).own_val h' vs)) (id⊢ 𝓤 _) $ move ! (1 ∷ 0 ∷ []) $
-            closes ! tt T.the_row h' vs b o $
-        returns ! (look_at ! 0 refl) $ free_all ! refl $
-        keep ! (0 ∷ 1 ∷ 2 ∷ 3 ∷ 4 ∷ []) $ by ! exits))
+    module _ (C : Calls 𝓤 H) (Λ : Loops 𝓤 H) where
+      walk : length k.now < 2 ^ 64 → ent 𝓤 (on_entry 𝓛 it.signature (κ, (κ', tt)) (
+        q,
+        (
+          q',
+          tt,
+        ),
+      ) x at) (WpFn 𝓤 H C Λ code.function (vptr b o ∷ slice_val k.ref_ptr (length k.now) ∷
+          []) Post)
+      walk fk =
+          qed 𝓛 ((‵ (flft κ q) ⊛ (‵ (flft κ' q') ⊛ ‵ ftrue)) ∷
+          ‵ (owns (MutRef (named 0) κ T.the_row ∷ ShrSlice (named 1) κ' u8 ∷ []) x at) ∷ []) ∵
+          split ! $ move ! (2 ∷ []) $ fsplit ! $ fsplit3 ! $ drop ! $ move ! (0 ∷ 1 ∷ 3 ∷ []) $
+          enter ! C Λ code.function (vptr b o ∷ slice_val k.ref_ptr (length k.now) ∷ []) _ $
+          alloc_all ! (λ l. pass_all ! refl (
+            (tt, tt),
+            (
+              (
+                tt,
+                (
+                  tt,
+                  (
+                    record {
+                      fits =
+                          fk;
+                    },
+                    tt,
+                  ),
+                ),
+              ),
+              tt,
+            ),
+          ) $
+          move ! (0 ∷ 1 ∷ 2 ∷ []) $ opens ! tt T.the_row {h = h} b o (λ vs.
+          sets ! (of_opd ! (unit_lit !)) refl (tt, tt) $
+          move ! (1 ∷ []) $ use1 𝓛 (‵ ((T.the_row).own_val h' vs)) (id⊢ 𝓤 _) $ move ! (1 ∷ 0 ∷ []) $
+          closes ! tt T.the_row h' vs b o $
+          returns ! (look_at ! 0 refl) $ free_all ! refl $
+          keep ! (0 ∷ 1 ∷ 2 ∷ 3 ∷ 4 ∷ []) $ by ! exits))
 
 module _ {M : Type 1} {𝓤 : Ura M} (𝓛 : Logic 𝓤) (at_mem : Memory → SProp 𝓤) (run : Routine →
     Fun 𝓤) where
@@ -105,14 +161,22 @@ module _ {M : Type 1} {𝓤 : Ura M} (𝓛 : Logic 𝓤) (at_mem : Memory → SP
   walks : (C : Calls 𝓤 H) (Λ : Loops 𝓤 H) →
       Walks 𝓛 it.ended stayed (WpFn 𝓤 H C Λ code.function) (it.clauses 𝓛 at_mem run)
   walks C Λ = walked 𝓛 it.ended stayed (it.clauses 𝓛 at_mem run) (WpFn 𝓤 H C Λ code.function) (λ
-      κs. (mut_vals, (shr_slice_vals, tt))) (λ κs. (mut_Tells (named 0) κs.0 T.the_row,
-      (shr_slice_Tells (named 1) κs.1.0 u8, tt)))
+      κs. (mut_vals, (shr_slice_vals, tt))) (λ κs. (
+        mut_Tells (named 0) κs.0 T.the_row,
+        (shr_slice_Tells (named 1) κs.1.0 u8, tt),
+      ))
       (λ κs qs bounds a _ are. via 𝓤 _ (fst∗ 𝓤 _ (emp 𝓤)) (walk 𝓛 at_mem run κs.0 κs.1.0 qs.0
-          qs.1.0 a.0.ref_ptr.0 a.0.ref_ptr.1 a.0.ghost_name a.0.now a.1.0 C Λ are.1.0.0.1.0))
+      qs.1.0 a.0.ref_ptr.0 a.0.ref_ptr.1 a.0.ghost_name a.0.now a.1.0 C Λ are.1.0.0.1.0))
 
   goes : AllGo 𝓛 2 (it.signature).params (it.ended).kept stayed
-  goes = (Goes-ref 𝓛 2 0 tt (plain (λ _. T.the_row)), (Goes-none_slice 𝓛 2 (1 ∷
-      []) tt (plain (λ _. u8)) yes, tt))
+  goes = (
+    Goes-ref 𝓛 2 0 tt (plain (λ _. T.the_row)),
+    (
+      Goes-none_slice 𝓛 2 (1 ∷
+          []) tt (plain (λ _. u8)) yes,
+      tt,
+    ),
+  )
 
 meets : {M : Type 1} {𝓤 : Ura M} (𝓛 : Logic 𝓤) → (at_mem : Memory → SProp 𝓤) (run : Routine →
     Fun 𝓤) (𝓣 : Tables 𝓤 𝓛.H)
@@ -126,5 +190,5 @@ unfolding tables_of
 note_spec 𝓤 𝓛 𝓜 𝓡 wired =
     entered 𝓤 𝓛.H (triple_of 𝓛 it.signature (it.spec 𝓛 𝓜.mem 𝓡.returns))
     (tables 𝓤 𝓛.H 𝓜 𝓡 𝓡.env).C (tables 𝓤 𝓛.H 𝓜 𝓡 𝓡.env).Λ #it code.function (code.unfolded 𝓤 𝓛.H 𝓜
-        𝓡 wired)
+    𝓡 wired)
     (meets 𝓛 𝓜.mem 𝓡.returns (tables_of 𝓤 𝓛.H 𝓜 (tables 𝓤 𝓛.H 𝓜 𝓡 𝓡.env)))
