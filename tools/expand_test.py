@@ -525,10 +525,7 @@ def cases_of_words(folder):
     yield ["--unknown"], 2, "unrecognized arguments: --unknown"
     yield ["--seed", "x"], 2, "argument --seed"
     for *words, status, why in (
-        ("a/0.jsonl", 2, "--out FOLDER is missing"),
-        ("--out", "out", 2, "no LOG is named"),
-        ("a/0.jsonl", "b/0.jsonl", "--out", "out", 2, "a/0.jsonl and b/0.jsonl have one name"),
-        ("a/0.jsonl", "--out", "a", 2, "a is the folder of a/0.jsonl"),
+        *trials.WORDS_OF_BOTH,
         ("a/0.jsonl", "--out", "link", 2, "link is the folder of a/0.jsonl"),
         ("a/0.jsonl", "--out", "base", 2, "base is no folder"),
         ("a/0.jsonl", "c.jsonl", "--out", "out", 1, "c.jsonl can not be read: No such file"),

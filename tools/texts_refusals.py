@@ -163,11 +163,8 @@ def cases_of_words():
     yield ["--unknown"], 2, "unrecognized arguments: --unknown"
     yield ["--seed", "x"], 2, "argument --seed"
     for *words, status, why in (
-        ("a/0.jsonl", 2, "--out FOLDER is missing"),
-        ("--out", "out", 2, "no LOG is named"),
-        ("a/0.jsonl", "b/0.jsonl", "--out", "out", 2, "a/0.jsonl and b/0.jsonl have one name"),
+        *trials.WORDS_OF_BOTH,
         ("a/0.jsonl", "--list", "b/0.jsonl", "--out", "out", 2, "a/0.jsonl and b/0.jsonl have one"),
-        ("a/0.jsonl", "--out", "a", 2, "a is the folder of a/0.jsonl"),
         ("a/0.jsonl", "--out", "link", 2, "link is the folder of a/0.jsonl"),
         ("a/0.jsonl", "--out", "list", 2, "list is no folder"),
         ("a/0.jsonl", "--out", "full", 2, "full has other, which is not written"),

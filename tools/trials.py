@@ -4,6 +4,14 @@ import subprocess
 
 from command_line import TOP
 
+# Words that both tools refuse, each with the status and what is said.
+WORDS_OF_BOTH = (
+    ("a/0.jsonl", 2, "--out FOLDER is missing"),
+    ("--out", "out", 2, "no LOG is named"),
+    ("a/0.jsonl", "b/0.jsonl", "--out", "out", 2, "a/0.jsonl and b/0.jsonl have one name"),
+    ("a/0.jsonl", "--out", "a", 2, "a is the folder of a/0.jsonl"),
+)
+
 
 def conflict(own, other):
     """Whether commands conflict that use these keys, each with whether it is written."""
