@@ -1,9 +1,11 @@
 -- Lines have one list of distinct Ids.
-use Rattle.std.proofs.Common.{◌≡◌, ◌⊎◌, inl, inr, List, map, length, Contains, ap, subst}
+use Rattle.std.proofs.Common.{◌≡◌, ◌⊎◌, inl, inr, List, map, length, Contains, ap, ◌∙◌, subst}
 use Rattle.std.proofs.Common.{arith}
 use Rattle.std.proofs.lemmas.Bool.{cases_lt}
 use Rattle.epx_types.specs.declared.id.Id.{Id}
+use Rattle.epx_types.specs.CommittedMap.{ids_of, IsCommittedBy}
 use Rattle.epx_types.specs.Ids.{Below}
+use Rattle.epx_types.specs.Instances.{Instance}
 use Rattle.epx_types.specs.PlacedLines.{Placed}
 use Rattle.epx_types.proofs.lists.ComparisonLemmas.{id_cmp_total, id_cmp-IsAntisymmetric}
 use Rattle.epx_types.proofs.lists.MembershipLemmas.{Contains-map, Contains-from_map}
@@ -52,3 +54,17 @@ few_or_many lines =
       | inl many ↦ inr (ids.0, ids.1, many)
       | inr few ↦ inl (ids.0, ids.1, few)
     ]
+
+-- the Ids that lines name are those of the committed instances
+pub named_ids_are_committed : (lines : List Placed) (m : List Instance) (ids : List Id)
+    → IsCommittedBy lines m → AreNamedBy lines ids → ids ≡ ids_of m
+named_ids_are_committed lines m ids committed named =
+    same_rising Below (below_irrefl id_cmp_total) (below_trans id_cmp_total) ids (ids_of m)
+    (AllPairs-from_IsRising ids named.rising) (AllPairs-from_IsRising (ids_of m) committed.rising)
+    (λ x h. let p = named.named x h in
+    subst (Contains (ids_of m)) p.2
+    (Contains-map (λ (e : Instance). e.id) m p.0.instance (committed.whole p.0 p.1)))
+    (λ x h.
+    let e = Contains-from_map (λ (e : Instance). e.id) m x h in
+    let p = committed.given e.0 e.1 in
+    subst (Contains ids) (ap (λ (e : Instance). e.id) p.2 ∙ e.2) (named.whole p.0 p.1))

@@ -109,6 +109,9 @@ impl FirstLines {
     }
 }
 
+/// How many marks a ledger may have beside those for each Id, if nobody knows how many lines come.
+const SPARE_MARKS: usize = 65_536;
+
 /// Records lists of lines. Keeps each list that has the first line of an instance.
 #[derive(Debug, Drop)]
 pub struct Ledger {
@@ -134,12 +137,19 @@ impl Ledger {
     pub fn new(alloc: Global, seed: Seed) -> Ledger
         ensures { IsLedgerOf [] result }
     {
+        Ledger::with_spare(alloc, seed, SPARE_MARKS)
+    }
+
+    /// The same, with this many spare marks. They may all be filled, whatever is noted.
+    pub(crate) fn with_spare(alloc: Global, seed: Seed, spare: usize) -> Ledger
+        ensures { IsLedgerOf [] result }
+    {
         Ledger {
             alloc,
             lists: Vec::new(alloc),
             firsts: FirstLines {
                 rows: Vec::new(alloc),
-                index: LineIndex::new(alloc, seed),
+                index: LineIndex::new(alloc, seed, spare),
                 disagreements: IndexMap::with_hasher(alloc, seed),
             },
         }

@@ -12,11 +12,9 @@ mod UniqueAnswerWithInputLemmas
 mod AnswerWithInputLemmas
 mod InputReadingLemmas
 mod AnswerLemmas
-mod OrderLengthLemmas
 mod ReportPartsLemmas
 mod AcceptedLogLemmas
 mod OrderCommandLemmas
-mod RemainingCommandLemmas
 mod ReportLemmas
 mod ResumptionLemmas
 mod ReportBaseLemmas

@@ -24,9 +24,9 @@ use Rattle.epx_audit.specs.Uncovered.{IsLeastUncovered}
 use Rattle.epx_types.specs.Conflicts.{IsCovered}
 use Rattle.epx_types.proofs.remaining.RemainingLemmas.{Contains-remaining_iff, remaining-nil}
 use Rattle.epx_types.proofs.orders.ExecutionOrderLemmas.{IsExecutionOrder-IsLawful}
-use Rattle.epx_tool.proofs.OrderLengthLemmas.{ordered_are_few}
+use Rattle.epx_types.proofs.orders.OrderLengthLemmas.{ordered_are_few}
 use Rattle.epx_tool.proofs.OrderCommandLemmas.{commands_are}
-use Rattle.epx_tool.proofs.RemainingCommandLemmas.{commands-left, length-remaining}
+use Rattle.epx_types.proofs.remaining.RemainingCommandLemmas.{commands-left, length-remaining}
 
 module _ (done : List Id) (m : List Instance) (order : List Ranked)
     (ordered : IsExecutionOrder (remaining done m) order) (ids : List Id)

@@ -79,7 +79,7 @@ impl Store {
     }
 
     /// Puts the value under the key, or removes the key if there is no value.
-    pub(crate) fn write(&mut self, key: &Key, value: Option<i64>) -> Result<(), Memory>
+    pub fn write(&mut self, key: &Key, value: Option<i64>) -> Result<(), Memory>
         ensures ok { OnOk result (self.new ≡ assign self.old key.now value) }
         ensures err { OnErr result (self.new ≡ self.old) }
     {

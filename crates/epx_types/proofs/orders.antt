@@ -3,4 +3,5 @@ pub mod LawfulExecutionLemmas
 pub mod LawfulOrderLemmas
 pub mod LawfulPartLemmas
 pub mod OrderExistenceLemmas
+pub mod OrderLengthLemmas
 pub mod RankExistenceLemmas

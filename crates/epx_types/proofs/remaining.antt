@@ -1,3 +1,4 @@
+pub mod RemainingCommandLemmas
 pub mod RemainingLemmas
 pub mod RemainingPositionLemmas
 pub mod ResumedExecutionLemmas

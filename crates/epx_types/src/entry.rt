@@ -1,11 +1,13 @@
 //! Committed instances.
-ghost use Rattle.std.specs.Prelude.{◌≡◌, ◌↔◌, ℕ, IsTrue, IsSome, IfSome};
+ghost use Rattle.std.specs.Prelude.{◌≡◌, ◌↔◌, ℕ, IfOk, IfSome, IsSome, IsTrue};
 ghost use Rattle.epx_types.specs.Ids.{IsRising};
 ghost use Rattle.epx_types.specs.Instances.{IsWellFormed};
 
 use crate::id::Id;
+use crate::memory::Memory;
 use crate::op::Op;
 use crate::small_list::SmallList;
+use std::alloc::Global;
 use std::marker::Model;
 
 /// An instance has at most this many dependencies.
@@ -74,6 +76,15 @@ impl Entry {
         }
     }
 
+    /// An equal entry with lists of its own.
+    pub fn copy(&self, alloc: Global) -> Result<Entry, Memory>
+        ensures { IfOk result (λ copy. copy ≡ self.now) }
+    {
+        let deps = copy_ids(alloc, self.deps())?;
+        let ops = copy_ops(alloc, self.ops())?;
+        Ok(Entry::new(self.id, self.seq, deps, ops).unwrap())
+    }
+
     pub fn id(&self) -> Id
         ensures { result ≡ self.now.id }
     {
@@ -99,6 +110,24 @@ impl Entry {
     {
         self.ops.as_slice()
     }
+}
+
+fn copy_ids(alloc: Global, ids: &[Id]) -> Result<Vec<Id>, Memory>
+    ensures { IfOk result (λ copies. copies.items ≡ ids.now) }
+{
+    let mut copies = Vec::with_capacity(alloc, ids.len())?;
+    copies.extend_from_slice(ids)?;
+    Ok(copies)
+}
+
+fn copy_ops(alloc: Global, ops: &[Op]) -> Result<Vec<Op>, Memory>
+    ensures { IfOk result (λ copies. copies.items ≡ ops.now) }
+{
+    let mut copies = Vec::with_capacity(alloc, ops.len())?;
+    for op in ops {
+        copies.push(op.copy()?)?;
+    }
+    Ok(copies)
 }
 
 /// Whether an instance can have these dependencies and these operations.

@@ -23,7 +23,7 @@ pub enum Why {
     Number,
     /// `seq` is missing or is not an unsigned 64-bit integer.
     Seq,
-    /// `status` is there and is not `committed`.
+    /// `status` is there and is none of the four texts.
     Status,
     /// `deps` is missing or is not a list of at most 256 Ids.
     Deps,

@@ -1,9 +1,10 @@
 //! The operations of a command.
-ghost use Rattle.std.specs.Prelude.{◌≡◌, true, false};
+ghost use Rattle.std.specs.Prelude.{◌≡◌, IfOk, true, false};
 ghost use Rattle.epx_types.specs.Accesses.{access_of, accesses_in};
 ghost use Rattle.epx_types.specs.CommandKeys.{accesses_of};
 
 use crate::key::Key;
+use crate::memory::Memory;
 
 /// One operation on the store. If an operation aborts, the whole command is undone.
 #[derive(Debug, PartialEq, Eq, Hash, Drop)]
@@ -46,7 +47,45 @@ fn write(key: &Key) -> Access<'_>
     Access { key, writes: true }
 }
 
+/// The copy of a key to another one, with its own target.
+fn copy_to(source: Key, target: &Key) -> Result<Op, Memory>
+    ensures { IfOk result (λ copy. copy ≡ Op.Copy source target.now) }
+{
+    Ok(Op::Copy {
+        source,
+        target: target.copy()?,
+    })
+}
+
 impl Op {
+    /// An equal operation with keys of its own.
+    pub fn copy(&self) -> Result<Op, Memory>
+        ensures { IfOk result (λ copy. copy ≡ self.now) }
+    {
+        let copy = match self {
+            Op::Get { key } => Op::Get { key: key.copy()? },
+            Op::Put { key, value } => Op::Put {
+                key: key.copy()?,
+                value: *value,
+            },
+            Op::Del { key } => Op::Del { key: key.copy()? },
+            Op::Add { key, amount } => Op::Add {
+                key: key.copy()?,
+                amount: *amount,
+            },
+            Op::Is { key, value } => Op::Is {
+                key: key.copy()?,
+                value: *value,
+            },
+            Op::Floor { key, least } => Op::Floor {
+                key: key.copy()?,
+                least: *least,
+            },
+            Op::Copy { source, target } => copy_to(source.copy()?, target)?,
+        };
+        Ok(copy)
+    }
+
     /// The keys that the operation touches: one, or two for a copy, the source first.
     pub fn accesses(&self) -> (Access<'_>, Option<Access<'_>>)
         ensures { accesses_of self.now ≡ accesses_in result.0 result.1 }
