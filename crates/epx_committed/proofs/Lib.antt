@@ -7,6 +7,7 @@ mod SortedKeyLemmas
 mod LedgerCloseLemmas
 mod NumberRangeLemmas
 mod RowLemmas
+mod TakenEntryLemmas
 mod LineRowLemmas
 mod FirstLineLemmas
 mod MergedMapLemmas

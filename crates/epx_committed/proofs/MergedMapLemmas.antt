@@ -40,7 +40,7 @@ module _ (lists : Lists) (rows : List Row) (h : AreLineRows lists rows) where
   row_there m is k r within at =
       slice_get_read rows (length rows) k r refl (within_rows m is k within) at
 
-  row_stands : (k : ℕ) (r : Row) → slice_get rows k ≡ Some r
+  pub row_stands : (k : ℕ) (r : Row) → slice_get rows k ≡ Some r
       → (p : Placed) × (line_at lists r ≡ Some p) × (p.instance.id ≡ r.id)
       × (slice_get (instances_at lists rows) k ≡ Some p.instance)
   row_stands k r at =

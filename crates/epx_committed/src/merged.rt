@@ -1,16 +1,20 @@
 //! The committed map.
-ghost use Rattle.std.specs.Prelude.{◌≡◌, ◌==◌, ◌<◌, length, map, option_copied, slice_get};
-ghost use Rattle.std.specs.Prelude.{Some};
+ghost use Rattle.std.specs.Prelude.{◌≡◌, ◌≢◌, ◌==◌, ◌<◌, IfOk, length, map, option_copied};
+ghost use Rattle.std.specs.Prelude.{slice_get, Some};
 ghost use Rattle.epx_types.specs.CommittedMap.{ids_of, instance_of, position_of};
 ghost use Rattle.epx_types.specs.Ids.{IsRising};
-ghost use Rattle.epx_committed.specs.inner.LineRows.{AreLineRows, instances_at};
+ghost use Rattle.epx_types.specs.PlacedLines.{Placed};
+ghost use Rattle.epx_committed.specs.declared.rows.Row.{Row};
+ghost use Rattle.epx_committed.specs.inner.LineRows.{AreLineRows, IsRowOf, NamesItsLine};
+ghost use Rattle.epx_committed.specs.inner.LineRows.{instances_at, line_at};
 ghost use Rattle.epx_committed.specs.inner.NumberRanges.{AreRangesIn};
 
 use crate::guesses::Guesses;
 use crate::number_ranges::NumberRanges;
 use crate::placed::PlacedEntry;
 use crate::rows::{Row, find_row};
-use epx_types::{Entry, Id};
+use epx_types::{Entry, Id, Memory};
+use std::alloc::Global;
 use std::marker::Model;
 
 /// The committed instances of logs that agree. Contracts see the instances by rising Id.
@@ -38,6 +42,17 @@ impl Model for Merged {
         × AreRangesIn (map (λ r. r.id) m.rows.items) m.ranges.ranges.items };
 }
 
+/// Takes the entry out of the line that a row names, and leaves an empty one of the instance there.
+fn take_entry(alloc: Global, lists: &mut Vec<Vec<PlacedEntry>>, row: Row) -> Entry
+    requires { NamesItsLine lists.old.items row }
+    ensures entry { (p : Placed) → line_at lists.old.items row ≡ Some p → result ≡ p.instance }
+    ensures others { (r : Row) → r.id ≢ row.id → (p : Placed) → IsRowOf lists.old.items p r
+        → line_at lists.new.items r ≡ Some p }
+{
+    let empty = Entry::new(row.id, row.seq, Vec::new(alloc), Vec::new(alloc)).unwrap();
+    lists[row.list][row.at].replace_entry(empty)
+}
+
 impl Merged {
     pub(crate) fn new(
         lists: Vec<Vec<PlacedEntry>>,
@@ -55,6 +70,22 @@ impl Merged {
             ranges,
             guesses,
         }
+    }
+
+    /// The entries of the committed instances, by rising Id. They are moved, not copied.
+    pub fn into_entries(self, alloc: Global) -> Result<Vec<Entry>, Memory>
+        ensures { IfOk result (λ entries. entries.items ≡ self) }
+    {
+        let Merged {
+            mut lists,
+            rows,
+            ..
+        } = self;
+        let mut entries = Vec::with_capacity(alloc, rows.len())?;
+        for index in 0..rows.len() {
+            entries.push(take_entry(alloc, &mut lists, rows[index]))?;
+        }
+        Ok(entries)
     }
 
     /// The position of an instance. Most are in a range, and no row has to be loaded. After a gap

@@ -3,6 +3,7 @@ ghost use Rattle.std.specs.Prelude.{◌≡◌};
 
 use epx_types::{Entry, Id, Place};
 use std::marker::Model;
+use std::mem;
 
 /// An entry, and the place of its line.
 #[derive(Debug, Drop)]
@@ -42,5 +43,13 @@ impl PlacedEntry {
         ensures { result.now ≡ self.now.instance }
     {
         &self.entry
+    }
+
+    /// Puts another entry in, and returns the one that was there.
+    pub(crate) fn replace_entry(&mut self, entry: Entry) -> Entry
+        ensures taken { result ≡ self.old.instance }
+        ensures put { self.new ≡ record { place = self.old.place; instance = entry } }
+    {
+        mem::replace(&mut self.entry, entry)
     }
 }

@@ -38,6 +38,8 @@ impl<'a> PlacedLine<'a> {
         self.place
     }
 
+    /// The text of the line.
+    // The clause is about what it means: lines of one meaning are equal to all that read them.
     pub fn bytes(&self) -> &'a [u8]
         ensures { meaning_of result.now ≡ self.now.meaning }
     {

@@ -73,6 +73,7 @@ impl LineBatch {
     }
 
     /// The number of bytes that it holds.
+    // No clause: it only decides how many lines are read at a time, which changes no answer.
     pub fn size(&self) -> usize {
         self.bytes.len()
     }

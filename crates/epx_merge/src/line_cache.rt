@@ -84,6 +84,7 @@ impl<'a> LineCache<'a> {
     }
 
     /// The hash of a line, by which it is found. A cache without slots needs none, and returns 0.
+    // No clause: lines that a hash finds are compared byte by byte, so any number would do.
     pub fn hash_of(&self, bytes: &[u8]) -> u64 {
         if !self.has_slots() {
             return 0;

@@ -1,0 +1,113 @@
+-- An entry is taken out of its list, and other rows still name the lines that they named.
+use Rattle.std.proofs.Common.{◌≡◌, ◌≢◌, ◌≤◌, ◌<◌, ◌+◌, ℕ, zero, suc, List, [], ◌∷◌, ◌++◌, Vec}
+use Rattle.std.proofs.Common.{Some, slice_get, slice_set, option_and_then, unwrap_or, map, take}
+use Rattle.std.proofs.Common.{refl, sym, ap, subst, ◌∙◌, inl, inr, arith}
+use Rattle.std.proofs.Math.Seq.{take-suc}
+use Rattle.std.proofs.lemmas.List.Elements.{All-contains}
+use Rattle.std.specs.Vec.{with_item}
+use Rattle.std.proofs.lemmas.Bool.{cases_eq}
+use Rattle.std.proofs.lemmas.Option.{get_or_from_slice_get, none-some, slice_get_within}
+use Rattle.std.specs.declared.alloc.Global.{Global}
+use Rattle.epx_types.specs.Ids.{Below}
+use Rattle.epx_types.specs.Instances.{Instance}
+use Rattle.epx_types.specs.PlacedLines.{Placed}
+use Rattle.epx_types.proofs.lists.ComparisonLemmas.{id_cmp_total}
+use Rattle.epx_types.proofs.lists.ListPositionLemmas.{AllPairs-slice_get, Contains-slice_get}
+use Rattle.epx_types.proofs.lists.ListPositionLemmas.{slice_get-map}
+use Rattle.epx_types.proofs.lists.RisingIdLemmas.{AllPairs-from_IsRising}
+use Rattle.epx_types.proofs.lists.TotalOrderLemmas.{below_irrefl}
+use Rattle.epx_committed.specs.declared.rows.Row.{Row}
+use Rattle.epx_committed.specs.inner.LineRows.{line_at, instances_at, IsRowOf}
+use Rattle.epx_committed.specs.inner.LineRows.{AreLineRows, NamesItsLine}
+use Rattle.epx_committed.proofs.LineRowLemmas.{Lists, line_there, list_of, stands_under}
+
+set_here : {A : Type 0} (xs : List A) (k : ℕ) (x y : A) → slice_get xs k ≡ Some x
+    → slice_get (slice_set xs k y) k ≡ Some y
+set_here [] k x y h = absurd (none-some x h)
+set_here (z ∷ xs) zero x y h = refl
+set_here (z ∷ xs) (suc k) x y h = set_here xs k x y h
+
+set_elsewhere : {A : Type 0} (xs : List A) (k j : ℕ) (y : A) → j ≢ k
+    → slice_get (slice_set xs k y) j ≡ slice_get xs j
+set_elsewhere [] k j y other = refl
+set_elsewhere (z ∷ xs) zero zero y other = absurd (other refl)
+set_elsewhere (z ∷ xs) zero (suc j) y other = refl
+set_elsewhere (z ∷ xs) (suc k) zero y other = refl
+set_elsewhere (z ∷ xs) (suc k) (suc j) y other = set_elsewhere xs k j y (λ e. other (ap suc e))
+
+module _ (lists : Lists) (row : Row) (q new : Placed) (is : IsRowOf lists q row) where
+  pub other_lines_stay : (l : Vec Placed Global) → slice_get lists row.list ≡ Some l
+      → (r : Row) → r.id ≢ row.id → (p : Placed) → IsRowOf lists p r
+      → line_at (slice_set lists row.list (with_item l row.at new)) r ≡ Some p
+  other_lines_stay l here r other p there =
+      let after = slice_set lists row.list (with_item l row.at new) in
+      let from = list_of lists p r there.0 in
+      elim (cases_eq r.list row.list) [
+        | inl same ↦
+            let one : Some from.0 ≡ Some l = sym from.1 ∙ ap (slice_get lists) same ∙ here in
+            let in_list : slice_get l.items r.at ≡ Some p =
+            subst (λ (m : Vec Placed Global). slice_get m.items r.at ≡ Some p)
+            (ap (λ o. unwrap_or o l) one) from.2 in
+            let there_too : slice_get l.items row.at ≡ Some q =
+            sym (ap (option_and_then (λ (m : Vec Placed Global). slice_get m.items row.at)) here)
+            ∙ is.0 in
+            let apart : r.at ≢ row.at = λ e.
+            let line : p ≡ q =
+            ap (λ o. unwrap_or o q) (sym in_list ∙ ap (slice_get l.items) e ∙ there_too) in
+            other (sym there.1 ∙ ap (λ (x : Placed). x.instance.id) line ∙ is.1) in
+            line_there after (with_item l row.at new) p r
+            (ap (slice_get after) same ∙ set_here lists row.list l (with_item l row.at new) here)
+            (set_elsewhere l.items row.at r.at new apart ∙ in_list)
+        | inr apart ↦
+            line_there after from.0 p r
+            (set_elsewhere lists row.list r.list (with_item l row.at new) apart ∙ from.1) from.2
+      ]
+
+-- the rows from an index on name the same lines in other lists
+abbrev pub LaterLinesStay : Lists → Lists → List Row → ℕ → Type 0
+LaterLinesStay old new rows from = (k : ℕ) → from ≤ k → (r : Row) → slice_get rows k ≡ Some r
+    → (p : Placed) → line_at old r ≡ Some p → line_at new r ≡ Some p
+
+-- ---- the entry of the row at an index is taken
+
+module _ (lists now after : Lists) (rows : List Row) (are : AreLineRows lists rows)
+    (k : ℕ) (row : Row) (at : slice_get rows k ≡ Some row)
+    (stay : LaterLinesStay lists now rows k) where
+  named_at : (j : ℕ) (r : Row) → slice_get rows j ≡ Some r → NamesItsLine lists r
+  named_at j r there =
+      All-contains (NamesItsLine lists) rows r are.named (Contains-slice_get rows j r there)
+
+  pub named_now : NamesItsLine now row
+  named_now = let p = named_at k row at in
+      (p.0, (stay k (omega arith) row at p.0 p.1.0, p.1.1, p.1.2))
+
+  -- rows have distinct Ids
+  later_is_other : (j : ℕ) (r : Row) → k < j → slice_get rows j ≡ Some r → r.id ≢ row.id
+  later_is_other j r later there same =
+      let ids = map (λ (q : Row). q.id) rows in
+      let below = AllPairs-slice_get Below ids (AllPairs-from_IsRising ids are.rising) k j
+      row.id r.id later (slice_get-map (λ (q : Row). q.id) rows k row at)
+      (slice_get-map (λ (q : Row). q.id) rows j r there) in
+      below_irrefl id_cmp_total row.id (subst (Below row.id) same below)
+
+  pub later_lines_stay : ((r : Row) → r.id ≢ row.id → (p : Placed) → IsRowOf now p r
+      → line_at after r ≡ Some p) → LaterLinesStay lists after rows (k + 1)
+  later_lines_stay others j later r there p line =
+      let q = named_at j r there in
+      let same : q.0 ≡ p = ap (λ o. unwrap_or o p) (sym q.1.0 ∙ line) in
+      let is : IsRowOf lists p r = subst (λ l. IsRowOf lists l r) same q.1 in
+      others r (later_is_other j r (omega (arith, later)) there) p
+      (stay j (omega (arith, later)) r there p line, is.1, is.2)
+
+  pub next_taken : (e : Instance) → e ≡ named_now.0.instance
+      → take (k + 1) (instances_at lists rows) ≡ take k (instances_at lists rows) ++ e ∷ []
+  unfolding named_at named_now
+  next_taken e is =
+      let p = named_at k row at in
+      let there = stands_under lists rows are.named k row p.0 at p.1.0 in
+      let step : k + 1 ≡ suc k = omega arith in
+      ap (λ n. take n (instances_at lists rows)) step
+      ∙ take-suc (instances_at lists rows) k e
+      (slice_get_within (instances_at lists rows) k p.0.instance there)
+      ∙ ap (λ x. take k (instances_at lists rows) ++ x ∷ [])
+      (get_or_from_slice_get (instances_at lists rows) k p.0.instance e there ∙ sym is)
