@@ -12,9 +12,6 @@ use epx_types::{Entry, Fault, Memory, Place};
 use std::alloc::Global;
 use std::hash::{DefaultHasher, Hash};
 
-/// There are this many spare marks beside one for each entry.
-const SPARE_MARKS: usize = 1_024;
-
 /// A seed derived from the Ids of all entries, since this function has no random source.
 fn seed_after(entries: &[Entry]) -> Seed {
     let mut names = DefaultHasher::new();
@@ -53,9 +50,7 @@ pub fn from_entries(alloc: Global, entries: Vec<Entry>) -> Result<Merged, Fault>
     ensures { let lines = entry_lines entries.items in
         MatchResult result (IsMerged lines) (IsMergeFault lines) }
 {
-    // In proportion to the entries, so that a few with high numbers cost little.
-    let spare = entries.len().saturating_add(SPARE_MARKS);
-    let mut ledger = Ledger::with_spare(alloc, seed_after(&entries), spare);
+    let mut ledger = Ledger::for_lines(alloc, seed_after(&entries), entries.len());
     note_each(alloc, entries, &mut ledger)?;
     ledger.close()
 }

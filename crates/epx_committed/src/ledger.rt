@@ -109,8 +109,11 @@ impl FirstLines {
     }
 }
 
-/// How many marks a ledger may have beside those for each Id, if nobody knows how many lines come.
+/// How many marks a ledger may have beside five for each Id, if nobody knows how many lines come.
 const SPARE_MARKS: usize = 65_536;
+
+/// The same beside those for each line, if the number of lines is known.
+const FEW_SPARE_MARKS: usize = 1_024;
 
 /// Records lists of lines. Keeps each list that has the first line of an instance.
 #[derive(Debug, Drop)]
@@ -140,8 +143,14 @@ impl Ledger {
         Ledger::with_spare(alloc, seed, SPARE_MARKS)
     }
 
-    /// The same, with this many spare marks. They may all be filled, whatever is noted.
-    pub(crate) fn with_spare(alloc: Global, seed: Seed, spare: usize) -> Ledger
+    /// The same, for about this many lines. A few lines then cost little, whatever their numbers.
+    pub fn for_lines(alloc: Global, seed: Seed, lines: usize) -> Ledger
+        ensures { IsLedgerOf [] result }
+    {
+        Ledger::with_spare(alloc, seed, lines.saturating_add(FEW_SPARE_MARKS))
+    }
+
+    fn with_spare(alloc: Global, seed: Seed, spare: usize) -> Ledger
         ensures { IsLedgerOf [] result }
     {
         Ledger {

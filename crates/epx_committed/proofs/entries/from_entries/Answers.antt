@@ -8,4 +8,4 @@ pub returns : goal.returns
 returns c =
     let entries = c.args.entries.items in
     c.close.ensures (entry_lines entries) (entries_in_order entries)
-    (c.in_ok-note_each.ensures [] c.with_spare-ledger.ensures)
+    (c.in_ok-note_each.ensures [] c.for_lines-ledger.ensures)
