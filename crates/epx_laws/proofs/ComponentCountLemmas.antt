@@ -18,11 +18,11 @@ use Rattle.epx_types.proofs.lists.ListPositionLemmas.{AllPairs-slice_get, AllPai
 use Rattle.epx_types.proofs.orders.ExecutionOrderLemmas.{IsExecutionOrder-once}
 use Rattle.epx_types.proofs.orders.ExecutionOrderLemmas.{IsExecutionOrder-leaders}
 
-abbrev leads : Ranked → Bool
+abbrev pub leads : Ranked → Bool
 leads r = is_eq (id_cmp r.id r.leader)
 
 -- the leaders in an execution order
-pub leaders_of : List Ranked → List Id
+unfoldable pub leaders_of : List Ranked → List Id
 leaders_of order = map (λ r. r.id) (filter leads order)
 
 -- there are as many of them as components

@@ -50,7 +50,7 @@ module _ (m more : List Instance) (rising : IsRising (ids_of more))
       (d.0, d.1, d.2, subst (λ (i : Instance). Contains i.deps y) same listed)
 
   -- a ready instance reaches in the greater map only what it reaches in the lesser
-  Reaches-in_less : (x y : Id) → IsReady m x → Reaches more x y → Reaches m x y
+  pub Reaches-in_less : (x y : Id) → IsReady m x → Reaches more x y → Reaches m x y
   Reaches-in_less x y ready there =
       Reaches-passes more (Reaches m x)
       (λ v w d on. Reaches-trans m x v w on
@@ -82,7 +82,7 @@ module _ (m more : List Instance) (rising : IsRising (ids_of more))
         lower = by.lower;
       }
 
-  same_ops : (x : Id) → IsCommitted m x
+  pub same_ops : (x : Id) → IsCommitted m x
       → ops_or_empty (instance_of m x) ≡ ops_or_empty (instance_of more x)
   same_ops x committed =
       let e = instance_in x committed in
@@ -94,7 +94,7 @@ module _ (m more : List Instance) (rising : IsRising (ids_of more))
       (within found.0 known.0, known.1 ∙ e.2)))
 
   module _ (ids : List Id) (lawful : IsLawful m ids) where
-    lawful_in_more : IsLawfulFor more (IsReady m) ids
+    pub lawful_in_more : IsLawfulFor more (IsReady m) ids
     lawful_in_more = record {
       once = lawful.once;
       only = lawful.only;

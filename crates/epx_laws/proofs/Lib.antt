@@ -10,3 +10,11 @@ mod SameGraphLemmas
 mod RenamedMapLemmas
 mod NameLemmas
 mod RenamedLineLemmas
+mod ReplicaLemmas
+mod TimeLemmas
+mod TurnedOrderLemmas
+mod AlgorithmLemmas
+mod OutcomeLemmas
+mod SortedComponentLemmas
+mod LevelTurnLemmas
+mod RemainingWaitLemmas

@@ -38,3 +38,15 @@ LookUpFindsInstance = (m : List Instance) → IsRising (ids_of m) → (x : Id) (
 abbrev pub PositionHasInstance : Type 0
 PositionHasInstance = (m : List Instance) → IsRising (ids_of m) → (x : Id) (i : ℕ)
     → (position_of m x ≡ Some i) ↔ (e : Instance) × (slice_get m i ≡ Some e) × (e.id ≡ x)
+
+-- the instance of each of some lines is that of one of these lines
+abbrev pub HaveInstancesOf : List Placed → List Placed → Type 0
+HaveInstancesOf lines other = (p : Placed) → Contains other p → (q : Placed) × Contains lines q
+    × (q.instance ≡ p.instance)
+
+-- lines with the same instances commit the same map: the order of the logs, repeated lines and
+-- lines that commit nothing change no answer
+abbrev pub SameInstancesCommitAlike : Type 0
+SameInstancesCommitAlike = (lines other : List Placed) → HaveInstancesOf lines other
+    → HaveInstancesOf other lines →
+    (m : List Instance) → IsCommittedBy lines m → IsCommittedBy other m

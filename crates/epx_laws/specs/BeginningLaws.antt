@@ -1,5 +1,5 @@
 -- Laws of the beginnings of lawful orders: the lists of replicas that are still executing.
-use Rattle.std.specs.Prelude.{◌≡◌, ℕ, List, ◌++◌, slice_get, Some}
+use Rattle.std.specs.Prelude.{◌≡◌, ℕ, List, ◌++◌, Contains, slice_get, Some}
 use Rattle.epx_types.specs.declared.id.Id.{Id}
 use Rattle.epx_types.specs.Ids.{IsRising}
 use Rattle.epx_types.specs.Instances.{Instance}
@@ -8,7 +8,9 @@ use Rattle.epx_types.specs.CommittedMap.{ids_of, commands_in}
 use Rattle.epx_types.specs.Conflicts.{IsCovered}
 use Rattle.epx_types.specs.Execution.{execute}
 use Rattle.epx_types.specs.LawfulBeginnings.{IsLawfulBeginning}
-use Rattle.epx_types.specs.LawfulOrders.{IsLawful}
+use Rattle.epx_types.specs.LawfulOrders.{IsLawful, IsLawfulFor}
+use Rattle.epx_types.specs.Reaching.{Reaches}
+use Rattle.epx_types.specs.Readiness.{IsReady}
 
 -- what a list begins with is a lawful beginning if the list is one
 abbrev pub BeginningsBeginLawfully : Type 0
@@ -23,3 +25,11 @@ BeginningsReplyAlike = (m : List Instance) → IsRising (ids_of m) → IsCovered
     (i j : ℕ) (x : Id) → slice_get ids i ≡ Some x → slice_get whole j ≡ Some x
     → slice_get (execute (commands_in m ids) c).replies i
     ≡ slice_get (execute (commands_in m whole) c).replies j
+
+-- a list that is lawful for ready instances with all that they reach is a lawful beginning: these
+-- may be executed whatever else is committed or missing
+abbrev pub ClosedListsBegin : Type 0
+ClosedListsBegin = (m : List Instance) → IsRising (ids_of m) → (ids : List Id)
+    → ((x : Id) → Contains ids x → IsReady m x)
+    → ((x y : Id) → Contains ids x → Reaches m x y → Contains ids y)
+    → IsLawfulFor m (Contains ids) ids → IsLawfulBeginning m ids

@@ -5,7 +5,7 @@ use Rattle.epx_types.specs.Ids.{IsRising}
 use Rattle.epx_types.specs.Instances.{Instance}
 use Rattle.epx_types.specs.CommittedMap.{ids_of}
 use Rattle.epx_types.specs.Reaching.{DependsOn}
-use Rattle.epx_types.specs.Readiness.{IsReady}
+use Rattle.epx_types.specs.Readiness.{IsReady, WaitsFor}
 use Rattle.epx_types.specs.Done.{remaining}
 
 -- if nothing is done, the whole map remains
@@ -34,3 +34,9 @@ abbrev pub RemainingIsReadyAlike : Type 0
 RemainingIsReadyAlike = (done : List Id) (m : List Instance)
     → ((x : Id) → Contains done x → IsReady m x) → (x : Id) → ¬ Contains done x
     → IsReady (remaining done m) x ↔ IsReady m x
+
+-- and if it waits, it waits for the same instance in both
+abbrev pub RemainingWaitsAlike : Type 0
+RemainingWaitsAlike = (done : List Id) (m : List Instance)
+    → ((x : Id) → Contains done x → IsReady m x) → (x y : Id) → ¬ Contains done x
+    → WaitsFor (remaining done m) x y ↔ WaitsFor m x y

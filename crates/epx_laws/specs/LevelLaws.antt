@@ -1,7 +1,12 @@
 -- Laws of conflict levels.
-use Rattle.std.specs.Prelude.{◌≢◌, ℕ, ◌<◌, ◌≤◌, List, length, Contains}
+use Rattle.std.specs.Prelude.{◌≢◌, ◌↔◌, ℕ, ◌<◌, ◌≤◌, List, length, slice_index, flat_map, Contains}
+use Rattle.std.specs.Prelude.{AllPairs}
+use Rattle.std.specs.List.{range_with_len}
 use Rattle.epx_types.specs.declared.op.Op.{Op}
-use Rattle.epx_types.specs.Levels.{ConflictAt, IsLevel, AreLevels, level_count, RisesWithConflicts}
+use Rattle.epx_types.specs.LawfulOrders.{Before}
+use Rattle.epx_types.specs.Levels.{ConflictAt, IsLevel, AreLevels, level_count, level_positions}
+use Rattle.epx_types.specs.Levels.{RisesWithConflicts}
+use Rattle.epx_types.specs.Rearrangements.{IsRearrangement}
 use Rattle.epx_laws.specs.AtMostOne.{AtMostOne}
 
 -- every list of commands has levels
@@ -43,3 +48,21 @@ LevelsAreFewest = (commands : List (List Op)) (f : ℕ → ℕ) → RisesWithCon
 abbrev pub EachLevelIsReached : Type 0
 EachLevelIsReached = (commands : List (List Op)) (levels : List ℕ) → AreLevels commands levels
     → (l : ℕ) → l < level_count levels → Contains levels l
+
+-- each position once, and a position of a lower level before one of a higher level; inside a level
+-- any order will do
+pub record AreByLevel (levels positions : List ℕ) : Type 0 where
+  pub once : AllPairs (λ i j. i ≢ j) positions
+  pub whole : (i : ℕ) → Contains positions i ↔ (i < length levels)
+  pub lower_first : (i j : ℕ) → i < length levels → j < length levels
+      → slice_index levels i < slice_index levels j → Before positions i j
+
+-- commands that are executed level by level are a rearrangement
+abbrev pub LevelsRearrange : Type 0
+LevelsRearrange = (commands : List (List Op)) (levels positions : List ℕ)
+    → AreLevels commands levels → AreByLevel levels positions → IsRearrangement commands positions
+
+-- the positions of each level, rising, one level after another, are such positions
+abbrev pub LevelsInTurnAreByLevel : Type 0
+LevelsInTurnAreByLevel = (levels : List ℕ)
+    → AreByLevel levels (flat_map (level_positions levels) (range_with_len 0 (level_count levels)))

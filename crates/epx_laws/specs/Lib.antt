@@ -1,5 +1,6 @@
 pub mod ReachingLaws
 pub mod OrderLaws
+pub mod OutcomeLaws
 pub mod CommandLaws
 pub mod AgreementLaws
 pub mod ExecutionLaws
@@ -9,6 +10,9 @@ pub mod PieceLaws
 pub mod DoneLaws
 pub mod GrowthLaws
 pub mod BeginningLaws
+pub mod ReplicaLaws
+pub mod TimeLaws
+pub mod AlgorithmLaws
 pub mod ResumedRunLaws
 pub mod ComparisonLaws
 pub mod AtMostOne

@@ -82,3 +82,9 @@ LawfulOrdersExecuteAlike = (m : List Instance) → IsRising (ids_of m) → IsCov
     × ((i j : ℕ) (x : Id) → slice_get ids i ≡ Some x → slice_get other j ≡ Some x
     → slice_get (execute (commands_in m other) c).replies j
     ≡ slice_get (execute (commands_in m ids) c).replies i)
+
+-- if x does not reach y, x is before y in some lawful order: where neither reaches the other, the
+-- protocol allows both orders
+abbrev pub NotReachedCanFollow : Type 0
+NotReachedCanFollow = (m : List Instance) → IsRising (ids_of m) → (x y : Id) → IsReady m x
+    → IsReady m y → ¬ Reaches m x y → (ids : List Id) × IsLawful m ids × Before ids x y

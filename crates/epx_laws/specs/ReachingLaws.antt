@@ -102,3 +102,8 @@ ReadyWaitsForNothing = (m : List Instance) (x : Id) → IsCommitted m x
 abbrev pub NoneMissingAllReady : Type 0
 NoneMissingAllReady = (m : List Instance) → NoneMissing m → (x : Id) → IsCommitted m x
     → IsReady m x
+
+-- an instance waits exactly if it is committed and reaches one that is not
+abbrev pub WaitsWhereMissing : Type 0
+WaitsWhereMissing = (m : List Instance) (x : Id) → ((y : Id) × WaitsFor m x y)
+    ↔ IsCommitted m x × ((z : Id) × Reaches m x z × (¬ IsCommitted m z))

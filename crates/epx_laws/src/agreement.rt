@@ -2,6 +2,7 @@
 ghost use Rattle.epx_laws.specs.AgreementLaws.{PositionHasInstance, CommittedMapIsUnique};
 ghost use Rattle.epx_laws.specs.AgreementLaws.{CommittedLinesAgree, DisagreementExcludesAgreement};
 ghost use Rattle.epx_laws.specs.AgreementLaws.{FirstDisagreementIsUnique, LookUpFindsInstance};
+ghost use Rattle.epx_laws.specs.AgreementLaws.{SameInstancesCommitAlike};
 
 /// Lines have at most one committed map.
 pub fn committed_map_is_unique()
@@ -31,4 +32,9 @@ pub fn look_up_finds_instance()
 /// The position of an Id is the position of its instance in the map.
 pub fn position_has_instance()
     ensures { PositionHasInstance }
+{}
+
+/// Lines with the same instances commit the same map.
+pub fn same_instances_commit_alike()
+    ensures { SameInstancesCommitAlike }
 {}

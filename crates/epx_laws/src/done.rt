@@ -1,7 +1,7 @@
 //! Laws of the remaining map, a committed map without its done instances.
 ghost use Rattle.epx_laws.specs.DoneLaws.{RemainingDependencies, RemainingIsReadyAlike};
 ghost use Rattle.epx_laws.specs.DoneLaws.{NothingDoneLeavesAll, RemainingIsNotDone};
-ghost use Rattle.epx_laws.specs.DoneLaws.{RemainingIdsRise};
+ghost use Rattle.epx_laws.specs.DoneLaws.{RemainingIdsRise, RemainingWaitsAlike};
 
 /// If nothing is done, the whole map remains.
 pub fn nothing_done_leaves_all()
@@ -27,4 +27,10 @@ pub fn remaining_dependencies()
 /// exactly if it is ready in the whole map.
 pub fn remaining_is_ready_alike()
     ensures { RemainingIsReadyAlike }
+{}
+
+/// If all done instances are ready, an instance that is not done waits for the same instance in the
+/// remaining map as in the whole map.
+pub fn remaining_waits_alike()
+    ensures { RemainingWaitsAlike }
 {}

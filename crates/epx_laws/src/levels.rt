@@ -2,6 +2,7 @@
 ghost use Rattle.epx_laws.specs.LevelLaws.{LevelsExist, LevelIsUnique, LevelsAreUnique};
 ghost use Rattle.epx_laws.specs.LevelLaws.{LevelHasNoConflict, ConflictsClimb, LevelsAreLeast};
 ghost use Rattle.epx_laws.specs.LevelLaws.{LevelsAreFewest, EachLevelIsReached};
+ghost use Rattle.epx_laws.specs.LevelLaws.{LevelsRearrange, LevelsInTurnAreByLevel};
 
 /// Every list of commands has levels.
 pub fn levels_exist()
@@ -41,4 +42,14 @@ pub fn levels_are_fewest()
 /// Each number below the number of levels is the level of some command.
 pub fn each_level_is_reached()
     ensures { EachLevelIsReached }
+{}
+
+/// Commands that are executed level by level are a rearrangement, in any order inside a level.
+pub fn levels_rearrange()
+    ensures { LevelsRearrange }
+{}
+
+/// The positions of each level, one level after another, are by level.
+pub fn levels_in_turn_are_by_level()
+    ensures { LevelsInTurnAreByLevel }
 {}

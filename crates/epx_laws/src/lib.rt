@@ -3,6 +3,7 @@
 #![tactic(auto)]
 
 pub mod agreement;
+pub mod algorithm;
 pub mod beginnings;
 pub mod commands;
 pub mod comparisons;
@@ -12,7 +13,10 @@ pub mod execution;
 pub mod growth;
 pub mod levels;
 pub mod order;
+pub mod outcomes;
 pub mod pieces;
 pub mod reaching;
 pub mod renaming;
+pub mod replicas;
 pub mod resumed_runs;
+pub mod time;

@@ -3,7 +3,7 @@ ghost use Rattle.epx_laws.specs.OrderLaws.{ExecutionOrderExists, ComponentsAreCo
 ghost use Rattle.epx_laws.specs.OrderLaws.{RelatedKeepOrder, LawfulOrdersHaveSameIds};
 ghost use Rattle.epx_laws.specs.OrderLaws.{LawfulOrdersExecuteAlike, ConflictsKeepOrder};
 ghost use Rattle.epx_laws.specs.OrderLaws.{ExecutionOrderIsUnique, ExecutionOrderIsLawful};
-ghost use Rattle.epx_laws.specs.OrderLaws.{LeadersAreInOrder};
+ghost use Rattle.epx_laws.specs.OrderLaws.{LeadersAreInOrder, NotReachedCanFollow};
 
 /// A committed map has an execution order.
 pub fn execution_order_exists()
@@ -49,4 +49,9 @@ pub fn lawful_orders_execute_alike()
 /// An execution order has as many components as distinct leaders.
 pub fn components_are_counted()
     ensures { ComponentsAreCounted }
+{}
+
+/// If x does not reach y, x is before y in some lawful order.
+pub fn not_reached_can_follow()
+    ensures { NotReachedCanFollow }
 {}

@@ -7,6 +7,7 @@ ghost use Rattle.epx_laws.specs.ReachingLaws.{DepthExists, DepthIsUnique, DepthF
 ghost use Rattle.epx_laws.specs.ReachingLaws.{DepthIsLeast, WaitsForOne, WaitingListExists};
 ghost use Rattle.epx_laws.specs.ReachingLaws.{WaitingListIsUnique, ReadyOrWaits};
 ghost use Rattle.epx_laws.specs.ReachingLaws.{ReadyWaitsForNothing, NoneMissingAllReady};
+ghost use Rattle.epx_laws.specs.ReachingLaws.{WaitsWhereMissing};
 
 /// Only committed instances depend on others, each exactly on the Ids in its list of dependencies.
 pub fn dependencies_are_listed()
@@ -101,4 +102,9 @@ pub fn ready_waits_for_nothing()
 /// If each dependency is committed, each committed instance is ready.
 pub fn none_missing_all_ready()
     ensures { NoneMissingAllReady }
+{}
+
+/// An instance waits exactly if it is committed and reaches one that is not.
+pub fn waits_where_missing()
+    ensures { WaitsWhereMissing }
 {}

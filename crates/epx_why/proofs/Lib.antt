@@ -8,3 +8,4 @@ pub mod WhyLineLemmas
 pub mod UniqueTextLemmas
 pub mod TextExistenceLemmas
 pub mod WhyTextLemmas
+mod NeedLawLemmas

@@ -1,9 +1,12 @@
 -- Laws of the texts about one instance and about paths.
-use Rattle.std.specs.Prelude.{◌≡◌, ℕ, List}
+use Rattle.std.specs.Prelude.{◌≡◌, ℕ, List, ◌∷◌, Contains}
 use Rattle.epx_types.specs.declared.id.Id.{Id}
 use Rattle.epx_types.specs.Ids.{IsRising}
 use Rattle.epx_types.specs.Instances.{Instance}
-use Rattle.epx_types.specs.CommittedMap.{ids_of}
+use Rattle.epx_types.specs.CommittedMap.{ids_of, IsCommitted}
+use Rattle.epx_types.specs.Readiness.{WaitsFor}
+use Rattle.epx_why.specs.declared.need.Need.{Need}
+use Rattle.epx_why.specs.Needs.{AreNeedsOf, AreNeeding}
 use Rattle.epx_why.specs.WhyTexts.{IsWhyText, IsPathText}
 
 -- for each map and Id there is a text that says why
@@ -24,3 +27,14 @@ PathTextExists = (m : List Instance) (x y : Id) → (text : List ℕ) × IsPathT
 abbrev pub PathTextIsOne : Type 0
 PathTextIsOne = (m : List Instance) (x y : Id) (text other : List ℕ) → IsPathText m x y text
     → IsPathText m x y other → text ≡ other
+
+-- what a waiting instance needs begins with the missing instance that it waits for
+abbrev pub NeedsBeginWithTheMissing : Type 0
+NeedsBeginWithTheMissing = (m : List Instance) (x missing : Id) (needs : List Need)
+    → WaitsFor m x missing → AreNeedsOf m x needs
+    → (first : Need) × (rest : List Need) × (needs ≡ first ∷ rest) × (first.id ≡ missing)
+
+-- each instance that needs a missing one waits
+abbrev pub NeedingInstancesWait : Type 0
+NeedingInstancesWait = (m : List Instance) (y : Id) (needing : List Need) → ¬ IsCommitted m y
+    → AreNeeding m y needing → (n : Need) → Contains needing n → (z : Id) × WaitsFor m n.id z

@@ -1,5 +1,6 @@
 //! Laws of the texts: each function has an empty body, and its contract is the law.
 ghost use Rattle.epx_why.specs.WhyLaws.{PathTextExists, PathTextIsOne, WhyTextExists, WhyTextIsOne};
+ghost use Rattle.epx_why.specs.WhyLaws.{NeedsBeginWithTheMissing, NeedingInstancesWait};
 
 /// Each instance has a text that says why.
 pub fn why_text_exists()
@@ -19,4 +20,14 @@ pub fn path_text_exists()
 /// Two instances have at most one such text.
 pub fn path_text_is_one()
     ensures { PathTextIsOne }
+{}
+
+/// What a waiting instance needs begins with the missing instance that it waits for.
+pub fn needs_begin_with_the_missing()
+    ensures { NeedsBeginWithTheMissing }
+{}
+
+/// Each instance that needs a missing one waits.
+pub fn needing_instances_wait()
+    ensures { NeedingInstancesWait }
 {}

@@ -1,0 +1,114 @@
+-- Executing component by component is lawful.
+use Rattle.std.proofs.Common.{◌≡◌, ◌≢◌, ℕ, List, [], ◌∷◌, Contains, AllPairs, true}
+use Rattle.std.proofs.Common.{sym, ◌∙◌, subst, subst₂, inl, inr, arith}
+use Rattle.std.proofs.Common.{is_lt, nat_cmp}
+use Rattle.std.specs.List.{flat_map}
+use Rattle.std.specs.Cmp.{nat_cmp_total, on_total, then_total}
+use Rattle.std.specs.Ordering.{ordering_then}
+use Rattle.epx_types.specs.declared.id.Id.{Id}
+use Rattle.epx_types.specs.Ids.{id_cmp, IsRising}
+use Rattle.epx_types.specs.Instances.{Instance}
+use Rattle.epx_types.specs.CommittedMap.{ids_of}
+use Rattle.epx_types.specs.Components.{InOneComponent}
+use Rattle.epx_types.specs.LawfulOrders.{Before, SequenceBefore, IsLawful}
+use Rattle.epx_types.specs.Reaching.{Reaches}
+use Rattle.epx_types.proofs.committed.AgreementLemmas.{IsRising-same}
+use Rattle.epx_types.proofs.graph.ReachingLemmas.{IsReady-reached}
+use Rattle.epx_types.proofs.lists.ComparisonLemmas.{id_cmp_total}
+use Rattle.epx_types.proofs.lists.ListPositionLemmas.{AllPairs-from_slice_get, AllPairs-slice_get}
+use Rattle.epx_types.proofs.lists.ListPositionLemmas.{AllPairs-append, AllPairs-head}
+use Rattle.epx_types.proofs.lists.ListPositionLemmas.{AllPairs-tail, Contains-slice_get}
+use Rattle.epx_types.proofs.lists.MembershipLemmas.{Contains-from_flat_map, Contains-head}
+use Rattle.epx_types.proofs.lists.MembershipLemmas.{Contains-cons}
+use Rattle.epx_types.proofs.lists.TotalOrderLemmas.{below_asymm}
+use Rattle.epx_types.proofs.orders.LawfulOrderLemmas.{Before-cases}
+use Rattle.epx_laws.specs.AlgorithmLaws.{listed, AreSortedComponents}
+
+-- no two instances are each before the other by sequence number
+pub SequenceBefore-not_both : (m : List Instance) → IsRising (ids_of m) → (x y : Id)
+    → SequenceBefore m x y → ¬ SequenceBefore m y x
+SequenceBefore-not_both m rising x y by back =
+    let first = IsRising-same m rising back.second by.first back.second_in by.first_in
+    (back.second_is ∙ sym by.first_is) in
+    let second = IsRising-same m rising back.first by.second back.first_in by.second_in
+    (back.first_is ∙ sym by.second_is) in
+    let turned = subst₂ (λ (d e : Instance).
+    is_lt (ordering_then (nat_cmp d.seq e.seq) (id_cmp y x)) ≡ true) second first back.lower in
+    below_asymm (then_total (on_total (λ (a : ℕ × Id). a.0) nat_cmp_total)
+    (on_total (λ (a : ℕ × Id). a.1) id_cmp_total)) (by.first.seq, x) (by.second.seq, y) by.lower
+    turned
+
+-- a property holds of all pairs of joined lists if it holds in each, and between them
+AllPairs-listed : (R : Id → Id → Type 0) (css : List (List Id))
+    → ((c : List Id) → Contains css c → AllPairs R c)
+    → AllPairs (λ c d. (x y : Id) → Contains c x → Contains d y → R x y) css
+    → AllPairs R (flat_map (λ c. c) css)
+AllPairs-listed R [] inside across = λ i j d l k. absurd (omega arith)
+AllPairs-listed R (c ∷ css) inside across =
+    AllPairs-append R c (flat_map (λ c. c) css) (inside c (Contains-head c css))
+    (AllPairs-listed R css (λ d h. inside d (Contains-cons c css d h))
+    (AllPairs-tail (λ c d. (x y : Id) → Contains c x → Contains d y → R x y) c css across))
+    (λ x y in_x in_y.
+    let d = Contains-from_flat_map (λ (c : List Id). c) css y in_y in
+    AllPairs-head (λ c d. (x y : Id) → Contains c x → Contains d y → R x y) c css d.0 across d.1
+    x y in_x d.2)
+
+module _ (m : List Instance) (rising : IsRising (ids_of m)) (components : List (List Id))
+    (sorted : AreSortedComponents m components) where
+  -- what holds of two instances of which the first is listed first
+  record InTurn (x y : Id) : Type 0 where
+    apart : x ≢ y
+    back : Reaches m x y → Reaches m y x
+    lower : InOneComponent m x y → SequenceBefore m x y
+
+  inside : (c : List Id) → Contains components c → AllPairs InTurn c
+  inside c h = AllPairs-from_slice_get InTurn c (λ i j x y l p q.
+      let one = sorted.one c h x y (Contains-slice_get c i x p) (Contains-slice_get c j y q) in
+      let before = AllPairs-slice_get (SequenceBefore m) c (sorted.by_sequence c h) i j x y l p q in
+      record {
+        apart = λ same.
+            let itself = subst (λ (z : Id). SequenceBefore m z y) same before in
+            SequenceBefore-not_both m rising y y itself itself;
+        back = λ there. one.1;
+        lower = λ again. before;
+      })
+
+  across : AllPairs (λ c d. (x y : Id) → Contains c x → Contains d y → InTurn x y) components
+  across = λ i j d l k x y in_x in_y.
+      let none = sorted.reached_first i j d l k x y in_x in_y in
+      record {
+        apart = λ same. none (inl same);
+        back = λ there. absurd (none there);
+        lower = λ one. absurd (none one.0);
+      }
+
+  in_turn : AllPairs InTurn (listed components)
+  in_turn = AllPairs-listed InTurn components inside across
+
+  turn_of : (x y : Id) → Before (listed components) x y → InTurn x y
+  turn_of x y (i, j, l, p, q) =
+      AllPairs-slice_get InTurn (listed components) in_turn i j x y l p q
+
+  pub IsLawful-listed : IsLawful m (listed components)
+  IsLawful-listed = record {
+    once = AllPairs-from_slice_get (λ x y. x ≢ y) (listed components)
+        (λ i j x y l p q. (turn_of x y (i, j, l, p, q)).apart);
+    only = λ x h. (sorted.members x).0 h;
+    whole = λ x ready. (sorted.members x).1 ready;
+    after_reached = λ x y h there not_back.
+        let in_y = (sorted.members y).1 (IsReady-reached m x y there ((sorted.members x).0 h)) in
+        elim (Before-cases (listed components) y x in_y h
+        (λ same. not_back (inl same))) [
+          | inl so ↦ so
+          | inr turned ↦ absurd (not_back ((turn_of x y turned).back there))
+        ];
+    by_sequence = λ x y h k one lower.
+        elim (Before-cases (listed components) x y h k (λ same.
+        let itself = subst (λ (z : Id). SequenceBefore m z y) same lower in
+        SequenceBefore-not_both m rising y y itself itself)) [
+          | inl so ↦ so
+          | inr turned ↦ absurd
+              (SequenceBefore-not_both m rising x y lower
+              ((turn_of y x turned).lower (one.1, one.0)))
+        ];
+  }

@@ -1,0 +1,92 @@
+-- Commands that are executed level by level are a rearrangement.
+use Rattle.std.proofs.Common.{◌≡◌, ◌≢◌, ◌∙◌, ◌+◌, ◌<◌, ◌++◌, ℕ, zero, suc, List, [], ◌∷◌, length}
+use Rattle.std.proofs.Common.{AllPairs, flat_map, slice_index, refl, sym, ap, ap₂, subst, inl, inr}
+use Rattle.std.proofs.Common.{arith}
+use Rattle.std.specs.List.{range_with_len}
+use Rattle.std.proofs.lemmas.Bool.{cases_lt}
+use Rattle.std.proofs.lemmas.List.{flat_map_more}
+use Rattle.epx_types.specs.declared.op.Op.{Op}
+use Rattle.epx_types.specs.LawfulOrders.{Before}
+use Rattle.epx_types.specs.Levels.{AreLevels, level_count, level_positions}
+use Rattle.epx_types.specs.Rearrangements.{IsRearrangement}
+use Rattle.epx_types.proofs.levels.LevelOrderLemmas.{by_level, levels-climb, level_positions-rising}
+use Rattle.epx_types.proofs.levels.LevelOrderLemmas.{Contains-from_by_level, Contains-by_level}
+use Rattle.epx_types.proofs.levels.LevelOrderLemmas.{Contains-from_level_positions}
+use Rattle.epx_types.proofs.levels.LevelOrderLemmas.{Contains-level_positions}
+use Rattle.epx_types.proofs.levels.LevelPositionLemmas.{level_below_count}
+use Rattle.epx_types.proofs.lists.BeforeLemmas.{Before-across, Before-append_left}
+use Rattle.epx_types.proofs.lists.ListPositionLemmas.{AllPairs-append, AllPairs-slice_get}
+use Rattle.epx_types.proofs.lists.ListPositionLemmas.{AllPairs-from_slice_get}
+use Rattle.epx_laws.specs.LevelLaws.{AreByLevel}
+
+pub by_level_rearranges : (commands : List (List Op)) (levels positions : List ℕ)
+    → AreLevels commands levels → AreByLevel levels positions → IsRearrangement commands positions
+by_level_rearranges commands levels positions are by = record {
+  once = by.once;
+  only = λ i h. omega (arith, (by.whole i).0 h, are.whole);
+  whole = λ i l. (by.whole i).1 (omega (arith, l, are.whole));
+  keeps = λ i j before conflict.
+      let climb = levels-climb commands levels are i j before conflict in
+      by.lower_first i j (omega (arith, before, climb.0, are.whole))
+      (omega (arith, climb.0, are.whole)) climb.1;
+}
+
+-- one more number of a range
+range_more : (a n : ℕ) → range_with_len a (suc n) ≡ range_with_len a n ++ (a + n) ∷ []
+range_more a zero = let e : a ≡ a + 0 = omega arith in ap (λ k. k ∷ []) e
+range_more a (suc n) =
+    let e : a + 1 + n ≡ a + suc n = omega arith in
+    ap (λ ks. a ∷ ks) (range_more (a + 1) n ∙ ap (λ k. range_with_len (a + 1) n ++ k ∷ []) e)
+
+in_turn : (levels : List ℕ) (n : ℕ)
+    → flat_map (level_positions levels) (range_with_len 0 n) ≡ by_level levels n
+in_turn levels zero = refl
+in_turn levels (suc n) =
+    let e : 0 + n ≡ n = omega arith in
+    ap (flat_map (level_positions levels)) (range_more 0 n)
+    ∙ sym (flat_map_more (level_positions levels) [] (range_with_len 0 n) (0 + n))
+    ∙ ap₂ (λ ks k. ks ++ level_positions levels k) (in_turn levels n) e
+
+module _ (levels : List ℕ) where
+  once : (n : ℕ) → AllPairs (λ i j. i ≢ j) (by_level levels n)
+  once zero = λ i j d l k. absurd (omega arith)
+  once (suc n) =
+      AllPairs-append (λ i j. i ≢ j) (by_level levels n) (level_positions levels n) (once n)
+      (AllPairs-from_slice_get (λ i j. i ≢ j) (level_positions levels n)
+      (λ i j x y l p q same.
+      let less = AllPairs-slice_get (λ i k. i < k) (level_positions levels n)
+      (level_positions-rising levels n) i j x y l p q in
+      omega (arith, less, same)))
+      (λ i j h k same.
+      let low = Contains-from_by_level levels n i h in
+      let high = Contains-from_level_positions levels n j k in
+      let level : slice_index levels i ≡ slice_index levels j = ap (slice_index levels) same in
+      omega (arith, low.1, high.1, level))
+
+  lower_first : (n i j : ℕ) → i < length levels → j < length levels → slice_index levels j < n
+      → slice_index levels i < slice_index levels j → Before (by_level levels n) i j
+  lower_first zero i j in_i in_j below lower = absurd (omega (arith, below))
+  lower_first (suc n) i j in_i in_j below lower =
+      elim (cases_lt (slice_index levels j) n) [
+        | inl less ↦ Before-append_left (by_level levels n) (level_positions levels n) i j
+            (lower_first n i j in_i in_j less lower)
+        | inr upto ↦ Before-across (by_level levels n) (level_positions levels n) i j
+            (Contains-by_level levels n i in_i (omega (arith, below, lower)))
+            (Contains-level_positions levels n j in_j (omega (arith, below, upto)))
+      ]
+
+  by_level_in_turn : AreByLevel levels (by_level levels (level_count levels))
+  by_level_in_turn = record {
+    once = once (level_count levels);
+    whole = λ i. (
+      λ h. (Contains-from_by_level levels (level_count levels) i h).0,
+      λ l. Contains-by_level levels (level_count levels) i l (level_below_count levels i l),
+    );
+    lower_first = λ i j in_i in_j lower. lower_first (level_count levels) i j in_i in_j
+        (level_below_count levels j in_j) lower;
+  }
+
+  pub in_turn_by_level : AreByLevel levels
+      (flat_map (level_positions levels) (range_with_len 0 (level_count levels)))
+  in_turn_by_level =
+      subst (AreByLevel levels) (sym (in_turn levels (level_count levels))) by_level_in_turn

@@ -1,0 +1,131 @@
+-- Each committed instance is executed or waits.
+use Rattle.std.proofs.Common.{◌≡◌, ◌≢◌, ◌≤◌, ◌⊎◌, ◌↔◌, ◌+◌, ◌++◌, List, length, Contains, AllPairs}
+use Rattle.std.proofs.Common.{sym, ap, ◌∙◌, subst, inl, inr, arith}
+use Rattle.std.specs.Bool.{Decides}
+use Rattle.std.specs.Ordering.{is_eq, eq_by_cmp}
+use Rattle.std.specs.Cmp.{Equal-is, tied_itself}
+use Rattle.std.proofs.lemmas.Cmp.{eq_by_cmp_equiv}
+use Rattle.std.proofs.lemmas.List.{length-map, length-append}
+use Rattle.std.proofs.lemmas.List.Elements.{Contains-append_left, Contains-append_right}
+use Rattle.std.proofs.lemmas.List.Elements.{Contains-append_cases}
+use Rattle.std.proofs.lemmas.Map.Made.{length-le_from_is_member, is_member-Decides}
+use Rattle.std.proofs.lemmas.Map.Made.{IsDistinct-from_AllPairs}
+use Rattle.epx_types.specs.declared.id.Id.{Id}
+use Rattle.epx_types.specs.Ids.{id_cmp, Below, IsRising}
+use Rattle.epx_types.specs.Instances.{Instance}
+use Rattle.epx_types.specs.CommittedMap.{ids_of, IsCommitted}
+use Rattle.epx_types.specs.Reaching.{Reaches}
+use Rattle.epx_types.specs.Readiness.{IsReady, WaitsFor}
+use Rattle.epx_types.specs.ExecutionOrder.{Ranked, IsExecutionOrder, ranked_ids}
+use Rattle.epx_types.specs.WaitingLists.{Waiting, IsWaitingList, waiting_ids}
+use Rattle.epx_types.proofs.graph.ReachingLemmas.{IsReady-not_waiting}
+use Rattle.epx_types.proofs.lists.ComparisonLemmas.{id_cmp_total, id_cmp-IsAntisymmetric}
+use Rattle.epx_types.proofs.lists.ListPositionLemmas.{AllPairs-append, AllPairs-from_slice_get}
+use Rattle.epx_types.proofs.lists.ListPositionLemmas.{AllPairs-slice_get}
+use Rattle.epx_types.proofs.lists.MembershipLemmas.{Contains-map, Contains-from_map}
+use Rattle.epx_types.proofs.lists.RisingIdLemmas.{AllPairs-from_IsRising}
+use Rattle.epx_types.proofs.lists.TotalOrderLemmas.{below_irrefl}
+use Rattle.epx_types.proofs.orders.ExecutionOrderLemmas.{IsExecutionOrder-IsLawful}
+use Rattle.epx_types.proofs.orders.RankExistenceLemmas.{ready_or_waits}
+use Rattle.epx_laws.specs.OutcomeLaws.{EachHasOneOutcome}
+
+-- ---- lists without repeats
+
+same_id : (x y : Id) → Decides (eq_by_cmp id_cmp x y) (x ≡ y)
+same_id x y = (
+  λ e. id_cmp-IsAntisymmetric x y ((Equal-is (id_cmp x y)).0 e),
+  λ e. ap (λ z. is_eq (id_cmp x z)) (sym e) ∙ ap is_eq (tied_itself id_cmp_total x),
+)
+
+-- a list without repeats is not longer than a list that has all its members
+fewer : (xs ys : List Id) → AllPairs (λ x y. x ≢ y) xs
+    → ((x : Id) → Contains xs x → Contains ys x) → length xs ≤ length ys
+fewer xs ys once within =
+    length-le_from_is_member (eq_by_cmp_equiv id_cmp_total) xs ys
+    (IsDistinct-from_AllPairs same_id xs once)
+    (λ q h. (is_member-Decides same_id ys q).1 (within q ((is_member-Decides same_id xs q).0 h)))
+
+rising_once : (xs : List Id) → IsRising xs → AllPairs (λ x y. x ≢ y) xs
+rising_once xs rising = AllPairs-from_slice_get (λ x y. x ≢ y) xs (λ i j x y l p q same.
+    below_irrefl id_cmp_total y (subst (λ (z : Id). Below z y) same
+    (AllPairs-slice_get Below xs (AllPairs-from_IsRising xs rising) i j x y l p q)))
+
+-- ---- outcomes
+
+-- an instance waits exactly if it is committed and reaches one that is not
+pub WaitsFor_iff : (m : List Instance) (x : Id) → ((y : Id) × WaitsFor m x y)
+    ↔ IsCommitted m x × ((z : Id) × Reaches m x z × (¬ IsCommitted m z))
+WaitsFor_iff m x = (
+  λ w. (w.1.committed, (w.0, w.1.reached, w.1.missing)),
+  λ h. elim (ready_or_waits m x h.0) [
+    | inl ready ↦ absurd (h.1.2 (ready.complete h.1.0 h.1.1))
+    | inr waits ↦ waits
+  ],
+)
+
+module _ (m : List Instance) (rising : IsRising (ids_of m)) (order : List Ranked)
+    (waiting : List Waiting) (ordered : IsExecutionOrder m order)
+    (listed : IsWaitingList m waiting) where
+  executed_ready : (x : Id) → Contains (ranked_ids order) x → IsReady m x
+  executed_ready x h = (IsExecutionOrder-IsLawful m order ordered).only x h
+
+  waits_in : (x : Id) → Contains (waiting_ids waiting) x → (y : Id) × WaitsFor m x y
+  waits_in x h = let w = Contains-from_map (λ (w : Waiting). w.id) waiting x h in
+      (w.0.missing, subst (λ (z : Id). WaitsFor m z w.0.missing) w.2 (listed.waits w.0 w.1))
+
+  apart : (x : Id) → Contains (ranked_ids order) x → ¬ Contains (waiting_ids waiting) x
+  apart x h k = let w = waits_in x k in IsReady-not_waiting m x w.0 (executed_ready x h) w.1
+
+  either_of : (x : Id) → IsCommitted m x
+      → Contains (ranked_ids order) x ⊎ Contains (waiting_ids waiting) x
+  either_of x committed = elim (ready_or_waits m x committed) [
+    | inl ready ↦ inl (ordered.whole x ready)
+    | inr waits ↦ inr (Contains-map (λ (w : Waiting). w.id) waiting
+        (record { id = x; missing = waits.0 }) (listed.whole x waits.0 waits.1))
+  ]
+
+  committed_in : (x : Id) → Contains (ranked_ids order) x ⊎ Contains (waiting_ids waiting) x
+      → IsCommitted m x
+  committed_in x (inl h) = (executed_ready x h).committed
+  committed_in x (inr h) = (waits_in x h).1.committed
+
+  executed_once : AllPairs (λ x y. x ≢ y) (ranked_ids order)
+  executed_once = (IsExecutionOrder-IsLawful m order ordered).once
+
+  waiting_once : AllPairs (λ x y. x ≢ y) (waiting_ids waiting)
+  waiting_once = rising_once (waiting_ids waiting) listed.rising
+
+  both_once : AllPairs (λ x y. x ≢ y) (ranked_ids order ++ waiting_ids waiting)
+  both_once = AllPairs-append (λ x y. x ≢ y) (ranked_ids order) (waiting_ids waiting)
+      executed_once waiting_once
+      (λ x y h k same. apart y (subst (Contains (ranked_ids order)) same h) k)
+
+  counted : length order + length waiting ≡ length m
+  counted =
+      let executed = ranked_ids order in
+      let waits = waiting_ids waiting in
+      let up = fewer (executed ++ waits) (ids_of m) both_once
+      (λ x h. committed_in x (Contains-append_cases executed waits x h)) in
+      let down = fewer (ids_of m) (executed ++ waits) (rising_once (ids_of m) rising)
+      (λ x h. elim (either_of x h) [
+        | inl here ↦ Contains-append_left executed waits x here
+        | inr there ↦ Contains-append_right executed waits x there
+      ]) in
+      omega (
+        arith,
+        up,
+        down,
+        length-append executed waits,
+        length-map order (λ (r : Ranked). r.id),
+        length-map waiting (λ (w : Waiting). w.id),
+        length-map m (λ (e : Instance). e.id),
+      )
+
+  pub outcomes : EachHasOneOutcome m order waiting
+  outcomes = record {
+    either = λ x. (either_of x, committed_in x);
+    not_both = apart;
+    executed_once = executed_once;
+    waiting_once = waiting_once;
+    counted = counted;
+  }

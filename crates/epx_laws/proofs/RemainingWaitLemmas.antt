@@ -1,0 +1,59 @@
+-- A remaining instance waits for the same instance in the remaining map as in the whole map.
+use Rattle.std.proofs.Common.{◌↔◌, List, [], ◌∷◌, Contains, inl, inr}
+use Rattle.epx_types.specs.declared.id.Id.{Id}
+use Rattle.epx_types.specs.Instances.{Instance}
+use Rattle.epx_types.specs.CommittedMap.{IsCommitted}
+use Rattle.epx_types.specs.Done.{remaining}
+use Rattle.epx_types.specs.Reaching.{IsPath, Reaches}
+use Rattle.epx_types.specs.Readiness.{IsReady, WaitsFor}
+use Rattle.epx_types.proofs.graph.ReachingLemmas.{Reaches-trans, Reaches-dependency}
+use Rattle.epx_types.proofs.graph.WaitingLemmas.{Contains-Id_cases}
+use Rattle.epx_types.proofs.remaining.RemainingLemmas.{Contains-remaining_iff, DependsOn-remaining}
+use Rattle.epx_laws.proofs.RemainingReadinessLemmas.{Reaches-from_remaining}
+
+module _ (done : List Id) (m : List Instance)
+    (all_ready : (x : Id) → Contains done x → IsReady m x) where
+  -- no done instance is on a path to a missing one
+  path_remains : (x : Id) (via : List Id) (y : Id) → ¬ Contains done x → ¬ IsCommitted m y
+      → IsPath m x via y → Reaches (remaining done m) x y
+  path_remains x [] y left missing step =
+      Reaches-dependency (remaining done m) x y
+      ((DependsOn-remaining done m x y).1 (step, left, λ h. missing (all_ready y h).committed))
+  path_remains x (z ∷ via) y left missing path =
+      elim (Contains-Id_cases done z) [
+        | inl is_done ↦ absurd (missing ((all_ready z is_done).complete y (inr (via, path.1))))
+        | inr z_left ↦ Reaches-trans (remaining done m) x z y
+            (Reaches-dependency (remaining done m) x z
+            ((DependsOn-remaining done m x z).1 (path.0, left, z_left)))
+            (path_remains z via y z_left missing path.1)
+      ]
+
+  Reaches-remains : (x y : Id) → ¬ Contains done x → ¬ IsCommitted m y → Reaches m x y
+      → Reaches (remaining done m) x y
+  Reaches-remains x y left missing (inl same) = inl same
+  Reaches-remains x y left missing (inr path) = path_remains x path.0 y left missing path.1
+
+  pub WaitsFor-remaining : (x y : Id) → ¬ Contains done x
+      → WaitsFor (remaining done m) x y ↔ WaitsFor m x y
+  WaitsFor-remaining x y left = (there, back) where
+    there : WaitsFor (remaining done m) x y → WaitsFor m x y
+    there w =
+        let reached = Reaches-from_remaining done m x y left w.reached in
+        record {
+          committed = ((Contains-remaining_iff done m x).0 w.committed).0;
+          reached = reached.0;
+          missing = λ h. w.missing ((Contains-remaining_iff done m y).1 (h, reached.1));
+          least = λ z on lacks. w.least z (Reaches-remains x z left lacks on)
+              (λ h. lacks ((Contains-remaining_iff done m z).0 h).0);
+        }
+
+    back : WaitsFor m x y → WaitsFor (remaining done m) x y
+    back w = record {
+      committed = (Contains-remaining_iff done m x).1 (w.committed, left);
+      reached = Reaches-remains x y left w.missing w.reached;
+      missing = λ h. w.missing ((Contains-remaining_iff done m y).0 h).0;
+      least = λ z on lacks.
+          let reached = Reaches-from_remaining done m x z left on in
+          w.least z reached.0
+          (λ h. lacks ((Contains-remaining_iff done m z).1 (h, reached.1)));
+    }

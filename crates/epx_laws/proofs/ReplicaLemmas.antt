@@ -1,0 +1,253 @@
+-- Beginnings of lawful orders in maps that grow, and in parts of one map.
+use Rattle.std.proofs.Common.{◌≡◌, ◌≢◌, ◌↔◌, ◌∙◌, ℕ, ◌<◌, List, ◌++◌, length, map, Contains}
+use Rattle.std.proofs.Common.{AllPairs, Some, slice_get, get_or, append_assoc, sym, ap, subst}
+use Rattle.std.proofs.Common.{inl, inr, arith}
+use Rattle.std.proofs.lemmas.List.{length-map, ext_get_or}
+use Rattle.std.proofs.lemmas.List.Elements.{Contains-append_left}
+use Rattle.std.proofs.lemmas.Option.{slice_get_within, slice_get-get_or, get_or_from_slice_get}
+use Rattle.epx_types.specs.declared.id.Id.{Id}
+use Rattle.epx_types.specs.declared.op.Op.{Op}
+use Rattle.epx_types.specs.declared.reply.Reply.{Reply}
+use Rattle.epx_types.specs.declared.reply.Reply.TheVariants.{Abort}
+use Rattle.epx_types.specs.Ids.{IsRising}
+use Rattle.epx_types.specs.Instances.{Instance}
+use Rattle.epx_types.specs.Contents.{Contents}
+use Rattle.epx_types.specs.CommittedMap.{ids_of, instance_of, commands_in, ops_or_empty}
+use Rattle.epx_types.specs.Conflicts.{Conflict, IsCovered}
+use Rattle.epx_types.specs.Done.{remaining_ids}
+use Rattle.epx_types.specs.Execution.{execute}
+use Rattle.epx_types.specs.ExecutionOrder.{Ranked}
+use Rattle.epx_types.specs.LawfulBeginnings.{IsLawfulBeginning}
+use Rattle.epx_types.specs.LawfulOrders.{Before, IsLawful, IsLawfulFor}
+use Rattle.epx_types.specs.Reaching.{Reaches}
+use Rattle.epx_types.specs.Readiness.{IsReady}
+use Rattle.epx_types.proofs.committed.AgreementLemmas.{instance_of_iff}
+use Rattle.epx_types.proofs.commands.ExecutionLemmas.{length-replies}
+use Rattle.epx_types.proofs.commands.RearrangedListLemmas.{IsRearranged}
+use Rattle.epx_types.proofs.commands.RearrangedListLemmas.{execute-rearranged}
+use Rattle.epx_types.proofs.commands.RearrangementLemmas.{Once-from_AllPairs, Precedes-from_Before}
+use Rattle.epx_types.proofs.commands.RearrangementLemmas.{AllPairs-Precedes}
+use Rattle.epx_types.proofs.graph.ReachingLemmas.{IsReady-reached}
+use Rattle.epx_types.proofs.graph.WaitingLemmas.{Contains-Id_cases}
+use Rattle.epx_types.proofs.lists.BeforeLemmas.{Before-append_left, Before-from_Precedes}
+use Rattle.epx_types.proofs.lists.BeforeLemmas.{slice_get-append_left}
+use Rattle.epx_types.proofs.lists.ListPositionLemmas.{slice_get-from_Contains, Contains-slice_get}
+use Rattle.epx_types.proofs.lists.ListPositionLemmas.{slice_get-map, AllPairs-from_slice_get}
+use Rattle.epx_types.proofs.lists.ListPositionLemmas.{AllPairs-slice_get}
+use Rattle.epx_types.proofs.lists.MembershipLemmas.{map-agree, Contains-from_map}
+use Rattle.epx_types.proofs.orders.ExecutionOrderLemmas.{IsExecutionOrder-IsLawful}
+use Rattle.epx_types.proofs.orders.LawfulOrderLemmas.{Before-in_first, Before-in_second}
+use Rattle.epx_types.proofs.orders.LawfulOrderLemmas.{Before-alike_reaching, Before-alike_reached}
+use Rattle.epx_types.proofs.orders.LawfulOrderLemmas.{same_position}
+use Rattle.epx_types.proofs.orders.LawfulPartLemmas.{IsLawful-part_and_rest}
+use Rattle.epx_types.proofs.orders.OrderExistenceLemmas.{execution_order_exists}
+use Rattle.epx_laws.specs.GrowthLaws.{IsWithin}
+use Rattle.epx_laws.specs.ReplicaLaws.{HasExecuted}
+use Rattle.epx_laws.proofs.BeginningLemmas.{reply-beginning}
+use Rattle.epx_laws.proofs.LargerMapLemmas.{IsReady-in_more, Reaches-in_less, lawful_in_more}
+use Rattle.epx_laws.proofs.LargerMapLemmas.{same_ops}
+
+-- each committed map has a lawful order
+pub lawful_order : (m : List Instance) → IsRising (ids_of m) → (ids : List Id) × IsLawful m ids
+lawful_order m rising =
+    let order = execution_order_exists m rising in
+    (map (λ (r : Ranked). r.id) order.0, IsExecutionOrder-IsLawful m order.0 order.1)
+
+-- a list that is lawful for ready instances with all that they reach begins a lawful order
+pub IsLawfulBeginning-from_closed : (m : List Instance) → IsRising (ids_of m) → (ids : List Id)
+    → ((x : Id) → Contains ids x → IsReady m x)
+    → ((x y : Id) → Contains ids x → Reaches m x y → Contains ids y)
+    → IsLawfulFor m (Contains ids) ids → IsLawfulBeginning m ids
+IsLawfulBeginning-from_closed m rising ids ready closed lawful =
+    let whole = lawful_order m rising in (
+      remaining_ids ids whole.0,
+      IsLawful-part_and_rest m (Contains ids) ready closed ids whole.0 lawful whole.1,
+    )
+
+-- ---- beginnings in greater maps
+
+module _ (m more : List Instance) (rising : IsRising (ids_of more)) (within : IsWithin m more) where
+  pub IsLawfulBeginning-in_more : (ids : List Id) → IsLawfulBeginning m ids
+      → IsLawfulBeginning more ids
+  IsLawfulBeginning-in_more ids (rest, lawful) =
+      let whole = lawful_order more rising in
+      let left = remaining_ids (ids ++ rest) whole.0 in
+      let all = IsLawful-part_and_rest more (IsReady m) (IsReady-in_more m more rising within)
+      (λ x y ready there. IsReady-reached m x y
+      (Reaches-in_less m more rising within x y ready there) ready)
+      (ids ++ rest) whole.0 (lawful_in_more m more rising within (ids ++ rest) lawful) whole.1 in
+      (rest ++ left, subst (IsLawful more) (append_assoc ids rest left) all)
+
+  pub IsCovered-in_less : IsCovered more → IsCovered m
+  IsCovered-in_less covered d e in_d in_e apart ready ready' conflict =
+      elim (covered d e (within d in_d) (within e in_e) apart
+      (IsReady-in_more m more rising within d.id ready)
+      (IsReady-in_more m more rising within e.id ready') conflict) [
+        | inl there ↦ inl (Reaches-in_less m more rising within d.id e.id ready there)
+        | inr back ↦ inr (Reaches-in_less m more rising within e.id d.id ready' back)
+      ]
+
+  -- a beginning has the same commands in both
+  commands-in_more : (ids : List Id) → IsLawfulBeginning m ids
+      → commands_in m ids ≡ commands_in more ids
+  commands-in_more ids (rest, lawful) = map-agree (λ x. ops_or_empty (instance_of m x))
+      (λ x. ops_or_empty (instance_of more x)) ids
+      (λ x h. same_ops m more rising within x
+      (lawful.only x (Contains-append_left ids rest x h)).committed)
+
+-- ---- the order of a beginning
+
+-- in a list without repeats, what is before a member of the front is so in the front too
+pub Before-in_front : (front rest : List Id) → AllPairs (λ x y. x ≢ y) (front ++ rest) → (x y : Id)
+    → Before (front ++ rest) x y → Contains front y → Before front x y
+Before-in_front front rest once x y (i, j, l, p, q) h =
+    let at = slice_get-from_Contains front y h in
+    let same = same_position (front ++ rest) once j at.0 y q
+    (slice_get-append_left front rest at.0 y at.1) in
+    let inside : i < length front = omega (arith, l, same, slice_get_within front at.0 y at.1) in
+    let first = slice_get-get_or front i x inside in
+    let here = slice_get-append_left front rest i (get_or front i x) first in
+    let is : get_or front i x ≡ x = cc (here, p) in
+    (i, at.0, omega (arith, l, same), first ∙ ap Some is, at.1)
+
+AllPairs-front : (front rest : List Id) → AllPairs (λ x y. x ≢ y) (front ++ rest)
+    → AllPairs (λ x y. x ≢ y) front
+AllPairs-front front rest once = AllPairs-from_slice_get (λ x y. x ≢ y) front
+    (λ i j x y l p q. AllPairs-slice_get (λ v w. v ≢ w) (front ++ rest) once i j x y l
+    (slice_get-append_left front rest i x p) (slice_get-append_left front rest j y q))
+
+-- ---- replies as a function of Ids
+
+module _ (ids : List Id) (once : AllPairs (λ x y. x ≢ y) ids) (replies : List Reply)
+    (long : length replies ≡ length ids) where
+  reply_at : (x : Id) → (r : Reply)
+      × ((i : ℕ) → slice_get ids i ≡ Some x → slice_get replies i ≡ Some r)
+  reply_at x = elim (Contains-Id_cases ids x) [
+    | inl h ↦
+        let at = slice_get-from_Contains ids x h in
+        let within : at.0 < length replies =
+        omega (arith, slice_get_within ids at.0 x at.1, long) in (
+          get_or replies at.0 (Abort 0),
+          λ i p. ap (slice_get replies) (same_position ids once i at.0 x p at.1)
+              ∙ slice_get-get_or replies at.0 (Abort 0) within,
+        )
+    | inr none ↦ (Abort 0, λ i p. absurd (none (Contains-slice_get ids i x p)))
+  ]
+
+  replies-at : replies ≡ map (λ x. (reply_at x).0) ids
+  replies-at = ext_get_or (Abort 0) replies (map (λ x. (reply_at x).0) ids)
+      (long ∙ sym (length-map ids (λ x. (reply_at x).0)))
+      (λ i l.
+      let none : Id = record { replica = 0; number = 0 } in
+      let at = slice_get-get_or ids i none (omega (arith, l, long)) in
+      let x = get_or ids i none in
+      get_or_from_slice_get replies i (reply_at x).0 (Abort 0) ((reply_at x).1 i at)
+      ∙ sym (get_or_from_slice_get (map (λ z. (reply_at z).0) ids) i (reply_at x).0 (Abort 0)
+      (slice_get-map (λ z. (reply_at z).0) ids i x at)))
+
+-- ---- two beginnings with the same instances
+
+module _ (m : List Instance) (rising : IsRising (ids_of m)) (covered : IsCovered m)
+    (ids other : List Id) (begins : IsLawfulBeginning m ids) (begins' : IsLawfulBeginning m other)
+    (same : (x : Id) → Contains ids x ↔ Contains other x) where
+  ready_in : (x : Id) → Contains ids x → IsReady m x
+  ready_in x h = begins.1.only x (Contains-append_left ids begins.0 x h)
+
+  of_ready : (x : Id) → IsReady m x
+      → (e : Instance) × Contains m e × (e.id ≡ x) × (ops_or_empty (instance_of m x) ≡ e.ops)
+  of_ready x ready =
+      let e = Contains-from_map (λ (e : Instance). e.id) m x ready.committed in
+      (e.0, e.1, e.2, ap ops_or_empty ((instance_of_iff m rising x e.0).1 (e.1, e.2)))
+
+  -- instances that conflict come in the same order in both
+  conflicts_alike : (x y : Id) → Before ids x y → x ≢ y
+      → Conflict (ops_or_empty (instance_of m x)) (ops_or_empty (instance_of m y))
+      → Before other x y
+  conflicts_alike x y before apart conflict =
+      let in_x = Before-in_first ids x y before in
+      let in_y = Before-in_second ids x y before in
+      let d = of_ready x (ready_in x in_x) in
+      let e = of_ready y (ready_in y in_y) in
+      let early = Before-append_left ids begins.0 x y before in
+      let related = covered d.0 e.0 d.1 e.1 (λ same. apart (sym d.2 ∙ same ∙ e.2))
+      (subst (IsReady m) (sym d.2) (ready_in x in_x))
+      (subst (IsReady m) (sym e.2) (ready_in y in_y))
+      (subst (λ (os : List Op). Conflict os e.0.ops) d.3
+      (subst (Conflict (ops_or_empty (instance_of m x))) e.3 conflict)) in
+      Before-in_front other begins'.0 begins'.1.once x y
+      (elim related [
+        | inl reaches ↦
+            Before-alike_reaching m (ids ++ begins.0) (other ++ begins'.0) begins.1 begins'.1 x y
+            early
+            (subst (λ (z : Id). Reaches m z y) d.2 (subst (Reaches m d.0.id) e.2 reaches))
+        | inr reached ↦
+            Before-alike_reached m (ids ++ begins.0) (other ++ begins'.0) begins.1 begins'.1 x y
+            early
+            (subst (λ (z : Id). Reaches m z x) e.2 (subst (Reaches m e.0.id) d.2 reached))
+      ])
+      ((same y).0 in_y)
+
+  once_in : AllPairs (λ x y. x ≢ y) ids
+  once_in = AllPairs-front ids begins.0 begins.1.once
+
+  rearranged : IsRearranged (λ x. ops_or_empty (instance_of m x)) ids other
+  rearranged = record {
+    once = Once-from_AllPairs ids once_in;
+    once_too = Once-from_AllPairs other (AllPairs-front other begins'.0 begins'.1.once);
+    only = λ x h. (same x).0 h;
+    whole = λ x h. (same x).1 h;
+    keeps = λ x y h conflict. Precedes-from_Before other x y
+        (conflicts_alike x y (Before-from_Precedes ids x y h)
+        (AllPairs-Precedes (λ v w. v ≢ w) ids once_in x y h) conflict);
+  }
+
+  -- they leave the same contents
+  final-beginnings : (c : Contents) → (execute (commands_in m other) c).final
+      ≡ (execute (commands_in m ids) c).final
+  final-beginnings c =
+      let replies = (execute (commands_in m ids) c).replies in
+      let long : length replies ≡ length ids = length-replies (commands_in m ids) c
+      ∙ length-map ids (λ x. ops_or_empty (instance_of m x)) in
+      (execute-rearranged (λ x. ops_or_empty (instance_of m x))
+      (λ x. (reply_at ids once_in replies long x).0) other ids rearranged c
+      (replies-at ids once_in replies long)).final
+
+-- ---- replicas
+
+module _ (m : List Instance) (rising : IsRising (ids_of m)) (covered : IsCovered m)
+    (a b : List Instance) (ids other : List Id) (has : HasExecuted m a ids)
+    (has' : HasExecuted m b other) where
+  in_whole : IsLawfulBeginning m ids
+  in_whole = IsLawfulBeginning-in_more a m rising has.within ids has.begins
+
+  in_whole' : IsLawfulBeginning m other
+  in_whole' = IsLawfulBeginning-in_more b m rising has'.within other has'.begins
+
+  commands : commands_in a ids ≡ commands_in m ids
+  commands = commands-in_more a m rising has.within ids has.begins
+
+  commands' : commands_in b other ≡ commands_in m other
+  commands' = commands-in_more b m rising has'.within other has'.begins
+
+  pub final-replicas : ((x : Id) → Contains ids x ↔ Contains other x) → (c : Contents)
+      → (execute (commands_in a ids) c).final ≡ (execute (commands_in b other) c).final
+  final-replicas same c =
+      ap (λ os. (execute os c).final) commands
+      ∙ sym (final-beginnings m rising covered ids other in_whole in_whole' same c)
+      ∙ sym (ap (λ os. (execute os c).final) commands')
+
+  module _ (c : Contents) (i j : ℕ) (x : Id) (p : slice_get ids i ≡ Some x)
+      (q : slice_get other j ≡ Some x) where
+    pub reply-replicas : slice_get (execute (commands_in a ids) c).replies i
+        ≡ slice_get (execute (commands_in b other) c).replies j
+    reply-replicas =
+        let whole = lawful_order m rising in
+        let ready = in_whole.1.only x
+        (Contains-append_left ids in_whole.0 x (Contains-slice_get ids i x p)) in
+        let at = slice_get-from_Contains whole.0 x (whole.1.whole x ready) in
+        ap (λ os. slice_get (execute os c).replies i) commands
+        ∙ reply-beginning m rising covered ids in_whole.0 whole.0 in_whole.1 whole.1 c i at.0 x p
+        at.1
+        ∙ sym (reply-beginning m rising covered other in_whole'.0 whole.0 in_whole'.1 whole.1 c j
+        at.0 x q at.1)
+        ∙ sym (ap (λ os. slice_get (execute os c).replies j) commands')

@@ -1,0 +1,48 @@
+-- Instances with lower sequence numbers come first.
+use Rattle.std.proofs.Common.{◌≡◌, ◌<◌, ◌++◌, Bool, true, List, Contains, Less, nat_cmp, refl}
+use Rattle.std.proofs.Common.{inl, inr}
+use Rattle.std.specs.Cmp.{nat_cmp_is}
+use Rattle.std.proofs.lemmas.List.Elements.{Contains-append_left}
+use Rattle.epx_types.specs.declared.id.Id.{Id}
+use Rattle.epx_types.specs.Instances.{Instance}
+use Rattle.epx_types.specs.Conflicts.{Conflict}
+use Rattle.epx_types.specs.LawfulOrders.{Before, IsLawful}
+use Rattle.epx_types.specs.LawfulBeginnings.{IsLawfulBeginning}
+use Rattle.epx_types.specs.Reaching.{Reaches}
+use Rattle.epx_types.proofs.graph.ReachingDecisionLemmas.{Reaches-cases}
+use Rattle.epx_types.proofs.graph.ReachingLemmas.{IsReady-reached}
+use Rattle.epx_laws.specs.TimeLaws.{RespectsTime}
+use Rattle.epx_laws.proofs.ReplicaLemmas.{Before-in_front}
+
+-- an instance comes after each one that it reaches and that has a lower sequence number
+pub lower_first : (m : List Instance) (ids : List Id) → IsLawful m ids → (d e : Instance)
+    → Contains m d → Contains m e → Contains ids e.id → Reaches m e.id d.id → d.seq < e.seq
+    → Before ids d.id e.id
+lower_first m ids lawful d e in_d in_e h there l =
+    elim (Reaches-cases m d.id e.id) [
+      | inr not_back ↦ lawful.after_reached e.id d.id h there not_back
+      | inl back ↦ lawful.by_sequence d.id e.id
+          (lawful.whole d.id (IsReady-reached m e.id d.id there (lawful.only e.id h))) h
+          (back, there)
+          (record {
+            first = d;
+            second = e;
+            first_in = in_d;
+            first_is = refl;
+            second_in = in_e;
+            second_is = refl;
+            lower = let less : Less ≡ nat_cmp d.seq e.seq = nat_cmp_is d.seq e.seq Less l in
+                rw (← less) refl;
+          })
+    ]
+
+-- where logs respect time, so does a beginning
+pub time_kept : (m : List Instance) (earlier : Id → Id → Bool) → RespectsTime m earlier
+    → (ids : List Id) → IsLawfulBeginning m ids → (d e : Instance) → Contains m d → Contains m e
+    → Conflict d.ops e.ops → earlier d.id e.id ≡ true → Contains ids e.id → Before ids d.id e.id
+time_kept m earlier respects ids (rest, lawful) d e in_d in_e conflict precedes h =
+    let apart = respects d e in_d in_e conflict precedes in
+    Before-in_front ids rest lawful.once d.id e.id
+    (lower_first m (ids ++ rest) lawful d e in_d in_e (Contains-append_left ids rest e.id h)
+    apart.0 apart.1)
+    h

@@ -1,0 +1,90 @@
+-- An instance comes before another that it does not reach, in some lawful order.
+use Rattle.std.proofs.Common.{◌≡◌, ◌≢◌, ◌⊎◌, Bool, true, false, not, List, ◌++◌, filter, Contains}
+use Rattle.std.proofs.Common.{refl, inl, inr}
+use Rattle.std.proofs.lemmas.List.Kept.{AllPairs-filter}
+use Rattle.epx_types.specs.declared.id.Id.{Id}
+use Rattle.epx_types.specs.Ids.{IsRising}
+use Rattle.epx_types.specs.Instances.{Instance}
+use Rattle.epx_types.specs.CommittedMap.{ids_of}
+use Rattle.epx_types.specs.Done.{is_among, remaining_ids}
+use Rattle.epx_types.specs.LawfulOrders.{Before, IsLawful, IsLawfulFor}
+use Rattle.epx_types.specs.Reaching.{Reaches}
+use Rattle.epx_types.specs.Readiness.{IsReady}
+use Rattle.epx_types.proofs.graph.ReachingDecisionLemmas.{Reaches-cases}
+use Rattle.epx_types.proofs.graph.ReachingLemmas.{IsReady-reached, Reaches-refl, Reaches-trans}
+use Rattle.epx_types.proofs.lists.BeforeLemmas.{Before-across, Before-filter}
+use Rattle.epx_types.proofs.lists.MembershipLemmas.{Contains-filter, Contains-from_filter}
+use Rattle.epx_types.proofs.lists.MembershipLemmas.{passes-from_filter}
+use Rattle.epx_types.proofs.orders.LawfulPartLemmas.{IsLawful-part_and_rest, passes_rest}
+use Rattle.epx_laws.proofs.ReplicaLemmas.{lawful_order}
+
+-- a test of a property that is decided
+decided : {A : Type 0} → A ⊎ (¬ A) → (b : Bool) × (b ≡ true → A) × (A → b ≡ true)
+decided (inl a) = (true, λ e. a, λ h. refl)
+decided (inr none) = (false, λ e. absurd (cc e), λ h. absurd (none h))
+
+module _ (m : List Instance) (x : Id) where
+  -- the test whether x reaches an Id
+  reached : Id → Bool
+  reached y = (decided (Reaches-cases m x y)).0
+
+  reached_means : (y : Id) → reached y ≡ true → Reaches m x y
+  unfolding reached
+  reached_means y = (decided (Reaches-cases m x y)).1
+
+  reached_so : (y : Id) → Reaches m x y → reached y ≡ true
+  unfolding reached
+  reached_so y = (decided (Reaches-cases m x y)).2
+
+  module _ (ready : IsReady m x) (whole : List Id) (lawful : IsLawful m whole) where
+    -- what x reaches, in the order of the list
+    part : List Id
+    part = filter reached whole
+
+    in_part : (y : Id) → Contains part y → Contains whole y × Reaches m x y
+    unfolding part
+    in_part y h = (
+      Contains-from_filter reached whole y h,
+      reached_means y (passes-from_filter reached whole y h),
+    )
+
+    to_part : (y : Id) → Reaches m x y → Contains part y
+    unfolding part
+    to_part y there = Contains-filter reached whole y
+        (lawful.whole y (IsReady-reached m x y there ready)) (reached_so y there)
+
+    part_lawful : IsLawfulFor m (Reaches m x) part
+    unfolding part
+    part_lawful = record {
+      once = AllPairs-filter (λ v w. v ≢ w) reached whole lawful.once;
+      only = λ y h. (in_part y h).1;
+      whole = to_part;
+      after_reached = λ v w h there not_back.
+          let k = in_part v h in
+          Before-filter reached whole w v (lawful.after_reached v w k.0 there not_back)
+          (reached_so w (Reaches-trans m x v w k.1 there)) (reached_so v k.1);
+      by_sequence = λ v w h k one lower.
+          let p = in_part v h in
+          let q = in_part w k in
+          Before-filter reached whole v w (lawful.by_sequence v w p.0 q.0 one lower)
+          (reached_so v p.1) (reached_so w q.1);
+    }
+
+    -- what x reaches, and then the others
+    turned : (y : Id) → IsReady m y → ¬ Reaches m x y
+        → (ids : List Id) × IsLawful m ids × Before ids x y
+    turned y ready_y not_there = (
+      part ++ remaining_ids part whole,
+      IsLawful-part_and_rest m (Reaches m x) (λ v there. IsReady-reached m x v there ready)
+          (λ v w on there. Reaches-trans m x v w on there) part whole part_lawful lawful,
+      Before-across part (remaining_ids part whole) x y (to_part x (Reaches-refl m x))
+          (Contains-filter (λ z. not (is_among part z)) whole y (lawful.whole y ready_y)
+          (passes_rest part whole y (λ h. not_there (in_part y h).1))),
+    )
+
+-- if x does not reach y, x is before y in some lawful order
+pub order_before : (m : List Instance) → IsRising (ids_of m) → (x y : Id) → IsReady m x
+    → IsReady m y → ¬ Reaches m x y → (ids : List Id) × IsLawful m ids × Before ids x y
+order_before m rising x y ready ready_y not_there =
+    let whole = lawful_order m rising in
+    turned m x ready whole.0 whole.1 y ready_y not_there

@@ -1,0 +1,13 @@
+use Rattle.std.proofs.Common.{Contains, ◌∙◌, subst}
+use Rattle.epx_laws.proofs.agreement.same_instances_commit_alike.Goals as goal
+
+pub returns : goal.returns
+returns c = λ lines other has has' m by.
+    record {
+      rising = by.rising;
+      given = λ e h.
+          let p = by.given e h in
+          let q = has' p.0 p.1 in
+          (q.0, q.1, q.2 ∙ p.2);
+      whole = λ p h. let q = has p h in subst (Contains m) q.2 (by.whole q.0 q.1);
+    }

@@ -1,0 +1,5 @@
+use Rattle.epx_laws.proofs.TurnedOrderLemmas.{order_before}
+use Rattle.epx_laws.proofs.order.not_reached_can_follow.Goals as goal
+
+pub returns : goal.returns
+returns c = order_before

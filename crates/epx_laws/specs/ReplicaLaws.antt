@@ -1,0 +1,43 @@
+-- Laws of replicas that execute what they know of one map, while others know more.
+use Rattle.std.specs.Prelude.{◌≡◌, ◌↔◌, ℕ, List, Contains, slice_get, Some}
+use Rattle.epx_types.specs.declared.id.Id.{Id}
+use Rattle.epx_types.specs.Ids.{IsRising}
+use Rattle.epx_types.specs.Instances.{Instance}
+use Rattle.epx_types.specs.CommittedMap.{ids_of, commands_in}
+use Rattle.epx_types.specs.Contents.{Contents}
+use Rattle.epx_types.specs.Execution.{execute}
+use Rattle.epx_types.specs.Conflicts.{IsCovered}
+use Rattle.epx_types.specs.LawfulBeginnings.{IsLawfulBeginning}
+use Rattle.epx_laws.specs.GrowthLaws.{IsWithin}
+
+-- what a lawful order of a map begins with, a lawful order of every map that contains it begins
+-- with too: what a replica has executed stays lawful whatever is committed later
+abbrev pub BeginningsStay : Type 0
+BeginningsStay = (m more : List Instance) → IsRising (ids_of more) → IsWithin m more
+    → (ids : List Id) → IsLawfulBeginning m ids → IsLawfulBeginning more ids
+
+-- each part of a covered map is covered
+abbrev pub PartsAreCovered : Type 0
+PartsAreCovered = (m more : List Instance) → IsRising (ids_of more) → IsWithin m more
+    → IsCovered more → IsCovered m
+
+-- a replica knows a part of the map m, and has executed what a lawful order of that part begins
+-- with
+pub record HasExecuted (m known : List Instance) (ids : List Id) : Type 0 where
+  pub within : IsWithin known m
+  pub begins : IsLawfulBeginning known ids
+
+-- two replicas that know parts of one covered map have given an instance the same reply
+abbrev pub ReplicasReplyAlike : Type 0
+ReplicasReplyAlike = (m : List Instance) → IsRising (ids_of m) → IsCovered m
+    → (a b : List Instance) (ids other : List Id) → HasExecuted m a ids → HasExecuted m b other
+    → (c : Contents) → (i j : ℕ) (x : Id) → slice_get ids i ≡ Some x → slice_get other j ≡ Some x
+    → slice_get (execute (commands_in a ids) c).replies i
+    ≡ slice_get (execute (commands_in b other) c).replies j
+
+-- if they have executed the same instances, they have the same contents
+abbrev pub ReplicasStoreAlike : Type 0
+ReplicasStoreAlike = (m : List Instance) → IsRising (ids_of m) → IsCovered m
+    → (a b : List Instance) (ids other : List Id) → HasExecuted m a ids → HasExecuted m b other
+    → ((x : Id) → Contains ids x ↔ Contains other x) → (c : Contents)
+    → (execute (commands_in a ids) c).final ≡ (execute (commands_in b other) c).final
