@@ -36,7 +36,7 @@ lower_first m ids lawful d e in_d in_e h there l =
           })
     ]
 
--- where logs respect time, so does a beginning
+-- so a beginning keeps the time that the map respects
 pub time_kept : (m : List Instance) (earlier : Id → Id → Bool) → RespectsTime m earlier
     → (ids : List Id) → IsLawfulBeginning m ids → (d e : Instance) → Contains m d → Contains m e
     → Conflict d.ops e.ops → earlier d.id e.id ≡ true → Contains ids e.id → Before ids d.id e.id

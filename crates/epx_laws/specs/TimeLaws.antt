@@ -1,4 +1,4 @@
--- Laws of sequence numbers and time: what is committed before another command is proposed.
+-- Laws of sequence numbers and of time.
 use Rattle.std.specs.Prelude.{◌≡◌, ◌<◌, Bool, true, List, Contains}
 use Rattle.epx_types.specs.declared.id.Id.{Id}
 use Rattle.epx_types.specs.Instances.{Instance}
@@ -13,14 +13,15 @@ LowerSequenceComesFirst = (m : List Instance) (ids : List Id) → IsLawful m ids
     → (d e : Instance) → Contains m d → Contains m e → Contains ids e.id → Reaches m e.id d.id
     → d.seq < e.seq → Before ids d.id e.id
 
--- where d was committed before e was proposed and both conflict, e reaches d and has the higher
--- sequence number, as the protocol's first phase sees to. Logs have no clock, so `earlier` is any
--- test of what was committed before what was proposed
+-- A command that was committed before one that conflicts with it was proposed is reached by that
+-- one, and has the lower sequence number. The protocol's first phase is to see to this. Logs have
+-- no clock, so any test may say what was committed before what was proposed. It is no relation,
+-- since a law over all relations is in a larger universe than contracts are
 abbrev pub RespectsTime : List Instance → (Id → Id → Bool) → Type 0
 RespectsTime m earlier = (d e : Instance) → Contains m d → Contains m e → Conflict d.ops e.ops
     → earlier d.id e.id ≡ true → Reaches m e.id d.id × (d.seq < e.seq)
 
--- then a replica that has executed e has executed d before it
+-- then who has executed the later of the two has executed the earlier before it
 abbrev pub TimeIsKept : Type 0
 TimeIsKept = (m : List Instance) (earlier : Id → Id → Bool) → RespectsTime m earlier
     → (ids : List Id) → IsLawfulBeginning m ids → (d e : Instance) → Contains m d → Contains m e
