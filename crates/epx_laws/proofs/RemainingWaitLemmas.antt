@@ -1,15 +1,20 @@
--- A remaining instance waits for the same instance in the remaining map as in the whole map.
-use Rattle.std.proofs.Common.{◌↔◌, List, [], ◌∷◌, Contains, inl, inr}
+-- A remaining instance waits for the same instance in the remaining map as in the whole map, also
+-- if the remaining map is that of other logs.
+use Rattle.std.proofs.Common.{◌↔◌, List, [], ◌∷◌, Contains, refl, subst, inl, inr}
 use Rattle.epx_types.specs.declared.id.Id.{Id}
 use Rattle.epx_types.specs.Instances.{Instance}
 use Rattle.epx_types.specs.CommittedMap.{IsCommitted}
 use Rattle.epx_types.specs.Done.{remaining}
 use Rattle.epx_types.specs.Reaching.{IsPath, Reaches}
+use Rattle.epx_types.specs.Sound.{HasRemaining}
 use Rattle.epx_types.specs.Readiness.{IsReady, WaitsFor}
 use Rattle.epx_types.proofs.graph.ReachingLemmas.{Reaches-trans, Reaches-dependency}
 use Rattle.epx_types.proofs.graph.WaitingLemmas.{Contains-Id_cases}
 use Rattle.epx_types.proofs.remaining.RemainingLemmas.{Contains-remaining_iff, DependsOn-remaining}
+use Rattle.epx_types.proofs.remaining.RemainingLemmas.{from_remaining, not_done}
+use Rattle.epx_types.proofs.remaining.RemainingPositionLemmas.{Contains-left}
 use Rattle.epx_laws.proofs.RemainingReadinessLemmas.{Reaches-from_remaining}
+use Rattle.epx_laws.proofs.SameGraphLemmas.{IsInGraphOf, WaitsFor-same}
 
 module _ (done : List Id) (m : List Instance)
     (all_ready : (x : Id) → Contains done x → IsReady m x) where
@@ -57,3 +62,31 @@ module _ (done : List Id) (m : List Instance)
           w.least z reached.0
           (λ h. lacks ((Contains-remaining_iff done m z).1 (h, reached.1)));
     }
+
+-- ---- the remaining map of other logs
+
+-- if the other map has all that is not done, it remains there too
+IsInGraphOf-remaining : (m other : List Instance) (done : List Id) → HasRemaining other done m
+    → IsInGraphOf (remaining done other) (remaining done m)
+IsInGraphOf-remaining m other done has e h =
+    let d = from_remaining done m e h in
+    let left = not_done done d.0.id d.2 in (
+      e,
+      subst (Contains (remaining done other)) d.3
+          (Contains-left done other d.0 (has d.0 d.1 left) left),
+      refl,
+      refl,
+      refl,
+    )
+
+pub WaitsFor-resumed : (m other : List Instance) (done : List Id)
+    → ((x : Id) → Contains done x → IsReady m x) → HasRemaining m done other
+    → HasRemaining other done m → (x y : Id) → ¬ Contains done x
+    → WaitsFor (remaining done other) x y ↔ WaitsFor m x y
+WaitsFor-resumed m other done ready has all x y left =
+    let there = IsInGraphOf-remaining m other done all in
+    let back = IsInGraphOf-remaining other m done has in
+    let same = WaitsFor-remaining done m ready x y left in (
+      λ w. same.0 (WaitsFor-same (remaining done other) (remaining done m) back there x y w),
+      λ w. WaitsFor-same (remaining done m) (remaining done other) there back x y (same.1 w),
+    )

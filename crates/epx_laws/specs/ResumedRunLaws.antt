@@ -10,7 +10,7 @@ use Rattle.epx_types.specs.Contents.{Contents}
 use Rattle.epx_types.specs.CommittedMap.{ids_of, commands_in}
 use Rattle.epx_types.specs.Execution.{execute, Execution}
 use Rattle.epx_types.specs.Reaching.{Reaches}
-use Rattle.epx_types.specs.Readiness.{IsReady}
+use Rattle.epx_types.specs.Readiness.{IsReady, WaitsFor}
 use Rattle.epx_types.specs.Conflicts.{IsCovered}
 use Rattle.epx_types.specs.ExecutionOrder.{Ranked, ranked_ids, IsExecutionOrder}
 use Rattle.epx_types.specs.LawfulOrders.{IsLawfulFor, IsLawful}
@@ -92,3 +92,10 @@ ResumingWithAllLeftIsTheWhole = (m other : List Instance) (done : List Id) (c : 
     → CanResume m done c other → HasRemaining other done m → IsCovered m →
     (order whole : List Ranked) → IsExecutionOrder (remaining done other) order
     → IsExecutionOrder m whole → (run_on done c other order).final ≡ (whole_run m whole).final
+
+-- then an instance that is not done waits in the resumed run for what it waits for in a run over
+-- the whole map
+abbrev pub ResumedRunsWaitAlike : Type 0
+ResumedRunsWaitAlike = (m other : List Instance) (done : List Id) (c : Contents)
+    → CanResume m done c other → HasRemaining other done m → (x y : Id) → ¬ Contains done x
+    → WaitsFor (remaining done other) x y ↔ WaitsFor m x y

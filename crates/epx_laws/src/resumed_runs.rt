@@ -4,6 +4,7 @@ ghost use Rattle.epx_laws.specs.ResumedRunLaws.{NothingDoneIsSound, PartAndRestA
 ghost use Rattle.epx_laws.specs.ResumedRunLaws.{PartIsSound, ResumedRepliesAreThoseOfTheWhole};
 ghost use Rattle.epx_laws.specs.ResumedRunLaws.{ResumingStaysSound, AllDoneIsTheWhole};
 ghost use Rattle.epx_laws.specs.ResumedRunLaws.{ResumingWithAllLeftIsTheWhole};
+ghost use Rattle.epx_laws.specs.ResumedRunLaws.{ResumedRunsWaitAlike};
 
 /// If nothing is done, the empty contents are sound.
 pub fn nothing_done_is_sound()
@@ -43,4 +44,10 @@ pub fn all_done_is_the_whole()
 /// whole map.
 pub fn resuming_with_all_left_is_the_whole()
     ensures { ResumingWithAllLeftIsTheWhole }
+{}
+
+/// In a resumed run with all that remains, an instance that is not done waits for the same instance
+/// as in a run over the whole map.
+pub fn resumed_runs_wait_alike()
+    ensures { ResumedRunsWaitAlike }
 {}
