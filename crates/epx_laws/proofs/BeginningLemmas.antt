@@ -1,7 +1,7 @@
--- The beginning of a lawful order replies as the order does.
-use Rattle.std.proofs.Common.{◌≡◌, ◌∙◌, ℕ, ◌<◌, List, ◌++◌, length, Some, slice_get, get_or, sym}
-use Rattle.std.proofs.Common.{ap, arith}
-use Rattle.std.proofs.lemmas.List.{length-map, map-append}
+-- Beginnings of lawful orders: which lists are, and that they reply as the order does.
+use Rattle.std.proofs.Common.{◌≡◌, ◌∙◌, ℕ, ◌<◌, List, [], ◌++◌, length, map, Contains, Some}
+use Rattle.std.proofs.Common.{slice_get, get_or, sym, ap, subst, arith}
+use Rattle.std.proofs.lemmas.List.{length-map, map-append, append-nil}
 use Rattle.std.proofs.lemmas.Option.{slice_get_within, slice_get-get_or}
 use Rattle.epx_types.specs.declared.id.Id.{Id}
 use Rattle.epx_types.specs.declared.reply.Reply.TheVariants.{Abort}
@@ -11,10 +11,40 @@ use Rattle.epx_types.specs.Contents.{Contents}
 use Rattle.epx_types.specs.CommittedMap.{ids_of, instance_of, ops_or_empty, commands_in}
 use Rattle.epx_types.specs.Conflicts.{IsCovered}
 use Rattle.epx_types.specs.Execution.{execute}
-use Rattle.epx_types.specs.LawfulOrders.{IsLawful}
+use Rattle.epx_types.specs.Done.{remaining_ids}
+use Rattle.epx_types.specs.ExecutionOrder.{ranked_ids}
+use Rattle.epx_types.specs.LawfulBeginnings.{IsLawfulBeginning}
+use Rattle.epx_types.specs.LawfulOrders.{IsLawful, IsLawfulFor}
+use Rattle.epx_types.specs.Reaching.{Reaches}
+use Rattle.epx_types.specs.Readiness.{IsReady}
 use Rattle.epx_types.proofs.commands.ExecutionLemmas.{length-replies, execute-append}
 use Rattle.epx_types.proofs.lists.BeforeLemmas.{slice_get-append_left}
+use Rattle.epx_types.proofs.orders.ExecutionOrderLemmas.{IsExecutionOrder-IsLawful}
 use Rattle.epx_types.proofs.orders.LawfulExecutionLemmas.{reply-lawful}
+use Rattle.epx_types.proofs.orders.LawfulPartLemmas.{IsLawful-part_and_rest}
+use Rattle.epx_types.proofs.orders.OrderExistenceLemmas.{execution_order_exists}
+
+-- each committed map has a lawful order
+pub lawful_order : (m : List Instance) → IsRising (ids_of m) → (ids : List Id) × IsLawful m ids
+lawful_order m rising =
+    let order = execution_order_exists m rising in
+    (ranked_ids order.0, IsExecutionOrder-IsLawful m order.0 order.1)
+
+-- a lawful order is a beginning of itself
+pub IsLawfulBeginning-whole : (m : List Instance) (ids : List Id) → IsLawful m ids
+    → IsLawfulBeginning m ids
+IsLawfulBeginning-whole m ids lawful = ([], subst (IsLawful m) (sym (append-nil ids)) lawful)
+
+-- a list that is lawful for ready instances with all that they reach begins a lawful order
+pub IsLawfulBeginning-from_closed : (m : List Instance) → IsRising (ids_of m) → (ids : List Id)
+    → ((x : Id) → Contains ids x → IsReady m x)
+    → ((x y : Id) → Contains ids x → Reaches m x y → Contains ids y)
+    → IsLawfulFor m (Contains ids) ids → IsLawfulBeginning m ids
+IsLawfulBeginning-from_closed m rising ids ready closed lawful =
+    let whole = lawful_order m rising in (
+      remaining_ids ids whole.0,
+      IsLawful-part_and_rest m (Contains ids) ready closed ids whole.0 lawful whole.1,
+    )
 
 -- a list has the same replies where others follow it
 pub reply-append_left : (m : List Instance) (ids others : List Id) (c : Contents) (i : ℕ)

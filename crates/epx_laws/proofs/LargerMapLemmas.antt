@@ -1,31 +1,18 @@
--- An instance that is ready in a map is ready in every map that contains it. If that map is
--- covered, the instance has the same reply there.
-use Rattle.std.proofs.Common.{◌≡◌, ◌∙◌, ℕ, ◌<◌, List, ◌++◌, length, Contains, Some, slice_get}
-use Rattle.std.proofs.Common.{get_or, sym, ap, subst, arith}
-use Rattle.std.proofs.lemmas.List.{length-map, map-append}
-use Rattle.std.proofs.lemmas.Option.{slice_get_within, slice_get-get_or}
+-- What is ready and lawful in a map is so in every map that contains it, with the same commands.
+use Rattle.std.proofs.Common.{◌≡◌, ◌∙◌, List, Contains, sym, ap, subst}
 use Rattle.epx_types.specs.declared.id.Id.{Id}
-use Rattle.epx_types.specs.declared.reply.Reply.TheVariants.{Abort}
 use Rattle.epx_types.specs.Ids.{IsRising}
 use Rattle.epx_types.specs.Instances.{Instance}
-use Rattle.epx_types.specs.Contents.{Contents}
 use Rattle.epx_types.specs.CommittedMap.{ids_of, instance_of, ops_or_empty, commands_in, IsCommitted}
-use Rattle.epx_types.specs.Conflicts.{IsCovered}
-use Rattle.epx_types.specs.Execution.{execute}
 use Rattle.epx_types.specs.Reaching.{DependsOn, Reaches}
 use Rattle.epx_types.specs.Readiness.{IsReady}
-use Rattle.epx_types.specs.Done.{remaining_ids}
 use Rattle.epx_types.specs.LawfulOrders.{SequenceBefore, IsLawfulFor, IsLawful}
 use Rattle.epx_types.proofs.committed.AgreementLemmas.{IsRising-same, instance_of_iff}
 use Rattle.epx_types.proofs.committed.AgreementLemmas.{instance_of-found, instance_of-finds}
 use Rattle.epx_types.proofs.graph.DependencyLemmas.{IsCommitted-from_Contains}
-use Rattle.epx_types.proofs.commands.ExecutionLemmas.{length-replies, execute-append}
-use Rattle.epx_types.proofs.orders.LawfulExecutionLemmas.{reply-lawful}
-use Rattle.epx_types.proofs.orders.LawfulPartLemmas.{IsLawful-part_and_rest}
 use Rattle.epx_types.proofs.lists.MembershipLemmas.{Contains-from_map, map-agree}
 use Rattle.epx_types.proofs.graph.ReachingLemmas.{Reaches-refl, Reaches-trans, Reaches-dependency}
-use Rattle.epx_types.proofs.graph.ReachingLemmas.{Reaches-passes, IsReady-reached}
-use Rattle.epx_types.proofs.lists.BeforeLemmas.{slice_get-append_left}
+use Rattle.epx_types.proofs.graph.ReachingLemmas.{Reaches-passes}
 
 module _ (m more : List Instance) (rising : IsRising (ids_of more))
     (within : (e : Instance) → Contains m e → Contains more e) where
@@ -82,7 +69,7 @@ module _ (m more : List Instance) (rising : IsRising (ids_of more))
         lower = by.lower;
       }
 
-  pub same_ops : (x : Id) → IsCommitted m x
+  same_ops : (x : Id) → IsCommitted m x
       → ops_or_empty (instance_of m x) ≡ ops_or_empty (instance_of more x)
   same_ops x committed =
       let e = instance_in x committed in
@@ -93,65 +80,26 @@ module _ (m more : List Instance) (rising : IsRising (ids_of more))
       (found.1 ∙ sym ((instance_of_iff more rising x found.0).1
       (within found.0 known.0, known.1 ∙ e.2)))
 
-  module _ (ids : List Id) (lawful : IsLawful m ids) where
-    pub lawful_in_more : IsLawfulFor more (IsReady m) ids
-    lawful_in_more = record {
-      once = lawful.once;
-      only = lawful.only;
-      whole = lawful.whole;
-      after_reached = λ x y h there not_back. lawful.after_reached x y h
-          (Reaches-in_less x y (lawful.only x h) there)
-          (λ back. not_back (Reaches-in_more y x back));
-      by_sequence = λ x y h k one lower.
-          let x_ready = lawful.only x h in
-          let y_ready = lawful.only y k in
-          lawful.by_sequence x y h k (
-            Reaches-in_less x y x_ready one.0,
-            Reaches-in_less y x y_ready one.1,
-          )
-          (SequenceBefore-in_less x y x_ready.committed y_ready.committed lower);
-    }
+  -- committed instances have the same commands in both
+  pub commands-in_more : (ids : List Id) → ((x : Id) → Contains ids x → IsCommitted m x)
+      → commands_in m ids ≡ commands_in more ids
+  commands-in_more ids committed = map-agree (λ x. ops_or_empty (instance_of m x))
+      (λ x. ops_or_empty (instance_of more x)) ids (λ x h. same_ops x (committed x h))
 
-    same_commands : commands_in m ids ≡ commands_in more ids
-    same_commands = map-agree (λ x. ops_or_empty (instance_of m x))
-        (λ x. ops_or_empty (instance_of more x)) ids
-        (λ x h. same_ops x (lawful.only x h).committed)
-
-    module _ (covered : IsCovered more) (other : List Id) (lawful' : IsLawful more other)
-        (c : Contents) where
-      -- first the instances that are ready in the lesser map, and then the others
-      in_turn : IsLawful more (ids ++ remaining_ids ids other)
-      in_turn =
-          IsLawful-part_and_rest more (IsReady m) IsReady-in_more
-          (λ x y ready there. IsReady-reached m x y (Reaches-in_less x y ready there) ready)
-          ids other lawful_in_more lawful'
-
-      -- in that order each of the first has the same reply
-      reply_in_turn : (i : ℕ) → i < length ids
-          → slice_get (execute (commands_in more (ids ++ remaining_ids ids other)) c).replies i
-          ≡ slice_get (execute (commands_in m ids) c).replies i
-      reply_in_turn i l =
-          let rest = commands_in more (remaining_ids ids other) in
-          let both : commands_in more (ids ++ remaining_ids ids other)
-          ≡ commands_in m ids ++ rest = map-append (λ x. ops_or_empty (instance_of more x)) ids
-          (remaining_ids ids other) ∙ ap (λ os. os ++ rest) (sym same_commands) in
-          let replies = (execute (commands_in m ids) c).replies in
-          let long : length replies ≡ length ids =
-          length-replies (commands_in m ids) c ∙ length-map ids
-          (λ x. ops_or_empty (instance_of m x)) in
-          let at = slice_get-get_or replies i (Abort 0) (omega (arith, l, long)) in
-          ap (λ os. slice_get (execute os c).replies i) both
-          ∙ ap (λ rs. slice_get rs i) (execute-append (commands_in m ids) rest c).0
-          ∙ slice_get-append_left replies
-          (execute rest (execute (commands_in m ids) c).final).replies i
-          (get_or replies i (Abort 0)) at
-          ∙ sym at
-
-      -- and so it has in every lawful order
-      pub reply-in_more : (i j : ℕ) (x : Id) → slice_get ids i ≡ Some x
-          → slice_get other j ≡ Some x → slice_get (execute (commands_in more other) c).replies j
-          ≡ slice_get (execute (commands_in m ids) c).replies i
-      reply-in_more i j x p q =
-          reply-lawful more rising covered (ids ++ remaining_ids ids other) other in_turn lawful' c
-          i j x (slice_get-append_left ids (remaining_ids ids other) i x p) q
-          ∙ reply_in_turn i (slice_get_within ids i x p)
+  pub lawful_in_more : (ids : List Id) → IsLawful m ids → IsLawfulFor more (IsReady m) ids
+  lawful_in_more ids lawful = record {
+    once = lawful.once;
+    only = lawful.only;
+    whole = lawful.whole;
+    after_reached = λ x y h there not_back. lawful.after_reached x y h
+        (Reaches-in_less x y (lawful.only x h) there)
+        (λ back. not_back (Reaches-in_more y x back));
+    by_sequence = λ x y h k one lower.
+        let x_ready = lawful.only x h in
+        let y_ready = lawful.only y k in
+        lawful.by_sequence x y h k (
+          Reaches-in_less x y x_ready one.0,
+          Reaches-in_less y x y_ready one.1,
+        )
+        (SequenceBefore-in_less x y x_ready.committed y_ready.committed lower);
+  }

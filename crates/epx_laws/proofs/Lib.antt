@@ -12,7 +12,7 @@ mod NameLemmas
 mod RenamedLineLemmas
 mod ReplicaLemmas
 mod TimeLemmas
-mod TurnedOrderLemmas
+mod NotReachedLemmas
 mod AlgorithmLemmas
 mod OutcomeLemmas
 mod SortedComponentLemmas

@@ -1,4 +1,5 @@
--- An instance comes before another that it does not reach, in some lawful order.
+-- An instance comes before another that it does not reach, in some lawful order. So in a map that
+-- is not covered, two instances that conflict may come in either order.
 use Rattle.std.proofs.Common.{◌≡◌, ◌≢◌, ◌⊎◌, Bool, true, false, not, List, ◌++◌, filter, Contains}
 use Rattle.std.proofs.Common.{refl, inl, inr}
 use Rattle.std.proofs.lemmas.List.Kept.{AllPairs-filter}
@@ -7,6 +8,7 @@ use Rattle.epx_types.specs.Ids.{IsRising}
 use Rattle.epx_types.specs.Instances.{Instance}
 use Rattle.epx_types.specs.CommittedMap.{ids_of}
 use Rattle.epx_types.specs.Done.{is_among, remaining_ids}
+use Rattle.epx_types.specs.Conflicts.{IsCovered}
 use Rattle.epx_types.specs.LawfulOrders.{Before, IsLawful, IsLawfulFor}
 use Rattle.epx_types.specs.Reaching.{Reaches}
 use Rattle.epx_types.specs.Readiness.{IsReady}
@@ -16,7 +18,9 @@ use Rattle.epx_types.proofs.lists.BeforeLemmas.{Before-across, Before-filter}
 use Rattle.epx_types.proofs.lists.MembershipLemmas.{Contains-filter, Contains-from_filter}
 use Rattle.epx_types.proofs.lists.MembershipLemmas.{passes-from_filter}
 use Rattle.epx_types.proofs.orders.LawfulPartLemmas.{IsLawful-part_and_rest, passes_rest}
-use Rattle.epx_laws.proofs.ReplicaLemmas.{lawful_order}
+use Rattle.epx_types.proofs.orders.LawfulOrderLemmas.{Before-not_both}
+use Rattle.epx_laws.specs.OrderLaws.{ConflictsAreOrdered}
+use Rattle.epx_laws.proofs.BeginningLemmas.{lawful_order}
 
 -- a test of a property that is decided
 decided : {A : Type 0} → A ⊎ (¬ A) → (b : Bool) × (b ≡ true → A) × (A → b ≡ true)
@@ -88,3 +92,26 @@ pub order_before : (m : List Instance) → IsRising (ids_of m) → (x y : Id) �
 order_before m rising x y ready ready_y not_there =
     let whole = lawful_order m rising in
     turned m x ready whole.0 whole.1 y ready_y not_there
+
+-- if conflicting instances come in the same order in all lawful orders, the map is covered
+pub IsCovered-from_ordered : (m : List Instance) → IsRising (ids_of m) → ConflictsAreOrdered m
+    → IsCovered m
+IsCovered-from_ordered m rising ordered d e in_d in_e apart ready ready' conflict =
+    elim (Reaches-cases m d.id e.id) [
+      | inl there ↦ inl there
+      | inr not_there ↦ elim (Reaches-cases m e.id d.id) [
+        | inl back ↦ inr back
+        | inr not_back ↦
+            let first = order_before m rising d.id e.id ready ready' not_there in
+            let second = order_before m rising e.id d.id ready' ready not_back in
+            absurd (Before-not_both second.0 second.1.once e.id d.id second.2
+            (ordered first.0 second.0 first.1 second.1 d e (record {
+              first = in_d;
+              second = in_e;
+              apart = apart;
+              first_ready = ready;
+              second_ready = ready';
+              conflict = conflict;
+            }) first.2))
+      ]
+    ]

@@ -16,7 +16,6 @@ use Rattle.epx_types.specs.CommittedMap.{ids_of, instance_of, commands_in, ops_o
 use Rattle.epx_types.specs.Conflicts.{Conflict, IsCovered}
 use Rattle.epx_types.specs.Done.{remaining_ids}
 use Rattle.epx_types.specs.Execution.{execute}
-use Rattle.epx_types.specs.ExecutionOrder.{Ranked}
 use Rattle.epx_types.specs.LawfulBeginnings.{IsLawfulBeginning}
 use Rattle.epx_types.specs.LawfulOrders.{Before, IsLawful, IsLawfulFor}
 use Rattle.epx_types.specs.Reaching.{Reaches}
@@ -35,36 +34,17 @@ use Rattle.epx_types.proofs.lists.ListPositionLemmas.{slice_get-from_Contains, C
 use Rattle.epx_types.proofs.lists.ListPositionLemmas.{slice_get-map, AllPairs-from_slice_get}
 use Rattle.epx_types.proofs.lists.ListPositionLemmas.{AllPairs-slice_get}
 use Rattle.epx_types.proofs.lists.MembershipLemmas.{map-agree, Contains-from_map}
-use Rattle.epx_types.proofs.orders.ExecutionOrderLemmas.{IsExecutionOrder-IsLawful}
 use Rattle.epx_types.proofs.orders.LawfulOrderLemmas.{Before-in_first, Before-in_second}
 use Rattle.epx_types.proofs.orders.LawfulOrderLemmas.{Before-alike_reaching, Before-alike_reached}
 use Rattle.epx_types.proofs.orders.LawfulOrderLemmas.{same_position}
 use Rattle.epx_types.proofs.orders.LawfulPartLemmas.{IsLawful-part_and_rest}
-use Rattle.epx_types.proofs.orders.OrderExistenceLemmas.{execution_order_exists}
 use Rattle.epx_laws.specs.GrowthLaws.{IsWithin}
 use Rattle.epx_laws.specs.ReplicaLaws.{HasExecuted}
-use Rattle.epx_laws.proofs.BeginningLemmas.{reply-beginning}
+use Rattle.epx_laws.proofs.BeginningLemmas.{lawful_order, reply-beginning}
 use Rattle.epx_laws.proofs.LargerMapLemmas.{IsReady-in_more, Reaches-in_less, lawful_in_more}
-use Rattle.epx_laws.proofs.LargerMapLemmas.{same_ops}
+use Rattle.epx_laws.proofs.LargerMapLemmas.{commands-in_more}
 
--- each committed map has a lawful order
-pub lawful_order : (m : List Instance) → IsRising (ids_of m) → (ids : List Id) × IsLawful m ids
-lawful_order m rising =
-    let order = execution_order_exists m rising in
-    (map (λ (r : Ranked). r.id) order.0, IsExecutionOrder-IsLawful m order.0 order.1)
-
--- a list that is lawful for ready instances with all that they reach begins a lawful order
-pub IsLawfulBeginning-from_closed : (m : List Instance) → IsRising (ids_of m) → (ids : List Id)
-    → ((x : Id) → Contains ids x → IsReady m x)
-    → ((x y : Id) → Contains ids x → Reaches m x y → Contains ids y)
-    → IsLawfulFor m (Contains ids) ids → IsLawfulBeginning m ids
-IsLawfulBeginning-from_closed m rising ids ready closed lawful =
-    let whole = lawful_order m rising in (
-      remaining_ids ids whole.0,
-      IsLawful-part_and_rest m (Contains ids) ready closed ids whole.0 lawful whole.1,
-    )
-
--- ---- beginnings in greater maps
+-- ---- beginnings in larger maps
 
 module _ (m more : List Instance) (rising : IsRising (ids_of more)) (within : IsWithin m more) where
   pub IsLawfulBeginning-in_more : (ids : List Id) → IsLawfulBeginning m ids
@@ -88,12 +68,10 @@ module _ (m more : List Instance) (rising : IsRising (ids_of more)) (within : Is
       ]
 
   -- a beginning has the same commands in both
-  commands-in_more : (ids : List Id) → IsLawfulBeginning m ids
+  commands-beginning : (ids : List Id) → IsLawfulBeginning m ids
       → commands_in m ids ≡ commands_in more ids
-  commands-in_more ids (rest, lawful) = map-agree (λ x. ops_or_empty (instance_of m x))
-      (λ x. ops_or_empty (instance_of more x)) ids
-      (λ x h. same_ops m more rising within x
-      (lawful.only x (Contains-append_left ids rest x h)).committed)
+  commands-beginning ids (rest, lawful) = commands-in_more m more rising within ids
+      (λ x h. (lawful.only x (Contains-append_left ids rest x h)).committed)
 
 -- ---- the order of a beginning
 
@@ -224,10 +202,10 @@ module _ (m : List Instance) (rising : IsRising (ids_of m)) (covered : IsCovered
   in_whole' = IsLawfulBeginning-in_more b m rising has'.within other has'.begins
 
   commands : commands_in a ids ≡ commands_in m ids
-  commands = commands-in_more a m rising has.within ids has.begins
+  commands = commands-beginning a m rising has.within ids has.begins
 
   commands' : commands_in b other ≡ commands_in m other
-  commands' = commands-in_more b m rising has'.within other has'.begins
+  commands' = commands-beginning b m rising has'.within other has'.begins
 
   pub final-replicas : ((x : Id) → Contains ids x ↔ Contains other x) → (c : Contents)
       → (execute (commands_in a ids) c).final ≡ (execute (commands_in b other) c).final

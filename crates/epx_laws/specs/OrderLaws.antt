@@ -68,11 +68,19 @@ pub record AreReadyAndConflict (m : List Instance) (d e : Instance) : Type 0 whe
   pub second_ready : IsReady m e.id
   pub conflict : Conflict d.ops e.ops
 
--- two ready instances of a covered map that conflict come in the same order in all lawful orders
-abbrev pub ConflictsKeepOrder : Type 0
-ConflictsKeepOrder = (m : List Instance) → IsCovered m → (ids other : List Id) → IsLawful m ids
-    → IsLawful m other →
+-- two ready instances that conflict come in the same order in all lawful orders
+abbrev pub ConflictsAreOrdered : List Instance → Type 0
+ConflictsAreOrdered m = (ids other : List Id) → IsLawful m ids → IsLawful m other →
     (d e : Instance) → AreReadyAndConflict m d e → Before ids d.id e.id → Before other d.id e.id
+
+-- in a covered map they do
+abbrev pub ConflictsKeepOrder : Type 0
+ConflictsKeepOrder = (m : List Instance) → IsCovered m → ConflictsAreOrdered m
+
+-- and where they do, the map is covered
+abbrev pub OrderedConflictsAreCovered : Type 0
+OrderedConflictsAreCovered = (m : List Instance) → IsRising (ids_of m) → ConflictsAreOrdered m
+    → IsCovered m
 
 -- two lawful orders of a covered map leave the same contents, and each instance has the same reply
 abbrev pub LawfulOrdersExecuteAlike : Type 0
@@ -83,8 +91,8 @@ LawfulOrdersExecuteAlike = (m : List Instance) → IsRising (ids_of m) → IsCov
     → slice_get (execute (commands_in m other) c).replies j
     ≡ slice_get (execute (commands_in m ids) c).replies i)
 
--- if x does not reach y, x is before y in some lawful order: where neither reaches the other, the
--- protocol allows both orders
+-- if x does not reach y, x is before y in some lawful order; so where neither reaches the other,
+-- the protocol allows both orders
 abbrev pub NotReachedCanFollow : Type 0
 NotReachedCanFollow = (m : List Instance) → IsRising (ids_of m) → (x y : Id) → IsReady m x
     → IsReady m y → ¬ Reaches m x y → (ids : List Id) × IsLawful m ids × Before ids x y

@@ -4,6 +4,7 @@ ghost use Rattle.epx_laws.specs.OrderLaws.{RelatedKeepOrder, LawfulOrdersHaveSam
 ghost use Rattle.epx_laws.specs.OrderLaws.{LawfulOrdersExecuteAlike, ConflictsKeepOrder};
 ghost use Rattle.epx_laws.specs.OrderLaws.{ExecutionOrderIsUnique, ExecutionOrderIsLawful};
 ghost use Rattle.epx_laws.specs.OrderLaws.{LeadersAreInOrder, NotReachedCanFollow};
+ghost use Rattle.epx_laws.specs.OrderLaws.{OrderedConflictsAreCovered};
 
 /// A committed map has an execution order.
 pub fn execution_order_exists()
@@ -38,6 +39,12 @@ pub fn lawful_orders_have_same_ids()
 /// Two ready instances of a covered map that conflict come in the same order in all lawful orders.
 pub fn conflicts_keep_order()
     ensures { ConflictsKeepOrder }
+{}
+
+/// If any two ready instances that conflict come in the same order in all lawful orders, the map is
+/// covered.
+pub fn ordered_conflicts_are_covered()
+    ensures { OrderedConflictsAreCovered }
 {}
 
 /// Two lawful orders of a covered map leave the same contents, and each instance has the same

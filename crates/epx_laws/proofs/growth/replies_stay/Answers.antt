@@ -1,6 +1,10 @@
-use Rattle.epx_laws.proofs.LargerMapLemmas.{reply-in_more}
+use Rattle.epx_laws.proofs.BeginningLemmas.{IsLawfulBeginning-whole}
+use Rattle.epx_laws.proofs.ReplicaLemmas.{reply-replicas}
 use Rattle.epx_laws.proofs.growth.replies_stay.Goals as goal
 
 pub returns : goal.returns
-returns c = λ m more rising within covered ids other lawful.
-    reply-in_more m more rising within ids lawful covered other
+returns c = λ m more rising within covered ids other lawful lawful' d i j x p q.
+    reply-replicas more rising covered more m other ids
+    (record { within = λ e h. h; begins = IsLawfulBeginning-whole more other lawful' })
+    (record { within = within; begins = IsLawfulBeginning-whole m ids lawful })
+    d j i x q p

@@ -1,4 +1,4 @@
-use Rattle.epx_laws.proofs.TurnedOrderLemmas.{order_before}
+use Rattle.epx_laws.proofs.NotReachedLemmas.{order_before}
 use Rattle.epx_laws.proofs.order.not_reached_can_follow.Goals as goal
 
 pub returns : goal.returns
