@@ -22,7 +22,7 @@ use Rattle.epx_types.proofs.lists.MembershipLemmas.{Contains-from_flat_map, Cont
 use Rattle.epx_types.proofs.lists.MembershipLemmas.{Contains-cons}
 use Rattle.epx_types.proofs.lists.TotalOrderLemmas.{below_asymm}
 use Rattle.epx_types.proofs.orders.LawfulOrderLemmas.{Before-cases}
-use Rattle.epx_laws.specs.AlgorithmLaws.{listed, AreSortedComponents}
+use Rattle.epx_laws.specs.AlgorithmLaws.{all_members, AreSortedComponents}
 
 -- no two instances are each before the other by sequence number
 pub SequenceBefore-not_both : (m : List Instance) → IsRising (ids_of m) → (x y : Id)
@@ -39,14 +39,14 @@ SequenceBefore-not_both m rising x y by back =
     turned
 
 -- a property holds of all pairs of joined lists if it holds in each, and between them
-AllPairs-listed : (R : Id → Id → Type 0) (css : List (List Id))
+AllPairs-all_members : (R : Id → Id → Type 0) (css : List (List Id))
     → ((c : List Id) → Contains css c → AllPairs R c)
     → AllPairs (λ c d. (x y : Id) → Contains c x → Contains d y → R x y) css
     → AllPairs R (flat_map (λ c. c) css)
-AllPairs-listed R [] inside across = λ i j d l k. absurd (omega arith)
-AllPairs-listed R (c ∷ css) inside across =
+AllPairs-all_members R [] inside across = λ i j d l k. absurd (omega arith)
+AllPairs-all_members R (c ∷ css) inside across =
     AllPairs-append R c (flat_map (λ c. c) css) (inside c (Contains-head c css))
-    (AllPairs-listed R css (λ d h. inside d (Contains-cons c css d h))
+    (AllPairs-all_members R css (λ d h. inside d (Contains-cons c css d h))
     (AllPairs-tail (λ c d. (x y : Id) → Contains c x → Contains d y → R x y) c css across))
     (λ x y in_x in_y.
     let d = Contains-from_flat_map (λ (c : List Id). c) css y in_y in
@@ -63,7 +63,7 @@ module _ (m : List Instance) (rising : IsRising (ids_of m)) (components : List (
 
   inside : (c : List Id) → Contains components c → AllPairs InTurn c
   inside c h = AllPairs-from_slice_get InTurn c (λ i j x y l p q.
-      let one = sorted.one c h x y (Contains-slice_get c i x p) (Contains-slice_get c j y q) in
+      let one = sorted.together c h x y (Contains-slice_get c i x p) (Contains-slice_get c j y q) in
       let before = AllPairs-slice_get (SequenceBefore m) c (sorted.by_sequence c h) i j x y l p q in
       record {
         apart = λ same.
@@ -82,28 +82,28 @@ module _ (m : List Instance) (rising : IsRising (ids_of m)) (components : List (
         lower = λ one. absurd (none one.0);
       }
 
-  in_turn : AllPairs InTurn (listed components)
-  in_turn = AllPairs-listed InTurn components inside across
+  in_turn : AllPairs InTurn (all_members components)
+  in_turn = AllPairs-all_members InTurn components inside across
 
-  turn_of : (x y : Id) → Before (listed components) x y → InTurn x y
+  turn_of : (x y : Id) → Before (all_members components) x y → InTurn x y
   turn_of x y (i, j, l, p, q) =
-      AllPairs-slice_get InTurn (listed components) in_turn i j x y l p q
+      AllPairs-slice_get InTurn (all_members components) in_turn i j x y l p q
 
-  pub IsLawful-listed : IsLawful m (listed components)
-  IsLawful-listed = record {
-    once = AllPairs-from_slice_get (λ x y. x ≢ y) (listed components)
+  pub IsLawful-all_members : IsLawful m (all_members components)
+  IsLawful-all_members = record {
+    once = AllPairs-from_slice_get (λ x y. x ≢ y) (all_members components)
         (λ i j x y l p q. (turn_of x y (i, j, l, p, q)).apart);
     only = λ x h. (sorted.members x).0 h;
     whole = λ x ready. (sorted.members x).1 ready;
     after_reached = λ x y h there not_back.
         let in_y = (sorted.members y).1 (IsReady-reached m x y there ((sorted.members x).0 h)) in
-        elim (Before-cases (listed components) y x in_y h
+        elim (Before-cases (all_members components) y x in_y h
         (λ same. not_back (inl same))) [
           | inl so ↦ so
           | inr turned ↦ absurd (not_back ((turn_of x y turned).back there))
         ];
     by_sequence = λ x y h k one lower.
-        elim (Before-cases (listed components) x y h k (λ same.
+        elim (Before-cases (all_members components) x y h k (λ same.
         let itself = subst (λ (z : Id). SequenceBefore m z y) same lower in
         SequenceBefore-not_both m rising y y itself itself)) [
           | inl so ↦ so

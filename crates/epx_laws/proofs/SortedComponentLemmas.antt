@@ -34,7 +34,7 @@ use Rattle.epx_types.proofs.orders.ExecutionOrderLemmas.{IsExecutionOrder-ranked
 use Rattle.epx_types.proofs.orders.LawfulOrderLemmas.{Before-differ, Before-in_first}
 use Rattle.epx_types.proofs.orders.LawfulOrderLemmas.{Before-in_second, Before-not_both}
 use Rattle.epx_types.proofs.orders.OrderExistenceLemmas.{execution_order_exists}
-use Rattle.epx_laws.specs.AlgorithmLaws.{listed, AreSortedComponents}
+use Rattle.epx_laws.specs.AlgorithmLaws.{all_members, AreSortedComponents}
 use Rattle.epx_laws.proofs.ComponentCountLemmas.{leads, leaders_of, leaders_of-lead}
 use Rattle.epx_laws.proofs.ComponentCountLemmas.{Contains-leaders_of}
 
@@ -156,8 +156,8 @@ module _ (m : List Instance) (order : List Ranked) (h : IsExecutionOrder m order
             not_back)
       ]
 
-  to_listed : (x : Id) → IsReady m x → Contains (listed components) x
-  to_listed x ready =
+  to_members : (x : Id) → IsReady m x → Contains (all_members components) x
+  to_members x ready =
       let r = IsExecutionOrder-ranked m order h x ready in
       let passes : led_by r.0.leader r.0 ≡ true =
       ap is_eq (tied_itself id_cmp_total r.0.leader) in
@@ -168,8 +168,8 @@ module _ (m : List Instance) (order : List Ranked) (h : IsExecutionOrder m order
       (Contains-map (λ (r : Ranked). r.id) (filter (led_by r.0.leader) order) r.0
       (Contains-filter (led_by r.0.leader) order r.0 r.1 passes)))
 
-  from_listed : (x : Id) → Contains (listed components) x → IsReady m x
-  from_listed x in_x =
+  from_members : (x : Id) → Contains (all_members components) x → IsReady m x
+  from_members x in_x =
       let c = Contains-from_flat_map (λ (c : List Id). c) components x in_x in
       let l = Contains-from_map component (leaders_of order) c.0 c.1 in
       let r = in_component l.0 x (subst (λ (c : List Id). Contains c x) (sym l.2) c.2) in
@@ -190,8 +190,8 @@ module _ (m : List Instance) (order : List Ranked) (h : IsExecutionOrder m order
 
   pub AreSortedComponents-order : AreSortedComponents m components
   AreSortedComponents-order = record {
-    members = λ x. (from_listed x, to_listed x);
-    one = λ c in_c x y in_x in_y.
+    members = λ x. (from_members x, to_members x);
+    together = λ c in_c x y in_x in_y.
         let l = Contains-from_map component (leaders_of order) c in_c in
         let of_x = with_leader l.0 x (subst (λ (c : List Id). Contains c x) (sym l.2) in_x) in
         let of_y = with_leader l.0 y (subst (λ (c : List Id). Contains c y) (sym l.2) in_y) in

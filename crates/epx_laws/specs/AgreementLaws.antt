@@ -39,14 +39,14 @@ abbrev pub PositionHasInstance : Type 0
 PositionHasInstance = (m : List Instance) → IsRising (ids_of m) → (x : Id) (i : ℕ)
     → (position_of m x ≡ Some i) ↔ (e : Instance) × (slice_get m i ≡ Some e) × (e.id ≡ x)
 
--- the instance of each of some lines is that of one of these lines
+-- each instance that the other lines give, some of these lines gives
 abbrev pub HaveInstancesOf : List Placed → List Placed → Type 0
 HaveInstancesOf lines other = (p : Placed) → Contains other p → (q : Placed) × Contains lines q
     × (q.instance ≡ p.instance)
 
--- lines with the same instances commit the same map: the order of the logs, repeated lines and
--- lines that commit nothing change no answer
+-- lines with the same instances commit the same map: neither the order of logs and lines nor
+-- repeated lines change what is committed
 abbrev pub SameInstancesCommitAlike : Type 0
 SameInstancesCommitAlike = (lines other : List Placed) → HaveInstancesOf lines other
     → HaveInstancesOf other lines →
-    (m : List Instance) → IsCommittedBy lines m → IsCommittedBy other m
+    (m : List Instance) → IsCommittedBy lines m ↔ IsCommittedBy other m

@@ -1,4 +1,4 @@
--- Laws of the algorithm by which the protocol executes: component by component.
+-- Laws of the algorithm by which the protocol executes, component by component.
 use Rattle.std.specs.Prelude.{◌↔◌, List, Contains, AllPairs}
 use Rattle.std.specs.List.{flat_map}
 use Rattle.epx_types.specs.declared.id.Id.{Id}
@@ -10,16 +10,16 @@ use Rattle.epx_types.specs.LawfulOrders.{SequenceBefore, IsLawful}
 use Rattle.epx_types.specs.Reaching.{Reaches}
 use Rattle.epx_types.specs.Readiness.{IsReady}
 
--- the members of some lists, list by list
-abbrev pub listed : List (List Id) → List Id
-listed components = flat_map (λ c. c) components
+-- the members of the components, one component after another
+abbrev pub all_members : List (List Id) → List Id
+all_members components = flat_map (λ c. c) components
 
--- The components of the ready instances, sorted: each ready instance is listed and no other, each
--- list has members of one component, no member reaches one of a later list, and the members of a
--- list come by sequence number, replica and number
+-- The components of the ready instances, as the protocol executes them. Their members are the
+-- ready instances. The members of one component reach each other. A component comes after each
+-- that it reaches. Inside a component the members come by sequence number, replica and number
 pub record AreSortedComponents (m : List Instance) (components : List (List Id)) : Type 0 where
-  pub members : (x : Id) → Contains (listed components) x ↔ IsReady m x
-  pub one : (c : List Id) → Contains components c → (x y : Id) → Contains c x → Contains c y
+  pub members : (x : Id) → Contains (all_members components) x ↔ IsReady m x
+  pub together : (c : List Id) → Contains components c → (x y : Id) → Contains c x → Contains c y
       → InOneComponent m x y
   pub reached_first : AllPairs
       (λ c d. (x y : Id) → Contains c x → Contains d y → ¬ Reaches m x y) components
@@ -28,7 +28,7 @@ pub record AreSortedComponents (m : List Instance) (components : List (List Id))
 -- executing sorted components one after another is lawful
 abbrev pub AlgorithmIsLawful : Type 0
 AlgorithmIsLawful = (m : List Instance) → IsRising (ids_of m) → (components : List (List Id))
-    → AreSortedComponents m components → IsLawful m (listed components)
+    → AreSortedComponents m components → IsLawful m (all_members components)
 
 -- each committed map has sorted components
 abbrev pub SortedComponentsExist : Type 0

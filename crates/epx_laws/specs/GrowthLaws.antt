@@ -10,6 +10,7 @@ use Rattle.epx_types.specs.Execution.{execute}
 use Rattle.epx_types.specs.Readiness.{IsReady}
 use Rattle.epx_types.specs.Conflicts.{IsCovered}
 use Rattle.epx_types.specs.LawfulOrders.{IsLawful}
+use Rattle.epx_laws.specs.AgreementLaws.{HaveInstancesOf}
 
 -- each instance of m is an instance of the other map
 abbrev pub IsWithin : List Instance → List Instance → Type 0
@@ -18,9 +19,7 @@ IsWithin m more = (e : Instance) → Contains m e → Contains more e
 -- if more lines commit all instances that some lines commit, the map of the former contains the
 -- map of the latter
 abbrev pub MoreLinesCommitMore : Type 0
-MoreLinesCommitMore = (lines more : List Placed)
-    → ((p : Placed) → Contains lines p → (q : Placed) × Contains more q
-    × (q.instance ≡ p.instance)) →
+MoreLinesCommitMore = (lines more : List Placed) → HaveInstancesOf more lines →
     (m n : List Instance) → IsCommittedBy lines m → IsCommittedBy more n → IsWithin m n
 
 -- an instance that is ready in a map is ready in every map that contains it
