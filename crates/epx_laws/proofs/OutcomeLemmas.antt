@@ -6,6 +6,7 @@ use Rattle.std.specs.Ordering.{is_eq, eq_by_cmp}
 use Rattle.std.specs.Cmp.{Equal-is, tied_itself}
 use Rattle.std.proofs.lemmas.Cmp.{eq_by_cmp_equiv}
 use Rattle.std.proofs.lemmas.List.{length-map, length-append}
+use Rattle.std.proofs.lemmas.List.Sums.{count_by-le-length}
 use Rattle.std.proofs.lemmas.List.Elements.{Contains-append_left, Contains-append_right}
 use Rattle.std.proofs.lemmas.List.Elements.{Contains-append_cases}
 use Rattle.std.proofs.lemmas.Map.Made.{length-le_from_is_member, is_member-Decides}
@@ -128,4 +129,5 @@ module _ (m : List Instance) (rising : IsRising (ids_of m)) (order : List Ranked
     executed_once = executed_once;
     waiting_once = waiting_once;
     counted = counted;
+    components = count_by-le-length (λ (r : Ranked). is_eq (id_cmp r.id r.leader)) order;
   }

@@ -1,11 +1,9 @@
 -- The components of an execution order, each with its members in that order, are sorted.
-use Rattle.std.proofs.Common.{◌≡◌, ◌≢◌, ◌⊎◌, ◌<◌, ℕ, Bool, true, List, map, filter, Contains}
-use Rattle.std.proofs.Common.{AllPairs}
-use Rattle.std.proofs.Common.{Some, slice_get, sym, ap, subst, subst₂, inl, inr, is_lt, nat_cmp}
+use Rattle.std.proofs.Common.{◌≡◌, ◌≢◌, ◌<◌, ◌∙◌, ℕ, Bool, true, List, map, filter, Contains}
+use Rattle.std.proofs.Common.{AllPairs, Some, slice_get, sym, ap, ap₂, subst, subst₂, inl, inr}
+use Rattle.std.proofs.Common.{is_lt, nat_cmp, Equal}
 use Rattle.std.specs.Ordering.{is_eq, ordering_then}
-use Rattle.std.specs.Cmp.{Equal-is, nat_cmp_total, on_total, then_total, tied_itself}
-use Rattle.std.specs.declared.cmp.Ordering.{Ordering}
-use Rattle.std.specs.FinMap.{IsAntisymmetric, nat_cmp-IsAntisymmetric}
+use Rattle.std.specs.Cmp.{Equal-is, nat_cmp_total, tied_itself}
 use Rattle.std.proofs.lemmas.List.Kept.{AllPairs-filter}
 use Rattle.epx_types.specs.declared.id.Id.{Id}
 use Rattle.epx_types.specs.Ids.{id_cmp, IsRising}
@@ -19,62 +17,23 @@ use Rattle.epx_types.specs.Readiness.{IsReady}
 use Rattle.epx_types.proofs.graph.ReachingDecisionLemmas.{Reaches-cases}
 use Rattle.epx_types.proofs.graph.ReachingLemmas.{IsLeader-along, IsLeader-unique, Reaches-trans}
 use Rattle.epx_types.proofs.graph.ReachingLemmas.{InOneComponent-symm, InOneComponent-trans}
+use Rattle.epx_types.proofs.graph.ReachingLemmas.{IsDepth-along, IsDepth-unique}
 use Rattle.epx_types.proofs.lists.ComparisonLemmas.{id_cmp_total, id_cmp-IsAntisymmetric}
-use Rattle.epx_types.proofs.lists.ComparisonLemmas.{first_is_equal, second_is_equal}
 use Rattle.epx_types.proofs.lists.ListPositionLemmas.{AllPairs-from_slice_get, AllPairs-slice_get}
 use Rattle.epx_types.proofs.lists.ListPositionLemmas.{Contains-slice_get, slice_get-from_map}
 use Rattle.epx_types.proofs.lists.MembershipLemmas.{Contains-filter, Contains-from_filter}
 use Rattle.epx_types.proofs.lists.MembershipLemmas.{Contains-map, Contains-from_map}
 use Rattle.epx_types.proofs.lists.MembershipLemmas.{Contains-flat_map, Contains-from_flat_map}
 use Rattle.epx_types.proofs.lists.MembershipLemmas.{passes-from_filter}
-use Rattle.epx_types.proofs.lists.TotalOrderLemmas.{below_cases}
 use Rattle.epx_types.proofs.orders.ExecutionOrderLemmas.{Before-from_rank}
 use Rattle.epx_types.proofs.orders.ExecutionOrderLemmas.{IsExecutionOrder-IsLawful}
 use Rattle.epx_types.proofs.orders.ExecutionOrderLemmas.{IsExecutionOrder-ranked}
 use Rattle.epx_types.proofs.orders.LawfulOrderLemmas.{Before-differ, Before-in_first}
-use Rattle.epx_types.proofs.orders.LawfulOrderLemmas.{Before-in_second, Before-not_both}
+use Rattle.epx_types.proofs.orders.LawfulOrderLemmas.{Before-not_both}
 use Rattle.epx_types.proofs.orders.OrderExistenceLemmas.{execution_order_exists}
 use Rattle.epx_laws.specs.AlgorithmLaws.{all_members, AreSortedComponents}
 use Rattle.epx_laws.proofs.ComponentCountLemmas.{leads, leaders_of, leaders_of-lead}
 use Rattle.epx_laws.proofs.ComponentCountLemmas.{Contains-leaders_of}
-
--- by sequence number, then by Id
-abbrev sequence_cmp : ℕ × Id → ℕ × Id → Ordering
-sequence_cmp a b = ordering_then (nat_cmp a.0 b.0) (id_cmp a.1 b.1)
-
-sequence_cmp-IsAntisymmetric : IsAntisymmetric sequence_cmp
-sequence_cmp-IsAntisymmetric a b e =
-    let seq = nat_cmp-IsAntisymmetric a.0 b.0 (first_is_equal _ _ e) in
-    let id = id_cmp-IsAntisymmetric a.1 b.1 (second_is_equal _ _ e) in
-    λ i. (seq i, id i)
-
--- of two different committed instances, one is before the other by sequence number
-SequenceBefore-cases : (m : List Instance) (x y : Id) → Contains (ids_of m) x
-    → Contains (ids_of m) y → x ≢ y → SequenceBefore m x y ⊎ SequenceBefore m y x
-SequenceBefore-cases m x y in_x in_y differ =
-    let d = Contains-from_map (λ (e : Instance). e.id) m x in_x in
-    let e = Contains-from_map (λ (e : Instance). e.id) m y in_y in
-    elim (below_cases (then_total (on_total (λ (a : ℕ × Id). a.0) nat_cmp_total)
-    (on_total (λ (a : ℕ × Id). a.1) id_cmp_total)) sequence_cmp-IsAntisymmetric (d.0.seq, x)
-    (e.0.seq, y)) [
-      | inl l ↦ inl (before d e l)
-      | inr (inl same) ↦ absurd (differ (ap (λ (a : ℕ × Id). a.1) same))
-      | inr (inr l) ↦ inr (before e d l)
-    ]
-  where
-    before : {v w : Id} (f : (i : Instance) × Contains m i × (i.id ≡ v))
-        (g : (i : Instance) × Contains m i × (i.id ≡ w))
-        → is_lt (ordering_then (nat_cmp f.0.seq g.0.seq) (id_cmp v w)) ≡ true
-        → SequenceBefore m v w
-    before f g lower = record {
-      first = f.0;
-      second = g.0;
-      first_in = f.1;
-      first_is = f.2;
-      second_in = g.1;
-      second_is = g.2;
-      lower = lower;
-    }
 
 module _ (m : List Instance) (order : List Ranked) (h : IsExecutionOrder m order) where
   lawful : IsLawful m (ranked_ids order)
@@ -114,33 +73,36 @@ module _ (m : List Instance) (order : List Ranked) (h : IsExecutionOrder m order
       let leader : IsLeader m r.0.id l = subst (IsLeader m r.0.id) r.2 (h.ranked r.0 r.1).leader in
       IsLeader-along m r.0.id l l leader.member leader
 
-  -- ranks that pass a test come in the order of the whole
-  before_in : (p : Ranked → Bool) (i j : ℕ) (x y : Id) → i < j
-      → slice_get (map (λ r. r.id) (filter p order)) i ≡ Some x
-      → slice_get (map (λ r. r.id) (filter p order)) j ≡ Some y → Before (ranked_ids order) x y
-  before_in p i j x y l at_x at_y =
-      let a = slice_get-from_map (λ (r : Ranked). r.id) (filter p order) i x at_x in
-      let b = slice_get-from_map (λ (r : Ranked). r.id) (filter p order) j y at_y in
-      let lower = AllPairs-slice_get RanksBelow (filter p order)
-      (AllPairs-filter RanksBelow p order h.rising) i j a.0 b.0 l a.1 b.1 in
-      subst₂ (Before (ranked_ids order)) a.2 b.2
-      (Before-from_rank order h.rising a.0 b.0
-      (Contains-from_filter p order a.0 (Contains-slice_get (filter p order) i a.0 a.1))
-      (Contains-from_filter p order b.0 (Contains-slice_get (filter p order) j b.0 b.1)) lower)
-
-  -- members of one component come by sequence number
-  by_sequence : (x y : Id) → Before (ranked_ids order) x y → InOneComponent m x y
-      → SequenceBefore m x y
-  by_sequence x y before one =
-      let in_x = Before-in_first (ranked_ids order) x y before in
-      let in_y = Before-in_second (ranked_ids order) x y before in
-      elim (SequenceBefore-cases m x y (lawful.only x in_x).committed (lawful.only y in_y).committed
-      (Before-differ (ranked_ids order) lawful.once x y before)) [
-        | inl so ↦ so
-        | inr turned ↦ absurd
-            (Before-not_both (ranked_ids order) lawful.once x y before
-            (lawful.by_sequence y x in_y in_x (one.1, one.0) turned))
-      ]
+  -- members of one component come by sequence number, since they have the same depth and leader
+  by_sequence : (r s : Ranked) → Contains order r → Contains order s → RanksBelow r s
+      → InOneComponent m r.id s.id → SequenceBefore m r.id s.id
+  by_sequence r s in_r in_s below one =
+      let a = h.ranked r in_r in
+      let b = h.ranked s in_s in
+      let d = Contains-from_map (λ (e : Instance). e.id) m r.id a.ready.committed in
+      let e = Contains-from_map (λ (e : Instance). e.id) m s.id b.ready.committed in
+      let depth = IsDepth-unique m s.id r.depth s.depth
+      (IsDepth-along m r.id s.id r.depth one a.depth) b.depth in
+      let leader = IsLeader-unique m s.id r.leader s.leader
+      (IsLeader-along m r.id s.id r.leader one a.leader) b.leader in
+      let rest = ordering_then (nat_cmp r.seq s.seq) (id_cmp r.id s.id) in
+      let same_depth : nat_cmp r.depth s.depth ≡ Equal =
+      ap (nat_cmp r.depth) (sym depth) ∙ tied_itself nat_cmp_total r.depth in
+      let same_leader : id_cmp r.leader s.leader ≡ Equal =
+      ap (id_cmp r.leader) (sym leader) ∙ tied_itself id_cmp_total r.leader in
+      record {
+        first = d.0;
+        second = e.0;
+        first_in = d.1;
+        first_is = d.2;
+        second_in = e.1;
+        second_is = e.2;
+        lower = ap₂ (λ j k. is_lt (ordering_then (nat_cmp j k) (id_cmp r.id s.id)))
+            (a.seq d.0 d.1 d.2) (b.seq e.0 e.1 e.2)
+            ∙ sym (ap₂ (λ o p. is_lt (ordering_then o (ordering_then p rest))) same_depth
+            same_leader)
+            ∙ below;
+      }
 
   -- a leader reaches no later one
   not_later : (l k : Id) → Contains (leaders_of order) l → Contains (leaders_of order) k
@@ -178,15 +140,34 @@ module _ (m : List Instance) (order : List Ranked) (h : IsExecutionOrder m order
   leaders_before : (i j : ℕ) (l k : Id) → i < j → slice_get (leaders_of order) i ≡ Some l
       → slice_get (leaders_of order) j ≡ Some k → Before (ranked_ids order) l k
   unfolding leaders_of
-  leaders_before i j l k less at_l at_k = before_in leads i j l k less at_l at_k
+  leaders_before i j l k less at_l at_k =
+      let a = slice_get-from_map (λ (r : Ranked). r.id) (filter leads order) i l at_l in
+      let b = slice_get-from_map (λ (r : Ranked). r.id) (filter leads order) j k at_k in
+      let lower = AllPairs-slice_get RanksBelow (filter leads order)
+      (AllPairs-filter RanksBelow leads order h.rising) i j a.0 b.0 less a.1 b.1 in
+      subst₂ (Before (ranked_ids order)) a.2 b.2
+      (Before-from_rank order h.rising a.0 b.0
+      (Contains-from_filter leads order a.0 (Contains-slice_get (filter leads order) i a.0 a.1))
+      (Contains-from_filter leads order b.0 (Contains-slice_get (filter leads order) j b.0 b.1))
+      lower)
 
   sorted_by : (l : Id) → AllPairs (SequenceBefore m) (component l)
   sorted_by l = AllPairs-from_slice_get (SequenceBefore m) (component l)
       (λ i j x y less at_x at_y.
+      let r = slice_get-from_map (λ (r : Ranked). r.id) (filter (led_by l) order) i x at_x in
+      let s = slice_get-from_map (λ (r : Ranked). r.id) (filter (led_by l) order) j y at_y in
       let of_x = with_leader l x (Contains-slice_get (component l) i x at_x) in
       let of_y = with_leader l y (Contains-slice_get (component l) j y at_y) in
-      by_sequence x y (before_in (led_by l) i j x y less at_x at_y)
-      (InOneComponent-trans m x l y of_x (InOneComponent-symm m y l of_y)))
+      subst₂ (SequenceBefore m) r.2 s.2
+      (by_sequence r.0 s.0
+      (Contains-from_filter (led_by l) order r.0
+      (Contains-slice_get (filter (led_by l) order) i r.0 r.1))
+      (Contains-from_filter (led_by l) order s.0
+      (Contains-slice_get (filter (led_by l) order) j s.0 s.1))
+      (AllPairs-slice_get RanksBelow (filter (led_by l) order)
+      (AllPairs-filter RanksBelow (led_by l) order h.rising) i j r.0 s.0 less r.1 s.1)
+      (subst₂ (InOneComponent m) (sym r.2) (sym s.2)
+      (InOneComponent-trans m x l y of_x (InOneComponent-symm m y l of_y)))))
 
   pub AreSortedComponents-order : AreSortedComponents m components
   AreSortedComponents-order = record {
