@@ -39,7 +39,7 @@ abbrev pub PositionHasInstance : Type 0
 PositionHasInstance = (m : List Instance) → IsRising (ids_of m) → (x : Id) (i : ℕ)
     → (position_of m x ≡ Some i) ↔ (e : Instance) × (slice_get m i ≡ Some e) × (e.id ≡ x)
 
--- each instance that the other lines give, some of these lines gives
+-- each instance of the other lines is that of one of these lines
 abbrev pub HaveInstancesOf : List Placed → List Placed → Type 0
 HaveInstancesOf lines other = (p : Placed) → Contains other p → (q : Placed) × Contains lines q
     × (q.instance ≡ p.instance)

@@ -57,12 +57,12 @@ pub record AreByLevel (levels positions : List ℕ) : Type 0 where
   pub lower_first : (i j : ℕ) → i < length levels → j < length levels
       → slice_index levels i < slice_index levels j → Before positions i j
 
--- commands that are executed level by level are a rearrangement
+-- executing level by level is a rearrangement: it keeps the order of commands that conflict
 abbrev pub LevelsRearrange : Type 0
 LevelsRearrange = (commands : List (List Op)) (levels positions : List ℕ)
     → AreLevels commands levels → AreByLevel levels positions → IsRearrangement commands positions
 
--- the positions of each level, rising, one level after another, are such positions
+-- the positions of level 0, then those of level 1, and so on, are by level
 abbrev pub LevelsInTurnAreByLevel : Type 0
 LevelsInTurnAreByLevel = (levels : List ℕ)
     → AreByLevel levels (flat_map (level_positions levels) (range_with_len 0 (level_count levels)))

@@ -10,8 +10,8 @@ use Rattle.epx_types.specs.Conflicts.{IsCovered}
 use Rattle.epx_types.specs.LawfulBeginnings.{IsLawfulBeginning}
 use Rattle.epx_laws.specs.GrowthLaws.{IsWithin}
 
--- what a lawful order of a map begins with, a lawful order of every map that contains it begins
--- with too: what a replica has executed stays lawful whatever is committed later
+-- a beginning of a lawful order of a map is one of every map that contains it: what a replica has
+-- executed stays lawful, whatever is committed later
 abbrev pub BeginningsStay : Type 0
 BeginningsStay = (m more : List Instance) → IsRising (ids_of more) → IsWithin m more
     → (ids : List Id) → IsLawfulBeginning m ids → IsLawfulBeginning more ids
@@ -21,13 +21,13 @@ abbrev pub PartsAreCovered : Type 0
 PartsAreCovered = (m more : List Instance) → IsRising (ids_of more) → IsWithin m more
     → IsCovered more → IsCovered m
 
--- a replica knows a part of the map m, and has executed what a lawful order of that part begins
--- with
+-- a replica knows a part of the map m, and has executed a beginning of a lawful order of that part
 pub record HasExecuted (m known : List Instance) (ids : List Id) : Type 0 where
   pub within : IsWithin known m
   pub begins : IsLawfulBeginning known ids
 
--- two replicas that know parts of one covered map have given an instance the same reply
+-- two replicas that know parts of one covered map gave the same reply to each instance that both
+-- have executed
 abbrev pub ReplicasReplyAlike : Type 0
 ReplicasReplyAlike = (m : List Instance) → IsRising (ids_of m) → IsCovered m
     → (a b : List Instance) (ids other : List Id) → HasExecuted m a ids → HasExecuted m b other

@@ -44,12 +44,12 @@ pub fn each_level_is_reached()
     ensures { EachLevelIsReached }
 {}
 
-/// Commands that are executed level by level are a rearrangement, in any order inside a level.
+/// Executing level by level keeps the order of commands that conflict, in any order inside a level.
 pub fn levels_rearrange()
     ensures { LevelsRearrange }
 {}
 
-/// The positions of each level, one level after another, are by level.
+/// The positions of level 0, then those of level 1, and so on, are by level.
 pub fn levels_in_turn_are_by_level()
     ensures { LevelsInTurnAreByLevel }
 {}

@@ -58,7 +58,7 @@ pub fn components_are_counted()
     ensures { ComponentsAreCounted }
 {}
 
-/// If x does not reach y, x is before y in some lawful order.
+/// If a ready instance does not reach another, it comes before that one in some lawful order.
 pub fn not_reached_can_follow()
     ensures { NotReachedCanFollow }
 {}

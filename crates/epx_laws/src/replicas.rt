@@ -2,7 +2,7 @@
 ghost use Rattle.epx_laws.specs.ReplicaLaws.{BeginningsStay, PartsAreCovered};
 ghost use Rattle.epx_laws.specs.ReplicaLaws.{ReplicasReplyAlike, ReplicasStoreAlike};
 
-/// A lawful beginning of a map is one of every map that contains it.
+/// What a replica has executed stays lawful, whatever is committed later.
 pub fn beginnings_stay()
     ensures { BeginningsStay }
 {}
@@ -12,12 +12,13 @@ pub fn parts_are_covered()
     ensures { PartsAreCovered }
 {}
 
-/// Replicas that know parts of one covered map give an instance the same reply.
+/// Replicas that know parts of one covered map give the same reply to each instance that both have
+/// executed.
 pub fn replicas_reply_alike()
     ensures { ReplicasReplyAlike }
 {}
 
-/// Replicas that have executed the same instances have the same contents.
+/// If they have executed the same instances, they have the same contents.
 pub fn replicas_store_alike()
     ensures { ReplicasStoreAlike }
 {}
