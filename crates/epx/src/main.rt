@@ -24,7 +24,14 @@ fn main(rt: HostRuntime) -> ExitCode {
     let kind = kind_of_input(&rt);
     let mut output = StdSink::new(rt.stdout());
     let words = env::args(&rt);
-    let status = start(&rt, words, kind, StdSource::new(rt.stdin()), &mut output);
+    let status = start(
+        &rt,
+        &rt,
+        words,
+        kind,
+        StdSource::new(rt.stdin()),
+        &mut output,
+    );
     drop(held);
     status
 }

@@ -35,40 +35,40 @@ fn main(rt: HostRuntime) -> io::Result<ExitCode> {
 
     for words in word_lists() {
         println!(rt; "== {words:?}")?;
-        let test_runtime = TestRuntime { rt: &rt, words };
-        let args = env::args(&test_runtime);
+        let host = TestRuntime { rt: &rt, words };
+        let args = env::args(&host);
         let input = StdSource::new(rt.stdin());
         let mut output = StdSink::new(rt.stdout());
-        let status = start(&test_runtime, args, InputKind::Other, input, &mut output);
+        let status = start(&host, &host, args, InputKind::Other, input, &mut output);
         println!(rt; "== {status:?}")?;
     }
 
     println!(rt; "== with a log as input")?;
     for (words, kind) in lists_with_input() {
         println!(rt; "== {kind:?}\n== {words:?}")?;
-        let test_runtime = TestRuntime { rt: &rt, words };
-        let args = env::args(&test_runtime);
+        let host = TestRuntime { rt: &rt, words };
+        let args = env::args(&host);
         let input = StdSource::new(INPUT.as_bytes());
         let mut output = StdSink::new(rt.stdout());
-        let status = start(&test_runtime, args, kind, input, &mut output);
+        let status = start(&host, &host, args, kind, input, &mut output);
         println!(rt; "== {status:?}")?;
     }
 
     println!(rt; "== words that could not be had as memory ran out")?;
     let words: &[&str] = &["epx", "run", "--explain"];
-    let test_runtime = TestRuntime { rt: &rt, words };
+    let host = TestRuntime { rt: &rt, words };
     let failed = Err(io::Error::from(ErrorKind::OutOfMemory));
     let input = StdSource::new(rt.stdin());
     let mut output = StdSink::new(rt.stdout());
-    let status = start(&test_runtime, failed, InputKind::Other, input, &mut output);
+    let status = start(&host, &host, failed, InputKind::Other, input, &mut output);
     println!(rt; "== {status:?}")?;
 
     println!(rt; "== room for ten bytes of output\n== {words:?}")?;
-    let args = env::args(&test_runtime);
+    let args = env::args(&host);
     let input = StdSource::new(rt.stdin());
     let mut room = [0; 10];
     let mut output = StdSink::new(room.as_mut_slice());
-    let status = start(&test_runtime, args, InputKind::Other, input, &mut output);
+    let status = start(&host, &host, args, InputKind::Other, input, &mut output);
     println!(rt; "== {status:?}\n== taken: {room:?}")?;
     Ok(status)
 }

@@ -2,6 +2,7 @@ mod OutputLemmas
 mod BareWordLemmas
 mod WordLemmas
 mod SourceListLemmas
+mod TextsReadLemmas
 mod StatusLemmas
 mod FailedInputLemmas
 mod OutcomeLemmas

@@ -1,13 +1,15 @@
 -- The outcome of a task, by how the run of what it asks ended.
 use Rattle.std.proofs.Common.{◌≡◌, ◌≢◌, ◌⊎◌, ◌↔◌, ℕ, suc, Bool, true, List, [], ◌∷◌, length, map}
 use Rattle.std.proofs.Common.{Option, Some, Result, Ok, Err, IsErrOf, inl, inr, refl, sym, ap}
-use Rattle.std.proofs.Common.{◌∙◌, subst, arith}
+use Rattle.std.proofs.Common.{◌∙◌, subst}
 use Rattle.std.specs.Io.KnownBytes.{Keeps}
 use Rattle.std.specs.Prelude.{IfErr, IfOk, MatchResult, OnOk}
 use Rattle.epx_types.specs.declared.fault.Fault.{Fault}
 use Rattle.epx_types.specs.declared.fault.Fault.TheVariants.{Read, Write}
 use Rattle.epx_words.specs.declared.words.Task.{Task}
 use Rattle.epx_devices.specs.Deliveries.{FailRelation, ReadRelation}
+use Rattle.epx_tool.specs.Delivered.{EachDelivers}
+use Rattle.epx_tool.specs.DeliveredWithInput.{DeliversBoth}
 use Rattle.epx_tool.specs.Findings.{AnswersFinding, IsFindingWith}
 use Rattle.epx_tool.specs.Questions.{AnswersQuestion, IsBadInput, IsInputAnswer, IsTextWith}
 use Rattle.epx_tool.specs.Questions.{map_text_of}
@@ -108,18 +110,19 @@ task_refused fault run task texts given known answers faults = record {
   nothing = run.nothing;
 }
 
--- a task that comes to this over no texts
-adds_to_nothing : (old new : Option (List ℕ)) (task : Task) (done : Result Bool Fault)
-    → IsTaskResult task [] done old new → IfOk done (λ found. AddsAnswer task found 0 old new)
-adds_to_nothing old new task (Ok found) h = ([], refl, h)
-adds_to_nothing old new task (Err fault) h = tt
+-- a task that comes to this over no texts, which were read
+adds_to_nothing : (AreRead : List (List ℕ) → Type 0) (old new : Option (List ℕ)) (task : Task)
+    (done : Result Bool Fault) → AreRead [] → IsTaskResult task [] done old new
+    → IfOk done (λ found. AddsAnswer task found AreRead old new)
+adds_to_nothing AreRead old new task (Ok found) none h = ([], none, h)
+adds_to_nothing AreRead old new task (Err fault) none h = tt
 
-adds_part_to_nothing : (old new : Option (List ℕ)) (task : Task)
-    (done : Result Bool Fault) → IsTaskResult task [] done old new → IsErrOf done Write
-    → AddsPart task 0 old new
-adds_part_to_nothing old new task (Ok found) h is = absurd (cc is)
-adds_part_to_nothing old new task (Err fault) h is =
-    let named : fault ≡ Write = cc is in ([], refl, h.part named)
+adds_part_to_nothing : (AreRead : List (List ℕ) → Type 0) (old new : Option (List ℕ)) (task : Task)
+    (done : Result Bool Fault) → AreRead [] → IsTaskResult task [] done old new
+    → IsErrOf done Write → AddsPart task AreRead old new
+adds_part_to_nothing AreRead old new task (Ok found) none h is = absurd (cc is)
+adds_part_to_nothing AreRead old new task (Err fault) none h is =
+    let named : fault ≡ Write = cc is in ([], none, h.part named)
 
 -- ---- the outcome
 
@@ -139,12 +142,12 @@ written_badly fault failed h =
     (λ is. h.0 (same_error fault Write is), λ bad. same_error fault Write (h.1 bad))
 
 module _ {S : Type 0} (remaining : S → Option (List ℕ)) (reads : ReadRelation S)
-    (fails : FailRelation S) (has_failed : S → Bool) (task : Task) (before : List S)
+    (fails : FailRelation S) (has_failed : S → Bool) (task : Task) (before after : List S)
     (old new : Option (List ℕ)) (flushed failed : Bool) where
   abbrev Outcome : Result Bool Fault → Type 0
-  Outcome done = TaskOutcome remaining reads fails task before done flushed failed old new
+  Outcome done = TaskOutcome remaining reads fails task before after done flushed failed old new
 
-  module _ (question : Question) (after : List S) (is : asked_of task ≡ asked.Logs question) where
+  module _ (question : Question) (is : asked_of task ≡ asked.Logs question) where
     -- the answer to logs is that of the task, with what it finds
     text_of_logs : (found : Bool) (texts : List (List ℕ)) (text : List ℕ)
         → AnswersFinding question found texts (Ok text) → IsTaskText task found texts text
@@ -159,7 +162,7 @@ module _ {S : Type 0} (remaining : S → Option (List ℕ)) (reads : ReadRelatio
           (text_of_logs found texts);
       answered = let h = run.sink.answered in (
         h.logs,
-        h.delivered.as_many,
+        h.delivered,
         (h.text, text_of_logs found h.logs h.text h.answer, h.written),
       );
       flushed = run.sink.flushed;
@@ -181,7 +184,7 @@ module _ {S : Type 0} (remaining : S → Option (List ℕ)) (reads : ReadRelatio
       flushed = tt;
       part = λ bad. let h = run.sink.part (same_error fault Write bad) in (
         h.logs,
-        h.delivered.as_many,
+        h.delivered,
         (h.text, subst (λ a. IsAnswerTo a h.logs (Ok h.text)) (sym is) h.answer, h.written),
       );
       nothing = run.sink.nothing;
@@ -239,13 +242,19 @@ module _ {S : Type 0} (remaining : S → Option (List ℕ)) (reads : ReadRelatio
         (Err fault))
 
     -- the first source has the first text
-    module _ (first last : S) (logs after : List S) (all : before ≡ first ∷ logs) where
-      one_more : (n : ℕ) → n ≡ length logs → suc n ≡ length before
-      one_more n as_many = omega (arith, as_many, ap length all)
+    module _ (first last : S) (logs left : List S) (all : before ≡ first ∷ logs)
+        (now : after ≡ last ∷ left) where
+      both_deliver : (text : List ℕ) (texts : List (List ℕ))
+          → DeliversBoth reads reads first last logs left text texts
+          → EachDelivers reads before after (text ∷ texts)
+      both_deliver text texts h = rw (all, now) record {
+        as_many = ap suc h.of_logs.as_many;
+        whole = (h.of_input, h.of_logs.whole);
+      }
 
       pub outcome_of_first : (done : Result Bool Fault)
           → EndsFirst remaining reads fails has_failed remaining reads fails has_failed first last
-          logs after done
+          logs left done
           → Outcome done
       outcome_of_first (Ok found) run = record {
         known = from_first remaining (λ texts. IsTaskResult task texts (Ok found) old new) before
@@ -254,7 +263,7 @@ module _ {S : Type 0} (remaining : S → Option (List ℕ)) (reads : ReadRelatio
             (text_of_first (text ∷ texts) text texts (λ Is h. h) found));
         answered = let h = run.sink.answered in (
           h.input ∷ h.logs,
-          one_more (length h.logs) h.delivered.of_logs.as_many,
+          both_deliver h.input h.logs h.delivered,
           (
             h.text,
             text_of_first (h.input ∷ h.logs) h.input h.logs (λ Is h. h) found h.text h.answer,
@@ -277,7 +286,7 @@ module _ {S : Type 0} (remaining : S → Option (List ℕ)) (reads : ReadRelatio
         flushed = tt;
         part = λ bad. let h = run.sink.part (same_error fault Write bad) in (
           h.input ∷ h.logs,
-          one_more (length h.logs) h.delivered.of_logs.as_many,
+          both_deliver h.input h.logs h.delivered,
           (
             h.text,
             answers_first (h.input ∷ h.logs) h.input h.logs (λ Is h. h) h.text h.answer,
@@ -286,19 +295,22 @@ module _ {S : Type 0} (remaining : S → Option (List ℕ)) (reads : ReadRelatio
         );
         nothing = run.sink.nothing;
         unread = λ log bad. failed_of_all reads fails before logs first all
-            (unread_both reads fails logs after reads fails (IsBadInput question) first last
+            (unread_both reads fails logs left reads fails (IsBadInput question) first last
             (ended fault) run.sink.refused log (same_error fault (Read log) bad));
         written = written_badly fault failed run.sink.written;
       }
 
     -- if there is no source, the first text is empty; its source cannot fail
     module _ {M : Type 0} (left : M → Option (List ℕ)) (m_reads : ReadRelation M)
-        (m_fails : FailRelation M) (m_failed : M → Bool) (first last : M) (after : List M)
+        (m_fails : FailRelation M) (m_failed : M → Bool) (first last : M) (now : List M)
         (none : length before ≡ 0) (empty : left first ≡ Some [])
         (never : ¬ HasFailedRead m_reads m_fails first) where
+      none_deliver : EachDelivers reads before after []
+      none_deliver = record { as_many = sym none; whole = tt }
+
       comes_to : (done : Result Bool Fault)
           → EndsFirst left m_reads m_fails m_failed left m_reads m_fails m_failed first last []
-          after done
+          now done
           → IsTaskResult task [] done old new
       comes_to (Ok found) run =
           task_answered found run.sink task [] ([], []) (λ P h. h [] [] empty refl)
@@ -309,10 +321,10 @@ module _ {S : Type 0} (remaining : S → Option (List ℕ)) (reads : ReadRelatio
 
       nothing_unread : (done : Result Bool Fault) (log : ℕ)
           → EndsFirst left m_reads m_fails m_failed left m_reads m_fails m_failed first last []
-          after done
+          now done
           → ¬ IsErrOf done (Read log)
       nothing_unread (Ok found) log run bad = ok_is_not found (Read log) bad
-      nothing_unread (Err fault) log run bad = elim (unread_both m_reads m_fails [] after m_reads
+      nothing_unread (Err fault) log run bad = elim (unread_both m_reads m_fails [] now m_reads
           m_fails (IsBadInput question) first last (ended fault) run.sink.refused log
           (same_error fault (Read log) bad)) [
             | inl bad ↦ never bad
@@ -321,17 +333,17 @@ module _ {S : Type 0} (remaining : S → Option (List ℕ)) (reads : ReadRelatio
 
       pub outcome_of_nothing : (done : Result Bool Fault)
           → EndsFirst left m_reads m_fails m_failed left m_reads m_fails m_failed first last []
-          after done
+          now done
           → Outcome done
       outcome_of_nothing done run =
           let comes = comes_to done run in record {
             known = from_nothing remaining (λ texts. IsTaskResult task texts done old new) before
                 none comes;
-            answered = subst (λ n. IfOk done (λ found. AddsAnswer task found n old new)) (sym none)
-                (adds_to_nothing old new task done comes);
+            answered = adds_to_nothing (EachDelivers reads before after) old new task done
+                none_deliver comes;
             flushed = flushes done run;
-            part = λ bad. subst (λ n. AddsPart task n old new) (sym none)
-                (adds_part_to_nothing old new task done comes bad);
+            part = adds_part_to_nothing (EachDelivers reads before after) old new task done
+                none_deliver comes;
             nothing = keeps done run;
             unread = λ log bad. absurd (nothing_unread done log run bad);
             written = writes done run;
@@ -339,21 +351,21 @@ module _ {S : Type 0} (remaining : S → Option (List ℕ)) (reads : ReadRelatio
         where
           flushes : (done : Result Bool Fault)
               → EndsFirst left m_reads m_fails m_failed left m_reads m_fails m_failed first last []
-              after done
+              now done
               → OnOk done (flushed ≡ true)
           flushes (Ok found) run = run.sink.flushed
           flushes (Err fault) run = tt
 
           keeps : (done : Result Bool Fault)
               → EndsFirst left m_reads m_fails m_failed left m_reads m_fails m_failed first last []
-              after done
+              now done
               → IfErr done (λ fault. fault ≢ Write → Keeps old new)
           keeps (Ok found) run = tt
           keeps (Err fault) run = run.sink.nothing
 
           writes : (done : Result Bool Fault)
               → EndsFirst left m_reads m_fails m_failed left m_reads m_fails m_failed first last []
-              after done
+              now done
               → IsErrOf done Write ↔ (failed ≡ true)
           writes (Ok found) run = written_well tt found failed run.sink.written
           writes (Err fault) run = written_badly fault failed run.sink.written

@@ -1,52 +1,50 @@
--- Two lists that grow together, the second being the image of the first.
-use Rattle.std.proofs.Common.{◌≡◌, ◌<◌, ◌+◌, ◌++◌, ◌∷◌, [], ℕ, zero, suc, List, length, map, take}
-use Rattle.std.proofs.Common.{get_or, sym, refl, ap, ◌∙◌, arith}
-use Rattle.std.proofs.lemmas.List.{length-map, map-append, take_more}
+-- Sources that are made for paths, one after another.
+use Rattle.std.proofs.Common.{◌≡◌, ◌<◌, ◌+◌, ◌++◌, ◌∷◌, [], ℕ, List, length, map, take, Option}
+use Rattle.std.proofs.Common.{Some, codes, get_or, sym, refl, subst, inl, inr}
+use Rattle.std.proofs.lemmas.List.{map-append, take_more}
+use Rattle.epx_devices.specs.declared.either_source.EitherSource.TheVariants.{First, Second}
+use Rattle.epx_program.specs.inner.SourcesAt.{AreSourcesAt, IsSourceAt, SourceAt}
 
--- one more element of each list, the second the image of the first
-pub map-push : {S T U : Type 0} (f : S → U) (h : T → U) (xs : List S) (x : S) (ts : List T) (i : ℕ)
-    (t : T)
-    → i < length ts → t ≡ get_or ts i t → f x ≡ h t → map f xs ≡ map h (take i ts)
-    → map f (xs ++ x ∷ []) ≡ map h (take (i + 1) ts)
-map-push f h xs x ts i t bound at same before =
-    rw (
-      take_more ts i t bound,
-      sym at,
-      map-append f xs (x ∷ []),
-      map-append h (take i ts) (t ∷ []),
-      before,
-      same,
-    ) refl
+module _ {O F I : Type 0} (opener : O) where
+  one_more : (input next left : Option I) (paths : List (List ℕ)) (path : List ℕ)
+      (sources : List (SourceAt O F I)) (source : SourceAt O F I)
+      → AreSourcesAt opener input next paths sources → IsSourceAt opener path next left source
+      → AreSourcesAt opener input left (paths ++ path ∷ []) (sources ++ source ∷ [])
+  one_more input next left [] path [] source are is =
+      (left, subst (λ i. IsSourceAt opener path i left source) are.1 is, (refl, refl))
+  one_more input next left [] path (s ∷ sources) source are is = absurd (cc are.0)
+  one_more input next left (p ∷ paths) path [] source are is = absurd are
+  one_more input next left (p ∷ paths) path (s ∷ sources) source are is =
+      (are.0, are.1, one_more are.0 next left paths path sources source are.2 is)
 
--- the two lists have the same length
-pub as_many : {S T U : Type 0} (f : S → U) (h : T → U) (xs : List S) (ts : List T)
-    → map f xs ≡ map h ts → length xs ≡ length ts
-as_many f h xs ts same = sym (length-map xs f) ∙ ap length same ∙ length-map ts h
+  -- the source at the next path is one more of the sources at the paths
+  pub sources-push : {T : Type 0} (bytes : T → List ℕ) (input next left : Option I)
+      (names : List T) (i : ℕ) (name : T) (sources : List (SourceAt O F I))
+      (source : SourceAt O F I) → i < length names → name ≡ get_or names i name
+      → AreSourcesAt opener input next (map bytes (take i names)) sources
+      → IsSourceAt opener (bytes name) next left source
+      → AreSourcesAt opener input left (map bytes (take (i + 1) names)) (sources ++ source ∷ [])
+  sources-push bytes input next left names i name sources source bound at are is =
+      rw (
+        take_more names i name bound,
+        sym at,
+        map-append bytes (take i names) (name ∷ []),
+      ) (one_more input next left (map bytes (take i names)) (bytes name) sources source are is)
 
-one_pushed : {X : Type 0} (xs : List X) (x y : X) → xs ++ x ∷ [] ≡ y ∷ [] → (xs ≡ []) × (x ≡ y)
-one_pushed [] x y e = (refl, cc)
-one_pushed (z ∷ []) x y e = absurd (cc e)
-one_pushed (z ∷ w ∷ xs) x y e = absurd (cc e)
+  only_one : (input : I) (left : Option I) (sources : List (SourceAt O F I))
+      → AreSourcesAt opener (Some input) left (codes "-" ∷ []) sources
+      → sources ≡ Second (First input) ∷ []
+  only_one input left [] are = absurd are
+  only_one input left (source ∷ rest) are = elim are.1 [
+    | inl file ↦ absurd (file.0 refl)
+    | inr hyphen ↦ rw (hyphen.1, are.2.0) refl
+  ]
 
-nil_from_map : {S U : Type 0} (f : S → U) (xs : List S) → map f xs ≡ [] → xs ≡ []
-nil_from_map f [] e = refl
-nil_from_map f (x ∷ xs) e = absurd (cc e)
-
-nil_from_take : {T : Type 0} (ts : List T) (i : ℕ) → i < length ts → take i ts ≡ [] → i ≡ 0
-nil_from_take [] i l e = absurd (omega arith)
-nil_from_take (t ∷ ts) zero l e = refl
-nil_from_take (t ∷ ts) (suc i) l e = absurd (cc e)
-
--- if one more element makes a list of one, it is the first
-pub alone-push : {S T U : Type 0} (f : S → U) (h : T → U) (xs : List S) (x y : S) (ts : List T)
-    (i : ℕ) (t : T) (u : U)
-    → i < length ts → t ≡ get_or ts i t → map f xs ≡ map h (take i ts) → (i ≡ 0 → h t ≡ u → x ≡ y)
-    → map h (take (i + 1) ts) ≡ u ∷ [] → xs ++ x ∷ [] ≡ y ∷ []
-alone-push f h xs x y ts i t u bound at same first alone =
-    let pushed : map h (take i ts) ++ h t ∷ [] ≡ u ∷ [] =
-    sym (map-append h (take i ts) (t ∷ [])) ∙ ap (map h)
-    (ap (λ z. take i ts ++ z ∷ []) at ∙ sym (take_more ts i t bound)) ∙ alone in
-    let one = one_pushed (map h (take i ts)) (h t) u pushed in
-    let none = nil_from_map f xs (same ∙ one.0) in
-    let start = nil_from_take ts i bound (nil_from_map h (take i ts) one.0) in
-    ap (λ zs. zs ++ x ∷ []) none ∙ ap (λ z. z ∷ []) (first start one.1)
+  -- if the only path is a hyphen, the only source is the input
+  pub only_source_at : (input : I) (left : Option I) (paths : List (List ℕ))
+      (sources : List (SourceAt O F I)) → paths ≡ codes "-" ∷ []
+      → AreSourcesAt opener (Some input) left paths sources
+      → sources ≡ Second (First input) ∷ []
+  only_source_at input left paths sources alone are =
+      only_one input left sources
+      (subst (λ ps. AreSourcesAt opener (Some input) left ps sources) alone are)

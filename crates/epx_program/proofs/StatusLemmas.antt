@@ -17,6 +17,7 @@ use Rattle.epx_words.specs.declared.words.Words.TheVariants.{Text}
 use Rattle.epx_program.specs.Calls.{EndsTask}
 use Rattle.epx_program.specs.Endings.{IsAnswerStatus, IsTaskResult, EndsWith, IsStatus}
 use Rattle.epx_program.specs.Endings.{answer_status, status_of}
+use Rattle.epx_program.specs.Inputs.{TextRelation}
 use Rattle.epx_program.proofs.OutputLemmas.{contents_unchanged}
 
 -- the status of a task that succeeded or failed
@@ -132,14 +133,14 @@ shown : {P : Type 0} (result : ℕ) → (result ≡ 0) ⊎ ((result ≡ 4) × P)
 shown result (inl well) = inl (inl well)
 shown result (inr failed) = inr (Write, failed.0)
 
-pub work_status : (input : Option (List ℕ)) (Unread : Type 0) (status : ℕ) (failed : Bool)
-    (old new : Option (List ℕ)) (words : Words)
-    → IfWork (λ task plan paths. EndsTask input Unread (flags_of words).exit_code task paths status
-    failed old new) words
+pub work_status : (input : Option (List ℕ)) (Unread : Type 0) (Is : TextRelation) (status : ℕ)
+    (failed : Bool) (old new : Option (List ℕ)) (words : Words)
+    → IfWork (λ task plan paths. EndsTask input Unread Is (flags_of words).exit_code task paths
+    status failed old new) words
     → IfWork (λ task plan paths. IsStatus status) words
-work_status input Unread status failed old new (Work task plan paths) h = h.ends
-work_status input Unread status failed old new (WorkWith task plan paths flags) h = h.ends
-work_status input Unread status failed old new (Text text said) h = tt
+work_status input Unread Is status failed old new (Work task plan paths) h = h.ends
+work_status input Unread Is status failed old new (WorkWith task plan paths flags) h = h.ends
+work_status input Unread Is status failed old new (Text text said) h = tt
 
 -- the program ends as the words ask, for every kind of words
 pub of-words : (P Q : Type 0) (words : Words) (result : ℕ)

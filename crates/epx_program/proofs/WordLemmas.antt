@@ -22,6 +22,7 @@ use Rattle.epx_words.specs.declared.words.Words.{Words}
 use Rattle.epx_words.specs.declared.words.Words.TheVariants.{Work, WorkWith}
 use Rattle.epx_words.specs.declared.words.Words.TheVariants.{Text as text}
 use Rattle.epx_program.specs.Calls.{AreTakenFor, Asks, EndsAsAsked, EndsTask, EndsWithText}
+use Rattle.epx_program.specs.Inputs.{TextRelation}
 use Rattle.epx_program.proofs.OutputLemmas.{contents_unchanged}
 
 -- words are taken for only one list of texts
@@ -113,7 +114,8 @@ module _ (words : List Text) where
   asks (Err memory) bare is_task is_workers is_cut are_paths are_parts flags taken refused ends = tt
 
 module _ {S : Type 0} (contents : S → Option (List ℕ)) (before after : S)
-    (input : Option (List ℕ)) (Unread : Type 0) (status : ℕ) (failed : Bool) where
+    (input : Option (List ℕ)) (Unread : Type 0) (Is : TextRelation) (status : ℕ)
+    (failed : Bool) where
   ends_with_text : (said : List ℕ) (n : ℕ)
       → (n ≡ 0 → status ≡ 0 → Appends (contents before) (contents after) said)
       → (n ≡ 0 → AppendsPrefix (contents before) (contents after) said)
@@ -132,7 +134,7 @@ module _ {S : Type 0} (contents : S → Option (List ℕ)) (before after : S)
 
   -- how the program ends with what is wanted, from the contracts of the calls that do it
   pub ends_as_asked : (wanted : Words)
-      → IfWork (λ task plan paths. EndsTask input Unread (flags_of wanted).exit_code task paths
+      → IfWork (λ task plan paths. EndsTask input Unread Is (flags_of wanted).exit_code task paths
       status failed (contents before) (contents after)) wanted
       → ((said : String Global) → wanted ≡ text said 0 → status ≡ 0
       → Appends (contents before) (contents after) (string_bytes said))
@@ -140,7 +142,7 @@ module _ {S : Type 0} (contents : S → Option (List ℕ)) (before after : S)
       → AppendsPrefix (contents before) (contents after) (string_bytes said))
       → IfText (λ n. n ≡ 0 → (status ≡ 0) ⊎ ((status ≡ 4) × (failed ≡ true))) wanted
       → IfText (λ n. n ≢ 0 → (status ≡ n) × (after ≡ before)) wanted
-      → EndsAsAsked input Unread wanted status failed (contents before) (contents after)
+      → EndsAsAsked input Unread Is wanted status failed (contents before) (contents after)
   ends_as_asked (Work task plan paths) work shown prefix well refused = work
   ends_as_asked (WorkWith task plan paths flags) work shown prefix well refused = work
   ends_as_asked (text said n) work shown prefix well refused =

@@ -23,7 +23,7 @@ use Rattle.epx_words.specs.declared.words.Words.{Words}
 use Rattle.epx_words.specs.declared.words.Words.TheVariants as asked
 use Rattle.epx_program.specs.Endings.{AddsAnswer, AddsPart, EndsWith, IsAnswerStatus, IsStatus}
 use Rattle.epx_program.specs.Endings.{answer_status}
-use Rattle.epx_program.specs.Inputs.{IsInputAlone, text_count}
+use Rattle.epx_program.specs.Inputs.{AreTextsRead, IsInputAlone, TextRelation}
 
 -- the operating system's words are these texts; words that could not be read are no texts
 abbrev pub AreTakenFor : Result (IntoIter (String Global) Global) Error → List Text → Type 0
@@ -52,21 +52,22 @@ EndsWithText text zero status failed old new =
 EndsWithText text (suc n) status failed old new = (status ≡ suc n) × Keeps old new
 
 -- How a task over the paths ends. `input` has the bytes of the program's input, if they are known.
--- `Unread` means that a read of the input failed, and `exit_code` that `--exit-code` is there.
-pub record EndsTask (input : Option (List ℕ)) (Unread : Type 0) (exit_code : Bool) (task : Task)
-    (paths : Option (List (List ℕ))) (status : ℕ) (failed : Bool)
+-- `Unread` means that a read of the input failed, `Is` what the text of a path is, and `exit_code`
+-- that `--exit-code` is there.
+pub record EndsTask (input : Option (List ℕ)) (Unread : Type 0) (Is : TextRelation)
+    (exit_code : Bool) (task : Task) (paths : Option (List (List ℕ))) (status : ℕ) (failed : Bool)
     (old new : Option (List ℕ)) : Type 0 where
   -- the status is that of an answer or of a fault
   pub ends : IsStatus status
   -- if only the input is read, it ends as the task over the bytes of the input
   pub over_input : (bytes : List ℕ) → IsInputAlone paths → input ≡ Some bytes
       → EndsWith exit_code task (bytes ∷ []) status old new
-  -- over any sources, the status of an answer means that the answer to that number of texts is
-  -- appended, and says what it finds
+  -- over any paths, the status of an answer means that the answer to the texts that were read there
+  -- is appended, and says what it finds
   pub answered : IsAnswerStatus status → (found : Bool) × (status ≡ answer_status exit_code found)
-      × AddsAnswer task found (text_count paths) old new
-  -- an output that failed has a prefix of an answer to that number of texts appended
-  pub part : failed ≡ true → AddsPart task (text_count paths) old new
+      × AddsAnswer task found (AreTextsRead Is paths) old new
+  -- an output that failed has a prefix of the answer to these texts appended
+  pub part : failed ≡ true → AddsPart task (AreTextsRead Is paths) old new
   -- if only the input is read, status 4 means that the output or a read of the input failed
   pub broken : IsInputAlone paths → status ≡ fault_status Write → (failed ≡ true) ⊎ Unread
 
@@ -75,19 +76,19 @@ abbrev pub paths_of : Option (Vec (String Global) Global) → Option (List (List
 paths_of paths = option_map (λ list. map string_bytes list.items) paths
 
 -- how the program ends, by what is wanted
-abbrev pub EndsAsAsked : Option (List ℕ) → Type 0 → Words → ℕ → Bool
+abbrev pub EndsAsAsked : Option (List ℕ) → Type 0 → TextRelation → Words → ℕ → Bool
     → Option (List ℕ) → Option (List ℕ) → Type 0
-EndsAsAsked input Unread (asked.Work task plan paths) status failed old new =
-    EndsTask input Unread false task (paths_of paths) status failed old new
-EndsAsAsked input Unread (asked.WorkWith task plan paths flags) status failed old new =
-    EndsTask input Unread flags.exit_code task (paths_of paths) status failed old new
-EndsAsAsked input Unread (asked.Text text n) status failed old new =
+EndsAsAsked input Unread Is (asked.Work task plan paths) status failed old new =
+    EndsTask input Unread Is false task (paths_of paths) status failed old new
+EndsAsAsked input Unread Is (asked.WorkWith task plan paths flags) status failed old new =
+    EndsTask input Unread Is flags.exit_code task (paths_of paths) status failed old new
+EndsAsAsked input Unread Is (asked.Text text n) status failed old new =
     EndsWithText (string_bytes text) n status failed old new
 
 -- the program does what its words ask for, or ends because memory ran out
-abbrev pub DoesAsAsked : Option (List ℕ) → Type 0 → List Text → ℕ → Bool
+abbrev pub DoesAsAsked : Option (List ℕ) → Type 0 → TextRelation → List Text → ℕ → Bool
     → Option (List ℕ) → Option (List ℕ) → Type 0
-DoesAsAsked input Unread words status failed old new =
+DoesAsAsked input Unread Is words status failed old new =
     (status ≡ fault_status Memory)
     ⊎ ((wanted : Words) × Asks words wanted
-    × EndsAsAsked input Unread wanted status failed old new)
+    × EndsAsAsked input Unread Is wanted status failed old new)

@@ -1,5 +1,5 @@
 -- What a task writes, and the exit status of the program.
-use Rattle.std.specs.Prelude.{◌≡◌, ◌≢◌, ◌⊎◌, ℕ, Bool, true, List, [], ◌∷◌, length, Option}
+use Rattle.std.specs.Prelude.{◌≡◌, ◌≢◌, ◌⊎◌, ℕ, Bool, true, List, [], ◌∷◌, Option}
 use Rattle.std.specs.Prelude.{Result, Ok, Err}
 use Rattle.std.specs.Prelude.{MatchResult}
 use Rattle.std.specs.Io.KnownBytes.{Appends, Keeps}
@@ -85,15 +85,16 @@ abbrev pub AppendsPart : Task → List (List ℕ) → Option (List ℕ) → Opti
 AppendsPart task texts old new =
     (text : List ℕ) × IsTaskAnswer task texts (Ok text) × AppendsPrefix old new text
 
--- the answer to some list of this number of texts is appended
-abbrev pub AddsAnswer : Task → Bool → ℕ → Option (List ℕ) → Option (List ℕ) → Type 0
-AddsAnswer task found count old new =
-    (texts : List (List ℕ)) × (length texts ≡ count) × AppendsAnswer task found texts old new
+-- the answer to texts that were read is appended
+abbrev pub AddsAnswer : Task → Bool → (List (List ℕ) → Type 0) → Option (List ℕ) → Option (List ℕ)
+    → Type 0
+AddsAnswer task found AreRead old new =
+    (texts : List (List ℕ)) × AreRead texts × AppendsAnswer task found texts old new
 
--- a prefix of the answer to some list of this number of texts is appended
-abbrev pub AddsPart : Task → ℕ → Option (List ℕ) → Option (List ℕ) → Type 0
-AddsPart task count old new =
-    (texts : List (List ℕ)) × (length texts ≡ count) × AppendsPart task texts old new
+-- a prefix of the answer to texts that were read is appended
+abbrev pub AddsPart : Task → (List (List ℕ) → Type 0) → Option (List ℕ) → Option (List ℕ) → Type 0
+AddsPart task AreRead old new =
+    (texts : List (List ℕ)) × AreRead texts × AppendsPart task texts old new
 
 -- the task over these texts has this fault; a fault of the output leaves a prefix of the answer
 -- there, and any other fault leaves the output unchanged

@@ -1,24 +1,54 @@
--- The program's input among the paths of its words.
-use Rattle.std.specs.Prelude.{◌≡◌, ⊤, ℕ, List, [], ◌∷◌, Option, Some, None, codes, length}
+-- The texts that are read at the paths of the program's words.
+use Rattle.std.specs.Prelude.{◌≡◌, ◌≢◌, ◌⊎◌, ⊤, ℕ, List, [], ◌∷◌, Option, Some, None, codes}
 use Rattle.std.specs.Prelude.{slice_get}
-use Rattle.epx_devices.specs.Deliveries.{FailRelation, ReadRelation, DeliversThenFails}
-use Rattle.epx_devices.specs.EitherSources.{value_by}
-use Rattle.epx_devices.specs.DeviceStates.{PathState}
-use Rattle.epx_devices.specs.declared.either_source.EitherSource.{EitherSource}
+use Rattle.epx_devices.specs.Deliveries.{FailRelation, ReadRelation, DeliversAll}
+use Rattle.epx_devices.specs.Deliveries.{DeliversThenFails}
+use Rattle.epx_devices.specs.DeviceStates.{OpenRelation}
 
 -- only the input is read: there are no paths, or the only path is a hyphen, which means the input
 abbrev pub IsInputAlone : Option (List (List ℕ)) → Type 0
 IsInputAlone None = ⊤
 IsInputAlone (Some paths) = paths ≡ codes "-" ∷ []
 
--- the path of a source: that of its file, or a hyphen
-abbrev pub path_of : {O F J : Type 0} → EitherSource (PathState O F) J → List ℕ
-path_of source = value_by (λ file. file.path) (λ input. codes "-") source
+-- what a text is: that of the file at a path, or that of the program's input
+pub record TextRelation : Type 1 where
+  pub OfFile : List ℕ → List ℕ → Type 0
+  pub OfInput : List ℕ → Type 0
 
--- the number of texts that are read: one if there are no paths, otherwise one a path
-abbrev pub text_count : Option (List (List ℕ)) → ℕ
-text_count None = 1
-text_count (Some paths) = length paths
+-- the same once the input is read: nothing is left of it, so its text is empty
+abbrev pub after_input : TextRelation → TextRelation
+after_input Is = record { OfFile = Is.OfFile; OfInput = λ text. text ≡ [] }
+
+-- the texts at these paths, in this order
+abbrev pub AreTextsAt : TextRelation → List (List ℕ) → List (List ℕ) → Type 0
+AreTextsAt Is [] texts = texts ≡ []
+AreTextsAt Is (path ∷ paths) [] = ⊥
+AreTextsAt Is (path ∷ paths) (text ∷ texts) =
+    ((path ≢ codes "-") × Is.OfFile path text × AreTextsAt Is paths texts)
+    ⊎ ((path ≡ codes "-") × Is.OfInput text × AreTextsAt (after_input Is) paths texts)
+
+-- the texts that are read: without paths, that of the input
+abbrev pub AreTextsRead : TextRelation → Option (List (List ℕ)) → List (List ℕ) → Type 0
+AreTextsRead Is None = AreTextsAt Is (codes "-" ∷ [])
+AreTextsRead Is (Some paths) = AreTextsAt Is paths
+
+-- reads of the source delivered this text, up to its end
+abbrev pub IsWholeText : {S : Type 0} → ReadRelation S → S → List ℕ → Type 0
+IsWholeText {S} reads source text = (last : S) × DeliversAll reads source last text
+
+-- reads of the file that the opener opened at this path delivered this text, up to its end
+abbrev pub IsFileText : {O F : Type 0} → OpenRelation O F → ReadRelation F
+    → O → List ℕ → List ℕ → Type 0
+IsFileText {O} {F} opens reads opener path text =
+    (file : F) × opens opener path file × IsWholeText reads file text
+
+-- each text is what the reads of the file that the opener opened, or of the input, delivered
+abbrev pub text_relation : {O F I : Type 0} → OpenRelation O F → ReadRelation F → O
+    → ReadRelation I → I → TextRelation
+text_relation opens reads opener input_reads input = record {
+  OfFile = IsFileText opens reads opener;
+  OfInput = IsWholeText input_reads input;
+}
 
 -- reads of the source delivered some bytes or none, and the next read failed
 abbrev pub HasFailedRead : {S : Type 0} → ReadRelation S → FailRelation S → S → Type 0

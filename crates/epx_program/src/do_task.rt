@@ -4,11 +4,13 @@ ghost use Rattle.std.specs.Prelude.{IfOk, IsErrOf, OnOk};
 ghost use Rattle.std.specs.Io.KnownBytes.{Keeps};
 ghost use Rattle.epx_program.specs.Calls.{paths_of};
 ghost use Rattle.epx_program.specs.Endings.{AddsAnswer, AddsPart, IsTaskResult, asked_of};
-ghost use Rattle.epx_program.specs.Inputs.{HasFailedRead, IsInputAlone, text_count};
+ghost use Rattle.epx_program.specs.Inputs.{AreTextsRead, HasFailedRead, IsInputAlone};
+ghost use Rattle.epx_program.specs.Inputs.{text_relation};
 ghost use Rattle.epx_program.specs.inner.Outcomes.{TaskOutcome};
 
 use crate::inputs::sources_at;
 use crate::left::Left;
+use epx_devices::Opener;
 use epx_tool::{
     Ask, Held, InputQuestion, MemorySource, Question, Sink, Source, Task, run_question,
     run_with_input,
@@ -61,7 +63,7 @@ fn write_answer<R: Threads + RandomSource + Sync, S: Source, W: Sink>(
 ) -> Result<bool, Fault>
     requires sources { All (λ s. S.has_failed s ≡ false) sources.old }
     requires output { W.has_failed output.old ≡ false }
-    ensures { TaskOutcome S.remaining S.reads S.fails task sources.old result
+    ensures { TaskOutcome S.remaining S.reads S.fails task sources.old sources.new result
         (W.is_flushed output.new) (W.has_failed output.new) (W.contents output.old)
         (W.contents output.new) }
 {
@@ -86,8 +88,9 @@ fn write_answer<R: Threads + RandomSource + Sync, S: Source, W: Sink>(
 /// Reads the texts at the paths, where a hyphen means the input, and writes the answer. If `paths`
 /// is None, it reads the input alone. Returns whether the answer finds something. `left` gets what
 /// the run holds, and with `keeps` the bytes that can be read only once.
-pub(crate) fn do_task<R: Files + Threads + RandomSource + Sync, I: Source + Drop, W: Sink>(
+pub(crate) fn do_task<R, O, I, W>(
     rt: &R,
+    opener: &O,
     alloc: Global,
     task: Task,
     plan: Plan,
@@ -97,15 +100,22 @@ pub(crate) fn do_task<R: Files + Threads + RandomSource + Sync, I: Source + Drop
     left: &mut Left,
     output: &mut W,
 ) -> Result<bool, Fault>
+where
+    R: Files + Threads + RandomSource + Sync,
+    O: Opener,
+    I: Source + Drop,
+    W: Sink,
     requires input { I.has_failed input ≡ false }
     requires output { W.has_failed output.old ≡ false }
 
     ensures input { (bytes : _) → IsInputAlone (paths_of paths.now)
         → I.remaining input ≡ Some bytes →
         IsTaskResult task (bytes ∷ []) result (W.contents output.old) (W.contents output.new) }
-    ensures answered { IfOk result (λ found. AddsAnswer task found (text_count (paths_of paths.now))
+    ensures answered { let Is = text_relation O.opens O.Opened.reads opener.now I.reads input in
+        IfOk result (λ found. AddsAnswer task found (AreTextsRead Is (paths_of paths.now))
         (W.contents output.old) (W.contents output.new)) }
-    ensures part { IsErrOf result Fault.Write → AddsPart task (text_count (paths_of paths.now))
+    ensures part { let Is = text_relation O.opens O.Opened.reads opener.now I.reads input in
+        IsErrOf result Fault.Write → AddsPart task (AreTextsRead Is (paths_of paths.now))
         (W.contents output.old) (W.contents output.new) }
     ensures unread { (log : _) → IsErrOf result (Fault.Read log)
         → IsInputAlone (paths_of paths.now) → HasFailedRead I.reads I.fails input }
@@ -119,7 +129,7 @@ pub(crate) fn do_task<R: Files + Threads + RandomSource + Sync, I: Source + Drop
         sources.push(input).map_err(Memory::from)?;
         return write_answer(rt, alloc, task, plan, &mut sources, &mut left.held, output);
     };
-    let Ok(mut sources) = sources_at(rt, alloc, paths, keeps, input) else {
+    let Ok(mut sources) = sources_at(rt, opener, alloc, paths, keeps, input) else {
         return Err(Fault::Memory);
     };
     let done = write_answer(rt, alloc, task, plan, &mut sources, &mut left.held, output);

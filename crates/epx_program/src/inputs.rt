@@ -1,11 +1,9 @@
 //! The sources that the paths name: files, and the program's input.
-ghost use Rattle.std.specs.Prelude.{◌≡◌, ◌∷◌, [], All, IfOk, IfSome, None, Some, codes, false};
-ghost use Rattle.std.specs.Prelude.{map, string_bytes};
+ghost use Rattle.std.specs.Prelude.{◌≡◌, All, IfOk, IfSome, Some, false, map, string_bytes};
 ghost use Rattle.epx_devices.specs.EitherSources.{value_by};
-ghost use Rattle.epx_devices.specs.declared.either_source.EitherSource.TheVariants as either;
-ghost use Rattle.epx_program.specs.Inputs.{path_of};
+ghost use Rattle.epx_program.specs.inner.SourcesAt.{AreSourcesAt, IsSourceAt};
 
-use epx_devices::{EitherSource, KeptSource, MemorySource, PathSource, Source};
+use epx_devices::{EitherSource, KeptSource, MemorySource, Opener, PathSource, Source};
 use std::alloc::{AllocError, Global};
 use std::fs;
 use std::rt::Files;
@@ -14,8 +12,8 @@ use std::rt::Files;
 const INPUT: &str = "-";
 
 /// A source at a path: a file, the input, or, where the input is named again, an empty source.
-pub(crate) type Input<'a, R, I> = EitherSource<
-    PathSource<'a, R>,
+pub(crate) type Input<'a, O, I> = EitherSource<
+    PathSource<'a, O>,
     EitherSource<I, MemorySource<'static>>,
 >;
 
@@ -28,20 +26,18 @@ fn can_be_read_again<R: Files>(rt: &R, path: &str) -> bool {
 }
 
 /// The source at a path. The first hyphen takes the input.
-fn source_at<'a, R: Files, I: Source>(
-    rt: &'a R,
+fn source_at<'a, O: Opener, I: Source>(
+    opener: &'a O,
     path: &'a str,
     input: &mut Option<I>,
-) -> Input<'a, R, I>
+) -> Input<'a, O, I>
     requires { IfSome input.old (λ i. I.has_failed i ≡ false) }
-    ensures path { path_of result ≡ path.now }
+    ensures at { IsSourceAt opener.now path.now input.old input.new result }
     ensures failed { value_by (λ s. s.failed) (value_by I.has_failed (λ _. false)) result ≡ false }
-    ensures input { (given : _) → path.now ≡ codes "-" → input.old ≡ Some given
-        → result ≡ either.Second (either.First given) }
     ensures left { IfSome input.new (λ i. I.has_failed i ≡ false) }
 {
     if path != INPUT {
-        return EitherSource::First(PathSource::new(rt, path));
+        return EitherSource::First(PathSource::new(opener, path));
     }
     match input.take() {
         Some(given) => EitherSource::Second(EitherSource::First(given)),
@@ -49,28 +45,27 @@ fn source_at<'a, R: Files, I: Source>(
     }
 }
 
-/// A source for each path. No file is opened yet. With `keeps` the bytes that can be read only once
-/// are kept.
-pub(crate) fn sources_at<'a, R: Files, I: Source + Drop>(
-    rt: &'a R,
+/// A source for each path, whose file the opener opens at the first read. With `keeps` the bytes
+/// that can be read only once are kept.
+pub(crate) fn sources_at<'a, R: Files, O: Opener, I: Source + Drop>(
+    rt: &R,
+    opener: &'a O,
     alloc: Global,
     paths: &'a [String],
     keeps: bool,
     input: I,
-) -> Result<Vec<KeptSource<Input<'a, R, I>>>, AllocError>
+) -> Result<Vec<KeptSource<Input<'a, O, I>>>, AllocError>
     requires { I.has_failed input ≡ false }
-    ensures paths { IfOk result
-        (λ sources. map path_of sources.items ≡ map string_bytes paths.now) }
+    ensures at { IfOk result (λ sources. (left : _)
+        × AreSourcesAt opener.now (Some input) left (map string_bytes paths.now) sources.items) }
     ensures failed { IfOk result
         (λ sources. All (λ s. value_by (λ f. f.failed) (value_by I.has_failed (λ _. false)) s
         ≡ false) sources.items) }
-    ensures input { IfOk result (λ sources. map string_bytes paths.now ≡ codes "-" ∷ []
-        → sources.items ≡ either.Second (either.First input) ∷ []) }
 {
     let mut input = Some(input);
     let mut sources = Vec::with_capacity(alloc, paths.len())?;
     for path in paths {
-        let source = source_at(rt, path.as_str(), &mut input);
+        let source = source_at(opener, path.as_str(), &mut input);
         let keeps_it = keeps && !can_be_read_again(rt, path.as_str());
         sources.push(KeptSource::new(alloc, source, keeps_it))?;
     }

@@ -8,7 +8,7 @@ ghost use Rattle.epx_devices.specs.Transfers.{AppendsPrefix};
 ghost use Rattle.epx_words.specs.Requests.{IfText, IfWork, flags_of};
 ghost use Rattle.epx_program.specs.Calls.{AreTakenFor, DoesAsAsked, EndsTask, paths_of};
 ghost use Rattle.epx_program.specs.Endings.{IsAnswerStatus, IsStatus};
-ghost use Rattle.epx_program.specs.Inputs.{HasFailedRead};
+ghost use Rattle.epx_program.specs.Inputs.{HasFailedRead, text_relation};
 
 use crate::do_task::do_task;
 use crate::exit_report::{print_text, report_fault, report_task};
@@ -16,6 +16,7 @@ use crate::explain::explain;
 use crate::input_kind::{InputKind, say_what_is_read};
 use crate::left::Left;
 use crate::read_args::read_args;
+use epx_devices::Opener;
 use epx_tool::{Flags, Sink, Source, Task, Words};
 use epx_types::{Fault, Memory, Plan};
 use std::alloc::AllocGlobal;
@@ -30,8 +31,9 @@ use std::thread::Threads;
 /// Does a task, and returns the exit status. With `--exit-code` the status of an answer says
 /// whether it finds something. With `--explain` further lines on standard error explain a fault, or
 /// what an answer finds.
-fn do_work<R, I, W>(
+fn do_work<R, O, I, W>(
     rt: &R,
+    opener: &O,
     flags: Flags,
     task: Task,
     plan: Plan,
@@ -41,14 +43,16 @@ fn do_work<R, I, W>(
 ) -> u8
 where
     R: AllocGlobal + Eprint + Files + Threads + RandomSource + Sync,
+    O: Opener,
     I: Source + Drop,
     W: Sink,
     requires input { I.has_failed input ≡ false }
     requires output { W.has_failed output.old ≡ false }
 
     ensures do_task { EndsTask (I.remaining input) (HasFailedRead I.reads I.fails input)
-        flags.exit_code task (paths_of paths) result (W.has_failed output.new)
-        (W.contents output.old) (W.contents output.new) }
+        (text_relation O.opens O.Opened.reads opener.now I.reads input) flags.exit_code task
+        (paths_of paths) result (W.has_failed output.new) (W.contents output.old)
+        (W.contents output.new) }
     ensures flushed { IsAnswerStatus result → W.is_flushed output.new ≡ true }
     ensures failed { W.has_failed output.new ≡ true → result ≡ 4 }
     ensures nothing { W.has_failed output.new ≡ false → ¬ IsAnswerStatus result
@@ -58,6 +62,7 @@ where
     let mut left = Left::nothing(rt.alloc());
     let done = do_task(
         rt,
+        opener,
         rt.alloc(),
         *asked,
         plan,
@@ -77,18 +82,21 @@ where
     status
 }
 
-/// Does what the words say, and returns the exit status.
-pub fn execute_words<R, I, W>(rt: &R, words: Words, input: I, output: &mut W) -> u8
+/// Does what the words say, and returns the exit status. The opener opens the files at their paths.
+pub fn execute_words<R, O, I, W>(rt: &R, opener: &O, words: Words, input: I, output: &mut W) -> u8
 where
     R: AllocGlobal + Eprint + Files + Threads + RandomSource + Sync,
+    O: Opener,
     I: Source + Drop,
     W: Sink,
     requires input { I.has_failed input ≡ false }
     requires output { W.has_failed output.old ≡ false }
 
     ensures do_task { IfWork (λ task _ paths. EndsTask (I.remaining input)
-        (HasFailedRead I.reads I.fails input) (flags_of words).exit_code task paths result
-        (W.has_failed output.new) (W.contents output.old) (W.contents output.new)) words }
+        (HasFailedRead I.reads I.fails input)
+        (text_relation O.opens O.Opened.reads opener.now I.reads input)
+        (flags_of words).exit_code task paths result (W.has_failed output.new)
+        (W.contents output.old) (W.contents output.new)) words }
 
     ensures shown { (text : _) → words ≡ Words.Text text 0 → result ≡ 0
         → Appends (W.contents output.old) (W.contents output.new) (string_bytes text) }
@@ -111,23 +119,25 @@ where
                 exit_code: false,
                 explain: false,
             };
-            do_work(rt, flags, task, plan, paths, input, output)
+            do_work(rt, opener, flags, task, plan, paths, input, output)
         }
         Words::WorkWith {
             task,
             plan,
             paths,
             flags,
-        } => do_work(rt, flags, task, plan, paths, input, output),
+        } => do_work(rt, opener, flags, task, plan, paths, input, output),
         Words::Text { text, status } => print_text(rt, text.as_str(), status, output),
     }
 }
 
-/// Does what the operating system's words ask for, and returns the exit status. The answer is
-/// written to the output. Faults and the text about refused words are written to standard error,
-/// and so is a line where a person may expect that something else is read.
-pub fn start<R, I, W>(
+/// Does what the operating system's words ask for, and returns the exit status. The opener opens
+/// the files at the paths among the words. The answer is written to the output. Faults and the text
+/// about refused words are written to standard error, and so is a line where a person may expect
+/// that something else is read.
+pub fn start<R, O, I, W>(
     rt: &R,
+    opener: &O,
     words: io::Result<Args>,
     kind: InputKind,
     input: I,
@@ -135,14 +145,17 @@ pub fn start<R, I, W>(
 ) -> ExitCode
 where
     R: AllocGlobal + Eprint + Files + Threads + RandomSource + Sync,
+    O: Opener,
     I: Source + Drop,
     W: Sink,
     requires input { I.has_failed input ≡ false }
     requires output { W.has_failed output.old ≡ false }
 
     ensures read_args { (texts : _) → AreTakenFor words texts → DoesAsAsked (I.remaining input)
-        (HasFailedRead I.reads I.fails input) texts (exit_status result) (W.has_failed output.new)
-        (W.contents output.old) (W.contents output.new) }
+        (HasFailedRead I.reads I.fails input)
+        (text_relation O.opens O.Opened.reads opener.now I.reads input) texts
+        (exit_status result) (W.has_failed output.new) (W.contents output.old)
+        (W.contents output.new) }
     ensures status { IsStatus (exit_status result) ⊎ (exit_status result ≡ 2) }
 
     ensures no_text { IfErr words (λ error. error_kind error ≡ ErrorKind.InvalidData
@@ -159,7 +172,7 @@ where
     let status = match read_args(rt.alloc(), words) {
         Ok(words) => {
             say_what_is_read(rt, kind, &words);
-            execute_words(rt, words, input, output)
+            execute_words(rt, opener, words, input, output)
         }
         Err(Memory) => report_fault(rt, Fault::Memory),
     };

@@ -1,41 +1,61 @@
-use Rattle.std.proofs.Common.{◌≡◌, ◌∙◌, ◌∷◌, [], ap, length, map, subst, sym}
-use Rattle.std.specs.Prelude.{IfOk, string_bytes}
-use Rattle.std.proofs.lemmas.List.{length-map}
-use Rattle.epx_devices.specs.declared.either_source.EitherSource.TheVariants.{First, Second}
+use Rattle.std.proofs.Common.{◌≡◌, ◌∙◌, ◌∷◌, [], ap, map, refl, rules, subst}
+use Rattle.std.specs.Prelude.{Some, string_bytes}
 use Rattle.epx_program.proofs.FailedInputLemmas.{alone, input_failed}
-use Rattle.epx_program.proofs.SourceListLemmas.{as_many}
-use Rattle.epx_program.specs.Endings.{AddsAnswer, AddsPart}
-use Rattle.epx_program.specs.Inputs.{OneHasFailedRead, path_of}
+use Rattle.epx_program.proofs.SourceListLemmas.{only_source_at}
+use Rattle.epx_program.proofs.TextsReadLemmas.{answer_read, part_read, text_of_input, texts_at}
+use Rattle.epx_program.specs.Inputs.{OneHasFailedRead}
+use Rattle.epx_program.specs.inner.SourcesAt.{AreSourcesAt}
 use Rattle.epx_program.proofs.do_task.do_task.Goals as goal
 
 pub returns-clause-answered : goal.returns-clause-answered
 returns-clause-answered g c =
-    let paths = c.in-Some.paths.items in
-    let each = as_many path_of string_bytes c.in-Ok.sources.items paths (cc
-    (c.in-Ok.ensures.paths)) in
-    let count = ap length c.deref_mut-2.ensures.value ∙ each ∙ sym (length-map paths string_bytes)
-    in
-    let old = g.W.Sink.contents c.args.output.now in
-    let new = g.W.Sink.contents c.write_answer-done.new.output in
-    rw c.in-Some.is (subst (λ n. IfOk c.write_answer-done.result
-    (λ found. AddsAnswer c.args.task found n old new)) count c.write_answer-done.ensures.answered)
+    let at = c.in-Ok.ensures.at in
+    let are : AreSourcesAt c.args.opener.now (Some c.args.input) at.0
+    (map string_bytes c.in-Some.paths.items) c.deref_mut-2.result.now =
+    rw (c.deref_mut-2.ensures.value, ← c.deref.ensures.value) at.1 in
+    rw c.in-Some.is (answer_read c.args.task _ _
+    (texts_at g.O.Opener.opens g.O.Opened.Source.reads c.args.opener.now g.I.Source.reads
+    c.args.input at.0 _ _ _ are) c.write_answer-done.result c.write_answer-done.ensures.answered)
 
 pub returns-clause-part : goal.returns-clause-part
 returns-clause-part g c =
-    let paths = c.in-Some.paths.items in
-    let each = as_many path_of string_bytes c.in-Ok.sources.items paths (cc
-    (c.in-Ok.ensures.paths)) in
-    let count = ap length c.deref_mut-2.ensures.value ∙ each ∙ sym (length-map paths string_bytes)
-    in
-    let old = g.W.Sink.contents c.args.output.now in
-    let new = g.W.Sink.contents c.write_answer-done.new.output in
-    rw c.in-Some.is (λ failed. subst (λ n. AddsPart c.args.task n old new) count
-    (c.write_answer-done.ensures.part failed))
+    let at = c.in-Ok.ensures.at in
+    let are : AreSourcesAt c.args.opener.now (Some c.args.input) at.0
+    (map string_bytes c.in-Some.paths.items) c.deref_mut-2.result.now =
+    rw (c.deref_mut-2.ensures.value, ← c.deref.ensures.value) at.1 in
+    rw c.in-Some.is (λ failed. part_read c.args.task _ _
+    (texts_at g.O.Opener.opens g.O.Opened.Source.reads c.args.opener.now g.I.Source.reads
+    c.args.input at.0 _ _ _ are) (c.write_answer-done.ensures.part failed))
+
+pub returns-in_default-clause-answered : goal.returns-in_default-clause-answered
+returns-in_default-clause-answered g c =
+    let only : c.deref_mut.result.now ≡ c.args.input ∷ [] = search rules in
+    rw c.in_default.is (answer_read c.args.task _ _
+    (text_of_input g.O.Opener.opens g.O.Opened.Source.reads c.args.opener.now g.I.Source.reads
+    c.args.input _ _ only)
+    c.write_answer.result c.write_answer.ensures.answered)
+
+pub returns-in_default-clause-part : goal.returns-in_default-clause-part
+returns-in_default-clause-part g c =
+    let only : c.deref_mut.result.now ≡ c.args.input ∷ [] = search rules in
+    rw c.in_default.is (λ failed. part_read c.args.task _ _
+    (text_of_input g.O.Opener.opens g.O.Opened.Source.reads c.args.opener.now g.I.Source.reads
+    c.args.input _ _ only)
+    (c.write_answer.ensures.part failed))
+
+pub returns-clause-input : goal.returns-clause-input
+returns-clause-input g c = rw c.in-Some.is (λ bytes hyphen known.
+    let at = c.in-Ok.ensures.at in
+    let is = only_source_at c.args.opener.now c.args.input at.0 _ _
+    (ap (map string_bytes) c.deref.ensures.value ∙ hyphen) at.1 in
+    c.write_answer-done.ensures.known (bytes ∷ [])
+    (rw (c.deref_mut-2.ensures.value, is, known) refl))
 
 pub returns-clause-unread : goal.returns-clause-unread
 returns-clause-unread g c = rw c.in-Some.is (λ log failed hyphen.
-    let is : c.in-Ok.sources.items ≡ Second (First c.args.input) ∷ [] =
-    c.in-Ok.ensures.input (ap (map string_bytes) c.deref.ensures.value ∙ hyphen) in
+    let at = c.in-Ok.ensures.at in
+    let is = only_source_at c.args.opener.now c.args.input at.0 _ _
+    (ap (map string_bytes) c.deref.ensures.value ∙ hyphen) at.1 in
     let one = subst (OneHasFailedRead _ _) (c.deref_mut-2.ensures.value ∙ is)
     (c.write_answer-done.ensures.unread log failed) in
     input_failed _ _ g.I.Source.reads g.I.Source.fails _ _ c.args.input (alone _ _ _ one))

@@ -1,5 +1,7 @@
-use Rattle.std.proofs.Common.{◌≡◌, true, ◌∷◌, [], ap, ◌∙◌}
-use Rattle.epx_program.specs.Endings.{status_of}
+use Rattle.std.proofs.Common.{◌≡◌, Bool, true, ◌∷◌, [], ap, ◌∙◌}
+use Rattle.epx_program.specs.Calls.{paths_of}
+use Rattle.epx_program.specs.Endings.{AddsAnswer, status_of}
+use Rattle.epx_program.specs.Inputs.{AreTextsRead, text_relation}
 use Rattle.epx_program.proofs.StatusLemmas.{failed_device, ends-as-done, flushed_by_work, is_status}
 use Rattle.epx_program.proofs.StatusLemmas.{of_done, unchanged_by_work}
 use Rattle.epx_program.proofs.program.do_work.Goals as goal
@@ -11,12 +13,18 @@ returns-clause-do_task g c =
     let do_task = c.do_task-done.ensures in
     let ended = c.report_task-status.ensures in
     let failed = g.W.Sink.has_failed c.do_task-done.new.output in
+    let old = g.W.Sink.contents c.args.output.now in
+    let new = g.W.Sink.contents c.do_task-done.new.output in
+    let Is = text_relation g.O.Opener.opens g.O.Opened.Source.reads c.args.opener.now
+    g.I.Source.reads c.args.input in
+    let Adds : Bool → Type 0 =
+    λ found. AddsAnswer c.args.task found (AreTextsRead Is (paths_of c.args.paths)) old new in
     record {
       ends = is_status exit_code done _ ended;
       over_input = λ bytes alone known. rw ended
           (ends-as-done exit_code c.args.task (bytes ∷ []) done _ _
           (do_task.input bytes alone known));
-      answered = of_done exit_code done _ ended do_task.answered;
+      answered = of_done {P = Adds} exit_code done _ ended do_task.answered;
       part = λ bad. do_task.part (do_task.written.1 bad);
       broken = λ alone. failed_device {P = failed ≡ true} exit_code done _ ended
           do_task.written.0 (λ log unread. do_task.unread log unread alone);

@@ -11,7 +11,7 @@ returns-clause-status g c = rw c.from.ensures (elim c.match-read_args.branch [
       let said = w.execute_words-status.ensures in
       let words = w.in-Ok.words in
       rw w.status-is (of-words _ _ words _ w.in-Ok.ensures.status
-      (work_status _ _ _ _ _ _ words said.do_task) said.text said.refused)
+      (work_status _ _ _ _ _ _ _ words said.do_task) said.text said.refused)
   | in-Err w ↦ rw (w.status-is, w.report_fault-status.ensures) (inl (inr (Memory, refl)))
 ])
 
@@ -36,7 +36,8 @@ returns-clause-read_args g c texts taken = rw c.from.ensures (elim c.match-read_
       rw (w.status-is, w.output-is) (inr (
         w.in-Ok.words,
         w.in-Ok.ensures.read_args texts taken,
-        ends_as_asked g.W.Sink.contents _ _ (g.I.Source.remaining c.args.input) _ _ _ w.in-Ok.words
+        ends_as_asked g.W.Sink.contents _ _ (g.I.Source.remaining c.args.input) _ _ _ _
+            w.in-Ok.words
             said.do_task said.shown said.prefix said.text said.refused,
       ))
   | in-Err w ↦ rw (w.status-is, w.report_fault-status.ensures) (inl refl)
