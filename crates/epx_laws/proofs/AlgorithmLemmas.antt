@@ -38,6 +38,13 @@ SequenceBefore-not_both m rising x y by back =
     (on_total (λ (a : ℕ × Id). a.1) id_cmp_total)) (by.first.seq, x) (by.second.seq, y) by.lower
     turned
 
+-- and none is before itself
+SequenceBefore-differ : (m : List Instance) → IsRising (ids_of m) → (x y : Id)
+    → SequenceBefore m x y → x ≢ y
+SequenceBefore-differ m rising x y before same =
+    let itself = subst (λ (z : Id). SequenceBefore m z y) same before in
+    SequenceBefore-not_both m rising y y itself itself
+
 -- a property holds of all pairs of joined lists if it holds in each, and between them
 AllPairs-all_members : (R : Id → Id → Type 0) (css : List (List Id))
     → ((c : List Id) → Contains css c → AllPairs R c)
@@ -55,25 +62,23 @@ AllPairs-all_members R (c ∷ css) inside across =
 
 module _ (m : List Instance) (rising : IsRising (ids_of m)) (components : List (List Id))
     (sorted : AreSortedComponents m components) where
-  -- what holds of two instances of which the first is listed first
-  record InTurn (x y : Id) : Type 0 where
+  -- x may come before y
+  record CanPrecede (x y : Id) : Type 0 where
     apart : x ≢ y
     back : Reaches m x y → Reaches m y x
     lower : InOneComponent m x y → SequenceBefore m x y
 
-  inside : (c : List Id) → Contains components c → AllPairs InTurn c
-  inside c h = AllPairs-from_slice_get InTurn c (λ i j x y l p q.
+  inside : (c : List Id) → Contains components c → AllPairs CanPrecede c
+  inside c h = AllPairs-from_slice_get CanPrecede c (λ i j x y l p q.
       let one = sorted.together c h x y (Contains-slice_get c i x p) (Contains-slice_get c j y q) in
       let before = AllPairs-slice_get (SequenceBefore m) c (sorted.by_sequence c h) i j x y l p q in
       record {
-        apart = λ same.
-            let itself = subst (λ (z : Id). SequenceBefore m z y) same before in
-            SequenceBefore-not_both m rising y y itself itself;
+        apart = SequenceBefore-differ m rising x y before;
         back = λ there. one.1;
         lower = λ again. before;
       })
 
-  across : AllPairs (λ c d. (x y : Id) → Contains c x → Contains d y → InTurn x y) components
+  across : AllPairs (λ c d. (x y : Id) → Contains c x → Contains d y → CanPrecede x y) components
   across = λ i j d l k x y in_x in_y.
       let none = sorted.reached_first i j d l k x y in_x in_y in
       record {
@@ -82,17 +87,17 @@ module _ (m : List Instance) (rising : IsRising (ids_of m)) (components : List (
         lower = λ one. absurd (none one.0);
       }
 
-  in_turn : AllPairs InTurn (all_members components)
-  in_turn = AllPairs-all_members InTurn components inside across
+  all_can : AllPairs CanPrecede (all_members components)
+  all_can = AllPairs-all_members CanPrecede components inside across
 
-  turn_of : (x y : Id) → Before (all_members components) x y → InTurn x y
-  turn_of x y (i, j, l, p, q) =
-      AllPairs-slice_get InTurn (all_members components) in_turn i j x y l p q
+  can_precede : (x y : Id) → Before (all_members components) x y → CanPrecede x y
+  can_precede x y (i, j, l, p, q) =
+      AllPairs-slice_get CanPrecede (all_members components) all_can i j x y l p q
 
   pub IsLawful-all_members : IsLawful m (all_members components)
   IsLawful-all_members = record {
     once = AllPairs-from_slice_get (λ x y. x ≢ y) (all_members components)
-        (λ i j x y l p q. (turn_of x y (i, j, l, p, q)).apart);
+        (λ i j x y l p q. (can_precede x y (i, j, l, p, q)).apart);
     only = λ x h. (sorted.members x).0 h;
     whole = λ x ready. (sorted.members x).1 ready;
     after_reached = λ x y h there not_back.
@@ -100,15 +105,14 @@ module _ (m : List Instance) (rising : IsRising (ids_of m)) (components : List (
         elim (Before-cases (all_members components) y x in_y h
         (λ same. not_back (inl same))) [
           | inl so ↦ so
-          | inr turned ↦ absurd (not_back ((turn_of x y turned).back there))
+          | inr late ↦ absurd (not_back ((can_precede x y late).back there))
         ];
     by_sequence = λ x y h k one lower.
-        elim (Before-cases (all_members components) x y h k (λ same.
-        let itself = subst (λ (z : Id). SequenceBefore m z y) same lower in
-        SequenceBefore-not_both m rising y y itself itself)) [
+        elim (Before-cases (all_members components) x y h k
+        (SequenceBefore-differ m rising x y lower)) [
           | inl so ↦ so
-          | inr turned ↦ absurd
+          | inr late ↦ absurd
               (SequenceBefore-not_both m rising x y lower
-              ((turn_of y x turned).lower (one.1, one.0)))
+              ((can_precede y x late).lower (one.1, one.0)))
         ];
   }

@@ -16,5 +16,5 @@ mod NotReachedLemmas
 mod AlgorithmLemmas
 mod OutcomeLemmas
 mod SortedComponentLemmas
-mod LevelTurnLemmas
+mod ByLevelLemmas
 mod RemainingWaitLemmas

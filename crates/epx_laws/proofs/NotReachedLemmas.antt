@@ -75,9 +75,9 @@ module _ (m : List Instance) (x : Id) where
     }
 
     -- what x reaches, and then the others
-    turned : (y : Id) → IsReady m y → ¬ Reaches m x y
+    reached_and_others : (y : Id) → IsReady m y → ¬ Reaches m x y
         → (ids : List Id) × IsLawful m ids × Before ids x y
-    turned y ready_y not_there = (
+    reached_and_others y ready_y not_there = (
       part ++ remaining_ids part whole,
       IsLawful-part_and_rest m (Reaches m x) (λ v there. IsReady-reached m x v there ready)
           (λ v w on there. Reaches-trans m x v w on there) part whole part_lawful lawful,
@@ -91,7 +91,7 @@ pub order_before : (m : List Instance) → IsRising (ids_of m) → (x y : Id) �
     → IsReady m y → ¬ Reaches m x y → (ids : List Id) × IsLawful m ids × Before ids x y
 order_before m rising x y ready ready_y not_there =
     let whole = lawful_order m rising in
-    turned m x ready whole.0 whole.1 y ready_y not_there
+    reached_and_others m x ready whole.0 whole.1 y ready_y not_there
 
 -- if conflicting instances come in the same order in all lawful orders, the map is covered
 pub IsCovered-from_ordered : (m : List Instance) → IsRising (ids_of m) → ConflictsAreOrdered m
