@@ -24,6 +24,7 @@ mod VerdictLemmas
 mod VerdictLineLemmas
 mod CheckLemmas
 mod CoveredTextLemmas
+mod SameLineLemmas
 mod LawfulListLemmas
 mod ReportRangeLemmas
 mod ResumableAnswersLemmas

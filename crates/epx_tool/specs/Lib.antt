@@ -14,6 +14,7 @@ pub mod AnswerLaws
 pub mod ResumptionLaws
 pub mod ResumableAnswers
 pub mod CheckLaws
+pub mod SameLineLaws
 pub mod Runs
 pub mod RunsWithInput
 pub mod Sources

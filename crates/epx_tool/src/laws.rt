@@ -11,6 +11,7 @@ ghost use Rattle.epx_tool.specs.ResumableAnswers.{ReportOfAPartIsSound, ResumedR
 ghost use Rattle.epx_tool.specs.ResumableAnswers.{ResumedReportRepeatsTheWhole};
 ghost use Rattle.epx_tool.specs.ResumableAnswers.{LastReportIsTheWhole};
 ghost use Rattle.epx_tool.specs.ResumptionLaws.{ReportIsAfterNothing, ReportIsBase};
+ghost use Rattle.epx_tool.specs.SameLineLaws.{SameLinesAreAcceptedAlike, SameLinesAreAnsweredAlike};
 ghost use Rattle.epx_tool.specs.ResumptionLaws.{ResumptionExists, ResumptionIsOne};
 
 /// A committed map has a report.
@@ -142,4 +143,15 @@ pub fn resumed_report_repeats_the_whole()
 /// report.
 pub fn last_report_is_the_whole()
     ensures { LastReportIsTheWhole }
+{}
+
+/// Neither the order of logs and lines nor repeated lines change whether logs are accepted, and
+/// what they commit.
+pub fn same_lines_are_accepted_alike()
+    ensures { SameLinesAreAcceptedAlike }
+{}
+
+/// Neither do they change a text of the committed map.
+pub fn same_lines_are_answered_alike()
+    ensures { SameLinesAreAnsweredAlike }
 {}

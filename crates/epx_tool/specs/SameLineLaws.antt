@@ -1,0 +1,30 @@
+-- Laws of logs with the same lines, in whatever order and however often.
+use Rattle.std.specs.Prelude.{ℕ, List, Contains, Ok}
+use Rattle.epx_types.specs.Instances.{Instance}
+use Rattle.epx_lines.specs.Lines.{lines_of}
+use Rattle.epx_merge.specs.Acceptance.{IsAccepted}
+use Rattle.epx_merge.specs.Refusals.{FitLimits}
+use Rattle.epx_tool.specs.Answer.{Answers}
+use Rattle.epx_tool.specs.MapTexts.{IsMapText}
+use Rattle.epx_tool.specs.declared.question.MapText.{MapText}
+
+-- one of the logs has the line
+abbrev pub HaveLine : List (List ℕ) → List ℕ → Type 0
+HaveLine logs line = (log : List ℕ) × Contains logs log × Contains (lines_of log) line
+
+-- each line of the other logs is one of these logs
+abbrev pub HaveLinesOf : List (List ℕ) → List (List ℕ) → Type 0
+HaveLinesOf logs other = (line : List ℕ) → HaveLine other line → HaveLine logs line
+
+-- neither the order of logs and of their lines nor repeated lines change whether logs are accepted,
+-- and what they commit
+abbrev pub SameLinesAreAcceptedAlike : Type 0
+SameLinesAreAcceptedAlike = (logs other : List (List ℕ)) → HaveLinesOf logs other
+    → HaveLinesOf other logs → FitLimits other → (m : List Instance) → IsAccepted logs m
+    → IsAccepted other m
+
+-- nor do they change a text of the committed map
+abbrev pub SameLinesAreAnsweredAlike : Type 0
+SameLinesAreAnsweredAlike = (logs other : List (List ℕ)) → HaveLinesOf logs other
+    → HaveLinesOf other logs → FitLimits other → (kind : MapText) (text : List ℕ)
+    → Answers (IsMapText kind) logs (Ok text) → Answers (IsMapText kind) other (Ok text)
