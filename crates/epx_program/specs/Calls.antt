@@ -52,8 +52,8 @@ EndsWithText text zero status failed old new =
 EndsWithText text (suc n) status failed old new = (status ≡ suc n) × Keeps old new
 
 -- How a task over the paths ends. `input` has the bytes of the program's input, if they are known.
--- `Unread` means that a read of the input failed, `Is` what the text of a path is, and `exit_code`
--- that `--exit-code` is there.
+-- `Unread` means that a read of the input failed, and `exit_code` that `--exit-code` is there. `Is`
+-- says which text is that of a path.
 pub record EndsTask (input : Option (List ℕ)) (Unread : Type 0) (Is : TextRelation)
     (exit_code : Bool) (task : Task) (paths : Option (List (List ℕ))) (status : ℕ) (failed : Bool)
     (old new : Option (List ℕ)) : Type 0 where

@@ -10,7 +10,7 @@ abbrev pub IsInputAlone : Option (List (List ℕ)) → Type 0
 IsInputAlone None = ⊤
 IsInputAlone (Some paths) = paths ≡ codes "-" ∷ []
 
--- what a text is: that of the file at a path, or that of the program's input
+-- which text is that of the file at a path, and which that of the program's input
 pub record TextRelation : Type 1 where
   pub OfFile : List ℕ → List ℕ → Type 0
   pub OfInput : List ℕ → Type 0
@@ -42,7 +42,8 @@ abbrev pub IsFileText : {O F : Type 0} → OpenRelation O F → ReadRelation F
 IsFileText {O} {F} opens reads opener path text =
     (file : F) × opens opener path file × IsWholeText reads file text
 
--- each text is what the reads of the file that the opener opened, or of the input, delivered
+-- the text of a path is what the reads of a file delivered that the opener opened there, and the
+-- text of the input what the reads of the input delivered
 abbrev pub text_relation : {O F I : Type 0} → OpenRelation O F → ReadRelation F → O
     → ReadRelation I → I → TextRelation
 text_relation opens reads opener input_reads input = record {
