@@ -36,7 +36,8 @@ module _ (A : Type 0) (at : Place → Result Line Why → List A) where
   from_lines n k [] x h = absurd (Contains-nil x h)
   from_lines n k (l ∷ ls) x h =
       let place : Place = record { log = n; line = k } in
-      elim (Contains-append_cases (at place (meaning_of l)) (among (meanings_in n (suc k) ls)) x h) [
+      let later = among (meanings_in n (suc k) ls) in
+      elim (Contains-append_cases (at place (meaning_of l)) later x h) [
         | inl first ↦ (l, Contains-head l ls, place, first)
         | inr rest ↦ let p = from_lines n (suc k) ls x rest in
             (p.0, Contains-cons l ls p.0 p.1, p.2, p.3)
