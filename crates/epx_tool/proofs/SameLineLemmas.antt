@@ -1,5 +1,5 @@
 -- Logs with the same lines are accepted alike, and commit the same map.
-use Rattle.std.proofs.Common.{◌≡◌, ◌∙◌, ℕ, suc, List, [], ◌∷◌, Contains, Result, Ok, Err}
+use Rattle.std.proofs.Common.{◌≡◌, ◌∙◌, ◌++◌, ℕ, suc, List, [], ◌∷◌, Contains, Result, Ok, Err}
 use Rattle.std.proofs.Common.{flat_map, refl, sym, ap, subst, inl, inr}
 use Rattle.std.proofs.lemmas.Grind.{flat_map-append}
 use Rattle.std.proofs.lemmas.List.Elements.{Contains-append_left, Contains-append_right}
@@ -27,12 +27,11 @@ use Rattle.epx_tool.specs.SameLineLaws.{HaveLine, HaveLinesOf}
 -- ---- what comes of the lines of logs, at each place
 
 module _ (A : Type 0) (at : Place → Result Line Why → List A) where
-  among : List MeaningAt → List A
+  abbrev among : List MeaningAt → List A
   among lines = flat_map (λ l. at l.place l.meaning) lines
 
   from_lines : (n k : ℕ) (ls : List (List ℕ)) (x : A) → Contains (among (meanings_in n k ls)) x
       → (line : List ℕ) × Contains ls line × (p : Place) × Contains (at p (meaning_of line)) x
-  unfolding among
   from_lines n k [] x h = absurd (Contains-nil x h)
   from_lines n k (l ∷ ls) x h =
       let place : Place = record { log = n; line = k } in
@@ -47,7 +46,6 @@ module _ (A : Type 0) (at : Place → Result Line Why → List A) where
   to_lines : (Q : A → Type 0) (n k : ℕ) (ls : List (List ℕ)) (line : List ℕ) → Contains ls line
       → ((p : Place) → (y : A) × Contains (at p (meaning_of line)) y × Q y)
       → (y : A) × Contains (among (meanings_in n k ls)) y × Q y
-  unfolding among
   to_lines Q n k [] line h give = absurd (Contains-nil line h)
   to_lines Q n k (l ∷ ls) line h give =
       let place : Place = record { log = n; line = k } in
@@ -65,14 +63,12 @@ module _ (A : Type 0) (at : Place → Result Line Why → List A) where
   split_log : (n : ℕ) (log : List ℕ) (logs : List (List ℕ))
       → among (meanings_from n (log ∷ logs))
       ≡ among (meanings_in n 1 (lines_of log)) ++ among (meanings_from (suc n) logs)
-  unfolding among
   split_log n log logs =
       flat_map-append (λ (l : MeaningAt). at l.place l.meaning) (meanings_in n 1 (lines_of log))
       (meanings_from (suc n) logs)
 
   from_logs : (n : ℕ) (logs : List (List ℕ)) (x : A) → Contains (among (meanings_from n logs)) x
       → (line : List ℕ) × HaveLine logs line × (p : Place) × Contains (at p (meaning_of line)) x
-  unfolding among
   from_logs n [] x h = absurd (Contains-nil x h)
   from_logs n (log ∷ logs) x h =
       elim (Contains-append_cases (among (meanings_in n 1 (lines_of log)))
@@ -87,7 +83,6 @@ module _ (A : Type 0) (at : Place → Result Line Why → List A) where
   to_logs : (Q : A → Type 0) (n : ℕ) (logs : List (List ℕ)) (line : List ℕ) → HaveLine logs line
       → ((p : Place) → (y : A) × Contains (at p (meaning_of line)) y × Q y)
       → (y : A) × Contains (among (meanings_from n logs)) y × Q y
-  unfolding among
   to_logs Q n [] line h give = absurd (Contains-nil h.0 h.1)
   to_logs Q n (log ∷ logs) line h give =
       let own = among (meanings_in n 1 (lines_of log)) in
