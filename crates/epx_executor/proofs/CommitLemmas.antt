@@ -1,0 +1,155 @@
+-- What a commit comes to.
+use Rattle.std.proofs.Common.{◌≡◌, ◌⊎◌, ◌↔◌, ◌≤◌, ◌^◌, ℕ, zero, suc, List, [], ◌∷◌, zip, length}
+use Rattle.std.proofs.Common.{Contains, slice_get, Option, Some, refl, sym, ap, ◌∙◌, subst, inl}
+use Rattle.std.proofs.Common.{inr}
+use Rattle.epx_types.specs.declared.id.Id.{Id}
+use Rattle.epx_types.specs.declared.reply.Reply.{Reply}
+use Rattle.epx_types.specs.CommittedMap.{ids_of}
+use Rattle.epx_types.specs.Contents.{Contents}
+use Rattle.epx_types.specs.Execution.{execute}
+use Rattle.epx_types.specs.CommittedMap.{commands_in}
+use Rattle.epx_types.specs.Done.{remaining}
+use Rattle.epx_types.specs.ExecutionOrder.{Ranked, ranked_ids, IsExecutionOrder}
+use Rattle.epx_types.specs.Ids.{IsRising}
+use Rattle.epx_types.specs.Instances.{Instance}
+use Rattle.epx_types.specs.Readiness.{IsReady}
+use Rattle.epx_types.specs.Sound.{HasRemaining}
+use Rattle.epx_types.proofs.orders.ExecutionOrderLemmas.{IsExecutionOrder-IsLawful}
+use Rattle.epx_types.proofs.remaining.RemainingLemmas.{Contains-remaining_iff, IsRising-remaining}
+use Rattle.epx_types.proofs.remaining.ResumedMapLemmas.{IsReady-in_whole}
+use Rattle.epx_types.proofs.graph.ReachingLemmas.{IsReady-reached}
+use Rattle.epx_laws.specs.DoneLaws.{RemainingIsReadyAlike}
+use Rattle.epx_laws.specs.ResumedRunLaws.{CanResume, run_on}
+use Rattle.epx_committed.specs.MergedLines.{IsMerged}
+use Rattle.epx_executor.specs.inner.Batches.{IsBatch}
+use Rattle.epx_executor.proofs.CallLineLemmas.{merged_are_few, merged_instances}
+use Rattle.epx_executor.proofs.OrderedLemmas.{commands_found, few_ids}
+use Rattle.epx_executor.specs.CallLines.{call_lines}
+use Rattle.epx_executor.specs.Commits.{ExecutorView, IsCommit, IsSettled, not_done}
+use Rattle.epx_executor.specs.ExecutorLaws.{IsSoundFor}
+use Rattle.epx_executor.proofs.RemainderLemmas.{from_not_done, rising_not_done, remaining-not_done}
+use Rattle.epx_executor.proofs.RemainderLemmas.{remaining-twice, same_remaining}
+
+-- ---- nothing is left ready
+
+-- what is ready without some ready instances is ready with them
+ready_in_whole : (m : List Instance) (ids : List Id) → IsRising (ids_of m)
+    → ((x : Id) → Contains ids x → IsReady m x) → ((x : Id) → IsReady m x → Contains ids x)
+    → (x : Id) → IsReady (remaining ids m) x → IsReady m x
+ready_in_whole m ids rising only whole =
+    IsReady-in_whole m m ids rising only
+    (λ x y there reached. whole y (IsReady-reached m x y reached (only x there)))
+    (λ e h left. h)
+
+-- once the order of what remains is done, nothing that remains is ready
+none_ready : (done now : List Id) (other : List Instance)
+    (order : List Ranked) → IsRising (ids_of other)
+    → IsExecutionOrder (remaining done other) order
+    → ((x : Id) → Contains now x ↔ (Contains done x ⊎ Contains (ranked_ids order) x)) → (x : Id)
+    → ¬ IsReady (remaining now other) x
+none_ready done now other order rising ordered same x ready =
+    let ids = ranked_ids order in
+    let left = ((Contains-remaining_iff now other x).0 ready.committed).1 in
+    let new : ¬ Contains ids x = λ there. left ((same x).1 (inr there)) in
+    let twice : IsReady (remaining ids (remaining done other)) x =
+    subst (λ (m : List Instance). IsReady m x) (sym (remaining-twice done ids now other same))
+    ready in
+    new (ordered.whole x (ready_in_whole (remaining done other) ids
+    (IsRising-remaining done other rising)
+    (IsExecutionOrder-IsLawful (remaining done other) order ordered).only ordered.whole x twice))
+
+pub settled_after : (done now : List Id) (other : List Instance)
+    (order : List Ranked) (v : ExecutorView) → IsRising (ids_of other)
+    → IsExecutionOrder (remaining done other) order
+    → ((x : Id) → Contains now x ↔ (Contains done x ⊎ Contains (ranked_ids order) x))
+    → v.done ≡ now → v.pending ≡ not_done now other → IsSettled v
+settled_after done now other order v rising ordered same is left = record {
+  rising = subst (λ (m : List Instance). IsRising (ids_of m)) (sym left)
+      (rising_not_done now other rising);
+  not_done = λ e h. subst (λ (ids : List Id). ¬ Contains ids e.id) (sym is)
+      (from_not_done now other e (subst (λ (m : List Instance). Contains m e) left h)).1;
+  none_ready = λ x ready. none_ready done now other order rising ordered same x
+      (subst (λ (m : List Instance). IsReady m x)
+      (ap (remaining v.done) left ∙ ap (λ (ids : List Id). remaining ids (not_done now other)) is
+      ∙ remaining-not_done now other) ready);
+}
+
+pub nothing_is_held_back : RemainingIsReadyAlike → (v : ExecutorView) → IsSettled v
+    → (all : List Instance) → IsRising (ids_of all)
+    → ((e : Instance) → ¬ Contains v.done e.id → Contains all e ↔ Contains v.pending e)
+    → ((x : Id) → Contains v.done x → IsReady all x) →
+    (x : Id) → ¬ Contains v.done x → ¬ IsReady all x
+nothing_is_held_back alike v settled all rising same done x left ready =
+    settled.none_ready x (subst (λ (m : List Instance). IsReady m x)
+    (same_remaining v.done all v.pending rising settled.rising same)
+    ((alike v.done all done x left).1 ready))
+
+-- ---- over a map that contains all that came
+
+module _ (m came : List Instance) (before after : ExecutorView) (replies : List (Id × Reply))
+    (sound : IsSoundFor m before) (has : HasRemaining m before.done came)
+    (commit : IsCommit before came after replies) where
+  pub has_other : HasRemaining m before.done commit.other
+  has_other e h left =
+      elim ((merged_instances before.done before.pending came commit.other commit.merged e).0 h) [
+        | inl old ↦ sound.has e old left
+        | inr new ↦ has e new.0 left
+      ]
+
+  pub can_resume : CanResume m before.done before.store commit.other
+  can_resume = record { rising = sound.rising; sound = sound.sound; has = has_other }
+
+  pub has_pending : HasRemaining m after.done after.pending
+  has_pending e h left =
+      let there = from_not_done after.done commit.other e
+      (subst (λ (l : List Instance). Contains l e) commit.pending h) in
+      has_other e there.0 (λ old. there.1 ((commit.done e.id).1 (inl old)))
+
+-- ---- a pair of two lists
+
+Some-same : {X : Type 0} (o : Option X) (x y : X) → o ≡ Some x → o ≡ Some y → x ≡ y
+Some-same o x y p q = cc (p, q)
+
+pub zip_at : {X Y : Type 0} (xs : List X) (ys : List Y) (i : ℕ) (x : X) (y : Y)
+    → slice_get (zip xs ys) i ≡ Some (x, y) → (slice_get xs i ≡ Some x) × (slice_get ys i ≡ Some y)
+zip_at [] ys i x y h = absurd (cc h)
+zip_at (a ∷ xs) [] i x y h = absurd (cc h)
+zip_at (a ∷ xs) (b ∷ ys) zero x y h =
+    let same : (a, b) ≡ (x, y) = Some-same (Some (a, b)) (a, b) (x, y) refl h in
+    (ap (λ p. Some p.0) same, ap (λ p. Some p.1) same)
+zip_at (a ∷ xs) (b ∷ ys) (suc i) x y h = zip_at xs ys i x y h
+
+-- ---- a batch that is executed is a commit
+
+module _ (done : List Id) (c : Contents) (pending came m : List Instance)
+    (order : List Ranked) (now : List Id) (left : List Instance)
+    (merged : IsMerged (call_lines done pending came) m)
+    (batch : IsBatch done m m order now left) where
+  pub settled_after_batch : (v : ExecutorView) → v.done ≡ now → v.pending ≡ left → IsSettled v
+  settled_after_batch v is also =
+      settled_after done now m order v merged.committed.rising batch.ordered batch.done_now is
+      (also ∙ batch.left)
+
+  pub few_after_batch : length (ranked_ids order) ≤ 2 ^ 40
+  few_after_batch =
+      few_ids done m order batch.ordered (merged_are_few (call_lines done pending came) m merged)
+
+  pub IsCommit-batch : (d : Contents) → d ≡ c → (final : Contents) (replies : List (Id × Reply))
+      → final ≡ (execute (commands_in m (ranked_ids order)) d).final
+      → replies ≡ zip (ranked_ids order) (execute (commands_in m (ranked_ids order)) d).replies
+      → IsCommit (record { done = done; store = c; pending = pending }) came
+      (record { done = now; store = final; pending = left }) replies
+  IsCommit-batch d is final replies last replied =
+      let same : execute (commands_in m (ranked_ids order)) d ≡ run_on done c m order =
+      ap (execute (commands_in m (ranked_ids order))) is
+      ∙ ap (λ os. execute os c) (commands_found done m order batch.ordered) in
+      record {
+        other = m;
+        order = order;
+        merged = merged;
+        ordered = batch.ordered;
+        store = last ∙ ap (λ e. e.final) same;
+        replied = replied ∙ ap (λ e. zip (ranked_ids order) e.replies) same;
+        done = batch.done_now;
+        pending = batch.left;
+      }

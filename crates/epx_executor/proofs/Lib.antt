@@ -1,0 +1,9 @@
+mod RunLemmas
+mod PairLemmas
+mod FilterLemmas
+mod RemainderLemmas
+mod CallLineLemmas
+mod OrderedLemmas
+mod CommitLemmas
+mod HistoryLemmas
+mod BeginningLemmas

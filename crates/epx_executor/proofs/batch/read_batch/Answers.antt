@@ -1,0 +1,7 @@
+use Rattle.epx_executor.proofs.CallLineLemmas.{merged_is_left}
+use Rattle.epx_executor.proofs.batch.read_batch.Goals as goal
+
+pub batch_of-requires-after_bounds : goal.batch_of-requires-after_bounds
+batch_of-requires-after_bounds g c κs within =
+    merged_is_left c.args.done.now c.args.pending.now c.args.came.items c.in_ok-merged.merged
+    c.in_ok-merged.ensures c.requires

@@ -1,0 +1,80 @@
+-- Laws of one commit, over any committed map that contains all that came.
+use Rattle.std.specs.Prelude.{◌≡◌, ◌⊎◌, ◌↔◌, ℕ, List, [], Contains, slice_get, Some}
+use Rattle.std.specs.FinMap as contents
+use Rattle.epx_types.specs.declared.id.Id.{Id}
+use Rattle.epx_types.specs.declared.reply.Reply.{Reply}
+use Rattle.epx_types.specs.CommittedMap.{ids_of}
+use Rattle.epx_types.specs.Conflicts.{IsCovered}
+use Rattle.epx_types.specs.Done.{remaining}
+use Rattle.epx_types.specs.ExecutionOrder.{Ranked, IsExecutionOrder}
+use Rattle.epx_types.specs.Ids.{IsRising}
+use Rattle.epx_types.specs.Instances.{Instance}
+use Rattle.epx_types.specs.Readiness.{IsReady}
+use Rattle.epx_types.specs.Sound.{IsSound, HasRemaining}
+use Rattle.epx_laws.specs.ResumedRunLaws.{HasReply, whole_run}
+use Rattle.epx_executor.specs.Commits.{ExecutorView, IsCommit, IsSettled}
+
+-- nothing is done, and the store is empty
+abbrev pub new_executor : ExecutorView
+new_executor = record { done = []; store = contents.empty; pending = [] }
+
+-- The Ids of m rise. The done instances and the store are sound for m, and the pending instances
+-- are instances of m
+pub record IsSoundFor (m : List Instance) (v : ExecutorView) : Type 0 where
+  pub rising : IsRising (ids_of m)
+  pub sound : IsSound m v.done v.store
+  pub has : HasRemaining m v.done v.pending
+
+-- a new executor is sound for every map
+abbrev pub NewExecutorIsSound : Type 0
+NewExecutorIsSound = (m : List Instance) → IsRising (ids_of m) → IsSoundFor m new_executor
+
+-- an executor stays sound for a map if each instance that comes is done or in the map
+abbrev pub CommittingStaysSound : Type 0
+CommittingStaysSound = (m came : List Instance) (before after : ExecutorView)
+    (replies : List (Id × Reply)) → IsSoundFor m before → HasRemaining m before.done came
+    → IsCommit before came after replies → IsSoundFor m after
+
+-- if the map is covered, each reply is the one that the instance has in a run over the whole map
+abbrev pub CommittedRepliesAreThoseOfTheWhole : Type 0
+CommittedRepliesAreThoseOfTheWhole = (m came : List Instance) (before after : ExecutorView)
+    (replies : List (Id × Reply)) → IsSoundFor m before → HasRemaining m before.done came
+    → IsCommit before came after replies → IsCovered m →
+    (whole : List Ranked) → IsExecutionOrder m whole →
+    (i : ℕ) (x : Id) (r : Reply) → slice_get replies i ≡ Some (x, r)
+    → HasReply whole (whole_run m whole) x r
+
+-- once all ready instances of a covered map are done, the store is that of a run over the whole map
+abbrev pub AllCommittedIsTheWhole : Type 0
+AllCommittedIsTheWhole = (m : List Instance) (v : ExecutorView) → IsSoundFor m v → IsCovered m
+    → ((x : Id) → IsReady m x → Contains v.done x) →
+    (whole : List Ranked) → IsExecutionOrder m whole → v.store ≡ (whole_run m whole).final
+
+-- after a commit no pending instance is done or ready
+abbrev pub CommitLeavesNoneReady : Type 0
+CommitLeavesNoneReady = (came : List Instance) (before after : ExecutorView)
+    (replies : List (Id × Reply)) → IsCommit before came after replies → IsSettled after
+
+-- if the instances of a map that are not done are those that are pending or come, its remaining map
+-- is the one that the commit executes
+abbrev pub CommitResumesAllThatCame : Type 0
+CommitResumesAllThatCame = (came : List Instance) (before after : ExecutorView)
+    (replies : List (Id × Reply)) → (commit : IsCommit before came after replies)
+    → (all : List Instance) → IsRising (ids_of all)
+    → ((e : Instance) → ¬ Contains before.done e.id
+    → Contains all e ↔ (Contains before.pending e ⊎ Contains came e))
+    → remaining before.done all ≡ remaining before.done commit.other
+
+-- if the instances of a map that are not done are the pending ones, none of them is ready in it
+abbrev pub NothingIsHeldBack : Type 0
+NothingIsHeldBack = (v : ExecutorView) → IsSettled v → (all : List Instance)
+    → IsRising (ids_of all)
+    → ((e : Instance) → ¬ Contains v.done e.id → Contains all e ↔ Contains v.pending e)
+    → ((x : Id) → Contains v.done x → IsReady all x) →
+    (x : Id) → ¬ Contains v.done x → ¬ IsReady all x
+
+-- an instance that a commit executes was not done before it
+abbrev pub NoneIsExecutedTwice : Type 0
+NoneIsExecutedTwice = (came : List Instance) (before after : ExecutorView)
+    (replies : List (Id × Reply)) → IsCommit before came after replies →
+    (i : ℕ) (x : Id) (r : Reply) → slice_get replies i ≡ Some (x, r) → ¬ Contains before.done x

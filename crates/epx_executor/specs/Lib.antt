@@ -1,0 +1,5 @@
+pub mod CallLines
+pub mod Commits
+pub mod ExecutorLaws
+pub mod HistoryLaws
+pub mod inner

@@ -1,0 +1,3 @@
+-- Words of private clauses: no public contract speaks of them.
+pub mod Runs
+pub mod Batches

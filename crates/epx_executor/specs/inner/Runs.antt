@@ -1,0 +1,43 @@
+-- Runs of consecutive numbers, and the Ids in them.
+use Rattle.std.specs.Prelude.{◌≡◌, ◌+◌, ◌-◌, ◌≤◌, List, map, flat_map, All, AllPairs, Contains}
+use Rattle.std.specs.List.{range_with_len}
+use Rattle.epx_types.specs.declared.id.Id.{Id}
+use Rattle.epx_types.specs.Ids.{Below, UpTo}
+use Rattle.epx_executor.specs.declared.done_runs.Run.{Run}
+
+abbrev pub IsInRun : Run → Id → Type 0
+IsInRun r x = (x.replica ≡ r.replica) × (r.first ≤ x.number) × (x.number ≤ r.last)
+
+-- the Id is in one of the runs
+abbrev pub IsInRuns : List Run → Id → Type 0
+IsInRuns runs x = (r : Run) × Contains runs r × IsInRun r x
+
+abbrev pub first_of : Run → Id
+first_of r = record { replica = r.replica; number = r.first }
+
+abbrev pub last_of : Run → Id
+last_of r = record { replica = r.replica; number = r.last }
+
+-- a run has a number
+abbrev pub IsFilled : Run → Type 0
+IsFilled r = r.first ≤ r.last
+
+abbrev pub AreFilled : List Run → Type 0
+AreFilled runs = All IsFilled runs
+
+-- no run begins before an earlier one
+abbrev pub BeginInOrder : List Run → Type 0
+BeginInOrder runs = AllPairs (λ a b. UpTo (first_of a) (first_of b)) runs
+
+-- the runs have numbers, and each ends before the next ones begin
+pub record AreRuns (runs : List Run) : Type 0 where
+  pub filled : AreFilled runs
+  pub apart : AllPairs (λ a b. Below (last_of a) (first_of b)) runs
+
+unfoldable pub ids_of_run : Run → List Id
+ids_of_run r = map (λ n. record { replica = r.replica; number = n })
+    (range_with_len r.first (r.last + 1 - r.first))
+
+-- the Ids in some runs
+unfoldable pub ids_in : List Run → List Id
+ids_in runs = flat_map ids_of_run runs

@@ -1,0 +1,83 @@
+//! The map that the lines of a call commit.
+ghost use Rattle.std.specs.Prelude.{◌≡◌, ◌∷◌, [], ◌++◌, not, IfOk, OnOk, MatchResult};
+ghost use Rattle.epx_types.specs.Done.{is_among};
+ghost use Rattle.epx_committed.specs.MergedLines.{IsMerged, IsMergeFault};
+ghost use Rattle.epx_executor.specs.CallLines.{call_lines, lines_from, lines_not_done};
+
+use crate::copies::copy_entry;
+use crate::done_runs::DoneRuns;
+use epx_committed::{Ledger, Merged, PlacedEntry};
+use epx_seed::Seed;
+use epx_types::{Entry, Fault, Id, Memory, Place};
+use std::alloc::Global;
+use std::random::RandomSource;
+
+/// Whether an instance is not done.
+pub(crate) fn is_left(done: &DoneRuns, id: Id) -> bool
+    ensures { result ≡ not (is_among done.now id) }
+{
+    !done.contains(id)
+}
+
+/// Copies of the pending entries, on the lines of log 0.
+fn pending_lines(alloc: Global, pending: &[Entry]) -> Result<Vec<PlacedEntry>, Memory>
+    ensures { IfOk result (λ lines. lines.items ≡ lines_from 0 1 pending.now) }
+{
+    let mut line = 0;
+    let mut lines = Vec::with_capacity(alloc, pending.len())?;
+    for entry in pending {
+        line += 1;
+        let copy = copy_entry(alloc, entry)?;
+        lines.push(PlacedEntry::new(Place { log: 0, line }, copy))?;
+    }
+    Ok(lines)
+}
+
+/// Appends an entry on a line of log 1, unless its instance is done.
+fn push_if_left(
+    done: &DoneRuns,
+    line: usize,
+    entry: Entry,
+    lines: &mut Vec<PlacedEntry>,
+) -> Result<(), Memory>
+    ensures { OnOk result (lines.new.items ≡ lines.old.items
+        ++ lines_not_done done.now (lines_from 1 line (entry ∷ []))) }
+{
+    if is_left(done, entry.id()) {
+        lines.push(PlacedEntry::new(Place { log: 1, line }, entry))?;
+    }
+    Ok(())
+}
+
+/// The entries that came, on the lines of log 1, without those of done instances.
+fn lines_left(alloc: Global, done: &DoneRuns, came: Vec<Entry>) -> Result<Vec<PlacedEntry>, Memory>
+    ensures { IfOk result
+        (λ lines. lines.items ≡ lines_not_done done.now (lines_from 1 1 came.items)) }
+{
+    let mut line = 0;
+    let mut lines = Vec::with_capacity(alloc, came.len())?;
+    for entry in came {
+        line += 1;
+        push_if_left(done, line, entry, &mut lines)?;
+    }
+    Ok(lines)
+}
+
+/// The map that the lines of a call commit, or why they commit none.
+pub(crate) fn merge_call<R: RandomSource>(
+    rt: &R,
+    alloc: Global,
+    done: &DoneRuns,
+    pending: &[Entry],
+    came: Vec<Entry>,
+) -> Result<Merged, Fault>
+    ensures { let lines = call_lines done.now pending.now came.items in
+        MatchResult result (IsMerged lines) (IsMergeFault lines) }
+{
+    let old = pending_lines(alloc, pending)?;
+    let new = lines_left(alloc, done, came)?;
+    let mut ledger = Ledger::new(alloc, Seed::draw(rt));
+    ledger.note(old)?;
+    ledger.note(new)?;
+    ledger.close()
+}

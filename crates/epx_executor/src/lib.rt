@@ -1,0 +1,14 @@
+//! An executor that lives as long as a replica. It takes committed instances as they come, and
+//! executes those that become ready.
+#![tactic(auto)]
+
+mod batch;
+mod call_lines;
+mod copies;
+mod done_runs;
+mod execute_all;
+mod executor;
+pub mod laws;
+
+pub use done_runs::DoneRuns;
+pub use executor::Executor;
