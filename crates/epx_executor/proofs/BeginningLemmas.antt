@@ -1,17 +1,15 @@
 -- What the calls of an executor execute, one after another.
-use Rattle.std.proofs.Common.{◌≡◌, ◌⊎◌, List, [], ◌∷◌, ◌++◌, map, flat_map, zip, length, Contains}
+use Rattle.std.proofs.Common.{◌≡◌, ◌⊎◌, List, [], ◌∷◌, ◌++◌, map, zip, length, Contains}
 use Rattle.std.proofs.Common.{refl, sym, ap, ap₂, ◌∙◌, subst, inl, inr, arith}
 use Rattle.std.proofs.lemmas.List.{append_assoc, append-nil, length-map, map-append}
 use Rattle.std.specs.FinMap as contents
 use Rattle.epx_types.specs.declared.id.Id.{Id}
-use Rattle.epx_types.specs.declared.op.Op.{Op}
 use Rattle.epx_types.specs.declared.reply.Reply.{Reply}
-use Rattle.epx_types.specs.CommittedMap.{ids_of, instance_of, ops_or_empty, commands_in}
+use Rattle.epx_types.specs.CommittedMap.{instance_of, ops_or_empty, commands_in}
 use Rattle.epx_types.specs.Contents.{Contents}
 use Rattle.epx_types.specs.Done.{remaining, remaining_ids}
 use Rattle.epx_types.specs.Execution.{Execution, execute}
-use Rattle.epx_types.specs.ExecutionOrder.{Ranked, ranked_ids, IsExecutionOrder}
-use Rattle.epx_types.specs.Ids.{IsRising}
+use Rattle.epx_types.specs.ExecutionOrder.{ranked_ids}
 use Rattle.epx_types.specs.Instances.{Instance}
 use Rattle.epx_types.specs.LawfulBeginnings.{IsLawfulBeginning}
 use Rattle.epx_types.specs.LawfulOrders.{IsLawfulFor, IsLawful}

@@ -1,6 +1,6 @@
 -- The lines of a call, and the map that they commit.
 use Rattle.std.proofs.Common.{◌≡◌, ◌<◌, ◌≤◌, ◌+◌, ◌↔◌, ◌⊎◌, Bool, true, not, ℕ, suc, List, []}
-use Rattle.std.proofs.Common.{◌∷◌, ◌++◌, length, filter, get_or, take, Contains, refl, ap, ◌∙◌}
+use Rattle.std.proofs.Common.{◌∷◌, ◌++◌, length, filter, get_or, take, Contains, ap, ◌∙◌}
 use Rattle.std.proofs.Common.{sym, subst, inl, inr, arith, length-take}
 use Rattle.std.proofs.lemmas.Bool.{cases_Bool}
 use Rattle.std.proofs.lemmas.Bool.Decides.{nat_tests}
@@ -9,23 +9,19 @@ use Rattle.std.proofs.lemmas.List.Elements.{Contains-append_cases, Contains-appe
 use Rattle.std.proofs.lemmas.List.Elements.{Contains-append_right, filter-append}
 use Rattle.epx_types.specs.declared.id.Id.{Id}
 use Rattle.epx_types.specs.declared.place.Place.{Place}
-use Rattle.epx_types.specs.CommittedMap.{ids_of, IsCommittedBy}
+use Rattle.epx_types.specs.CommittedMap.{ids_of}
 use Rattle.epx_types.specs.Done.{is_among}
-use Rattle.epx_types.specs.Ids.{Below}
 use Rattle.epx_types.specs.Instances.{Instance}
 use Rattle.epx_types.specs.Limits.{max_instances}
 use Rattle.epx_types.specs.PlacedLines.{Placed, Earlier}
-use Rattle.epx_types.proofs.lists.ComparisonLemmas.{id_cmp_total}
 use Rattle.epx_types.proofs.lists.MembershipLemmas.{Contains-nil, Contains-head, Contains-cons}
-use Rattle.epx_types.proofs.lists.MembershipLemmas.{Contains-cons_cases, Contains-map}
+use Rattle.epx_types.proofs.lists.MembershipLemmas.{Contains-cons_cases}
 use Rattle.epx_types.proofs.lists.MembershipLemmas.{Contains-from_map, Contains-filter}
 use Rattle.epx_types.proofs.lists.MembershipLemmas.{Contains-from_filter, passes-from_filter}
-use Rattle.epx_types.proofs.lists.RisingIdLemmas.{AllPairs-from_IsRising}
-use Rattle.epx_types.proofs.lists.TotalOrderLemmas.{below_irrefl, below_trans, same_rising}
 use Rattle.epx_types.proofs.remaining.RemainingLemmas.{not_among}
-use Rattle.epx_committed.specs.InstanceCounts.{AreNamedBy}
 use Rattle.epx_committed.specs.LineOrder.{IsSortedByPlace}
 use Rattle.epx_committed.specs.MergedLines.{IsMerged}
+use Rattle.epx_committed.proofs.InstanceCountLemmas.{named_ids_are_committed}
 use Rattle.epx_committed.proofs.LineOrderLemmas.{earlier_line, AreSortedBy-append}
 use Rattle.epx_executor.specs.CallLines.{call_lines, lines_from, lines_not_done}
 use Rattle.epx_executor.proofs.RemainderLemmas.{among_true}
@@ -192,20 +188,6 @@ module _ (done : List Id) (pending came : List Instance) where
         ])
 
 -- ---- how many they are
-
--- the Ids that lines name are those of the committed instances
-named_ids_are_committed : (lines : List Placed) (m : List Instance) (ids : List Id)
-    → IsCommittedBy lines m → AreNamedBy lines ids → ids ≡ ids_of m
-named_ids_are_committed lines m ids committed named =
-    same_rising Below (below_irrefl id_cmp_total) (below_trans id_cmp_total) ids (ids_of m)
-    (AllPairs-from_IsRising ids named.rising) (AllPairs-from_IsRising (ids_of m) committed.rising)
-    (λ x h. let p = named.named x h in
-    subst (Contains (ids_of m)) p.2
-    (Contains-map (λ (e : Instance). e.id) m p.0.instance (committed.whole p.0 p.1)))
-    (λ x h.
-    let e = Contains-from_map (λ (e : Instance). e.id) m x h in
-    let p = committed.given e.0 e.1 in
-    subst (Contains ids) (ap (λ (e : Instance). e.id) p.2 ∙ e.2) (named.whole p.0 p.1))
 
 pub merged_are_few : (lines : List Placed) (m : List Instance) → IsMerged lines m
     → length m ≤ max_instances

@@ -1,13 +1,15 @@
 -- What a commit comes to.
-use Rattle.std.proofs.Common.{◌≡◌, ◌⊎◌, ◌↔◌, ◌≤◌, ◌^◌, ℕ, zero, suc, List, [], ◌∷◌, zip, length}
+use Rattle.std.proofs.Common.{◌≡◌, ◌⊎◌, ◌↔◌, ◌≤◌, ◌^◌, ℕ, zero, suc, List, [], ◌∷◌, map, zip}
+use Rattle.std.proofs.Common.{length, arith}
 use Rattle.std.proofs.Common.{Contains, slice_get, Option, Some, refl, sym, ap, ◌∙◌, subst, inl}
 use Rattle.std.proofs.Common.{inr}
+use Rattle.std.proofs.lemmas.List.{length-map}
 use Rattle.epx_types.specs.declared.id.Id.{Id}
+use Rattle.epx_types.specs.declared.op.Op.{Op}
 use Rattle.epx_types.specs.declared.reply.Reply.{Reply}
-use Rattle.epx_types.specs.CommittedMap.{ids_of}
+use Rattle.epx_types.specs.CommittedMap.{ids_of, instance_of, ops_or_empty}
 use Rattle.epx_types.specs.Contents.{Contents}
 use Rattle.epx_types.specs.Execution.{execute}
-use Rattle.epx_types.specs.CommittedMap.{commands_in}
 use Rattle.epx_types.specs.Done.{remaining}
 use Rattle.epx_types.specs.ExecutionOrder.{Ranked, ranked_ids, IsExecutionOrder}
 use Rattle.epx_types.specs.Ids.{IsRising}
@@ -122,34 +124,45 @@ zip_at (a ∷ xs) (b ∷ ys) (suc i) x y h = zip_at xs ys i x y h
 -- ---- a batch that is executed is a commit
 
 module _ (done : List Id) (c : Contents) (pending came m : List Instance)
-    (order : List Ranked) (now : List Id) (left : List Instance)
+    (order : List Ranked) (positions : List (Id × ℕ)) (now : List Id)
     (merged : IsMerged (call_lines done pending came) m)
-    (batch : IsBatch done m m order now left) where
-  pub settled_after_batch : (v : ExecutorView) → v.done ≡ now → v.pending ≡ left → IsSettled v
+    (batch : IsBatch done m m order positions now) where
+  pub settled_after_batch : (v : ExecutorView) → v.done ≡ now → v.pending ≡ not_done now m
+      → IsSettled v
   settled_after_batch v is also =
-      settled_after done now m order v merged.committed.rising batch.ordered batch.done_now is
-      (also ∙ batch.left)
+      settled_after done now m order v merged.committed.rising batch.ordered batch.done_now is also
 
-  pub few_after_batch : length (ranked_ids order) ≤ 2 ^ 40
-  few_after_batch =
-      few_ids done m order batch.ordered (merged_are_few (call_lines done pending came) m merged)
+  -- the commands at the positions are those of the order
+  module _ (os : List (List Op))
+      (at : os ≡ map (λ (p : Id × ℕ). ops_or_empty (slice_get m p.1)) positions) where
+    pub length_of_batch : length os ≡ length (ranked_ids order)
+    length_of_batch = ap length (at ∙ batch.found)
+        ∙ length-map (ranked_ids order) (λ x. ops_or_empty (instance_of m x))
 
-  pub IsCommit-batch : (d : Contents) → d ≡ c → (final : Contents) (replies : List (Id × Reply))
-      → final ≡ (execute (commands_in m (ranked_ids order)) d).final
-      → replies ≡ zip (ranked_ids order) (execute (commands_in m (ranked_ids order)) d).replies
-      → IsCommit (record { done = done; store = c; pending = pending }) came
-      (record { done = now; store = final; pending = left }) replies
-  IsCommit-batch d is final replies last replied =
-      let same : execute (commands_in m (ranked_ids order)) d ≡ run_on done c m order =
-      ap (execute (commands_in m (ranked_ids order))) is
-      ∙ ap (λ os. execute os c) (commands_found done m order batch.ordered) in
-      record {
-        other = m;
-        order = order;
-        merged = merged;
-        ordered = batch.ordered;
-        store = last ∙ ap (λ e. e.final) same;
-        replied = replied ∙ ap (λ e. zip (ranked_ids order) e.replies) same;
-        done = batch.done_now;
-        pending = batch.left;
-      }
+    pub few_in_batch : length os ≤ 2 ^ 40
+    few_in_batch = omega (
+      arith,
+      length_of_batch,
+      few_ids done m order batch.ordered
+          (merged_are_few (call_lines done pending came) m merged),
+    )
+
+    pub IsCommit-batch : (d : Contents) → d ≡ c → (final : Contents)
+        (replies : List (Id × Reply)) (left : List Instance) → final ≡ (execute os d).final
+        → replies ≡ zip (ranked_ids order) (execute os d).replies → left ≡ not_done now m
+        → IsCommit (record { done = done; store = c; pending = pending }) came
+        (record { done = now; store = final; pending = left }) replies
+    IsCommit-batch d is final replies left last replied stay =
+        let same : execute os d ≡ run_on done c m order =
+        ap (execute os) is ∙ ap (λ ks. execute ks c)
+        (at ∙ batch.found ∙ commands_found done m order batch.ordered) in
+        record {
+          other = m;
+          order = order;
+          merged = merged;
+          ordered = batch.ordered;
+          store = last ∙ ap (λ e. e.final) same;
+          replied = replied ∙ ap (λ e. zip (ranked_ids order) e.replies) same;
+          done = batch.done_now;
+          pending = stay;
+        }

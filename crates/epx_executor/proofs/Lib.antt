@@ -4,6 +4,7 @@ mod FilterLemmas
 mod RemainderLemmas
 mod CallLineLemmas
 mod OrderedLemmas
+mod FoundOpsLemmas
 mod CommitLemmas
 mod HistoryLemmas
 mod BeginningLemmas

@@ -1,7 +1,8 @@
 //! What a call of `commit` makes ready.
-ghost use Rattle.std.specs.Prelude.{◌≡◌, ◌++◌, filter, Contains, IfOk, MatchResult, OnOk};
+ghost use Rattle.std.specs.Prelude.{◌≡◌, ◌++◌, filter, map, slice_get, Contains, IfOk, OnOk};
+ghost use Rattle.std.specs.Prelude.{MatchResult};
 ghost use Rattle.epx_types.specs.declared.id.Id.{Id};
-ghost use Rattle.epx_types.specs.CommittedMap.{ids_of};
+ghost use Rattle.epx_types.specs.CommittedMap.{ids_of, ops_or_empty, commands_in};
 ghost use Rattle.epx_types.specs.Done.{is_among, remaining};
 ghost use Rattle.epx_types.specs.ExecutionOrder.{IsExecutionOrder};
 ghost use Rattle.epx_types.specs.Ids.{IsRising};
@@ -12,7 +13,6 @@ ghost use Rattle.epx_executor.specs.Commits.{not_done};
 ghost use Rattle.epx_executor.specs.inner.Batches.{AreDoneDeps, IsBatch};
 
 use crate::call_lines::{is_left, merge_call};
-use crate::copies::copy_entry;
 use crate::done_runs::DoneRuns;
 use epx_committed::Merged;
 use epx_components::OrderList;
@@ -49,18 +49,17 @@ fn done_deps(alloc: Global, done: &DoneRuns, merged: &Merged) -> Result<Vec<Id>,
     sort_unique(alloc, &found)
 }
 
-/// Copies of the entries of the map that are not done.
-fn copy_left(alloc: Global, merged: &Merged, done: &DoneRuns) -> Result<Vec<Entry>, Memory>
-    ensures { IfOk result (λ entries. entries.items ≡ not_done done.now merged.now) }
+/// Instances with their positions in a map. An instance that is not there has the number of all.
+fn positions_of(alloc: Global, merged: &Merged, ids: &[Id]) -> Result<Vec<(Id, usize)>, Memory>
+    ensures { IfOk result (λ positions. map (λ p. ops_or_empty (slice_get merged.now p.1))
+        positions.items ≡ commands_in merged.now ids.now) }
 {
-    let mut entries = Vec::new(alloc);
-    for position in 0..merged.len() {
-        let entry = merged.entry_at(position);
-        if is_left(done, entry.id()) {
-            entries.push(copy_entry(alloc, entry)?)?;
-        }
+    let mut positions = Vec::with_capacity(alloc, ids.len())?;
+    for id in ids {
+        let position = merged.position(*id).unwrap_or(merged.len());
+        positions.push((*id, position))?;
     }
-    Ok(entries)
+    Ok(positions)
 }
 
 /// The execution order of the remaining map. No instance of the map is done.
@@ -81,14 +80,16 @@ fn order_remaining<R: Threads + Sync>(
     order(rt, alloc, merged, &graph)
 }
 
-/// A committed map, the execution order of its remaining map, and what is done and pending once
-/// that order is executed.
+/// What a call of `commit` executes, and what is done afterwards.
 #[derive(Drop)]
 pub(crate) struct Batch {
-    pub(crate) merged: Merged,
+    /// The entries of the committed map, by rising Id.
+    pub(crate) entries: Vec<Entry>,
+    /// The execution order of its remaining map.
     pub(crate) order: OrderList,
+    /// The instances of the order with the positions of their entries.
+    pub(crate) positions: Vec<(Id, usize)>,
     pub(crate) done: DoneRuns,
-    pub(crate) pending: Vec<Entry>,
 }
 
 /// The batch of a map.
@@ -101,16 +102,17 @@ fn batch_of<R: Threads + Sync>(
 ) -> Result<Batch, Memory>
     requires { (x : Id) → Contains (ids_of merged) x → ¬ Contains done.now x }
     ensures { IfOk result (λ batch. IsBatch done.now merged
-        batch.merged batch.order batch.done batch.pending.items) }
+        batch.entries.items batch.order batch.positions.items batch.done) }
 {
     let order = order_remaining(rt, alloc, done, &merged, plan)?;
+    let positions = positions_of(alloc, &merged, order.ids())?;
     let done = done.with(alloc, order.ids())?;
-    let pending = copy_left(alloc, &merged, &done)?;
+    let entries = merged.into_entries(alloc)?;
     Ok(Batch {
-        merged,
+        entries,
         order,
+        positions,
         done,
-        pending,
     })
 }
 
@@ -125,10 +127,19 @@ pub(crate) fn read_batch<R: Threads + RandomSource + Sync>(
 ) -> Result<Batch, Fault>
     requires { (e : Instance) → Contains pending.now e → ¬ Contains done.now e.id }
     ensures { let lines = call_lines done.now pending.now came.items in
-        MatchResult result (λ batch. IsMerged lines batch.merged
-        × IsBatch done.now batch.merged batch.merged batch.order batch.done batch.pending.items)
+        MatchResult result (λ batch. IsMerged lines batch.entries.items × IsBatch done.now
+        batch.entries.items batch.entries.items batch.order batch.positions.items batch.done)
         (IsMergeFault lines) }
 {
     let merged = merge_call(rt, alloc, done, pending, came)?;
     Ok(batch_of(rt, alloc, done, merged, plan)?)
+}
+
+/// The entries that are not done. They are moved.
+pub(crate) fn keep_left(done: &DoneRuns, entries: Vec<Entry>) -> Vec<Entry>
+    ensures { result.items ≡ not_done done.now entries.items }
+{
+    let mut left = entries;
+    left.retain(|entry| is_left(done, entry.id()));
+    left
 }

@@ -4,7 +4,6 @@ ghost use Rattle.epx_types.specs.Done.{is_among};
 ghost use Rattle.epx_committed.specs.MergedLines.{IsMerged, IsMergeFault};
 ghost use Rattle.epx_executor.specs.CallLines.{call_lines, lines_from, lines_not_done};
 
-use crate::copies::copy_entry;
 use crate::done_runs::DoneRuns;
 use epx_committed::{Ledger, Merged, PlacedEntry};
 use epx_seed::Seed;
@@ -27,7 +26,7 @@ fn pending_lines(alloc: Global, pending: &[Entry]) -> Result<Vec<PlacedEntry>, M
     let mut lines = Vec::with_capacity(alloc, pending.len())?;
     for entry in pending {
         line += 1;
-        let copy = copy_entry(alloc, entry)?;
+        let copy = entry.copy(alloc)?;
         lines.push(PlacedEntry::new(Place { log: 0, line }, copy))?;
     }
     Ok(lines)
@@ -76,7 +75,8 @@ pub(crate) fn merge_call<R: RandomSource>(
 {
     let old = pending_lines(alloc, pending)?;
     let new = lines_left(alloc, done, came)?;
-    let mut ledger = Ledger::new(alloc, Seed::draw(rt));
+    let count = old.len().saturating_add(new.len());
+    let mut ledger = Ledger::for_lines(alloc, Seed::draw(rt), count);
     ledger.note(old)?;
     ledger.note(new)?;
     ledger.close()

@@ -1,29 +1,28 @@
-//! Instances of a map executed on a store.
-ghost use Rattle.std.specs.Prelude.{◌≡◌, ◌≤◌, ◌^◌, length, map, zip, IfOk, IfSome};
-ghost use Rattle.epx_types.specs.CommittedMap.{commands_in};
+//! Commands executed on a store.
+ghost use Rattle.std.specs.Prelude.{◌≡◌, ◌≤◌, ◌^◌, length, map, slice_get, zip, IfOk, IfSome};
+ghost use Rattle.epx_types.specs.CommittedMap.{ops_or_empty};
 ghost use Rattle.epx_types.specs.Execution.{execute};
 
 use epx_apply::run_from;
 use epx_claims::FreeGate;
-use epx_committed::Merged;
 use epx_txn::Store;
-use epx_types::{Command, Id, Memory, Plan, Reply};
+use epx_types::{Command, Entry, Id, Memory, Plan, Reply};
 use std::alloc::Global;
 use std::random::RandomSource;
 use std::thread::Threads;
 
-/// The commands of instances of a map.
-fn commands_of<'a>(
+/// The commands of entries at these positions. There is no operation where there is no entry.
+pub(crate) fn commands_at<'a>(
     alloc: Global,
-    merged: &'a Merged,
-    ids: &[Id],
+    entries: &'a [Entry],
+    positions: &[(Id, usize)],
 ) -> Result<Vec<Command<'a>>, Memory>
-    ensures { IfOk result
-        (λ commands. map (λ c. c.ops.now) commands.items ≡ commands_in merged.now ids.now) }
+    ensures { IfOk result (λ commands. map (λ c. c.ops.now) commands.items
+        ≡ map (λ p. ops_or_empty (slice_get entries.now p.1)) positions.now) }
 {
-    let mut commands = Vec::with_capacity(alloc, ids.len())?;
-    for id in ids {
-        let ops = match merged.get(*id) {
+    let mut commands = Vec::with_capacity(alloc, positions.len())?;
+    for (id, position) in positions {
+        let ops = match entries.get(*position) {
             Some(entry) => entry.ops(),
             None => &[],
         };
@@ -44,41 +43,41 @@ fn pair_up(alloc: Global, ids: &[Id], replies: Vec<Reply>) -> Result<Vec<(Id, Re
     Ok(pairs)
 }
 
-/// Executes instances of a map, in order. Returns the store after them, and the reply of each.
+/// Executes the commands of instances, in order. Returns the store after them, and the reply of
+/// each.
 pub(crate) fn execute_all<R: Threads + RandomSource + Sync>(
     rt: &R,
     alloc: Global,
     store: Store,
-    merged: &Merged,
     ids: &[Id],
+    commands: &[Command],
     plan: Plan,
 ) -> Result<(Store, Vec<(Id, Reply)>), Memory>
-    requires { length ids.now ≤ 2 ^ 40 }
+    requires few { length commands.now ≤ 2 ^ 40 }
+    requires same { length commands.now ≡ length ids.now }
     ensures store { IfOk result
-        (λ v. v.0 ≡ (execute (commands_in merged.now ids.now) store).final) }
+        (λ v. v.0 ≡ (execute (map (λ c. c.ops.now) commands.now) store).final) }
     ensures replies { IfOk result (λ v. v.1.items
-        ≡ zip ids.now (execute (commands_in merged.now ids.now) store).replies) }
+        ≡ zip ids.now (execute (map (λ c. c.ops.now) commands.now) store).replies) }
 {
-    let commands = commands_of(alloc, merged, ids)?;
-    let (store, replies) = run_from(rt, alloc, store, &commands, plan, &FreeGate)?;
+    let (store, replies) = run_from(rt, alloc, store, commands, plan, &FreeGate)?;
     let pairs = pair_up(alloc, ids, replies)?;
     Ok((store, pairs))
 }
 
-/// The store after these instances. None if memory runs out.
+/// The store after these commands. None if memory runs out.
 pub(crate) fn store_after<R: Threads + RandomSource + Sync>(
     rt: &R,
     alloc: Global,
     store: Store,
-    merged: &Merged,
-    ids: &[Id],
+    commands: &[Command],
     plan: Plan,
 ) -> Option<Store>
-    requires { length ids.now ≤ 2 ^ 40 }
+    requires { length commands.now ≤ 2 ^ 40 }
     ensures { IfSome result
-        (λ after. after ≡ (execute (commands_in merged.now ids.now) store).final) }
+        (λ after. after ≡ (execute (map (λ c. c.ops.now) commands.now) store).final) }
 {
-    match execute_all(rt, alloc, store, merged, ids, plan) {
+    match run_from(rt, alloc, store, commands, plan, &FreeGate) {
         Ok((after, _replies)) => Some(after),
         Err(_) => None,
     }

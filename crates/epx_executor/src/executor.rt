@@ -6,9 +6,9 @@ ghost use Rattle.epx_committed.specs.MergedLines.{IsMergeFault};
 ghost use Rattle.epx_executor.specs.CallLines.{call_lines};
 ghost use Rattle.epx_executor.specs.Commits.{IsCommit, IsSettled};
 
-use crate::batch::{Batch, read_batch};
+use crate::batch::{Batch, keep_left, read_batch};
 use crate::done_runs::DoneRuns;
-use crate::execute_all::{execute_all, store_after};
+use crate::execute_all::{commands_at, execute_all, store_after};
 use epx_txn::Store;
 use epx_types::{Entry, Fault, Id, Memory, Plan, Reply};
 use std::alloc::Global;
@@ -112,17 +112,19 @@ impl Executor {
     {
         let batch = read_batch(rt, alloc, &self.done, &self.pending, came, plan)?;
         let Batch {
-            merged,
+            entries,
             order,
+            positions,
             done,
-            pending,
         } = batch;
         let spare = self.take_spare()?;
-        let (store, replies) = execute_all(rt, alloc, spare, &merged, order.ids(), plan)?;
-        self.done = done;
-        self.pending = pending;
+        let commands = commands_at(alloc, &entries, &positions)?;
+        let (store, replies) = execute_all(rt, alloc, spare, order.ids(), &commands, plan)?;
         let before = replace(&mut self.store, store);
-        self.spare = store_after(rt, alloc, before, &merged, order.ids(), plan);
+        self.spare = store_after(rt, alloc, before, &commands, plan);
+        drop(commands);
+        self.pending = keep_left(&done, entries);
+        self.done = done;
         Ok(replies)
     }
 

@@ -4,7 +4,6 @@
 
 mod batch;
 mod call_lines;
-mod copies;
 mod done_runs;
 mod execute_all;
 mod executor;

@@ -1,13 +1,14 @@
-use Rattle.std.proofs.Common.{◌⊎◌, ◌↔◌, List, Contains, refl, subst}
+use Rattle.std.proofs.Common.{◌⊎◌, ◌↔◌, ◌∙◌, List, Contains, ap, subst}
 use Rattle.epx_types.specs.declared.id.Id.{Id}
+use Rattle.epx_types.specs.CommittedMap.{commands_in}
 use Rattle.epx_executor.proofs.batch.batch_of.Goals as goal
 
 pub returns : goal.returns
 returns g c = record {
-  same = refl;
+  same = c.in_ok-entries.ensures;
   ordered = c.in_ok-order.ensures;
+  found = c.in_ok-positions.ensures ∙ ap (commands_in c.args.merged) c.ids.ensures;
   done_now = λ x. subst (λ (ids : List Id).
       Contains c.in_ok-done.done x ↔ (Contains c.args.done.now x ⊎ Contains ids x))
-      c.ids.ensures (c.in_ok-done.ensures x);
-  left = c.in_ok-pending.ensures;
+      c.ids-2.ensures (c.in_ok-done.ensures x);
 }

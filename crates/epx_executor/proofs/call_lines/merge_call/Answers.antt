@@ -1,4 +1,4 @@
-use Rattle.std.proofs.Common.{◌≡◌, ◌++◌, List, [], sym, subst, ap₂, ◌∙◌}
+use Rattle.std.proofs.Common.{◌≡◌, ◌++◌, List, [], subst, ap₂}
 use Rattle.epx_types.specs.PlacedLines.{Placed}
 use Rattle.epx_committed.specs.Ledgers.{IsLedgerOf}
 use Rattle.epx_executor.specs.CallLines.{call_lines}
@@ -15,6 +15,6 @@ returns g c =
     let new = c.in_ok-new.new.items in
     let all : old ++ new ≡ call_lines done pending came =
     ap₂ (λ (xs ys : List Placed). xs ++ ys) c.in_ok-old.ensures c.in_ok-new.ensures in
-    let noted = c.in_ok-note-2.ensures old (c.in_ok-note.ensures [] c.new-ledger.ensures) in
+    let noted = c.in_ok-note-2.ensures old (c.in_ok-note.ensures [] c.for_lines-ledger.ensures) in
     c.close.ensures (call_lines done pending came) (call_in_order done pending came)
     (subst (λ (lines : List Placed). IsLedgerOf lines c.note-2.new.self) all noted)

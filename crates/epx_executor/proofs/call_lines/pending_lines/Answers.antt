@@ -1,7 +1,5 @@
-use Rattle.std.proofs.Common.{◌∷◌, [], ◌++◌, ◌+◌, List, sym, ap, ap₂, ◌∙◌, arith}
-use Rattle.epx_types.specs.Instances.{Instance}
+use Rattle.std.proofs.Common.{◌∷◌, [], ◌++◌, List, sym, ap₂, ◌∙◌, arith}
 use Rattle.epx_types.specs.PlacedLines.{Placed}
-use Rattle.epx_executor.specs.CallLines.{lines_from}
 use Rattle.epx_executor.proofs.CallLineLemmas.{line_at, lines_from-more}
 use Rattle.epx_executor.proofs.call_lines.pending_lines.Goals as goal
 

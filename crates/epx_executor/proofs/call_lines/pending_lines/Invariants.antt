@@ -1,4 +1,4 @@
-use Rattle.std.proofs.Common.{◌≡◌, ◌≤◌, take, length}
+use Rattle.std.proofs.Common.{◌≡◌, take}
 use Rattle.epx_executor.specs.CallLines.{lines_from}
 use Rattle.epx_executor.proofs.call_lines.pending_lines.Given as goal
 

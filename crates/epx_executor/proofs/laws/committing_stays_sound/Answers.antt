@@ -1,4 +1,4 @@
-use Rattle.std.proofs.Common.{List, sym, subst}
+use Rattle.std.proofs.Common.{sym, subst}
 use Rattle.epx_types.specs.Contents.{Contents}
 use Rattle.epx_types.specs.Sound.{IsSound}
 use Rattle.epx_executor.proofs.CommitLemmas.{can_resume, has_pending}
