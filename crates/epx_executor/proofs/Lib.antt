@@ -8,3 +8,4 @@ mod FoundOpsLemmas
 mod CommitLemmas
 mod HistoryLemmas
 mod BeginningLemmas
+mod RestartLemmas

@@ -78,3 +78,25 @@ abbrev pub NoneIsExecutedTwice : Type 0
 NoneIsExecutedTwice = (came : List Instance) (before after : ExecutorView)
     (replies : List (Id × Reply)) → IsCommit before came after replies →
     (i : ℕ) (x : Id) (r : Reply) → slice_get replies i ≡ Some (x, r) → ¬ Contains before.done x
+
+-- two executors hold the same, whatever the order of their done instances
+pub record HoldTheSame (v w : ExecutorView) : Type 0 where
+  pub done : (x : Id) → Contains v.done x ↔ Contains w.done x
+  pub store : v.store ≡ w.store
+  pub pending : v.pending ≡ w.pending
+
+-- executors that hold the same reply alike to what comes, and hold the same again
+abbrev pub SameExecutorsCommitAlike : Type 0
+SameExecutorsCommitAlike = (v w : ExecutorView) → HoldTheSame v w → (came : List Instance)
+    (next last : ExecutorView) (replies others : List (Id × Reply))
+    → IsCommit v came next replies → IsCommit w came last others
+    → (replies ≡ others) × HoldTheSame next last
+
+-- an executor that starts with what another one has done and stored, and commits what is pending
+-- there, replies nothing and holds the same
+abbrev pub RestartedExecutorHoldsTheSame : Type 0
+RestartedExecutorHoldsTheSame = (v : ExecutorView) → IsSettled v →
+    (done : List Id) → ((x : Id) → Contains done x ↔ Contains v.done x) →
+    (after : ExecutorView) (replies : List (Id × Reply))
+    → IsCommit (record { done = done; store = v.store; pending = [] }) v.pending after replies
+    → (replies ≡ []) × HoldTheSame after v

@@ -3,13 +3,15 @@ ghost use Rattle.epx_executor.specs.ExecutorLaws.{NewExecutorIsSound, Committing
 ghost use Rattle.epx_executor.specs.ExecutorLaws.{CommittedRepliesAreThoseOfTheWhole};
 ghost use Rattle.epx_executor.specs.ExecutorLaws.{AllCommittedIsTheWhole, CommitLeavesNoneReady};
 ghost use Rattle.epx_executor.specs.ExecutorLaws.{CommitResumesAllThatCame, NothingIsHeldBack};
-ghost use Rattle.epx_executor.specs.ExecutorLaws.{NoneIsExecutedTwice};
+ghost use Rattle.epx_executor.specs.ExecutorLaws.{NoneIsExecutedTwice, SameExecutorsCommitAlike};
+ghost use Rattle.epx_executor.specs.ExecutorLaws.{RestartedExecutorHoldsTheSame};
 ghost use Rattle.epx_executor.specs.HistoryLaws.{CallsExecuteALawfulBeginning};
 ghost use Rattle.epx_executor.specs.HistoryLaws.{CallsReplyAsTheWhole};
 ghost use Rattle.epx_executor.specs.HistoryLaws.{CallsLeaveWhatTheWholeLeaves};
 
+use epx_laws::agreement::committed_map_is_unique;
 use epx_laws::done::remaining_is_ready_alike;
-use epx_laws::order::execution_order_exists;
+use epx_laws::order::{execution_order_exists, execution_order_is_unique};
 use epx_laws::resumed_runs::{
     all_done_is_the_whole, nothing_done_is_sound, resumed_replies_are_those_of_the_whole,
     resuming_stays_sound,
@@ -63,6 +65,20 @@ pub fn nothing_is_held_back()
 /// An instance that a commit executes was not done before it.
 pub fn none_is_executed_twice()
     ensures { NoneIsExecutedTwice }
+{}
+
+/// Executors that hold the same commit alike.
+pub fn same_executors_commit_alike()
+    ensures { SameExecutorsCommitAlike }
+{
+    committed_map_is_unique();
+    execution_order_is_unique();
+}
+
+/// An executor that starts with what another one has done and stored, and commits what is pending
+/// there, replies nothing and holds the same.
+pub fn restarted_executor_holds_the_same()
+    ensures { RestartedExecutorHoldsTheSame }
 {}
 
 /// All calls of a new executor together execute the beginning of a lawful order of each map that
