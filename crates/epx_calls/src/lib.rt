@@ -19,6 +19,8 @@ mod effects;
 #[cfg(test)]
 mod entries;
 #[cfg(test)]
+mod executor;
+#[cfg(test)]
 mod fixtures;
 #[cfg(test)]
 mod gates;
