@@ -1,55 +1,51 @@
--- A list and logs have exactly one answer.
-use Rattle.std.proofs.Common.{◌≡◌, ◌⊎◌, ℕ, List, refl, subst, inl, inr}
+-- What a list and a committed map are answered with is a verdict on the instances that the list
+-- names. So is what a list and logs are answered with.
+use Rattle.std.proofs.Common.{◌≡◌, ◌⊎◌, ℕ, List, subst, inl, inr}
 use Rattle.epx_types.specs.declared.id.Id.{Id}
 use Rattle.epx_types.specs.Ids.{IsRising}
 use Rattle.epx_types.specs.Instances.{Instance}
 use Rattle.epx_types.specs.CommittedMap.{ids_of}
-use Rattle.epx_report.specs.Lists.{IsBadList}
+use Rattle.epx_merge.specs.Acceptance.{IsAccepted}
+use Rattle.epx_merge.proofs.UniquenessLemmas.{accepted_unique}
+use Rattle.epx_report.specs.Lists.{IsList, IsBadList}
 use Rattle.epx_report.proofs.ListLemmas.{list_or_bad_list, list_is_no_bad_list}
-use Rattle.epx_report.proofs.ListLemmas.{list_names_one_list, bad_list_is_bad_at_one_line}
-use Rattle.epx_tool.specs.CheckAnswers.{IsCheckText}
-use Rattle.epx_tool.specs.CheckLaws.{CheckExists, CheckIsOne}
-use Rattle.epx_tool.specs.Verdicts.{IsVerdict, order_fault_text}
-use Rattle.epx_report.specs.ViewLines.{lawful_line}
-use Rattle.epx_tool.proofs.AnswerWithInputLemmas.{answer_with_input_exists}
-use Rattle.epx_order.proofs.OrderFaultLemmas.{lawful_or_fault}
-use Rattle.epx_tool.proofs.UniqueAnswerWithInputLemmas.{AnswersWithInput-unique}
-use Rattle.epx_tool.proofs.VerdictLemmas.{IsVerdict-unique}
+use Rattle.epx_report.proofs.ListLemmas.{list_names_one_list}
 
-verdict_exists : (m : List Instance) (ids : List Id) → IsRising (ids_of m)
-    → (text : List ℕ) × IsVerdict m ids text
-verdict_exists m ids rising =
-    elim (lawful_or_fault m ids rising) [
-      | inl lawful ↦ (lawful_line, inl (lawful, refl))
-      | inr fault ↦ (order_fault_text fault.0, inr (fault.0, fault.1, fault.2, refl))
-    ]
+-- `Is` is a kind of verdict
+module _ (Is : List Instance → List Id → List ℕ → Type 0) (list : List ℕ) where
+  abbrev pub IsTextBy : List Instance → List ℕ → Type 0
+  IsTextBy m text = (ids : List Id) × IsList list ids × Is m ids text
 
-module _ (list : List ℕ) where
-  no_bad_list : (m : List Instance) (text : List ℕ) (line : ℕ) → IsCheckText list m text
+  pub no_bad_list : (m : List Instance) (text : List ℕ) (line : ℕ) → IsTextBy m text
       → ¬ IsBadList list line
   no_bad_list m text line p = list_is_no_bad_list list p.0 line p.1
 
-  checked_one : (m : List Instance) (text other : List ℕ) → IsCheckText list m text
-      → IsCheckText list m other → text ≡ other
-  checked_one m text other p q =
-      let same = list_names_one_list list p.0 q.0 p.1 q.1 in
-      IsVerdict-unique m q.0 text other (subst (λ (ids : List Id). IsVerdict m ids text) same p.2)
-      q.2
-
-  checked_or_bad : ((m : List Instance) → IsRising (ids_of m)
-      → (text : List ℕ) × IsCheckText list m text) ⊎ ((line : ℕ) × IsBadList list line)
-  checked_or_bad =
+  pub text_or_bad : ((m : List Instance) (ids : List Id) → IsRising (ids_of m)
+      → (text : List ℕ) × Is m ids text)
+      → ((m : List Instance) → IsRising (ids_of m) → (text : List ℕ) × IsTextBy m text)
+      ⊎ ((line : ℕ) × IsBadList list line)
+  text_or_bad exists =
       elim (list_or_bad_list list) [
-        | inl is ↦ inl (λ m rising. let text = verdict_exists m is.0 rising in
+        | inl is ↦ inl (λ m rising. let text = exists m is.0 rising in
             (text.0, (is.0, is.1, text.1)))
         | inr bad ↦ inr bad
       ]
 
-pub check_is_one : CheckIsOne
-check_is_one list logs =
-    AnswersWithInput-unique IsBadList list logs (bad_list_is_bad_at_one_line list) IsCheckText
-    (checked_one list) (no_bad_list list)
+  pub verdict-of_list : (ids : List Id) → IsList list ids → (m : List Instance) (text : List ℕ)
+      → IsTextBy m text → Is m ids text
+  verdict-of_list ids is m text p =
+      subst (λ (xs : List Id). Is m xs text) (list_names_one_list list p.0 ids p.1 is) p.2
 
-pub check_exists : CheckExists
-check_exists list logs = answer_with_input_exists IsBadList IsCheckText list (checked_or_bad list)
-    logs
+  pub one_text : ((m : List Instance) (ids : List Id) (text other : List ℕ) → Is m ids text
+      → Is m ids other → text ≡ other) → (m : List Instance) (text other : List ℕ)
+      → IsTextBy m text → IsTextBy m other → text ≡ other
+  one_text one m text other p q =
+      one m q.0 text other (verdict-of_list q.0 q.1 m text p) q.2
+
+  pub verdict-of_logs : (ids : List Id) → IsList list ids → (logs : List (List ℕ))
+      → (m : List Instance) → IsAccepted logs m → (text : List ℕ)
+      → (n : List Instance) × IsAccepted logs n × IsTextBy n text → Is m ids text
+  verdict-of_logs ids is logs m accepted text said =
+      subst (λ (n : List Instance). Is n ids text)
+      (accepted_unique logs said.0 m said.1 accepted)
+      (verdict-of_list ids is said.0 text said.2)

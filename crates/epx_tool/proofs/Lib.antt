@@ -23,10 +23,14 @@ mod OrderTextLemmas
 mod VerdictLemmas
 mod VerdictLineLemmas
 mod CheckLemmas
+mod InputAnswerLemmas
 mod CoveredTextLemmas
 mod SameLineLemmas
 mod LawfulListLemmas
+mod LawfulBeginningLemmas
 mod ReportRangeLemmas
 mod ResumableAnswersLemmas
 mod FindingLemmas
+mod FindingLawLemmas
+mod TraceReportLemmas
 mod PlainRunLemmas

@@ -1,4 +1,4 @@
--- A base and logs have exactly one answer.
+-- A base and a committed map have exactly one text, where the base is not bad.
 use Rattle.std.proofs.Common.{◌≡◌, ◌⊎◌, ℕ, List, refl, sym, ap₂, ◌∙◌, subst, inl, inr}
 use Rattle.epx_types.specs.declared.id.Id.{Id}
 use Rattle.epx_types.specs.Contents.{Contents}
@@ -15,12 +15,9 @@ use Rattle.epx_types.proofs.orders.OrderExistenceLemmas.{execution_order_exists}
 use Rattle.epx_types.proofs.orders.OrderExistenceLemmas.{waiting_list_exists}
 use Rattle.epx_report.specs.Bases.{IsBadBase}
 use Rattle.epx_report.proofs.BaseLemmas.{base_or_bad_base, base_is_no_bad_base}
-use Rattle.epx_report.proofs.BaseLemmas.{base_says_one_thing, bad_base_is_bad_at_one_line}
+use Rattle.epx_report.proofs.BaseLemmas.{base_says_one_thing}
 use Rattle.epx_tool.specs.ResumedReport.{IsReportAfter, resumed_text}
 use Rattle.epx_tool.specs.Resumption.{IsResumedText}
-use Rattle.epx_tool.specs.ResumptionLaws.{ResumptionExists, ResumptionIsOne}
-use Rattle.epx_tool.proofs.AnswerWithInputLemmas.{answer_with_input_exists}
-use Rattle.epx_tool.proofs.UniqueAnswerWithInputLemmas.{AnswersWithInput-unique}
 
 IsReportAfter-unique : (done : List Id) (stored : Contents) (m : List Instance)
     (text other : List ℕ) → IsReportAfter done stored m text → IsReportAfter done stored m other
@@ -48,14 +45,14 @@ report_after_exists done stored m rising =
       },
     )
 
--- ---- one answer
+-- ---- one text
 
 module _ (base : List ℕ) where
-  no_bad_base : (m : List Instance) (text : List ℕ) (line : ℕ) → IsResumedText base m text
+  pub no_bad_base : (m : List Instance) (text : List ℕ) (line : ℕ) → IsResumedText base m text
       → ¬ IsBadBase base line
   no_bad_base m text line p = base_is_no_bad_base base p.0 p.1 line p.2
 
-  resumed_one : (m : List Instance) (text other : List ℕ) → IsResumedText base m text
+  pub resumed_one : (m : List Instance) (text other : List ℕ) → IsResumedText base m text
       → IsResumedText base m other → text ≡ other
   resumed_one m text other p q =
       let one = base_says_one_thing base p.0 q.0 p.1 q.1 p.2 q.2 in
@@ -64,14 +61,9 @@ module _ (base : List ℕ) where
       (subst (λ (s : Contents). P q.0 s) one.1 (subst (λ (d : List Id). P d p.1) one.0 p.3))
       q.3
 
-pub resumption_is_one : ResumptionIsOne
-resumption_is_one base logs =
-    AnswersWithInput-unique IsBadBase base logs (bad_base_is_bad_at_one_line base) IsResumedText
-    (resumed_one base) (no_bad_base base)
+-- ---- a text
 
--- ---- an answer
-
-report_or_bad : (base : List ℕ)
+pub report_or_bad : (base : List ℕ)
     → ((m : List Instance) → IsRising (ids_of m) → (text : List ℕ) × IsResumedText base m text)
     ⊎ ((line : ℕ) × IsBadBase base line)
 report_or_bad base =
@@ -80,7 +72,3 @@ report_or_bad base =
           (text.0, (is.0, is.1, is.2, text.1)))
       | inr bad ↦ inr bad
     ]
-
-pub resumption_exists : ResumptionExists
-resumption_exists base logs = answer_with_input_exists IsBadBase IsResumedText base
-    (report_or_bad base) logs

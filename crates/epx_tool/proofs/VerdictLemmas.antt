@@ -1,15 +1,24 @@
--- A list has only one verdict.
-use Rattle.std.proofs.Common.{◌≡◌, ℕ, List, sym, ap, ◌∙◌, inl, inr}
+-- A list has exactly one verdict: that it is good, as a lawful order or the beginning of one, or
+-- its fault.
+use Rattle.std.proofs.Common.{◌≡◌, ◌≢◌, ◌⊎◌, ℕ, List, refl, sym, ap, ◌∙◌, inl, inr}
 use Rattle.json.specs.Print.{escape_byte}
 use Rattle.epx_types.specs.declared.id.Id.{Id}
+use Rattle.epx_types.specs.CommittedMap.{ids_of}
+use Rattle.epx_types.specs.Ids.{IsRising}
 use Rattle.epx_types.specs.Instances.{Instance}
+use Rattle.epx_types.specs.LawfulBeginnings.{IsLawfulBeginning}
 use Rattle.epx_types.specs.LawfulOrders.{IsLawful}
 use Rattle.epx_order.specs.declared.order_fault.OrderFault.{OrderFault}
 use Rattle.epx_order.specs.declared.order_fault.OrderFault.TheVariants.{Memory, Stranger, Repeat}
 use Rattle.epx_order.specs.declared.order_fault.OrderFault.TheVariants.{Missing, Early, Sequence}
+use Rattle.epx_order.specs.BeginningFaults.{IsBeginningFault}
+use Rattle.epx_order.specs.OrderFaults.{IsOrderFault}
+use Rattle.epx_order.proofs.BeginningFaultLemmas as beginning
+use Rattle.epx_order.proofs.BeginningLemmas.{beginning_has_no_fault}
+use Rattle.epx_order.proofs.OrderFaultLemmas.{lawful_or_fault}
 use Rattle.epx_order.proofs.UniqueFaultLemmas.{fault_is_one, lawful_has_no_fault}
-use Rattle.epx_tool.specs.Verdicts.{order_fault_text, IsVerdict}
 use Rattle.epx_report.specs.ViewLines.{lawful_line}
+use Rattle.epx_tool.specs.Verdicts.{order_fault_text, IsVerdict, IsPrefixVerdict}
 
 -- no fault has the text of a lawful order
 lawful_line-apart : (fault : OrderFault) → ¬ (lawful_line ≡ order_fault_text fault)
@@ -21,15 +30,71 @@ lawful_line-apart (Missing x) e = cc e
 lawful_line-apart (Early place) e = cc e
 lawful_line-apart (Sequence place) e = cc e
 
+module _ (Good : Type 0) (IsFault : OrderFault → Type 0) where
+  abbrev HasFault : Type 0
+  HasFault = (fault : OrderFault) × (fault ≢ Memory) × IsFault fault
+
+  -- the list is good, or has the fault that the text names
+  abbrev IsVerdictBy : List ℕ → Type 0
+  IsVerdictBy text = (Good × (text ≡ lawful_line))
+      ⊎ ((fault : OrderFault) × (fault ≢ Memory) × IsFault fault
+      × (text ≡ order_fault_text fault))
+
+  verdict_exists_by : Good ⊎ HasFault → (text : List ℕ) × IsVerdictBy text
+  verdict_exists_by (inl good) = (lawful_line, inl (good, refl))
+  verdict_exists_by (inr f) = (order_fault_text f.0, inr (f.0, f.1, f.2, refl))
+
+  good-from_verdict : IsVerdictBy lawful_line → Good
+  good-from_verdict (inl a) = a.0
+  good-from_verdict (inr a) = absurd (lawful_line-apart a.0 a.3)
+
+  module _ (none : (fault : OrderFault) → fault ≢ Memory → Good → ¬ IsFault fault) where
+    lawful_line-from_good : (text : List ℕ) → IsVerdictBy text → Good → text ≡ lawful_line
+    lawful_line-from_good text (inl a) good = a.1
+    lawful_line-from_good text (inr a) good = absurd (none a.0 a.1 good a.2)
+
+    verdict_is_one_by : ((f g : OrderFault) → f ≢ Memory → g ≢ Memory → IsFault f → IsFault g
+        → f ≡ g) → (text other : List ℕ) → IsVerdictBy text → IsVerdictBy other → text ≡ other
+    verdict_is_one_by one text other (inl a) q = a.1 ∙ sym (lawful_line-from_good other q a.0)
+    verdict_is_one_by one text other p (inl b) = lawful_line-from_good text p b.0 ∙ sym b.1
+    verdict_is_one_by one text other (inr a) (inr b) =
+        a.3 ∙ ap order_fault_text (one a.0 b.0 a.1 b.1 a.2 b.2) ∙ sym b.3
+
 module _ (m : List Instance) (ids : List Id) where
-  pub IsVerdict-unique : (text other : List ℕ) → IsVerdict m ids text → IsVerdict m ids other
+  -- ---- as an order
+
+  pub verdict_exists : IsRising (ids_of m) → (text : List ℕ) × IsVerdict m ids text
+  verdict_exists rising =
+      verdict_exists_by (IsLawful m ids) (IsOrderFault m ids) (lawful_or_fault m ids rising)
+
+  pub verdict_is_one : (text other : List ℕ) → IsVerdict m ids text → IsVerdict m ids other
       → text ≡ other
-  IsVerdict-unique text other (inl a) (inl b) = a.1 ∙ sym b.1
-  IsVerdict-unique text other (inl a) (inr b) = absurd (lawful_has_no_fault m ids b.0 b.1 a.0 b.2)
-  IsVerdict-unique text other (inr a) (inl b) = absurd (lawful_has_no_fault m ids a.0 a.1 b.0 a.2)
-  IsVerdict-unique text other (inr a) (inr b) =
-      a.3 ∙ ap order_fault_text (fault_is_one m ids a.0 b.0 a.1 b.1 a.2 b.2) ∙ sym b.3
+  verdict_is_one = verdict_is_one_by (IsLawful m ids) (IsOrderFault m ids)
+      (lawful_has_no_fault m ids) (fault_is_one m ids)
 
   pub lawful-from_verdict : IsVerdict m ids lawful_line → IsLawful m ids
-  lawful-from_verdict (inl a) = a.0
-  lawful-from_verdict (inr a) = absurd (lawful_line-apart a.0 a.3)
+  lawful-from_verdict = good-from_verdict (IsLawful m ids) (IsOrderFault m ids)
+
+  pub lawful_line-from_lawful : (text : List ℕ) → IsVerdict m ids text → IsLawful m ids
+      → text ≡ lawful_line
+  lawful_line-from_lawful =
+      lawful_line-from_good (IsLawful m ids) (IsOrderFault m ids) (lawful_has_no_fault m ids)
+
+  -- ---- as a beginning
+
+  pub prefix_verdict_exists : IsRising (ids_of m) → (text : List ℕ) × IsPrefixVerdict m ids text
+  prefix_verdict_exists rising = verdict_exists_by (IsLawfulBeginning m ids)
+      (IsBeginningFault m ids) (beginning.beginning_or_fault m ids rising)
+
+  pub prefix_verdict_is_one : (text other : List ℕ) → IsPrefixVerdict m ids text
+      → IsPrefixVerdict m ids other → text ≡ other
+  prefix_verdict_is_one = verdict_is_one_by (IsLawfulBeginning m ids) (IsBeginningFault m ids)
+      (beginning_has_no_fault m ids) (beginning.fault_is_one m ids)
+
+  pub beginning-from_verdict : IsPrefixVerdict m ids lawful_line → IsLawfulBeginning m ids
+  beginning-from_verdict = good-from_verdict (IsLawfulBeginning m ids) (IsBeginningFault m ids)
+
+  pub lawful_line-from_beginning : (text : List ℕ) → IsPrefixVerdict m ids text
+      → IsLawfulBeginning m ids → text ≡ lawful_line
+  lawful_line-from_beginning = lawful_line-from_good (IsLawfulBeginning m ids)
+      (IsBeginningFault m ids) (beginning_has_no_fault m ids)

@@ -1,31 +1,23 @@
 -- Laws of checking a list.
-use Rattle.std.specs.Prelude.{◌≡◌, ◌≢◌, ◌↔◌, ℕ, List, slice_get, Some, Result, Ok, Err}
+use Rattle.std.specs.Prelude.{◌≡◌, ◌↔◌, ℕ, List, slice_get, Some, Result, Ok}
 use Rattle.std.specs.FinMap as contents
 use Rattle.epx_types.specs.declared.id.Id.{Id}
 use Rattle.epx_types.specs.declared.fault.Fault.{Fault}
-use Rattle.epx_types.specs.declared.fault.Fault.TheVariants.{Memory}
 use Rattle.epx_types.specs.Instances.{Instance}
 use Rattle.epx_types.specs.Execution.{execute, Execution}
 use Rattle.epx_types.specs.ExecutionOrder.{Ranked, IsExecutionOrder, ranked_ids}
 use Rattle.epx_types.specs.CommittedMap.{commands_in}
+use Rattle.epx_types.specs.LawfulBeginnings.{IsLawfulBeginning}
 use Rattle.epx_types.specs.LawfulOrders.{IsLawful}
 use Rattle.epx_merge.specs.Acceptance.{IsAccepted}
 use Rattle.epx_report.specs.Lists.{IsList}
-use Rattle.epx_tool.specs.WithInput.{IsShort}
 use Rattle.epx_report.specs.ViewLines.{covered_line, lawful_line}
-use Rattle.epx_tool.specs.CheckAnswers.{Checks}
-use Rattle.epx_tool.specs.Questions.{AnswersView}
+use Rattle.epx_order.specs.OrderFaults.{HasAllReady}
 use Rattle.epx_tool.specs.declared.ask.Ask.TheVariants.{Audit}
-
--- a list and logs have an answer other than out of memory
-abbrev pub CheckExists : Type 0
-CheckExists = (list : List ℕ) (logs : List (List ℕ)) → (a : Result (List ℕ) Fault)
-    × (a ≢ Err Memory) × Checks list logs a
-
--- a list and logs have at most one answer, except for out of memory
-abbrev pub CheckIsOne : Type 0
-CheckIsOne = (list : List ℕ) (logs : List (List ℕ)) (a b : Result (List ℕ) Fault) → a ≢ Err Memory
-    → b ≢ Err Memory → Checks list logs a → Checks list logs b → a ≡ b
+use Rattle.epx_tool.specs.declared.question.InputQuestion.TheVariants.{CheckPrefix}
+use Rattle.epx_tool.specs.CheckAnswers.{Checks}
+use Rattle.epx_tool.specs.Questions.{AnswersView, IsInputAnswer}
+use Rattle.epx_tool.specs.WithInput.{IsShort}
 
 -- a list is reported as lawful exactly if it is a lawful order of what the logs commit
 abbrev pub LawfulTextMeansLawful : Type 0
@@ -49,3 +41,29 @@ LawfulListExecutesAlike = (list : List ℕ) (logs : List (List ℕ))
     (order : List Ranked) → IsExecutionOrder m order
     → ExecuteAlike ids (ranked_ids order) (execute (commands_in m ids) contents.empty)
     (execute (commands_in m (ranked_ids order)) contents.empty)
+
+-- ---- a list that is checked as a beginning
+
+-- it is reported as lawful exactly if a lawful order of what the logs commit begins with it
+abbrev pub LawfulTextMeansBeginning : Type 0
+LawfulTextMeansBeginning = (list : List ℕ) (logs : List (List ℕ)) (ids : List Id)
+    (m : List Instance) → IsShort list → IsList list ids → IsAccepted logs m →
+    IsInputAnswer CheckPrefix list logs (Ok lawful_line) ↔ IsLawfulBeginning m ids
+
+-- if it is reported as lawful and the logs as covered, executing it from the empty store gives each
+-- listed instance the reply that the report of the logs has
+abbrev pub LawfulBeginningRepliesAlike : Type 0
+LawfulBeginningRepliesAlike = (list : List ℕ) (logs : List (List ℕ))
+    → IsInputAnswer CheckPrefix list logs (Ok lawful_line)
+    → AnswersView Audit logs (Ok covered_line)
+    → (ids : List Id) (m : List Instance) → IsList list ids → IsAccepted logs m →
+    (order : List Ranked) → IsExecutionOrder m order
+    → (i j : ℕ) (x : Id) → slice_get ids i ≡ Some x → slice_get (ranked_ids order) j ≡ Some x
+    → slice_get (execute (commands_in m ids) contents.empty).replies i
+    ≡ slice_get (execute (commands_in m (ranked_ids order)) contents.empty).replies j
+
+-- a list of all ready instances has the same answer as a beginning and as an order
+abbrev pub WholeListsAreAnsweredAlike : Type 0
+WholeListsAreAnsweredAlike = (list : List ℕ) (logs : List (List ℕ)) (ids : List Id)
+    (m : List Instance) → IsList list ids → IsAccepted logs m → HasAllReady m ids
+    → (a : Result (List ℕ) Fault) → IsInputAnswer CheckPrefix list logs a ↔ Checks list logs a

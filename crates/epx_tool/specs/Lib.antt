@@ -11,10 +11,12 @@ pub mod Resumption
 pub mod Verdicts
 pub mod CheckAnswers
 pub mod AnswerLaws
+pub mod InputAnswerLaws
 pub mod ResumptionLaws
 pub mod ResumableAnswers
 pub mod CheckLaws
 pub mod SameLineLaws
+pub mod TraceReportLaws
 pub mod Runs
 pub mod RunsWithInput
 pub mod Sources
@@ -23,6 +25,7 @@ pub mod DeliveredWithInput
 pub mod Questions
 pub mod RunEndings
 pub mod Findings
+pub mod FindingLaws
 pub use Rattle.epx_devices.specs.Devices
 pub use Rattle.epx_devices.specs.Reads
 pub use Rattle.epx_devices.specs.MemorySink

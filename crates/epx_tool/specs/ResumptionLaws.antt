@@ -1,9 +1,7 @@
 -- Laws of resuming from a base.
-use Rattle.std.specs.Prelude.{◌≡◌, ◌≢◌, ◌⊎◌, ◌↔◌, ℕ, List, [], Contains, zip, Result, Err}
+use Rattle.std.specs.Prelude.{◌⊎◌, ◌↔◌, ℕ, List, [], Contains, zip}
 use Rattle.std.specs.FinMap as contents
 use Rattle.epx_types.specs.declared.id.Id.{Id}
-use Rattle.epx_types.specs.declared.fault.Fault.{Fault}
-use Rattle.epx_types.specs.declared.fault.Fault.TheVariants.{Memory}
 use Rattle.epx_types.specs.Ids.{IsRising}
 use Rattle.epx_types.specs.Contents.{Contents}
 use Rattle.epx_types.specs.Instances.{Instance}
@@ -16,17 +14,6 @@ use Rattle.epx_report.specs.Bases.{IsBase}
 use Rattle.epx_report.specs.ReportReadings.{ReportData, FitsReportData}
 use Rattle.epx_tool.specs.Report.{IsReport}
 use Rattle.epx_tool.specs.ResumedReport.{IsReportAfter}
-use Rattle.epx_tool.specs.Resumption.{Resumes}
-
--- a base and logs have an answer other than out of memory
-abbrev pub ResumptionExists : Type 0
-ResumptionExists = (base : List ℕ) (logs : List (List ℕ)) → (a : Result (List ℕ) Fault)
-    × (a ≢ Err Memory) × Resumes base logs a
-
--- a base and logs have at most one answer, except for out of memory
-abbrev pub ResumptionIsOne : Type 0
-ResumptionIsOne = (base : List ℕ) (logs : List (List ℕ)) (a b : Result (List ℕ) Fault)
-    → a ≢ Err Memory → b ≢ Err Memory → Resumes base logs a → Resumes base logs b → a ≡ b
 
 -- the report of a map is its report after nothing is done, from the empty store
 abbrev pub ReportIsAfterNothing : Type 0

@@ -3,16 +3,20 @@
 ghost use Rattle.epx_tool.specs.AnswerLaws.{ReportExists, MapTextExists, ReportIsOne};
 ghost use Rattle.epx_tool.specs.AnswerLaws.{OrderTextIsOne, LevelTextIsOne, AuditTextIsOne};
 ghost use Rattle.epx_tool.specs.AnswerLaws.{AnswerExists, ViewExists, AnswerIsOne, ViewIsOne};
-ghost use Rattle.epx_tool.specs.CheckLaws.{CheckExists, CheckIsOne, LawfulTextMeansLawful};
 ghost use Rattle.epx_tool.specs.AnswerLaws.{CoveredTextMeansCovered};
-ghost use Rattle.epx_tool.specs.CheckLaws.{LawfulListExecutesAlike};
+ghost use Rattle.epx_tool.specs.CheckLaws.{LawfulTextMeansLawful, LawfulListExecutesAlike};
+ghost use Rattle.epx_tool.specs.CheckLaws.{LawfulTextMeansBeginning};
+ghost use Rattle.epx_tool.specs.CheckLaws.{LawfulBeginningRepliesAlike};
+ghost use Rattle.epx_tool.specs.CheckLaws.{WholeListsAreAnsweredAlike};
+ghost use Rattle.epx_tool.specs.FindingLaws.{AuditFindsNotCovered, CheckFindsNotLawful};
+ghost use Rattle.epx_tool.specs.InputAnswerLaws.{InputAnswerExists, InputAnswerIsOne};
 ghost use Rattle.epx_tool.specs.ResumableAnswers.{AnswerIsBase, ResumptionIsBase};
 ghost use Rattle.epx_tool.specs.ResumableAnswers.{ReportOfAPartIsSound, ResumedReportIsSound};
 ghost use Rattle.epx_tool.specs.ResumableAnswers.{ResumedReportRepeatsTheWhole};
 ghost use Rattle.epx_tool.specs.ResumableAnswers.{LastReportIsTheWhole};
 ghost use Rattle.epx_tool.specs.ResumptionLaws.{ReportIsAfterNothing, ReportIsBase};
 ghost use Rattle.epx_tool.specs.SameLineLaws.{SameLinesAreAcceptedAlike, SameLinesAreAnsweredAlike};
-ghost use Rattle.epx_tool.specs.ResumptionLaws.{ResumptionExists, ResumptionIsOne};
+ghost use Rattle.epx_tool.specs.TraceReportLaws.{TraceEndsInTheStore};
 
 /// A committed map has a report.
 pub fn report_exists()
@@ -66,14 +70,14 @@ pub fn view_is_one()
     ensures { ViewIsOne }
 {}
 
-/// A base and logs have an answer other than out of memory.
-pub fn resumption_exists()
-    ensures { ResumptionExists }
+/// An input and logs have an answer to each question about both, other than out of memory.
+pub fn input_answer_exists()
+    ensures { InputAnswerExists }
 {}
 
-/// A base and logs have at most one answer, except for out of memory.
-pub fn resumption_is_one()
-    ensures { ResumptionIsOne }
+/// An input and logs have at most one answer to each question about both, except for out of memory.
+pub fn input_answer_is_one()
+    ensures { InputAnswerIsOne }
 {}
 
 /// The report of a map is its report after nothing is done, from the empty store.
@@ -85,16 +89,6 @@ pub fn report_is_after_nothing()
 /// store.
 pub fn report_is_base()
     ensures { ReportIsBase }
-{}
-
-/// A list and logs have an answer other than out of memory.
-pub fn check_exists()
-    ensures { CheckExists }
-{}
-
-/// A list and logs have at most one answer, except for out of memory.
-pub fn check_is_one()
-    ensures { CheckIsOne }
 {}
 
 /// A list is reported as lawful exactly if it is a lawful order of what the logs commit.
@@ -111,6 +105,39 @@ pub fn covered_text_means_covered()
 /// says.
 pub fn lawful_list_executes_alike()
     ensures { LawfulListExecutesAlike }
+{}
+
+/// A list that is checked as a beginning is reported as lawful exactly if a lawful order of what
+/// the logs commit begins with it.
+pub fn lawful_text_means_beginning()
+    ensures { LawfulTextMeansBeginning }
+{}
+
+/// If logs are reported as covered, a list that is reported as lawful as a beginning replies as
+/// their report says.
+pub fn lawful_beginning_replies_alike()
+    ensures { LawfulBeginningRepliesAlike }
+{}
+
+/// A list of all ready instances has the same answer as a beginning and as an order.
+pub fn whole_lists_are_answered_alike()
+    ensures { WholeListsAreAnsweredAlike }
+{}
+
+/// An audit finds something exactly if the logs are not covered.
+pub fn audit_finds_not_covered()
+    ensures { AuditFindsNotCovered }
+{}
+
+/// A check finds something exactly if the list is not a lawful order, or, checked as a beginning,
+/// not the beginning of one.
+pub fn check_finds_not_lawful()
+    ensures { CheckFindsNotLawful }
+{}
+
+/// The store of a report has under a key what the last write of the key's trace leaves.
+pub fn trace_ends_in_the_store()
+    ensures { TraceEndsInTheStore }
 {}
 
 /// The report of logs is a base of the instances that it executes and of its final store.

@@ -1,0 +1,40 @@
+-- Laws of what answers find. They say what status 5 of an audit and of a check means.
+use Rattle.std.specs.Prelude.{◌≡◌, ◌↔◌, ℕ, Bool, true, List, Result, Ok}
+use Rattle.epx_types.specs.declared.fault.Fault.{Fault}
+use Rattle.epx_types.specs.declared.id.Id.{Id}
+use Rattle.epx_types.specs.Instances.{Instance}
+use Rattle.epx_types.specs.Conflicts.{IsCovered}
+use Rattle.epx_types.specs.LawfulBeginnings.{IsLawfulBeginning}
+use Rattle.epx_types.specs.LawfulOrders.{IsLawful}
+use Rattle.epx_merge.specs.Acceptance.{IsAccepted}
+use Rattle.epx_report.specs.Lists.{IsList}
+use Rattle.epx_tool.specs.declared.ask.Ask.TheVariants.{Audit}
+use Rattle.epx_tool.specs.declared.question.InputQuestion.{InputQuestion}
+use Rattle.epx_tool.specs.declared.question.InputQuestion.TheVariants.{Check, CheckPrefix}
+use Rattle.epx_tool.specs.declared.question.Question.TheVariants.{View}
+use Rattle.epx_tool.specs.Findings.{AnswersFinding, IsFindingWith}
+use Rattle.epx_tool.specs.Questions.{IsBadInput}
+use Rattle.epx_tool.specs.WithInput.{AnswersWithInput}
+
+-- the answer to an input and logs, and whether it finds something
+abbrev pub AnswersFindingWith : InputQuestion → Bool → List ℕ → List (List ℕ)
+    → Result (List ℕ) Fault → Type 0
+AnswersFindingWith question found =
+    AnswersWithInput (IsBadInput question) (IsFindingWith question found)
+
+-- an audit finds something exactly if the logs are not covered
+abbrev pub AuditFindsNotCovered : Type 0
+AuditFindsNotCovered = (logs : List (List ℕ)) (m : List Instance) → IsAccepted logs m
+    → (found : Bool) (text : List ℕ) → AnswersFinding (View Audit) found logs (Ok text)
+    → (found ≡ true) ↔ (¬ IsCovered m)
+
+-- a check finds something exactly if the list is not a lawful order, or, checked as a beginning,
+-- not the beginning of one
+pub record CheckFindsNotLawful : Type 0 where
+  pub order : (list : List ℕ) (logs : List (List ℕ)) (ids : List Id) (m : List Instance)
+      → IsList list ids → IsAccepted logs m → (found : Bool) (text : List ℕ)
+      → AnswersFindingWith Check found list logs (Ok text) → (found ≡ true) ↔ (¬ IsLawful m ids)
+  pub beginning : (list : List ℕ) (logs : List (List ℕ)) (ids : List Id) (m : List Instance)
+      → IsList list ids → IsAccepted logs m → (found : Bool) (text : List ℕ)
+      → AnswersFindingWith CheckPrefix found list logs (Ok text)
+      → (found ≡ true) ↔ (¬ IsLawfulBeginning m ids)
