@@ -1,7 +1,7 @@
 //! A log that is executed in batches, and what is said of it.
 
 use epx_executor::Executor;
-use epx_lines::{Line, LineFault, LineReader, cut_line, write_line};
+use epx_lines::{Line, LineFault, LineReader, cut_lines, write_line};
 use epx_report::{append_replies, append_store};
 use epx_types::{Entry, Fault, Id, Memory, Place, Plan, Reply};
 use std::alloc::Global;
@@ -114,13 +114,8 @@ pub(crate) fn execute_batches<R: Threads + RandomSource + Sync>(
 ) -> Result<Vec<u8>, Fault> {
     let mut batches = Batches::new(alloc);
     let mut reader = LineReader::new(alloc);
-    let mut rest = log;
-    let mut number: usize = 0;
-    while !rest.is_empty() {
-        let (bytes, more) = cut_line(rest);
-        rest = more;
-        number = number.wrapping_add(1);
-        let line = read_line(alloc, &mut reader, bytes, number)?;
+    for (at, bytes) in cut_lines(alloc, log)?.iter().enumerate() {
+        let line = read_line(alloc, &mut reader, bytes, at.wrapping_add(1))?;
         batches.take_line(rt, alloc, plan, line)?;
     }
     batches.commit(rt, alloc, plan)?;
