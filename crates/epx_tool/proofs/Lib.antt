@@ -33,4 +33,5 @@ mod ResumableAnswersLemmas
 mod FindingLemmas
 mod FindingLawLemmas
 mod TraceReportLemmas
+mod TraceLineLemmas
 mod PlainRunLemmas

@@ -56,7 +56,7 @@ use Rattle.epx_types.proofs.remaining.RemainingCommandLemmas.{length-remaining}
 use Rattle.epx_types.proofs.orders.OrderLengthLemmas.{fewer, ordered_are_few}
 use Rattle.epx_tool.proofs.ReportBaseLemmas.{count}
 
-each_holds : {A : Type 0} (P : A → Type 0) (xs : List A)
+pub each_holds : {A : Type 0} (P : A → Type 0) (xs : List A)
     → ((x : A) → Contains xs x → P x) → AllByRecursion P xs
 each_holds P [] h = tt
 each_holds P (x ∷ xs) h =
@@ -166,6 +166,11 @@ ops_fit [] h x = record { each = tt; few = omega arith }
 ops_fit (e ∷ l) h x =
     by_test (λ (o : Option Instance). FitsCommand (ops_or_empty o)) (is_eq (id_cmp e.id x)) (Some e)
     (instance_of l x) (λ _. h.0) (λ _. ops_fit l h.1 x)
+
+pub command_fits : (m : List Instance) → ((e : Instance) → Contains m e → FitsInstance e)
+    → (x : Id) → FitsCommand (ops_or_empty (instance_of m x))
+unfolding CommandFits
+command_fits m fits = ops_fit m (each_holds CommandFits m (λ e c. (fits e c).command))
 
 commands_fit : (l : List Instance) → AllByRecursion CommandFits l → (order : List Ranked)
     → AllByRecursion FitsCommand (commands_in l (ranked_ids order))

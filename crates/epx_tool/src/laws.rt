@@ -16,6 +16,7 @@ ghost use Rattle.epx_tool.specs.ResumableAnswers.{ResumedReportRepeatsTheWhole};
 ghost use Rattle.epx_tool.specs.ResumableAnswers.{LastReportIsTheWhole};
 ghost use Rattle.epx_tool.specs.ResumptionLaws.{ReportIsAfterNothing, ReportIsBase};
 ghost use Rattle.epx_tool.specs.SameLineLaws.{SameLinesAreAcceptedAlike, SameLinesAreAnsweredAlike};
+ghost use Rattle.epx_tool.specs.TraceReportLaws.{LastWriteLineIsTheStoreLine};
 ghost use Rattle.epx_tool.specs.TraceReportLaws.{TraceEndsInTheStore};
 
 /// A committed map has a report.
@@ -138,6 +139,12 @@ pub fn check_finds_not_lawful()
 /// The store of a report has under a key what the last write of the key's trace leaves.
 pub fn trace_ends_in_the_store()
     ensures { TraceEndsInTheStore }
+{}
+
+/// The report of logs has a store line for a key exactly if the last write line of the key's trace
+/// ends with a value, and with this value.
+pub fn last_write_line_is_the_store_line()
+    ensures { LastWriteLineIsTheStoreLine }
 {}
 
 /// The report of logs is a base of the instances that it executes and of its final store.
