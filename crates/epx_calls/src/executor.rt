@@ -106,7 +106,8 @@ fn a_commit_that_ran_out_of_memory_can_be_tried_again(rt: HostRuntime) -> Result
     let _first = commit(&rt, rt.alloc(), &mut executor, first(rt.alloc())?)?;
     let entry = add_one(&rt, rt.alloc(), id(0, 1), 2, id(0, 0))?;
     let again = entry.copy(rt.alloc())?;
-    if commit(&rt, rt.alloc(), &mut executor, entry).is_err() {
+    let came = vec![in rt.alloc(); entry]?;
+    if executor.commit(&rt, rt.alloc(), came, plan(&rt)).is_err() {
         assert!(rt; !executor.is_done(id(0, 1)) && executor.store().len() == 0);
         let executed = commit(&rt, rt.alloc(), &mut executor, again)?;
         assert!(rt; were_executed(&executed, &[id(0, 1)]));

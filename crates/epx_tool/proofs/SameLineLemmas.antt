@@ -5,7 +5,6 @@ use Rattle.std.proofs.lemmas.Grind.{flat_map-append}
 use Rattle.std.proofs.lemmas.List.Elements.{Contains-append_left, Contains-append_right}
 use Rattle.std.proofs.lemmas.List.Elements.{Contains-append_cases}
 use Rattle.epx_types.specs.declared.fault.Why.{Why}
-use Rattle.epx_types.specs.declared.id.Id.{Id}
 use Rattle.epx_types.specs.declared.place.Place.{Place}
 use Rattle.epx_types.specs.Agreement.{Agree}
 use Rattle.epx_types.specs.CommittedMap.{IsCommittedBy}
@@ -142,14 +141,18 @@ module _ (logs other : List (List ℕ)) (has : HaveLinesOf logs other) where
 module _ (logs other : List (List ℕ)) (has : HaveLinesOf logs other)
     (has' : HaveLinesOf other logs) where
   few : FewInstances (placed_of logs) → FewInstances (placed_of other)
-  few small = (small.0, record {
-    rising = small.1.rising;
-    whole = λ p h. let q = instance_of_line logs other has p h in
-        subst (Contains small.0) (ap (λ (i : Instance). i.id) q.2) (small.1.whole q.0 q.1);
-    named = λ x h. let p = small.1.named x h in
-        let q = instance_of_line other logs has' p.0 p.1 in
-        (q.0, q.1, ap (λ (i : Instance). i.id) q.2 ∙ p.2);
-  }, small.2)
+  few small = (
+    small.0,
+    record {
+      rising = small.1.rising;
+      whole = λ p h. let q = instance_of_line logs other has p h in
+          subst (Contains small.0) (ap (λ (i : Instance). i.id) q.2) (small.1.whole q.0 q.1);
+      named = λ x h. let p = small.1.named x h in
+          let q = instance_of_line other logs has' p.0 p.1 in
+          (q.0, q.1, ap (λ (i : Instance). i.id) q.2 ∙ p.2);
+    },
+    small.2,
+  )
 
   agree : Agree (placed_of logs) → Agree (placed_of other)
   agree agrees p q h k same =
