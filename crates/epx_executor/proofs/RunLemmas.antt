@@ -13,8 +13,7 @@ use Rattle.std.proofs.Math.Seq.{get_or-append_seam}
 use Rattle.std.proofs.lemmas.List.FromFn.{length-range_with_len, get_or-range_with_len}
 use Rattle.std.proofs.lemmas.List.Elements.{Contains-append_left, Contains-append_right}
 use Rattle.std.proofs.lemmas.List.Elements.{Contains-append_cases, All-push, All-pop, All-nil}
-use Rattle.std.proofs.lemmas.List.Elements.{All-contains, All-append, All-head, All-tail}
-use Rattle.std.proofs.lemmas.List.{length-map}
+use Rattle.std.proofs.lemmas.List.Elements.{All-contains, All-append}
 use Rattle.std.proofs.lemmas.List.Sorted.{Contains-permutation, IsPermutation-sym}
 use Rattle.std.proofs.lemmas.List.Quantifiers.{all_pairs_push}
 use Rattle.epx_types.specs.declared.id.Id.{Id}
@@ -26,8 +25,8 @@ use Rattle.epx_types.proofs.lists.MembershipLemmas.{Contains-flat_map, Contains-
 use Rattle.epx_types.proofs.lists.TotalOrderLemmas.{below_trans, below_cases}
 use Rattle.epx_executor.specs.declared.done_runs.Run.{Run}
 use Rattle.epx_executor.specs.contracts.done_runs.RunOrd.TheImpl as run_ord
-use Rattle.epx_executor.specs.inner.Runs.{AreFilled, AreRuns, BeginInOrder, first_of, ids_in}
-use Rattle.epx_executor.specs.inner.Runs.{ids_of_run, IsFilled, IsInRun, IsInRuns, last_of}
+use Rattle.epx_executor.specs.Runs.{AreFilled, AreRuns, BeginInOrder, first_of, ids_in}
+use Rattle.epx_executor.specs.Runs.{ids_of_run, IsFilled, IsInRun, IsInRuns, last_of}
 
 -- ---- the Ids of runs
 
@@ -76,22 +75,6 @@ from_ids_in runs x h =
 pub ids_in-nil : ids_in [] ≡ []
 unfolding ids_in
 ids_in-nil = refl
-
--- each run has an Id
-pub runs_are_few : (runs : List Run) → AreFilled runs → length runs ≤ length (ids_in runs)
-unfolding ids_in ids_of_run
-runs_are_few [] filled = omega arith
-runs_are_few (r ∷ runs) filled =
-    let id_at : ℕ → Id = λ n. record { replica = r.replica; number = n } in
-    let one : r.first ≤ r.last = All-head IsFilled r runs filled in
-    omega (
-      arith,
-      one,
-      length-map (range_with_len r.first (r.last + 1 - r.first)) id_at,
-      length-range_with_len r.first (r.last + 1 - r.first),
-      length-append (ids_of_run r) (ids_in runs),
-      runs_are_few runs (All-tail IsFilled r runs filled),
-    )
 
 -- ---- Ids between the ends of a run
 

@@ -1,3 +1,4 @@
+pub mod Runs
 pub mod CallLines
 pub mod Commits
 pub mod ExecutorLaws

@@ -1,22 +1,22 @@
 //! Sets of done instances, as runs of consecutive numbers.
-ghost use Rattle.std.specs.Prelude.{◌≡◌, ◌↔◌, ◌⊎◌, ◌≤◌, [], length, All, Contains, IsTrue};
+ghost use Rattle.std.specs.Prelude.{◌≡◌, ◌↔◌, ◌⊎◌, [], All, Contains, IsTrue};
 ghost use Rattle.std.specs.Prelude.{IfOk, IfSome, IfNone, OnOk, OnErr};
 ghost use Rattle.epx_types.specs.declared.id.Id.{Id};
 ghost use Rattle.epx_types.specs.Ids.{Below, UpTo};
-ghost use Rattle.epx_executor.specs.inner.Runs.{AreFilled, AreRuns, BeginInOrder, first_of};
-ghost use Rattle.epx_executor.specs.inner.Runs.{ids_in, IsFilled, IsInRun, IsInRuns, last_of};
+ghost use Rattle.epx_executor.specs.Runs.{AreFilled, AreRuns, BeginInOrder, first_of};
+ghost use Rattle.epx_executor.specs.Runs.{ids_in, IsFilled, IsInRun, IsInRuns, last_of};
 
 use epx_types::{Id, Memory};
 use std::alloc::Global;
 use std::marker::Model;
 use std::slice;
 
-/// Consecutive numbers of one replica.
+/// Consecutive numbers of one replica, from the first to the last.
 #[derive(Clone, Copy, Debug, PartialEq, Eq, PartialOrd, Ord)]
-pub(crate) struct Run {
-    replica: u8,
-    first: u64,
-    last: u64,
+pub struct Run {
+    pub replica: u8,
+    pub first: u64,
+    pub last: u64,
 }
 
 impl Run {
@@ -157,7 +157,7 @@ pub struct DoneRuns {
 impl Model for DoneRuns {
     ghost use Rattle.std.specs.Prelude.{List};
     ghost use Rattle.epx_types.specs.declared.id.Id.{Id};
-    ghost use Rattle.epx_executor.specs.inner.Runs.{AreRuns, ids_in};
+    ghost use Rattle.epx_executor.specs.Runs.{AreRuns, ids_in};
 
     ghost Value = { List Id };
 
@@ -173,6 +173,16 @@ impl DoneRuns {
         DoneRuns {
             runs: Vec::new(alloc),
         }
+    }
+
+    /// The Ids of these runs, in whatever order they come.
+    pub fn from_runs(alloc: Global, runs: &[Run]) -> Result<DoneRuns, Memory>
+        requires { AreFilled runs.now }
+        ensures { IfOk result (λ set. (x : Id) → Contains set x ↔ IsInRuns runs.now x) }
+    {
+        let sorted = sorted_runs(alloc, runs, &[])?;
+        let runs = join_runs(alloc, &sorted)?;
+        Ok(DoneRuns { runs })
     }
 
     /// Whether an Id is in the set. Takes logarithmic time in the runs.
@@ -204,10 +214,11 @@ impl DoneRuns {
         Ok(())
     }
 
-    /// The number of runs, which is at most the number of Ids.
-    pub fn run_count(&self) -> usize
-        ensures { result ≤ length self.now }
+    /// The runs, by rising Id, with a gap in the numbers between two of one replica.
+    pub fn runs(&self) -> &[Run]
+        ensures runs { AreRuns result.now }
+        ensures members { (x : Id) → Contains self.now x ↔ IsInRuns result.now x }
     {
-        self.runs.len()
+        self.runs.as_slice()
     }
 }

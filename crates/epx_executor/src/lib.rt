@@ -9,5 +9,5 @@ mod execute_all;
 mod executor;
 pub mod laws;
 
-pub use done_runs::DoneRuns;
+pub use done_runs::{DoneRuns, Run};
 pub use executor::Executor;

@@ -2,7 +2,7 @@ use Rattle.std.proofs.Common.{◌+◌, ◌-◌, ◌/◌, get_or, sym, subst, ◌
 use Rattle.epx_types.specs.declared.id.Id.{Id}
 use Rattle.epx_types.specs.Ids.{Below}
 use Rattle.epx_executor.specs.declared.done_runs.Run.{Run}
-use Rattle.epx_executor.specs.inner.Runs.{first_of, last_of}
+use Rattle.epx_executor.specs.Runs.{first_of, last_of}
 use Rattle.epx_executor.proofs.RunLemmas.{run_before, run_after, Below-from_lt}
 use Rattle.epx_executor.proofs.done_runs.is_in_runs.Goals as goal
 

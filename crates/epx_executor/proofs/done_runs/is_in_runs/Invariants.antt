@@ -1,6 +1,6 @@
 use Rattle.std.proofs.Common.{ℕ, ◌-◌, ◌≤◌, ◌<◌, length, get_or}
 use Rattle.epx_executor.specs.declared.done_runs.Run.{Run}
-use Rattle.epx_executor.specs.inner.Runs.{IsInRun}
+use Rattle.epx_executor.specs.Runs.{IsInRun}
 use Rattle.epx_executor.proofs.done_runs.is_in_runs.Given as goal
 
 -- a run that has the Id is from low on and below high

@@ -3,7 +3,7 @@ use Rattle.std.proofs.lemmas.List.Elements.{All-push, All-pop}
 use Rattle.epx_types.specs.declared.id.Id.{Id}
 use Rattle.epx_types.specs.Ids.{UpTo}
 use Rattle.epx_executor.specs.declared.done_runs.Run.{Run}
-use Rattle.epx_executor.specs.inner.Runs.{AreRuns, first_of, IsInRun, IsInRuns}
+use Rattle.epx_executor.specs.Runs.{AreRuns, first_of, IsInRun, IsInRuns}
 use Rattle.epx_executor.proofs.RunLemmas.{AreRuns-lengthened, IsInRuns-lengthened, AreRuns-after}
 use Rattle.epx_executor.proofs.RunLemmas.{AreRuns-first}
 use Rattle.epx_executor.proofs.done_runs.push_run.Goals as goal

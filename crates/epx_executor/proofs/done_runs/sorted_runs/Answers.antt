@@ -5,7 +5,7 @@ use Rattle.std.proofs.lemmas.List.Elements.{All-push}
 use Rattle.std.proofs.lemmas.List.{take_all}
 use Rattle.epx_types.specs.declared.id.Id.{Id}
 use Rattle.epx_executor.specs.declared.done_runs.Run.{Run}
-use Rattle.epx_executor.specs.inner.Runs.{AreFilled, IsInRuns, IsFilled}
+use Rattle.epx_executor.specs.Runs.{AreFilled, IsInRuns, IsFilled}
 use Rattle.epx_executor.proofs.RunLemmas.{IsInRuns-of_more, AreFilled-sorted, IsInRuns-sorted}
 use Rattle.epx_executor.proofs.RunLemmas.{BeginInOrder-from_sorted, Run-by_first}
 use Rattle.epx_executor.proofs.done_runs.sorted_runs.Goals as goal

@@ -1,7 +1,7 @@
 use Rattle.std.proofs.Common.{List, Contains, sym, subst, inl, inr}
 use Rattle.epx_types.specs.declared.id.Id.{Id}
 use Rattle.epx_executor.specs.declared.done_runs.Run.{Run}
-use Rattle.epx_executor.specs.inner.Runs.{IsInRuns}
+use Rattle.epx_executor.specs.Runs.{IsInRuns}
 use Rattle.epx_executor.proofs.RunLemmas.{Contains-ids_in, from_ids_in}
 use Rattle.epx_executor.proofs.done_runs.DoneRuns.with.Goals as goal
 
