@@ -34,7 +34,7 @@ use Rattle.epx_tool.proofs.VerdictLemmas.{beginning-from_verdict}
 
 -- ---- what the text means
 
-beginning_if_reported : (list : List ℕ) (logs : List (List ℕ)) (ids : List Id)
+pub beginning_if_reported : (list : List ℕ) (logs : List (List ℕ)) (ids : List Id)
     (m : List Instance) → IsList list ids → IsAccepted logs m
     → IsInputAnswer CheckPrefix list logs (Ok lawful_line) → IsLawfulBeginning m ids
 beginning_if_reported list logs ids m is accepted said =

@@ -138,6 +138,14 @@ module _ (logs other : List (List ℕ)) (has : HaveLinesOf logs other) where
       (λ place. bad_anywhere (meaning_of line.0) line.2 place p line.3) in
       Contains-nil q.0 (subst (λ bad. Contains bad q.0) none q.1))
 
+  -- they commit all that the others commit
+  pub commit_all : (m n : List Instance) → IsAccepted other m → IsAccepted logs n
+      → (e : Instance) → Contains m e → Contains n e
+  commit_all m n accepted more e h =
+      let p = accepted.committed.given e h in
+      let q = instance_of_line p.0 p.1 in
+      subst (Contains n) (q.2 ∙ p.2) (more.committed.whole q.0 q.1)
+
 module _ (logs other : List (List ℕ)) (has : HaveLinesOf logs other)
     (has' : HaveLinesOf other logs) where
   few : FewInstances (placed_of logs) → FewInstances (placed_of other)

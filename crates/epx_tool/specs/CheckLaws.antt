@@ -17,6 +17,7 @@ use Rattle.epx_tool.specs.declared.ask.Ask.TheVariants.{Audit}
 use Rattle.epx_tool.specs.declared.question.InputQuestion.TheVariants.{CheckPrefix}
 use Rattle.epx_tool.specs.CheckAnswers.{Checks}
 use Rattle.epx_tool.specs.Questions.{AnswersView, IsInputAnswer}
+use Rattle.epx_tool.specs.SameLineLaws.{HaveLinesOf}
 use Rattle.epx_tool.specs.WithInput.{IsShort}
 
 -- a list is reported as lawful exactly if it is a lawful order of what the logs commit
@@ -67,3 +68,11 @@ abbrev pub WholeListsAreAnsweredAlike : Type 0
 WholeListsAreAnsweredAlike = (list : List ℕ) (logs : List (List ℕ)) (ids : List Id)
     (m : List Instance) → IsList list ids → IsAccepted logs m → HasAllReady m ids
     → (a : Result (List ℕ) Fault) → IsInputAnswer CheckPrefix list logs a ↔ Checks list logs a
+
+-- if logs call it lawful, so do all accepted logs that have their lines: what a replica has
+-- executed stays lawful, whatever is committed later
+abbrev pub LawfulBeginningsStay : Type 0
+LawfulBeginningsStay = (list : List ℕ) (logs more : List (List ℕ)) → HaveLinesOf more logs
+    → (m : List Instance) → IsAccepted more m
+    → IsInputAnswer CheckPrefix list logs (Ok lawful_line)
+    → IsInputAnswer CheckPrefix list more (Ok lawful_line)

@@ -14,8 +14,8 @@ pub mod AnswerLaws
 pub mod InputAnswerLaws
 pub mod ResumptionLaws
 pub mod ResumableAnswers
-pub mod CheckLaws
 pub mod SameLineLaws
+pub mod CheckLaws
 pub mod TraceReportLaws
 pub mod Runs
 pub mod RunsWithInput

@@ -7,7 +7,7 @@ ghost use Rattle.epx_tool.specs.AnswerLaws.{CoveredTextMeansCovered};
 ghost use Rattle.epx_tool.specs.CheckLaws.{LawfulTextMeansLawful, LawfulListExecutesAlike};
 ghost use Rattle.epx_tool.specs.CheckLaws.{LawfulTextMeansBeginning};
 ghost use Rattle.epx_tool.specs.CheckLaws.{LawfulBeginningRepliesAlike};
-ghost use Rattle.epx_tool.specs.CheckLaws.{WholeListsAreAnsweredAlike};
+ghost use Rattle.epx_tool.specs.CheckLaws.{LawfulBeginningsStay, WholeListsAreAnsweredAlike};
 ghost use Rattle.epx_tool.specs.FindingLaws.{AuditFindsNotCovered, CheckFindsNotLawful};
 ghost use Rattle.epx_tool.specs.InputAnswerLaws.{InputAnswerExists, InputAnswerIsOne};
 ghost use Rattle.epx_tool.specs.ResumableAnswers.{AnswerIsBase, ResumptionIsBase};
@@ -18,6 +18,8 @@ ghost use Rattle.epx_tool.specs.ResumptionLaws.{ReportIsAfterNothing, ReportIsBa
 ghost use Rattle.epx_tool.specs.SameLineLaws.{SameLinesAreAcceptedAlike, SameLinesAreAnsweredAlike};
 ghost use Rattle.epx_tool.specs.TraceReportLaws.{LastWriteLineIsTheStoreLine};
 ghost use Rattle.epx_tool.specs.TraceReportLaws.{TraceEndsInTheStore};
+
+use epx_laws::replicas::beginnings_stay;
 
 /// A committed map has a report.
 pub fn report_exists()
@@ -135,6 +137,14 @@ pub fn audit_finds_not_covered()
 pub fn check_finds_not_lawful()
     ensures { CheckFindsNotLawful }
 {}
+
+/// A list that logs call a lawful beginning is called so by all accepted logs that have their
+/// lines.
+pub fn lawful_beginnings_stay()
+    ensures { LawfulBeginningsStay }
+{
+    beginnings_stay();
+}
 
 /// The store of a report has under a key what the last write of the key's trace leaves.
 pub fn trace_ends_in_the_store()
