@@ -98,12 +98,6 @@ module _ (done : List (List Op × ℕ)) (current : List (List ℕ × Bool)) (t :
         (get_or_append_left t.keys (k ∷ []) [] a.key (is.within a h))) ∙ is.current_keys;
     within = λ a h. omega (arith, is.within a h, length_push t.keys k);
   } where
-    keys' : List (List ℕ)
-    keys' = t.keys ++ k ∷ []
-
-    key_levels' : List KeyLevels
-    key_levels' = t.key_levels ++ no_levels ∷ []
-
     position : (x : ℕ) → x < length (t.keys ++ k ∷ [])
         → ((x < length t.keys) × (key_at (t.keys ++ k ∷ []) x ≡ key_at t.keys x)
         × (key_levels_at (t.key_levels ++ no_levels ∷ []) x ≡ key_levels_at t.key_levels x))

@@ -1,16 +1,8 @@
 -- Tests on numbers, and how often a number is in a list.
-use Rattle.std.proofs.Common.{◌≡◌, ◌≢◌, ℕ, ◌+◌, ◌<◌, ◌≤◌, eqb, min, not, List, [], ◌∷◌, ◌++◌}
+use Rattle.std.proofs.Common.{◌≡◌, ◌≢◌, ℕ, ◌+◌, ◌<◌, ◌≤◌, eqb, min, List, [], ◌∷◌, ◌++◌}
 use Rattle.std.proofs.Common.{length, get_or, zero, suc, arith}
 use Rattle.std.proofs.lemmas.Bool.Decides.{nat_tests}
 use Rattle.epx_claims.specs.Count.{total, one_if, occurrences, once_below}
-
--- if the test that two numbers differ counts as 0, they are equal
-pub same_from_count : (a b : ℕ) → one_if (not (eqb a b)) ≡ 0 → a ≡ b
-same_from_count a b e = grind (arith, nat_tests)
-
--- the converse
-pub count_of_same : (a b : ℕ) → a ≡ b → one_if (not (eqb a b)) ≡ 0
-count_of_same a b e = grind (arith, nat_tests)
 
 -- if the test that a number is 0 counts as 0, it is positive
 pub positive_from_count : (a : ℕ) → one_if (eqb a 0) ≡ 0 → 0 < a

@@ -1,9 +1,9 @@
 -- Facts of a partition node by node, and after a write for one component.
 use Rattle.std.proofs.Common.{◌≡◌, ◌≢◌, ◌⊎◌, inl, inr, ⊎_elim, ℕ, ◌<◌, List, length, get_or, set}
-use Rattle.std.proofs.Common.{ap, ◌∙◌, All}
+use Rattle.std.proofs.Common.{ap, ◌∙◌}
 use Rattle.std.proofs.lemmas.Bool.{cases_eq}
 use Rattle.std.proofs.lemmas.List.{get_or-set_same, get_or-set_other}
-use Rattle.std.proofs.lemmas.List.Elements.{All-get_or, All-from_get_or, Contains-get_or}
+use Rattle.std.proofs.lemmas.List.Elements.{All-get_or}
 use Rattle.epx_components.specs.Partitions.{ComponentParts, IsPartition, component_of, node_at}
 
 pub node_below : (edges : ℕ → List ℕ) (p : ComponentParts) → IsPartition edges p → (i : ℕ)
@@ -13,11 +13,6 @@ node_below edges p is i l = All-get_or (λ k. k < length p.component) p.order i 
 pub component_below : (edges : ℕ → List ℕ) (p : ComponentParts) → IsPartition edges p → (k : ℕ)
     → k < length p.component → component_of p k < p.count
 component_below edges p is k l = All-get_or (λ c. c < p.count) p.component k 0 l is.counted
-
-pub targets_below : (edges : ℕ → List ℕ) (p : ComponentParts) → IsPartition edges p → (k : ℕ)
-    → All (λ j. j < length p.component) (edges k)
-targets_below edges p is k = All-from_get_or (λ j. j < length p.component) (edges k) 0
-    (λ x l. is.within k _ (Contains-get_or (edges k) x 0 l))
 
 -- the value of a node after a write for the component of b
 pub value_after_set : {A : Type 0} (none : A) (p : ComponentParts) (xs : List A) (b : ℕ) (x : A)

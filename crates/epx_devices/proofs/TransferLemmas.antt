@@ -1,17 +1,17 @@
 -- The loop invariants of the two transfers.
 use Rattle.std.proofs.Common.{◌≡◌, ℕ, ◌+◌, ◌-◌, ◌≤◌, Bool, false, List, [], ◌∷◌, ◌++◌, length}
 use Rattle.std.proofs.Common.{take, drop, flat_map, Option, refl, sym, ap, ◌∙◌, subst, arith}
-use Rattle.std.proofs.Common.{append-nil, true, None, Some, Ok, Err, ◌<◌, rules}
+use Rattle.std.proofs.Common.{append-nil, true, None, Some, Ok, Err, rules}
 use Rattle.std.specs.Prelude.{IfSome, MatchResult, Result}
 use Rattle.std.proofs.lemmas.Grind.{common_steps, flat_map-append}
 use Rattle.epx_types.specs.declared.fault.Fault.{Fault}
-use Rattle.epx_types.specs.declared.fault.Fault.TheVariants.{Memory, LogTooLong, Read}
+use Rattle.epx_types.specs.declared.fault.Fault.TheVariants.{Memory, LogTooLong}
 use Rattle.epx_types.specs.Limits.{max_log_bytes}
 use Rattle.epx_devices.specs.Deliveries.{FailRelation, ReadRelation, ReadStep, AreReads, Delivers}
 use Rattle.epx_devices.specs.declared.transfer.LogPart.{LogPart}
 use Rattle.epx_devices.specs.LogParts.{EndsLog, EndsPart, IsFrontOfLog, IsReadUpTo}
 use Rattle.epx_devices.proofs.KnownBytesLemmas.{Appends-trans, Consumes-trans, take-more}
-use Rattle.std.specs.Io.KnownBytes.{Appends, Consumes, IsAtEnd, Keeps}
+use Rattle.std.specs.Io.KnownBytes.{Appends, Consumes, IsAtEnd}
 
 -- the sink has accepted the first n bytes, and no further call has failed
 pub record IsWritten {S : Type 0} (contents : S → Option (List ℕ)) (has_failed : S → Bool)
@@ -23,11 +23,6 @@ pub record IsWritten {S : Type 0} (contents : S → Option (List ℕ)) (has_fail
 pub none_consumed : (o : Option (List ℕ)) → Consumes o o []
 none_consumed None = tt
 none_consumed (Some xs) = refl
-
-kept_consumes : (a b : Option (List ℕ)) → Keeps a b → Consumes a b []
-kept_consumes None b kept = tt
-kept_consumes (Some xs) None kept = absurd kept
-kept_consumes (Some xs) (Some ys) kept = sym kept
 
 pub known_at_end : (a b : Option (List ℕ)) (bytes : List ℕ) → Consumes a b bytes → IsAtEnd b
     → IfSome a (λ all. bytes ≡ all)
@@ -107,57 +102,6 @@ module _ {S : Type 0} (reads : ReadRelation S) where
     -- ---- how reading ends, once these bytes are read
     module _ (fails : FailRelation S) (log : ℕ) (first now later : S) (bytes : List ℕ)
         (sofar : IsReadUpTo remaining reads has_failed first now bytes) where
-      pub log_ends : (room : ℕ) → 0 < room → reads now room [] later
-          → Consumes (remaining now) (remaining later) [] → IsAtEnd (remaining later)
-          → has_failed later ≡ false → length bytes ≤ max_log_bytes
-          → EndsLog remaining reads fails has_failed log first later (Ok bytes)
-      log_ends room has_room read consumed ended whole short =
-          let all = rw (append-nil bytes) at (Consumes-trans (remaining first) (remaining now)
-          (remaining later) bytes [] sofar.consumed consumed) in
-          record {
-            bytes = known_at_end (remaining first) (remaining later) bytes all ended;
-            delivered = record {
-              last = now;
-              before = sofar.delivered;
-              room = room;
-              has_room = has_room;
-              ended = read;
-            };
-            ended = ended;
-            fits = short;
-            faults = tt;
-            stops = tt;
-            failed = search (rules, whole);
-            too_long = search rules;
-            no_further = (bytes, all, sofar.few);
-          }
-
-      pub read_fails : fails now later → Keeps (remaining now) (remaining later)
-          → has_failed later ≡ true
-          → EndsLog remaining reads fails has_failed log first later (Err (Read log))
-      read_fails failing kept failed =
-          let all = rw (append-nil bytes) at (Consumes-trans (remaining first) (remaining now)
-          (remaining later) bytes [] sofar.consumed (kept_consumes _ _ kept)) in
-          record {
-            bytes = tt;
-            delivered = tt;
-            ended = tt;
-            fits = tt;
-            faults = refl;
-            stops = (
-              refl,
-              record {
-                last = now;
-                bytes = bytes;
-                before = sofar.delivered;
-                failed = failing;
-              },
-            );
-            failed = search (rules, failed);
-            too_long = search rules;
-            no_further = (bytes, all, sofar.few);
-          }
-
       pub too_long : length bytes ≡ max_log_bytes + 1
           → EndsLog remaining reads fails has_failed log first now (Err (LogTooLong log))
       too_long many = record {

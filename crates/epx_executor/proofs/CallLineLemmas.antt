@@ -6,7 +6,7 @@ use Rattle.std.proofs.lemmas.Bool.{cases_Bool}
 use Rattle.std.proofs.lemmas.Bool.Decides.{nat_tests}
 use Rattle.std.proofs.lemmas.List.{length-map, take_more}
 use Rattle.std.proofs.lemmas.List.Elements.{Contains-append_cases, Contains-append_left}
-use Rattle.std.proofs.lemmas.List.Elements.{Contains-append_right, filter-append}
+use Rattle.std.proofs.lemmas.List.Elements.{Contains-append_right}
 use Rattle.epx_types.specs.declared.id.Id.{Id}
 use Rattle.epx_types.specs.declared.place.Place.{Place}
 use Rattle.epx_types.specs.CommittedMap.{ids_of}
@@ -93,12 +93,6 @@ lines_from-more log n es k d l =
     ∙ lines_from-append log n (take k es) (get_or es k d ∷ [])
     ∙ ap (λ j. lines_from log n (take k es) ++ lines_from log (j + n) (get_or es k d ∷ []))
     (omega (arith, length-take k es))
-
--- the line of an instance, and those after it
-pub lines_not_done-cons : (done : List Id) (p : Placed) (lines : List Placed)
-    → lines_not_done done (p ∷ lines) ≡ lines_not_done done (p ∷ []) ++ lines_not_done done lines
-lines_not_done-cons done p lines =
-    filter-append (λ (q : Placed). not (is_among done q.instance.id)) (p ∷ []) lines
 
 -- some of sorted lines are sorted
 filter_in_order : (p : Placed → Bool) (lines : List Placed) → IsSortedByPlace lines

@@ -12,7 +12,7 @@ use Rattle.std.proofs.lemmas.List.{get_or_append_left, get_or_default, take_more
 use Rattle.std.proofs.Math.Seq.{get_or-append_seam}
 use Rattle.std.proofs.lemmas.List.FromFn.{length-range_with_len, get_or-range_with_len}
 use Rattle.std.proofs.lemmas.List.Elements.{Contains-append_left, Contains-append_right}
-use Rattle.std.proofs.lemmas.List.Elements.{Contains-append_cases, All-push, All-pop, All-nil}
+use Rattle.std.proofs.lemmas.List.Elements.{Contains-append_cases, All-push, All-pop}
 use Rattle.std.proofs.lemmas.List.Elements.{All-contains, All-append}
 use Rattle.std.proofs.lemmas.List.Sorted.{Contains-permutation, IsPermutation-sym}
 use Rattle.std.proofs.lemmas.List.Quantifiers.{all_pairs_push}
@@ -108,24 +108,6 @@ Run-by_first a b h =
   where
     less : (b.replica < a.replica) ⊎ (b.replica ≡ a.replica) × (b.first < a.first) → ⊥
     less k = grind (arith, nat_tests)
-
--- an Id that is not below the first one of a run, and of which the last one is not below
-pub IsInRun-between : (r : Run) (x : Id) → ¬ Below x (first_of r) → ¬ Below (last_of r) x
-    → IsInRun r x
-IsInRun-between r x low high =
-    elim (cases_eq x.replica r.replica) [
-      | inr other ↦ elim (cases_lt x.replica r.replica) [
-        | inl lower ↦ absurd (low (below_from_numbers x (first_of r) (inl lower)))
-        | inr upper ↦ absurd (high (below_from_numbers (last_of r) x (inl (omega arith))))
-      ]
-      | inl same ↦ elim (cases_lt x.number r.first) [
-        | inl before ↦ absurd (low (below_from_numbers x (first_of r) (inr (same, before))))
-        | inr from ↦ elim (cases_lt r.last x.number) [
-          | inl after ↦ absurd (high (below_from_numbers (last_of r) x (inr (sym same, after))))
-          | inr upto ↦ (same, from, upto)
-        ]
-      ]
-    ]
 
 -- an Id in a run is not below its first one
 pub in_run_from : (r : Run) (x : Id) → IsInRun r x → ¬ Below x (first_of r)
@@ -310,13 +292,6 @@ pub record AreJoined (sorted : List Run) (n : ℕ) (runs : List Run) : Type 0 wh
   pub after : (k : ℕ) (d : Run) → n ≤ k → k < length sorted
       → All (λ r. UpTo (first_of r) (first_of (get_or sorted k d))) runs
   pub members : (x : Id) → IsInRuns runs x ↔ IsInRuns (take n sorted) x
-
-pub AreJoined-nil : (sorted : List Run) → AreJoined sorted 0 []
-AreJoined-nil sorted = record {
-  apart = record { filled = All-nil IsFilled; apart = λ i j d l k. absurd (omega arith) };
-  after = λ k d low l. All-nil (λ r. UpTo (first_of r) (first_of (get_or sorted k d)));
-  members = λ x. (λ h. h, λ h. h);
-}
 
 pub AreJoined-more : (sorted : List Run) (n : ℕ) (d : Run) (runs more : List Run)
     → BeginInOrder sorted → n < length sorted → AreJoined sorted n runs → AreRuns more

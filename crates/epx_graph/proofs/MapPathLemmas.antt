@@ -97,14 +97,6 @@ module _ (m : List Instance) (g : DependencyGraph) (is : IsGraphOf m g) where
   reached_node k x y at (inl same) = (k, at ∙ ap Some same, ([], refl))
   reached_node k x y at (inr path) = map_path k x at path.0 y path.1
 
-  -- what a committed instance reaches has a node
-  pub node_of_reached : (x y : Id) → IsCommitted m x → Reaches m x y
-      → (j : ℕ) × (slice_get g.ids j ≡ Some y)
-  node_of_reached x y h there =
-      let k = node_of_committed x h in
-      let j = reached_node k.0 x y k.2 there in
-      (j.0, j.1)
-
   -- one node reaches another exactly if its instance reaches the other's instance
   pub node_reaches : (k j : ℕ) (x y : Id) → slice_get g.ids k ≡ Some x → slice_get g.ids j ≡ Some y
       → NodeReaches (edges_of g) k j ↔ Reaches m x y

@@ -1,5 +1,5 @@
 -- An Id between two neighbours in a list by rising Id is not in the list.
-use Rattle.std.proofs.Common.{◌≡◌, ◌-◌, ◌<◌, ◌≤◌, ℕ, List, length, true, get_or, Contains, Some}
+use Rattle.std.proofs.Common.{◌≡◌, ◌-◌, ◌<◌, ◌≤◌, ℕ, List, length, true, get_or, Some}
 use Rattle.std.proofs.Common.{Ordering, Less, Equal, Greater, is_lt, inl, inr, subst}
 use Rattle.std.proofs.Common.{arith}
 use Rattle.std.specs.Ordering.{ordering_then, partial_ordering_then, is_some_and}
@@ -11,7 +11,7 @@ use Rattle.epx_types.specs.declared.id.Id.{Id}
 use Rattle.epx_types.specs.Ids.{Below, IsRising}
 use Rattle.epx_types.proofs.lists.ComparisonLemmas.{id_cmp_total}
 use Rattle.epx_types.proofs.lists.RisingIdLemmas.{AllPairs-from_IsRising}
-use Rattle.epx_types.proofs.lists.TotalOrderLemmas.{below_irrefl, below_trans}
+use Rattle.epx_types.proofs.lists.TotalOrderLemmas.{below_trans}
 
 -- `<` of two fields, from their comparisons
 pub is_lt-from_lt : (r s : Ordering) → is_some_and is_lt (partial_ordering_then (Some r) (Some s))
@@ -51,12 +51,3 @@ module _ (ids : List Id) (rising : IsRising ids) (x : Id) (n : ℕ) (d : Id) whe
             (AllPairs-from_IsRising ids rising n k d lower within)
         | inr other ↦ let e : n ≡ k = omega arith in subst (λ i. Below x (get_or ids i d)) e first
       ]
-
-pub absent_between : (ids : List Id) (x : Id) (n : ℕ)
-    → ((k : ℕ) (d : Id) → k < n → Below (get_or ids k d) x)
-    → ((k : ℕ) (d : Id) → n ≤ k → k < length ids → Below x (get_or ids k d)) → ¬ Contains ids x
-absent_between ids x n low high (k, within, is) =
-    elim (cases_lt k n) [
-      | inl lower ↦ below_irrefl id_cmp_total x (subst (λ y. Below y x) is (low k x lower))
-      | inr other ↦ below_irrefl id_cmp_total x (subst (Below x) is (high k x other within))
-    ]

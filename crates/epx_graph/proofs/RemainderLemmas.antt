@@ -116,14 +116,6 @@ module _ (r : RemainderView) (none : length r.done ≡ 0) where
 
 -- ---- the tables
 
-pub tables_none : (r : RemainderView) → ArePositionTables r [] [] 0
-tables_none r = record {
-  many = refl;
-  at_positions = λ k l. absurd (omega (arith, l));
-  all = refl;
-  all_positions_left = λ p e l at. absurd (omega (arith, l));
-}
-
 module _ (r : RemainderView) (positions : List ℕ) (positions_left : List (Option ℕ)) (n : ℕ)
     (e : Instance) (at : slice_get r.whole n ≡ Some e)
     (are : ArePositionTables r positions positions_left n) where

@@ -25,17 +25,6 @@ use Rattle.std.proofs.lemmas.Bool.{cases_eq}
 
 -- ---- marks of nodes
 
-pub visits_none : (root : ℕ) (s : SearchView) → IsVisit [] root s s
-visits_none root s = record {
-  len = refl;
-  kept = λ k z h. h;
-  marked = λ k z h. inl h;
-  all = λ k h. absurd (Contains-nil k h);
-  stacked = λ k h. h;
-  from = λ k h. inl h;
-  same_work = refl;
-}
-
 module _ (nodes : List ℕ) (root : ℕ) (old new : SearchView) (x : ℕ)
     (is : IsVisit nodes root old new) where
   -- a node that has a mark

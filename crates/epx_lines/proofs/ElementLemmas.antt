@@ -1,6 +1,6 @@
 -- A loop over the elements of a parsed array, and what the definitions read from them.
 use Rattle.std.proofs.Common.{◌≡◌, ℕ, suc, ◌+◌, ◌<◌, ◌≤◌, List, [], ◌∷◌, ◌++◌, length, get_or}
-use Rattle.std.proofs.Common.{drop, map, Option, Some, None, option_map, option_and_then, refl}
+use Rattle.std.proofs.Common.{drop, Option, Some, None, option_map, option_and_then, refl}
 use Rattle.std.proofs.Common.{sym, ap, ◌∙◌, arith}
 use Rattle.std.proofs.lemmas.Bool.Decides.{nat_tests}
 use Rattle.std.proofs.lemmas.List.{append_assoc, drop_more}
@@ -15,10 +15,6 @@ use Rattle.epx_lines.specs.DependencyList.{id_of, id_of_pair, deps_of}
 use Rattle.epx_lines.specs.OperationList.{op_of, op_of_list, ops_of}
 
 -- ---- an array's elements are those of the vector
-
-pub list_of-items_view : (vs : List Value) → list_of (items_view vs) ≡ map view vs
-list_of-items_view [] = refl
-list_of-items_view (v ∷ vs) = ap (λ ds. view v ∷ ds) (list_of-items_view vs)
 
 pub length-list_of : (vs : List Value) → length (list_of (items_view vs)) ≡ length vs
 length-list_of [] = refl
@@ -152,15 +148,3 @@ module _ {A B C : Type 0} (f : A → Option B) where
       → option_map ahead (option_map (λ ys. y ∷ ys) o) ≡ option_map later o
   heads None y ahead later same = refl
   heads (Some ys) y ahead later same = ap Some (same ys)
-
-  -- f of the next element is y
-  pub every-more : (xs : List A) (i : ℕ) (x : A) (y : B) (ahead later : List B → C) → i < length xs
-      → x ≡ get_or xs i x → f x ≡ Some y → ((ys : List B) → ahead (y ∷ ys) ≡ later ys)
-      → option_map ahead (every f (drop i xs)) ≡ option_map later (every f (drop (i + 1) xs))
-  every-more xs i x y ahead later l here gives same =
-      rw (drop_more xs i x l, ← here, gives) (heads (every f (drop (i + 1) xs)) y ahead later same)
-
--- f has no value at the next element
-pub every-stop : {A B : Type 0} (f : A → Option B) (xs : List A) (i : ℕ) (x : A) → i < length xs
-    → x ≡ get_or xs i x → f x ≡ None → every f (drop i xs) ≡ None
-every-stop f xs i x l here gives = rw (drop_more xs i x l, ← here, gives)

@@ -339,10 +339,6 @@ HasReadMembers n start P now = (ms : List (List ℕ × Data)) × P ms
     × ((more : List (List ℕ × Data)) (rest : List Token) → AreMembers n now more rest
     → AreMembers n start (ms ++ more) rest)
 
-pub HasReadMembers-nothing : (n : ℕ) (start : List Token) (P : List (List ℕ × Data) → Type 0)
-    → P [] → HasReadMembers n start P start
-HasReadMembers-nothing n start P h = ([], h, λ more rest g. g)
-
 pub HasReadMembers-more : (n : ℕ) (start : List Token) (P Q : List (List ℕ × Data) → Type 0)
     (k : List ℕ) (d : Data) (now mid next : List Token) → HasReadMembers n start P now
     → read_key now ≡ Some (Some k, mid) → BeginsWith n mid d next

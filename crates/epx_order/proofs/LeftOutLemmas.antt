@@ -26,19 +26,6 @@ module _ (m : List Instance) (p : ComponentParts) (marks : List Bool) (n : ℕ)
   further k t h = let was = old.from k t h in
       (was.0, was.1, omega (arith, was.2), was.3, was.4, was.5, was.6)
 
-  -- a listed node changes nothing
-  pub left_out_marked : IsTrue (is_marked marks n) → AreLeftOut m p marks (n + 1) left_out
-  left_out_marked marked = record {
-    whole = old.whole;
-    from = further;
-    under = λ j e l unmarked at. elim (cases_lt j n) [
-      | inl past ↦ old.under j e past unmarked at
-      | inr now ↦
-          let same : n ≡ j = omega arith in
-          absurd (unmarked (subst (λ i. IsTrue (is_marked marks i)) same marked))
-    ];
-  }
-
   module _ (e : Instance) (at : slice_get m n ≡ Some e) where
     same_instance : (j : ℕ) (f : Instance) → j ≡ n → slice_get m j ≡ Some f → f ≡ e
     same_instance j f now to =

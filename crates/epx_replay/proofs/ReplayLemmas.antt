@@ -4,7 +4,7 @@ use Rattle.std.proofs.Common.{zero, suc, ◌-◌, refl, sym, ap, ap₂, subst, a
 use Rattle.std.proofs.Common.{slice_range}
 use Rattle.std.proofs.lemmas.Grind.{flat_map-append}
 use Rattle.std.specs.Prelude.{min}
-use Rattle.std.proofs.lemmas.List.{append_assoc, append-nil, length-append, length-drop}
+use Rattle.std.proofs.lemmas.List.{append_assoc, length-append, length-drop}
 use Rattle.std.proofs.lemmas.List.{length-take, map-append}
 use Rattle.epx_types.specs.declared.id.Id.{Id}
 use Rattle.epx_types.specs.declared.op.Op.{Op}
@@ -13,7 +13,6 @@ use Rattle.epx_types.specs.Contents.{Contents}
 use Rattle.epx_types.specs.Execution.{execute}
 use Rattle.epx_types.proofs.commands.ExecutionLemmas.{execute-append, length-replies}
 use Rattle.epx_report.specs.ReportLines.{reply_line}
-use Rattle.epx_replay.specs.Replays.{Replays}
 
 abbrev pub lines_of : List Id → List Reply → List ℕ
 lines_of ids replies = flat_map reply_line (zip ids replies)
@@ -42,16 +41,6 @@ pub record IsReplaying (text : List ℕ) (ids : List Id) (commands : List (List 
   pub final : (execute rest here).final ≡ (execute commands before).final
   pub lines : (so_far ++ lines_of batch replies) ++ lines_of later (execute rest here).replies
       ≡ text ++ lines_of ids (execute commands before).replies
-
-pub replay_begins : (text : List ℕ) (ids : List Id) (commands : List (List Op)) (c : Contents)
-    → length ids ≡ length commands
-    → IsReplaying text ids commands c text [] [] c ids commands
-replay_begins text ids commands c same = record {
-  as_many = refl;
-  left = same;
-  final = refl;
-  lines = ap (λ t. t ++ lines_of ids (execute commands c).replies) (append-nil text);
-}
 
 -- the next batch is executed, and the one before is written
 pub replay_goes_on : (text : List ℕ) (ids : List Id) (commands : List (List Op)) (c : Contents)
@@ -87,18 +76,6 @@ replay_goes_on text ids commands c so_far batch replies here now later unread fi
     parts = ap (lines_of (now ++ later)) ((execute-append first rest here).0
         ∙ ap₂ ◌++◌ (sym are_answers) (ap (λ s. (execute rest s).replies) (sym is_next)))
         ∙ lines_of-append now later answers (execute rest next).replies (sym many)
-
--- nothing is left
-pub replay_ends : (text : List ℕ) (ids : List Id) (commands : List (List Op)) (c : Contents)
-    (so_far : List ℕ) (batch : List Id) (replies : List Reply) (here : Contents)
-    (later : List Id) (longer : List ℕ)
-    → IsReplaying text ids commands c so_far batch replies here later []
-    → longer ≡ so_far ++ lines_of batch replies
-    → Replays ids commands c here text longer
-replay_ends text ids commands c so_far batch replies here [] longer h is_longer =
-    (h.final, is_longer ∙ sym (append-nil (so_far ++ lines_of batch replies)) ∙ h.lines)
-replay_ends text ids commands c so_far batch replies here (x ∷ later) longer h is_longer =
-    absurd (omega (arith, h.left))
 
 -- ranges of lists of one length
 pub as_many_in_range : {X Y : Type 0} (xs : List X) (ys : List Y) (start end : ℕ)

@@ -231,16 +231,3 @@ bad_base_is_bad_at_one_line bytes line other (inl p) (inr q) =
 bad_base_is_bad_at_one_line bytes line other (inr p) (inl q) =
     absurd (none_bad BeginBase fewer_lines (lines_of bytes) other p.begins q)
 bad_base_is_bad_at_one_line bytes line other (inr p) (inr q) = p.line_is ∙ sym q.line_is
-
--- reading stops at every bad line
-pub reading_of_bad_base : (bytes : List ℕ) (line : ℕ) → IsBadBase bytes line
-    → base_reading bytes ≡ Err line
-reading_of_bad_base bytes line bad = found (base_reading bytes) refl
-  where
-    found : (r : Result Seen ℕ) → base_reading bytes ≡ r → base_reading bytes ≡ Err line
-    found (Ok s) e =
-        let is = base_is_read bytes s.done (put_pairs s.stored contents.empty)
-        (record { seen = s; read = e; done_is = refl; stored_is = refl }) in
-        absurd (base_is_no_bad_base bytes s.done (put_pairs s.stored contents.empty) line is bad)
-    found (Err other) e = e ∙ ap Err
-        (bad_base_is_bad_at_one_line bytes other line (bad_base_is_read bytes other e) bad)

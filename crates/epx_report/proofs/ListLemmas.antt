@@ -145,25 +145,3 @@ list_names_one_list bytes ids other p q = same_somes ids other (sym p ∙ q)
 
 pub bad_list_is_bad_at_one_line : BadListIsBadAtOneLine
 bad_list_is_bad_at_one_line bytes = one_bad AreListLines fewer_lines (lines_of bytes)
-
--- ---- reading finds every list and every bad list
-
-pub reading_of_list : (bytes : List ℕ) (ids : List Id) → IsList bytes ids
-    → list_reading bytes ≡ Ok ids
-reading_of_list bytes ids is = found (list_reading bytes) refl
-  where
-    found : (r : Result (List Id) ℕ) → list_reading bytes ≡ r → list_reading bytes ≡ Ok ids
-    found (Ok other) e = e ∙ ap Ok
-        (list_names_one_list bytes other ids (list_is_read bytes other e) is)
-    found (Err line) e =
-        absurd (list_is_no_bad_list bytes ids line is (bad_list_is_read bytes line e))
-
-pub reading_of_bad_list : (bytes : List ℕ) (line : ℕ) → IsBadList bytes line
-    → list_reading bytes ≡ Err line
-reading_of_bad_list bytes line bad = found (list_reading bytes) refl
-  where
-    found : (r : Result (List Id) ℕ) → list_reading bytes ≡ r → list_reading bytes ≡ Err line
-    found (Ok ids) e =
-        absurd (list_is_no_bad_list bytes ids line (list_is_read bytes ids e) bad)
-    found (Err other) e = e ∙ ap Err
-        (bad_list_is_bad_at_one_line bytes other line (bad_list_is_read bytes other e) bad)

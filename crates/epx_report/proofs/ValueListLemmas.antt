@@ -1,9 +1,8 @@
 -- The elements of a parsed array, and what the definitions say about them.
-use Rattle.std.proofs.Common.{◌≡◌, ℕ, ◌<◌, ◌≤◌, ℤ, Bool, true, false, ◌&&◌, nat_le, List, [], ◌∷◌}
-use Rattle.std.proofs.Common.{length, get_or, drop, ◌+◌, cond, Option, Some, None, option_map}
+use Rattle.std.proofs.Common.{◌≡◌, ◌<◌, ◌≤◌, ℤ, Bool, true, false, ◌&&◌, nat_le, List, [], ◌∷◌}
+use Rattle.std.proofs.Common.{length, drop, cond, Option, Some, None, option_map}
 use Rattle.std.proofs.Common.{option_and_then, refl, ap, is_some, arith}
 use Rattle.std.proofs.lemmas.Bool.Decides.{nat_tests}
-use Rattle.std.proofs.lemmas.List.{drop_more}
 use Rattle.std.specs.List.{list_all}
 use Rattle.serde_json.specs.Data.{Data}
 use Rattle.serde_json.specs.Find.{as_array}
@@ -37,11 +36,6 @@ is_value_list-begin d vs items is few same =
     let within : nat_le (length vs) 64 ≡ true = grind (arith, nat_tests) in
     rw (same, ← is, length-list_of vs, within)
     (list_all-list_of (λ e. is_some (value_or_null e)) vs)
-
-pub list_all-more : (vs : List Value) (i : ℕ) (v : Value) → i < length vs → v ≡ get_or vs i v
-    → list_all is_value_or_null (drop i vs)
-    ≡ (is_value_or_null v && list_all is_value_or_null (drop (i + 1) vs))
-list_all-more vs i v within here = rw (drop_more vs i v within, ← here) refl
 
 -- ---- a list whose values were all read
 

@@ -18,7 +18,6 @@ mod OrderCommandLemmas
 mod ReportLemmas
 mod ResumptionLemmas
 mod ReportBaseLemmas
-mod KnownTextLemmas
 mod OrderTextLemmas
 mod VerdictLemmas
 mod VerdictLineLemmas

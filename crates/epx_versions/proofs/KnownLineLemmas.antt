@@ -1,9 +1,8 @@
 -- Lines that are known, as more versions and lines are added.
-use Rattle.std.proofs.Common.{◌≡◌, ◌∙◌, ◌∷◌, ◌++◌, ℕ, List, [], Option, None, Some, Result, Ok}
+use Rattle.std.proofs.Common.{◌≡◌, ◌∙◌, ◌∷◌, ℕ, List, [], Option, None, Some, Result, Ok}
 use Rattle.std.proofs.Common.{slice_get, refl, sym, ap, option_map, ◌==◌, Bool, true, false, cond}
 use Rattle.std.proofs.Common.{arith}
 use Rattle.std.proofs.lemmas.Bool.Decides.{nat_tests}
-use Rattle.std.proofs.lemmas.List.{map_push}
 use Rattle.epx_seed.specs.declared.Seed.{Seed}
 use Rattle.epx_types.proofs.lists.ListPositionLemmas.{slice_get-map}
 use Rattle.epx_types.specs.declared.fault.Why.{Why}
@@ -42,15 +41,6 @@ known_at versions cache numbers known n v m line number =
     let right = slice_get-map (λ x. Some x) cache n m line in
     let both : Some (meaning_of_version versions v) ≡ Some (Some m) =
     sym left ∙ (ap (λ xs. slice_get xs n) known ∙ right) in cc both
-
--- one more line is known
-pub known_more : (versions : List Instance) (cache : List (Result Line Why)) (numbers : List ℕ)
-    → AreKnown versions cache numbers → (v : ℕ) (m : Result Line Why)
-    → meaning_of_version versions v ≡ Some m
-    → AreKnown versions (cache ++ m ∷ []) (numbers ++ v ∷ [])
-known_more versions cache numbers known v m said =
-    map_push (meaning_of_version versions) numbers v
-    ∙ ((λ i. known i ++ said i ∷ []) ∙ sym (map_push (λ x. Some x) cache m))
 
 -- ---- more versions
 
@@ -101,10 +91,3 @@ pub fresh_read : (seed : Seed) (versions : List Instance) (v : HashedVersion) (b
 fresh_read seed versions v bytes m h =
     fresh v.hash (hash_by seed v.version) (line_of v.version) m
     (v.hash == hash_by seed v.version) refl h
-
--- a version with its own hash means what it commits
-pub fresh_means : (seed : Seed) (versions : List Instance) (v : HashedVersion) (bytes : ℕ)
-    → IsHashed seed v → meaning_in seed versions (read.Fresh v bytes) ≡ Some (Ok (Entry v.version))
-fresh_means seed versions v bytes own =
-    let test : (v.hash == hash_by seed v.version) ≡ true = grind (arith, nat_tests) in
-    ap (λ b. cond b (Some (line_of v.version)) None) test

@@ -22,17 +22,6 @@ use Rattle.epx_why.specs.inner.LevelSearches.{SearchView, steps_left, IsVisit, I
 
 -- ---- one more target
 
-pub visits_none : (steps : ℕ) (s : SearchView) → IsVisit [] steps s s
-visits_none steps s = record {
-  len = refl;
-  kept = λ k n h. h;
-  known = λ k n h. inl h;
-  all = λ k h. absurd (Contains-nil k h);
-  stays = λ k h. h;
-  from = λ k h. inl h;
-  same_work = refl;
-}
-
 has_distance : (o : Option ℕ) → is_some o ≡ true → (n : ℕ) × (o ≡ Some n)
 has_distance None e = absurd (cc e)
 has_distance (Some n) e = (n, refl)

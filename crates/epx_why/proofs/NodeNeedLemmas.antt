@@ -41,13 +41,6 @@ IsRising-push xs z rising below =
     ]))
 
 module _ (g : DependencyGraph) (distances : List (Option ℕ)) (start : ℕ) where
-  pub needs_none : AreNeedsIn g distances start start []
-  needs_none = record {
-    from = λ n h. absurd (Contains-nil n h);
-    whole = λ k n low high h. absurd (omega arith);
-    rising = tt;
-  }
-
   -- a node without a distance
   pub needs_skip : (end : ℕ) (needs : List Need) → distance_at distances end ≡ None
       → AreNeedsIn g distances start end needs → AreNeedsIn g distances start (end + 1) needs

@@ -1,10 +1,9 @@
 -- The walk by next nodes is the first of the shortest paths.
 use Rattle.std.proofs.Common.{◌≡◌, inl, inr, ℕ, suc, ◌<◌, ◌≤◌, List, [], ◌∷◌, ◌++◌}
-use Rattle.std.proofs.Common.{length, map, Contains, Option, Some, None, slice_get, refl, sym, ap}
+use Rattle.std.proofs.Common.{length, map, Contains, Option, Some, slice_get, refl, sym, ap}
 use Rattle.std.proofs.Common.{subst, subst₂, ◌∙◌, arith, All}
-use Rattle.std.proofs.lemmas.Bool.{cases_lt}
-use Rattle.std.proofs.lemmas.List.{append_assoc, append-nil, get_or_past}
-use Rattle.std.proofs.lemmas.List.Elements.{All-nil, All-cons, All-weaker, All-contains_itself}
+use Rattle.std.proofs.lemmas.List.{append_assoc, append-nil}
+use Rattle.std.proofs.lemmas.List.Elements.{All-nil, All-cons}
 use Rattle.epx_types.specs.declared.id.Id.{Id}
 use Rattle.epx_types.specs.Ids.{UpTo}
 use Rattle.epx_types.specs.Instances.{Instance}
@@ -17,7 +16,7 @@ use Rattle.epx_graph.proofs.MapPathLemmas.{node_of_committed, reached_node}
 use Rattle.epx_types.proofs.lists.ListPositionLemmas.{Contains-slice_get}
 use Rattle.epx_why.specs.FirstPaths.{ComesUpTo, path_ids, IsFirstPath, HasNoPath}
 use Rattle.epx_why.specs.inner.NodeSteps.{LeadsTo, AreDistancesTo, distance_at}
-use Rattle.epx_why.specs.inner.NodeWalks.{id_at, IsUnreached, IsFewest, IsNext, IsFirstWalk}
+use Rattle.epx_why.specs.inner.NodeWalks.{id_at, IsFewest, IsNext, IsFirstWalk}
 use Rattle.epx_why.specs.inner.NodeWalks.{IsFirstNodePath, IsBegun}
 use Rattle.epx_why.proofs.NodeStepLemmas.{LeadsTo-node_path}
 use Rattle.epx_why.proofs.MapStepLemmas.{slice_get-id_at, map_path, node_path}
@@ -108,18 +107,6 @@ module _ (g : DependencyGraph) (graph : IsGraph g) (t : ℕ) (distances : List (
         (walk_step last left c rest (fewest_on last left begun.distance) next walk));
   }
 
-  -- the node where the walk is has a number
-  pub begun_within : (k steps : ℕ) (nodes : List ℕ) (last left : ℕ)
-      → IsBegun g distances t k steps nodes last left → last < length g.ids
-  begun_within k steps nodes last left begun =
-      elim (cases_lt last (length distances)) [
-        | inl l ↦ omega (arith, known.nodes)
-        | inr past ↦
-            let none : distance_at distances last ≡ None = get_or_past distances last None past in
-            let has = begun.distance in
-            absurd (cc (has, none))
-      ]
-
   pub begun_end : (k n : ℕ) (nodes : List ℕ) (last : ℕ) → IsFewest distances (edges_of g k) n
       → IsBegun g distances t k (suc n) nodes last 0 → IsFirstNodePath g t k nodes
   begun_end k n nodes last few begun = record {
@@ -131,20 +118,6 @@ module _ (g : DependencyGraph) (graph : IsGraph g) (t : ℕ) (distances : List (
         let low = few.fewest there.0 found.0 there.1 found.2 in
         omega (arith, found.1);
   }
-
-  -- no target has a distance
-  pub no_walk : (k : ℕ) → IsUnreached distances (edges_of g k) → (n : ℕ)
-      → ¬ LeadsTo (edges_of g) k (suc n) t
-  no_walk k none n there =
-      let found = known.least there.0 n there.2 in
-      none there.0 found.0 there.1 found.2
-
-  -- the targets of a node are nodes, with a place among the distances
-  pub targets_within : (k : ℕ) → All (λ c. c < length distances) (edges_of g k)
-  targets_within k =
-      All-weaker (Contains (edges_of g k)) (λ c. c < length distances)
-      (λ c edge. let l = edge_within g graph k c edge in omega (arith, known.nodes))
-      (edges_of g k) (All-contains_itself (edges_of g k))
 
 -- ---- over the map
 

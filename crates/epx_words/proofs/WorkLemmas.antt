@@ -1,6 +1,6 @@
 -- What clap's matches ask for is what the words ask for, by the shape of the program.
 use Rattle.std.proofs.Common.{◌≡◌, ◌↔◌, ◌∙◌, ℕ, Bool, true, false, List, [], ap, refl, subst, sym}
-use Rattle.std.proofs.Common.{true≢false, codes, Option, Some, None, inl, inr}
+use Rattle.std.proofs.Common.{true≢false, codes, Option, Some, None}
 use Rattle.std.proofs.lemmas.Slice.Eq.{bytes_eq-Decides}
 use Rattle.std.specs.Option.{IfSome}
 use Rattle.std.specs.Prelude.{MatchOption}
@@ -11,26 +11,16 @@ use Rattle.epx_types.specs.Keys.{FitsKey}
 use Rattle.epx_types.specs.Pieces.{PlanNumbers}
 use Rattle.epx_words.specs.App.{epx_app}
 use Rattle.epx_words.specs.ExitStatus.{IsTaken}
-use Rattle.epx_words.specs.Requests.{AsksFor, FitFlags, FitsRows, HasInputPath, IfText, IfWork}
+use Rattle.epx_words.specs.Requests.{AsksFor, FitFlags, FitsRows, IfText, IfWork}
 use Rattle.epx_words.specs.Requests.{IsMeaningOf, IsText, IsWork, flags_of, task_name}
 use Rattle.epx_words.specs.Subjects.{IsIdName, IsNameOf, NameIds, NamesAll, NamesLogs}
 use Rattle.epx_words.specs.Subjects.{NamesSubject}
-use Rattle.epx_words.specs.SubcommandRows.{Given, NeedsFirst, first_in, rows_in}
+use Rattle.epx_words.specs.SubcommandRows.{Given, first_in, rows_in}
 use Rattle.epx_words.specs.declared.words.Task.{Task}
 use Rattle.epx_words.specs.declared.words.Task.TheVariants as task
 use Rattle.epx_words.specs.declared.words.Words.{Words}
 use Rattle.epx_words.specs.declared.words.Words.TheVariants as words
 use Rattle.epx_words.proofs.FaultLemmas.{epx_is_simple}
-
--- ---- a task with the path of a base or a list
-
-pub needs_first : (t : Task) → HasInputPath t → NeedsFirst (task_name t)
-needs_first task.Resume has = inl refl
-needs_first task.Check has = inr (inl refl)
-needs_first task.CheckPrefix has = inr (inl refl)
-needs_first _ has = absurd has
-
--- ---- what is to name an instance or a key names one
 
 -- ---- what is to name an instance or a key names one
 

@@ -5,9 +5,7 @@ use Rattle.std.proofs.lemmas.List.{map-append, append-nil}
 use Rattle.std.proofs.lemmas.List.Elements.{filter_more}
 use Rattle.std.proofs.lemmas.Option.{slice_get_within, get_or_from_slice_get}
 use Rattle.epx_types.specs.declared.id.Id.{Id}
-use Rattle.epx_types.specs.Ids.{BelowAll, IsRising}
 use Rattle.epx_types.specs.Instances.{Instance}
-use Rattle.epx_types.specs.CommittedMap.{ids_of}
 use Rattle.epx_types.specs.Done.{is_among, without_deps, remaining}
 use Rattle.epx_types.proofs.remaining.RemainingLemmas.{is_among_cases, not_among}
 use Rattle.epx_types.proofs.lists.MembershipLemmas.{Contains-filter, Contains-map}
@@ -65,23 +63,3 @@ module _ (done : List Id) where
       let p = λ (d : Instance). not (is_among done d.id) in
       Contains-map (without_deps done) (filter p m) e
       (Contains-filter p m e in_m (ap not (not_among done e.id left)))
-
-  -- ---- the remaining map has the order of the map
-
-  remaining_below : (m : List Instance) (x : Id) → BelowAll x (ids_of m)
-      → BelowAll x (ids_of (remaining done m))
-  remaining_below [] x below = tt
-  remaining_below (e ∷ m) x below =
-      elim (is_among_cases done e.id) [
-        | inl found ↦ rw found.0 (remaining_below m x below.1)
-        | inr other ↦ rw other.0 (below.0, remaining_below m x below.1)
-      ]
-
-  pub remaining_rising : (m : List Instance) → IsRising (ids_of m)
-      → IsRising (ids_of (remaining done m))
-  remaining_rising [] rising = tt
-  remaining_rising (e ∷ m) rising =
-      elim (is_among_cases done e.id) [
-        | inl found ↦ rw found.0 (remaining_rising m rising.1)
-        | inr other ↦ rw other.0 (remaining_below m e.id rising.0, remaining_rising m rising.1)
-      ]
