@@ -1,10 +1,7 @@
 -- The chains of an order, position by position.
-use Rattle.std.proofs.Common.{◌≡◌, true, inl, inr, ℕ, ◌+◌, ◌-◌, ◌<◌, ◌≤◌, ◌++◌, ◌∷◌, [], List}
+use Rattle.std.proofs.Common.{◌≡◌, inl, inr, ℕ, ◌+◌, ◌-◌, ◌<◌, ◌≤◌, ◌++◌, ◌∷◌, [], List}
 use Rattle.std.proofs.Common.{length, length-set, get_or, set, All, sym, subst, ap, ◌∙◌, arith}
 use Rattle.std.proofs.lemmas.Bool.{cases_eq, cases_lt}
-use Rattle.std.proofs.lemmas.Bool.Decides.{nat_tests}
-use Rattle.epx_types.specs.declared.id.Id.{Id}
-use Rattle.epx_types.specs.contracts.id.IdPartialEq.TheImpl as id_eq
 use Rattle.std.proofs.lemmas.List.{get_or-set_same, get_or-set_other, get_or_append_left}
 use Rattle.std.proofs.lemmas.List.{get_or_push, length_push}
 use Rattle.epx_graph.specs.Graphs.{DependencyGraph, edges_of}
@@ -13,10 +10,6 @@ use Rattle.epx_audit.specs.declared.reach_index.Chain.{Chain}
 use Rattle.epx_audit.specs.declared.reach_index.ReachIndex.{ReachIndex}
 use Rattle.epx_audit.specs.inner.ReachIndexes.{IsChain, IsReachIndex}
 use Rattle.epx_components.proofs.NodePathLemmas.{reaches_itself, reaches_on}
-
--- Ids that `==` finds equal
-pub equal_ids : (a b : Id) → id_eq.eq-value.it a b ≡ true → a ≡ b
-equal_ids a b h = grind (arith, nat_tests)
 
 -- the next position, if the chain's start reaches it and it reaches all positions from the low one
 -- on

@@ -4,14 +4,12 @@ use Rattle.std.proofs.Common.{arith}
 use Rattle.std.proofs.lemmas.Bool.{cases_lt}
 use Rattle.epx_types.specs.declared.id.Id.{Id}
 use Rattle.epx_types.specs.CommittedMap.{ids_of, IsCommittedBy}
-use Rattle.epx_types.specs.Ids.{Below}
 use Rattle.epx_types.specs.Instances.{Instance}
 use Rattle.epx_types.specs.PlacedLines.{Placed}
 use Rattle.epx_types.proofs.lists.ComparisonLemmas.{id_cmp_total, id_cmp-IsAntisymmetric}
 use Rattle.epx_types.proofs.lists.MembershipLemmas.{Contains-map, Contains-from_map}
-use Rattle.epx_types.proofs.lists.RisingIdLemmas.{AllPairs-from_IsRising, IsRising-from_AllPairs}
+use Rattle.epx_types.proofs.lists.RisingIdLemmas.{IsRising-from_AllPairs, same_ids}
 use Rattle.epx_types.proofs.lists.RisingListLemmas.{rising_list}
-use Rattle.epx_types.proofs.lists.TotalOrderLemmas.{below_irrefl, below_trans, same_rising}
 use Rattle.epx_types.specs.Limits.{max_instances}
 use Rattle.epx_committed.specs.InstanceCounts.{AreNamedBy, FewInstances}
 use Rattle.epx_committed.specs.InstanceCounts.{ManyInstances}
@@ -21,11 +19,9 @@ named_within : (lines : List Placed) (xs ys : List Id) → AreNamedBy lines xs �
 named_within lines xs ys a b z h = let p = a.named z h in subst (Contains ys) p.2 (b.whole p.0 p.1)
 
 -- there is at most one
-named_unique : (lines : List Placed) (xs ys : List Id) → AreNamedBy lines xs → AreNamedBy lines ys
-    → xs ≡ ys
-named_unique lines xs ys a b =
-    same_rising Below (below_irrefl id_cmp_total) (below_trans id_cmp_total) xs ys
-    (AllPairs-from_IsRising xs a.rising) (AllPairs-from_IsRising ys b.rising)
+pub named_unique : (lines : List Placed) (xs ys : List Id) → AreNamedBy lines xs
+    → AreNamedBy lines ys → xs ≡ ys
+named_unique lines xs ys a b = same_ids xs ys a.rising b.rising
     (named_within lines xs ys a b) (named_within lines ys xs b a)
 
 pub not_few_and_many : (lines : List Placed) → FewInstances lines → ¬ ManyInstances lines
@@ -33,7 +29,7 @@ not_few_and_many lines few many =
     omega (arith, few.2, many.2, ap length (named_unique lines few.0 many.0 few.1 many.1))
 
 -- there is one
-named_ids : (lines : List Placed) → (ids : List Id) × AreNamedBy lines ids
+pub named_ids : (lines : List Placed) → (ids : List Id) × AreNamedBy lines ids
 named_ids lines =
     let ids = rising_list id_cmp_total id_cmp-IsAntisymmetric (λ _. Unit {0}) (λ _. inl tt)
     (map (λ (p : Placed). p.instance.id) lines) in (
@@ -59,8 +55,7 @@ few_or_many lines =
 pub named_ids_are_committed : (lines : List Placed) (m : List Instance) (ids : List Id)
     → IsCommittedBy lines m → AreNamedBy lines ids → ids ≡ ids_of m
 named_ids_are_committed lines m ids committed named =
-    same_rising Below (below_irrefl id_cmp_total) (below_trans id_cmp_total) ids (ids_of m)
-    (AllPairs-from_IsRising ids named.rising) (AllPairs-from_IsRising (ids_of m) committed.rising)
+    same_ids ids (ids_of m) named.rising committed.rising
     (λ x h. let p = named.named x h in
     subst (Contains (ids_of m)) p.2
     (Contains-map (λ (e : Instance). e.id) m p.0.instance (committed.whole p.0 p.1)))

@@ -6,7 +6,6 @@ use Rattle.std.proofs.Common.{arith}
 use Rattle.std.specs.List.{IsDistinct}
 use Rattle.std.specs.List.Sorted.{IsSorted}
 use Rattle.std.specs.declared.alloc.Global.{Global}
-use Rattle.std.proofs.lemmas.Bool.Decides.{nat_tests}
 use Rattle.std.proofs.lemmas.List.{length-map}
 use Rattle.std.proofs.lemmas.List.Elements.{All-head, All-tail, All-weaker, filter_map-append}
 use Rattle.std.proofs.lemmas.List.Sorted.{All-permutation, IsPermutation-map}
@@ -18,7 +17,7 @@ use Rattle.epx_types.specs.Ids.{id_cmp}
 use Rattle.epx_types.specs.Instances.{Instance}
 use Rattle.epx_types.specs.PlacedLines.{Placed}
 use Rattle.epx_types.specs.CommittedMap.{ids_of, IsCommittedBy}
-use Rattle.epx_types.proofs.commands.EqualityLemmas.{ids_decide}
+use Rattle.epx_types.proofs.commands.EqualityLemmas.{ids_decide, ids_flip}
 use Rattle.epx_types.proofs.lists.ListPositionLemmas.{slice_get-map}
 use Rattle.epx_committed.specs.declared.ledger.FirstLines.{FirstLines}
 use Rattle.epx_committed.specs.declared.rows.Row.{Row}
@@ -162,9 +161,6 @@ pub record AreSortedRows (lists : Lists) (noted : FirstLines) (rows : List Row) 
   pub moved : IsPermutation noted.rows.items rows
   pub sorted : IsSorted id_cmp (map (λ r. r.id) rows)
 
-same_flips : (x y : Id) → same_id x y ≡ same_id y x
-same_flips x y = grind (arith, nat_tests)
-
 module _ (lists : Lists) (noted : FirstLines) (rows : List Row)
     (are : AreSortedRows lists noted rows) where
   abbrev old : List Row
@@ -183,7 +179,7 @@ module _ (lists : Lists) (noted : FirstLines) (rows : List Row)
   as_many_names = length-map rows (λ (r : Row). r.id)
 
   distinct_rows : IsDistinct same_id (map (λ r. r.id) rows)
-  distinct_rows = IsDistinct-IsPermutation same_id same_flips (map (λ r. r.id) old)
+  distinct_rows = IsDistinct-IsPermutation same_id ids_flip (map (λ r. r.id) old)
       (map (λ r. r.id) rows) (IsPermutation-map (λ (r : Row). r.id) old rows are.moved)
       (IsDistinct-from_AllPairs {eq = same_id} ids_decide (map (λ r. r.id) old)
       are.firsts.distinct)

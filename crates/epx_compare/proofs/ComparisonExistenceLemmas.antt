@@ -10,13 +10,12 @@ use Rattle.epx_types.proofs.lists.ComparisonLemmas.{id_cmp_total, id_cmp-IsAntis
 use Rattle.epx_types.proofs.lists.MembershipLemmas.{Contains-flat_map, Contains-from_flat_map}
 use Rattle.epx_types.proofs.lists.RisingIdLemmas.{IsRising-from_AllPairs}
 use Rattle.epx_types.proofs.lists.RisingListLemmas.{rising_list}
-use Rattle.epx_committed.specs.InstanceCounts.{AreNamedBy}
-use Rattle.epx_committed.proofs.InstanceCountLemmas.{few_or_many}
 use Rattle.epx_merge.specs.LogLines.{placed_of, bad_lines_of}
 use Rattle.epx_compare.specs.Comparisons.{IsComparison, comparison_text}
 use Rattle.epx_versions.specs.SameInstances.{same_id}
 use Rattle.epx_compare.specs.Unmet.{AreUnmet}
 use Rattle.epx_versions.specs.inner.EqualVersions.{ids_decide}
+use Rattle.epx_committed.proofs.InstanceCountLemmas.{named_ids}
 
 same_id_equiv : IsEquivalence same_id
 same_id_equiv = decided same_id ids_decide
@@ -27,12 +26,6 @@ lacks_or_has ids x = elim (cases_Bool (list_any (same_id x) ids)) [
       lacks (Contains-from_any (λ y z. (ids_decide y z).0) x ids found))
   | inr none ↦ inl (λ h. let found = list_any-from_Contains same_id_equiv x ids h in
       absurd (cc (found, none)))
-]
-
-ids_exist : (lines : List Placed) → (ids : List Id) × AreNamedBy lines ids
-ids_exist lines = elim (few_or_many lines) [
-  | inl few ↦ (few.0, few.1)
-  | inr many ↦ (many.0, many.1)
 ]
 
 unmet_exist : (lines : List Placed) (ids : List Id) → (unmet : List Id) × AreUnmet lines ids unmet
@@ -55,7 +48,7 @@ pub comparison_existence : (logs : List (List ℕ)) → (text : List ℕ) × IsC
 comparison_existence logs =
     let lines = placed_of logs in
     let bad = bad_lines_of logs in
-    let ids = ids_exist lines in
+    let ids = named_ids lines in
     let unmet = unmet_exist lines ids.0 in (
       comparison_text (length logs) lines bad ids.0 unmet.0,
       record {

@@ -1,32 +1,12 @@
 -- Logs say one thing against each other: their lines determine the Ids that a comparison prints.
-use Rattle.std.proofs.Common.{◌≡◌, ◌∙◌, ℕ, List, Contains, length, sym, subst}
-use Rattle.epx_types.proofs.lists.ComparisonLemmas.{id_cmp_total}
-use Rattle.epx_types.proofs.lists.RisingIdLemmas.{AllPairs-from_IsRising}
-use Rattle.epx_types.proofs.lists.TotalOrderLemmas.{below_irrefl, below_trans, same_rising}
+use Rattle.std.proofs.Common.{◌≡◌, ◌∙◌, ℕ, List, length, sym, subst}
 use Rattle.epx_types.specs.declared.id.Id.{Id}
-use Rattle.epx_types.specs.Ids.{Below, IsRising}
 use Rattle.epx_types.specs.PlacedLines.{Placed}
-use Rattle.epx_committed.specs.InstanceCounts.{AreNamedBy}
+use Rattle.epx_types.proofs.lists.RisingIdLemmas.{same_ids}
 use Rattle.epx_merge.specs.LogLines.{placed_of, bad_lines_of}
 use Rattle.epx_compare.specs.Comparisons.{IsComparison, comparison_text}
 use Rattle.epx_compare.specs.Unmet.{AreUnmet}
-
-same_ids : (xs ys : List Id) → IsRising xs → IsRising ys
-    → ((x : Id) → Contains xs x → Contains ys x) → ((x : Id) → Contains ys x → Contains xs x)
-    → xs ≡ ys
-same_ids xs ys p q there back =
-    same_rising Below (below_irrefl id_cmp_total) (below_trans id_cmp_total) xs ys
-    (AllPairs-from_IsRising xs p) (AllPairs-from_IsRising ys q) there back
-
-named_within : (lines : List Placed) (xs ys : List Id) → AreNamedBy lines xs → AreNamedBy lines ys
-    → (x : Id) → Contains xs x → Contains ys x
-named_within lines xs ys p q x among = let line = p.named x among in
-    subst (Contains ys) line.2 (q.whole line.0 line.1)
-
-pub named_unique : (lines : List Placed) (xs ys : List Id) → AreNamedBy lines xs
-    → AreNamedBy lines ys → xs ≡ ys
-named_unique lines xs ys p q = same_ids xs ys p.rising q.rising
-    (named_within lines xs ys p q) (named_within lines ys xs q p)
+use Rattle.epx_committed.proofs.InstanceCountLemmas.{named_unique}
 
 unmet_unique : (lines : List Placed) (ids xs ys : List Id) → AreUnmet lines ids xs
     → AreUnmet lines ids ys → xs ≡ ys

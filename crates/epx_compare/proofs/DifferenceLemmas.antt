@@ -2,7 +2,7 @@
 use Rattle.std.proofs.Common.{◌≡◌, ◌∙◌, ◌==◌, ℕ, Bool, true, false, cond, not, List, [], ◌∷◌, Some}
 use Rattle.std.proofs.Common.{map, filter, slice_get, refl, sym, ap, arith, inl, inr, AllPairs}
 use Rattle.std.specs.List.{AllZip}
-use Rattle.std.proofs.lemmas.Bool.{cases_lt}
+use Rattle.std.proofs.lemmas.Bool.{cases_lt, not-true}
 use Rattle.std.proofs.lemmas.Bool.Decides.{nat_tests}
 use Rattle.std.proofs.lemmas.List.Kept.{AllPairs-filter}
 use Rattle.epx_types.proofs.lists.ListPositionLemmas.{AllPairs-slice_get, AllPairs-from_parts}
@@ -85,10 +85,6 @@ versions_of-own (p ∷ lines) x =
       by p lines x rest false other =
           rest ∙ sym (filter_within (λ e. not (same_instance p.instance e)) (λ e. same_id e.id x)
           (λ e. not_same p.instance e x other) (versions_of lines))
-
-not-true : (b : Bool) → not b ≡ true → b ≡ false
-not-true true h = absurd (cc)
-not-true false h = refl
 
 -- no two versions are the same
 versions_differ : (lines : List Placed) → AllPairs (λ d e. same_instance d e ≡ false)

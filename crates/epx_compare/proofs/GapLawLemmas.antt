@@ -1,10 +1,8 @@
 -- The gaps of rising Ids are the longest runs of those that are lacked.
 use Rattle.std.proofs.Common.{◌≡◌, ◌⊎◌, ◌<◌, ◌≤◌, ◌==◌, ◌&&◌, ◌∙◌, ℕ, Bool, true, false, not}
-use Rattle.std.proofs.Common.{List, [], ◌∷◌, Contains, AllPairs, Ordering, Less, Equal, Greater}
-use Rattle.std.proofs.Common.{nat_cmp, refl, sym, ap, subst, inl, inr, arith}
+use Rattle.std.proofs.Common.{List, [], ◌∷◌, Contains, AllPairs}
+use Rattle.std.proofs.Common.{refl, sym, ap, subst, inl, inr, arith}
 use Rattle.std.specs.Bool.{Decides}
-use Rattle.std.specs.Ordering.{MatchOrdering, ordering_then, is_lt}
-use Rattle.std.specs.Cmp.{ranked}
 use Rattle.std.proofs.lemmas.Bool.{cases_Bool}
 use Rattle.std.proofs.lemmas.Bool.Decides.{nat_tests}
 use Rattle.epx_types.specs.declared.id.Id.{Id}
@@ -15,23 +13,10 @@ use Rattle.epx_types.proofs.lists.ListPositionLemmas.{AllPairs-from_slice_get}
 use Rattle.epx_types.proofs.lists.MembershipLemmas.{Contains-nil, Contains-head, Contains-cons}
 use Rattle.epx_types.proofs.lists.MembershipLemmas.{Contains-cons_cases}
 use Rattle.epx_types.proofs.lists.RisingIdLemmas.{AllPairs-from_IsRising}
+use Rattle.epx_types.proofs.graph.WaitingLemmas.{Below-parts}
 use Rattle.epx_compare.specs.Gaps.{Gap, gaps_of, goes_on, widened}
 use Rattle.epx_compare.specs.GapLaws.{AreGaps, HasLackedEnds, IsBetween, IsInGap, IsLacked}
 use Rattle.epx_compare.specs.GapLaws.{first_of, last_of}
-
-Below-parts : (x y : Id) → Below x y → (x.replica < y.replica)
-    ⊎ ((x.replica ≡ y.replica) × (x.number < y.number))
-Below-parts x y l = by (nat_cmp x.replica y.replica) (nat_cmp x.number y.number)
-    (ranked x.replica y.replica _ refl) (ranked x.number y.number _ refl) l where
-      by : (r s : Ordering) → MatchOrdering r (x.replica < y.replica) (x.replica ≡ y.replica)
-          (y.replica < x.replica) → MatchOrdering s (x.number < y.number) (x.number ≡ y.number)
-          (y.number < x.number) → is_lt (ordering_then r s) ≡ true
-          → (x.replica < y.replica) ⊎ ((x.replica ≡ y.replica) × (x.number < y.number))
-      by Less s p q l = inl p
-      by Equal Less p q l = inr (p, q)
-      by Equal Equal p q l = absurd (cc l)
-      by Equal Greater p q l = absurd (cc l)
-      by Greater s p q l = absurd (cc l)
 
 -- of one replica, a lower Id has a lower number
 Below-number : (x y : Id) → Below x y → x.replica ≡ y.replica → x.number < y.number

@@ -1,4 +1,3 @@
-mod IdPositionLemmas
 mod GapLemmas
 mod CatalogLemmas
 mod LogTextLemmas

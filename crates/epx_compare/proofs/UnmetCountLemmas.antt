@@ -1,13 +1,11 @@
 -- Counts of dependents, as a map stores them.
 use Rattle.std.proofs.Common.{◌≡◌, ◌∙◌, inl, inr, ℕ, ◌+◌, zero, suc, Bool, true, false, not, ◌&&◌}
 use Rattle.std.proofs.Common.{◌||◌, List, [], ◌∷◌, take, Contains, Some, slice_get, refl}
-use Rattle.std.proofs.Common.{sym, ap, subst, arith, if◌then◌else◌, count_by, Ordering, Less}
+use Rattle.std.proofs.Common.{sym, ap, subst, if◌then◌else◌, count_by, Ordering, Less}
 use Rattle.std.proofs.Common.{Equal, Greater, is_lt, is_eq}
-use Rattle.std.specs.Bool.{Decides}
 use Rattle.std.specs.Cmp.{IsEquivalence, decided}
 use Rattle.std.specs.List.{list_any}
 use Rattle.std.proofs.lemmas.Bool.{cases_Bool}
-use Rattle.std.proofs.lemmas.Bool.Decides.{nat_tests}
 use Rattle.std.proofs.lemmas.List.Folds.{list_any_more}
 use Rattle.std.proofs.lemmas.List.Sums.{count_by_more_no, count_by_more_yes}
 use Rattle.std.proofs.lemmas.Option.{slice_get_within, get_or_from_slice_get}
@@ -16,14 +14,11 @@ use Rattle.epx_types.specs.declared.id.Id.{Id}
 use Rattle.epx_types.specs.Ids.{Below, IsRising, id_cmp}
 use Rattle.epx_types.proofs.lists.ListPositionLemmas.{AllPairs-head, Contains-slice_get}
 use Rattle.epx_types.proofs.lists.RisingIdLemmas.{AllPairs-from_IsRising}
+use Rattle.epx_types.proofs.commands.EqualityLemmas.{ids_decide as eq_decides}
 use Rattle.epx_versions.specs.SameInstances.{same_id}
 use Rattle.epx_versions.specs.inner.EqualVersions.{ids_decide}
 use Rattle.epx_compare.specs.inner.UnmetCounts.{stored, AreCounts, with_one, is_unmet}
 use Rattle.epx_compare.proofs.DependencyLemmas.{from_listed, listed}
-
--- `==` of Ids decides whether they are equal
-pub eq_decides : (x y : Id) → Decides (id_eq.eq-value.it x y) (x ≡ y)
-eq_decides x y = (λ h. grind (arith, nat_tests), λ h. grind (arith, nat_tests))
 
 pub eq_laws : IsEquivalence id_eq.eq-value.it
 eq_laws = decided id_eq.eq-value.it eq_decides

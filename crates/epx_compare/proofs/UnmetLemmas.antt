@@ -6,7 +6,7 @@ use Rattle.std.specs.Cmp.{first_so, second_so}
 use Rattle.std.specs.List.{list_any, IsDistinct}
 use Rattle.std.specs.List.Sorted.{IsSorted}
 use Rattle.std.specs.Map.{keys_of}
-use Rattle.std.proofs.lemmas.Bool.{cases_Bool}
+use Rattle.std.proofs.lemmas.Bool.{cases_Bool, not-true}
 use Rattle.std.proofs.lemmas.List.Concat.{flat_map-cons}
 use Rattle.std.proofs.lemmas.List.Folds.{flat_map-map}
 use Rattle.std.proofs.lemmas.List.Sorted.{sorted_far, ranks_by}
@@ -23,6 +23,7 @@ use Rattle.epx_types.proofs.lists.MembershipLemmas.{Contains-head, Contains-cons
 use Rattle.epx_types.proofs.lists.MembershipLemmas.{Contains-from_map}
 use Rattle.epx_types.proofs.lists.RisingIdLemmas.{IsRising-from_neighbours}
 use Rattle.epx_types.proofs.lists.TotalOrderLemmas.{below_cases}
+use Rattle.epx_types.proofs.commands.EqualityLemmas.{ids_decide as eq_decides}
 use Rattle.epx_merge.specs.LogLines.{BadLineAt}
 use Rattle.epx_report.specs.ReportLines.{line_of}
 use Rattle.epx_compare.specs.ComparisonLines.{unmet_data}
@@ -36,7 +37,7 @@ use Rattle.epx_versions.specs.inner.EqualVersions.{ids_decide}
 use Rattle.epx_compare.specs.inner.UnmetCounts.{stored, AreCounts, unmet_count}
 use Rattle.epx_compare.proofs.DependencyLemmas.{passing, from_passing, member, from_member}
 use Rattle.epx_compare.proofs.DependencyLemmas.{from_listed, listed, both_so, version_of_line}
-use Rattle.epx_compare.proofs.UnmetCountLemmas.{eq_decides, eq_laws}
+use Rattle.epx_compare.proofs.UnmetCountLemmas.{eq_laws}
 
 -- ---- counts that are not zero
 
@@ -106,10 +107,6 @@ flat_map-agree f g (x ∷ xs) same =
     let rest = flat_map-agree f g xs (λ y h. same y (Contains-cons x xs y h)) in
     flat_map-cons f x xs ∙ ((λ i. first i ++ rest i) ∙ sym (flat_map-cons g x xs))
 
-not_true : (b : Bool) → not b ≡ true → b ≡ false
-not_true true h = absurd (cc h)
-not_true false h = refl
-
 -- ---- the entries
 
 module _ (lines : List Placed) (bad : List BadLineAt) (c : Catalog)
@@ -133,7 +130,7 @@ module _ (lines : List Placed) (bad : List BadLineAt) (c : Catalog)
   not_committed : (x : Id) (n : ℕ) → Contains es (x, n)
       → list_any (same_id x) c.ids ≡ false
   not_committed x n h = let found = dependent x n h in
-      not_true (list_any (same_id x) c.ids)
+      not-true (list_any (same_id x) c.ids)
       (first_so (not (list_any (same_id x) c.ids)) (depends_on lines x found.0) found.2)
 
   entry_unmet : (x : Id) (n : ℕ) → Contains es (x, n)

@@ -8,12 +8,12 @@ use Rattle.epx_types.specs.declared.id.Id.{Id}
 use Rattle.epx_types.specs.Ids.{Below}
 use Rattle.epx_types.proofs.lists.MembershipLemmas.{Contains-nil}
 use Rattle.epx_types.proofs.lists.ListPositionLemmas.{slice_get-from_Contains, Contains-slice_get}
+use Rattle.epx_types.proofs.lists.RisingIdLemmas.{rising_positions, rising_position_is_one}
 use Rattle.epx_graph.specs.Graphs.{DependencyGraph, edges_of, committed_ids, missing_ids, IsGraph}
 use Rattle.epx_graph.specs.NodePaths.{IsNodePath}
 use Rattle.epx_graph.proofs.RisingPositionLemmas.{slice_get-take, slice_get-from_take}
 use Rattle.epx_graph.proofs.RisingPositionLemmas.{slice_get-drop, slice_get-from_drop}
-use Rattle.epx_graph.proofs.RisingPositionLemmas.{rising_positions, rising_positions_back}
-use Rattle.epx_graph.proofs.RisingPositionLemmas.{rising_position_is_one}
+use Rattle.epx_graph.proofs.RisingPositionLemmas.{rising_positions_back}
 
 module _ (g : DependencyGraph) (is : IsGraph g) where
   -- ---- committed nodes and missing ones

@@ -2,24 +2,14 @@
 use Rattle.std.proofs.Common.{◌≡◌, ℕ, ◌<◌, List, [], length, slice_get, Contains, sym, ap, ◌∙◌}
 use Rattle.std.proofs.Common.{◌++◌, arith}
 use Rattle.std.proofs.lemmas.List.{take-append-drop, same_lists, get_or_default}
-use Rattle.epx_types.specs.declared.id.Id.{Id}
-use Rattle.epx_types.specs.Ids.{Below, IsRising}
 use Rattle.epx_types.specs.Instances.{Instance}
-use Rattle.epx_types.proofs.lists.TotalOrderLemmas.{same_rising, below_irrefl, below_trans}
-use Rattle.epx_types.proofs.lists.ComparisonLemmas.{id_cmp_total}
-use Rattle.epx_types.proofs.lists.RisingIdLemmas.{AllPairs-from_IsRising}
+use Rattle.epx_types.proofs.lists.TotalOrderLemmas.{same_rising}
+use Rattle.epx_types.proofs.lists.RisingIdLemmas.{same_ids}
 use Rattle.epx_graph.specs.Graphs.{DependencyGraph, edges_of, committed_ids, missing_ids}
 use Rattle.epx_graph.specs.GraphOf.{IsGraphOf}
 use Rattle.epx_graph.specs.GraphLaws.{GraphIsOne}
 use Rattle.epx_graph.proofs.GraphNodeLemmas.{edge_within, node_id}
 use Rattle.epx_graph.proofs.MapPathLemmas.{committed_count}
-
-pub same_ids : (xs ys : List Id) → IsRising xs → IsRising ys
-    → ((x : Id) → Contains xs x → Contains ys x) → ((x : Id) → Contains ys x → Contains xs x)
-    → xs ≡ ys
-same_ids xs ys p q there back =
-    same_rising Below (below_irrefl id_cmp_total) (below_trans id_cmp_total) xs ys
-    (AllPairs-from_IsRising xs p) (AllPairs-from_IsRising ys q) there back
 
 module _ (m : List Instance) (g h : DependencyGraph) (p : IsGraphOf m g) (q : IsGraphOf m h) where
   one_ids : g.ids ≡ h.ids

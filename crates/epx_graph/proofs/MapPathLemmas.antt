@@ -1,6 +1,6 @@
 -- Paths of the graph of a map are those of the map.
 use Rattle.std.proofs.Common.{◌≡◌, ◌↔◌, ℕ, ◌<◌, List, [], ◌∷◌, length, slice_get, Some, Contains}
-use Rattle.std.proofs.Common.{refl, sym, ap, subst, ◌∙◌, inl, inr, arith}
+use Rattle.std.proofs.Common.{◌≤◌, refl, sym, ap, subst, ◌∙◌, inl, inr, arith}
 use Rattle.std.proofs.lemmas.Bool.{cases_lt}
 use Rattle.std.proofs.lemmas.List.{length-take, length-map}
 use Rattle.epx_types.specs.declared.id.Id.{Id}
@@ -42,6 +42,19 @@ module _ (m : List Instance) (g : DependencyGraph) (is : IsGraphOf m g) where
           | inl l ↦ l
           | inr l ↦ absurd (((is.missing x).0 (Contains-missing g is.graph k x at l)).1 h)
         ]
+
+  -- the node of an Id that is not committed is missing
+  pub missing_number : (j : ℕ) (y : Id) → slice_get g.ids j ≡ Some y → ¬ IsCommitted m y
+      → g.committed ≤ j
+  missing_number j y at missing =
+      elim (cases_lt j g.committed) [
+        | inl l ↦ absurd (missing ((node_committed j y at).0 l))
+        | inr past ↦ past
+      ]
+
+  pub missing_id : (j : ℕ) (y : Id) → slice_get g.ids j ≡ Some y → g.committed ≤ j
+      → ¬ IsCommitted m y
+  missing_id j y at past h = let l = (node_committed j y at).1 h in absurd (omega arith)
 
   -- the instance at a position of the map is that of the node with this number
   pub node_instance : (k : ℕ) (x : Id) → slice_get g.ids k ≡ Some x → k < g.committed

@@ -1,12 +1,10 @@
--- An Id between two neighbours in a list by rising Id is not in the list.
+-- The Ids of a rising list on both sides of an Id between two neighbours.
 use Rattle.std.proofs.Common.{◌≡◌, ◌-◌, ◌<◌, ◌≤◌, ℕ, List, length, true, get_or, Some}
 use Rattle.std.proofs.Common.{Ordering, Less, Equal, Greater, is_lt, inl, inr, subst}
 use Rattle.std.proofs.Common.{arith}
 use Rattle.std.specs.Ordering.{ordering_then, partial_ordering_then, is_some_and}
 use Rattle.std.proofs.lemmas.Bool.{cases_lt}
-use Rattle.std.proofs.lemmas.Bool.Decides.{nat_tests}
 use Rattle.std.proofs.lemmas.Option.{slice_get-get_or}
-use Rattle.epx_types.specs.contracts.id.IdPartialEq.TheImpl as id_eq
 use Rattle.epx_types.specs.declared.id.Id.{Id}
 use Rattle.epx_types.specs.Ids.{Below, IsRising}
 use Rattle.epx_types.proofs.lists.ComparisonLemmas.{id_cmp_total}
@@ -19,10 +17,6 @@ pub is_lt-from_lt : (r s : Ordering) → is_some_and is_lt (partial_ordering_the
 is_lt-from_lt Less s p = p
 is_lt-from_lt Equal s p = p
 is_lt-from_lt Greater s p = p
-
--- `==` decides equality
-pub same_from_eq : (x y : Id) → id_eq.eq-value.it x y ≡ true → x ≡ y
-same_from_eq x y h = grind (arith, nat_tests)
 
 -- inside a list the default does not matter
 pub other_default : (ids : List Id) (k : ℕ) (d e : Id) → k < length ids

@@ -6,10 +6,9 @@ use Rattle.std.proofs.lemmas.List.{length-take, length-drop, get_or-take, get_or
 use Rattle.std.proofs.lemmas.Option.{slice_get_within, slice_get-get_or, get_or_from_slice_get}
 use Rattle.epx_types.specs.declared.id.Id.{Id}
 use Rattle.epx_types.specs.Ids.{Below, IsRising}
-use Rattle.epx_types.proofs.lists.ListPositionLemmas.{AllPairs-slice_get}
-use Rattle.epx_types.proofs.lists.RisingIdLemmas.{AllPairs-from_IsRising}
 use Rattle.epx_types.proofs.lists.TotalOrderLemmas.{below_irrefl, below_asymm}
 use Rattle.epx_types.proofs.lists.ComparisonLemmas.{id_cmp_total}
+use Rattle.epx_types.proofs.lists.RisingIdLemmas.{rising_positions}
 
 -- ---- what is taken and dropped
 
@@ -47,24 +46,6 @@ slice_get-from_drop xs n i x at =
     ∙ ap Some (sym (get_or-drop n xs i x) ∙ get_or_from_slice_get (drop n xs) i x x at)
 
 -- ---- rising Ids
-
--- the lower of two positions has the lower Id
-pub rising_positions : (xs : List Id) → IsRising xs → (i j : ℕ) (x y : Id)
-    → slice_get xs i ≡ Some x → slice_get xs j ≡ Some y → i < j → Below x y
-rising_positions xs rising i j x y p q l =
-    AllPairs-slice_get Below xs (AllPairs-from_IsRising xs rising) i j x y l p q
-
--- an Id has one position
-pub rising_position_is_one : (xs : List Id) → IsRising xs → (i j : ℕ) (x : Id)
-    → slice_get xs i ≡ Some x → slice_get xs j ≡ Some x → i ≡ j
-rising_position_is_one xs rising i j x p q =
-    elim (cases_lt i j) [
-      | inl l ↦ absurd (below_irrefl id_cmp_total x (rising_positions xs rising i j x x p q l))
-      | inr m ↦ elim (cases_lt j i) [
-        | inl l ↦ absurd (below_irrefl id_cmp_total x (rising_positions xs rising j i x x q p l))
-        | inr n ↦ omega arith
-      ]
-    ]
 
 -- the lower Id has the lower position
 pub rising_positions_back : (xs : List Id) → IsRising xs → (i j : ℕ) (x y : Id)

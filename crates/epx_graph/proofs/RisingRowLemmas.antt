@@ -20,13 +20,14 @@ use Rattle.epx_types.proofs.lists.ListPositionLemmas.{Contains-slice_get, slice_
 use Rattle.epx_types.proofs.lists.ListPositionLemmas.{slice_get-map, AllPairs-head, AllPairs-tail}
 use Rattle.epx_types.proofs.lists.ListPositionLemmas.{AllPairs-slice_get, AllPairs-from_parts}
 use Rattle.epx_types.proofs.lists.ListPositionLemmas.{AllPairs-append}
+use Rattle.epx_types.proofs.lists.RisingIdLemmas.{rising_position_is_one}
 use Rattle.epx_types.proofs.committed.PositionLemmas.{position_of-instance}
 use Rattle.epx_graph.specs.inner.Nodes.{positions_of, missing_of, AreNodesOf, ArePositionsOf}
 use Rattle.epx_graph.proofs.MissingIdLemmas.{no_position, lacks-from_missing, lacking_missing}
 use Rattle.epx_graph.proofs.MapNodeLemmas.{missing_above}
 use Rattle.epx_graph.proofs.RisingPositionLemmas.{slice_get-take, slice_get-from_take}
 use Rattle.epx_graph.proofs.RisingPositionLemmas.{slice_get-drop, slice_get-from_drop}
-use Rattle.epx_graph.proofs.RisingPositionLemmas.{rising_positions_back, rising_position_is_one}
+use Rattle.epx_graph.proofs.RisingPositionLemmas.{rising_positions_back}
 
 -- ---- the positions of no Ids
 

@@ -14,6 +14,7 @@ use Rattle.std.proofs.lemmas.List.Elements.{Contains-push_cases}
 use Rattle.std.proofs.lemmas.List.Sums.{sum_by-set}
 use Rattle.epx_types.proofs.lists.MembershipLemmas.{Contains-nil, Contains-head}
 use Rattle.epx_types.proofs.lists.MembershipLemmas.{Contains-cons_cases}
+use Rattle.epx_types.proofs.lists.SearchLemmas.{value_of_some, none_from_test}
 use Rattle.epx_graph.specs.Graphs.{DependencyGraph, edges_of, IsGraph}
 use Rattle.epx_graph.specs.NodePaths.{IsNodePath, NodeReaches}
 use Rattle.epx_graph.specs.inner.LeastMissing.{IsLeastMissing, mark_of, AreMarksOf}
@@ -135,19 +136,11 @@ module _ (nodes : List ℕ) (root : ℕ) (old new : SearchView) (x : ℕ)
 
 -- ---- one more node to mark
 
-is_marked : (o : Option ℕ) → is_some o ≡ true → (z : ℕ) × (o ≡ Some z)
-is_marked None e = absurd (cc e)
-is_marked (Some z) e = (z, refl)
-
-is_unmarked : (o : Option ℕ) → is_some o ≡ false → o ≡ None
-is_unmarked None e = refl
-is_unmarked (Some z) e = absurd (cc e)
-
 pub visit_skip : (nodes : List ℕ) (i root : ℕ) (old new : SearchView) (mark : Option ℕ)
     → i < length nodes → mark ≡ mark_of new.marks (get_or nodes i 0) → is_some mark ≡ true
     → IsVisit (take i nodes) root old new → IsVisit (take (i + 1) nodes) root old new
 visit_skip nodes i root old new mark l at some is =
-    let has = is_marked mark some in
+    let has = value_of_some mark some in
     subst (λ (xs : List ℕ). IsVisit xs root old new) (sym (take_more nodes i 0 l))
     (visits_skip (take i nodes) root old new (get_or nodes i 0) is (has.0, sym at ∙ has.1))
 
@@ -166,7 +159,7 @@ visit_mark nodes i root old new mark l at none within is =
     } in
     subst (λ (xs : List ℕ). IsVisit xs root old after) (sym (take_more nodes i 0 l))
     (visits_mark (take i nodes) root old new (get_or nodes i 0) is
-    (sym at ∙ is_unmarked mark none) within)
+    (sym at ∙ none_from_test mark none) within)
 
 -- ---- one node visited
 

@@ -7,14 +7,14 @@ use Rattle.std.proofs.lemmas.List.Elements.{Contains-append_left, Contains-push}
 use Rattle.std.proofs.lemmas.List.Elements.{Contains-push_cases}
 use Rattle.std.proofs.lemmas.Option.{slice_get_within}
 use Rattle.epx_types.specs.declared.id.Id.{Id}
-use Rattle.epx_types.specs.Ids.{Below, BelowAll, UpTo, IsRising}
+use Rattle.epx_types.specs.Ids.{Below, UpTo, IsRising}
 use Rattle.epx_types.specs.Instances.{Instance}
-use Rattle.epx_types.specs.CommittedMap.{IsCommitted}
 use Rattle.epx_types.specs.Reaching.{Reaches}
 use Rattle.epx_types.specs.Readiness.{WaitsFor}
 use Rattle.epx_types.specs.WaitingLists.{Waiting, waiting_ids, IsWaitingList}
-use Rattle.epx_types.proofs.lists.MembershipLemmas.{Contains-nil, Contains-head, Contains-cons}
+use Rattle.epx_types.proofs.lists.MembershipLemmas.{Contains-nil}
 use Rattle.epx_types.proofs.lists.MembershipLemmas.{Contains-from_map}
+use Rattle.epx_types.proofs.lists.RisingIdLemmas.{IsRising-push}
 use Rattle.epx_types.proofs.graph.ReachingLemmas.{UpTo-antisymm}
 use Rattle.epx_graph.specs.Graphs.{DependencyGraph, edges_of, IsGraph}
 use Rattle.epx_graph.specs.GraphOf.{IsGraphOf}
@@ -24,22 +24,7 @@ use Rattle.epx_graph.specs.inner.Waiters.{IsWaiter, AreWaiters}
 use Rattle.epx_graph.proofs.GraphNodeLemmas.{committed_order, missing_order, node_id}
 use Rattle.epx_graph.proofs.GraphNodeLemmas.{reached_within}
 use Rattle.epx_graph.proofs.MapPathLemmas.{node_committed, node_of_committed, node_reaches}
-use Rattle.epx_graph.proofs.MapPathLemmas.{reached_node}
-
--- ---- an Id at the end of rising ones
-
-BelowAll-push : (x : Id) (ys : List Id) (z : Id) → BelowAll x ys → Below x z
-    → BelowAll x (ys ++ z ∷ [])
-BelowAll-push x [] z h l = (l, tt)
-BelowAll-push x (y ∷ ys) z h l = (h.0, BelowAll-push x ys z h.1 l)
-
-IsRising-push : (xs : List Id) (z : Id) → IsRising xs → ((x : Id) → Contains xs x → Below x z)
-    → IsRising (xs ++ z ∷ [])
-IsRising-push [] z h below = (tt, tt)
-IsRising-push (x ∷ xs) z h below = (
-  BelowAll-push x xs z h.0 (below x (Contains-head x xs)),
-  IsRising-push xs z h.1 (λ y c. below y (Contains-cons x xs y c)),
-)
+use Rattle.epx_graph.proofs.MapPathLemmas.{reached_node, missing_number, missing_id}
 
 -- ---- node by node
 
@@ -111,18 +96,6 @@ waiters_more g graph marks n ws w within waits is = record {
 
 module _ (m : List Instance) (g : DependencyGraph) (is : IsGraphOf m g) (marks : List (Option ℕ))
     (are : AreMarksOf g marks) where
-  -- the node of an Id that is not committed is missing
-  missing_number : (j : ℕ) (y : Id) → slice_get g.ids j ≡ Some y → ¬ IsCommitted m y
-      → g.committed ≤ j
-  missing_number j y at missing =
-      elim (cases_lt j g.committed) [
-        | inl l ↦ absurd (missing ((node_committed m g is j y at).0 l))
-        | inr past ↦ past
-      ]
-
-  missing_id : (j : ℕ) (y : Id) → slice_get g.ids j ≡ Some y → g.committed ≤ j → ¬ IsCommitted m y
-  missing_id j y at past h = let l = (node_committed m g is j y at).1 h in absurd (omega arith)
-
   -- the numbers of missing nodes rise with their Ids
   up_to : (s j : ℕ) (x y : Id) → slice_get g.ids s ≡ Some x → slice_get g.ids j ≡ Some y
       → g.committed ≤ s → s ≤ j → UpTo x y
@@ -142,11 +115,11 @@ module _ (m : List Instance) (g : DependencyGraph) (is : IsGraphOf m g) (marks :
       record {
         committed = (node_committed m g is k w.id h.id).0 l;
         reached = (node_reaches m g is k h.mark w.id w.missing h.id h.missing).0 found.reached;
-        missing = missing_id h.mark w.missing h.missing found.missing;
+        missing = missing_id m g is h.mark w.missing h.missing found.missing;
         least = λ z there lacks.
             let j = reached_node m g is k w.id z h.id there in
             up_to h.mark j.0 w.missing z h.missing j.1 found.missing
-            (found.least j.0 (missing_number j.0 z j.1 lacks) j.2);
+            (found.least j.0 (missing_number m g is j.0 z j.1 lacks) j.2);
       }
 
   waits_marked : (x y : Id) → WaitsFor m x y
@@ -154,7 +127,7 @@ module _ (m : List Instance) (g : DependencyGraph) (is : IsGraphOf m g) (marks :
   waits_marked x y waits =
       let k = node_of_committed m g is x waits.committed in
       let j = reached_node m g is k.0 x y k.2 waits.reached in
-      let past = missing_number j.0 y j.1 waits.missing in
+      let past = missing_number m g is j.0 y j.1 waits.missing in
       by k.0 k.1 k.2 j.0 j.1 j.2 past (mark_of marks k.0) refl
     where
       by : (k : ℕ) → k < g.committed → slice_get g.ids k ≡ Some x → (j : ℕ)
@@ -169,7 +142,8 @@ module _ (m : List Instance) (g : DependencyGraph) (is : IsGraphOf m g) (marks :
           (reached_within g is.graph k found.reached.0 s
           (omega (arith, is.graph.committed_nodes)) found.reached.1) in
           let reached : Reaches m x z.0 = (node_reaches m g is k s x z.0 at z.1).0 found.reached in
-          let low : UpTo y z.0 = waits.least z.0 reached (missing_id s z.0 z.1 found.missing) in
+          let low : UpTo y z.0 = waits.least z.0 reached
+          (missing_id m g is s z.0 z.1 found.missing) in
           let high : UpTo z.0 y = up_to s j z.0 y z.1 to found.missing
           (found.least j past there) in (
             k,

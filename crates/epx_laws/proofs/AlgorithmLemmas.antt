@@ -1,9 +1,8 @@
 -- Executing component by component is lawful.
-use Rattle.std.proofs.Common.{◌≡◌, ◌≢◌, ℕ, List, [], ◌∷◌, Contains, AllPairs, true}
+use Rattle.std.proofs.Common.{◌≡◌, ◌≢◌, List, [], ◌∷◌, Contains, AllPairs, true}
 use Rattle.std.proofs.Common.{sym, ◌∙◌, subst, subst₂, inl, inr, arith}
 use Rattle.std.proofs.Common.{is_lt, nat_cmp}
 use Rattle.std.specs.List.{flat_map}
-use Rattle.std.specs.Cmp.{nat_cmp_total, on_total, then_total}
 use Rattle.std.specs.Ordering.{ordering_then}
 use Rattle.epx_types.specs.declared.id.Id.{Id}
 use Rattle.epx_types.specs.Ids.{id_cmp, IsRising}
@@ -14,14 +13,13 @@ use Rattle.epx_types.specs.LawfulOrders.{Before, SequenceBefore, IsLawful}
 use Rattle.epx_types.specs.Reaching.{Reaches}
 use Rattle.epx_types.proofs.committed.AgreementLemmas.{IsRising-same}
 use Rattle.epx_types.proofs.graph.ReachingLemmas.{IsReady-reached}
-use Rattle.epx_types.proofs.lists.ComparisonLemmas.{id_cmp_total}
 use Rattle.epx_types.proofs.lists.ListPositionLemmas.{AllPairs-from_slice_get, AllPairs-slice_get}
 use Rattle.epx_types.proofs.lists.ListPositionLemmas.{AllPairs-append, AllPairs-head}
 use Rattle.epx_types.proofs.lists.ListPositionLemmas.{AllPairs-tail, Contains-slice_get}
 use Rattle.epx_types.proofs.lists.MembershipLemmas.{Contains-from_flat_map, Contains-head}
 use Rattle.epx_types.proofs.lists.MembershipLemmas.{Contains-cons}
 use Rattle.epx_types.proofs.lists.TotalOrderLemmas.{below_asymm}
-use Rattle.epx_types.proofs.orders.LawfulOrderLemmas.{Before-cases}
+use Rattle.epx_types.proofs.orders.LawfulOrderLemmas.{Before-cases, sequence_cmp_total}
 use Rattle.epx_laws.specs.AlgorithmLaws.{all_members, AreSortedComponents}
 
 -- no two instances are each before the other by sequence number
@@ -34,9 +32,7 @@ SequenceBefore-not_both m rising x y by back =
     (back.first_is ∙ sym by.second_is) in
     let turned = subst₂ (λ (d e : Instance).
     is_lt (ordering_then (nat_cmp d.seq e.seq) (id_cmp y x)) ≡ true) second first back.lower in
-    below_asymm (then_total (on_total (λ (a : ℕ × Id). a.0) nat_cmp_total)
-    (on_total (λ (a : ℕ × Id). a.1) id_cmp_total)) (by.first.seq, x) (by.second.seq, y) by.lower
-    turned
+    below_asymm sequence_cmp_total (by.first.seq, x) (by.second.seq, y) by.lower turned
 
 -- and none is before itself
 SequenceBefore-differ : (m : List Instance) → IsRising (ids_of m) → (x y : Id)

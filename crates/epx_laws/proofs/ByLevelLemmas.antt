@@ -1,6 +1,6 @@
 -- Commands that are executed level by level are a rearrangement.
-use Rattle.std.proofs.Common.{◌≡◌, ◌≢◌, ◌∙◌, ◌+◌, ◌<◌, ◌++◌, ℕ, zero, suc, List, [], ◌∷◌, length}
-use Rattle.std.proofs.Common.{AllPairs, flat_map, slice_index, refl, sym, ap, ap₂, subst, inl, inr}
+use Rattle.std.proofs.Common.{◌≡◌, ◌∙◌, ◌+◌, ◌<◌, ◌++◌, ℕ, zero, suc, List, [], ◌∷◌, length}
+use Rattle.std.proofs.Common.{flat_map, slice_index, refl, sym, ap, ap₂, subst, inl, inr}
 use Rattle.std.proofs.Common.{arith}
 use Rattle.std.specs.List.{range_with_len}
 use Rattle.std.proofs.lemmas.Bool.{cases_lt}
@@ -9,14 +9,11 @@ use Rattle.epx_types.specs.declared.op.Op.{Op}
 use Rattle.epx_types.specs.LawfulOrders.{Before}
 use Rattle.epx_types.specs.Levels.{AreLevels, level_count, level_positions}
 use Rattle.epx_types.specs.Rearrangements.{IsRearrangement}
-use Rattle.epx_types.proofs.levels.LevelOrderLemmas.{by_level, levels-climb, level_positions-rising}
+use Rattle.epx_types.proofs.levels.LevelOrderLemmas.{by_level, levels-climb}
 use Rattle.epx_types.proofs.levels.LevelOrderLemmas.{Contains-from_by_level, Contains-by_level}
-use Rattle.epx_types.proofs.levels.LevelOrderLemmas.{Contains-from_level_positions}
-use Rattle.epx_types.proofs.levels.LevelOrderLemmas.{Contains-level_positions}
+use Rattle.epx_types.proofs.levels.LevelOrderLemmas.{Contains-level_positions, by_level-distinct}
 use Rattle.epx_types.proofs.levels.LevelPositionLemmas.{level_below_count}
 use Rattle.epx_types.proofs.lists.BeforeLemmas.{Before-across, Before-append_left}
-use Rattle.epx_types.proofs.lists.ListPositionLemmas.{AllPairs-append, AllPairs-slice_get}
-use Rattle.epx_types.proofs.lists.ListPositionLemmas.{AllPairs-from_slice_get}
 use Rattle.epx_laws.specs.LevelLaws.{AreByLevel}
 
 pub by_level_rearranges : (commands : List (List Op)) (levels positions : List ℕ)
@@ -48,21 +45,6 @@ in_turn levels (suc n) =
     ∙ ap₂ (λ ks k. ks ++ level_positions levels k) (in_turn levels n) e
 
 module _ (levels : List ℕ) where
-  once : (n : ℕ) → AllPairs (λ i j. i ≢ j) (by_level levels n)
-  once zero = λ i j d l k. absurd (omega arith)
-  once (suc n) =
-      AllPairs-append (λ i j. i ≢ j) (by_level levels n) (level_positions levels n) (once n)
-      (AllPairs-from_slice_get (λ i j. i ≢ j) (level_positions levels n)
-      (λ i j x y l p q same.
-      let less = AllPairs-slice_get (λ i k. i < k) (level_positions levels n)
-      (level_positions-rising levels n) i j x y l p q in
-      omega (arith, less, same)))
-      (λ i j h k same.
-      let low = Contains-from_by_level levels n i h in
-      let high = Contains-from_level_positions levels n j k in
-      let level : slice_index levels i ≡ slice_index levels j = ap (slice_index levels) same in
-      omega (arith, low.1, high.1, level))
-
   lower_first : (n i j : ℕ) → i < length levels → j < length levels → slice_index levels j < n
       → slice_index levels i < slice_index levels j → Before (by_level levels n) i j
   lower_first zero i j in_i in_j below lower = absurd (omega (arith, below))
@@ -77,7 +59,7 @@ module _ (levels : List ℕ) where
 
   by_level_in_turn : AreByLevel levels (by_level levels (level_count levels))
   by_level_in_turn = record {
-    once = once (level_count levels);
+    once = by_level-distinct levels (level_count levels);
     whole = λ i. (
       λ h. (Contains-from_by_level levels (level_count levels) i h).0,
       λ l. Contains-by_level levels (level_count levels) i l (level_below_count levels i l),

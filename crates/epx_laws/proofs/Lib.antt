@@ -1,6 +1,6 @@
 mod ComponentCountLemmas
 mod LargerMapLemmas
-mod BeginningLemmas
+pub mod BeginningLemmas
 mod RemainingReadinessLemmas
 mod RenamedContentsLemmas
 mod RenamedExecutionLemmas

@@ -1,18 +1,13 @@
 -- Each committed instance is executed or waits.
-use Rattle.std.proofs.Common.{◌≡◌, ◌≢◌, ◌≤◌, ◌⊎◌, ◌↔◌, ◌+◌, ◌++◌, List, length, Contains, AllPairs}
-use Rattle.std.proofs.Common.{sym, ap, ◌∙◌, subst, inl, inr, arith}
-use Rattle.std.specs.Bool.{Decides}
-use Rattle.std.specs.Ordering.{is_eq, eq_by_cmp}
-use Rattle.std.specs.Cmp.{Equal-is, tied_itself}
-use Rattle.std.proofs.lemmas.Cmp.{eq_by_cmp_equiv}
+use Rattle.std.proofs.Common.{◌≡◌, ◌≢◌, ◌⊎◌, ◌↔◌, ◌+◌, ◌++◌, List, length, Contains, AllPairs}
+use Rattle.std.proofs.Common.{subst, inl, inr, arith}
+use Rattle.std.specs.Ordering.{is_eq}
 use Rattle.std.proofs.lemmas.List.{length-map, length-append}
 use Rattle.std.proofs.lemmas.List.Sums.{count_by-le-length}
 use Rattle.std.proofs.lemmas.List.Elements.{Contains-append_left, Contains-append_right}
 use Rattle.std.proofs.lemmas.List.Elements.{Contains-append_cases}
-use Rattle.std.proofs.lemmas.Map.Made.{length-le_from_is_member, is_member-Decides}
-use Rattle.std.proofs.lemmas.Map.Made.{IsDistinct-from_AllPairs}
 use Rattle.epx_types.specs.declared.id.Id.{Id}
-use Rattle.epx_types.specs.Ids.{id_cmp, Below, IsRising}
+use Rattle.epx_types.specs.Ids.{id_cmp, IsRising}
 use Rattle.epx_types.specs.Instances.{Instance}
 use Rattle.epx_types.specs.CommittedMap.{ids_of, IsCommitted}
 use Rattle.epx_types.specs.Reaching.{Reaches}
@@ -20,36 +15,13 @@ use Rattle.epx_types.specs.Readiness.{IsReady, WaitsFor}
 use Rattle.epx_types.specs.ExecutionOrder.{Ranked, IsExecutionOrder, ranked_ids}
 use Rattle.epx_types.specs.WaitingLists.{Waiting, IsWaitingList, waiting_ids}
 use Rattle.epx_types.proofs.graph.ReachingLemmas.{IsReady-not_waiting}
-use Rattle.epx_types.proofs.lists.ComparisonLemmas.{id_cmp_total, id_cmp-IsAntisymmetric}
-use Rattle.epx_types.proofs.lists.ListPositionLemmas.{AllPairs-append, AllPairs-from_slice_get}
-use Rattle.epx_types.proofs.lists.ListPositionLemmas.{AllPairs-slice_get}
+use Rattle.epx_types.proofs.lists.ListPositionLemmas.{AllPairs-append}
 use Rattle.epx_types.proofs.lists.MembershipLemmas.{Contains-map, Contains-from_map}
-use Rattle.epx_types.proofs.lists.RisingIdLemmas.{AllPairs-from_IsRising}
-use Rattle.epx_types.proofs.lists.TotalOrderLemmas.{below_irrefl}
+use Rattle.epx_types.proofs.lists.RisingIdLemmas.{rising_once}
 use Rattle.epx_types.proofs.orders.ExecutionOrderLemmas.{IsExecutionOrder-IsLawful}
 use Rattle.epx_types.proofs.orders.RankExistenceLemmas.{ready_or_waits}
+use Rattle.epx_types.proofs.orders.OrderLengthLemmas.{fewer}
 use Rattle.epx_laws.specs.OutcomeLaws.{EachHasOneOutcome}
-
--- ---- lists without repeats
-
-same_id : (x y : Id) → Decides (eq_by_cmp id_cmp x y) (x ≡ y)
-same_id x y = (
-  λ e. id_cmp-IsAntisymmetric x y ((Equal-is (id_cmp x y)).0 e),
-  λ e. ap (λ z. is_eq (id_cmp x z)) (sym e) ∙ ap is_eq (tied_itself id_cmp_total x),
-)
-
--- a list without repeats is not longer than a list that has all its members
-fewer : (xs ys : List Id) → AllPairs (λ x y. x ≢ y) xs
-    → ((x : Id) → Contains xs x → Contains ys x) → length xs ≤ length ys
-fewer xs ys once within =
-    length-le_from_is_member (eq_by_cmp_equiv id_cmp_total) xs ys
-    (IsDistinct-from_AllPairs same_id xs once)
-    (λ q h. (is_member-Decides same_id ys q).1 (within q ((is_member-Decides same_id xs q).0 h)))
-
-rising_once : (xs : List Id) → IsRising xs → AllPairs (λ x y. x ≢ y) xs
-rising_once xs rising = AllPairs-from_slice_get (λ x y. x ≢ y) xs (λ i j x y l p q same.
-    below_irrefl id_cmp_total y (subst (λ (z : Id). Below z y) same
-    (AllPairs-slice_get Below xs (AllPairs-from_IsRising xs rising) i j x y l p q)))
 
 -- ---- outcomes
 

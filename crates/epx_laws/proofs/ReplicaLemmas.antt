@@ -1,14 +1,12 @@
 -- Beginnings of lawful orders in maps that grow, and in parts of one map.
-use Rattle.std.proofs.Common.{◌≡◌, ◌≢◌, ◌↔◌, ◌∙◌, ℕ, ◌<◌, List, ◌++◌, length, map, Contains}
+use Rattle.std.proofs.Common.{◌≡◌, ◌≢◌, ◌↔◌, ◌∙◌, ℕ, ◌<◌, List, ◌++◌, length, Contains}
 use Rattle.std.proofs.Common.{AllPairs, Some, slice_get, get_or, append_assoc, sym, ap, subst}
 use Rattle.std.proofs.Common.{inl, inr, arith}
-use Rattle.std.proofs.lemmas.List.{length-map, ext_get_or}
+use Rattle.std.proofs.lemmas.List.{length-map}
 use Rattle.std.proofs.lemmas.List.Elements.{Contains-append_left}
-use Rattle.std.proofs.lemmas.Option.{slice_get_within, slice_get-get_or, get_or_from_slice_get}
+use Rattle.std.proofs.lemmas.Option.{slice_get_within, slice_get-get_or}
 use Rattle.epx_types.specs.declared.id.Id.{Id}
 use Rattle.epx_types.specs.declared.op.Op.{Op}
-use Rattle.epx_types.specs.declared.reply.Reply.{Reply}
-use Rattle.epx_types.specs.declared.reply.Reply.TheVariants.{Abort}
 use Rattle.epx_types.specs.Ids.{IsRising}
 use Rattle.epx_types.specs.Instances.{Instance}
 use Rattle.epx_types.specs.Contents.{Contents}
@@ -27,17 +25,17 @@ use Rattle.epx_types.proofs.commands.RearrangedListLemmas.{execute-rearranged}
 use Rattle.epx_types.proofs.commands.RearrangementLemmas.{Once-from_AllPairs, Precedes-from_Before}
 use Rattle.epx_types.proofs.commands.RearrangementLemmas.{AllPairs-Precedes}
 use Rattle.epx_types.proofs.graph.ReachingLemmas.{IsReady-reached}
-use Rattle.epx_types.proofs.graph.WaitingLemmas.{Contains-Id_cases}
 use Rattle.epx_types.proofs.lists.BeforeLemmas.{Before-append_left, Before-from_Precedes}
 use Rattle.epx_types.proofs.lists.BeforeLemmas.{slice_get-append_left}
 use Rattle.epx_types.proofs.lists.ListPositionLemmas.{slice_get-from_Contains, Contains-slice_get}
-use Rattle.epx_types.proofs.lists.ListPositionLemmas.{slice_get-map, AllPairs-from_slice_get}
+use Rattle.epx_types.proofs.lists.ListPositionLemmas.{AllPairs-from_slice_get}
 use Rattle.epx_types.proofs.lists.ListPositionLemmas.{AllPairs-slice_get}
 use Rattle.epx_types.proofs.lists.MembershipLemmas.{map-agree, Contains-from_map}
 use Rattle.epx_types.proofs.orders.LawfulOrderLemmas.{Before-in_first, Before-in_second}
 use Rattle.epx_types.proofs.orders.LawfulOrderLemmas.{Before-alike_reaching, Before-alike_reached}
 use Rattle.epx_types.proofs.orders.LawfulOrderLemmas.{same_position}
 use Rattle.epx_types.proofs.orders.LawfulPartLemmas.{IsLawful-part_and_rest}
+use Rattle.epx_types.proofs.orders.LawfulExecutionLemmas.{reply_function}
 use Rattle.epx_laws.specs.GrowthLaws.{IsWithin}
 use Rattle.epx_laws.specs.ReplicaLaws.{HasExecuted}
 use Rattle.epx_laws.proofs.BeginningLemmas.{lawful_order, reply-beginning}
@@ -93,35 +91,6 @@ AllPairs-front : (front rest : List Id) → AllPairs (λ x y. x ≢ y) (front ++
 AllPairs-front front rest once = AllPairs-from_slice_get (λ x y. x ≢ y) front
     (λ i j x y l p q. AllPairs-slice_get (λ v w. v ≢ w) (front ++ rest) once i j x y l
     (slice_get-append_left front rest i x p) (slice_get-append_left front rest j y q))
-
--- ---- replies as a function of Ids
-
-module _ (ids : List Id) (once : AllPairs (λ x y. x ≢ y) ids) (replies : List Reply)
-    (long : length replies ≡ length ids) where
-  reply_at : (x : Id) → (r : Reply)
-      × ((i : ℕ) → slice_get ids i ≡ Some x → slice_get replies i ≡ Some r)
-  reply_at x = elim (Contains-Id_cases ids x) [
-    | inl h ↦
-        let at = slice_get-from_Contains ids x h in
-        let within : at.0 < length replies =
-        omega (arith, slice_get_within ids at.0 x at.1, long) in (
-          get_or replies at.0 (Abort 0),
-          λ i p. ap (slice_get replies) (same_position ids once i at.0 x p at.1)
-              ∙ slice_get-get_or replies at.0 (Abort 0) within,
-        )
-    | inr none ↦ (Abort 0, λ i p. absurd (none (Contains-slice_get ids i x p)))
-  ]
-
-  replies-at : replies ≡ map (λ x. (reply_at x).0) ids
-  replies-at = ext_get_or (Abort 0) replies (map (λ x. (reply_at x).0) ids)
-      (long ∙ sym (length-map ids (λ x. (reply_at x).0)))
-      (λ i l.
-      let none : Id = record { replica = 0; number = 0 } in
-      let at = slice_get-get_or ids i none (omega (arith, l, long)) in
-      let x = get_or ids i none in
-      get_or_from_slice_get replies i (reply_at x).0 (Abort 0) ((reply_at x).1 i at)
-      ∙ sym (get_or_from_slice_get (map (λ z. (reply_at z).0) ids) i (reply_at x).0 (Abort 0)
-      (slice_get-map (λ z. (reply_at z).0) ids i x at)))
 
 -- ---- two beginnings with the same instances
 
@@ -186,9 +155,9 @@ module _ (m : List Instance) (rising : IsRising (ids_of m)) (covered : IsCovered
       let replies = (execute (commands_in m ids) c).replies in
       let long : length replies ≡ length ids = length-replies (commands_in m ids) c
       ∙ length-map ids (λ x. ops_or_empty (instance_of m x)) in
-      (execute-rearranged (λ x. ops_or_empty (instance_of m x))
-      (λ x. (reply_at ids once_in replies long x).0) other ids rearranged c
-      (replies-at ids once_in replies long)).final
+      let reply_of = reply_function ids replies (Once-from_AllPairs ids once_in) long in
+      (execute-rearranged (λ x. ops_or_empty (instance_of m x)) reply_of.0 other ids rearranged c
+      reply_of.1).final
 
 -- ---- replicas
 

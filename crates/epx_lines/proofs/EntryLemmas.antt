@@ -16,22 +16,15 @@ use Rattle.epx_types.specs.declared.op.Op.{Op}
 use Rattle.epx_types.specs.Ids.{id_cmp, Below, BelowAll, IsRising}
 use Rattle.epx_types.specs.Instances.{IsWellFormed}
 use Rattle.epx_types.proofs.lists.ComparisonLemmas.{id_cmp_total}
-use Rattle.epx_types.proofs.lists.TotalOrderLemmas.{Less-is_lt}
+use Rattle.epx_types.proofs.lists.RisingIdLemmas.{BelowAll-trans}
 use Rattle.epx_lines.specs.Elements.{every, elements, at_most}
 use Rattle.epx_lines.specs.DependencyList.{id_of, is_other, rising_others, deps_of}
 use Rattle.epx_lines.specs.OperationList.{op_of, ops_of}
 
 -- ---- an insertion keeps the list rising
 
-Below-trans : (x y z : Id) → Below x y → Below y z → Below x z
-Below-trans x y z p q = ap is_lt (id_cmp_total.trans x y z (Less-is_lt _ p) (Less-is_lt _ q))
-
 Below-turned : (x y : Id) → id_cmp x y ≡ Greater → Below y x
 Below-turned x y e = ap is_lt (id_cmp_total.antisymm y x ∙ ap ordering_reverse e)
-
-BelowAll-trans : (x y : Id) (zs : List Id) → Below x y → BelowAll y zs → BelowAll x zs
-BelowAll-trans x y [] p h = tt
-BelowAll-trans x y (z ∷ zs) p h = (Below-trans x y z p h.0, BelowAll-trans x y zs p h.1)
 
 BelowAll-at : (o : Ordering) (x k y : Id) (ys rest : List Id) → Below x k → BelowAll x (y ∷ ys)
     → BelowAll x rest → BelowAll x (match_ordering o (k ∷ y ∷ ys) (y ∷ ys) (y ∷ rest))

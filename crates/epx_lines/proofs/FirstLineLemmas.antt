@@ -10,11 +10,11 @@ use Rattle.epx_lines.specs.Lines.{prepend_to_first, lines_of}
 
 -- ---- the first line
 
-lines_of-go_on : (b : ℕ) (bs : List ℕ) → eqb b 10 ≡ false
+pub lines_of-go_on : (b : ℕ) (bs : List ℕ) → eqb b 10 ≡ false
     → lines_of (b ∷ bs) ≡ prepend_to_first b (lines_of bs)
 lines_of-go_on b bs e = ap (λ t. cond t ([] ∷ lines_of bs) (prepend_to_first b (lines_of bs))) e
 
-lines_of-feed : (b : ℕ) (bs : List ℕ) → eqb b 10 ≡ true → lines_of (b ∷ bs) ≡ [] ∷ lines_of bs
+pub lines_of-feed : (b : ℕ) (bs : List ℕ) → eqb b 10 ≡ true → lines_of (b ∷ bs) ≡ [] ∷ lines_of bs
 lines_of-feed b bs e = ap (λ t. cond t ([] ∷ lines_of bs) (prepend_to_first b (lines_of bs))) e
 
 is_false : (t : Bool) → (t ≡ true → ⊥) → t ≡ false

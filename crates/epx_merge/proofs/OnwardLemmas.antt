@@ -1,28 +1,22 @@
 -- The lines of the rest of a log follow its first lines.
 use Rattle.std.proofs.Common.{◌≡◌, ◌+◌, ◌∷◌, ◌++◌, ◌∙◌, ℕ, suc, List, []}
-use Rattle.std.proofs.Common.{true, false, length, ap, refl, sym, inl, inr, arith}
-use Rattle.std.proofs.Common.{cond, eqb}
+use Rattle.std.proofs.Common.{length, ap, refl, sym, inl, inr, arith}
+use Rattle.std.proofs.Common.{eqb}
 use Rattle.std.proofs.lemmas.Bool.{cases_Bool}
 use Rattle.epx_lines.specs.Lines.{lines_of, prepend_to_first}
+use Rattle.epx_lines.proofs.FirstLineLemmas.{lines_of-feed, lines_of-go_on}
 use Rattle.epx_merge.specs.LogLines.{meaning_at, meanings_in}
 use Rattle.epx_merge.specs.LogParts.{EndsLine}
-
-of_feed : (b : ℕ) (bs : List ℕ) → eqb b 10 ≡ true → lines_of (b ∷ bs) ≡ [] ∷ lines_of bs
-of_feed b bs e = ap (λ t. cond t ([] ∷ lines_of bs) (prepend_to_first b (lines_of bs))) e
-
-of_other : (b : ℕ) (bs : List ℕ) → eqb b 10 ≡ false
-    → lines_of (b ∷ bs) ≡ prepend_to_first b (lines_of bs)
-of_other b bs e = ap (λ t. cond t ([] ∷ lines_of bs) (prepend_to_first b (lines_of bs))) e
 
 -- bytes with a line feed have a line
 some_line : (front : List ℕ) → (l : List ℕ) × (ls : List (List ℕ))
     × (lines_of (front ++ 10 ∷ []) ≡ l ∷ ls)
 some_line [] = ([], [], refl)
 some_line (b ∷ front) = elim (cases_Bool (eqb b 10)) [
-  | inl feed ↦ ([], lines_of (front ++ 10 ∷ []), of_feed b (front ++ 10 ∷ []) feed)
+  | inl feed ↦ ([], lines_of (front ++ 10 ∷ []), lines_of-feed b (front ++ 10 ∷ []) feed)
   | inr other ↦
       let h = some_line front in
-      (b ∷ h.0, h.1, of_other b (front ++ 10 ∷ []) other ∙ ap (prepend_to_first b) h.2)
+      (b ∷ h.0, h.1, lines_of-go_on b (front ++ 10 ∷ []) other ∙ ap (prepend_to_first b) h.2)
 ]
 
 lines_after : (front rest : List ℕ)
@@ -33,12 +27,12 @@ lines_after (b ∷ front) rest =
     let here = lines_after front rest in
     let h = some_line front in
     elim (cases_Bool (eqb b 10)) [
-      | inl feed ↦ of_feed b (bytes ++ rest) feed ∙ ap (λ l. [] ∷ l) here
-          ∙ ap (λ l. l ++ lines_of rest) (sym (of_feed b bytes feed))
-      | inr other ↦ of_other b (bytes ++ rest) other
+      | inl feed ↦ lines_of-feed b (bytes ++ rest) feed ∙ ap (λ l. [] ∷ l) here
+          ∙ ap (λ l. l ++ lines_of rest) (sym (lines_of-feed b bytes feed))
+      | inr other ↦ lines_of-go_on b (bytes ++ rest) other
           ∙ ap (prepend_to_first b) (here ∙ ap (λ l. l ++ lines_of rest) h.2)
           ∙ ap (λ l. l ++ lines_of rest)
-          (sym (of_other b bytes other ∙ ap (prepend_to_first b) h.2))
+          (sym (lines_of-go_on b bytes other ∙ ap (prepend_to_first b) h.2))
     ]
 
 pub lines_of-append : (lines rest : List ℕ) → EndsLine lines

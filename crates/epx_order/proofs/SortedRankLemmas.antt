@@ -9,11 +9,10 @@ use Rattle.std.proofs.lemmas.Bool.{false≢true}
 use Rattle.std.proofs.lemmas.List.Sorted.{ranks_by, sorted_far, Contains-permutation}
 use Rattle.std.proofs.lemmas.List.Sorted.{IsPermutation-sym}
 use Rattle.std.proofs.lemmas.Option.{slice_get_within, get_or_from_slice_get}
-use Rattle.std.proofs.lemmas.Bool.Decides.{nat_tests}
 use Rattle.std.proofs.lemmas.List.Sorted.{IsPermutation-map}
 use Rattle.std.proofs.lemmas.Map.Keys.{IsDistinct-IsPermutation}
 use Rattle.std.proofs.lemmas.Map.Made.{AllPairs-from_IsDistinct, IsDistinct-from_AllPairs}
-use Rattle.epx_types.proofs.commands.EqualityLemmas.{ids_decide}
+use Rattle.epx_types.proofs.commands.EqualityLemmas.{ids_decide, ids_flip}
 use Rattle.epx_types.specs.declared.id.Id.{Id}
 use Rattle.epx_types.specs.contracts.id.IdPartialEq.TheImpl as id_eq
 use Rattle.epx_types.proofs.lists.ListPositionLemmas.{AllPairs-slice_get, slice_get-map}
@@ -36,9 +35,6 @@ same_id = id_eq.eq-value.it
 abbrev names : List Rank → List Id
 names ranks = map (λ r. r.id) ranks
 
-same_flips : (x y : Id) → same_id x y ≡ same_id y x
-same_flips x y = grind (arith, nat_tests)
-
 -- ranks of distinct instances stay such when they are moved
 names_apart : (old new : List Rank) → IsPermutation old new
     → AllPairs (λ a b. a.id ≢ b.id) old → AllPairs (λ x y. x ≢ y) (names new)
@@ -50,7 +46,7 @@ names_apart old new moved once =
     subst₂ (λ (v w : Id). v ≢ w) a.2 b.2
     (AllPairs-slice_get (λ (r s : Rank). r.id ≢ s.id) old once i j a.0 b.0 l a.1 b.1)) in
     AllPairs-from_IsDistinct {eq = same_id} ids_decide (names new)
-    (IsDistinct-IsPermutation same_id same_flips (names old) (names new)
+    (IsDistinct-IsPermutation same_id ids_flip (names old) (names new)
     (IsPermutation-map (λ (r : Rank). r.id) old new moved)
     (IsDistinct-from_AllPairs {eq = same_id} ids_decide (names old) before))
 

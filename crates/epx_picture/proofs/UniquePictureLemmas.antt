@@ -8,8 +8,8 @@ use Rattle.epx_types.specs.Depth.{IsDepth}
 use Rattle.epx_types.specs.Readiness.{IsReady}
 use Rattle.epx_types.proofs.lists.MembershipLemmas.{Contains-head, Contains-cons, Contains-map}
 use Rattle.epx_types.proofs.lists.MembershipLemmas.{Contains-from_map}
+use Rattle.epx_types.proofs.lists.RisingIdLemmas.{same_ids}
 use Rattle.epx_types.proofs.graph.ReachingLemmas.{IsLeader-unique, IsDepth-unique}
-use Rattle.epx_graph.proofs.GraphUniquenessLemmas.{same_ids}
 use Rattle.epx_picture.specs.declared.node_box.NodeBox.{NodeBox}
 use Rattle.epx_picture.specs.NodeBoxes.{IsCluster, IsBoxOf}
 use Rattle.epx_picture.specs.PictureText.{picture_text}

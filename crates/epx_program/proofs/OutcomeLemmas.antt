@@ -19,6 +19,7 @@ use Rattle.epx_tool.specs.RunsWithInput.{IsRunFaultWithInput}
 use Rattle.epx_tool.specs.WithInput.{AnswersWithInput}
 use Rattle.epx_tool.specs.declared.question.InputQuestion.{InputQuestion}
 use Rattle.epx_tool.specs.declared.question.Question.{Question}
+use Rattle.epx_tool.proofs.ReturnedFaultLemmas.{ok_is_no_fault}
 use Rattle.epx_program.specs.declared.do_task.Asked.TheVariants as asked
 use Rattle.epx_program.specs.Endings.{AddsAnswer, AddsPart, IsFindingTo, IsTaskResult}
 use Rattle.epx_program.specs.Endings.{IsTaskAnswer}
@@ -126,14 +127,10 @@ adds_part_to_nothing AreRead old new task (Err fault) none h is =
 
 -- ---- the outcome
 
--- a result that is no error is not this one
-ok_is_not : {A : Type 0} (x : A) (other : Fault) → ¬ IsErrOf (Ok x) other
-ok_is_not x other is = cc is
-
 written_well : {A B : Type 0} (x : A) (y : B) (failed : Bool)
     → IsErrOf (Ok x) Write ↔ (failed ≡ true) → IsErrOf (Ok y) Write ↔ (failed ≡ true)
 written_well x y failed h =
-    (λ is. absurd (ok_is_not y Write is), λ bad. absurd (ok_is_not x Write (h.1 bad)))
+    (λ is. absurd (ok_is_no_fault y Write is), λ bad. absurd (ok_is_no_fault x Write (h.1 bad)))
 
 written_badly : {A B : Type 0} (fault : Fault) (failed : Bool)
     → IsErrOf {T = A} (Err fault) Write ↔ (failed ≡ true)
@@ -166,9 +163,9 @@ module _ {S : Type 0} (remaining : S → Option (List ℕ)) (reads : ReadRelatio
         (h.text, text_of_logs found h.logs h.text h.answer, h.written),
       );
       flushed = run.sink.flushed;
-      part = λ bad. absurd (ok_is_not found Write bad);
+      part = λ bad. absurd (ok_is_no_fault found Write bad);
       nothing = tt;
-      unread = λ log bad. absurd (ok_is_not found (Read log) bad);
+      unread = λ log bad. absurd (ok_is_no_fault found (Read log) bad);
       written = written_well tt found failed run.sink.written;
     }
 
@@ -271,9 +268,9 @@ module _ {S : Type 0} (remaining : S → Option (List ℕ)) (reads : ReadRelatio
           ),
         );
         flushed = run.sink.flushed;
-        part = λ bad. absurd (ok_is_not found Write bad);
+        part = λ bad. absurd (ok_is_no_fault found Write bad);
         nothing = tt;
-        unread = λ log bad. absurd (ok_is_not found (Read log) bad);
+        unread = λ log bad. absurd (ok_is_no_fault found (Read log) bad);
         written = written_well tt found failed run.sink.written;
       }
       outcome_of_first (Err fault) run = record {
@@ -323,7 +320,7 @@ module _ {S : Type 0} (remaining : S → Option (List ℕ)) (reads : ReadRelatio
           → EndsFirst left m_reads m_fails m_failed left m_reads m_fails m_failed first last []
           now done
           → ¬ IsErrOf done (Read log)
-      nothing_unread (Ok found) log run bad = ok_is_not found (Read log) bad
+      nothing_unread (Ok found) log run bad = ok_is_no_fault found (Read log) bad
       nothing_unread (Err fault) log run bad = elim (unread_both m_reads m_fails [] now m_reads
           m_fails (IsBadInput question) first last (ended fault) run.sink.refused log
           (same_error fault (Read log) bad)) [

@@ -1,10 +1,7 @@
 -- Outputs that are unchanged.
-use Rattle.std.proofs.Common.{◌≡◌, ℕ, List, Option, Some, None, refl, subst}
+use Rattle.std.proofs.Common.{◌≡◌, ℕ, List, Option, subst}
 use Rattle.std.specs.Io.KnownBytes.{Keeps}
-
-unchanged_output : (known : Option (List ℕ)) → Keeps known known
-unchanged_output None = tt
-unchanged_output (Some bytes) = refl
+use Rattle.epx_tool.proofs.ReturnedFaultLemmas.{keeps_itself}
 
 -- an unchanged output has the contents that it had
 pub contents_unchanged : {S : Type 0} (contents : S → Option (List ℕ)) (before after : S)
@@ -12,4 +9,4 @@ pub contents_unchanged : {S : Type 0} (contents : S → Option (List ℕ)) (befo
     → Keeps (contents before) (contents after)
 contents_unchanged contents before after same =
     subst (λ output. Keeps (contents output) (contents after)) same
-    (unchanged_output (contents after))
+    (keeps_itself (contents after))

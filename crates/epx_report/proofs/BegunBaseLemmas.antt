@@ -18,6 +18,7 @@ use Rattle.epx_types.specs.Done.{is_among}
 use Rattle.epx_types.proofs.keys.SortedEntryLemmas.{first_of, second_of, less_from_is_lt}
 use Rattle.epx_types.proofs.lists.MembershipLemmas.{Contains-nil, Contains-cons_cases}
 use Rattle.epx_types.proofs.lists.ListPositionLemmas.{AllPairs-append, AllPairs-from_parts}
+use Rattle.epx_types.proofs.lists.RisingIdLemmas.{same_ids, IsRising-push}
 use Rattle.epx_types.proofs.remaining.RemainingLemmas.{is_among_cases}
 use Rattle.epx_lines.proofs.EntryLemmas.{IsRising-insert}
 use Rattle.epx_txn.proofs.RisingEntryLemmas.{both_of, below_all_trans}
@@ -27,10 +28,10 @@ use Rattle.epx_report.specs.declared.form.BaseLine.TheVariants as line
 use Rattle.epx_report.specs.Bases.{BaseParts, lines_in_order, AreDistinctIds, AreDoneIn}
 use Rattle.epx_report.specs.inner.Seen.{Seen, nothing_seen, after, last, is_after_last}
 use Rattle.epx_report.specs.inner.BaseReadings.{after_all}
-use Rattle.epx_report.proofs.IdSetLemmas.{above_each, IsRising-push}
+use Rattle.epx_report.proofs.IdSetLemmas.{above_each}
 use Rattle.epx_report.proofs.LineOrderLemmas.{done_more, replies_more, waiting_more, stored_more}
 use Rattle.epx_report.proofs.RisingListLemmas.{Contains-insert_itself, Contains-insert_other}
-use Rattle.epx_report.proofs.RisingListLemmas.{Contains-insert_cases, same_ids, last-cons}
+use Rattle.epx_report.proofs.RisingListLemmas.{Contains-insert_cases, last-cons}
 use Rattle.epx_report.proofs.WholeBaseLemmas.{state}
 
 -- ---- tests

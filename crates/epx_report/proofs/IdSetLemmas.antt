@@ -4,13 +4,12 @@ use Rattle.std.proofs.Common.{◌==◌, ◌&&◌, Bool, Ordering, Less, Equal, G
 use Rattle.std.proofs.Common.{◌∷◌, ◌++◌, length, get_or, Contains, Some, refl, sym, ap, ap₂, ◌∙◌}
 use Rattle.std.proofs.Common.{subst, arith}
 use Rattle.std.specs.BTreeSet.{insert_key}
-use Rattle.std.specs.List.{HoldsAt, dedup, AllByRecursion}
+use Rattle.std.specs.List.{HoldsAt, dedup}
 use Rattle.std.specs.List.Retain.{IsFiltered, DiffersFromLast}
 use Rattle.std.specs.List.Sorted.{IsSorted, IsPermutation, IsNonDecreasingBy, IsPartitionPoint}
-use Rattle.std.specs.List.Sorted.{IsStrictlySortedBy}
 use Rattle.std.specs.Ordering.{is_eq, nat_cmp, ordering_then, eq_by_cmp, ordering_index}
-use Rattle.std.specs.Cmp.{tied_itself, eq_by_cmp_equiv, IsEquivalence}
-use Rattle.std.proofs.lemmas.Bool.{cases_lt, cases_Bool}
+use Rattle.std.specs.Cmp.{eq_by_cmp_equiv, IsEquivalence}
+use Rattle.std.proofs.lemmas.Bool.{cases_Bool}
 use Rattle.std.proofs.lemmas.Bool.Decides.{nat_tests}
 use Rattle.std.proofs.lemmas.List.Elements.{Contains-append_left, Contains-append_right}
 use Rattle.std.proofs.lemmas.List.Elements.{Contains-append_cases, Contains-push}
@@ -18,22 +17,23 @@ use Rattle.std.proofs.lemmas.List.Elements.{Contains-push_cases}
 use Rattle.std.proofs.lemmas.List.Filters.{dedup_is}
 use Rattle.std.proofs.lemmas.List.Kept.{Contains-dedup, Contains-from_dedup}
 use Rattle.std.proofs.lemmas.List.Kept.{IsStrictlySortedBy-dedup}
-use Rattle.std.proofs.lemmas.List.Sorted.{searchable_from_sorted, Contains-permutation}
+use Rattle.std.proofs.lemmas.List.Sorted.{Contains-permutation}
 use Rattle.std.proofs.lemmas.List.Sorted.{IsPermutation-sym}
 use Rattle.epx_types.specs.declared.id.Id.{Id}
-use Rattle.epx_types.specs.Ids.{id_cmp, Below, BelowAll, IsRising}
+use Rattle.epx_types.specs.Ids.{id_cmp, Below, IsRising}
 use Rattle.epx_types.specs.Done.{is_among}
 use Rattle.epx_types.proofs.lists.MembershipLemmas.{Contains-nil, Contains-head, Contains-cons}
 use Rattle.epx_types.proofs.lists.MembershipLemmas.{Contains-cons_cases}
 use Rattle.epx_types.proofs.lists.ComparisonLemmas.{id_cmp_total, id_cmp-IsAntisymmetric}
-use Rattle.epx_types.proofs.lists.TotalOrderLemmas.{below_irrefl, below_trans, below_asymm}
-use Rattle.epx_types.proofs.lists.RisingIdLemmas.{AllPairs-from_IsRising, BelowAll-from_each}
+use Rattle.epx_types.proofs.lists.TotalOrderLemmas.{below_irrefl, below_trans}
+use Rattle.epx_types.proofs.lists.RisingIdLemmas.{same_ids, IsRising-push}
+use Rattle.epx_types.proofs.lists.IdListLemmas.{absent, rising_from_strict}
 use Rattle.epx_types.proofs.remaining.RemainingLemmas.{is_among_cases}
 use Rattle.epx_lines.proofs.EntryLemmas.{IsRising-insert, IsRising-fold}
 use Rattle.epx_report.specs.inner.Seen.{last, is_after_last}
 use Rattle.epx_report.specs.inner.IdSets.{with_late, AreRisingAndLate}
 use Rattle.epx_report.proofs.RisingListLemmas.{Contains-insert_itself, Contains-insert_other}
-use Rattle.epx_report.proofs.RisingListLemmas.{Contains-insert_cases, same_ids, last-cons}
+use Rattle.epx_report.proofs.RisingListLemmas.{Contains-insert_cases, last-cons}
 
 -- ---- which Ids are among them
 
@@ -110,22 +110,6 @@ within_not_above xs x rising h =
       | inl past ↦ absurd (below_irrefl id_cmp_total x (above_each xs x x rising past h))
       | inr level ↦ level
     ]
-
-pub IsRising-push : (xs : List Id) (x : Id) → IsRising xs → ((y : Id) → Contains xs y → Below y x)
-    → IsRising (xs ++ x ∷ [])
-IsRising-push [] x rising each = (tt, tt)
-IsRising-push (y ∷ xs) x rising each = (
-  BelowAll-from_each y (xs ++ x ∷ []) (λ z h. elim (Contains-push_cases xs x z h) [
-    | inl was ↦ below_of y xs z rising.0 was
-    | inr same ↦ subst (Below y) same (each y (Contains-head y xs))
-  ]),
-  IsRising-push xs x rising.1 (λ z h. each z (Contains-cons y xs z h)),
-)
-  where
-    below_of : (y : Id) (xs : List Id) (z : Id) → BelowAll y xs → Contains xs z → Below y z
-    below_of y [] z h within = absurd (Contains-nil z within)
-    below_of y (x ∷ xs) z h within = elim (Contains-cons_cases x xs z within)
-        [ inl same ↦ subst (Below y) same h.0 | inr rest ↦ below_of y xs z h.1 rest ]
 
 -- an Id of a rising list is its last one if no Id of the list is greater
 last_is : (xs : List Id) (l : Id) → IsRising xs → Contains xs l
@@ -309,31 +293,6 @@ module _ (rising late : List Id) (h : AreRisingAndLate rising late) where
 
 -- ---- the binary search
 
-sorted_from_rising : (xs : List Id) → IsRising xs → IsSorted id_cmp xs
-sorted_from_rising xs rising k d low l =
-    let below : Below (get_or xs k d) (get_or xs (k + 1) d) =
-    AllPairs-from_IsRising xs rising k (k + 1) d (omega arith) l in
-    elim (cases_Bool (is_lt (id_cmp (get_or xs (k + 1) d) (get_or xs k d)))) [
-      | inl back ↦ absurd
-          (below_asymm id_cmp_total (get_or xs k d) (get_or xs (k + 1) d) below back)
-      | inr level ↦ level
-    ]
-
--- no element is equal if all before a position are less and all others greater
-absent : (xs : List Id) (x : Id) (i : ℕ) → IsRising xs
-    → (IsNonDecreasingBy (λ y. ordering_index (id_cmp y x)) xs
-    → IsPartitionPoint (λ y. id_cmp y x ≡ Less) (λ y. id_cmp y x ≡ Greater) xs i) → ¬ Contains xs x
-absent xs x i rising parts h =
-    let point =
-    parts (searchable_from_sorted id_cmp_total (λ (y : Id). y) xs x
-    (sorted_from_rising xs rising)) in
-    let tie : id_cmp (get_or xs h.0 x) x ≡ Equal =
-    ap (λ y. id_cmp y x) h.2 ∙ tied_itself id_cmp_total x in
-    elim (cases_lt h.0 i) [
-      | inl l ↦ let less = point.0 h.0 x (omega arith) l in absurd (cc (less, tie))
-      | inr m ↦ let more = point.1 h.0 x m h.1 in absurd (cc (more, tie))
-    ]
-
 pub present : (xs : List Id) (x : Id) (i : ℕ) → i < length xs
     → HoldsAt (λ y. id_cmp y x ≡ Equal) xs i → true ≡ is_among xs x
 present xs x i within h =
@@ -347,16 +306,6 @@ pub missing : (xs : List Id) (x : Id) (i : ℕ) → IsRising xs
 missing xs x i rising parts = sym (not_among xs x (absent xs x i rising parts))
 
 -- ---- the Ids as a vector
-
-rising_from_strict : (xs : List Id) → IsStrictlySortedBy id_cmp xs → IsRising xs
-unfolding IsStrictlySortedBy
-rising_from_strict [] h = tt
-rising_from_strict (x ∷ xs) h = (below_all x xs h.0, rising_from_strict xs h.1)
-  where
-    below_all : (x : Id) (ys : List Id) → AllByRecursion (λ y. id_cmp x y ≡ Less) ys
-        → BelowAll x ys
-    below_all x [] k = tt
-    below_all x (y ∷ ys) k = (ap is_lt k.0, below_all x ys k.1)
 
 tie_then : (r o : Ordering) → is_eq (ordering_then r o) ≡ (is_eq r && is_eq o)
 tie_then Less o = refl

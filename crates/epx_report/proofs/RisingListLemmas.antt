@@ -5,13 +5,11 @@ use Rattle.std.proofs.Common.{option_map, refl, sym, ap, ◌∙◌, subst, arith
 use Rattle.std.specs.BTreeSet.{insert_key}
 use Rattle.std.specs.FinMap.{is_sorted}
 use Rattle.epx_types.specs.declared.id.Id.{Id}
-use Rattle.epx_types.specs.Ids.{id_cmp, Below, IsRising}
+use Rattle.epx_types.specs.Ids.{id_cmp, IsRising}
 use Rattle.epx_types.specs.Keys.{key_cmp}
 use Rattle.epx_types.proofs.lists.MembershipLemmas.{Contains-nil, Contains-head, Contains-cons}
 use Rattle.epx_types.proofs.lists.MembershipLemmas.{Contains-cons_cases}
-use Rattle.epx_types.proofs.lists.ComparisonLemmas.{id_cmp_total, id_cmp-IsAntisymmetric}
-use Rattle.epx_types.proofs.lists.TotalOrderLemmas.{below_irrefl, below_trans, same_rising}
-use Rattle.epx_types.proofs.lists.RisingIdLemmas.{AllPairs-from_IsRising}
+use Rattle.epx_types.proofs.lists.ComparisonLemmas.{id_cmp-IsAntisymmetric}
 use Rattle.epx_types.proofs.keys.SortedEntryLemmas.{first_of, second_of}
 use Rattle.epx_report.specs.inner.Seen.{last, is_after_last}
 
@@ -55,14 +53,6 @@ Contains-insert_cases (y ∷ xs) x z h =
             [ inl same ↦ inl same | inr within ↦ inr (Contains-cons y xs z within) ]
       ]
     ] refl
-
--- a rising list is determined by which Ids it has
-pub same_ids : (xs ys : List Id) → IsRising xs → IsRising ys
-    → ((x : Id) → Contains xs x → Contains ys x) → ((x : Id) → Contains ys x → Contains xs x)
-    → xs ≡ ys
-same_ids xs ys h k there back =
-    same_rising Below (below_irrefl id_cmp_total) (below_trans id_cmp_total) xs ys
-    (AllPairs-from_IsRising xs h) (AllPairs-from_IsRising ys k) there back
 
 -- ---- the next one is greater than the last one
 

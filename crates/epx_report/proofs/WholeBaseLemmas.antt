@@ -12,6 +12,7 @@ use Rattle.epx_types.specs.Keys.{key_cmp}
 use Rattle.epx_types.proofs.lists.MembershipLemmas.{Contains-nil, Contains-head, Contains-cons}
 use Rattle.epx_types.proofs.lists.MembershipLemmas.{Contains-cons_cases}
 use Rattle.epx_types.proofs.lists.ListPositionLemmas.{AllPairs-head, AllPairs-tail}
+use Rattle.epx_types.proofs.lists.RisingIdLemmas.{same_ids}
 use Rattle.epx_lines.proofs.EntryLemmas.{IsRising-insert, IsRising-fold}
 use Rattle.epx_lines.proofs.OtherIdLemmas.{insert_last}
 use Rattle.epx_report.specs.declared.form.Counts.{Counts}
@@ -24,7 +25,7 @@ use Rattle.epx_report.specs.inner.IdSets.{with_late}
 use Rattle.epx_report.proofs.IdSetLemmas.{Contains-with_rising, Contains-with_late}
 use Rattle.epx_report.proofs.IdSetLemmas.{Contains-with_cases, not_among}
 use Rattle.epx_report.proofs.RisingListLemmas.{Contains-insert_itself, Contains-insert_other}
-use Rattle.epx_report.proofs.RisingListLemmas.{Contains-insert_cases, same_ids, above_last}
+use Rattle.epx_report.proofs.RisingListLemmas.{Contains-insert_cases, above_last}
 use Rattle.epx_report.proofs.RisingListLemmas.{above_last_key}
 
 -- the done instances of a base can be listed

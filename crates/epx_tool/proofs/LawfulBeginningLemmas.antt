@@ -1,22 +1,13 @@
 -- A list that is reported as a lawful beginning is one. If the logs are reported as covered, it
 -- replies as the report says.
-use Rattle.std.proofs.Common.{◌≡◌, ◌∙◌, ◌<◌, ◌++◌, ℕ, List, length, Ok, Err, slice_get}
-use Rattle.std.proofs.Common.{get_or, refl, sym, ap, inl, inr, arith}
+use Rattle.std.proofs.Common.{ℕ, List, Ok, Err}
+use Rattle.std.proofs.Common.{refl, inl, inr}
 use Rattle.std.specs.FinMap as contents
-use Rattle.std.proofs.lemmas.List.{length-map, map-append}
-use Rattle.std.proofs.lemmas.Option.{slice_get_within, slice_get-get_or}
 use Rattle.epx_types.specs.declared.id.Id.{Id}
-use Rattle.epx_types.specs.declared.reply.Reply.TheVariants.{Abort}
 use Rattle.epx_types.specs.Instances.{Instance}
-use Rattle.epx_types.specs.CommittedMap.{instance_of, ops_or_empty, commands_in}
-use Rattle.epx_types.specs.Contents.{Contents}
-use Rattle.epx_types.specs.Execution.{execute}
 use Rattle.epx_types.specs.ExecutionOrder.{ranked_ids}
 use Rattle.epx_types.specs.LawfulBeginnings.{IsLawfulBeginning}
-use Rattle.epx_types.proofs.commands.ExecutionLemmas.{length-replies, execute-append}
-use Rattle.epx_types.proofs.lists.BeforeLemmas.{slice_get-append_left}
 use Rattle.epx_types.proofs.orders.ExecutionOrderLemmas.{IsExecutionOrder-IsLawful}
-use Rattle.epx_types.proofs.orders.LawfulExecutionLemmas.{reply-lawful}
 use Rattle.epx_merge.specs.Acceptance.{IsAccepted}
 use Rattle.epx_report.specs.Lists.{IsList}
 use Rattle.epx_report.specs.ViewLines.{lawful_line}
@@ -31,6 +22,7 @@ use Rattle.epx_tool.specs.Verdicts.{IsVerdict, IsPrefixVerdict}
 use Rattle.epx_tool.proofs.CheckLemmas.{verdict-of_logs}
 use Rattle.epx_tool.proofs.CoveredTextLemmas.{covered_if_reported}
 use Rattle.epx_tool.proofs.VerdictLemmas.{beginning-from_verdict}
+use Rattle.epx_laws.proofs.BeginningLemmas.{reply-beginning}
 
 -- ---- what the text means
 
@@ -49,34 +41,14 @@ lawful_text_means_beginning list logs ids m short is accepted = (
 
 -- ---- replies
 
--- instances have the same replies where others follow them
-reply-append_left : (m : List Instance) (ids others : List Id) (c : Contents) (i : ℕ)
-    → i < length ids → slice_get (execute (commands_in m (ids ++ others)) c).replies i
-    ≡ slice_get (execute (commands_in m ids) c).replies i
-reply-append_left m ids others c i l =
-    let commands = commands_in m ids in
-    let rest = commands_in m others in
-    let both : commands_in m (ids ++ others) ≡ commands ++ rest =
-    map-append (λ x. ops_or_empty (instance_of m x)) ids others in
-    let replies = (execute commands c).replies in
-    let long : length replies ≡ length ids =
-    length-replies commands c ∙ length-map ids (λ x. ops_or_empty (instance_of m x)) in
-    let at = slice_get-get_or replies i (Abort 0) (omega (arith, l, long)) in
-    ap (λ os. slice_get (execute os c).replies i) both
-    ∙ ap (λ rs. slice_get rs i) (execute-append commands rest c).0
-    ∙ slice_get-append_left replies (execute rest (execute commands c).final).replies i
-    (get_or replies i (Abort 0)) at
-    ∙ sym at
-
 pub lawful_beginning_replies_alike : LawfulBeginningRepliesAlike
 lawful_beginning_replies_alike list logs said audited ids m is accepted order ordered i j x p q =
     let rising = accepted.committed.rising in
     let covered = covered_if_reported logs m accepted audited in
     let begins = beginning_if_reported list logs ids m is accepted said in
     let of_order = IsExecutionOrder-IsLawful m order ordered in
-    sym (reply-append_left m ids begins.0 contents.empty i (slice_get_within ids i x p))
-    ∙ reply-lawful m rising covered (ranked_ids order) (ids ++ begins.0) of_order begins.1
-    contents.empty j i x q (slice_get-append_left ids begins.0 i x p)
+    reply-beginning m rising covered ids begins.0 (ranked_ids order) begins.1 of_order
+    contents.empty i j x p q
 
 -- ---- lists of all ready instances
 

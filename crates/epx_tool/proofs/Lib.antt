@@ -4,7 +4,7 @@ mod SourceReadingLemmas
 mod DeliveredLemmas
 mod UniqueAnswerLemmas
 mod LogsWithInputLemmas
-mod ReturnedFaultLemmas
+pub mod ReturnedFaultLemmas
 mod RunEndingLemmas
 mod MergedSourceLemmas
 mod GatheredLemmas

@@ -1,7 +1,7 @@
 -- The numbers and texts of a report of accepted logs are within their limits.
-use Rattle.std.proofs.Common.{◌≡◌, ◌≢◌, ℕ, suc, ◌≤◌, ◌++◌, cond, T, ℤ, w64, List, [], ◌∷◌, length}
-use Rattle.std.proofs.Common.{zip, get_or, AllPairs, Contains, IsUtf8, Option, Some, None, Result}
-use Rattle.std.proofs.Common.{Ok, Err, inl, inr, sym, ap, ◌∙◌, subst, arith}
+use Rattle.std.proofs.Common.{◌≡◌, ℕ, suc, ◌≤◌, ◌++◌, cond, T, ℤ, w64, List, [], ◌∷◌, length}
+use Rattle.std.proofs.Common.{zip, Contains, IsUtf8, Option, Some, None, Result}
+use Rattle.std.proofs.Common.{Ok, Err, inl, inr, ap, ◌∙◌, subst, arith}
 use Rattle.std.specs.Prelude.{FitsSigned}
 use Rattle.std.specs.List.{AllByRecursion}
 use Rattle.std.specs.Ordering.{is_eq}
@@ -15,7 +15,7 @@ use Rattle.epx_types.specs.declared.id.Id.{Id}
 use Rattle.epx_types.specs.declared.reply.Reply.{Reply}
 use Rattle.epx_types.specs.declared.place.Place.{Place}
 use Rattle.epx_types.specs.declared.fault.Why.{Why}
-use Rattle.epx_types.specs.Ids.{id_cmp, Below, IsRising}
+use Rattle.epx_types.specs.Ids.{id_cmp}
 use Rattle.epx_types.specs.Keys.{FitsKey, key_cmp}
 use Rattle.epx_types.specs.Contents.{Contents}
 use Rattle.epx_types.specs.Instances.{Instance}
@@ -26,7 +26,6 @@ use Rattle.epx_types.specs.Reaching.{DependsOn, IsPath, Reaches}
 use Rattle.epx_types.specs.Done.{remaining}
 use Rattle.epx_types.specs.ExecutionOrder.{Ranked, ranked_ids}
 use Rattle.epx_types.specs.WaitingLists.{Waiting, waiting_ids}
-use Rattle.epx_types.proofs.lists.ComparisonLemmas.{id_cmp_total}
 use Rattle.epx_types.proofs.remaining.RemainingLemmas.{Contains-remaining_iff, DependsOn-remaining}
 use Rattle.epx_types.proofs.remaining.RemainingLemmas.{from_remaining}
 use Rattle.epx_types.proofs.orders.ExecutionOrderLemmas.{IsExecutionOrder-IsLawful}
@@ -34,9 +33,8 @@ use Rattle.epx_types.proofs.keys.KeyListLemmas.{key_cmp_total}
 use Rattle.epx_types.proofs.lists.MembershipLemmas.{Contains-nil, Contains-head, Contains-cons}
 use Rattle.epx_types.proofs.lists.MembershipLemmas.{Contains-cons_cases, Contains-from_map}
 use Rattle.epx_types.proofs.lists.MembershipLemmas.{Contains-from_flat_map}
-use Rattle.epx_types.proofs.lists.RisingIdLemmas.{AllPairs-from_IsRising}
+use Rattle.epx_types.proofs.lists.RisingIdLemmas.{rising_once}
 use Rattle.epx_types.proofs.keys.SortedEntryLemmas.{same_key, find_below, first_of, second_of}
-use Rattle.epx_types.proofs.lists.TotalOrderLemmas.{below_irrefl}
 use Rattle.epx_lines.specs.Lines.{lines_of}
 use Rattle.epx_lines.specs.Meaning.{meaning_of}
 use Rattle.epx_lines.specs.declared.Line.{Line}
@@ -150,12 +148,6 @@ zip_fits [] replies h k = tt
 zip_fits (x ∷ ids) [] h k = tt
 zip_fits (x ∷ ids) (r ∷ replies) h k = ((h.0, k.0), zip_fits ids replies h.1 k.1)
 
-distinct : (xs : List Id) → IsRising xs → AllPairs (λ x y. x ≢ y) xs
-distinct xs rising i j d l k same =
-    let below = AllPairs-from_IsRising xs rising i j d l k in
-    let x = get_or xs i d in
-    below_irrefl id_cmp_total x (subst (λ y. Below x y) (sym same) below)
-
 CommandFits : Instance → Type 0
 CommandFits e = FitsCommand e.ops
 
@@ -229,7 +221,7 @@ module _ (done : List Id) (stored : Contents) (m : List Instance) (text : List �
       let within : (x : Id) → Contains ids x → Contains (ids_of left) x = λ x c.
       let w = Contains-from_map (λ (w : Waiting). w.id) p.waiting x c in
       subst (Contains (ids_of left)) w.2 (p.listed.waits w.0 w.1).committed in
-      let few = fewer ids (ids_of left) (distinct ids p.listed.rising) within in
+      let few = fewer ids (ids_of left) (rising_once ids p.listed.rising) within in
       let waiting = length-map p.waiting (λ (w : Waiting). w.id) in
       omega (arith, few, waiting, length-map left (λ (e : Instance). e.id))
 

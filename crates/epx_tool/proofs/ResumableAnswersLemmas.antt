@@ -17,6 +17,7 @@ use Rattle.epx_types.proofs.remaining.RemainingLemmas.{remaining-nil}
 use Rattle.epx_types.proofs.orders.ExecutionOrderLemmas.{IsExecutionOrder-IsLawful}
 use Rattle.epx_types.proofs.lists.MembershipLemmas.{Contains-nil, Contains-head, Contains-cons}
 use Rattle.epx_types.proofs.lists.MembershipLemmas.{Contains-cons_cases}
+use Rattle.epx_types.proofs.lists.RisingIdLemmas.{same_ids}
 use Rattle.epx_types.proofs.remaining.ResumedExecutionLemmas.{IsSound-nothing_done}
 use Rattle.epx_types.proofs.remaining.ResumedExecutionLemmas.{IsSound-resumed, IsSound-final}
 use Rattle.epx_types.proofs.remaining.ResumedExecutionLemmas.{reply-resumed}
@@ -24,7 +25,6 @@ use Rattle.epx_merge.specs.Acceptance.{IsAccepted}
 use Rattle.epx_merge.proofs.UniquenessLemmas.{accepted_unique}
 use Rattle.epx_report.specs.Bases.{IsBase}
 use Rattle.epx_report.proofs.BaseRangeLemmas.{FitsBase, base_fits, empty_fits}
-use Rattle.epx_report.proofs.RisingListLemmas.{same_ids}
 use Rattle.epx_report.proofs.BaseLemmas.{base_says_one_thing}
 use Rattle.epx_report.proofs.ReportBaseLemmas.{done_after_exists}
 use Rattle.epx_tool.specs.ResumedReport.{IsReportAfter}

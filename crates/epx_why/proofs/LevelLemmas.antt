@@ -1,7 +1,7 @@
 -- The search level by level finds the distance of each node.
 use Rattle.std.proofs.Common.{◌≡◌, ◌⊎◌, inl, inr, ℕ, zero, suc, ◌+◌, ◌<◌, ◌≤◌, true, false, not}
 use Rattle.std.proofs.Common.{cond, List, [], ◌∷◌, ◌++◌, length, take, drop, get_or, set, replicate}
-use Rattle.std.proofs.Common.{Option, Some, None, is_some, All, Contains, flat_map, count_by, refl}
+use Rattle.std.proofs.Common.{Option, Some, None, is_some, All, Contains, flat_map, count_by}
 use Rattle.std.proofs.Common.{sym}
 use Rattle.std.proofs.Common.{ap, subst, ◌∙◌, arith}
 use Rattle.std.proofs.lemmas.Bool.{cases_lt, cases_eq}
@@ -16,19 +16,12 @@ use Rattle.std.proofs.lemmas.List.Sums.{sum_by-set, count_by-le-length}
 use Rattle.epx_types.proofs.lists.MembershipLemmas.{Contains-nil, Contains-head}
 use Rattle.epx_types.proofs.lists.MembershipLemmas.{Contains-cons_cases, Contains-flat_map}
 use Rattle.epx_types.proofs.lists.MembershipLemmas.{Contains-from_flat_map}
+use Rattle.epx_types.proofs.lists.SearchLemmas.{value_of_some, none_from_test}
 use Rattle.epx_rows.specs.Rows.{row_of}
 use Rattle.epx_why.specs.inner.NodeSteps.{LeadsIn, AreLeast, distance_at}
 use Rattle.epx_why.specs.inner.LevelSearches.{SearchView, steps_left, IsVisit, IsSearch}
 
 -- ---- one more target
-
-has_distance : (o : Option ℕ) → is_some o ≡ true → (n : ℕ) × (o ≡ Some n)
-has_distance None e = absurd (cc e)
-has_distance (Some n) e = (n, refl)
-
-has_none : (o : Option ℕ) → is_some o ≡ false → o ≡ None
-has_none None e = refl
-has_none (Some n) e = absurd (cc e)
 
 module _ (targets : List ℕ) (steps : ℕ) (old new : SearchView) (x : ℕ)
     (is : IsVisit targets steps old new) where
@@ -128,7 +121,7 @@ pub visit_skip : (targets : List ℕ) (i steps : ℕ) (old new : SearchView) (d 
     → i < length targets → d ≡ distance_at new.distances (get_or targets i 0) → is_some d ≡ true
     → IsVisit (take i targets) steps old new → IsVisit (take (i + 1) targets) steps old new
 visit_skip targets i steps old new d l at some is =
-    let has = has_distance d some in
+    let has = value_of_some d some in
     subst (λ (xs : List ℕ). IsVisit xs steps old new) (sym (take_more targets i 0 l))
     (visits_skip (take i targets) steps old new (get_or targets i 0) is has.0 (sym at ∙ has.1))
 
@@ -147,7 +140,7 @@ visit_more targets i steps old new d l at none within is =
     } in
     subst (λ (xs : List ℕ). IsVisit xs steps old after) (sym (take_more targets i 0 l))
     (visits_more (take i targets) steps old new (get_or targets i 0) is
-    (sym at ∙ has_none d none) within)
+    (sym at ∙ none_from_test d none) within)
 
 -- ---- the targets of one more node
 

@@ -12,14 +12,13 @@ use Rattle.epx_types.specs.declared.id.Id.{Id}
 use Rattle.epx_types.specs.Ids.{Below, IsRising}
 use Rattle.epx_types.specs.Instances.{Instance}
 use Rattle.epx_types.specs.CommittedMap.{IsCommitted}
-use Rattle.epx_types.proofs.lists.MembershipLemmas.{Contains-nil, Contains-from_map}
-use Rattle.epx_types.proofs.lists.MembershipLemmas.{Contains-cons_cases}
-use Rattle.epx_types.proofs.lists.ListPositionLemmas.{AllPairs-append}
-use Rattle.epx_types.proofs.lists.RisingIdLemmas.{AllPairs-from_IsRising, IsRising-from_AllPairs}
+use Rattle.epx_types.proofs.lists.MembershipLemmas.{Contains-from_map}
+use Rattle.epx_types.proofs.lists.RisingIdLemmas.{IsRising-push}
 use Rattle.epx_graph.specs.Graphs.{DependencyGraph, edges_of, IsGraph}
 use Rattle.epx_graph.specs.GraphOf.{IsGraphOf}
 use Rattle.epx_graph.proofs.GraphNodeLemmas.{committed_order, missing_order}
-use Rattle.epx_graph.proofs.MapPathLemmas.{node_committed, reached_node, node_of_committed}
+use Rattle.epx_graph.proofs.MapPathLemmas.{reached_node, node_of_committed}
+use Rattle.epx_graph.proofs.MapPathLemmas.{missing_number, missing_id}
 use Rattle.epx_why.specs.declared.need.Need.{Need}
 use Rattle.epx_why.specs.Distances.{IsDistance}
 use Rattle.epx_why.specs.Needs.{AreNeedsOf, AreNeeding}
@@ -28,17 +27,6 @@ use Rattle.epx_why.specs.inner.NodeSteps.{distance_at}
 use Rattle.epx_why.specs.inner.NodeNeeds.{IsNeedAt, AreNeedsIn}
 use Rattle.epx_why.proofs.MapStepLemmas.{distance_is, distance_leads, AreLeast-fewest}
 use Rattle.epx_why.proofs.MapStepLemmas.{AreLeast-known, IsPath-start_committed}
-
--- an Id at the end of rising ones
-IsRising-push : (xs : List Id) (z : Id) → IsRising xs → ((x : Id) → Contains xs x → Below x z)
-    → IsRising (xs ++ z ∷ [])
-IsRising-push xs z rising below =
-    IsRising-from_AllPairs (xs ++ z ∷ []) (AllPairs-append Below xs (z ∷ [])
-    (AllPairs-from_IsRising xs rising) (AllPairs-from_IsRising (z ∷ []) (tt, tt))
-    (λ x y h last. elim (Contains-cons_cases z [] y last) [
-      | inl same ↦ subst (Below x) same (below x h)
-      | inr none ↦ absurd (Contains-nil y none)
-    ]))
 
 module _ (g : DependencyGraph) (distances : List (Option ℕ)) (start : ℕ) where
   -- a node without a distance
@@ -111,17 +99,6 @@ needs_along g ds es start from end to needs same first last are =
 
 module _ (m : List Instance) (g : DependencyGraph) (is : IsGraphOf m g) (k : ℕ) (x : Id)
     (at : slice_get g.ids k ≡ Some x) where
-  missing_number : (j : ℕ) (y : Id) → slice_get g.ids j ≡ Some y → ¬ IsCommitted m y
-      → g.committed ≤ j
-  missing_number j y to missing =
-      elim (cases_lt j g.committed) [
-        | inl l ↦ absurd (missing ((node_committed m g is j y to).0 l))
-        | inr past ↦ past
-      ]
-
-  missing_id : (j : ℕ) (y : Id) → slice_get g.ids j ≡ Some y → g.committed ≤ j → ¬ IsCommitted m y
-  missing_id j y to past h = let l = (node_committed m g is j y to).1 h in absurd (omega arith)
-
   -- the missing instances that a committed one reaches
   pub needs_of_node : (distances : List (Option ℕ)) (needs : List Need) → k < g.committed
       → AreDistancesFrom g k distances
@@ -131,7 +108,7 @@ module _ (m : List Instance) (g : DependencyGraph) (is : IsGraphOf m g) (k : ℕ
         let from = are.from n h in
         let j = from.0 in
         let apart : k ≢ j = λ same. absurd (omega (arith, from.1)) in (
-          missing_id j n.id from.3.id from.1,
+          missing_id m g is j n.id from.3.id from.1,
           distance_is m g is k j x n.id at from.3.id apart n.steps
               (known.leads j n.steps from.3.steps)
               (AreLeast-fewest (λ i c. LeadsTo (edges_of g) k i c) (length g.ids) distances known j
@@ -145,7 +122,7 @@ module _ (m : List Instance) (g : DependencyGraph) (is : IsGraphOf m g) (k : ℕ
     there y steps missing d =
         let node = reached_node m g is k x y at (inr (d.via, d.path)) in
         let j = node.0 in
-        let past = missing_number j y node.1 missing in
+        let past = missing_number m g is j y node.1 missing in
         let apart : k ≢ j = λ same. absurd (omega (arith, past)) in
         let leads = distance_leads m g is k j x y at node.1 apart steps d in
         are.whole j (record { id = y; steps = steps }) past (slice_get_within g.ids j y node.1)

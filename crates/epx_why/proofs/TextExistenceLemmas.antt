@@ -18,7 +18,8 @@ use Rattle.epx_types.proofs.lists.RisingIdLemmas.{IsRising-from_AllPairs}
 use Rattle.epx_types.proofs.lists.RisingListLemmas.{rising_list}
 use Rattle.epx_types.proofs.lists.SearchLemmas.{some_or_none, least_or_none}
 use Rattle.epx_types.proofs.graph.ReachingDecisionLemmas.{both_cases, Reaches-cases}
-use Rattle.epx_types.proofs.graph.WaitingLemmas.{Id-cases, Contains-Id_cases}
+use Rattle.epx_types.proofs.graph.ReachingDecisionLemmas.{DependsOn-cases}
+use Rattle.epx_types.proofs.graph.WaitingLemmas.{Contains-Id_cases}
 use Rattle.epx_types.proofs.orders.ExecutionOrderLemmas.{IsExecutionOrder-ranked}
 use Rattle.epx_types.proofs.orders.OrderExistenceLemmas.{execution_order_exists}
 use Rattle.epx_types.proofs.orders.RankExistenceLemmas.{ready_or_waits}
@@ -66,14 +67,6 @@ module _ (P : ℕ → Type 0) (decide : (k : ℕ) → P k ⊎ (¬ P k)) where
 -- ---- paths
 
 module _ (m : List Instance) where
-  depends_cases : (x y : Id) → DependsOn m x y ⊎ (¬ DependsOn m x y)
-  depends_cases x y =
-      elim (some_or_none (λ e. (e.id ≡ x) × Contains e.deps y)
-      (λ e. both_cases (Id-cases e.id x) (Contains-Id_cases e.deps y)) m) [
-        | inl found ↦ inl (found.0, found.1, found.2.0, found.2.1)
-        | inr none ↦ inr (λ d. none d.0 d.1 (d.2, d.3))
-      ]
-
   all_deps : List Id
   all_deps = flat_map (λ e. e.deps) m
 
@@ -88,7 +81,7 @@ module _ (m : List Instance) where
   path_cases : (x y : Id) → ((via : List Id) × IsPath m x via y) ⊎ HasNoPath m x y
   path_cases x y =
       elim (some_or_none (λ z. DependsOn m x z × Reaches m z y)
-      (λ z. both_cases (depends_cases x z) (Reaches-cases m z y)) all_deps) [
+      (λ z. both_cases (DependsOn-cases m x z) (Reaches-cases m z y)) all_deps) [
         | inl found ↦ inl (by found.0 found.2.0 found.2.1)
         | inr none ↦ inr (no_path none)
       ]
@@ -144,7 +137,7 @@ module _ (m : List Instance) where
 
     first_of : (n : ℕ) (x : Id) → ((via : List Id) × IsFirstOf n x via) ⊎ (¬ HasPathOf n x)
     first_of zero x =
-        elim (depends_cases x y) [
+        elim (DependsOn-cases m x y) [
           | inl d ↦ inl ([], record { path = d; long = refl; first = first })
           | inr none ↦ inr (λ h. no_path none h.0 h.1 h.2)
         ]
@@ -159,7 +152,7 @@ module _ (m : List Instance) where
         no_path none (z ∷ via) path long = omega arith
     first_of (suc n) x =
         elim (least_or_none (λ z. DependsOn m x z × HasPathOf n z)
-        (λ z. both_cases (depends_cases x z) (has_cases n z (first_of n z))) all_deps) [
+        (λ z. both_cases (DependsOn-cases m x z) (has_cases n z (first_of n z))) all_deps) [
           | inl found ↦ elim (first_of n found.0) [
             | inl first ↦ inl (
               found.0 ∷ first.0,

@@ -41,3 +41,7 @@ ops_decide a b = (
 
 pub ids_decide : (a b : Id) → Decides (id_eq.eq-value.it a b) (a ≡ b)
 ids_decide a b = (λ h. grind (arith, nat_tests), λ e. grind (arith, nat_tests))
+
+-- Ids compare alike both ways
+pub ids_flip : (a b : Id) → id_eq.eq-value.it a b ≡ id_eq.eq-value.it b a
+ids_flip a b = grind (arith, nat_tests)

@@ -24,7 +24,7 @@ not_cases (inl a) = inr (λ none. none a)
 not_cases (inr none) = inl none
 
 module _ (m : List Instance) where
-  DependsOn-cases : (x y : Id) → DependsOn m x y ⊎ (¬ DependsOn m x y)
+  pub DependsOn-cases : (x y : Id) → DependsOn m x y ⊎ (¬ DependsOn m x y)
   DependsOn-cases x y =
       elim (some_or_none (λ e. (e.id ≡ x) × Contains e.deps y)
       (λ e. both_cases (Id-cases e.id x) (Contains-Id_cases e.deps y)) m) [

@@ -18,7 +18,7 @@ use Rattle.epx_types.proofs.lists.ComparisonLemmas.{id_cmp_total, id_cmp-IsAntis
 
 -- ---- induction over smaller Ids
 
-Below-parts : (x y : Id) → Below x y → (x.replica < y.replica)
+pub Below-parts : (x y : Id) → Below x y → (x.replica < y.replica)
     ⊎ ((x.replica ≡ y.replica) × (x.number < y.number))
 Below-parts x y l = by (nat_cmp x.replica y.replica) (nat_cmp x.number y.number)
     (ranked x.replica y.replica _ refl) (ranked x.number y.number _ refl) l where

@@ -174,7 +174,7 @@ module _ (levels : List ℕ) where
           (by positions (λ j h. has j (Contains-cons i positions j h))
           (AllPairs-tail (λ k m. k < m) i positions rises))
 
-  by_level-distinct : (l : ℕ) → AllPairs (λ i j. i ≢ j) (by_level levels l)
+  pub by_level-distinct : (l : ℕ) → AllPairs (λ i j. i ≢ j) (by_level levels l)
   by_level-distinct l i j d less within e =
       elim (by_level-lower l i j d less within) [
         | inl lower ↦ let same : slice_index levels (get_or (by_level levels l) i d)

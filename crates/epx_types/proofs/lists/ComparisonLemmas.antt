@@ -1,8 +1,10 @@
 -- The orders of Ids, places and ranks are total, and only equal values compare as equal.
-use Rattle.std.proofs.Common.{◌≡◌, Ordering, Less, Equal, Greater, refl}
-use Rattle.std.specs.Ordering.{nat_cmp, ordering_then}
-use Rattle.std.specs.Cmp.{IsTotalOrder, nat_cmp_total, on_total, then_total}
+use Rattle.std.proofs.Common.{◌≡◌, ◌∙◌, Ordering, Less, Equal, Greater, refl, sym, ap}
+use Rattle.std.specs.Bool.{Decides}
+use Rattle.std.specs.Ordering.{nat_cmp, ordering_then, is_eq, eq_by_cmp}
+use Rattle.std.specs.Cmp.{IsTotalOrder, nat_cmp_total, on_total, then_total, Equal-is, tied_itself}
 use Rattle.std.specs.FinMap.{IsAntisymmetric, nat_cmp-IsAntisymmetric}
+use Rattle.epx_types.specs.declared.id.Id.{Id}
 use Rattle.epx_types.specs.Ids.{id_cmp}
 use Rattle.epx_types.specs.PlacedLines.{place_cmp}
 use Rattle.epx_types.specs.ExecutionOrder.{rank_cmp}
@@ -29,6 +31,13 @@ id_cmp-IsAntisymmetric x y e =
     let replica = nat_cmp-IsAntisymmetric x.replica y.replica (first_is_equal _ _ e) in
     let number = nat_cmp-IsAntisymmetric x.number y.number (second_is_equal _ _ e) in
     λ i. record { replica = replica i; number = number i }
+
+-- so the test for `Equal` decides equality
+pub id_cmp-Decides : (x y : Id) → Decides (eq_by_cmp id_cmp x y) (x ≡ y)
+id_cmp-Decides x y = (
+  λ e. id_cmp-IsAntisymmetric x y ((Equal-is (id_cmp x y)).0 e),
+  λ e. ap (λ z. is_eq (id_cmp x z)) (sym e) ∙ ap is_eq (tied_itself id_cmp_total x),
+)
 
 -- the order of places is total
 pub place_cmp_total : IsTotalOrder place_cmp

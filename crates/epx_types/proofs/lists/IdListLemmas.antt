@@ -1,7 +1,7 @@
 -- Ids sorted and each kept once, and found by binary search in a list by rising Id.
-use Rattle.std.proofs.Common.{◌≡◌, ◌↔◌, inl, inr, ℕ, ◌+◌, true, List, [], ◌∷◌, get_or, Contains}
+use Rattle.std.proofs.Common.{◌≡◌, ◌↔◌, inl, inr, ℕ, ◌+◌, List, [], ◌∷◌, get_or, Contains}
 use Rattle.std.proofs.Common.{Less, Equal, Greater, sym, ap, subst, ◌∙◌, arith}
-use Rattle.std.specs.Cmp.{Equal-is, IsEquivalence, tied_itself, eq_by_cmp_equiv}
+use Rattle.std.specs.Cmp.{IsEquivalence, tied_itself, eq_by_cmp_equiv}
 use Rattle.std.specs.List.{AllByRecursion, dedup}
 use Rattle.std.specs.List.Retain.{IsFiltered, DiffersFromLast}
 use Rattle.std.specs.List.Sorted.{IsSorted, IsPermutation, IsStrictlySortedBy, IsNonDecreasingBy}
@@ -17,13 +17,14 @@ use Rattle.std.proofs.lemmas.List.Sorted.{searchable_from_sorted}
 use Rattle.epx_types.specs.declared.id.Id.{Id}
 use Rattle.epx_types.specs.contracts.id.IdPartialEq.TheImpl as id_eq
 use Rattle.epx_types.specs.Ids.{id_cmp, Below, BelowAll, IsRising}
-use Rattle.epx_types.proofs.lists.ComparisonLemmas.{id_cmp_total, id_cmp-IsAntisymmetric}
+use Rattle.epx_types.proofs.lists.ComparisonLemmas.{id_cmp_total}
 use Rattle.epx_types.proofs.lists.RisingIdLemmas.{AllPairs-from_IsRising}
 use Rattle.epx_types.proofs.lists.TotalOrderLemmas.{below_asymm}
+use Rattle.epx_types.proofs.commands.EqualityLemmas.{ids_decide}
 
 -- ---- sorted, and each once
 
-rising_from_strict : (xs : List Id) → IsStrictlySortedBy id_cmp xs → IsRising xs
+pub rising_from_strict : (xs : List Id) → IsStrictlySortedBy id_cmp xs → IsRising xs
 unfolding IsStrictlySortedBy
 rising_from_strict [] h = tt
 rising_from_strict (x ∷ xs) h = (below_all xs h.0, rising_from_strict xs h.1) where
@@ -52,9 +53,6 @@ each_kept gathered sorted ids moved sorts filtered =
       ),
     )
   where
-    same : (x y : Id) → id_eq.eq-value.it x y ≡ true → x ≡ y
-    same x y t = id_cmp-IsAntisymmetric x y ((Equal-is (id_cmp x y)).0 (sym (ids_tie x y) ∙ t))
-
     equal : IsEquivalence id_eq.eq-value.it
     equal =
         let by_cmp = eq_by_cmp_equiv id_cmp_total in
@@ -66,11 +64,12 @@ each_kept gathered sorted ids moved sorts filtered =
         }
 
     keeps : (xs : List Id) (x : Id) → Contains xs x → Contains (dedup id_eq.eq-value.it xs) x
-    keeps xs x h = Contains-dedup {E = id_eq.eq-value.it} equal same xs x h
+    keeps xs x h =
+        Contains-dedup {E = id_eq.eq-value.it} equal (λ y z. (ids_decide y z).0) xs x h
 
 -- ---- found by binary search
 
-sorted_from_rising : (xs : List Id) → IsRising xs → IsSorted id_cmp xs
+pub sorted_from_rising : (xs : List Id) → IsRising xs → IsSorted id_cmp xs
 sorted_from_rising xs rising k d low l =
     let below : Below (get_or xs k d) (get_or xs (k + 1) d) =
     AllPairs-from_IsRising xs rising k (k + 1) d (omega arith) l in

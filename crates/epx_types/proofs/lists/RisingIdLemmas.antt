@@ -1,19 +1,22 @@
 -- Rising Ids, by neighbours and by pairs of positions.
 use Rattle.std.proofs.Common.{◌≡◌, ◌<◌, ◌+◌, ℕ, suc, List, [], ◌∷◌, length, get_or, map, All}
-use Rattle.std.proofs.Common.{AllPairs, Contains, subst, arith}
+use Rattle.std.proofs.Common.{AllPairs, Contains, Some, slice_get, ◌≢◌, ◌++◌, subst, inl, inr}
+use Rattle.std.proofs.Common.{arith}
 use Rattle.std.specs.List.{AllAdjacentBelow}
+use Rattle.std.proofs.lemmas.Bool.{cases_lt}
 use Rattle.std.proofs.lemmas.List.Elements.{All-nil, All-cons}
 use Rattle.std.proofs.lemmas.List.Kept.{AllPairs-cons}
 use Rattle.epx_types.specs.declared.id.Id.{Id}
 use Rattle.epx_types.specs.Ids.{Below, BelowAll, IsRising}
-use Rattle.epx_types.proofs.lists.MembershipLemmas.{Contains-head, Contains-cons}
+use Rattle.epx_types.proofs.lists.MembershipLemmas.{Contains-nil, Contains-head, Contains-cons}
+use Rattle.epx_types.proofs.lists.MembershipLemmas.{Contains-cons_cases}
 use Rattle.epx_types.proofs.lists.ListPositionLemmas.{slice_get-map, AllPairs-slice_get}
 use Rattle.epx_types.proofs.lists.ListPositionLemmas.{AllPairs-from_slice_get, AllPairs-head}
-use Rattle.epx_types.proofs.lists.ListPositionLemmas.{AllPairs-tail}
-use Rattle.epx_types.proofs.lists.TotalOrderLemmas.{below_trans}
+use Rattle.epx_types.proofs.lists.ListPositionLemmas.{AllPairs-tail, AllPairs-append}
+use Rattle.epx_types.proofs.lists.TotalOrderLemmas.{below_irrefl, below_trans, same_rising}
 use Rattle.epx_types.proofs.lists.ComparisonLemmas.{id_cmp_total}
 
-BelowAll-trans : (x y : Id) (zs : List Id) → Below x y → BelowAll y zs → BelowAll x zs
+pub BelowAll-trans : (x y : Id) (zs : List Id) → Below x y → BelowAll y zs → BelowAll x zs
 BelowAll-trans x y [] l h = tt
 BelowAll-trans x y (z ∷ zs) l h =
     (below_trans id_cmp_total x y z l h.0, BelowAll-trans x y zs l h.1)
@@ -71,3 +74,48 @@ IsRising-from_neighbours (x ∷ y ∷ ys) h =
 pub IsRising-not : (xs : List Id) (i j : ℕ) (d : Id) → i < j → j < length xs
     → ¬ Below (get_or xs i d) (get_or xs j d) → ¬ IsRising xs
 IsRising-not xs i j d l k level rising = level (AllPairs-from_IsRising xs rising i j d l k)
+
+-- ---- one more Id, and positions
+
+-- an Id at the end of lower ones
+pub IsRising-push : (xs : List Id) (x : Id) → IsRising xs → ((y : Id) → Contains xs y → Below y x)
+    → IsRising (xs ++ x ∷ [])
+IsRising-push xs x rising below =
+    IsRising-from_AllPairs (xs ++ x ∷ []) (AllPairs-append Below xs (x ∷ [])
+    (AllPairs-from_IsRising xs rising) (AllPairs-from_IsRising (x ∷ []) (tt, tt))
+    (λ y z h last. elim (Contains-cons_cases x [] z last) [
+      | inl same ↦ subst (Below y) same (below y h)
+      | inr none ↦ absurd (Contains-nil z none)
+    ]))
+
+-- the lower of two positions has the lower Id
+pub rising_positions : (xs : List Id) → IsRising xs → (i j : ℕ) (x y : Id)
+    → slice_get xs i ≡ Some x → slice_get xs j ≡ Some y → i < j → Below x y
+rising_positions xs rising i j x y p q l =
+    AllPairs-slice_get Below xs (AllPairs-from_IsRising xs rising) i j x y l p q
+
+-- an Id has one position
+pub rising_position_is_one : (xs : List Id) → IsRising xs → (i j : ℕ) (x : Id)
+    → slice_get xs i ≡ Some x → slice_get xs j ≡ Some x → i ≡ j
+rising_position_is_one xs rising i j x p q =
+    elim (cases_lt i j) [
+      | inl l ↦ absurd (below_irrefl id_cmp_total x (rising_positions xs rising i j x x p q l))
+      | inr m ↦ elim (cases_lt j i) [
+        | inl l ↦ absurd (below_irrefl id_cmp_total x (rising_positions xs rising j i x x q p l))
+        | inr n ↦ omega arith
+      ]
+    ]
+
+-- no Id is there twice
+pub rising_once : (xs : List Id) → IsRising xs → AllPairs (λ x y. x ≢ y) xs
+rising_once xs rising = AllPairs-from_slice_get (λ x y. x ≢ y) xs (λ i j x y l p q same.
+    below_irrefl id_cmp_total y (subst (λ (z : Id). Below z y) same
+    (rising_positions xs rising i j x y p q l)))
+
+-- a rising list is determined by which Ids it has
+pub same_ids : (xs ys : List Id) → IsRising xs → IsRising ys
+    → ((x : Id) → Contains xs x → Contains ys x) → ((x : Id) → Contains ys x → Contains xs x)
+    → xs ≡ ys
+same_ids xs ys p q there back =
+    same_rising Below (below_irrefl id_cmp_total) (below_trans id_cmp_total) xs ys
+    (AllPairs-from_IsRising xs p) (AllPairs-from_IsRising ys q) there back

@@ -1,6 +1,6 @@
 -- Searching a finite list, and the numbers up to a bound, for a decidable property.
 use Rattle.std.proofs.Common.{◌≡◌, ◌⊎◌, ◌≤◌, ℕ, zero, suc, List, [], ◌∷◌, Contains, refl, sym}
-use Rattle.std.proofs.Common.{subst, inl, inr, arith}
+use Rattle.std.proofs.Common.{Option, Some, None, is_some, true, false, subst, inl, inr, arith}
 use Rattle.std.proofs.lemmas.Bool.{cases_lt}
 use Rattle.epx_types.specs.declared.id.Id.{Id}
 use Rattle.epx_types.specs.Ids.{Below, UpTo}
@@ -22,6 +22,15 @@ some_or_none P decide (y ∷ xs) =
             [ inl same ↦ not_here (subst P (sym same) p) | inr later ↦ none x later p ])
       ]
     ]
+
+-- an option that has a value, and one that has none
+pub value_of_some : {X : Type 0} (o : Option X) → is_some o ≡ true → (x : X) × (o ≡ Some x)
+value_of_some None e = absurd (cc e)
+value_of_some (Some x) e = (x, refl)
+
+pub none_from_test : {X : Type 0} (o : Option X) → is_some o ≡ false → o ≡ None
+none_from_test None e = refl
+none_from_test (Some x) e = absurd (cc e)
 
 -- if equality is decidable, membership in a list is decidable
 pub Contains-cases : {X : Type 0} → ((x y : X) → (x ≡ y) ⊎ (¬ (x ≡ y))) → (xs : List X) (x : X)

@@ -53,7 +53,7 @@ with_value_at-other {Y} x y v f not =
       by d = elim d [ inl same ↦ v | inr other ↦ f y ]
 
 -- the replies to a list without repeats, as a function of its elements
-reply_function : (ids : List Id) (replies : List Reply) → Once ids → length replies ≡ length ids
+pub reply_function : (ids : List Id) (replies : List Reply) → Once ids → length replies ≡ length ids
     → (f : Id → Reply) × (replies ≡ map f ids)
 reply_function [] [] once len = (λ x. Abort 0, refl)
 reply_function [] (r ∷ replies) once len = absurd (omega (arith, len))

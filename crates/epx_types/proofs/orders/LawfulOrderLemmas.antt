@@ -23,7 +23,7 @@ use Rattle.epx_types.proofs.lists.ComparisonLemmas.{first_is_equal, second_is_eq
 abbrev sequence_cmp : ℕ × Id → ℕ × Id → Ordering
 sequence_cmp a b = ordering_then (nat_cmp a.0 b.0) (id_cmp a.1 b.1)
 
-sequence_cmp_total : IsTotalOrder sequence_cmp
+pub sequence_cmp_total : IsTotalOrder sequence_cmp
 sequence_cmp_total = then_total (on_total (λ (a : ℕ × Id). a.0) nat_cmp_total)
     (on_total (λ (a : ℕ × Id). a.1) id_cmp_total)
 

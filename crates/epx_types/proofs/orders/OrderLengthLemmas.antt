@@ -1,33 +1,24 @@
 -- An execution order has no more instances than its map.
-use Rattle.std.proofs.Common.{◌≡◌, ◌≢◌, ◌≤◌, List, length, Contains, AllPairs, sym, ap, ◌∙◌, arith}
-use Rattle.std.specs.Bool.{Decides}
-use Rattle.std.specs.Ordering.{is_eq, eq_by_cmp}
-use Rattle.std.specs.Cmp.{Equal-is, tied_itself}
+use Rattle.std.proofs.Common.{◌≢◌, ◌≤◌, List, length, Contains, AllPairs, arith}
 use Rattle.std.proofs.lemmas.Cmp.{eq_by_cmp_equiv}
 use Rattle.std.proofs.lemmas.List.{length-map}
 use Rattle.std.proofs.lemmas.Map.Made.{length-le_from_is_member, is_member-Decides}
 use Rattle.std.proofs.lemmas.Map.Made.{IsDistinct-from_AllPairs}
 use Rattle.epx_types.specs.declared.id.Id.{Id}
-use Rattle.epx_types.specs.Ids.{id_cmp}
 use Rattle.epx_types.specs.Instances.{Instance}
 use Rattle.epx_types.specs.CommittedMap.{ids_of}
 use Rattle.epx_types.specs.ExecutionOrder.{Ranked, IsExecutionOrder, ranked_ids}
-use Rattle.epx_types.proofs.lists.ComparisonLemmas.{id_cmp_total, id_cmp-IsAntisymmetric}
+use Rattle.epx_types.proofs.lists.ComparisonLemmas.{id_cmp_total, id_cmp-Decides}
 use Rattle.epx_types.proofs.orders.ExecutionOrderLemmas.{IsExecutionOrder-IsLawful}
-
-same_id : (x y : Id) → Decides (eq_by_cmp id_cmp x y) (x ≡ y)
-same_id x y = (
-  λ e. id_cmp-IsAntisymmetric x y ((Equal-is (id_cmp x y)).0 e),
-  λ e. ap (λ z. is_eq (id_cmp x z)) (sym e) ∙ ap is_eq (tied_itself id_cmp_total x),
-)
 
 -- a list of distinct Ids that are all in another list is not longer than that list
 pub fewer : (xs ys : List Id) → AllPairs (λ x y. x ≢ y) xs
     → ((x : Id) → Contains xs x → Contains ys x) → length xs ≤ length ys
 fewer xs ys once within =
     length-le_from_is_member (eq_by_cmp_equiv id_cmp_total) xs ys
-    (IsDistinct-from_AllPairs same_id xs once)
-    (λ q h. (is_member-Decides same_id ys q).1 (within q ((is_member-Decides same_id xs q).0 h)))
+    (IsDistinct-from_AllPairs id_cmp-Decides xs once)
+    (λ q h. (is_member-Decides id_cmp-Decides ys q).1
+    (within q ((is_member-Decides id_cmp-Decides xs q).0 h)))
 
 pub ordered_are_few : (m : List Instance) (order : List Ranked) → IsExecutionOrder m order
     → length order ≤ length m

@@ -1,9 +1,9 @@
 -- The remaining map: its Ids, its instances and their dependencies.
-use Rattle.std.proofs.Common.{◌≡◌, ◌⊎◌, ◌↔◌, Bool, true, false, not, List, [], ◌∷◌, filter}
+use Rattle.std.proofs.Common.{◌≡◌, ◌⊎◌, ◌↔◌, true, false, not, List, [], ◌∷◌, filter}
 use Rattle.std.proofs.Common.{Contains, refl, sym, ap, ◌∙◌, subst, inl, inr}
 use Rattle.std.specs.Ordering.{eq_by_cmp}
 use Rattle.std.specs.Cmp.{eq_by_cmp_equiv, Equal-is}
-use Rattle.std.proofs.lemmas.Bool.{cases_Bool}
+use Rattle.std.proofs.lemmas.Bool.{cases_Bool, not-true}
 use Rattle.std.proofs.lemmas.List.Elements.{All-contains, filter_passes}
 use Rattle.std.proofs.lemmas.Map.Views.{Contains-from_any, list_any-from_Contains}
 use Rattle.epx_types.specs.declared.id.Id.{Id}
@@ -17,10 +17,6 @@ use Rattle.epx_types.proofs.lists.MembershipLemmas.{Contains-cons_cases, Contain
 use Rattle.epx_types.proofs.lists.MembershipLemmas.{Contains-from_map, Contains-filter}
 use Rattle.epx_types.proofs.lists.MembershipLemmas.{Contains-from_filter}
 use Rattle.epx_types.proofs.lists.ComparisonLemmas.{id_cmp_total, id_cmp-IsAntisymmetric}
-
-not_false : (b : Bool) → not b ≡ true → b ≡ false
-not_false true e = absurd (cc e)
-not_false false e = refl
 
 all_kept : {X : Type 0} (xs : List X) → filter (λ x. not false) xs ≡ xs
 all_kept [] = refl
@@ -126,7 +122,7 @@ module _ (done : List Id) where
       (filter_passes (λ i. not (is_among done i.id)) m) d.1 in (
         d.0,
         Contains-from_filter (λ i. not (is_among done i.id)) m d.0 d.1,
-        not_false (is_among done d.0.id) kept,
+        not-true (is_among done d.0.id) kept,
         d.2,
       )
 
@@ -154,7 +150,7 @@ module _ (done : List Id) where
         (filter_passes (λ z. not (is_among done z)) d.0.deps) among in (
           (d.0, d.1, same_id, Contains-from_filter (λ z. not (is_among done z)) d.0.deps y among),
           not_done x (ap (is_among done) (sym same_id) ∙ d.2),
-          not_done y (not_false (is_among done y) kept),
+          not_done y (not-true (is_among done y) kept),
         )
 
     back : DependsOn m x y × (¬ Contains done x) × (¬ Contains done y)

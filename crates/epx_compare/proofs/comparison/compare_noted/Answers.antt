@@ -3,9 +3,9 @@ use Rattle.std.proofs.Common.{arith}
 use Rattle.epx_types.specs.Limits.{max_instances}
 use Rattle.epx_merge.specs.LogLines.{bad_lines_of, placed_of}
 use Rattle.epx_compare.specs.Comparisons.{comparison_text, findings_text}
-use Rattle.epx_compare.proofs.ComparisonLawLemmas.{named_unique}
 use Rattle.epx_compare.proofs.NamedLemmas.{catalog_names}
 use Rattle.epx_compare.proofs.comparison.compare_noted.Goals as goal
+use Rattle.epx_committed.proofs.InstanceCountLemmas.{named_unique}
 
 pub returns-then-ids-gt-MAX_INSTANCES : goal.returns-then-ids-gt-MAX_INSTANCES
 returns-then-ids-gt-MAX_INSTANCES c = λ logs noted.

@@ -2,8 +2,9 @@ use Rattle.std.proofs.Common.{◌≡◌, ◌-◌, get_or, sym, ◌∙◌, refl, 
 use Rattle.epx_graph.specs.Graphs.{edges_of}
 use Rattle.epx_graph.specs.NodePaths.{NodeReaches}
 use Rattle.epx_components.proofs.NodePathLemmas.{reaches_itself, reaches_edge, reaches_on}
-use Rattle.epx_audit.proofs.ReachIndexLemmas.{equal_ids, chain_next, chain_on}
+use Rattle.epx_audit.proofs.ReachIndexLemmas.{chain_next, chain_on}
 use Rattle.epx_audit.proofs.reach_index.Chain.next.Goals as goal
+use Rattle.epx_types.proofs.commands.EqualityLemmas.{ids_decide}
 
 pub returns-then-eq : goal.returns-then-eq
 returns-then-eq c =
@@ -14,7 +15,7 @@ returns-then-eq c =
     let r = c.component_of.ensures in
     let s = c.component_of-2.ensures in
     let same : c.component_of.result ≡ c.component_of-2.result =
-    equal_ids c.component_of.result c.component_of-2.result
+    (ids_decide c.component_of.result c.component_of-2.result).0
     (sym c.eq.ensures ∙ c.if-eq.true) in
     let leaders : r.0.leader ≡ s.0.leader = r.2 ∙ (same ∙ sym s.2) in
     let up : NodeReaches edges (get_or nodes (n - 1) 0) (get_or nodes n 0) =
