@@ -4,8 +4,7 @@ ghost use Rattle.epx_types.specs.CommandKeys.{touched_keys, written_keys};
 ghost use Rattle.epx_audit.specs.inner.NodeConflicts.{keys_of, KeysConflict};
 
 use epx_committed::Merged;
-use epx_txn::{touched, written};
-use epx_types::{Key, Memory, Op};
+use epx_types::{Key, Memory, Op, touched, written};
 use std::alloc::Global;
 use std::marker::Model;
 

@@ -7,7 +7,6 @@ pub mod DraftLemmas
 pub mod KeySlotLemmas
 pub mod EvaluationLemmas
 pub mod MergeLemmas
-pub mod BorrowedKeyLemmas
 pub mod ShardLookupLemmas
 pub mod ShardWriteLemmas
 pub mod UniqueKeyLemmas

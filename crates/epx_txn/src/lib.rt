@@ -8,7 +8,6 @@ pub mod effect;
 pub mod evaluation;
 mod few_writes;
 mod key_map;
-pub mod keys;
 mod lone_op;
 pub mod merge;
 mod ranges;
@@ -18,7 +17,7 @@ pub mod store;
 mod tournament;
 
 pub use effect::{Effect, Writes};
+pub use epx_types::{touched, written};
 pub use evaluation::{apply, apply_with_room, eval, reply_len};
-pub use keys::{touched, written};
 pub use merge::merge_effects;
 pub use store::Store;

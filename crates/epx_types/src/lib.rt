@@ -4,6 +4,7 @@
 #![tactic(auto)]
 
 pub mod command;
+pub mod command_keys;
 pub mod entry;
 pub mod fault;
 pub mod id;
@@ -21,6 +22,7 @@ mod short_text;
 pub mod small_list;
 
 pub use command::Command;
+pub use command_keys::{touched, written};
 pub use entry::Entry;
 pub use fault::{Fault, Why};
 pub use id::Id;

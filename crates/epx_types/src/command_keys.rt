@@ -4,7 +4,9 @@ ghost use Rattle.std.specs.BTreeSet.{insert_key};
 ghost use Rattle.epx_types.specs.Keys.{key_cmp, add_keys};
 ghost use Rattle.epx_types.specs.CommandKeys.{touched_by, written_by, touched_keys, written_keys};
 
-use epx_types::{Access, Key, Memory, Op};
+use crate::key::Key;
+use crate::memory::Memory;
+use crate::op::{Access, Op};
 use std::alloc::Global;
 use std::collections::BTreeSet;
 
