@@ -6,7 +6,7 @@ use crate::sequence::explain_sequence;
 use crate::stranger::explain_stranger;
 use crate::verdict_line::read_verdict;
 use epx_committed::Merged;
-use epx_order::OrderFault;
+use epx_ranking::OrderFault;
 use epx_types::{Memory, Plan};
 use std::alloc::Global;
 use std::thread::Threads;

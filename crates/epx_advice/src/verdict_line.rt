@@ -1,6 +1,6 @@
 //! Reads the line of a verdict.
 use epx_lines::{read_id_parts, read_json, read_number};
-use epx_order::OrderFault;
+use epx_ranking::OrderFault;
 use epx_types::Memory;
 use serde_json::Value;
 use std::alloc::Global;

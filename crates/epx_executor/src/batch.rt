@@ -17,7 +17,7 @@ use crate::done_runs::DoneRuns;
 use epx_committed::Merged;
 use epx_components::OrderList;
 use epx_graph::build_after;
-use epx_order::order;
+use epx_ranking::order;
 use epx_types::id_list::sort_unique;
 use epx_types::{Entry, Fault, Id, Memory, Plan};
 use std::alloc::Global;

@@ -1,5 +1,4 @@
-pub mod OrderFaults
-pub mod OrderFaultLaws
-pub mod BeginningFaults
-pub mod BeginningFaultLaws
-pub mod inner
+pub use Rattle.epx_ranking.specs.OrderFaults
+pub use Rattle.epx_ranking.specs.OrderFaultLaws
+pub use Rattle.epx_ranking.specs.BeginningFaults
+pub use Rattle.epx_ranking.specs.BeginningFaultLaws

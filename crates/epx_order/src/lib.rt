@@ -4,14 +4,6 @@
 //! the protocol allows. `audit` checks that any two ready instances that conflict are related.
 #![tactic(auto)]
 
-mod check;
-mod execution_order;
-pub mod laws;
-mod order_fault;
-mod ready;
-
-pub use check::{check_order, check_prefix};
 pub use epx_audit::audit;
 pub use epx_components::{ComponentMap, OrderList, components};
-pub use execution_order::order;
-pub use order_fault::OrderFault;
+pub use epx_ranking::{OrderFault, check_order, check_prefix, laws, order};

@@ -11,9 +11,9 @@ use Rattle.epx_types.proofs.orders.ExecutionOrderLemmas.{IsExecutionOrder-IsLawf
 use Rattle.epx_merge.specs.Acceptance.{IsAccepted}
 use Rattle.epx_report.specs.Lists.{IsList}
 use Rattle.epx_report.specs.ViewLines.{lawful_line}
-use Rattle.epx_order.specs.OrderFaults.{HasAllReady}
-use Rattle.epx_order.proofs.BeginningLemmas.{beginning_from_lawful, lawful_from_beginning}
-use Rattle.epx_order.proofs.BeginningLemmas.{order_fault_from, beginning_fault_from}
+use Rattle.epx_ranking.specs.OrderFaults.{HasAllReady}
+use Rattle.epx_ranking.proofs.BeginningLemmas.{beginning_from_lawful, lawful_from_beginning}
+use Rattle.epx_ranking.proofs.BeginningLemmas.{order_fault_from, beginning_fault_from}
 use Rattle.epx_tool.specs.declared.question.InputQuestion.TheVariants.{CheckPrefix}
 use Rattle.epx_tool.specs.CheckLaws.{LawfulTextMeansBeginning, LawfulBeginningRepliesAlike}
 use Rattle.epx_tool.specs.CheckLaws.{WholeListsAreAnsweredAlike}

@@ -8,15 +8,15 @@ use Rattle.epx_types.specs.Ids.{IsRising}
 use Rattle.epx_types.specs.Instances.{Instance}
 use Rattle.epx_types.specs.LawfulBeginnings.{IsLawfulBeginning}
 use Rattle.epx_types.specs.LawfulOrders.{IsLawful}
-use Rattle.epx_order.specs.declared.order_fault.OrderFault.{OrderFault}
-use Rattle.epx_order.specs.declared.order_fault.OrderFault.TheVariants.{Memory, Stranger, Repeat}
-use Rattle.epx_order.specs.declared.order_fault.OrderFault.TheVariants.{Missing, Early, Sequence}
-use Rattle.epx_order.specs.BeginningFaults.{IsBeginningFault}
-use Rattle.epx_order.specs.OrderFaults.{IsOrderFault}
-use Rattle.epx_order.proofs.BeginningFaultLemmas as beginning
-use Rattle.epx_order.proofs.BeginningLemmas.{beginning_has_no_fault}
-use Rattle.epx_order.proofs.OrderFaultLemmas.{lawful_or_fault}
-use Rattle.epx_order.proofs.UniqueFaultLemmas.{fault_is_one, lawful_has_no_fault}
+use Rattle.epx_ranking.specs.declared.order_fault.OrderFault.{OrderFault}
+use Rattle.epx_ranking.specs.declared.order_fault.OrderFault.TheVariants.{Memory, Stranger, Repeat}
+use Rattle.epx_ranking.specs.declared.order_fault.OrderFault.TheVariants.{Missing, Early, Sequence}
+use Rattle.epx_ranking.specs.BeginningFaults.{IsBeginningFault}
+use Rattle.epx_ranking.specs.OrderFaults.{IsOrderFault}
+use Rattle.epx_ranking.proofs.BeginningFaultLemmas as beginning
+use Rattle.epx_ranking.proofs.BeginningLemmas.{beginning_has_no_fault}
+use Rattle.epx_ranking.proofs.OrderFaultLemmas.{lawful_or_fault}
+use Rattle.epx_ranking.proofs.UniqueFaultLemmas.{fault_is_one, lawful_has_no_fault}
 use Rattle.epx_report.specs.ViewLines.{lawful_line}
 use Rattle.epx_tool.specs.Verdicts.{order_fault_text, IsVerdict, IsPrefixVerdict}
 

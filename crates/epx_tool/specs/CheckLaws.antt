@@ -12,7 +12,7 @@ use Rattle.epx_types.specs.LawfulOrders.{IsLawful}
 use Rattle.epx_merge.specs.Acceptance.{IsAccepted}
 use Rattle.epx_report.specs.Lists.{IsList}
 use Rattle.epx_report.specs.ViewLines.{covered_line, lawful_line}
-use Rattle.epx_order.specs.OrderFaults.{HasAllReady}
+use Rattle.epx_ranking.specs.OrderFaults.{HasAllReady}
 use Rattle.epx_tool.specs.declared.ask.Ask.TheVariants.{Audit}
 use Rattle.epx_tool.specs.declared.question.InputQuestion.TheVariants.{CheckPrefix}
 use Rattle.epx_tool.specs.CheckAnswers.{Checks}

@@ -7,11 +7,11 @@ use Rattle.epx_types.specs.LawfulBeginnings.{IsLawfulBeginning}
 use Rattle.epx_types.specs.LawfulOrders.{IsLawful}
 use Rattle.epx_report.specs.ReportLines.{line_of}
 use Rattle.epx_report.specs.ViewLines.{lawful_line, position_data, missing_data}
-use Rattle.epx_order.specs.declared.order_fault.OrderFault.{OrderFault}
-use Rattle.epx_order.specs.declared.order_fault.OrderFault.TheVariants.{Memory, Stranger, Repeat}
-use Rattle.epx_order.specs.declared.order_fault.OrderFault.TheVariants.{Missing, Early, Sequence}
-use Rattle.epx_order.specs.BeginningFaults.{IsBeginningFault}
-use Rattle.epx_order.specs.OrderFaults.{IsOrderFault}
+use Rattle.epx_ranking.specs.declared.order_fault.OrderFault.{OrderFault}
+use Rattle.epx_ranking.specs.declared.order_fault.OrderFault.TheVariants.{Memory, Stranger, Repeat}
+use Rattle.epx_ranking.specs.declared.order_fault.OrderFault.TheVariants.{Missing, Early, Sequence}
+use Rattle.epx_ranking.specs.BeginningFaults.{IsBeginningFault}
+use Rattle.epx_ranking.specs.OrderFaults.{IsOrderFault}
 
 -- the line of a fault; out of memory has no verdict
 abbrev pub fault_data : OrderFault → List Data

@@ -11,7 +11,7 @@ use crate::map_texts::report_of;
 use crate::verdict::verdict_line;
 use epx_graph::build;
 use epx_merge::Merged;
-use epx_order::{check_order, check_prefix};
+use epx_ranking::{check_order, check_prefix};
 use epx_types::{Id, Memory, Plan};
 use std::alloc::Global;
 use std::random::RandomSource;

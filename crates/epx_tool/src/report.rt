@@ -8,7 +8,7 @@ ghost use Rattle.epx_tool.specs.LevelText.{level_text};
 
 use epx_apply::LevelMap;
 use epx_graph::Waiter;
-use epx_order::OrderList;
+use epx_ranking::OrderList;
 use epx_replay::append_store_lines;
 use epx_report::{append_done, append_header, append_level, append_ranked, append_waiter};
 use epx_txn::Store;

@@ -3,7 +3,7 @@ ghost use Rattle.std.specs.Prelude.{◌≡◌, ◌≢◌, IfOk, MatchOption, Mat
 ghost use Rattle.epx_report.specs.ViewLines.{covered_line, uncovered_line, lawful_line};
 ghost use Rattle.epx_tool.specs.Verdicts.{order_fault_text};
 
-use epx_order::OrderFault;
+use epx_ranking::OrderFault;
 use epx_report::{missing_line, name_line, position_line, uncovered_line};
 use epx_types::{Id, Memory};
 use std::alloc::Global;

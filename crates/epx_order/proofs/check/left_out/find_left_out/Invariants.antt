@@ -1,6 +1,0 @@
-use Rattle.epx_order.specs.inner.SequenceKeys.{AreLeftOut}
-use Rattle.epx_components.specs.Partitions.{parts}
-use Rattle.epx_order.proofs.check.left_out.find_left_out.Given as goal
-
-abbrev pub invariant-loop-node : goal.invariant-loop-node
-invariant-loop-node l = AreLeftOut l.merged (parts l.partition) l.marks l.node l.left_out.items

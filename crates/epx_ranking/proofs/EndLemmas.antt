@@ -1,0 +1,42 @@
+-- The greatest end of the components below each.
+use Rattle.std.proofs.Common.{◌≡◌, ◌≢◌, ◌↔◌, ◌⊎◌, inl, inr, ℕ, ◌-◌, ◌<◌, ◌≤◌, List, length}
+use Rattle.std.proofs.Common.{get_or, replicate, arith}
+use Rattle.std.proofs.lemmas.Bool.{cases_lt}
+use Rattle.epx_graph.specs.NodePaths.{NodeReaches}
+use Rattle.epx_ranking.specs.inner.Ends.{IsEndBelow}
+use Rattle.epx_components.specs.Collections.{AreCollected}
+use Rattle.epx_components.specs.Partitions.{ComponentParts, IsPartition, component_of, number_for}
+use Rattle.epx_components.proofs.CollectionLemmas.{collects_from_others}
+
+module _ (edges : ℕ → List ℕ) (p : ComponentParts) (is : IsPartition edges p)
+    (ends below first : List ℕ) (n : ℕ) (zeros : first ≡ replicate n 0)
+    (all : (t : ℕ) → AreCollected edges p (length p.order) (λ c. t < get_or first c 0)
+    (λ c. (t < get_or ends c 0) ⊎ (t < get_or below c 0)) (λ c. t < get_or below c 0)) where
+  later : (t k : ℕ) → k < length p.component → (t < number_for p below k)
+      ↔ ((j : ℕ) × NodeReaches edges k j × (t < number_for p ends j)
+      × (component_of p j ≢ component_of p k))
+  later t = collects_from_others edges p is first n t (λ c. t < get_or ends c 0)
+      (λ c. (t < get_or ends c 0) ⊎ (t < get_or below c 0)) (λ c. t < get_or below c 0) zeros
+      (all t) (λ c. ((λ h. h), λ h. h))
+
+  end_below : (k j : ℕ) → k < length p.component → NodeReaches edges k j
+      → component_of p j ≢ component_of p k → number_for p ends j ≤ number_for p below k
+  end_below k j l there other =
+      elim (cases_lt (number_for p below k) (number_for p ends j)) [
+        | inl more ↦ absurd (omega
+            (arith, (later (number_for p below k) k l).1 (j, there, more, other)))
+        | inr most ↦ omega (arith, most)
+      ]
+
+  pub ends_below_exact : (k : ℕ) → k < length p.component
+      → IsEndBelow edges p ends k (number_for p below k)
+  ends_below_exact k l = record {
+    all = λ j there other. end_below k j l there other;
+    one = elim (cases_lt 0 (number_for p below k)) [
+      | inl some ↦
+          let (j, there, least, other) = (later (number_for p below k - 1) k l).0
+          (omega (arith, some)) in
+          inr (j, there, other, omega (arith, some, least, end_below k j l there other))
+      | inr none ↦ inl (omega (arith, none))
+    ];
+  }

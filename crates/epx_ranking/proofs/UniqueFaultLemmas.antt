@@ -1,0 +1,133 @@
+-- A list has at most one fault, and a lawful order has none.
+use Rattle.std.proofs.Common.{◌≡◌, ◌≢◌, ◌⊎◌, inl, inr, ℕ, ◌<◌, List, length, Some, refl, sym, ap}
+use Rattle.std.proofs.Common.{◌∙◌, subst, arith}
+use Rattle.std.proofs.lemmas.Bool.{cases_lt}
+use Rattle.std.proofs.lemmas.Option.{slice_get_within}
+use Rattle.epx_types.specs.declared.id.Id.{Id}
+use Rattle.epx_types.specs.Instances.{Instance}
+use Rattle.epx_types.specs.LawfulOrders.{IsLawful}
+use Rattle.epx_types.specs.Readiness.{IsReady}
+use Rattle.epx_types.proofs.orders.LawfulOrderLemmas.{Before-not_both}
+use Rattle.epx_types.proofs.lists.ListPositionLemmas.{Contains-slice_get, AllPairs-slice_get}
+use Rattle.epx_types.proofs.graph.ReachingLemmas.{UpTo-antisymm}
+use Rattle.epx_ranking.specs.OrderFaults.{IsStrangerAt, IsRepeatAt, IsEarlyAt, IsOvertakenAt}
+use Rattle.epx_ranking.specs.OrderFaults.{ReadyOnce, InOrder, IsOrderFault}
+use Rattle.epx_ranking.specs.declared.order_fault.OrderFault.{OrderFault}
+use Rattle.epx_ranking.specs.declared.order_fault.OrderFault.TheVariants.{Memory, Stranger, Repeat}
+use Rattle.epx_ranking.specs.declared.order_fault.OrderFault.TheVariants.{Missing, Early, Sequence}
+
+module _ (m : List Instance) (ids : List Id) where
+  abbrev pub IsStrangerOrRepeatAt : ℕ → Type 0
+  IsStrangerOrRepeatAt place = IsStrangerAt m ids place ⊎ IsRepeatAt m ids place
+
+  -- if a list has only ready instances, each once, up to a place, then no lower place has a
+  -- stranger or a repeat
+  not_below : (n place : ℕ) → ReadyOnce m ids n → IsStrangerOrRepeatAt place → ¬ (place < n)
+  not_below n place once (inl stranger) l =
+      stranger.waits (once place stranger.id l stranger.here).0
+  not_below n place once (inr again) l =
+      (once place again.id l again.here).1 again.earlier again.is_earlier again.there
+
+  within : (place : ℕ) → IsStrangerOrRepeatAt place → place < length ids
+  within place (inl stranger) = slice_get_within ids place stranger.id stranger.here
+  within place (inr again) = slice_get_within ids place again.id again.here
+
+  pub not_whole : (place : ℕ) → IsStrangerOrRepeatAt place → ¬ ReadyOnce m ids (length ids)
+  not_whole place wrong once = not_below (length ids) place once wrong (within place wrong)
+
+  pub one_place : (i j : ℕ) → IsStrangerOrRepeatAt i → ReadyOnce m ids i → IsStrangerOrRepeatAt j
+      → ReadyOnce m ids j → i ≡ j
+  one_place i j wrong once wrong' once' = elim (cases_lt i j) [
+    | inl l ↦ absurd (not_below j i once' wrong l)
+    | inr k ↦ elim (cases_lt j i) [
+      | inl l ↦ absurd (not_below i j once wrong' l)
+      | inr l ↦ omega arith
+    ]
+  ]
+
+  pub not_both : (i : ℕ) → IsStrangerAt m ids i → ¬ IsRepeatAt m ids i
+  not_both i stranger again =
+      let same : Some again.id ≡ Some stranger.id = sym again.here ∙ stranger.here in
+      stranger.waits (subst (IsReady m) (cc same) again.ready)
+
+  -- two places where the order is wrong, each the least one, are equal
+  one_order_place : (i j : ℕ) → IsEarlyAt m ids i ⊎ IsOvertakenAt m ids i → InOrder m ids i
+      → IsEarlyAt m ids j ⊎ IsOvertakenAt m ids j → InOrder m ids j → i ≡ j
+  one_order_place i j wrong order wrong' order' = elim (cases_lt i j) [
+    | inl l ↦ absurd (not_in_order i j l wrong order')
+    | inr k ↦ elim (cases_lt j i) [
+      | inl l ↦ absurd (not_in_order j i l wrong' order)
+      | inr l ↦ omega arith
+    ]
+  ] where
+    not_in_order : (p q : ℕ) → p < q → IsEarlyAt m ids p ⊎ IsOvertakenAt m ids p
+        → ¬ InOrder m ids q
+    not_in_order p q l (inl early) order = (order p l).0 early
+    not_in_order p q l (inr overtaken) order = (order p l).1 overtaken
+
+  pub fault_is_one : (f g : OrderFault) → f ≢ Memory → g ≢ Memory → IsOrderFault m ids f
+      → IsOrderFault m ids g → f ≡ g
+  fault_is_one Memory g nf ng a b = absurd (nf refl)
+  fault_is_one (Stranger i) Memory nf ng a b = absurd (ng refl)
+  fault_is_one (Stranger i) (Stranger j) nf ng a b =
+      ap Stranger (one_place i j (inl a.0) a.1 (inl b.0) b.1)
+  fault_is_one (Stranger i) (Repeat j) nf ng a b =
+      absurd (not_both j (subst (IsStrangerAt m ids) (one_place i j (inl a.0) a.1 (inr b.0) b.1)
+      a.0) b.0)
+  fault_is_one (Stranger i) (Missing y) nf ng a b = absurd (not_whole i (inl a.0) b.0)
+  fault_is_one (Stranger i) (Early j) nf ng a b = absurd (not_whole i (inl a.0) b.0.0)
+  fault_is_one (Stranger i) (Sequence j) nf ng a b = absurd (not_whole i (inl a.0) b.0.0)
+  fault_is_one (Repeat i) Memory nf ng a b = absurd (ng refl)
+  fault_is_one (Repeat i) (Stranger j) nf ng a b =
+      absurd (not_both i (subst (IsStrangerAt m ids) (one_place j i (inl b.0) b.1 (inr a.0) a.1)
+      b.0) a.0)
+  fault_is_one (Repeat i) (Repeat j) nf ng a b =
+      ap Repeat (one_place i j (inr a.0) a.1 (inr b.0) b.1)
+  fault_is_one (Repeat i) (Missing y) nf ng a b = absurd (not_whole i (inr a.0) b.0)
+  fault_is_one (Repeat i) (Early j) nf ng a b = absurd (not_whole i (inr a.0) b.0.0)
+  fault_is_one (Repeat i) (Sequence j) nf ng a b = absurd (not_whole i (inr a.0) b.0.0)
+  fault_is_one (Missing x) Memory nf ng a b = absurd (ng refl)
+  fault_is_one (Missing x) (Stranger j) nf ng a b = absurd (not_whole j (inl b.0) a.0)
+  fault_is_one (Missing x) (Repeat j) nf ng a b = absurd (not_whole j (inr b.0) a.0)
+  fault_is_one (Missing x) (Missing y) nf ng a b =
+      ap Missing (UpTo-antisymm x y (a.3 y b.1 b.2) (b.3 x a.1 a.2))
+  fault_is_one (Missing x) (Early j) nf ng a b = absurd (a.2 (b.0.1 x a.1))
+  fault_is_one (Missing x) (Sequence j) nf ng a b = absurd (a.2 (b.0.1 x a.1))
+  fault_is_one (Early i) Memory nf ng a b = absurd (ng refl)
+  fault_is_one (Early i) (Stranger j) nf ng a b = absurd (not_whole j (inl b.0) a.0.0)
+  fault_is_one (Early i) (Repeat j) nf ng a b = absurd (not_whole j (inr b.0) a.0.0)
+  fault_is_one (Early i) (Missing y) nf ng a b = absurd (b.2 (a.0.1 y b.1))
+  fault_is_one (Early i) (Early j) nf ng a b =
+      ap Early (one_order_place i j (inl a.1) a.2 (inl b.1) b.2)
+  fault_is_one (Early i) (Sequence j) nf ng a b =
+      absurd (b.2 (subst (IsEarlyAt m ids) (one_order_place i j (inl a.1) a.2 (inr b.1) b.3) a.1))
+  fault_is_one (Sequence i) Memory nf ng a b = absurd (ng refl)
+  fault_is_one (Sequence i) (Stranger j) nf ng a b = absurd (not_whole j (inl b.0) a.0.0)
+  fault_is_one (Sequence i) (Repeat j) nf ng a b = absurd (not_whole j (inr b.0) a.0.0)
+  fault_is_one (Sequence i) (Missing y) nf ng a b = absurd (b.2 (a.0.1 y b.1))
+  fault_is_one (Sequence i) (Early j) nf ng a b =
+      absurd (a.2 (subst (IsEarlyAt m ids) (one_order_place j i (inl b.1) b.2 (inr a.1) a.3) b.1))
+  fault_is_one (Sequence i) (Sequence j) nf ng a b =
+      ap Sequence (one_order_place i j (inr a.1) a.3 (inr b.1) b.3)
+
+  pub lawful_has_no_fault : (f : OrderFault) → f ≢ Memory → IsLawful m ids → ¬ IsOrderFault m ids f
+  lawful_has_no_fault Memory nf lawful h = nf refl
+  lawful_has_no_fault (Stranger i) nf lawful (stranger, once) =
+      stranger.waits (lawful.only stranger.id (Contains-slice_get ids i stranger.id stranger.here))
+  lawful_has_no_fault (Repeat i) nf lawful (again, once) =
+      AllPairs-slice_get (λ x y. x ≢ y) ids lawful.once again.earlier i again.id again.id
+      again.is_earlier again.there again.here refl
+  lawful_has_no_fault (Missing x) nf lawful h = h.2 (lawful.whole x h.1)
+  lawful_has_no_fault (Early i) nf lawful (whole, early, order) =
+      Before-not_both ids lawful.once early.id early.reached
+      (i, early.later, early.is_later, early.here, early.there)
+      (lawful.after_reached early.id early.reached
+      (Contains-slice_get ids i early.id early.here) early.reaches early.outside)
+  lawful_has_no_fault (Sequence i) nf lawful (whole, overtaken, not_early, order) =
+      let x = overtaken.id in
+      let y = overtaken.follower in
+      Before-not_both ids lawful.once y x
+      (overtaken.earlier, i, overtaken.is_earlier, overtaken.there, overtaken.here)
+      (lawful.by_sequence x y (Contains-slice_get ids i x overtaken.here)
+      (Contains-slice_get ids overtaken.earlier y overtaken.there) overtaken.one_component
+      overtaken.by_sequence)

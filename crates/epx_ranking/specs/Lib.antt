@@ -1,0 +1,5 @@
+pub mod OrderFaults
+pub mod OrderFaultLaws
+pub mod BeginningFaults
+pub mod BeginningFaultLaws
+pub mod inner
