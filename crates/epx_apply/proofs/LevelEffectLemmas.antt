@@ -11,8 +11,8 @@ use Rattle.epx_types.specs.Writes.{Write, apply_writes, HasDistinctKeys}
 use Rattle.epx_types.proofs.commands.ConflictListLemmas.{writes_over, replies-none_conflict}
 use Rattle.epx_types.proofs.commands.ConflictListLemmas.{final-none_conflict}
 use Rattle.epx_types.proofs.commands.ConflictListLemmas.{distinct_keys-none_conflict}
-use Rattle.epx_txn.specs.declared.effect.Effect.{Effect}
-use Rattle.epx_txn.proofs.MergeLemmas.{writes_in}
+use Rattle.epx_store.specs.declared.effect.Effect.{Effect}
+use Rattle.epx_store.proofs.MergeLemmas.{writes_in}
 use Rattle.epx_apply.specs.inner.Effects.{effect_over, effects_over, replies_in}
 
 -- the effect of the command at a position

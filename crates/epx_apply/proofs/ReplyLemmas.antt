@@ -6,7 +6,7 @@ use Rattle.std.proofs.lemmas.List.Elements.{All-head, All-tail, All-weaker}
 use Rattle.epx_types.specs.declared.reply.Reply.{Reply}
 use Rattle.epx_types.proofs.lists.MembershipLemmas.{Contains-head, Contains-cons, map-agree}
 use Rattle.epx_types.proofs.commands.RearrangedListLemmas.{Once}
-use Rattle.epx_txn.specs.declared.effect.Effect.{Effect}
+use Rattle.epx_store.specs.declared.effect.Effect.{Effect}
 use Rattle.epx_apply.specs.inner.Effects.{replies_in, put_replies}
 
 -- once the remaining effects are put at the remaining positions, all are put

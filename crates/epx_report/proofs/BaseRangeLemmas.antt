@@ -27,7 +27,8 @@ use Rattle.epx_report.specs.inner.BaseReadings.{after_line, or_line_number, read
 use Rattle.epx_report.specs.ReportReadings.{FitsNumbers}
 use Rattle.epx_report.proofs.BaseLemmas.{reading_of_base}
 use Rattle.epx_report.proofs.RisingListLemmas.{Contains-insert_cases}
-use Rattle.epx_report.proofs.JsonStringLemmas.{by_branch, IfSome-branch, IfSome-map, IfSome-and_then}
+use Rattle.epx_report.proofs.JsonStringLemmas.{by_branch, IfSome-branch, IfSome-map}
+use Rattle.epx_report.proofs.JsonStringLemmas.{IfSome-and_then}
 use Rattle.epx_report.proofs.JsonStringLemmas.{IfSome-trivial}
 use Rattle.epx_report.proofs.JsonValueLemmas.{FitsData}
 use Rattle.epx_report.proofs.LineRangeLemmas.{IsStoreKey, signed_fits, key_of_fits, elements_fit}

@@ -21,7 +21,7 @@ use Rattle.epx_types.proofs.lists.ListPositionLemmas.{AllPairs-append, AllPairs-
 use Rattle.epx_types.proofs.lists.RisingIdLemmas.{same_ids, IsRising-push}
 use Rattle.epx_types.proofs.remaining.RemainingLemmas.{is_among_cases}
 use Rattle.epx_lines.proofs.EntryLemmas.{IsRising-insert}
-use Rattle.epx_txn.proofs.RisingEntryLemmas.{both_of, below_all_trans}
+use Rattle.epx_store.proofs.RisingEntryLemmas.{both_of, below_all_trans}
 use Rattle.epx_report.specs.declared.form.Counts.{Counts}
 use Rattle.epx_report.specs.declared.form.BaseLine.{BaseLine}
 use Rattle.epx_report.specs.declared.form.BaseLine.TheVariants as line

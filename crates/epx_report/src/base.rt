@@ -6,7 +6,7 @@ ghost use Rattle.epx_types.specs.Ids.{IsRising};
 use crate::progress::Progress;
 use crate::read::BaseLineReader;
 use epx_lines::cut_line;
-use epx_txn::Store;
+use epx_store::Store;
 use epx_types::{Fault, Id, Memory};
 use std::alloc::Global;
 use std::marker::Model;

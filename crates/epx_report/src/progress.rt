@@ -9,7 +9,7 @@ use crate::base::Base;
 use crate::form::{BaseLine, Counts};
 use crate::id_set::{IdSet, is_after_last};
 use crate::read::BaseLineReader;
-use epx_txn::Store;
+use epx_store::Store;
 use epx_types::{Id, Key, Memory};
 use std::alloc::Global;
 use std::marker::Model;

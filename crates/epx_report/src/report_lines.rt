@@ -8,7 +8,7 @@ ghost use Rattle.epx_report.specs.inner.LineTokens.{id_tokens, value_token, repl
 ghost use Rattle.epx_report.specs.ReportLines.{line_feed, done_line, header_line, reply_line};
 ghost use Rattle.epx_report.specs.ReportLines.{store_line, waiting_line};
 
-use epx_txn::Store;
+use epx_store::Store;
 use epx_types::{Id, Key, Memory, Reply};
 use json::Writer;
 use std::alloc::{AllocError, Global};

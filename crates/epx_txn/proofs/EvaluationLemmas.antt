@@ -15,7 +15,7 @@ use Rattle.epx_types.specs.declared.reply.Reply.TheVariants as reply
 use Rattle.epx_types.proofs.keys.SortedEntryLemmas.{entries-empty}
 use Rattle.epx_types.proofs.keys.KeyListLemmas.{add_keys-append}
 use Rattle.epx_types.proofs.commands.WriteLemmas.{read_after_writes}
-use Rattle.epx_txn.proofs.DropLemmas.{drop_at_index}
+use Rattle.epx_store.proofs.DropLemmas.{drop_at_index}
 use Rattle.std.proofs.lemmas.List.{drop_all}
 use Rattle.epx_txn.specs.declared.draft.Step.TheVariants.{Read, Done, Abort}
 use Rattle.epx_txn.specs.inner.Drafts.{Draft, contents_through, IsStepOf, AddsKeys}

@@ -1,15 +1,2 @@
-pub mod RangeLemmas
-pub mod RisingEntryLemmas
-pub mod TreeEntryLemmas
-pub mod DropLemmas
-pub mod MapLoopLemmas
 pub mod DraftLemmas
-pub mod KeySlotLemmas
 pub mod EvaluationLemmas
-pub mod MergeLemmas
-pub mod ShardLookupLemmas
-pub mod ShardWriteLemmas
-pub mod UniqueKeyLemmas
-pub mod RouteLemmas
-pub mod RisingHeadLemmas
-pub mod TournamentLemmas

@@ -6,9 +6,7 @@ ghost use Rattle.epx_txn.specs.inner.Actions.{value_used};
 ghost use Rattle.epx_txn.specs.inner.Drafts.{contents_through, IsStepOf};
 
 use crate::action::{Action, action_of, key_used};
-use crate::few_writes::FewWrites;
-use crate::key_map::KeyMap;
-use crate::store::Store;
+use epx_store::{FewWrites, KeyMap, Store};
 use epx_types::{Key, Memory, Op};
 use std::alloc::Global;
 use std::marker::Model;

@@ -6,9 +6,8 @@ ghost use Rattle.epx_types.specs.Writes.{writes_of};
 ghost use Rattle.epx_txn.specs.ReplyLengths.{reply_length};
 
 use crate::draft::{Draft, Step, operate};
-use crate::effect::{Effect, Writes};
 use crate::lone_op::apply_lone;
-use crate::store::Store;
+use epx_store::{Effect, Store, Writes};
 use epx_types::{Memory, Op, Reply, Values};
 use std::alloc::Global;
 

@@ -1,23 +1,11 @@
-//! The store, the execution of one command over it, and the merging of the writes of several
-//! commands.
+//! The execution of one command over a store.
 #![tactic(auto)]
 
 mod action;
 mod draft;
-pub mod effect;
 pub mod evaluation;
-mod few_writes;
-mod key_map;
 mod lone_op;
-pub mod merge;
-mod ranges;
-mod routes;
-mod shards;
-pub mod store;
-mod tournament;
 
-pub use effect::{Effect, Writes};
-pub use epx_types::{touched, written};
+pub use epx_store::{Effect, Store, Writes, effect, merge, merge_effects, store};
+pub use epx_types::{command_keys as keys, touched, written};
 pub use evaluation::{apply, apply_with_room, eval, reply_len};
-pub use merge::merge_effects;
-pub use store::Store;

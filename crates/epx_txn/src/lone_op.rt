@@ -4,7 +4,7 @@ ghost use Rattle.epx_types.specs.Commands.{command_on};
 ghost use Rattle.epx_txn.specs.inner.Actions.{value_used};
 
 use crate::action::{Action, action_of, key_used};
-use crate::store::Store;
+use epx_store::Store;
 use epx_types::{Memory, Op, Reply, Values};
 use std::alloc::Global;
 

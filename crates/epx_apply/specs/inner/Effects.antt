@@ -6,7 +6,7 @@ use Rattle.epx_types.specs.declared.reply.Reply.{Reply}
 use Rattle.epx_types.specs.Contents.{Contents}
 use Rattle.epx_types.specs.Commands.{command_on}
 use Rattle.epx_types.specs.Writes.{writes_of}
-use Rattle.epx_txn.specs.declared.effect.Effect.{Effect}
+use Rattle.epx_store.specs.declared.effect.Effect.{Effect}
 
 -- the operation lists of commands
 abbrev pub op_lists_of : List Command → List (List Op)

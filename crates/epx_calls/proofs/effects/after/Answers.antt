@@ -1,4 +1,4 @@
-use Rattle.epx_txn.proofs.MergeLemmas.{no_key_twice}
+use Rattle.epx_store.proofs.MergeLemmas.{no_key_twice}
 use Rattle.epx_calls.proofs.effects.after.Goals as goal
 
 pub merge_effects-requires-after_bounds : goal.merge_effects-requires-after_bounds

@@ -1,0 +1,13 @@
+pub mod RangeLemmas
+pub mod RisingEntryLemmas
+pub mod TreeEntryLemmas
+pub mod DropLemmas
+pub mod MapLoopLemmas
+pub mod KeySlotLemmas
+pub mod MergeLemmas
+pub mod ShardLookupLemmas
+pub mod ShardWriteLemmas
+pub mod UniqueKeyLemmas
+pub mod RouteLemmas
+pub mod RisingHeadLemmas
+pub mod TournamentLemmas

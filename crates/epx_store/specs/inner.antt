@@ -1,0 +1,5 @@
+-- Words of private clauses: no public contract speaks of them.
+pub mod KeySlots
+pub mod Shards
+pub mod Routes
+pub mod Rises

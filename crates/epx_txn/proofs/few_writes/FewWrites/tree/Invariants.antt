@@ -1,9 +1,0 @@
-use Rattle.std.proofs.Common.{◌≡◌, map, drop}
-use Rattle.std.specs.FinMap as contents
-use Rattle.epx_types.proofs.keys.SortedEntryLemmas.{write_all}
-use Rattle.epx_txn.proofs.few_writes.FewWrites.tree.Given as goal
-
-abbrev pub invariant-loop-key : goal.invariant-loop-key
-invariant-loop-key l = write_all contents.insert
-    (map (λ p. (p.0.now, p.1)) (drop l.key-index l.key-items)) l.tree
-    ≡ contents.from_entries (map (λ p. (p.0.now, p.1)) l.key-items)

@@ -1,8 +1,0 @@
-use Rattle.std.proofs.Common.{◌≡◌, drop}
-use Rattle.epx_types.specs.Writes.{apply_writes}
-use Rattle.epx_txn.proofs.MergeLemmas.{writes_in}
-use Rattle.epx_txn.proofs.merge.put_effects.Given as goal
-
-abbrev pub invariant-loop-effect : goal.invariant-loop-effect
-invariant-loop-effect l = apply_writes (writes_in (drop l.effect-index l.effects)) l.store
-    ≡ apply_writes (writes_in l.effects) l.initial.store
