@@ -11,7 +11,7 @@ mod number_marks;
 mod number_ranges;
 mod placed;
 mod rows;
-mod same_entry;
+pub mod same_entry;
 
 pub use entries::from_entries;
 pub use epx_types::limits::MAX_INSTANCES;

@@ -18,7 +18,7 @@ fn same_ids(first: &[Id], second: &[Id]) -> bool
 }
 
 /// Whether two entries have the same Id, sequence number, dependencies and command.
-pub(crate) fn same_entry(first: &Entry, second: &Entry) -> bool
+pub fn same_entry(first: &Entry, second: &Entry) -> bool
     ensures { IsTrue result ↔ (first.now ≡ second.now) }
 {
     if first.id() != second.id() || first.seq() != second.seq() {
