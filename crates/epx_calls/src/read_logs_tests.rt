@@ -4,7 +4,7 @@ use crate::fixtures::{PUT_AND_GET, expect_accepted, id, logs_of, merged_of, plan
 use crate::gates::WaitingGate;
 use bumpalo::Bump;
 use epx_claims::FreeGate;
-use epx_merge::{LineBatch, LogReader, Merged, read_logs};
+use epx_merge::{LineBatch, LogReader, Merged, empty_ledger, merge_noted, read_logs};
 use epx_types::{Fault, Id, Memory, Plan};
 use std::alloc::Global;
 use std::process::Abort;
@@ -98,7 +98,7 @@ fn read_in_batches<R: Abort + Threads + RandomSource + Sync>(
     logs: &[[&str; 3]],
 ) -> Result<(Result<Merged, Fault>, usize), Memory> {
     let copies = Bump::new(alloc);
-    let mut reader = LogReader::new(rt, alloc, logs.len())?;
+    let mut reader = LogReader::new(alloc, empty_ledger(rt, alloc), logs.len())?;
     let mut batch = LineBatch::new(alloc);
     let mut calls: usize = 0;
     for (log, parts) in logs.iter().enumerate() {
@@ -120,7 +120,7 @@ fn read_in_batches<R: Abort + Threads + RandomSource + Sync>(
             reader = read;
         }
     }
-    Ok((reader.close(), calls))
+    Ok((merge_noted(reader.finish()), calls))
 }
 
 #[test]
@@ -160,7 +160,7 @@ fn gathers_while_one_waits<R: Abort + Threads + RandomSource + Sync>(
     waiter: usize,
 ) -> Result<(), Fail> {
     let copies = Bump::new(alloc);
-    let reader = LogReader::new(rt, alloc, 1)?;
+    let reader = LogReader::new(alloc, empty_ledger(rt, alloc), 1)?;
     let mut here = LineBatch::new(alloc);
     let mut next = LineBatch::new(alloc);
     let last = here.add_part(0, 0, FOUR_LINES.as_bytes())?;
@@ -179,7 +179,7 @@ fn gathers_while_one_waits<R: Abort + Threads + RandomSource + Sync>(
     );
     assert!(rt; gathered == Ok(5) && next.len() == 1);
     let (reader, ()) = reader.read_during(rt, alloc, None, &next, &mut || (), plan, &FreeGate);
-    let merged = expect_accepted(reader.close())?;
+    let merged = expect_accepted(merge_noted(reader.finish()))?;
     assert!(rt; merged.len() == 5);
     gate.expect_all_entered()
 }

@@ -19,6 +19,7 @@ use Rattle.epx_merge.specs.RedundantLines.{DropsRedundant, DropsCached}
 use Rattle.epx_merge.specs.inner.ReadSteps.{IsReadStep}
 use Rattle.epx_merge.proofs.ReadFaultLemmas.{placed_among-append, bad_lines_among-append}
 use Rattle.epx_merge.proofs.ReadFaultLemmas.{fault_after}
+use Rattle.epx_merge.proofs.ReadPieceLemmas.{read_together}
 use Rattle.epx_merge.proofs.RedundantLineLemmas.{DropsRedundant-append, DropsRedundant-none}
 use Rattle.epx_merge.proofs.RedundantLineLemmas.{SameOutcome-kept}
 use Rattle.epx_merge.proofs.DropsCachedLemmas.{length-uncached, IsRedundant-append}
@@ -42,16 +43,6 @@ IsCacheOf-more cache before lines kept good h cache' more m has =
       | inr some ↦ subst (IsRedundant (before ++ kept)) some.2
           (redundant_of_line cache lines kept before some.0 good h some.1)
     ]
-
--- ---- lines that are noted
-
--- none of the lines is bad, and the ledger is that of all of them
-pub noted_lines : (lines : List MeaningAt) (ledger : LedgerView) (cache : List (Result Line Why))
-    → AreNoted lines ledger cache
-    → (bad_lines_among lines ≡ []) × IsLedgerOf (placed_among lines) ledger
-noted_lines lines ledger cache h =
-    let same = SameOutcome-kept lines [] h.kept h.drops in
-    (same.clean h.clean, same.ledger ledger h.noted)
 
 -- ---- batch by batch
 
@@ -129,7 +120,7 @@ module _ {E : Type 0} (holds : List Placed → E → Type 0) (all walk lines : L
         → IsBatchRead holds cache cache' lines pieces'
         → IsReadSoFar holds all walk' lines' pieces' cache' ledger'
     so_far_next pieces' cache' batch =
-        let given = batch.read in
+        let given = read_together holds cache lines pieces' batch.read in
         let seen = h.seen ++ h.cut in
         let uncached = DropsCached-trans cache h.cut lines given.0 h.batch given.1 in
         record {

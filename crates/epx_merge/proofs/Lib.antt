@@ -1,12 +1,12 @@
 mod ReadPieceLemmas
-mod PieceLemmas
+mod LinePieceLemmas
 mod RedundantLineLemmas
 mod DropsCachedLemmas
 pub mod LaterLogLemmas
 mod OnwardLemmas
 pub mod LogPartLemmas
-mod LogReaderLemmas
 mod BatchLemmas
+mod LedgerNoteLemmas
 mod LineBatchLemmas
 mod LineEndLemmas
 mod LineCacheLemmas

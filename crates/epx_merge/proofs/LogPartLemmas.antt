@@ -1,13 +1,14 @@
 -- The lines of the next part of a log follow those that are read.
 use Rattle.std.proofs.Common.{◌≡◌, ◌+◌, ◌<◌, ◌≤◌, ◌^◌, ◌%◌, ◌∷◌, ◌++◌, ◌∙◌, ℕ, suc, List, []}
 use Rattle.std.proofs.Common.{ap, sym, arith, append-nil, append_assoc, length, length-append}
+use Rattle.std.proofs.Common.{eqb, inl, inr}
 use Rattle.std.proofs.Math.Nat.{mod-eq_of_lt}
-use Rattle.epx_lines.specs.Lines.{lines_of}
+use Rattle.std.proofs.lemmas.Bool.{cases_Bool}
+use Rattle.epx_lines.specs.Lines.{lines_of, prepend_to_first}
 use Rattle.epx_merge.specs.LogLines.{MeaningAt, meaning_at, meanings_in, meanings_from}
 use Rattle.epx_merge.specs.LogLines.{meanings_of}
 use Rattle.epx_merge.specs.LogParts.{EndsLine, lines_so_far}
 use Rattle.epx_merge.proofs.OnwardLemmas.{lines_of-append, meanings_in-append}
-use Rattle.epx_merge.proofs.PieceLemmas.{length-lines_of}
 
 -- the lines of a part of the log after these bytes
 abbrev pub lines_of_part : List (List ℕ) → List ℕ → List ℕ → List MeaningAt
@@ -68,7 +69,18 @@ line_and_rest log line next bytes here more cut is =
 
 -- bytes have no more lines than they are
 pub few_lines : (bytes : List ℕ) → length (lines_of bytes) ≤ length bytes
-few_lines = length-lines_of
+few_lines [] = omega arith
+few_lines (b ∷ bs) =
+    let rest = few_lines bs in
+    elim (cases_Bool (eqb b 10)) [
+      | inl feed ↦ rw feed (omega arith)
+      | inr other ↦ rw other (lengthened b (lines_of bs) (length bs) rest)
+    ]
+  where
+    lengthened : (c : ℕ) (ls : List (List ℕ)) (n : ℕ) → length ls ≤ n
+        → length (prepend_to_first c ls) ≤ suc n
+    lengthened c [] n few = omega arith
+    lengthened c (l ∷ ls) n few = omega arith
 
 -- the number of lines, once those of a part follow whole lines
 pub lines_counted : (begun bytes : List ℕ) → EndsLine begun

@@ -1,6 +1,6 @@
 -- Lines read one after another: their instances, and the first bad line.
 use Rattle.std.proofs.Common.{◌≡◌, List, [], ◌++◌}
-use Rattle.std.proofs.Common.{sym, ap, subst, ◌∙◌}
+use Rattle.std.proofs.Common.{refl, sym, ap, subst, ◌∙◌}
 use Rattle.std.proofs.lemmas.Grind.{flat_map-append}
 use Rattle.epx_types.specs.declared.fault.Fault.{Fault}
 use Rattle.epx_types.specs.declared.fault.Fault.TheVariants.{Memory, TooManyLogs, LogTooLong}
@@ -41,3 +41,8 @@ fault_after xs ys zs all f clean h is =
     let P : List BadLineAt → Type 0 = λ l. IsReadFault l f in
     subst P (ap bad_lines_among is)
     (subst P (sym whole) (fault_before (bad_lines_among ys) (bad_lines_among zs) f h))
+
+-- the first bad one of some lines is that of more lines
+pub bad_stays : (lines cut : List MeaningAt) (f : Fault) → IsReadFault (bad_lines_among lines) f
+    → IsReadFault (bad_lines_among (lines ++ cut)) f
+bad_stays lines cut f bad = fault_after [] lines cut (lines ++ cut) f refl bad refl

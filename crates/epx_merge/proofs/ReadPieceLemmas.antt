@@ -10,6 +10,7 @@ use Rattle.epx_merge.specs.declared.pieces.BadLine.{BadLine}
 use Rattle.epx_merge.specs.LogLines.{MeaningAt, placed_at, placed_among, bad_lines_at}
 use Rattle.epx_merge.specs.LogLines.{bad_lines_among}
 use Rattle.epx_merge.specs.ReadPieces.{IsFirstBad, AreRead, SkipsOrReads, IsReadBeside}
+use Rattle.epx_merge.specs.ReadPieces.{AreReadBeside}
 use Rattle.epx_merge.specs.RedundantLines.{DropsCached}
 use Rattle.epx_merge.proofs.ReadFaultLemmas.{placed_among-append, bad_lines_among-append}
 use Rattle.epx_merge.proofs.DropsCachedLemmas.{DropsCached-none, DropsCached-append}
@@ -82,6 +83,24 @@ module _ (cache : List (Result Line Why)) (lines : List MeaningAt) where
                 ∙ ap bad_lines_among next ∙ ap (λ s. s ++ rest) is_bad,
           ),
         )
+
+-- ---- pieces that are read beside a cache
+
+module _ {E : Type 0} (holds : List Placed → E → Type 0) (cache : List (Result Line Why)) where
+  -- together they are read, except for some lines that are redundant in the cache
+  pub read_together : (lines : List MeaningAt) (pieces : List (Result E BadLine))
+      → AreReadBeside holds cache lines pieces
+      → (kept : List MeaningAt) × DropsCached cache lines kept × AreRead holds kept pieces
+  read_together lines [] none =
+      ([], subst (λ l. DropsCached cache l []) (sym none) refl, refl)
+  read_together lines (piece ∷ pieces) all =
+      let here = all.3 in
+      let rest = read_together all.1 pieces all.4 in (
+        here.0 ++ rest.0,
+        subst (λ l. DropsCached cache l (here.0 ++ rest.0)) (sym all.2)
+            (DropsCached-append cache all.0 all.1 here.0 rest.0 here.1 rest.1),
+        (here.0, rest.0, refl {a = here.0 ++ rest.0}, here.2, rest.2),
+      )
 
 -- ---- pieces gathered one after another
 

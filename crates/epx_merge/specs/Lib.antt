@@ -6,4 +6,7 @@ pub mod ReadFaults
 pub mod RedundantLines
 pub mod ReadPieces
 pub mod LogParts
+pub mod LinePieces
+pub mod LogReaders
+pub mod LedgerNotes
 pub mod inner

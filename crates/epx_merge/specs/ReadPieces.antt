@@ -1,5 +1,5 @@
 -- The result of reading consecutive lines, piece by piece.
-use Rattle.std.specs.Prelude.{◌≡◌, ◌⊎◌, ◌*◌, ◌++◌, ◌∷◌, ℕ, List, [], Result, Ok, Err, take, drop}
+use Rattle.std.specs.Prelude.{◌≡◌, ◌⊎◌, ◌++◌, List, [], Result, Ok, Err}
 use Rattle.epx_types.specs.PlacedLines.{Placed}
 use Rattle.epx_types.specs.declared.fault.Why.{Why}
 use Rattle.epx_lines.specs.declared.Line.{Line}
@@ -7,6 +7,7 @@ use Rattle.epx_merge.specs.declared.pieces.BadLine.{BadLine}
 use Rattle.epx_merge.specs.declared.pieces.ReadPiece.{ReadPiece}
 use Rattle.epx_merge.specs.LogLines.{MeaningAt, placed_at, placed_among, bad_lines_at}
 use Rattle.epx_merge.specs.LogLines.{bad_lines_among}
+use Rattle.epx_merge.specs.LinePieces.{ArePiecesOf}
 use Rattle.epx_merge.specs.Refusals.{IsFirstBadLine}
 use Rattle.epx_merge.specs.RedundantLines.{IsRedundantIn, DropsCached, CachesSomeOf}
 
@@ -32,13 +33,7 @@ IsRead holds lines (Err bad) = IsFirstBad lines bad
 -- the results of reading consecutive pieces, which together are the lines
 abbrev pub AreRead : {E : Type 0} → (List Placed → E → Type 0) → List MeaningAt
     → List (Result E BadLine) → Type 0
-AreRead holds lines [] = lines ≡ []
-AreRead holds lines (piece ∷ pieces) = (here rest : List MeaningAt) × (lines ≡ here ++ rest)
-    × IsRead holds here piece × AreRead holds rest pieces
-
--- the lines of a piece
-abbrev pub lines_of_piece : ℕ → ℕ → List MeaningAt → List MeaningAt
-lines_of_piece cut piece lines = take cut (drop (piece * cut) lines)
+AreRead holds lines pieces = ArePiecesOf (IsRead holds) lines pieces
 
 -- ---- reading beside a cache
 
@@ -57,8 +52,7 @@ IsReadBeside holds cache lines piece =
 -- the results of reading pieces of the lines, except for some lines that are redundant in the cache
 abbrev pub AreReadBeside : {E : Type 0} → (List Placed → E → Type 0) → List (Result Line Why)
     → List MeaningAt → List (Result E BadLine) → Type 0
-AreReadBeside holds cache lines pieces =
-    (kept : List MeaningAt) × DropsCached cache lines kept × AreRead holds kept pieces
+AreReadBeside holds cache lines pieces = ArePiecesOf (IsReadBeside holds cache) lines pieces
 
 -- the lines are read beside the old cache, and the new one has some of them in addition
 pub record IsBatchRead {E : Type 0} (holds : List Placed → E → Type 0)

@@ -1,147 +1,149 @@
-//! Reads lines batch by batch. Each batch is noted while the next one is read.
-ghost use Rattle.std.specs.Prelude.{◌≤◌, ◌<◌, ◌^◌, ◌++◌, List, ℕ, [], Result, IfOk, length};
+//! Reads lines batch by batch, and has them noted. A batch can be noted while the next one is read.
+ghost use Rattle.std.specs.Prelude.{◌≡◌, ◌≤◌, ◌<◌, ◌^◌, ◌++◌, List, [], Result, IfOk, length};
 ghost use Rattle.std.specs.Prelude.{MatchResult};
 ghost use Rattle.epx_types.specs.Pieces.{piece_count};
-ghost use Rattle.epx_committed.specs.Ledgers.{LedgerView};
-ghost use Rattle.epx_merge.specs.Acceptance.{IsAccepted};
-ghost use Rattle.epx_merge.specs.LogLines.{MeaningAt, meanings_of};
-ghost use Rattle.epx_merge.specs.LogParts.{AreReadUpTo, HasRead, IsReading};
-ghost use Rattle.epx_merge.specs.inner.ReadSteps.{IsNotingOf};
-ghost use Rattle.epx_merge.specs.declared.pieces.BadLine.{BadLine};
-ghost use Rattle.epx_merge.specs.declared.pieces.ReadPiece.{ReadPiece};
-ghost use Rattle.epx_merge.specs.inner.NotedLines.{IsNoting};
-ghost use Rattle.epx_merge.specs.ReadPieces.{AreReadBeside, IsReadBeside, HasEntries};
-ghost use Rattle.epx_merge.specs.ReadPieces.{lines_of_piece};
+ghost use Rattle.epx_types.specs.declared.fault.Why.{Why};
+ghost use Rattle.epx_lines.specs.declared.Line.{Line};
+ghost use Rattle.epx_merge.specs.LinePieces.{ArePiecesOf, lines_of_piece};
+ghost use Rattle.epx_merge.specs.LogLines.{MeaningAt, bad_lines_among};
+ghost use Rattle.epx_merge.specs.LogReaders.{HasRead, IsNoting, IsReading};
+ghost use Rattle.epx_merge.specs.ReadFaults.{IsReadFault};
 ghost use Rattle.epx_merge.specs.RedundantLines.{DropsCached};
-ghost use Rattle.epx_merge.specs.Refusals.{FitLimits, IsRefusal};
 
-use crate::fresh_line::cache_batch_copy;
 use crate::line_batch::LineBatch;
 use crate::line_cache::LineCache;
-use crate::noted_lines::NotedLines;
-use crate::pieces::{BadLine, Pieces, ReadPiece, note_pieces, read_lines};
-use crate::read::merge_noted;
+use crate::notes::Notes;
 use bumpalo::Bump;
 use epx_claims::{Gate, claimed_map_after};
-use epx_committed::Merged;
-use epx_seed::Seed;
 use epx_types::{Fault, Memory, Plan};
 use std::alloc::Global;
 use std::mem;
-use std::random::RandomSource;
 use std::thread::Threads;
 
-/// What is read of logs whose lines come batch by batch. After a bad line no more lines are read.
+/// What is read of logs whose lines come batch by batch. After a fault no more lines are read.
 #[derive(Drop)]
-pub struct LogReader<'a> {
-    read: Result<ReadLines<'a>, Fault>,
+pub struct LogReader<'a, N: Notes + Drop> {
+    read: Result<ReadLines<'a, N>, Fault>,
 }
 
 /// Lines that are read.
 #[derive(Drop)]
-pub(crate) struct ReadLines<'a> {
-    /// Those that are noted.
-    noted: NotedLines<'a>,
-    /// The pieces of the last batch, which are not noted yet.
-    pending: Pieces,
+pub(crate) struct ReadLines<'a, N: Notes + Drop> {
+    /// What notes them.
+    notes: N,
+    cache: LineCache<'a>,
+    /// The pieces of the last batch that are not noted yet.
+    pending: Vec<N::Piece>,
 }
 
-/// The entries of a piece of the batch, except for lines that the cache has, or its first bad line.
-fn read_piece(
+/// Reads a piece of the batch.
+fn read_piece<N: Notes>(
     alloc: Global,
+    shared: N::Shared,
     plan: Plan,
     cache: &LineCache<'_>,
     batch: &LineBatch,
     piece: usize,
-) -> Result<Result<ReadPiece, BadLine>, Memory>
+) -> Result<N::Piece, Memory>
     requires { piece < piece_count plan.cut (length batch.now) }
-    ensures { IfOk result (IsReadBeside HasEntries cache.now
+    ensures { IfOk result (N.is_read shared cache.now
         (lines_of_piece plan.cut piece batch.now)) }
 {
     let (start, end) = plan.range(piece, batch.len());
     let lines = batch.lines(alloc, start, end)?;
-    read_lines(alloc, cache, &lines, start)
+    N::read(alloc, shared, cache, &lines, start)
 }
 
 /// What is read once the pieces before a batch are noted and those of the batch are read.
-fn after_batch<'a>(
-    stepped: Result<(), Fault>,
-    read: Result<Pieces, Memory>,
-    noted: NotedLines<'a>,
+fn after_batch<'a, N: Notes + Drop>(
+    noted: Result<(), Fault>,
+    read: Result<Vec<N::Piece>, Memory>,
+    mut notes: N,
+    mut cache: LineCache<'a>,
     batch: &LineBatch,
     copies: Option<&'a Bump>,
-) -> Result<ReadLines<'a>, Fault>
-    requires { length batch.now ≤ 2 ^ 40 }
-    ensures { (lines cut : List MeaningAt) (old : LedgerView)
-        (pieces : List (Result ReadPiece BadLine))
-        → AreReadUpTo lines old noted.entry.cache pieces → DropsCached [] cut batch.now
-        → IsNotingOf pieces old noted.entry.ledger stepped
-        → IfOk read (λ v. AreReadBeside HasEntries noted.entry.cache batch.now v.items)
-        → IsReading (lines ++ cut) result }
+) -> Result<ReadLines<'a, N>, Fault>
+    ensures { (lines cut : List MeaningAt) → DropsCached [] cut batch.now
+        → MatchResult noted (λ _. N.has_read lines notes cache.entry [])
+        (IsReadFault (bad_lines_among lines))
+        → IfOk read (λ v.
+        ArePiecesOf (N.is_read (N.shared_of notes) cache.entry) batch.now v.items)
+        → IsReading N.has_read (lines ++ cut) result }
 {
-    stepped?;
-    let pending = read?;
-    let NotedLines { ledger, mut cache } = noted;
-    cache_batch_copy(&pending, batch, &mut cache, copies);
+    noted?;
+    let mut pending = read?;
+    notes.keep(&mut pending, batch, &mut cache, copies)?;
     Ok(ReadLines {
-        noted: NotedLines { ledger, cache },
+        notes,
+        cache,
         pending,
     })
 }
 
 /// Reads the lines of a batch. This thread first notes what was read before and calls `more`, and
 /// then reads lines as the other workers do.
-fn read_on<'a, R: Threads + Sync, G: Gate + Sync, T, M: FnMut() -> T>(
+fn read_on<'a, N: Notes + Sync + Drop, R: Threads + Sync, G: Gate + Sync, T, M: FnMut() -> T>(
     rt: &R,
     alloc: Global,
     copies: Option<&'a Bump>,
-    before: ReadLines<'a>,
+    before: ReadLines<'a, N>,
     batch: &LineBatch,
     more: &mut M,
     plan: Plan,
     gate: &G,
-) -> (Result<ReadLines<'a>, Fault>, T)
+) -> (Result<ReadLines<'a, N>, Fault>, T)
     requires few { length batch.now ≤ 2 ^ 40 }
     requires more { M.pre more.old }
     ensures more { M.step more.old result.1 more.new }
     ensures lines { (lines cut : List MeaningAt)
-        → AreReadUpTo lines before.entry.noted.ledger before.entry.noted.cache
-        before.entry.pending.items
-        → DropsCached [] cut batch.now → IsReading (lines ++ cut) result.0 }
+        → N.has_read lines before.entry.notes before.entry.cache before.entry.pending.items
+        → DropsCached [] cut batch.now → IsReading N.has_read (lines ++ cut) result.0 }
 {
-    let ReadLines { noted, mut pending } = before;
-    let NotedLines { mut ledger, cache } = noted;
+    let ReadLines {
+        mut notes,
+        cache,
+        mut pending,
+    } = before;
+    let shared = notes.shared();
     let mut first = || -> (Result<(), Fault>, T)
         requires { M.pre more.now }
-        ensures noted { IsNotingOf pending.entry.items ledger.entry ledger.exit result.0 }
+        ensures noted { (lines : List MeaningAt) (known : List (Result Line Why))
+            → N.has_read lines notes.entry known pending.entry.items → MatchResult result.0
+            (λ _. N.has_read lines notes.exit known []) (IsReadFault (bad_lines_among lines)) }
+        ensures shared { N.shared_of notes.exit ≡ N.shared_of notes.entry }
         ensures more { M.step more.entry.now result.1 more.exit.now }
     {
         let pieces = mem::replace(&mut pending, Vec::new(alloc));
-        (note_pieces(pieces, &mut ledger), more())
+        (notes.note(pieces), more())
     };
     let pieces = plan.pieces(batch.len());
-    let ((stepped, given), read) = claimed_map_after(
+    let ((noted, given), read) = claimed_map_after(
         rt,
         alloc,
         pieces,
         plan,
         gate,
         &mut first,
-        |piece| { read_piece(alloc, plan, &cache, batch, piece) },
+        |piece: usize| -> Result<N::Piece, Memory>
+            requires { piece < piece_count plan.cut (length batch.now) }
+            ensures { IfOk result
+                (N.is_read shared cache.entry (lines_of_piece plan.cut piece batch.entry.now)) }
+        { read_piece::<N>(alloc, shared, plan, &cache, batch, piece) },
     );
-    let noted = NotedLines { ledger, cache };
-    (after_batch(stepped, read, noted, batch, copies), given)
+    (after_batch(noted, read, notes, cache, batch, copies), given)
 }
 
-impl<'a> LogReader<'a> {
+impl<'a, N: Notes + Sync + Drop> LogReader<'a, N> {
     /// No line is read yet. The number of logs is a hint.
-    pub fn new<R: RandomSource>(rt: &R, alloc: Global, logs: usize) -> Result<LogReader<'a>, Memory>
-        ensures { IfOk result (HasRead []) }
+    pub fn new(alloc: Global, notes: N, logs: usize) -> Result<LogReader<'a, N>, Memory>
+        requires { N.has_read [] notes [] [] }
+        ensures { IfOk result (HasRead N.has_read []) }
     {
-        let noted = NotedLines::new(alloc, logs, Seed::draw(rt))?;
+        let cache = LineCache::new(alloc, logs)?;
         Ok(LogReader {
             read: Ok(ReadLines {
-                noted,
+                notes,
+                cache,
                 pending: Vec::new(alloc),
             }),
         })
@@ -159,12 +161,12 @@ impl<'a> LogReader<'a> {
         more: &mut M,
         plan: Plan,
         gate: &G,
-    ) -> (LogReader<'a>, T)
+    ) -> (LogReader<'a, N>, T)
         requires few { length batch.now ≤ 2 ^ 40 }
         requires more { M.pre more.old }
         ensures more { M.step more.old result.1 more.new }
-        ensures lines { (lines cut : List MeaningAt) → HasRead lines self.entry
-            → DropsCached [] cut batch.now → HasRead (lines ++ cut) result.0 }
+        ensures lines { (lines cut : List MeaningAt) → HasRead N.has_read lines self.entry
+            → DropsCached [] cut batch.now → HasRead N.has_read (lines ++ cut) result.0 }
     {
         let before = match self.read {
             Ok(before) => before,
@@ -174,21 +176,17 @@ impl<'a> LogReader<'a> {
         (LogReader { read }, given)
     }
 
-    /// Notes what is read.
-    fn note(self) -> Result<NotedLines<'a>, Fault>
-        ensures { (lines : List MeaningAt) → HasRead lines self.entry → IsNoting lines result }
+    /// Has what is read noted.
+    pub fn finish(self) -> Result<N, Fault>
+        ensures { (lines : List MeaningAt) → HasRead N.has_read lines self.entry
+            → IsNoting N.has_read lines result }
     {
-        let ReadLines { noted, pending } = self.read?;
-        let NotedLines { mut ledger, cache } = noted;
-        note_pieces(pending, &mut ledger)?;
-        Ok(NotedLines { ledger, cache })
-    }
-
-    /// The committed map of the logs, or their first refusal.
-    pub fn close(self) -> Result<Merged, Fault>
-        ensures { (logs : List (List ℕ)) → HasRead (meanings_of logs) self.entry → FitLimits logs
-            → MatchResult result (IsAccepted logs) (IsRefusal logs) }
-    {
-        merge_noted(self.note())
+        let ReadLines {
+            mut notes,
+            pending,
+            ..
+        } = self.read?;
+        notes.note(pending)?;
+        Ok(notes)
     }
 }

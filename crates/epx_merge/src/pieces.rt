@@ -4,8 +4,8 @@ ghost use Rattle.std.specs.Prelude.{MatchResult, length};
 ghost use Rattle.epx_types.specs.Pieces.{piece_count};
 ghost use Rattle.epx_merge.specs.LogLines.{MeaningAt, placed_at, placed_among, bad_lines_at};
 ghost use Rattle.epx_merge.specs.LogLines.{bad_lines_among};
-ghost use Rattle.epx_merge.specs.ReadPieces.{AreRead, IsReadBeside, SkipsOrReads};
-ghost use Rattle.epx_merge.specs.ReadPieces.{lines_of_piece, HasEntries};
+ghost use Rattle.epx_merge.specs.LinePieces.{lines_of_piece};
+ghost use Rattle.epx_merge.specs.ReadPieces.{AreRead, HasEntries, IsReadBeside, SkipsOrReads};
 ghost use Rattle.epx_committed.specs.Ledgers.{NotesLines};
 ghost use Rattle.epx_merge.specs.ReadFaults.{IsReadFault};
 
@@ -19,14 +19,14 @@ use std::alloc::Global;
 
 /// A line with a fault, and its reason.
 #[derive(Clone, Copy, Debug)]
-pub(crate) struct BadLine {
+pub struct BadLine {
     pub(crate) place: Place,
     pub(crate) why: Why,
 }
 
 /// What a worker read of a piece: the entries, and which lines the cache lacks.
 #[derive(Debug, Drop)]
-pub(crate) struct ReadPiece {
+pub struct ReadPiece {
     pub(crate) entries: Vec<PlacedEntry>,
     pub(crate) fresh: Vec<FreshLine>,
 }

@@ -1,6 +1,7 @@
 //! Reads logs: returns their committed map, or the first refusal.
 ghost use Rattle.std.specs.Prelude.{◌<◌, ℕ, List, [], MatchResult};
-ghost use Rattle.epx_merge.specs.inner.NotedLines.{IsNoting};
+ghost use Rattle.epx_merge.specs.LedgerNotes.{AreReadUpTo};
+ghost use Rattle.epx_merge.specs.LogReaders.{IsNoting};
 ghost use Rattle.epx_merge.specs.LogLines.{meanings_of, bytes_of};
 ghost use Rattle.epx_merge.specs.Acceptance.{IsAccepted};
 ghost use Rattle.epx_merge.specs.Refusals.{FitLimits, IsRefusal};
@@ -10,7 +11,7 @@ use crate::noted_lines::NotedLines;
 use crate::read_batches::read_batches;
 use crate::walk::LineWalk;
 use epx_claims::Gate;
-use epx_committed::Merged;
+use epx_committed::{Ledger, Merged};
 use epx_seed::Seed;
 use epx_types::limits::MAX_LOGS;
 use epx_types::{Fault, Plan};
@@ -20,12 +21,12 @@ use std::thread::Threads;
 
 /// The committed map of logs whose lines are noted, or their first refusal. The logs are neither
 /// too many nor too long.
-pub(crate) fn merge_noted(noted: Result<NotedLines<'_>, Fault>) -> Result<Merged, Fault>
-    ensures { (logs : List (List ℕ)) → FitLimits logs → IsNoting (meanings_of logs) noted.entry
+pub fn merge_noted(noted: Result<Ledger, Fault>) -> Result<Merged, Fault>
+    ensures { (logs : List (List ℕ)) → FitLimits logs
+        → IsNoting AreReadUpTo (meanings_of logs) noted
         → MatchResult result (IsAccepted logs) (IsRefusal logs) }
 {
-    let NotedLines { ledger, .. } = noted?;
-    ledger.close()
+    noted?.close()
 }
 
 /// The committed map of the logs, or their first refusal.

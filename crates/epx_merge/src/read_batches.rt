@@ -1,7 +1,9 @@
 //! Reads lines batch by batch.
 ghost use Rattle.std.specs.Prelude.{◌≤◌, ◌^◌, ◌++◌, List, IfOk, MatchResult, length};
 ghost use Rattle.std.specs.Thread.{IsSync};
-ghost use Rattle.epx_merge.specs.inner.NotedLines.{AreNoted, IsNoting};
+ghost use Rattle.epx_merge.specs.LedgerNotes.{AreReadUpTo};
+ghost use Rattle.epx_merge.specs.LogReaders.{IsNoting};
+ghost use Rattle.epx_merge.specs.inner.NotedLines.{AreNoted};
 ghost use Rattle.epx_merge.specs.inner.ReadSteps.{IsReadStep};
 ghost use Rattle.epx_merge.specs.ReadPieces.{AreRead, AreReadBeside, IsBatchRead, HasEntries};
 ghost use Rattle.epx_merge.specs.LogLines.{MeaningAt, bad_lines_among};
@@ -15,6 +17,7 @@ use crate::pieces::{Pieces, note_pieces, read_piece};
 use crate::read_state::{ReadState, next_step};
 use crate::walk::LineWalk;
 use epx_claims::{Gate, claimed_map};
+use epx_committed::Ledger;
 use epx_types::{Fault, Memory, Plan};
 use std::alloc::Global;
 use std::thread::{Threads, join};
@@ -118,11 +121,11 @@ pub(crate) fn read_batches<'a, R: Threads + Sync, G: Gate + Sync>(
     gate: &G,
     noted: NotedLines<'a>,
     walk: LineWalk<'a>,
-) -> Result<NotedLines<'a>, Fault>
+) -> Result<Ledger, Fault>
     requires { (before : List MeaningAt) × AreNoted before noted.ledger noted.cache }
     ensures { (before : List MeaningAt)
         → AreNoted before noted.entry.ledger noted.entry.cache
-        → IsNoting (before ++ walk.entry) result }
+        → IsNoting AreReadUpTo (before ++ walk.entry) result }
 {
     let NotedLines { ledger, mut cache } = noted;
     let mut read = Vec::new(alloc);
@@ -148,5 +151,5 @@ pub(crate) fn read_batches<'a, R: Threads + Sync, G: Gate + Sync>(
     }
     let ReadState { mut ledger, .. } = state;
     note_pieces(read, &mut ledger)?;
-    Ok(NotedLines { ledger, cache })
+    Ok(ledger)
 }

@@ -16,6 +16,7 @@ mod input_texts;
 pub mod laws;
 mod map_texts;
 mod merged_sources;
+mod noted_sources;
 mod question;
 mod report;
 mod resumed_runs;

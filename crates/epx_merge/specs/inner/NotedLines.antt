@@ -1,13 +1,10 @@
 -- Lines that are read and noted.
-use Rattle.std.specs.Prelude.{◌≡◌, List, [], Result, MatchResult}
-use Rattle.epx_types.specs.declared.fault.Fault.{Fault}
+use Rattle.std.specs.Prelude.{◌≡◌, List, [], Result}
 use Rattle.epx_types.specs.declared.fault.Why.{Why}
 use Rattle.epx_lines.specs.declared.Line.{Line}
-use Rattle.epx_merge.specs.declared.noted_lines.NotedLines.{NotedLines}
 use Rattle.epx_merge.specs.LogLines.{MeaningAt, placed_among, bad_lines_among}
 use Rattle.epx_committed.specs.Ledgers.{LedgerView, IsLedgerOf}
 use Rattle.epx_merge.specs.RedundantLines.{DropsRedundant, IsCacheOf}
-use Rattle.epx_merge.specs.ReadFaults.{IsReadFault}
 
 -- none of the lines is bad; the ledger has all but some redundant ones, and the cache recognizes
 -- only lines that the ledger has
@@ -18,8 +15,3 @@ pub record AreNoted (lines : List MeaningAt) (ledger : LedgerView)
   pub clean : bad_lines_among kept ≡ []
   pub noted : IsLedgerOf (placed_among kept) ledger
   pub cached : IsCacheOf kept cache
-
--- the result of reading the lines: they are noted, or the first bad one
-abbrev pub IsNoting : List MeaningAt → Result NotedLines Fault → Type 0
-IsNoting lines result = MatchResult result (λ n. AreNoted lines n.ledger n.cache)
-    (IsReadFault (bad_lines_among lines))

@@ -11,7 +11,8 @@ use Rattle.epx_types.specs.Instances.{Instance}
 use Rattle.epx_devices.specs.Deliveries.{FailRelation, ReadRelation}
 use Rattle.epx_merge.specs.Acceptance.{IsAccepted}
 use Rattle.epx_types.specs.Limits.{max_log_bytes}
-use Rattle.epx_merge.specs.LogLines.{bytes_of}
+use Rattle.epx_merge.specs.LogLines.{bytes_of, meanings_of}
+use Rattle.epx_merge.specs.LogReaders.{IsNoting, NoteRelation}
 use Rattle.epx_merge.specs.Refusals.{FitLimits, IsRefusal}
 use Rattle.epx_tool.specs.Delivered.{EachDelivers, FirstDeliver, StopsReading}
 use Rattle.epx_tool.specs.Runs.{AreBytesOf, IsReadingRefusal}
@@ -67,6 +68,16 @@ EndsMaking remaining reads fails has_failed Made old new (Err fault) =
     EndsReading remaining reads fails has_failed old new (Err fault)
     ⊎ ((logs : List (List ℕ)) × EndsReading remaining reads fails has_failed old new (Ok logs)
     × Made logs (Err fault))
+
+-- how reading all sources ends, and how the lines of their logs are then noted
+abbrev pub EndsNoting : {S N P T : Type 0} → (S → Option (List ℕ)) → ReadRelation S
+    → FailRelation S → (S → Bool) → NoteRelation N P → List S → List S
+    → Result (Result N Fault × T) Fault → Type 0
+EndsNoting remaining reads fails has_failed has_read old new (Ok noted) = (logs : List (List ℕ))
+    × EndsReading remaining reads fails has_failed old new (Ok logs)
+    × IsNoting has_read (meanings_of logs) noted.0
+EndsNoting remaining reads fails has_failed has_read old new (Err fault) =
+    EndsReading remaining reads fails has_failed old new (Err fault)
 
 -- what merging logs comes to
 abbrev pub IsMerging : List (List ℕ) → Result (List Instance) Fault → Type 0

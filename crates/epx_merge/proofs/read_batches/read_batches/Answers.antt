@@ -3,6 +3,7 @@ use Rattle.std.proofs.lemmas.List.{nil_from_length}
 use Rattle.epx_merge.specs.ReadPieces.{AreRead, HasEntries}
 use Rattle.epx_merge.proofs.BatchLemmas.{is_some_length, so_far_first, so_far_next, so_far_less}
 use Rattle.epx_merge.proofs.BatchLemmas.{so_far_fault, so_far_over, fault_at_first}
+use Rattle.epx_merge.proofs.LedgerNoteLemmas.{none_pending}
 use Rattle.epx_merge.proofs.read_batches.read_batches.Goals as goal
 
 pub loop-alloc-init : goal.loop-alloc-init
@@ -72,9 +73,12 @@ returns g c = λ before noted.
     let h = c.loop-alloc.invariant before noted in
     let over = c.in_ok-note_pieces.ensures h.pending h.given in
     let none = nil_from_length c.loop-alloc.state.lines.items (search rules) in
-    so_far_over HasEntries (before ++ c.args.walk) c.loop-alloc.state.walk
+    let all = so_far_over HasEntries (before ++ c.args.walk) c.loop-alloc.state.walk
     c.loop-alloc.state.lines.items c.loop-alloc.read.items c.loop-alloc.cache
-    c.loop-alloc.state.ledger h c.note_pieces.new.ledger none over.0 over.1
+    c.loop-alloc.state.ledger h c.note_pieces.new.ledger none over.0 over.1 in (
+      c.loop-alloc.cache,
+      none_pending (before ++ c.args.walk) c.note_pieces.new.ledger c.loop-alloc.cache all,
+    )
 
 pub read_and_step-requires-after_bounds : goal.read_and_step-requires-after_bounds
 read_and_step-requires-after_bounds g c =

@@ -1,7 +1,8 @@
 use Rattle.std.proofs.Common.{◌<◌, ◌∙◌, sym, subst, rules}
 use Rattle.std.proofs.lemmas.Result.{IfOk-weaker}
-use Rattle.epx_merge.specs.ReadPieces.{IsReadBeside, lines_of_piece, HasEntries}
-use Rattle.epx_merge.proofs.PieceLemmas.{read_in_order}
+use Rattle.epx_merge.specs.LinePieces.{lines_of_piece}
+use Rattle.epx_merge.specs.ReadPieces.{IsReadBeside, HasEntries}
+use Rattle.epx_merge.proofs.LinePieceLemmas.{pieces_in_order}
 use Rattle.epx_merge.proofs.read_batches.read_pieces.Goals as goal
 
 pub returns : goal.returns
@@ -10,7 +11,7 @@ returns g c =
     let cache = c.args.cache.now in
     let count = c.pieces-pieces.ensures.pieces in
     IfOk-weaker c.claimed_map.result _ _ (λ v h.
-    read_in_order HasEntries cache c.args.plan.cut
+    pieces_in_order (IsReadBeside HasEntries cache) c.args.plan.cut
     c.pieces-pieces.ensures.fits.some_item lines v.items (record {
       len = h.len ∙ count;
       each = λ i inside.

@@ -1,9 +1,19 @@
-use Rattle.std.proofs.Common.{inl}
-use Rattle.epx_tool.proofs.SourceReadingLemmas.{too_many_sources}
+use Rattle.std.proofs.Common.{Err, inl, subst, rules}
+use Rattle.epx_tool.specs.inner.SourceReadings.{EndsMerging, IsMerging}
+use Rattle.epx_tool.proofs.MergedSourceLemmas.{made_after}
 use Rattle.epx_tool.proofs.merged_sources.merge_sources.Goals as goal
 
-pub returns-then-sources-gt-MAX_LOGS : goal.returns-then-sources-gt-MAX_LOGS
-returns-then-sources-gt-MAX_LOGS g c =
+pub returns-in_err-noted : goal.returns-in_err-noted
+returns-in_err-noted g c =
     let S = g.S.Source in
-    inl (too_many_sources S.remaining S.reads S.fails S.has_failed c.args.sources.now c.requires
-    c.if-sources-gt-MAX_LOGS.true)
+    let ended = rw c.in_err-noted.was at c.note_sources.ensures.noted in
+    subst (EndsMerging S.remaining S.reads S.fails S.has_failed c.args.sources.now
+    c.note_sources.new.sources) {x = Err c.in_err-noted.field-0.0} (search rules) (inl ended)
+
+pub returns : goal.returns
+returns g c =
+    let S = g.S.Source in
+    let read = rw c.in_ok-noted.was at c.note_sources.ensures.noted in
+    made_after S.remaining S.reads S.fails S.has_failed c.args.sources.now
+    c.note_sources.new.sources IsMerging read.0 c.merge_noted.result read.1
+    (c.merge_noted.ensures read.0 read.1.fit read.2)

@@ -1,7 +1,7 @@
 use Rattle.std.proofs.Common.{rules}
 use Rattle.epx_merge.specs.LogLines.{bad_lines_among}
 use Rattle.epx_merge.specs.ReadFaults.{IsReadFault}
-use Rattle.epx_merge.proofs.LogReaderLemmas.{bad_stays}
+use Rattle.epx_merge.proofs.ReadFaultLemmas.{bad_stays}
 use Rattle.epx_merge.proofs.log_reader.LogReader.read_during.Goals as goal
 
 pub returns-in-Err-clause-lines : goal.returns-in-Err-clause-lines

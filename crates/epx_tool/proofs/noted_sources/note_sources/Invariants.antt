@@ -1,16 +1,17 @@
 use Rattle.std.proofs.Common.{◌≡◌, ◌≤◌, ◌++◌, ◌^◌, List, [], length}
 use Rattle.epx_merge.specs.LogLines.{MeaningAt}
-use Rattle.epx_merge.specs.LogParts.{HasRead}
+use Rattle.epx_merge.specs.LogReaders.{HasRead}
 use Rattle.epx_merge.specs.RedundantLines.{DropsCached}
 use Rattle.epx_tool.specs.inner.Gathered.{AreGathered, left_of}
-use Rattle.epx_tool.proofs.merged_sources.merge_in_batches.Given as goal
+use Rattle.epx_tool.proofs.noted_sources.note_sources.Given as goal
 
 -- some lines are read, and the next ones are gathered
 abbrev pub invariant-loop-sources : goal.invariant-loop-sources
 invariant-loop-sources g l =
     let S = g.S.Source in
     (length l.sources ≡ length l.fn.sources) × (length l.here ≤ 2 ^ 40)
-    × ((read cut : List MeaningAt) × HasRead read l.reader × DropsCached [] cut l.here
+    × ((read cut : List MeaningAt) × HasRead g.N.Notes.has_read read l.reader
+    × DropsCached [] cut l.here
     × AreGathered S.remaining S.reads S.has_failed l.fn.sources l.sources l.at (read ++ cut))
 
 abbrev pub decreases-loop-sources : goal.decreases-loop-sources

@@ -1,18 +1,24 @@
-use Rattle.std.proofs.Common.{◌∙◌, ◌++◌, [], length, inl, ap, arith, refl, subst}
-use Rattle.epx_merge.specs.LogParts.{HasRead}
-use Rattle.epx_tool.specs.inner.SourceReadings.{IsMerging}
+use Rattle.std.proofs.Common.{◌∙◌, ◌++◌, [], length, ap, arith, refl, subst}
+use Rattle.epx_merge.specs.LogReaders.{IsNoting}
+use Rattle.epx_merge.specs.LogLines.{meanings_of}
 use Rattle.epx_tool.proofs.GatheredLemmas.{all_gathered, none_gathered}
-use Rattle.epx_tool.proofs.MergedSourceLemmas.{made_after}
-use Rattle.epx_tool.proofs.SourceReadingLemmas.{none_delivered, out_of_memory}
-use Rattle.epx_tool.proofs.merged_sources.merge_in_batches.Goals as goal
+use Rattle.epx_tool.proofs.SourceReadingLemmas.{none_delivered, out_of_memory, too_many_sources}
+use Rattle.epx_tool.proofs.noted_sources.note_sources.Goals as goal
 
-pub returns-in_default : goal.returns-in_default
-returns-in_default g c =
+pub returns-then-sources-gt-MAX_LOGS-clause-noted :
+    goal.returns-then-sources-gt-MAX_LOGS-clause-noted
+returns-then-sources-gt-MAX_LOGS-clause-noted g c =
+    let S = g.S.Source in
+    too_many_sources S.remaining S.reads S.fails S.has_failed c.args.sources.now c.requires.well
+    c.if-sources-gt-MAX_LOGS.true
+
+pub returns-in_default-clause-noted : goal.returns-in_default-clause-noted
+returns-in_default-clause-noted g c =
     let S = g.S.Source in
     let sources = c.args.sources.now in
-    inl (out_of_memory S.remaining S.reads S.fails S.has_failed sources sources 0 []
+    out_of_memory S.remaining S.reads S.fails S.has_failed sources sources 0 []
     (none_delivered S.remaining S.reads S.fails S.has_failed sources c.requires.well)
-    c.requires.few)
+    (omega (arith, c.if-sources-gt-MAX_LOGS.false))
 
 pub loop-sources-init : goal.loop-sources-init
 loop-sources-init g c =
@@ -30,12 +36,12 @@ loop-sources-init g c =
       ),
     )
 
-pub returns-in-Err : goal.returns-in-Err
-returns-in-Err g c =
+pub returns-in-Err-clause-noted : goal.returns-in-Err-clause-noted
+returns-in-Err-clause-noted g c =
     let h = c.loop-sources.invariant.2 in
     let lines = h.0 ++ h.1 in
-    inl (rw c.in-Err.is at
-    (c.read_and_gather-read.ensures.lines c.args.sources.now lines h.4))
+    rw c.in-Err.is at
+    (c.read_and_gather-read.ensures.lines c.args.sources.now lines h.4)
 
 pub loop-sources-preserved : goal.loop-sources-preserved
 loop-sources-preserved g c =
@@ -55,17 +61,17 @@ loop-sources-preserved g c =
       ),
     )
 
-pub returns : goal.returns
-returns g c =
+pub returns-clause-noted : goal.returns-clause-noted
+returns-clause-noted g c =
     let S = g.S.Source in
+    let has_read = g.N.Notes.has_read in
     let h = c.loop-sources.invariant.2 in
     let sources = c.loop-sources.sources in
     let same = c.loop-sources.invariant.0 in
     let all = all_gathered S.remaining S.reads S.fails S.has_failed c.args.sources.now sources
-    (omega (arith, same, c.requires.few)) c.loop-sources.at (h.0 ++ h.1) h.4
+    (omega (arith, same, c.if-sources-gt-MAX_LOGS.false)) c.loop-sources.at (h.0 ++ h.1) h.4
     (omega (arith, c.loop-sources-test.false, c.logs.ensures)) in
     let read = c.read_during-reader.ensures.lines h.0 h.1 h.2 h.3 in
-    made_after S.remaining S.reads S.fails S.has_failed c.args.sources.now sources IsMerging all.0
-    c.close.result all.1
-    (c.close.ensures all.0 (subst (λ l. HasRead l c.read_during-reader.result.0) all.2 read)
-    all.1.fit)
+    let noted : IsNoting has_read (meanings_of all.0) c.finish.result =
+    subst (λ l. IsNoting has_read l c.finish.result) all.2 (c.finish.ensures (h.0 ++ h.1) read) in
+    (all.0, all.1, noted)
