@@ -8,10 +8,11 @@ use Rattle.epx_types.specs.Instances.{Instance}
 use Rattle.epx_types.specs.Limits.{max_logs, max_log_bytes}
 use Rattle.epx_merge.specs.Refusals.{IsFirstTooLong}
 use Rattle.epx_tool.specs.Answer.{Answers}
+use Rattle.epx_devices.specs.Models.{SourceModel}
 
 -- the bytes that each source has left to deliver
-abbrev pub AreBytesOf : {S : Type 0} → (S → Option (List ℕ)) → List S → List (List ℕ) → Type 0
-AreBytesOf remaining sources logs = map remaining sources ≡ map Some logs
+abbrev pub AreBytesOf : {S : Type 0} → SourceModel S → List S → List (List ℕ) → Type 0
+AreBytesOf D sources logs = map D.remaining sources ≡ map Some logs
 
 -- no log before this one is too long
 abbrev pub NoneTooLongBefore : List (List ℕ) → ℕ → Type 0

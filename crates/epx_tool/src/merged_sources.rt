@@ -54,16 +54,14 @@ fn read_and_gather<'a, R: Threads + RandomSource + Sync, S: Source>(
     requires here { length here.now ≤ 2 ^ 40 }
     requires next { next.old ≡ [] }
     requires begun { (first : _) × (lines : _)
-        × AreGathered S.remaining S.reads S.has_failed first sources.old at.old lines }
+        × AreGathered S.model first sources.old at.old lines }
     ensures read { (lines cut : List MeaningAt) → HasRead lines reader.entry
         → DropsCached [] cut here.now → HasRead (lines ++ cut) result.0 }
     ensures lines { (first : _) (lines : List MeaningAt)
-        → AreGathered S.remaining S.reads S.has_failed first sources.old at.old lines
-        → MatchResult result.1
+        → AreGathered S.model first sources.old at.old lines → MatchResult result.1
         (λ _. (cut : List MeaningAt) × DropsCached [] cut next.new
-        × AreGathered S.remaining S.reads S.has_failed first sources.new at.new (lines ++ cut))
-        (λ fault. EndsReading S.remaining S.reads S.fails S.has_failed first sources.new
-        (Err fault)) }
+        × AreGathered S.model first sources.new at.new (lines ++ cut))
+        (λ fault. EndsReading S.model first sources.new (Err fault)) }
     ensures fewer { OnOk result.1
         (left_of (length sources.new) at.new < left_of (length sources.old) at.old) }
     ensures few { OnOk result.1 (length next.new ≤ 2 ^ 40) }
@@ -72,15 +70,12 @@ fn read_and_gather<'a, R: Threads + RandomSource + Sync, S: Source>(
     let mut more = || -> Result<(), Fault>
         requires { (at.now.log < length sources.now) × (length sources.now ≤ max_logs)
             × (next.now ≡ []) × (most ≤ 2 ^ 32) × ((first : _) × (lines : _)
-            × AreGathered S.remaining S.reads S.has_failed first sources.now at.now lines) }
+            × AreGathered S.model first sources.now at.now lines) }
         ensures lines { (first : _) (lines : List MeaningAt)
-            → AreGathered S.remaining S.reads S.has_failed first sources.entry.now at.entry.now
-            lines → MatchResult result
+            → AreGathered S.model first sources.entry.now at.entry.now lines → MatchResult result
             (λ _. (cut : List MeaningAt) × DropsCached [] cut next.exit.now
-            × AreGathered S.remaining S.reads S.has_failed first sources.exit.now at.exit.now
-            (lines ++ cut))
-            (λ fault. EndsReading S.remaining S.reads S.fails S.has_failed first
-            sources.exit.now (Err fault)) }
+            × AreGathered S.model first sources.exit.now at.exit.now (lines ++ cut))
+            (λ fault. EndsReading S.model first sources.exit.now (Err fault)) }
         ensures fewer { OnOk result (left_of (length sources.exit.now) at.exit.now
             < left_of (length sources.entry.now) at.entry.now) }
         ensures few { OnOk result (length next.exit.now ≤ 2 ^ 40) }
@@ -96,8 +91,8 @@ fn merge_in_batches<R: Threads + RandomSource + Sync, S: Source>(
     plan: Plan,
 ) -> Result<Merged, Fault>
     requires few { length sources.old ≤ max_logs }
-    requires well { All (λ s. S.has_failed s ≡ false) sources.old }
-    ensures { EndsMerging S.remaining S.reads S.fails S.has_failed sources.old sources.new result }
+    requires well { All (λ s. S.model.has_failed s ≡ false) sources.old }
+    ensures { EndsMerging S.model sources.old sources.new result }
 {
     let copies = Bump::new(alloc);
     let Ok(mut reader) = LogReader::new(rt, alloc, sources.len()) else {
@@ -128,8 +123,8 @@ pub(crate) fn merge_sources<R: Threads + RandomSource + Sync, S: Source>(
     sources: &mut [S],
     plan: Plan,
 ) -> Result<Merged, Fault>
-    requires { All (λ s. S.has_failed s ≡ false) sources.old }
-    ensures { EndsMerging S.remaining S.reads S.fails S.has_failed sources.old sources.new result }
+    requires { All (λ s. S.model.has_failed s ≡ false) sources.old }
+    ensures { EndsMerging S.model sources.old sources.new result }
 {
     if sources.len() > MAX_LOGS {
         return Err(Fault::TooManyLogs);

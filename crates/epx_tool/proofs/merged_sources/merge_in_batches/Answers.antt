@@ -8,15 +8,14 @@ use Rattle.epx_tool.proofs.merged_sources.merge_in_batches.Goals as goal
 
 pub returns-in_default : goal.returns-in_default
 returns-in_default g c =
-    let S = g.S.Source in
+    let D = g.S.Source.model in
     let sources = c.args.sources.now in
-    inl (out_of_memory S.remaining S.reads S.fails S.has_failed sources sources 0 []
-    (none_delivered S.remaining S.reads S.fails S.has_failed sources c.requires.well)
+    inl (out_of_memory D sources sources 0 [] (none_delivered D sources c.requires.well)
     c.requires.few)
 
 pub loop-sources-init : goal.loop-sources-init
 loop-sources-init g c =
-    let S = g.S.Source in
+    let D = g.S.Source.model in
     let at = c.new-at.ensures in (
       refl,
       omega (arith, ap length c.new-here.ensures),
@@ -25,8 +24,7 @@ loop-sources-init g c =
         [],
         c.in-Ok.ensures,
         c.new-here.ensures,
-        none_gathered S.remaining S.reads S.fails S.has_failed c.args.sources.now c.requires.well
-            c.new-at.result at.0 at.1 at.2 at.3,
+        none_gathered D c.args.sources.now c.requires.well c.new-at.result at.0 at.1 at.2 at.3,
       ),
     )
 
@@ -57,15 +55,14 @@ loop-sources-preserved g c =
 
 pub returns : goal.returns
 returns g c =
-    let S = g.S.Source in
+    let D = g.S.Source.model in
     let h = c.loop-sources.invariant.2 in
     let sources = c.loop-sources.sources in
     let same = c.loop-sources.invariant.0 in
-    let all = all_gathered S.remaining S.reads S.fails S.has_failed c.args.sources.now sources
+    let all = all_gathered D c.args.sources.now sources
     (omega (arith, same, c.requires.few)) c.loop-sources.at (h.0 ++ h.1) h.4
     (omega (arith, c.loop-sources-test.false, c.logs.ensures)) in
     let read = c.read_during-reader.ensures.lines h.0 h.1 h.2 h.3 in
-    made_after S.remaining S.reads S.fails S.has_failed c.args.sources.now sources IsMerging all.0
-    c.close.result all.1
+    made_after D c.args.sources.now sources IsMerging all.0 c.close.result all.1
     (c.close.ensures all.0 (subst (λ l. HasRead l c.read_during-reader.result.0) all.2 read)
     all.1.fit)

@@ -4,6 +4,5 @@ use Rattle.epx_tool.proofs.merged_sources.merge_sources.Goals as goal
 
 pub returns-then-sources-gt-MAX_LOGS : goal.returns-then-sources-gt-MAX_LOGS
 returns-then-sources-gt-MAX_LOGS g c =
-    let S = g.S.Source in
-    inl (too_many_sources S.remaining S.reads S.fails S.has_failed c.args.sources.now c.requires
-    c.if-sources-gt-MAX_LOGS.true)
+    let D = g.S.Source.model in
+    inl (too_many_sources D c.args.sources.now c.requires c.if-sources-gt-MAX_LOGS.true)
