@@ -1,6 +1,6 @@
 -- How far the lines of sources are gathered, once one more part of a log is read.
 use Rattle.std.proofs.Common.{◌≡◌, ◌<◌, ◌≤◌, ◌⊎◌, ◌+◌, ◌-◌, ◌*◌, ◌++◌, ◌∷◌, ◌∙◌, [], ℕ, zero, suc}
-use Rattle.std.proofs.Common.{Bool, true, false, List, length, take, drop, get_or, set, All, Option}
+use Rattle.std.proofs.Common.{Bool, true, false, List, length, take, drop, get_or, set, All}
 use Rattle.std.proofs.Common.{Result, Ok, Err, MatchResult, Vec, Global, inl, inr, refl, sym, ap}
 use Rattle.std.proofs.Common.{subst, arith, append-nil, append_assoc, length-append}
 use Rattle.std.proofs.Math.Seq.{take-length, drop-length}

@@ -1,5 +1,5 @@
 -- How a run ends, by how reading its sources and merging their logs ended.
-use Rattle.std.proofs.Common.{◌≡◌, ◌↔◌, ℕ, Bool, true, false, List, [], ◌∷◌, length, Option}
+use Rattle.std.proofs.Common.{◌≡◌, ◌↔◌, ℕ, true, false, List, [], ◌∷◌, length}
 use Rattle.std.proofs.Common.{Result, Ok, Err, Vec, Global, inl, inr, sym, subst}
 use Rattle.std.proofs.Common.{arith}
 use Rattle.std.specs.Io.KnownBytes.{Appends}

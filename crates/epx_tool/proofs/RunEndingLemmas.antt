@@ -1,5 +1,5 @@
 -- How a run ends, by how reading its sources ended and by what it wrote.
-use Rattle.std.proofs.Common.{◌≡◌, ◌↔◌, ◌<◌, ◌≤◌, ◌||◌, ℕ, Bool, true, false, List, length, Option}
+use Rattle.std.proofs.Common.{◌≡◌, ◌↔◌, ◌<◌, ◌≤◌, ◌||◌, ℕ, Bool, true, false, List, length}
 use Rattle.std.proofs.Common.{Result, Ok, Err, IsErrOf, refl, sym, subst, inr, arith}
 use Rattle.std.proofs.lemmas.Option.{slice_get_within}
 use Rattle.std.proofs.lemmas.Result.{on_ok_weaker, IfErr-weaker}

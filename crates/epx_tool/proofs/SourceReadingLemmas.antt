@@ -1,6 +1,6 @@
 -- How reading all sources ends, by how far it is.
-use Rattle.std.proofs.Common.{◌≡◌, ◌↔◌, ◌+◌, ◌++◌, ◌∷◌, [], ◌<◌, ◌≤◌, ℕ, Bool, true, false, List}
-use Rattle.std.proofs.Common.{length, drop, get_or, set, All, Option, Result, Ok, Err, IsErrOf}
+use Rattle.std.proofs.Common.{◌≡◌, ◌↔◌, ◌+◌, ◌++◌, ◌∷◌, [], ◌<◌, ◌≤◌, ℕ, true, false, List}
+use Rattle.std.proofs.Common.{length, drop, get_or, set, All, Result, Ok, Err, IsErrOf}
 use Rattle.std.proofs.Common.{IfSome, IfOk, OnOk, IfErr, MatchResult, Vec, Global, inl, refl, sym}
 use Rattle.std.proofs.Common.{subst}
 use Rattle.std.specs.Io.KnownBytes.{IsAtEnd}

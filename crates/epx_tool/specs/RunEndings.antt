@@ -1,5 +1,5 @@
 -- How a run ends: what it writes, and how it leaves its sources.
-use Rattle.std.specs.Prelude.{◌≡◌, ◌≢◌, ◌↔◌, ℕ, Bool, true, List, length, Option, Some, Result}
+use Rattle.std.specs.Prelude.{◌≡◌, ◌≢◌, ◌↔◌, ℕ, true, List, length, Some, Result}
 use Rattle.std.specs.Prelude.{Ok, Err, OnOk, IfErr, IsErrOf}
 use Rattle.std.specs.Io.KnownBytes.{Appends, Keeps}
 use Rattle.epx_types.specs.declared.fault.Fault.{Fault}

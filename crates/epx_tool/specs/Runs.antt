@@ -1,5 +1,5 @@
 -- A run: logs are read from sources, and the answer to them is written to a sink.
-use Rattle.std.specs.Prelude.{◌≡◌, ℕ, ◌<◌, ◌≤◌, List, map, length, slice_get, Option, Some}
+use Rattle.std.specs.Prelude.{◌≡◌, ℕ, ◌<◌, ◌≤◌, List, map, length, slice_get, Some}
 use Rattle.std.specs.Prelude.{Result, Ok, Err}
 use Rattle.epx_types.specs.declared.fault.Fault.{Fault}
 use Rattle.epx_types.specs.declared.fault.Fault.TheVariants.{Memory, TooManyLogs, LogTooLong, Read}

@@ -1,6 +1,6 @@
 -- How a run leaves its sources.
-use Rattle.std.specs.Prelude.{◌≡◌, ◌↔◌, ◌⊎◌, ◌+◌, ◌<◌, ℕ, Bool, true, List, length, drop, All}
-use Rattle.std.specs.Prelude.{Option, Some, slice_get, Result, OnOk, IsErrOf}
+use Rattle.std.specs.Prelude.{◌≡◌, ◌↔◌, ◌⊎◌, ◌+◌, ◌<◌, ℕ, true, List, length, drop, All}
+use Rattle.std.specs.Prelude.{Some, slice_get, Result, OnOk, IsErrOf}
 use Rattle.std.specs.List.{AllZip}
 use Rattle.std.specs.Io.KnownBytes.{IsAtEnd}
 use Rattle.epx_types.specs.declared.fault.Fault.{Fault}

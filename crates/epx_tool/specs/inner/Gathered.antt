@@ -1,5 +1,5 @@
 -- How far the lines of sources are gathered.
-use Rattle.std.specs.Prelude.{◌≡◌, ◌≤◌, ◌<◌, ◌+◌, ◌-◌, ◌*◌, ◌++◌, ◌⊎◌, [], ℕ, Bool, List, Option}
+use Rattle.std.specs.Prelude.{◌≡◌, ◌≤◌, ◌<◌, ◌+◌, ◌-◌, ◌*◌, ◌++◌, ◌⊎◌, [], ℕ, List}
 use Rattle.std.specs.Prelude.{length, slice_index_or, slice_set}
 use Rattle.epx_devices.specs.Models.{SourceModel}
 use Rattle.epx_devices.specs.LogParts.{IsReadUpTo}
