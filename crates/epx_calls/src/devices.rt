@@ -16,7 +16,7 @@ const TEXT: &str = "{\"r\":0,\"i\":1,\"seq\":5}\n";
 
 /// Expects that the source, as log 5, delivers this whole text.
 fn expect_text<S: Source>(rt: &impl Abort, alloc: Global, source: &mut S) -> Result<(), Fail>
-    requires { S.has_failed source.old ≡ false }
+    requires { S.model.has_failed source.old ≡ false }
 {
     let bytes = read_log(alloc, 5, source)?;
     assert!(rt; bytes.as_slice() == TEXT.as_bytes());
@@ -26,7 +26,7 @@ fn expect_text<S: Source>(rt: &impl Abort, alloc: Global, source: &mut S) -> Res
 
 /// Expects that the source cannot be read as log 5.
 fn expect_unreadable<S: Source>(rt: &impl Abort, alloc: Global, source: &mut S) -> Result<(), Fail>
-    requires { S.has_failed source.old ≡ false }
+    requires { S.model.has_failed source.old ≡ false }
 {
     let fault = read_log(alloc, 5, source).err();
     if fault == Some(Fault::Memory) {
@@ -39,7 +39,7 @@ fn expect_unreadable<S: Source>(rt: &impl Abort, alloc: Global, source: &mut S) 
 
 /// Writes the whole text to a sink that can fail only if memory runs out.
 fn write_whole<W: Sink>(sink: &mut W) -> Result<(), Fail>
-    requires { W.has_failed sink.old ≡ false }
+    requires { W.model.has_failed sink.old ≡ false }
 {
     match write_out(TEXT.as_bytes(), sink) {
         Ok(()) => Ok(()),

@@ -4,56 +4,59 @@ use Rattle.std.proofs.Common.{refl, sym}
 use Rattle.std.proofs.Common.{subst, ap, ◌∙◌, append-nil, append_assoc}
 use Rattle.std.specs.Prelude.{MatchOption}
 use Rattle.std.specs.Io.KnownBytes.{Consumes}
-use Rattle.epx_devices.specs.Deliveries.{ReadRelation, ReadStep, AreReads}
+use Rattle.epx_devices.specs.Deliveries.{ReadStep, AreReads}
 use Rattle.epx_devices.specs.DeliveryLaws.{AllAreReturned, AllAreTheKnown, DeliversOpened}
 use Rattle.epx_devices.specs.DeliveryLaws.{FileReturnsAll, PathDeliversOpened}
-use Rattle.epx_devices.specs.DeviceStates.{OpenRelation, PathState, IsNextFile, IsUnread}
-use Rattle.epx_devices.specs.DeviceStates.{ReaderState, ReadsPath, ReadsReader}
-use Rattle.epx_devices.specs.inner.EitherReads.{AreOneReads}
+use Rattle.epx_devices.specs.DeviceStates.{IsNextFile, PathState, ReaderState, file_opener}
+use Rattle.epx_devices.specs.DeviceStates.{path_source, reader_source}
+use Rattle.epx_devices.specs.Models.{OpenerModel, SourceModel}
+use Rattle.epx_devices.specs.Reads.{AreOneReads}
 use Rattle.epx_devices.proofs.KnownBytesLemmas.{Consumes-trans}
 use Rattle.epx_devices.proofs.TransferLemmas.{known_at_end, none_consumed}
 
-module _ {S : Type 0} (remaining : S → Option (List ℕ)) (reads : ReadRelation S)
-    (law : AreOneReads remaining reads) where
-  reads_consume : (first now : S) (steps : List (ReadStep S)) → AreReads reads first steps now
-      → Consumes (remaining first) (remaining now) (flat_map (λ (r : ReadStep S). r.bytes) steps)
+module _ {S : Type 0} (D : SourceModel S) (law : AreOneReads D) where
+  reads_consume : (first now : S) (steps : List (ReadStep S)) → AreReads D first steps now
+      → Consumes (D.remaining first) (D.remaining now)
+      (flat_map (λ (r : ReadStep S). r.bytes) steps)
   reads_consume first now [] h =
-      subst (λ s. Consumes (remaining first) (remaining s) []) h (none_consumed (remaining first))
+      subst (λ s. Consumes (D.remaining first) (D.remaining s) []) h
+      (none_consumed (D.remaining first))
   reads_consume first now (r ∷ rest) h =
-      Consumes-trans (remaining first) (remaining r.next) (remaining now) r.bytes _
+      Consumes-trans (D.remaining first) (D.remaining r.next) (D.remaining now) r.bytes _
       (law first r.room r.bytes r.next h.0).1 (reads_consume r.next now rest h.1)
 
-  pub all_are_known : AllAreTheKnown remaining reads
+  pub all_are_known : AllAreTheKnown D
   all_are_known first now bytes all =
       let last = law all.last all.room [] now all.ended in
-      let sofar = subst (λ b. Consumes (remaining first) (remaining all.last) b)
+      let sofar = subst (λ b. Consumes (D.remaining first) (D.remaining all.last) b)
       (sym all.before.returned)
       (reads_consume first all.last all.before.steps all.before.in_turn) in
-      let whole = subst (λ b. Consumes (remaining first) (remaining now) b) (append-nil bytes)
-      (Consumes-trans (remaining first) (remaining all.last) (remaining now) bytes [] sofar last.1)
-      in
-      known_at_end (remaining first) (remaining now) bytes whole (last.2 refl all.has_room)
+      let whole = subst (λ b. Consumes (D.remaining first) (D.remaining now) b) (append-nil bytes)
+      (Consumes-trans (D.remaining first) (D.remaining all.last) (D.remaining now) bytes [] sofar
+      last.1) in
+      known_at_end (D.remaining first) (D.remaining now) bytes whole (last.2 refl all.has_room)
 
-module _ {O F : Type 0} (opens : OpenRelation O F) (reads : ReadRelation F) where
-  abbrev path_reads : ReadRelation (PathState O F)
-  path_reads = ReadsPath opens reads
+module _ {O F : Type 0} (opening : OpenerModel O F) (D : SourceModel F) where
+  abbrev path : SourceModel (PathState O F)
+  path = path_source opening D
 
   -- reads of one file, from this one on
   record FileReads (file : F) (now : Option F) (bytes : List ℕ) : Type 0 where
     steps : List (ReadStep F)
     last : F
     is_last : now ≡ Some last
-    in_turn : AreReads reads file steps last
+    in_turn : AreReads D file steps last
     returned : bytes ≡ flat_map (λ (r : ReadStep F). r.bytes) steps
 
   same_file : (s : PathState O F) (file before : F) → s.file ≡ Some file
-      → IsNextFile opens s before → file ≡ before
+      → IsNextFile opening s before → file ≡ before
   same_file s file before is next =
-      subst (λ f. MatchOption f (opens s.opener s.path before) (λ first. first ≡ before)) is next
+      subst (λ f. MatchOption f (opening.opens s.opener s.path before) (λ first. first ≡ before))
+      is next
 
   open_reads : (s : PathState O F) (file : F) → s.file ≡ Some file
       → (steps : List (ReadStep (PathState O F))) (now : PathState O F)
-      → AreReads path_reads s steps now
+      → AreReads path s steps now
       → FileReads file now.file (flat_map (λ (r : ReadStep (PathState O F)). r.bytes) steps)
   open_reads s file is [] now h = record {
     steps = [];
@@ -66,7 +69,7 @@ module _ {O F : Type 0} (opens : OpenRelation O F) (reads : ReadRelation F) wher
       let before = h.0.1.0 in
       let after = h.0.1.1 in
       let later = open_reads r.next after h.0.1.3 rest now h.1 in
-      let read = subst (λ f. reads f r.room r.bytes after)
+      let read = subst (λ f. D.reads f r.room r.bytes after)
       (sym (same_file s file before is h.0.1.2)) h.0.1.4 in
       let step : ReadStep F = record { room = r.room; bytes = r.bytes; next = after } in
       record {
@@ -77,18 +80,19 @@ module _ {O F : Type 0} (opens : OpenRelation O F) (reads : ReadRelation F) wher
         returned = ap (λ bs. r.bytes ++ bs) later.returned;
       }
 
-  opened_now : (s : PathState O F) (file : F) → s.file ≡ None → IsNextFile opens s file
-      → opens s.opener s.path file
+  opened_now : (s : PathState O F) (file : F) → s.file ≡ None → IsNextFile opening s file
+      → opening.opens s.opener s.path file
   opened_now s file closed next =
-      subst (λ f. MatchOption f (opens s.opener s.path file) (λ first. first ≡ file)) closed next
+      subst (λ f. MatchOption f (opening.opens s.opener s.path file) (λ first. first ≡ file))
+      closed next
 
   from_steps : (first now last : PathState O F) (room : ℕ) (bytes : List ℕ) → first.file ≡ None
-      → (steps : List (ReadStep (PathState O F))) → AreReads path_reads first steps last
+      → (steps : List (ReadStep (PathState O F))) → AreReads path first steps last
       → bytes ≡ flat_map (λ (r : ReadStep (PathState O F)). r.bytes) steps
-      → 0 < room → path_reads last room [] now
-      → DeliversOpened opens reads first.opener first.path now.file bytes
+      → 0 < room → path.reads last room [] now
+      → DeliversOpened opening D first.opener first.path now.file bytes
   from_steps first now last room bytes closed [] h returned has_room ended =
-      let read = subst (λ (s : PathState O F). path_reads s room [] now) (sym h) ended in
+      let read = subst (λ (s : PathState O F). path.reads s room [] now) (sym h) ended in
       record {
         opened = read.1.0;
         at_path = opened_now first read.1.0 closed read.1.2;
@@ -107,7 +111,7 @@ module _ {O F : Type 0} (opens : OpenRelation O F) (reads : ReadRelation F) wher
       let after = h.0.1.1 in
       let later = open_reads r.next after h.0.1.3 rest last h.1 in
       let step : ReadStep F = record { room = r.room; bytes = r.bytes; next = after } in
-      let end = subst (λ f. reads f room [] ended.1.1)
+      let end = subst (λ f. D.reads f room [] ended.1.1)
       (sym (same_file last later.last ended.1.0 later.is_last ended.1.2)) ended.1.4 in
       record {
         opened = file;
@@ -127,14 +131,14 @@ module _ {O F : Type 0} (opens : OpenRelation O F) (reads : ReadRelation F) wher
         };
       }
 
-  pub path_delivers_opened : PathDeliversOpened opens reads
+  pub path_delivers_opened : PathDeliversOpened opening D
   path_delivers_opened first now bytes closed all =
       from_steps first now all.last all.room bytes closed all.before.steps all.before.in_turn
       all.before.returned all.has_room all.ended
 
 module _ {R : Type 0} (remaining : R → Option (List ℕ)) where
   reads_return : (first now : ReaderState R) (steps : List (ReadStep (ReaderState R)))
-      → AreReads (ReadsReader remaining) first steps now
+      → AreReads (reader_source remaining) first steps now
       → now.returned ≡ first.returned ++ flat_map (λ (r : ReadStep (ReaderState R)). r.bytes) steps
   reads_return first now [] h =
       ap (λ (s : ReaderState R). s.returned) (sym h) ∙ sym (append-nil first.returned)
@@ -143,16 +147,16 @@ module _ {R : Type 0} (remaining : R → Option (List ℕ)) where
       reads_return r.next now rest h.1 ∙ ap (λ bs. bs ++ later) h.0.1
       ∙ append_assoc first.returned r.bytes later
 
-  pub all_returned : AllAreReturned (ReadsReader remaining)
+  pub all_returned : AllAreReturned (reader_source remaining)
   all_returned first now bytes all =
       all.ended.1 ∙ append-nil all.last.returned
       ∙ reads_return first all.last all.before.steps all.before.in_turn
       ∙ ap (λ bs. first.returned ++ bs) (sym all.before.returned)
 
   pub file_returned : {O : Type 0} → FileReturnsAll {O = O} {F = R}
-      (ReadsPath (λ opener path file. IsUnread file) (ReadsReader remaining))
+      (path_source file_opener (reader_source remaining))
   file_returned first now bytes closed all =
-      let from = path_delivers_opened (λ opener path file. IsUnread file) (ReadsReader remaining)
-      first now bytes closed all in
+      let from = path_delivers_opened file_opener (reader_source remaining) first now bytes
+      closed all in
       let whole = all_returned from.opened from.last bytes from.all in
       (from.last, from.is_last, whole ∙ ap (λ bs. bs ++ bytes) from.at_path.0)

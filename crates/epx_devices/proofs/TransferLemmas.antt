@@ -7,18 +7,19 @@ use Rattle.std.proofs.lemmas.Grind.{common_steps, flat_map-append}
 use Rattle.epx_types.specs.declared.fault.Fault.{Fault}
 use Rattle.epx_types.specs.declared.fault.Fault.TheVariants.{Memory, LogTooLong}
 use Rattle.epx_types.specs.Limits.{max_log_bytes}
-use Rattle.epx_devices.specs.Deliveries.{FailRelation, ReadRelation, ReadStep, AreReads, Delivers}
+use Rattle.epx_devices.specs.Deliveries.{ReadStep, AreReads, Delivers}
 use Rattle.epx_devices.specs.declared.transfer.LogPart.{LogPart}
 use Rattle.epx_devices.specs.LogParts.{EndsLog, EndsPart, IsFrontOfLog, IsReadUpTo}
+use Rattle.epx_devices.specs.Models.{SinkModel, SourceModel}
 use Rattle.epx_devices.proofs.KnownBytesLemmas.{Appends-trans, Consumes-trans, take-more}
 use Rattle.std.specs.Io.KnownBytes.{Appends, Consumes, IsAtEnd}
 
 -- the sink has accepted the first n bytes, and no further call has failed
-pub record IsWritten {S : Type 0} (contents : S → Option (List ℕ)) (has_failed : S → Bool)
-    (first now : S) (bytes : List ℕ) (n : ℕ) : Type 0 where
-  pub whole : has_failed now ≡ has_failed first
+pub record IsWritten {S : Type 0} (D : SinkModel S) (first now : S) (bytes : List ℕ) (n : ℕ) : Type
+    0 where
+  pub whole : D.has_failed now ≡ D.has_failed first
   pub within : n ≤ length bytes
-  pub appended : Appends (contents first) (contents now) (take n bytes)
+  pub appended : Appends (D.contents first) (D.contents now) (take n bytes)
 
 pub none_consumed : (o : Option (List ℕ)) → Consumes o o []
 none_consumed None = tt
@@ -35,14 +36,12 @@ known_at_end (Some xs) (Some ys) bytes consumed ended =
 pub take-rest : (n : ℕ) (xs : List ℕ) → take (length xs - n) (drop n xs) ≡ drop n xs
 take-rest n xs = grind (arith, common_steps)
 
-pub IsWritten-step : {S : Type 0} (contents : S → Option (List ℕ)) (has_failed : S → Bool)
-    (first now later : S) (bytes : List ℕ) (n k : ℕ)
-    → IsWritten contents has_failed first now bytes n
-    → k ≤ length (take (length bytes - n) (drop n bytes))
-    → Appends (contents now) (contents later) (take k (take (length bytes - n) (drop n bytes)))
-    → has_failed later ≡ has_failed first → IsWritten contents has_failed first later bytes (n + k)
-IsWritten-step contents has_failed first now later bytes n k sofar few appended whole =
-    let all = Appends-trans (contents first) (contents now) (contents later) (take n bytes)
+pub IsWritten-step : {S : Type 0} (D : SinkModel S) (first now later : S) (bytes : List ℕ) (n k : ℕ)
+    → IsWritten D first now bytes n → k ≤ length (take (length bytes - n) (drop n bytes))
+    → Appends (D.contents now) (D.contents later) (take k (take (length bytes - n) (drop n bytes)))
+    → D.has_failed later ≡ D.has_failed first → IsWritten D first later bytes (n + k)
+IsWritten-step D first now later bytes n k sofar few appended whole =
+    let all = Appends-trans (D.contents first) (D.contents now) (D.contents later) (take n bytes)
     (take k (drop n bytes)) sofar.appended (rw take-rest at appended) in
     record {
       whole = whole;
@@ -50,22 +49,22 @@ IsWritten-step contents has_failed first now later bytes n k sofar few appended 
       appended = rw take-more at all;
     }
 
-module _ {S : Type 0} (reads : ReadRelation S) where
+module _ {S : Type 0} (D : SourceModel S) where
   abbrev returned_by : List (ReadStep S) → List ℕ
   returned_by steps = flat_map (λ (r : ReadStep S). r.bytes) steps
 
   AreReads-append : (first now : S) (steps : List (ReadStep S)) (next : ReadStep S)
-      → AreReads reads first steps now → reads now next.room next.bytes next.next
-      → AreReads reads first (steps ++ next ∷ []) next.next
+      → AreReads D first steps now → D.reads now next.room next.bytes next.next
+      → AreReads D first (steps ++ next ∷ []) next.next
   AreReads-append first now [] next before read =
-      (subst (λ (s : S). reads s next.room next.bytes next.next) (sym before) read, refl)
+      (subst (λ (s : S). D.reads s next.room next.bytes next.next) (sym before) read, refl)
   AreReads-append first now (r ∷ steps) next before read =
       (before.0, AreReads-append r.next now steps next before.1 read)
 
   -- one more read returned a part of the bytes
   delivered-then : (first now later : S) (bytes part : List ℕ) (room : ℕ)
-      → Delivers reads first now bytes → reads now room part later
-      → Delivers reads first later (bytes ++ part)
+      → Delivers D first now bytes → D.reads now room part later
+      → Delivers D first later (bytes ++ part)
   delivered-then first now later bytes part room sofar read =
       let next : ReadStep S = record { room = room; bytes = part; next = later } in
       let all = flat_map-append (λ (r : ReadStep S). r.bytes) sofar.steps (next ∷ []) in
@@ -76,70 +75,66 @@ module _ {S : Type 0} (reads : ReadRelation S) where
         returned = ap (λ bs. bs ++ part) sofar.returned ∙ sym (all ∙ last);
       }
 
-  module _ (remaining : S → Option (List ℕ)) (has_failed : S → Bool) where
-    pub IsReadUpTo-step : (first now later : S) (bytes part : List ℕ) (room : ℕ)
-        → IsReadUpTo remaining reads has_failed first now bytes
-        → Consumes (remaining now) (remaining later) part → reads now room part later
-        → length bytes + length part ≤ max_log_bytes + 1 → has_failed later ≡ false
-        → IsReadUpTo remaining reads has_failed first later (bytes ++ part)
-    IsReadUpTo-step first now later bytes part room sofar consumed read few whole = record {
-      whole = whole;
-      consumed = Consumes-trans (remaining first) _ (remaining later) bytes part sofar.consumed
-          consumed;
-      delivered = delivered-then first now later bytes part room sofar.delivered read;
-      few = grind (arith, common_steps);
+  pub IsReadUpTo-step : (first now later : S) (bytes part : List ℕ) (room : ℕ)
+      → IsReadUpTo D first now bytes → Consumes (D.remaining now) (D.remaining later) part
+      → D.reads now room part later
+      → length bytes + length part ≤ max_log_bytes + 1 → D.has_failed later ≡ false
+      → IsReadUpTo D first later (bytes ++ part)
+  IsReadUpTo-step first now later bytes part room sofar consumed read few whole = record {
+    whole = whole;
+    consumed = Consumes-trans (D.remaining first) _ (D.remaining later) bytes part sofar.consumed
+        consumed;
+    delivered = delivered-then first now later bytes part room sofar.delivered read;
+    few = grind (arith, common_steps);
+  }
+
+  pub IsReadUpTo-none : (now : S) → D.has_failed now ≡ false → IsReadUpTo D now now []
+  IsReadUpTo-none now whole = record {
+    whole = whole;
+    consumed = none_consumed (D.remaining now);
+    delivered = record { steps = []; in_turn = refl; returned = refl };
+    few = omega arith;
+  }
+
+  -- ---- how reading ends, once these bytes are read
+  module _ (log : ℕ) (first now later : S) (bytes : List ℕ)
+      (sofar : IsReadUpTo D first now bytes) where
+    pub too_long : length bytes ≡ max_log_bytes + 1
+        → EndsLog D log first now (Err (LogTooLong log))
+    too_long many = record {
+      bytes = tt;
+      delivered = tt;
+      ended = tt;
+      fits = tt;
+      faults = refl;
+      stops = (refl, (bytes, sofar.delivered, many));
+      failed = search (rules, sofar.whole);
+      too_long = λ is. (bytes, sofar.consumed, many);
+      no_further = (bytes, sofar.consumed, sofar.few);
     }
 
-    pub IsReadUpTo-none : (now : S) → has_failed now ≡ false
-        → IsReadUpTo remaining reads has_failed now now []
-    IsReadUpTo-none now whole = record {
-      whole = whole;
-      consumed = none_consumed (remaining now);
-      delivered = record { steps = []; in_turn = refl; returned = refl };
-      few = omega arith;
+    pub out_of_memory : EndsLog D log first now (Err Memory)
+    out_of_memory = record {
+      bytes = tt;
+      delivered = tt;
+      ended = tt;
+      fits = tt;
+      faults = tt;
+      stops = tt;
+      failed = search (rules, sofar.whole);
+      too_long = search rules;
+      no_further = (bytes, sofar.consumed, sofar.few);
     }
 
-    -- ---- how reading ends, once these bytes are read
-    module _ (fails : FailRelation S) (log : ℕ) (first now later : S) (bytes : List ℕ)
-        (sofar : IsReadUpTo remaining reads has_failed first now bytes) where
-      pub too_long : length bytes ≡ max_log_bytes + 1
-          → EndsLog remaining reads fails has_failed log first now (Err (LogTooLong log))
-      too_long many = record {
-        bytes = tt;
-        delivered = tt;
-        ended = tt;
-        fits = tt;
-        faults = refl;
-        stops = (refl, (bytes, sofar.delivered, many));
-        failed = search (rules, sofar.whole);
-        too_long = λ is. (bytes, sofar.consumed, many);
-        no_further = (bytes, sofar.consumed, sofar.few);
-      }
-
-      pub out_of_memory : EndsLog remaining reads fails has_failed log first now (Err Memory)
-      out_of_memory = record {
-        bytes = tt;
-        delivered = tt;
-        ended = tt;
-        fits = tt;
-        faults = tt;
-        stops = tt;
-        failed = search (rules, sofar.whole);
-        too_long = search rules;
-        no_further = (bytes, sofar.consumed, sofar.few);
-      }
-
-    -- no part has more bytes than a log may have, so such a part is the last
-    pub whole_log : (fails : FailRelation S) (log : ℕ) (first now : S) (head : List ℕ)
-        (result : Result LogPart Fault)
-        → EndsPart remaining reads fails has_failed log first now head (max_log_bytes + 1) result
-        → MatchResult result (λ part.
-        EndsLog remaining reads fails has_failed log first now (Ok (head ++ part.bytes.items)))
-        (λ fault. EndsLog remaining reads fails has_failed log first now (Err fault))
-    whole_log fails log first now head (Err fault) ends = ends
-    whole_log fails log first now head (Ok part) ends = all part.is_last ends where
-      all : (is_last : Bool) → IsFrontOfLog remaining reads fails has_failed log first now
-          (length head + (max_log_bytes + 1)) (head ++ part.bytes.items) is_last
-          → EndsLog remaining reads fails has_failed log first now (Ok (head ++ part.bytes.items))
-      all true is = is
-      all false is = absurd (omega (arith, is.1, is.2))
+  -- no part has more bytes than a log may have, so such a part is the last
+  pub whole_log : (log : ℕ) (first now : S) (head : List ℕ) (result : Result LogPart Fault)
+      → EndsPart D log first now head (max_log_bytes + 1) result
+      → MatchResult result (λ part. EndsLog D log first now (Ok (head ++ part.bytes.items)))
+      (λ fault. EndsLog D log first now (Err fault))
+  whole_log log first now head (Err fault) ends = ends
+  whole_log log first now head (Ok part) ends = all part.is_last ends where
+    all : (is_last : Bool) → IsFrontOfLog D log first now
+        (length head + (max_log_bytes + 1)) (head ++ part.bytes.items) is_last
+        → EndsLog D log first now (Ok (head ++ part.bytes.items))
+    all true is = is
+    all false is = absurd (omega (arith, is.1, is.2))

@@ -1,5 +1,6 @@
 -- Sources of one of two types.
-use Rattle.epx_devices.specs.Deliveries.{FailRelation, ReadRelation}
+use Rattle.std.specs.Prelude.{ℕ, List}
+use Rattle.epx_devices.specs.Models.{SourceModel}
 use Rattle.epx_devices.specs.declared.either_source.EitherSource.{EitherSource}
 use Rattle.epx_devices.specs.declared.either_source.EitherSource.TheVariants.{First, Second}
 
@@ -9,15 +10,25 @@ value_by first second (First a) = first a
 value_by first second (Second b) = second b
 
 -- a read of a source of either type, after which the source has the same type
-abbrev pub reads_by : {A B : Type 0} → ReadRelation A → ReadRelation B
-    → ReadRelation (EitherSource A B)
-reads_by first second (First a) room bytes (First b) = first a room bytes b
-reads_by first second (Second a) room bytes (Second b) = second a room bytes b
-reads_by first second _ room bytes _ = ⊥
+abbrev pub ReadsEither : {A B : Type 0} → SourceModel A → SourceModel B
+    → EitherSource A B → ℕ → List ℕ → EitherSource A B → Type 0
+ReadsEither first second (First a) room bytes (First b) = first.reads a room bytes b
+ReadsEither first second (Second a) room bytes (Second b) = second.reads a room bytes b
+ReadsEither first second _ room bytes _ = ⊥
 
 -- a failed read of a source of either type
-abbrev pub fails_by : {A B : Type 0} → FailRelation A → FailRelation B
-    → FailRelation (EitherSource A B)
-fails_by first second (First a) (First b) = first a b
-fails_by first second (Second a) (Second b) = second a b
-fails_by first second _ _ = ⊥
+abbrev pub FailsEither : {A B : Type 0} → SourceModel A → SourceModel B
+    → EitherSource A B → EitherSource A B → Type 0
+FailsEither first second (First a) (First b) = first.fails a b
+FailsEither first second (Second a) (Second b) = second.fails a b
+FailsEither first second _ _ = ⊥
+
+-- a source of either type
+abbrev pub either_source : {A B : Type 0} → SourceModel A → SourceModel B
+    → SourceModel (EitherSource A B)
+either_source first second = record {
+  remaining = value_by first.remaining second.remaining;
+  reads = ReadsEither first second;
+  fails = FailsEither first second;
+  has_failed = value_by first.has_failed second.has_failed;
+}

@@ -1,6 +1,8 @@
 -- Devices in memory that fail after a set number of bytes.
 use Rattle.std.specs.Prelude.{◌≡◌, ℕ, ◌-◌, min, Bool, true, List, Option, Some, unwrap_or}
 use Rattle.std.specs.Prelude.{option_map}
+use Rattle.epx_devices.specs.Models.{SinkModel, SourceModel}
+use Rattle.epx_devices.specs.Reads.{IsOneRead}
 
 pub record FuseState : Type 0 where
   -- the remaining bytes of a source, or the bytes that a sink has accepted
@@ -28,3 +30,20 @@ after_failure d = record d { failed = true }
 -- n bytes were transferred, and these are the bytes now
 abbrev pub after_transfer : FuseState → ℕ → List ℕ → FuseState
 after_transfer d n bytes = record d { bytes = bytes; fuse = option_map (λ k. k - n) d.fuse }
+
+-- a source that fails once its fuse is spent
+abbrev pub fuse_source : SourceModel FuseState
+fuse_source = record {
+  remaining = λ s. Some s.bytes;
+  reads = λ s room bytes t. IsOneRead (Some s.bytes) (Some t.bytes) room bytes;
+  fails = λ s t. IsSpent s × (t ≡ after_failure s);
+  has_failed = λ s. s.failed;
+}
+
+-- a sink that fails once its fuse is spent
+abbrev pub fuse_sink : SinkModel FuseState
+fuse_sink = record {
+  contents = λ s. Some s.bytes;
+  is_flushed = λ _. true;
+  has_failed = λ s. s.failed;
+}

@@ -1,4 +1,5 @@
 pub mod Devices
+pub mod Models
 pub mod Reads
 pub mod Fuses
 pub mod Deliveries
@@ -7,5 +8,5 @@ pub mod LogParts
 pub mod EitherSources
 pub mod DeviceStates
 pub mod DeliveryLaws
-pub mod MemorySink
+pub mod MemoryDevices
 pub mod inner

@@ -1,5 +1,5 @@
 //! A source of one of two types.
-ghost use Rattle.epx_devices.specs.EitherSources.{fails_by, reads_by, value_by};
+ghost use Rattle.epx_devices.specs.EitherSources.{either_source};
 ghost use Rattle.epx_devices.specs.inner.EitherReads.{either_is_one_read};
 
 use crate::device::{DeviceFault, Source};
@@ -12,16 +12,9 @@ pub enum EitherSource<A, B> {
 }
 
 impl<A: Source, B: Source> Source for EitherSource<A, B> {
-    ghost remaining = { λ s. value_by A.remaining B.remaining s };
+    ghost model = { either_source A.model B.model };
 
-    ghost reads = { λ s room bytes t. reads_by A.reads B.reads s room bytes t };
-
-    ghost fails = { λ s t. fails_by A.fails B.fails s t };
-
-    ghost has_failed = { λ s. value_by A.has_failed B.has_failed s };
-
-    ghost is_one_read = { λ s room bytes t read. either_is_one_read A.remaining B.remaining
-        A.reads B.reads A.is_one_read B.is_one_read s room bytes t read };
+    ghost is_one_read = { either_is_one_read A.model B.model A.is_one_read B.is_one_read };
 
     fn read_some(&mut self, part: &mut [u8]) -> Result<usize, DeviceFault> {
         match self {

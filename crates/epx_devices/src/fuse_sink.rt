@@ -1,10 +1,11 @@
 //! A sink in memory that fails after a set number of bytes.
-ghost use Rattle.std.specs.Prelude.{◌≡◌, ◌≤◌, ◌↔◌, false, true, [], ◌++◌, Some, IfOk, OnOk, OnErr};
+ghost use Rattle.std.specs.Prelude.{◌≡◌, ◌≤◌, ◌↔◌, false, [], ◌++◌, Some, IfOk, OnOk, OnErr};
 ghost use Rattle.std.specs.Prelude.{IsErr, length, take};
 ghost use Rattle.std.specs.Io.{WritesAtMost};
 ghost use Rattle.std.specs.Io.KnownBytes.{Keeps, WriteAppends};
 ghost use Rattle.epx_devices.specs.Devices.{AcceptsSome, failed_after};
 ghost use Rattle.epx_devices.specs.Fuses.{IsSpent, allowed, after_failure, after_transfer};
+ghost use Rattle.epx_devices.specs.Fuses.{fuse_sink};
 
 use crate::device::{DeviceFault, Sink};
 use crate::fuse::{allowed, remaining_after};
@@ -61,11 +62,7 @@ impl FuseSink {
 }
 
 impl Sink for FuseSink {
-    ghost contents = { λ s. Some s.bytes };
-
-    ghost is_flushed = { λ _. true };
-
-    ghost has_failed = { λ s. s.failed };
+    ghost model = { fuse_sink };
 
     fn write_some(&mut self, part: &[u8]) -> Result<usize, DeviceFault>
         ensures bound { WritesAtMost result part.now }

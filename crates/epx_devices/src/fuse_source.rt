@@ -6,6 +6,7 @@ ghost use Rattle.std.specs.Io.KnownBytes.{ReadConsumes};
 ghost use Rattle.epx_devices.specs.Devices.{failed_after};
 ghost use Rattle.epx_devices.specs.Reads.{IsOneRead};
 ghost use Rattle.epx_devices.specs.Fuses.{IsSpent, allowed, after_failure, after_transfer};
+ghost use Rattle.epx_devices.specs.Fuses.{fuse_source};
 
 use crate::device::{DeviceFault, Source};
 use crate::fuse::{allowed, remaining_after};
@@ -59,13 +60,7 @@ impl<'a> FuseSource<'a> {
 }
 
 impl Source for FuseSource<'_> {
-    ghost remaining = { λ s. Some s.bytes };
-
-    ghost reads = { λ s room bytes t. IsOneRead (Some s.bytes) (Some t.bytes) room bytes };
-
-    ghost fails = { λ s t. IsSpent s × (t ≡ after_failure s) };
-
-    ghost has_failed = { λ s. s.failed };
+    ghost model = { fuse_source };
 
     ghost is_one_read = { λ s room bytes t read. read };
 

@@ -48,15 +48,9 @@ impl<S: Source> KeptSource<S> {
 }
 
 impl<S: Source> Source for KeptSource<S> {
-    ghost remaining = { λ s. S.remaining s };
+    ghost model = { S.model };
 
-    ghost reads = { λ s room bytes t. S.reads s room bytes t };
-
-    ghost fails = { λ s t. S.fails s t };
-
-    ghost has_failed = { λ s. S.has_failed s };
-
-    ghost is_one_read = { λ s room bytes t read. S.is_one_read s room bytes t read };
+    ghost is_one_read = { S.is_one_read };
 
     fn read_some(&mut self, part: &mut [u8]) -> Result<usize, DeviceFault> {
         match self.source.read_some(part) {

@@ -12,23 +12,23 @@ use std::rt::Files;
 
 /// All bytes of a source whose bytes are known are those bytes, and no prefix of them.
 pub fn all_are_the_known<S: Source>()
-    ensures { AllAreTheKnown S.remaining S.reads }
+    ensures { AllAreTheKnown S.model }
 {}
 
 /// All bytes of a source at a path are all bytes of one file that its opener opened at that path,
 /// from the opening on.
 pub fn path_delivers_its_file<O: Opener>()
-    ensures { PathDeliversOpened O.opens O.Opened.reads }
+    ensures { PathDeliversOpened O.model O.Opened.model }
 {}
 
 /// All bytes of a reader are the bytes that it returned from then on, whether or not they were
 /// known.
 pub fn all_are_returned<R: Read>()
-    ensures { AllAreReturned ⟦<StdSource<R> as Source>⟧.reads }
+    ensures { AllAreReturned ⟦<StdSource<R> as Source>⟧.model }
 {}
 
 /// All bytes of a source over a file of the system are all that this file has returned since it
 /// was opened.
 pub fn file_returns_all<R: Files + 'static>()
-    ensures { FileReturnsAll ⟦<PathSource<'static, R> as Source>⟧.reads }
+    ensures { FileReturnsAll ⟦<PathSource<'static, R> as Source>⟧.model }
 {}

@@ -1,8 +1,9 @@
 //! A sink in memory, whose bytes are known.
-ghost use Rattle.std.specs.Prelude.{◌≡◌, false, true, [], Some, IfOk, IsOk, OnOk, length};
+ghost use Rattle.std.specs.Prelude.{◌≡◌, false, [], Some, IfOk, IsOk, length};
 ghost use Rattle.std.specs.Io.{WritesAtMost};
 ghost use Rattle.std.specs.Io.KnownBytes.{Keeps, WriteAppends};
 ghost use Rattle.epx_devices.specs.Devices.{AcceptsSome, failed_after};
+ghost use Rattle.epx_devices.specs.MemoryDevices.{memory_sink};
 
 use crate::device::{DeviceFault, Sink};
 use std::alloc::Global;
@@ -16,7 +17,7 @@ pub struct MemorySink {
 }
 
 impl Model for MemorySink {
-    ghost use Rattle.epx_devices.specs.MemorySink.{SinkState};
+    ghost use Rattle.epx_devices.specs.MemoryDevices.{SinkState};
 
     ghost Value = { SinkState };
 
@@ -42,11 +43,7 @@ impl MemorySink {
 }
 
 impl Sink for MemorySink {
-    ghost contents = { λ s. Some s.bytes };
-
-    ghost is_flushed = { λ _. true };
-
-    ghost has_failed = { λ s. s.failed };
+    ghost model = { memory_sink };
 
     fn write_some(&mut self, part: &[u8]) -> Result<usize, DeviceFault>
         ensures bound { WritesAtMost result part.now }

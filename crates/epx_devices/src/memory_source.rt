@@ -1,9 +1,10 @@
 //! A source over memory, whose bytes are known.
-ghost use Rattle.std.specs.Prelude.{◌≡◌, false, List, ℕ, Some, Ok, IfOk, OnErr, length, min};
+ghost use Rattle.std.specs.Prelude.{◌≡◌, List, ℕ, Some, Ok, IfOk, OnErr, length, min};
 ghost use Rattle.std.specs.Prelude.{take};
 ghost use Rattle.std.specs.Io.{ReadsAtMost};
 ghost use Rattle.std.specs.Io.KnownBytes.{ReadConsumes};
 ghost use Rattle.epx_devices.specs.Devices.{failed_after};
+ghost use Rattle.epx_devices.specs.MemoryDevices.{memory_source};
 ghost use Rattle.epx_devices.specs.Reads.{IsOneRead};
 
 use crate::device::{DeviceFault, Source};
@@ -30,13 +31,7 @@ impl<'a> MemorySource<'a> {
 }
 
 impl Source for MemorySource<'_> {
-    ghost remaining = { λ s. Some s };
-
-    ghost reads = { λ s room bytes t. IsOneRead (Some s) (Some t) room bytes };
-
-    ghost fails = { λ _ _. ⊥ };
-
-    ghost has_failed = { λ _. false };
+    ghost model = { memory_source };
 
     ghost is_one_read = { λ s room bytes t read. read };
 

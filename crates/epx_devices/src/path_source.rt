@@ -5,6 +5,7 @@ ghost use Rattle.std.specs.Io.{ReadsAtMost};
 ghost use Rattle.std.specs.Io.KnownBytes.{ReadConsumes};
 ghost use Rattle.epx_devices.specs.Devices.{failed_after};
 ghost use Rattle.epx_devices.specs.DeviceStates.{FailsPath, FailsPathYet, IsSamePath, ReadsPath};
+ghost use Rattle.epx_devices.specs.DeviceStates.{path_source};
 ghost use Rattle.epx_devices.specs.inner.PathReads.{path_is_one_read};
 
 use crate::device::{DeviceFault, Source};
@@ -55,12 +56,13 @@ impl<'a, O: Opener> PathSource<'a, O> {
     /// Reads the next bytes of the file, and opens it first if it is not open.
     fn next_bytes(&mut self, part: &mut [u8]) -> Result<usize, DeviceFault>
         ensures bound { ReadsAtMost result part.new }
-        ensures bytes { let left = option_and_then O.Opened.remaining self.new.file in
-            ReadConsumes (option_and_then O.Opened.remaining self.old.file) left result part.new }
-        ensures given { IfOk result (λ count. ReadsPath O.opens O.Opened.reads
+        ensures bytes { let left = option_and_then O.Opened.model.remaining self.new.file in
+            ReadConsumes (option_and_then O.Opened.model.remaining self.old.file) left result
+            part.new }
+        ensures given { IfOk result (λ count. ReadsPath O.model O.Opened.model
             self.old (length part.new) (take count part.new) self.new) }
         ensures failing { OnErr result
-            (FailsPathYet O.opens O.refuses O.Opened.fails self.old self.new) }
+            (FailsPathYet O.model O.Opened.model self.old self.new) }
         ensures failed { self.new.failed ≡ self.old.failed }
     {
         let mut file = match self.file.take() {
@@ -74,26 +76,19 @@ impl<'a, O: Opener> PathSource<'a, O> {
 }
 
 impl<'a, O: Opener> Source for PathSource<'a, O> {
-    // The bytes that the remaining reads of the open file will return.
-    ghost remaining = { λ s. option_and_then O.Opened.remaining s.file };
+    ghost model = { path_source O.model O.Opened.model };
 
-    ghost reads = { λ s room bytes t. ReadsPath O.opens O.Opened.reads s room bytes t };
-
-    ghost fails = { λ s t. FailsPath O.opens O.refuses O.Opened.fails s t };
-
-    ghost has_failed = { λ s. s.failed };
-
-    ghost is_one_read = { λ s room bytes t read. path_is_one_read O.opens O.Opened.remaining
-        O.Opened.reads O.Opened.is_one_read s room bytes t read };
+    ghost is_one_read = { path_is_one_read O.model O.Opened.model O.Opened.is_one_read };
 
     fn read_some(&mut self, part: &mut [u8]) -> Result<usize, DeviceFault>
         ensures bound { ReadsAtMost result part.new }
-        ensures bytes { let left = option_and_then O.Opened.remaining self.new.file in
-            ReadConsumes (option_and_then O.Opened.remaining self.old.file) left result part.new }
-        ensures delivered { IfOk result (λ n. ReadsPath O.opens O.Opened.reads
+        ensures bytes { let left = option_and_then O.Opened.model.remaining self.new.file in
+            ReadConsumes (option_and_then O.Opened.model.remaining self.old.file) left result
+            part.new }
+        ensures delivered { IfOk result (λ n. ReadsPath O.model O.Opened.model
             self.old (length part.new) (take n part.new) self.new) }
         ensures failing { OnErr result
-            (FailsPath O.opens O.refuses O.Opened.fails self.old self.new) }
+            (FailsPath O.model O.Opened.model self.old self.new) }
         ensures failures { self.new.failed ≡ failed_after self.old.failed result }
 
         ensures path { IsSamePath self.old self.new }

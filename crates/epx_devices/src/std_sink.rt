@@ -3,6 +3,7 @@ ghost use Rattle.std.specs.Prelude.{◌≡◌, true, false, Some, [], OnOk};
 ghost use Rattle.std.specs.Io.{WritesAtMost};
 ghost use Rattle.std.specs.Io.KnownBytes.{Keeps, WriteAppends};
 ghost use Rattle.epx_devices.specs.Devices.{AcceptsSome, failed_after};
+ghost use Rattle.epx_devices.specs.DeviceStates.{writer_sink};
 
 use crate::device::{DeviceFault, Sink};
 use crate::retry::{retry_flush, retry_write};
@@ -48,11 +49,7 @@ impl<W: Write> StdSink<W> {
 }
 
 impl<W: Write> Sink for StdSink<W> {
-    ghost contents = { λ s. Some s.taken };
-
-    ghost is_flushed = { λ s. s.flushed };
-
-    ghost has_failed = { λ s. s.failed };
+    ghost model = { writer_sink };
 
     fn write_some(&mut self, part: &[u8]) -> Result<usize, DeviceFault>
         ensures bound { WritesAtMost result part.now }

@@ -1,6 +1,6 @@
 //! A source over std's readers.
 ghost use Rattle.std.specs.Prelude.{◌≡◌, false, []};
-ghost use Rattle.epx_devices.specs.DeviceStates.{FailsReader, ReadsReader};
+ghost use Rattle.epx_devices.specs.DeviceStates.{reader_source};
 
 use crate::device::{DeviceFault, Source};
 use crate::retry::retry_read;
@@ -41,13 +41,7 @@ impl<R: Read> StdSource<R> {
 }
 
 impl<R: Read> Source for StdSource<R> {
-    ghost remaining = { λ s. R.remaining s.reader };
-
-    ghost reads = { λ s room bytes t. ReadsReader R.remaining s room bytes t };
-
-    ghost fails = { λ s t. FailsReader R.remaining s t };
-
-    ghost has_failed = { λ s. s.failed };
+    ghost model = { reader_source R.remaining };
 
     ghost is_one_read = { λ s room bytes t read. read.0 };
 

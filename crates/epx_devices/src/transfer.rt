@@ -33,11 +33,11 @@ pub fn read_on<R: Source>(
     bytes: Vec<u8>,
     most: usize,
 ) -> Result<LogPart, Fault>
-    requires well { R.has_failed source.old ≡ false }
+    requires well { R.model.has_failed source.old ≡ false }
     requires few { before + length bytes.items ≤ max_log_bytes + 1 }
     ensures { (first : _) (head : List ℕ) → length head ≡ before
-        → IsReadUpTo R.remaining R.reads R.has_failed first source.old (head ++ bytes.items)
-        → EndsPart R.remaining R.reads R.fails R.has_failed log first source.new head most result }
+        → IsReadUpTo R.model first source.old (head ++ bytes.items)
+        → EndsPart R.model log first source.new head most result }
 {
     let mut bytes = bytes;
     let mut part = [0; PART_BYTES];
@@ -70,21 +70,22 @@ pub fn read_on<R: Source>(
 /// Fails with `LogTooLong` at the first byte past `MAX_LOG_BYTES`, and reads no byte after that
 /// one. Fails with `Read` if the source fails, and with `Memory` if an allocation fails.
 pub fn read_log<R: Source>(alloc: Global, log: usize, source: &mut R) -> Result<Vec<u8>, Fault>
-    requires { R.has_failed source.old ≡ false }
+    requires { R.model.has_failed source.old ≡ false }
 
     ensures bytes { IfOk result
-        (λ bytes. IfSome (R.remaining source.old) (λ all. bytes.items ≡ all)) }
+        (λ bytes. IfSome (R.model.remaining source.old) (λ all. bytes.items ≡ all)) }
     ensures delivered { IfOk result (λ bytes.
-        DeliversAll R.reads source.old source.new bytes.items) }
-    ensures end { OnOk result (IsAtEnd (R.remaining source.new)) }
+        DeliversAll R.model source.old source.new bytes.items) }
+    ensures end { OnOk result (IsAtEnd (R.model.remaining source.new)) }
     ensures fits { IfOk result (λ bytes. length bytes.items ≤ max_log_bytes) }
 
     ensures faults { IfErr result (IsReadLogFault log) }
-    ensures stops { IfErr result (IsLogStop R.reads R.fails log source.old source.new) }
-    ensures failed { IsErrOf result (Fault.Read log) ↔ (R.has_failed source.new ≡ true) }
+    ensures stops { IfErr result (IsLogStop R.model log source.old source.new) }
+    ensures failed { IsErrOf result (Fault.Read log) ↔ (R.model.has_failed source.new ≡ true) }
     ensures too_long { IsErrOf result (Fault.LogTooLong log)
-        → ConsumesExactly (R.remaining source.old) (R.remaining source.new) (max_log_bytes + 1) }
-    ensures no_further { ConsumesUpTo (R.remaining source.old) (R.remaining source.new)
+        → ConsumesExactly (R.model.remaining source.old) (R.model.remaining source.new)
+        (max_log_bytes + 1) }
+    ensures no_further { ConsumesUpTo (R.model.remaining source.old) (R.model.remaining source.new)
         (max_log_bytes + 1) }
 {
     let part = read_on(log, source, 0, Vec::new(alloc), MAX_LOG_BYTES + 1)?;
@@ -94,12 +95,15 @@ pub fn read_log<R: Source>(alloc: Global, log: usize, source: &mut R) -> Result<
 /// Writes all bytes to the sink and flushes it. If the sink fails, it has accepted a prefix of the
 /// bytes, and the fault is `Write`. Whether a call had failed before does not matter.
 pub fn write_out<W: Sink>(bytes: &[u8], sink: &mut W) -> Result<(), Fault>
-    ensures bytes { OnOk result (Appends (W.contents sink.old) (W.contents sink.new) bytes.now) }
-    ensures flushed { OnOk result (W.is_flushed sink.new ≡ true) }
+    ensures bytes { let contents = W.model.contents in
+        OnOk result (Appends (contents sink.old) (contents sink.new) bytes.now) }
+    ensures flushed { OnOk result (W.model.is_flushed sink.new ≡ true) }
 
     ensures faults { IfErr result (λ fault. fault ≡ Fault.Write) }
-    ensures failed { W.has_failed sink.new ≡ failed_after (W.has_failed sink.old) result }
-    ensures prefix { AppendsPrefix (W.contents sink.old) (W.contents sink.new) bytes.now }
+    ensures failed { W.model.has_failed sink.new
+        ≡ failed_after (W.model.has_failed sink.old) result }
+    ensures prefix { let contents = W.model.contents in
+        AppendsPrefix (contents sink.old) (contents sink.new) bytes.now }
 {
     let mut taken = 0;
     while taken < bytes.len() {

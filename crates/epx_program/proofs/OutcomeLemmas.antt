@@ -7,7 +7,7 @@ use Rattle.std.specs.Prelude.{IfErr, IfOk, MatchResult, OnOk}
 use Rattle.epx_types.specs.declared.fault.Fault.{Fault}
 use Rattle.epx_types.specs.declared.fault.Fault.TheVariants.{Read, Write}
 use Rattle.epx_words.specs.declared.words.Task.{Task}
-use Rattle.epx_devices.specs.Deliveries.{FailRelation, ReadRelation}
+use Rattle.epx_devices.specs.Models.{SinkModel, SourceModel}
 use Rattle.epx_tool.specs.Delivered.{EachDelivers}
 use Rattle.epx_tool.specs.DeliveredWithInput.{DeliversBoth}
 use Rattle.epx_tool.specs.Findings.{AnswersFinding, IsFindingWith}
@@ -32,34 +32,33 @@ use Rattle.epx_program.proofs.FailedInputLemmas.{unread, unread_both}
 -- ---- texts and sources
 
 -- the texts of a first source and others begin with the text of the first
-from_first : {S : Type 0} (remaining : S → Option (List ℕ)) (P : List (List ℕ) → Type 0)
+from_first : {S : Type 0} (D : SourceModel S) (P : List (List ℕ) → Type 0)
     (sources rest : List S) (source : S) → sources ≡ source ∷ rest
-    → ((text : List ℕ) (logs : List (List ℕ)) → remaining source ≡ Some text
-    → AreBytesOf remaining rest logs → P (text ∷ logs))
-    → (texts : List (List ℕ)) → AreBytesOf remaining sources texts → P texts
-from_first remaining P sources rest source e holds [] are =
-    let none : map remaining (source ∷ rest) ≡ [] = ap (map remaining) (sym e) ∙ are in
+    → ((text : List ℕ) (logs : List (List ℕ)) → D.remaining source ≡ Some text
+    → AreBytesOf D rest logs → P (text ∷ logs))
+    → (texts : List (List ℕ)) → AreBytesOf D sources texts → P texts
+from_first D P sources rest source e holds [] are =
+    let none : map D.remaining (source ∷ rest) ≡ [] = ap (map D.remaining) (sym e) ∙ are in
     absurd (cc none)
-from_first remaining P sources rest source e holds (text ∷ logs) are =
-    let both : map remaining (source ∷ rest) ≡ Some text ∷ map Some logs =
-    ap (map remaining) (sym e) ∙ are in
+from_first D P sources rest source e holds (text ∷ logs) are =
+    let both : map D.remaining (source ∷ rest) ≡ Some text ∷ map Some logs =
+    ap (map D.remaining) (sym e) ∙ are in
     holds text logs (cc both) (cc both)
 
 -- no sources have no texts
-from_nothing : {S : Type 0} (remaining : S → Option (List ℕ)) (P : List (List ℕ) → Type 0)
+from_nothing : {S : Type 0} (D : SourceModel S) (P : List (List ℕ) → Type 0)
     (sources : List S) → length sources ≡ 0 → P []
-    → (texts : List (List ℕ)) → AreBytesOf remaining sources texts → P texts
-from_nothing remaining P [] none holds [] are = holds
-from_nothing remaining P [] none holds (text ∷ logs) are = absurd (cc are)
-from_nothing remaining P (source ∷ sources) none holds texts are = absurd (cc none)
+    → (texts : List (List ℕ)) → AreBytesOf D sources texts → P texts
+from_nothing D P [] none holds [] are = holds
+from_nothing D P [] none holds (text ∷ logs) are = absurd (cc are)
+from_nothing D P (source ∷ sources) none holds texts are = absurd (cc none)
 
 -- a source that failed is the first one or one of the others
-failed_of_all : {S : Type 0} (reads : ReadRelation S) (fails : FailRelation S)
-    (sources rest : List S) (source : S) → sources ≡ source ∷ rest
-    → HasFailedRead reads fails source ⊎ OneHasFailedRead reads fails rest
-    → OneHasFailedRead reads fails sources
-failed_of_all reads fails sources rest source e h =
-    let all = subst (OneHasFailedRead reads fails) (sym e) in
+failed_of_all : {S : Type 0} (D : SourceModel S) (sources rest : List S) (source : S)
+    → sources ≡ source ∷ rest → HasFailedRead D source ⊎ OneHasFailedRead D rest
+    → OneHasFailedRead D sources
+failed_of_all D sources rest source e h =
+    let all = subst (OneHasFailedRead D) (sym e) in
     elim h [
       | inl first ↦ all (record { log = 0; source = source; there = refl; failed = first })
       | inr one ↦ all (record {
@@ -82,29 +81,29 @@ same_error : {A B : Type 0} (fault other : Fault) → IsErrOf {T = A} (Err fault
 same_error fault other is = let named : fault ≡ other = cc is in ap Err named
 
 -- what a task over known texts comes to, by the run over them that wrote its answer
-task_answered : {Given : Type 0} {OfKnown : (Given → Type 0) → Type 0}
+task_answered : {Given T : Type 0} {OfKnown : (Given → Type 0) → Type 0}
     {Answer : Given → List ℕ → Type 0} {IsFault : Given → Fault → Type 0}
-    {Delivered : (List ℕ → Type 0) → Type 0} {Ends : Fault → Type 0} {old new : Option (List ℕ)}
-    {flushed failed : Bool} (found : Bool)
-    → WritesAnswer OfKnown Answer IsFault Delivered Ends old new flushed failed (Ok tt)
+    {Delivered : (List ℕ → Type 0) → Type 0} {Ends : Fault → Type 0} {W : SinkModel T}
+    {old new : T} (found : Bool)
+    → WritesAnswer OfKnown Answer IsFault Delivered Ends W old new (Ok tt)
     → (task : Task) (texts : List (List ℕ)) (given : Given)
     → ((P : Given → Type 0) → OfKnown P → P given)
     → ((text : List ℕ) → Answer given text → IsTaskText task found texts text)
-    → IsTaskResult task texts (Ok found) old new
+    → IsTaskResult task texts (Ok found) (W.contents old) (W.contents new)
 task_answered found run task texts given known answers =
     let w = known _ run.text in (w.0, answers w.0 w.1, w.2)
 
 -- the same for a run that ended with a fault
-task_refused : {Given : Type 0} {OfKnown : (Given → Type 0) → Type 0}
+task_refused : {Given T : Type 0} {OfKnown : (Given → Type 0) → Type 0}
     {Answer : Given → List ℕ → Type 0} {IsFault : Given → Fault → Type 0}
-    {Delivered : (List ℕ → Type 0) → Type 0} {Ends : Fault → Type 0} {old new : Option (List ℕ)}
-    {flushed failed : Bool} (fault : Fault)
-    → WritesAnswer OfKnown Answer IsFault Delivered Ends old new flushed failed (Err fault)
+    {Delivered : (List ℕ → Type 0) → Type 0} {Ends : Fault → Type 0} {W : SinkModel T}
+    {old new : T} (fault : Fault)
+    → WritesAnswer OfKnown Answer IsFault Delivered Ends W old new (Err fault)
     → (task : Task) (texts : List (List ℕ)) (given : Given)
     → ((P : Given → Type 0) → OfKnown P → P given)
     → ((text : List ℕ) → Answer given text → IsTaskAnswer task texts (Ok text))
     → (IsFault given fault → IsTaskFault task texts fault)
-    → IsTaskResult task texts (Err fault) old new
+    → IsTaskResult task texts (Err fault) (W.contents old) (W.contents new)
 task_refused fault run task texts given known answers faults = record {
   named = faults (known _ run.refusal);
   part = λ is. let w = known _ (run.prefix (ap Err is)) in (w.0, answers w.0 w.1, w.2);
@@ -138,11 +137,14 @@ written_badly : {A B : Type 0} (fault : Fault) (failed : Bool)
 written_badly fault failed h =
     (λ is. h.0 (same_error fault Write is), λ bad. same_error fault Write (h.1 bad))
 
-module _ {S : Type 0} (remaining : S → Option (List ℕ)) (reads : ReadRelation S)
-    (fails : FailRelation S) (has_failed : S → Bool) (task : Task) (before after : List S)
-    (old new : Option (List ℕ)) (flushed failed : Bool) where
+module _ {S T : Type 0} (D : SourceModel S) (W : SinkModel T) (task : Task)
+    (before after : List S) (old new : T) where
   abbrev Outcome : Result Bool Fault → Type 0
-  Outcome done = TaskOutcome remaining reads fails task before after done flushed failed old new
+  Outcome done = TaskOutcome D W task before after done old new
+
+  -- what the task comes to over these texts
+  abbrev ComesTo : List (List ℕ) → Result Bool Fault → Type 0
+  ComesTo texts done = IsTaskResult task texts done (W.contents old) (W.contents new)
 
   module _ (question : Question) (is : asked_of task ≡ asked.Logs question) where
     -- the answer to logs is that of the task, with what it finds
@@ -151,8 +153,7 @@ module _ {S : Type 0} (remaining : S → Option (List ℕ)) (reads : ReadRelatio
     text_of_logs found texts text h = subst (λ a. IsFindingTo a found texts text) (sym is) h
 
     logs_answered : (found : Bool)
-        → EndsRun remaining reads fails has_failed (AnswersFinding question found) before after old
-        new flushed failed (Ok tt)
+        → EndsRun D W (AnswersFinding question found) before after old new (Ok tt)
         → Outcome (Ok found)
     logs_answered found run = record {
       known = λ texts are. task_answered found run.sink task texts texts (λ P h. h texts are)
@@ -166,12 +167,11 @@ module _ {S : Type 0} (remaining : S → Option (List ℕ)) (reads : ReadRelatio
       part = λ bad. absurd (ok_is_no_fault found Write bad);
       nothing = tt;
       unread = λ log bad. absurd (ok_is_no_fault found (Read log) bad);
-      written = written_well tt found failed run.sink.written;
+      written = written_well tt found _ run.sink.written;
     }
 
     logs_refused : (fault : Fault)
-        → EndsRun remaining reads fails has_failed (AnswersQuestion question) before after old new
-        flushed failed (Err fault)
+        → EndsRun D W (AnswersQuestion question) before after old new (Err fault)
         → Outcome (Err fault)
     logs_refused fault run = record {
       known = λ texts are. task_refused fault run.sink task texts texts (λ P h. h texts are)
@@ -185,17 +185,15 @@ module _ {S : Type 0} (remaining : S → Option (List ℕ)) (reads : ReadRelatio
         (h.text, subst (λ a. IsAnswerTo a h.logs (Ok h.text)) (sym is) h.answer, h.written),
       );
       nothing = run.sink.nothing;
-      unread = λ log bad. unread reads fails before after (map_text_of question)
-          (ended fault) run.sink.refused log (same_error fault (Read log) bad);
-      written = written_badly fault failed run.sink.written;
+      unread = λ log bad. unread D before after (map_text_of question) (ended fault)
+          run.sink.refused log (same_error fault (Read log) bad);
+      written = written_badly fault _ run.sink.written;
     }
 
     pub outcome_of_logs : (done : Result Bool Fault)
         → MatchResult done
-        (λ found. EndsRun remaining reads fails has_failed (AnswersFinding question found) before
-        after old new flushed failed (Ok tt))
-        (λ fault. EndsRun remaining reads fails has_failed (AnswersQuestion question) before after
-        old new flushed failed (Err fault))
+        (λ found. EndsRun D W (AnswersFinding question found) before after old new (Ok tt))
+        (λ fault. EndsRun D W (AnswersQuestion question) before after old new (Err fault))
         → Outcome done
     outcome_of_logs (Ok found) run = logs_answered found run
     outcome_of_logs (Err fault) run = logs_refused fault run
@@ -226,37 +224,31 @@ module _ {S : Type 0} (remaining : S → Option (List ℕ)) (reads : ReadRelatio
             fault) h)
 
     -- the run over a first text and logs ends this way
-    abbrev EndsFirst : {I L : Type 0} → (I → Option (List ℕ)) → ReadRelation I → FailRelation I
-        → (I → Bool) → (L → Option (List ℕ)) → ReadRelation L → FailRelation L → (L → Bool)
-        → I → I → List L → List L → Result Bool Fault → Type 0
-    EndsFirst left i_reads i_fails i_failed l_left l_reads l_fails l_failed first last logs after
-        done = MatchResult done
-        (λ found. EndsRunWithInput left i_reads i_fails i_failed l_left l_reads l_fails l_failed
-        (IsBadInput question) (IsFindingWith question found) first last logs after old new flushed
-        failed (Ok tt))
-        (λ fault. EndsRunWithInput left i_reads i_fails i_failed l_left l_reads l_fails l_failed
-        (IsBadInput question) (IsTextWith question) first last logs after old new flushed failed
-        (Err fault))
+    abbrev EndsFirst : {I : Type 0} → SourceModel I → I → I → List I → List I
+        → Result Bool Fault → Type 0
+    EndsFirst E first last logs after done = MatchResult done
+        (λ found. EndsRunWithInput E E W (IsBadInput question) (IsFindingWith question found) first
+        last logs after old new (Ok tt))
+        (λ fault. EndsRunWithInput E E W (IsBadInput question) (IsTextWith question) first last
+        logs after old new (Err fault))
 
     -- the first source has the first text
     module _ (first last : S) (logs left : List S) (all : before ≡ first ∷ logs)
         (now : after ≡ last ∷ left) where
       both_deliver : (text : List ℕ) (texts : List (List ℕ))
-          → DeliversBoth reads reads first last logs left text texts
-          → EachDelivers reads before after (text ∷ texts)
+          → DeliversBoth D D first last logs left text texts
+          → EachDelivers D before after (text ∷ texts)
       both_deliver text texts h = rw (all, now) record {
         as_many = ap suc h.of_logs.as_many;
         whole = (h.of_input, h.of_logs.whole);
       }
 
       pub outcome_of_first : (done : Result Bool Fault)
-          → EndsFirst remaining reads fails has_failed remaining reads fails has_failed first last
-          logs left done
-          → Outcome done
+          → EndsFirst D first last logs left done → Outcome done
       outcome_of_first (Ok found) run = record {
-        known = from_first remaining (λ texts. IsTaskResult task texts (Ok found) old new) before
-            logs first all (λ text texts known are. task_answered found run.sink task (text ∷ texts)
-            (text, texts) (λ P h. h text texts known are)
+        known = from_first D (λ texts. ComesTo texts (Ok found)) before logs first all
+            (λ text texts known are. task_answered found run.sink task (text ∷ texts) (text, texts)
+            (λ P h. h text texts known are)
             (text_of_first (text ∷ texts) text texts (λ Is h. h) found));
         answered = let h = run.sink.answered in (
           h.input ∷ h.logs,
@@ -271,12 +263,12 @@ module _ {S : Type 0} (remaining : S → Option (List ℕ)) (reads : ReadRelatio
         part = λ bad. absurd (ok_is_no_fault found Write bad);
         nothing = tt;
         unread = λ log bad. absurd (ok_is_no_fault found (Read log) bad);
-        written = written_well tt found failed run.sink.written;
+        written = written_well tt found _ run.sink.written;
       }
       outcome_of_first (Err fault) run = record {
-        known = from_first remaining (λ texts. IsTaskResult task texts (Err fault) old new) before
-            logs first all (λ text texts known are. task_refused fault run.sink task (text ∷ texts)
-            (text, texts) (λ P h. h text texts known are)
+        known = from_first D (λ texts. ComesTo texts (Err fault)) before logs first all
+            (λ text texts known are. task_refused fault run.sink task (text ∷ texts) (text, texts)
+            (λ P h. h text texts known are)
             (answers_first (text ∷ texts) text texts (λ Is h. h))
             (faults_first (text ∷ texts) text texts (λ Is h. h) fault));
         answered = tt;
@@ -291,24 +283,21 @@ module _ {S : Type 0} (remaining : S → Option (List ℕ)) (reads : ReadRelatio
           ),
         );
         nothing = run.sink.nothing;
-        unread = λ log bad. failed_of_all reads fails before logs first all
-            (unread_both reads fails logs left reads fails (IsBadInput question) first last
+        unread = λ log bad. failed_of_all D before logs first all
+            (unread_both D logs left D (IsBadInput question) first last
             (ended fault) run.sink.refused log (same_error fault (Read log) bad));
-        written = written_badly fault failed run.sink.written;
+        written = written_badly fault _ run.sink.written;
       }
 
     -- if there is no source, the first text is empty; its source cannot fail
-    module _ {M : Type 0} (left : M → Option (List ℕ)) (m_reads : ReadRelation M)
-        (m_fails : FailRelation M) (m_failed : M → Bool) (first last : M) (now : List M)
-        (none : length before ≡ 0) (empty : left first ≡ Some [])
-        (never : ¬ HasFailedRead m_reads m_fails first) where
-      none_deliver : EachDelivers reads before after []
+    module _ {M : Type 0} (E : SourceModel M) (first last : M) (now : List M)
+        (none : length before ≡ 0) (empty : E.remaining first ≡ Some [])
+        (never : ¬ HasFailedRead E first) where
+      none_deliver : EachDelivers D before after []
       none_deliver = record { as_many = sym none; whole = tt }
 
       comes_to : (done : Result Bool Fault)
-          → EndsFirst left m_reads m_fails m_failed left m_reads m_fails m_failed first last []
-          now done
-          → IsTaskResult task [] done old new
+          → EndsFirst E first last [] now done → ComesTo [] done
       comes_to (Ok found) run =
           task_answered found run.sink task [] ([], []) (λ P h. h [] [] empty refl)
           (text_of_first [] [] [] (λ Is h. h) found)
@@ -317,52 +306,42 @@ module _ {S : Type 0} (remaining : S → Option (List ℕ)) (reads : ReadRelatio
           (answers_first [] [] [] (λ Is h. h)) (faults_first [] [] [] (λ Is h. h) fault)
 
       nothing_unread : (done : Result Bool Fault) (log : ℕ)
-          → EndsFirst left m_reads m_fails m_failed left m_reads m_fails m_failed first last []
-          now done
-          → ¬ IsErrOf done (Read log)
+          → EndsFirst E first last [] now done → ¬ IsErrOf done (Read log)
       nothing_unread (Ok found) log run bad = ok_is_no_fault found (Read log) bad
-      nothing_unread (Err fault) log run bad = elim (unread_both m_reads m_fails [] now m_reads
-          m_fails (IsBadInput question) first last (ended fault) run.sink.refused log
+      nothing_unread (Err fault) log run bad = elim (unread_both E [] now E
+          (IsBadInput question) first last (ended fault) run.sink.refused log
           (same_error fault (Read log) bad)) [
             | inl bad ↦ never bad
             | inr one ↦ cc one.there
           ]
 
       pub outcome_of_nothing : (done : Result Bool Fault)
-          → EndsFirst left m_reads m_fails m_failed left m_reads m_fails m_failed first last []
-          now done
-          → Outcome done
+          → EndsFirst E first last [] now done → Outcome done
       outcome_of_nothing done run =
           let comes = comes_to done run in record {
-            known = from_nothing remaining (λ texts. IsTaskResult task texts done old new) before
-                none comes;
-            answered = adds_to_nothing (EachDelivers reads before after) old new task done
-                none_deliver comes;
+            known = from_nothing D (λ texts. ComesTo texts done) before none comes;
+            answered = adds_to_nothing (EachDelivers D before after) _ _ task done none_deliver
+                comes;
             flushed = flushes done run;
-            part = adds_part_to_nothing (EachDelivers reads before after) old new task done
-                none_deliver comes;
+            part = adds_part_to_nothing (EachDelivers D before after) _ _ task done none_deliver
+                comes;
             nothing = keeps done run;
             unread = λ log bad. absurd (nothing_unread done log run bad);
             written = writes done run;
           }
         where
           flushes : (done : Result Bool Fault)
-              → EndsFirst left m_reads m_fails m_failed left m_reads m_fails m_failed first last []
-              now done
-              → OnOk done (flushed ≡ true)
+              → EndsFirst E first last [] now done → OnOk done (W.is_flushed new ≡ true)
           flushes (Ok found) run = run.sink.flushed
           flushes (Err fault) run = tt
 
           keeps : (done : Result Bool Fault)
-              → EndsFirst left m_reads m_fails m_failed left m_reads m_fails m_failed first last []
-              now done
-              → IfErr done (λ fault. fault ≢ Write → Keeps old new)
+              → EndsFirst E first last [] now done
+              → IfErr done (λ fault. fault ≢ Write → Keeps (W.contents old) (W.contents new))
           keeps (Ok found) run = tt
           keeps (Err fault) run = run.sink.nothing
 
           writes : (done : Result Bool Fault)
-              → EndsFirst left m_reads m_fails m_failed left m_reads m_fails m_failed first last []
-              now done
-              → IsErrOf done Write ↔ (failed ≡ true)
-          writes (Ok found) run = written_well tt found failed run.sink.written
-          writes (Err fault) run = written_badly fault failed run.sink.written
+              → EndsFirst E first last [] now done → IsErrOf done Write ↔ (W.has_failed new ≡ true)
+          writes (Ok found) run = written_well tt found _ run.sink.written
+          writes (Err fault) run = written_badly fault _ run.sink.written

@@ -1,9 +1,8 @@
 -- The texts that are read at the paths of the program's words.
 use Rattle.std.specs.Prelude.{◌≡◌, ◌≢◌, ◌⊎◌, ⊤, ℕ, List, [], ◌∷◌, Option, Some, None, codes}
 use Rattle.std.specs.Prelude.{slice_get}
-use Rattle.epx_devices.specs.Deliveries.{FailRelation, ReadRelation, DeliversAll}
-use Rattle.epx_devices.specs.Deliveries.{DeliversThenFails}
-use Rattle.epx_devices.specs.DeviceStates.{OpenRelation}
+use Rattle.epx_devices.specs.Deliveries.{DeliversAll, DeliversThenFails}
+use Rattle.epx_devices.specs.Models.{OpenerModel, SourceModel}
 
 -- only the input is read: there are no paths, or the only path is a hyphen, which means the input
 abbrev pub IsInputAlone : Option (List (List ℕ)) → Type 0
@@ -33,32 +32,31 @@ AreTextsRead Is None = AreTextsAt Is (codes "-" ∷ [])
 AreTextsRead Is (Some paths) = AreTextsAt Is paths
 
 -- reads of the source delivered this text, up to its end
-abbrev pub IsWholeText : {S : Type 0} → ReadRelation S → S → List ℕ → Type 0
-IsWholeText {S} reads source text = (last : S) × DeliversAll reads source last text
+abbrev pub IsWholeText : {S : Type 0} → SourceModel S → S → List ℕ → Type 0
+IsWholeText {S} D source text = (last : S) × DeliversAll D source last text
 
 -- reads of the file that the opener opened at this path delivered this text, up to its end
-abbrev pub IsFileText : {O F : Type 0} → OpenRelation O F → ReadRelation F
+abbrev pub IsFileText : {O F : Type 0} → OpenerModel O F → SourceModel F
     → O → List ℕ → List ℕ → Type 0
-IsFileText {O} {F} opens reads opener path text =
-    (file : F) × opens opener path file × IsWholeText reads file text
+IsFileText {O} {F} opening D opener path text =
+    (file : F) × opening.opens opener path file × IsWholeText D file text
 
 -- the text of a path is what the reads of a file delivered that the opener opened there, and the
 -- text of the input what the reads of the input delivered
-abbrev pub text_relation : {O F I : Type 0} → OpenRelation O F → ReadRelation F → O
-    → ReadRelation I → I → TextRelation
-text_relation opens reads opener input_reads input = record {
-  OfFile = IsFileText opens reads opener;
-  OfInput = IsWholeText input_reads input;
+abbrev pub text_relation : {O F I : Type 0} → OpenerModel O F → SourceModel F → O
+    → SourceModel I → I → TextRelation
+text_relation opening D opener E input = record {
+  OfFile = IsFileText opening D opener;
+  OfInput = IsWholeText E input;
 }
 
 -- reads of the source delivered some bytes or none, and the next read failed
-abbrev pub HasFailedRead : {S : Type 0} → ReadRelation S → FailRelation S → S → Type 0
-HasFailedRead {S} reads fails source = (last : S) × DeliversThenFails reads fails source last
+abbrev pub HasFailedRead : {S : Type 0} → SourceModel S → S → Type 0
+HasFailedRead {S} D source = (last : S) × DeliversThenFails D source last
 
 -- one of these sources has a failed read
-pub record OneHasFailedRead {S : Type 0} (reads : ReadRelation S) (fails : FailRelation S)
-    (sources : List S) : Type 0 where
+pub record OneHasFailedRead {S : Type 0} (D : SourceModel S) (sources : List S) : Type 0 where
   pub log : ℕ
   pub source : S
   pub there : slice_get sources log ≡ Some source
-  pub failed : HasFailedRead reads fails source
+  pub failed : HasFailedRead D source

@@ -61,11 +61,10 @@ fn write_answer<R: Threads + RandomSource + Sync, S: Source, W: Sink>(
     held: &mut Held,
     output: &mut W,
 ) -> Result<bool, Fault>
-    requires sources { All (λ s. S.has_failed s ≡ false) sources.old }
-    requires output { W.has_failed output.old ≡ false }
-    ensures { TaskOutcome S.remaining S.reads S.fails task sources.old sources.new result
-        (W.is_flushed output.new) (W.has_failed output.new) (W.contents output.old)
-        (W.contents output.new) }
+    requires sources { All (λ s. S.model.has_failed s ≡ false) sources.old }
+    requires output { W.model.has_failed output.old ≡ false }
+    ensures { TaskOutcome S.model W.model task sources.old sources.new result output.old
+        output.new }
 {
     let question = match asked_by(task) {
         Asked::Logs(question) => {
@@ -105,24 +104,25 @@ where
     O: Opener,
     I: Source + Drop,
     W: Sink,
-    requires input { I.has_failed input ≡ false }
-    requires output { W.has_failed output.old ≡ false }
+    requires input { I.model.has_failed input ≡ false }
+    requires output { W.model.has_failed output.old ≡ false }
 
     ensures input { (bytes : _) → IsInputAlone (paths_of paths.now)
-        → I.remaining input ≡ Some bytes →
-        IsTaskResult task (bytes ∷ []) result (W.contents output.old) (W.contents output.new) }
-    ensures answered { let Is = text_relation O.opens O.Opened.reads opener.now I.reads input in
+        → I.model.remaining input ≡ Some bytes →
+        IsTaskResult task (bytes ∷ []) result (W.model.contents output.old)
+        (W.model.contents output.new) }
+    ensures answered { let Is = text_relation O.model O.Opened.model opener.now I.model input in
         IfOk result (λ found. AddsAnswer task found (AreTextsRead Is (paths_of paths.now))
-        (W.contents output.old) (W.contents output.new)) }
-    ensures part { let Is = text_relation O.opens O.Opened.reads opener.now I.reads input in
+        (W.model.contents output.old) (W.model.contents output.new)) }
+    ensures part { let Is = text_relation O.model O.Opened.model opener.now I.model input in
         IsErrOf result Fault.Write → AddsPart task (AreTextsRead Is (paths_of paths.now))
-        (W.contents output.old) (W.contents output.new) }
+        (W.model.contents output.old) (W.model.contents output.new) }
     ensures unread { (log : _) → IsErrOf result (Fault.Read log)
-        → IsInputAlone (paths_of paths.now) → HasFailedRead I.reads I.fails input }
-    ensures flushed { OnOk result (W.is_flushed output.new ≡ true) }
+        → IsInputAlone (paths_of paths.now) → HasFailedRead I.model input }
+    ensures flushed { OnOk result (W.model.is_flushed output.new ≡ true) }
     ensures nothing { IfErr result (λ fault. fault ≢ Fault.Write
-        → Keeps (W.contents output.old) (W.contents output.new)) }
-    ensures written { IsErrOf result Fault.Write ↔ (W.has_failed output.new ≡ true) }
+        → Keeps (W.model.contents output.old) (W.model.contents output.new)) }
+    ensures written { IsErrOf result Fault.Write ↔ (W.model.has_failed output.new ≡ true) }
 {
     let Some(paths) = paths else {
         let mut sources = Vec::new(alloc);

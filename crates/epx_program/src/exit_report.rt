@@ -35,18 +35,19 @@ pub(crate) fn report_task(rt: &impl Eprint, exit_code: bool, done: Result<bool, 
 /// Writes a text of status 0 to the output and any other to standard error. Returns the exit
 /// status, which is 4 if the output failed.
 pub(crate) fn print_text<R: Eprint, W: Sink>(rt: &R, text: &str, status: u8, output: &mut W) -> u8
-    requires { W.has_failed output.old ≡ false }
+    requires { W.model.has_failed output.old ≡ false }
 
     ensures refused { status ≢ 0 → (result ≡ status) × (output.new ≡ output.old) }
 
     ensures shown { status ≡ 0 → result ≡ 0
-        → Appends (W.contents output.old) (W.contents output.new) text.now }
-    ensures flushed { status ≡ 0 → result ≡ 0 → W.is_flushed output.new ≡ true }
+        → Appends (W.model.contents output.old) (W.model.contents output.new) text.now }
+    ensures flushed { status ≡ 0 → result ≡ 0 → W.model.is_flushed output.new ≡ true }
     ensures prefix { status ≡ 0
-        → AppendsPrefix (W.contents output.old) (W.contents output.new) text.now }
+        → AppendsPrefix (W.model.contents output.old) (W.model.contents output.new) text.now }
 
-    ensures status { status ≡ 0 → result ≢ 0 → (result ≡ 4) × (W.has_failed output.new ≡ true) }
-    ensures failed { W.has_failed output.new ≡ true → result ≡ 4 }
+    ensures status { status ≡ 0 → result ≢ 0
+        → (result ≡ 4) × (W.model.has_failed output.new ≡ true) }
+    ensures failed { W.model.has_failed output.new ≡ true → result ≡ 4 }
 {
     if status == 0 {
         return match write_out(text.as_bytes(), output) {

@@ -1,7 +1,6 @@
 //! The sources that the paths name: files, and the program's input.
 ghost use Rattle.std.specs.Prelude.{◌≡◌, All, IfOk, IfSome, Some, false, map, string_bytes};
-ghost use Rattle.epx_devices.specs.EitherSources.{value_by};
-ghost use Rattle.epx_program.specs.inner.SourcesAt.{AreSourcesAt, IsSourceAt};
+ghost use Rattle.epx_program.specs.inner.SourcesAt.{AreSourcesAt, IsSourceAt, model_at};
 
 use epx_devices::{EitherSource, KeptSource, MemorySource, Opener, PathSource, Source};
 use std::alloc::{AllocError, Global};
@@ -31,10 +30,10 @@ fn source_at<'a, O: Opener, I: Source>(
     path: &'a str,
     input: &mut Option<I>,
 ) -> Input<'a, O, I>
-    requires { IfSome input.old (λ i. I.has_failed i ≡ false) }
+    requires { IfSome input.old (λ i. I.model.has_failed i ≡ false) }
     ensures at { IsSourceAt opener.now path.now input.old input.new result }
-    ensures failed { value_by (λ s. s.failed) (value_by I.has_failed (λ _. false)) result ≡ false }
-    ensures left { IfSome input.new (λ i. I.has_failed i ≡ false) }
+    ensures failed { (model_at O.model O.Opened.model I.model).has_failed result ≡ false }
+    ensures left { IfSome input.new (λ i. I.model.has_failed i ≡ false) }
 {
     if path != INPUT {
         return EitherSource::First(PathSource::new(opener, path));
@@ -55,12 +54,12 @@ pub(crate) fn sources_at<'a, R: Files, O: Opener, I: Source + Drop>(
     keeps: bool,
     input: I,
 ) -> Result<Vec<KeptSource<Input<'a, O, I>>>, AllocError>
-    requires { I.has_failed input ≡ false }
+    requires { I.model.has_failed input ≡ false }
     ensures at { IfOk result (λ sources. (left : _)
         × AreSourcesAt opener.now (Some input) left (map string_bytes paths.now) sources.items) }
     ensures failed { IfOk result
-        (λ sources. All (λ s. value_by (λ f. f.failed) (value_by I.has_failed (λ _. false)) s
-        ≡ false) sources.items) }
+        (λ sources. All (λ s. (model_at O.model O.Opened.model I.model).has_failed s ≡ false)
+        sources.items) }
 {
     let mut input = Some(input);
     let mut sources = Vec::with_capacity(alloc, paths.len())?;

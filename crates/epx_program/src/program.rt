@@ -46,17 +46,17 @@ where
     O: Opener,
     I: Source + Drop,
     W: Sink,
-    requires input { I.has_failed input ≡ false }
-    requires output { W.has_failed output.old ≡ false }
+    requires input { I.model.has_failed input ≡ false }
+    requires output { W.model.has_failed output.old ≡ false }
 
-    ensures do_task { EndsTask (I.remaining input) (HasFailedRead I.reads I.fails input)
-        (text_relation O.opens O.Opened.reads opener.now I.reads input) flags.exit_code task
-        (paths_of paths) result (W.has_failed output.new) (W.contents output.old)
-        (W.contents output.new) }
-    ensures flushed { IsAnswerStatus result → W.is_flushed output.new ≡ true }
-    ensures failed { W.has_failed output.new ≡ true → result ≡ 4 }
-    ensures nothing { W.has_failed output.new ≡ false → ¬ IsAnswerStatus result
-        → Keeps (W.contents output.old) (W.contents output.new) }
+    ensures do_task { EndsTask (I.model.remaining input) (HasFailedRead I.model input)
+        (text_relation O.model O.Opened.model opener.now I.model input) flags.exit_code task
+        (paths_of paths) result (W.model.has_failed output.new) (W.model.contents output.old)
+        (W.model.contents output.new) }
+    ensures flushed { IsAnswerStatus result → W.model.is_flushed output.new ≡ true }
+    ensures failed { W.model.has_failed output.new ≡ true → result ≡ 4 }
+    ensures nothing { W.model.has_failed output.new ≡ false → ¬ IsAnswerStatus result
+        → Keeps (W.model.contents output.old) (W.model.contents output.new) }
 {
     let asked = &task;
     let mut left = Left::nothing(rt.alloc());
@@ -89,29 +89,30 @@ where
     O: Opener,
     I: Source + Drop,
     W: Sink,
-    requires input { I.has_failed input ≡ false }
-    requires output { W.has_failed output.old ≡ false }
+    requires input { I.model.has_failed input ≡ false }
+    requires output { W.model.has_failed output.old ≡ false }
 
-    ensures do_task { IfWork (λ task _ paths. EndsTask (I.remaining input)
-        (HasFailedRead I.reads I.fails input)
-        (text_relation O.opens O.Opened.reads opener.now I.reads input)
-        (flags_of words).exit_code task paths result (W.has_failed output.new)
-        (W.contents output.old) (W.contents output.new)) words }
+    ensures do_task { IfWork (λ task _ paths. EndsTask (I.model.remaining input)
+        (HasFailedRead I.model input)
+        (text_relation O.model O.Opened.model opener.now I.model input)
+        (flags_of words).exit_code task paths result (W.model.has_failed output.new)
+        (W.model.contents output.old) (W.model.contents output.new)) words }
 
     ensures shown { (text : _) → words ≡ Words.Text text 0 → result ≡ 0
-        → Appends (W.contents output.old) (W.contents output.new) (string_bytes text) }
+        → Appends (W.model.contents output.old) (W.model.contents output.new) (string_bytes text) }
     ensures prefix { (text : _) → words ≡ Words.Text text 0
-        → AppendsPrefix (W.contents output.old) (W.contents output.new) (string_bytes text) }
+        → AppendsPrefix (W.model.contents output.old) (W.model.contents output.new)
+        (string_bytes text) }
     ensures text { IfText (λ status. status ≡ 0 → (result ≡ 0)
-        ⊎ ((result ≡ 4) × (W.has_failed output.new ≡ true))) words }
+        ⊎ ((result ≡ 4) × (W.model.has_failed output.new ≡ true))) words }
     ensures refused { IfText (λ status. status ≢ 0 → (result ≡ status)
         × (output.new ≡ output.old)) words }
 
-    ensures flushed { result ≡ 0 → W.is_flushed output.new ≡ true }
-    ensures found { IfWork (λ _ _ _. result ≡ 5 → W.is_flushed output.new ≡ true) words }
-    ensures failed { W.has_failed output.new ≡ true → result ≡ 4 }
-    ensures nothing { W.has_failed output.new ≡ false → ¬ IsAnswerStatus result
-        → Keeps (W.contents output.old) (W.contents output.new) }
+    ensures flushed { result ≡ 0 → W.model.is_flushed output.new ≡ true }
+    ensures found { IfWork (λ _ _ _. result ≡ 5 → W.model.is_flushed output.new ≡ true) words }
+    ensures failed { W.model.has_failed output.new ≡ true → result ≡ 4 }
+    ensures nothing { W.model.has_failed output.new ≡ false → ¬ IsAnswerStatus result
+        → Keeps (W.model.contents output.old) (W.model.contents output.new) }
 {
     match words {
         Words::Work { task, plan, paths } => {
@@ -148,14 +149,14 @@ where
     O: Opener,
     I: Source + Drop,
     W: Sink,
-    requires input { I.has_failed input ≡ false }
-    requires output { W.has_failed output.old ≡ false }
+    requires input { I.model.has_failed input ≡ false }
+    requires output { W.model.has_failed output.old ≡ false }
 
-    ensures read_args { (texts : _) → AreTakenFor words texts → DoesAsAsked (I.remaining input)
-        (HasFailedRead I.reads I.fails input)
-        (text_relation O.opens O.Opened.reads opener.now I.reads input) texts
-        (exit_status result) (W.has_failed output.new) (W.contents output.old)
-        (W.contents output.new) }
+    ensures read_args { (texts : _) → AreTakenFor words texts
+        → DoesAsAsked (I.model.remaining input) (HasFailedRead I.model input)
+        (text_relation O.model O.Opened.model opener.now I.model input) texts
+        (exit_status result) (W.model.has_failed output.new) (W.model.contents output.old)
+        (W.model.contents output.new) }
     ensures status { IsStatus (exit_status result) ⊎ (exit_status result ≡ 2) }
 
     ensures no_text { IfErr words (λ error. error_kind error ≡ ErrorKind.InvalidData
@@ -164,10 +165,10 @@ where
     ensures no_words { IfErr words (λ error. error_kind error ≢ ErrorKind.InvalidData
         → (exit_status result ≡ fault_status Fault.Memory) × (output.new ≡ output.old)) }
 
-    ensures flushed { IsAnswerStatus (exit_status result) → W.is_flushed output.new ≡ true }
-    ensures failed { W.has_failed output.new ≡ true → exit_status result ≡ 4 }
-    ensures nothing { W.has_failed output.new ≡ false → ¬ IsAnswerStatus (exit_status result)
-        → Keeps (W.contents output.old) (W.contents output.new) }
+    ensures flushed { IsAnswerStatus (exit_status result) → W.model.is_flushed output.new ≡ true }
+    ensures failed { W.model.has_failed output.new ≡ true → exit_status result ≡ 4 }
+    ensures nothing { W.model.has_failed output.new ≡ false → ¬ IsAnswerStatus (exit_status result)
+        → Keeps (W.model.contents output.old) (W.model.contents output.new) }
 {
     let status = match read_args(rt.alloc(), words) {
         Ok(words) => {

@@ -4,25 +4,26 @@ use Rattle.std.proofs.Common.{Some, refl, sym, arith}
 use Rattle.std.proofs.lemmas.List.Elements.{length_all_zip}
 use Rattle.epx_devices.specs.Transfers.{ConsumesUpTo}
 use Rattle.epx_tool.specs.Sources.{EachConsumesUpTo}
+use Rattle.epx_devices.specs.Models.{SourceModel}
 
 pub nothing_consumed : (n : ℕ) (bytes : Option (List ℕ)) → ConsumesUpTo bytes bytes n
 nothing_consumed n None = ([], tt, omega arith)
 nothing_consumed n (Some bytes) = ([], refl, omega arith)
 
-module _ {S : Type 0} (remaining : S → Option (List ℕ)) (n : ℕ) where
-  pub none_consumed : (first : List S) → EachConsumesUpTo remaining first first n
+module _ {S : Type 0} (D : SourceModel S) (n : ℕ) where
+  pub none_consumed : (first : List S) → EachConsumesUpTo D first first n
   none_consumed [] = tt
-  none_consumed (source ∷ first) = (nothing_consumed n (remaining source), none_consumed first)
+  none_consumed (source ∷ first) = (nothing_consumed n (D.remaining source), none_consumed first)
 
-  pub as_many_consumed : (old new : List S) → EachConsumesUpTo remaining old new n
+  pub as_many_consumed : (old new : List S) → EachConsumesUpTo D old new n
       → length new ≡ length old
   as_many_consumed old new h = sym (length_all_zip
-      (λ before after. ConsumesUpTo (remaining before) (remaining after) n) old new h)
+      (λ before after. ConsumesUpTo (D.remaining before) (D.remaining after) n) old new h)
 
   pub one_consumed : (first now : List S) (log : ℕ) (d later : S)
-      → EachConsumesUpTo remaining first now n
-      → ConsumesUpTo (remaining (get_or first log d)) (remaining later) n
-      → EachConsumesUpTo remaining first (set now log later) n
+      → EachConsumesUpTo D first now n
+      → ConsumesUpTo (D.remaining (get_or first log d)) (D.remaining later) n
+      → EachConsumesUpTo D first (set now log later) n
   one_consumed [] [] log d later h c = tt
   one_consumed [] (x ∷ now) log d later h c = absurd h
   one_consumed (x ∷ first) [] log d later h c = absurd h

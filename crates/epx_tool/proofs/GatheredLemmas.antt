@@ -1,6 +1,6 @@
 -- How far the lines of sources are gathered, once one more part of a log is read.
 use Rattle.std.proofs.Common.{◌≡◌, ◌<◌, ◌≤◌, ◌⊎◌, ◌+◌, ◌-◌, ◌*◌, ◌++◌, ◌∷◌, ◌∙◌, [], ℕ, zero, suc}
-use Rattle.std.proofs.Common.{Bool, true, false, List, length, take, drop, get_or, set, All, Option}
+use Rattle.std.proofs.Common.{Bool, true, false, List, length, take, drop, get_or, set, All}
 use Rattle.std.proofs.Common.{Result, Ok, Err, MatchResult, Vec, Global, inl, inr, refl, sym, ap}
 use Rattle.std.proofs.Common.{subst, arith, append-nil, append_assoc, length-append}
 use Rattle.std.proofs.Math.Seq.{take-length, drop-length}
@@ -9,7 +9,7 @@ use Rattle.std.proofs.lemmas.List.{nil_from_length, take-append-drop}
 use Rattle.epx_types.specs.declared.fault.Fault.{Fault}
 use Rattle.epx_types.specs.declared.fault.Fault.TheVariants.{Memory}
 use Rattle.epx_lines.specs.Lines.{lines_of}
-use Rattle.epx_devices.specs.Deliveries.{FailRelation, ReadRelation}
+use Rattle.epx_devices.specs.Models.{SourceModel}
 use Rattle.epx_devices.specs.LogParts.{EndsLog, EndsPart, IsFrontOfLog, IsReadUpTo}
 use Rattle.epx_devices.specs.declared.transfer.LogPart.{LogPart}
 use Rattle.epx_devices.proofs.TransferLemmas.{IsReadUpTo-none, out_of_memory}
@@ -38,15 +38,13 @@ EndsLine-append front lines ends (inl none) =
 EndsLine-append front lines ends (inr (before, is)) =
     inr (front ++ before, ap (λ l. front ++ l) is ∙ sym (append_assoc front before (10 ∷ [])))
 
-module _ {S : Type 0} (remaining : S → Option (List ℕ)) (reads : ReadRelation S)
-    (fails : FailRelation S) (has_failed : S → Bool) (first now : List S)
+module _ {S : Type 0} (D : SourceModel S) (first now : List S)
     (few : length now ≤ max_logs) (ended : List (List ℕ)) (bytes : List ℕ)
-    (h : AreReadOnward remaining reads has_failed first now ended bytes) where
+    (h : AreReadOnward D first now ended bytes) where
   -- the number of sources stays
   pub as_many : length now ≡ length first
   as_many = by h.begun where
-    by : IsBegun remaining reads has_failed h.before now (length ended) bytes
-        → length now ≡ length first
+    by : IsBegun D h.before now (length ended) bytes → length now ≡ length first
     by (inl (same, none)) = ap length same ∙ h.read.read.as_many
     by (inr (source, within, same, read, short)) = ap length same
         ∙ length-set h.before (length ended) source ∙ h.read.read.as_many
@@ -62,18 +60,17 @@ module _ {S : Type 0} (remaining : S → Option (List ℕ)) (reads : ReadRelatio
     within_before : length ended < length h.before
     within_before = omega (arith, as_many, h.read.read.as_many, within)
 
-    pub read_so_far : IsReadUpTo remaining reads has_failed origin (get_or now (length ended) d)
+    pub read_so_far : IsReadUpTo D origin (get_or now (length ended) d)
         bytes × (length bytes ≤ max_log_bytes)
     read_so_far = by h.begun where
       n : ℕ
       n = length ended
 
-      by : IsBegun remaining reads has_failed h.before now n bytes
-          → IsReadUpTo remaining reads has_failed origin (get_or now n d) bytes
+      by : IsBegun D h.before now n bytes → IsReadUpTo D origin (get_or now n d) bytes
           × (length bytes ≤ max_log_bytes)
       by (inl (same, none)) =
           let well = h.read.read.whole n d within_before in (
-            rw (same, none) (IsReadUpTo-none reads remaining has_failed origin well),
+            rw (same, none) (IsReadUpTo-none D origin well),
             rw none (omega arith),
           )
       by (inr (source, inside, same, read, short)) =
@@ -81,14 +78,14 @@ module _ {S : Type 0} (remaining : S → Option (List ℕ)) (reads : ReadRelatio
           ∙ get_or-set_same h.before n source d within_before in
           let from : get_or h.before n source ≡ origin =
           get_or_default h.before n source d within_before in (
-            rw at (subst (λ s. IsReadUpTo remaining reads has_failed s source bytes) from read),
+            rw at (subst (λ s. IsReadUpTo D s source bytes) from read),
             short,
           )
 
     -- the source changes, and no other
     set_here : (later : S) → set h.before (length ended) later ≡ set now (length ended) later
     set_here later = by h.begun where
-      by : IsBegun remaining reads has_failed h.before now (length ended) bytes
+      by : IsBegun D h.before now (length ended) bytes
           → set h.before (length ended) later ≡ set now (length ended) later
       by (inl (same, none)) = ap (λ xs. set xs (length ended) later) (sym same)
       by (inr (source, inside, same, read, short)) =
@@ -97,31 +94,26 @@ module _ {S : Type 0} (remaining : S → Option (List ℕ)) (reads : ReadRelatio
 
     -- how reading the log ended
     log_ended : (later : S) (result : Result (List ℕ) Fault)
-        → EndsLog remaining reads fails has_failed (length ended) origin later result
-        → MatchResult result
-        (λ log. AreDeliveredUpTo remaining reads has_failed first (set now (length ended) later)
+        → EndsLog D (length ended) origin later result → MatchResult result
+        (λ log. AreDeliveredUpTo D first (set now (length ended) later)
         (length ended + 1) (ended ++ log ∷ []))
-        (λ f. EndsReading remaining reads fails has_failed first (set now (length ended) later)
-        (Err f))
+        (λ f. EndsReading D first (set now (length ended) later) (Err f))
     log_ended later result ends =
         subst (λ sources. MatchResult result
-        (λ log. AreDeliveredUpTo remaining reads has_failed first sources
-        (length ended + 1) (ended ++ log ∷ []))
-        (λ f. EndsReading remaining reads fails has_failed first sources (Err f)))
-        (set_here later)
-        (reading.next_log remaining reads fails has_failed first h.before (length ended) ended
+        (λ log. AreDeliveredUpTo D first sources (length ended + 1) (ended ++ log ∷ []))
+        (λ f. EndsReading D first sources (Err f))) (set_here later)
+        (reading.next_log D first h.before (length ended) ended
         h.read few_first (omega (arith, as_many, within)) d later result ends)
 
     -- the next log begins once this one is read
     pub next_begins : (later : S) (log : List ℕ)
-        → EndsLog remaining reads fails has_failed (length ended) origin later (Ok log)
-        → AreReadOnward remaining reads has_failed first (set now (length ended) later)
-        (ended ++ log ∷ []) []
+        → EndsLog D (length ended) origin later (Ok log)
+        → AreReadOnward D first (set now (length ended) later) (ended ++ log ∷ []) []
     next_begins later log ends =
         let read = log_ended later (Ok log) ends in
         record {
           before = set now (length ended) later;
-          read = subst (λ n. AreDeliveredUpTo remaining reads has_failed first
+          read = subst (λ n. AreDeliveredUpTo D first
               (set now (length ended) later) n (ended ++ log ∷ []))
               (omega (arith, length-append ended (log ∷ []))) read;
           begun = inl (refl, refl);
@@ -129,17 +121,16 @@ module _ {S : Type 0} (remaining : S → Option (List ℕ)) (reads : ReadRelatio
 
     -- the log is read, and then memory is out
     pub no_room_after : (later : S) (log : List ℕ)
-        → EndsLog remaining reads fails has_failed (length ended) origin later (Ok log)
-        → EndsReading remaining reads fails has_failed first (set now (length ended) later)
-        (Err Memory)
-    no_room_after later log ends = reading.out_of_memory remaining reads fails has_failed first
+        → EndsLog D (length ended) origin later (Ok log)
+        → EndsReading D first (set now (length ended) later) (Err Memory)
+    no_room_after later log ends = reading.out_of_memory D first
         (set now (length ended) later) (length ended + 1) (ended ++ log ∷ [])
         (log_ended later (Ok log) ends) few_first
 
     -- more of the log is read
     pub reads_on : (later : S) (more : List ℕ)
-        → IsReadUpTo remaining reads has_failed origin later more → length more ≤ max_log_bytes
-        → AreReadOnward remaining reads has_failed first (set now (length ended) later) ended more
+        → IsReadUpTo D origin later more → length more ≤ max_log_bytes
+        → AreReadOnward D first (set now (length ended) later) ended more
     reads_on later more read short = record {
       before = h.before;
       read = h.read;
@@ -147,7 +138,7 @@ module _ {S : Type 0} (remaining : S → Option (List ℕ)) (reads : ReadRelatio
         later,
         within_before,
         sym (set_here later),
-        subst (λ s. IsReadUpTo remaining reads has_failed s later more)
+        subst (λ s. IsReadUpTo D s later more)
             (get_or_default h.before (length ended) d later within_before) read,
         short,
       );
@@ -155,78 +146,65 @@ module _ {S : Type 0} (remaining : S → Option (List ℕ)) (reads : ReadRelatio
 
     -- reading on failed
     pub reading_fails : (later : S) (fault : Fault)
-        → EndsLog remaining reads fails has_failed (length ended) origin later (Err fault)
-        → EndsReading remaining reads fails has_failed first (set now (length ended) later)
-        (Err fault)
+        → EndsLog D (length ended) origin later (Err fault)
+        → EndsReading D first (set now (length ended) later) (Err fault)
     reading_fails later fault ends = log_ended later (Err fault) ends
 
     -- more of the log is read, and then memory is out
     pub no_room : (later : S) (more : List ℕ)
-        → IsReadUpTo remaining reads has_failed origin later more
-        → EndsReading remaining reads fails has_failed first (set now (length ended) later)
+        → IsReadUpTo D origin later more → EndsReading D first (set now (length ended) later)
         (Err Memory)
     no_room later more read = reading_fails later Memory
-        (out_of_memory reads remaining has_failed fails (length ended) origin later later more read)
+        (out_of_memory D (length ended) origin later later more read)
 
 -- ---- by the position
-module _ {S : Type 0} (remaining : S → Option (List ℕ)) (reads : ReadRelation S)
-    (fails : FailRelation S) (has_failed : S → Bool) (first now : List S)
+module _ {S : Type 0} (D : SourceModel S) (first now : List S)
     (few : length now ≤ max_logs) (at : Position) (lines : List MeaningAt)
-    (h : AreGathered remaining reads has_failed first now at lines)
-    (within : at.log < length now) (d : S) where
+    (h : AreGathered D first now at lines) (within : at.log < length now) (d : S) where
   pub inside : length h.ended < length now
   inside = omega (arith, h.log, within)
 
   -- the source as it was before its first byte was read
   abbrev pub start : S
-  start = origin remaining reads fails has_failed first now few h.ended
-      (h.begun ++ at.rest.items) h.read inside d
+  start = origin D first now few h.ended (h.begun ++ at.rest.items) h.read inside d
 
-  pub read_up_to : IsReadUpTo remaining reads has_failed start (get_or now at.log d)
-      (h.begun ++ at.rest.items)
-  read_up_to = subst (λ n. IsReadUpTo remaining reads has_failed start (get_or now n d)
+  pub read_up_to : IsReadUpTo D start (get_or now at.log d) (h.begun ++ at.rest.items)
+  read_up_to = subst (λ n. IsReadUpTo D start (get_or now n d)
       (h.begun ++ at.rest.items)) (sym h.log)
-      (read_so_far remaining reads fails has_failed first now few h.ended
-      (h.begun ++ at.rest.items) h.read inside d).0
+      (read_so_far D first now few h.ended (h.begun ++ at.rest.items) h.read inside d).0
 
   pub few_read : at.done + length at.rest.items ≤ max_log_bytes
   few_read =
-      let short = (read_so_far remaining reads fails has_failed first now few h.ended
+      let short = (read_so_far D first now few h.ended
       (h.begun ++ at.rest.items) h.read inside d).1 in
       omega (arith, h.done, length-append h.begun at.rest.items, short)
 
   pub part_fails : (later : S) (most : ℕ) (fault : Fault)
-      → EndsPart remaining reads fails has_failed at.log start later h.begun most (Err fault)
-      → EndsReading remaining reads fails has_failed first (set now at.log later) (Err fault)
+      → EndsPart D at.log start later h.begun most (Err fault)
+      → EndsReading D first (set now at.log later) (Err fault)
   part_fails later most fault ends =
-      subst (λ n. EndsLog remaining reads fails has_failed n start later (Err fault)
-      → EndsReading remaining reads fails has_failed first (set now n later) (Err fault))
-      (sym h.log)
-      (reading_fails remaining reads fails has_failed first now few h.ended
+      subst (λ n. EndsLog D n start later (Err fault)
+      → EndsReading D first (set now n later) (Err fault)) (sym h.log)
+      (reading_fails D first now few h.ended
       (h.begun ++ at.rest.items) h.read inside d later fault) ends
 
   module _ (later : S) (most : ℕ) (part : LogPart)
-      (ends : EndsPart remaining reads fails has_failed at.log start later h.begun most
-      (Ok part)) where
+      (ends : EndsPart D at.log start later h.begun most (Ok part)) where
     abbrev bytes : List ℕ
     bytes = part.bytes.items
 
     -- memory is out once the part is read
-    pub no_room_left : EndsReading remaining reads fails has_failed first (set now at.log later)
-        (Err Memory)
+    pub no_room_left : EndsReading D first (set now at.log later) (Err Memory)
     no_room_left = by part.is_last ends where
-      by : (is_last : Bool) → IsFrontOfLog remaining reads fails has_failed at.log start later
+      by : (is_last : Bool) → IsFrontOfLog D at.log start later
           (length h.begun + most) (h.begun ++ bytes) is_last
-          → EndsReading remaining reads fails has_failed first (set now at.log later) (Err Memory)
-      by true is = subst (λ n. EndsReading remaining reads fails has_failed first
-          (set now n later) (Err Memory)) (sym h.log)
-          (no_room_after remaining reads fails has_failed first now few h.ended
+          → EndsReading D first (set now at.log later) (Err Memory)
+      by true is = subst (λ n. EndsReading D first (set now n later) (Err Memory)) (sym h.log)
+          (no_room_after D first now few h.ended
           (h.begun ++ at.rest.items) h.read inside d later (h.begun ++ bytes)
-          (subst (λ n. EndsLog remaining reads fails has_failed n start later
-          (Ok (h.begun ++ bytes))) h.log is))
-      by false is = subst (λ n. EndsReading remaining reads fails has_failed first
-          (set now n later) (Err Memory)) (sym h.log)
-          (no_room remaining reads fails has_failed first now few h.ended
+          (subst (λ n. EndsLog D n start later (Ok (h.begun ++ bytes))) h.log is))
+      by false is = subst (λ n. EndsReading D first (set now n later) (Err Memory)) (sym h.log)
+          (no_room D first now few h.ended
           (h.begun ++ at.rest.items) h.read inside d later (h.begun ++ bytes) is.0)
 
     -- the log with this part is no longer than a log may be
@@ -235,7 +213,7 @@ module _ {S : Type 0} (remaining : S → Option (List ℕ)) (reads : ReadRelatio
       sizes : length (h.begun ++ bytes) ≡ at.done + length bytes
       sizes = omega (arith, h.done, length-append h.begun bytes)
 
-      by : (is_last : Bool) → IsFrontOfLog remaining reads fails has_failed at.log start later
+      by : (is_last : Bool) → IsFrontOfLog D at.log start later
           (length h.begun + most) (h.begun ++ bytes) is_last
           → at.done + length bytes ≤ max_log_bytes
       by true is = omega (arith, sizes, is.fits)
@@ -243,14 +221,13 @@ module _ {S : Type 0} (remaining : S → Option (List ℕ)) (reads : ReadRelatio
 
     -- the lines of the whole part follow, and the next log begins
     pub last_part : part.is_last ≡ true → (rest : Vec ℕ Global) → rest.items ≡ []
-        → AreGathered remaining reads has_failed first (set now at.log later)
+        → AreGathered D first (set now at.log later)
         (record { log = at.log + 1; line = 0; done = 0; rest = rest })
         (lines ++ lines_of_part h.ended h.begun bytes)
     last_part last rest none =
         let log = h.begun ++ bytes in
         let ended = h.ended ++ log ∷ [] in
-        let is = subst (IsFrontOfLog remaining reads fails has_failed at.log start later
-        (length h.begun + most) log) last ends in
+        let is = subst (IsFrontOfLog D at.log start later (length h.begun + most) log) last ends in
         record {
           ended = ended;
           begun = [];
@@ -260,25 +237,23 @@ module _ {S : Type 0} (remaining : S → Option (List ℕ)) (reads : ReadRelatio
           whole = inl refl;
           gathered = ap (λ l. l ++ lines_of_part h.ended h.begun bytes) h.gathered
               ∙ lines_after_part h.ended h.begun bytes h.whole ∙ lines_after_log h.ended log;
-          read = rw none (subst (λ n. AreReadOnward remaining reads has_failed first
-              (set now n later) ended []) (sym h.log)
-              (next_begins remaining reads fails has_failed first now few h.ended
+          read = rw none (subst (λ n. AreReadOnward D first (set now n later) ended []) (sym h.log)
+              (next_begins D first now few h.ended
               (h.begun ++ at.rest.items) h.read inside d later log
-              (subst (λ n. EndsLog remaining reads fails has_failed n start later (Ok log))
-              h.log is)));
+              (subst (λ n. EndsLog D n start later (Ok log)) h.log is)));
         }
 
     -- the whole lines of the part follow
     pub more_part : part.is_last ≡ false → (end line : ℕ) → end ≤ length bytes
         → EndsLine (take end bytes) → (rest : Vec ℕ Global) → rest.items ≡ drop end bytes
         → line ≡ at.line + length (lines_of (take end bytes))
-        → AreGathered remaining reads has_failed first (set now at.log later)
+        → AreGathered D first (set now at.log later)
         (record { log = at.log; line = line; done = at.done + end; rest = rest })
         (lines ++ lines_of_part h.ended h.begun (take end bytes))
     more_part more end line upto feeds rest left counted =
         let here = take end bytes in
         let begun = h.begun ++ here in
-        let is = subst (IsFrontOfLog remaining reads fails has_failed at.log start later
+        let is = subst (IsFrontOfLog D at.log start later
         (length h.begun + most) (h.begun ++ bytes)) more ends in
         let same : h.begun ++ bytes ≡ begun ++ rest.items =
         ap (λ l. h.begun ++ l) (sym (take-append-drop end bytes))
@@ -293,11 +268,10 @@ module _ {S : Type 0} (remaining : S → Option (List ℕ)) (reads : ReadRelatio
           whole = EndsLine-append h.begun here h.whole feeds;
           gathered = ap (λ l. l ++ lines_of_part h.ended h.begun here) h.gathered
               ∙ lines_after_part h.ended h.begun here h.whole;
-          read = subst (AreReadOnward remaining reads has_failed first (set now at.log later)
-              h.ended) same
-              (subst (λ n. AreReadOnward remaining reads has_failed first (set now n later)
+          read = subst (AreReadOnward D first (set now at.log later) h.ended) same
+              (subst (λ n. AreReadOnward D first (set now n later)
               h.ended (h.begun ++ bytes)) (sym h.log)
-              (reads_on remaining reads fails has_failed first now few h.ended
+              (reads_on D first now few h.ended
               (h.begun ++ at.rest.items) h.read inside d later (h.begun ++ bytes) is.0 is.2));
         }
 
@@ -307,7 +281,7 @@ module _ {S : Type 0} (remaining : S → Option (List ℕ)) (reads : ReadRelatio
         → (length now - at.log) * 67108866 - (at.done + end + length (drop end bytes))
         < (length now - at.log) * 67108866 - (at.done + length at.rest.items)
     fewer_left more end upto room =
-        let is = subst (IsFrontOfLog remaining reads fails has_failed at.log start later
+        let is = subst (IsFrontOfLog D at.log start later
         (length h.begun + most) (h.begun ++ bytes)) more ends in
         let all = take-append-drop end bytes in
         omega (
@@ -350,7 +324,7 @@ module _ {S : Type 0} (remaining : S → Option (List ℕ)) (reads : ReadRelatio
 
       pub part_gathered : line ≡ at.line + length (lines_of (take end bytes)) → (p : Position)
           → IsNext p
-          → AreGathered remaining reads has_failed first (set now at.log later) p
+          → AreGathered D first (set now at.log later) p
           (lines ++ lines_of_part h.ended h.begun (take end bytes))
       part_gathered counted p (inl (last, is)) =
           let whole : take end bytes ≡ bytes =
@@ -373,12 +347,11 @@ module _ {S : Type 0} (remaining : S → Option (List ℕ)) (reads : ReadRelatio
 
 -- ---- before the first part, and after the last
 
-module _ {S : Type 0} (remaining : S → Option (List ℕ)) (reads : ReadRelation S)
-    (fails : FailRelation S) (has_failed : S → Bool) (first : List S) where
+module _ {S : Type 0} (D : SourceModel S) (first : List S) where
   -- nothing is read yet
-  pub none_gathered : All (λ s. has_failed s ≡ false) first → (at : Position) → at.log ≡ 0
+  pub none_gathered : All (λ s. D.has_failed s ≡ false) first → (at : Position) → at.log ≡ 0
       → at.line ≡ 0 → at.done ≡ 0 → at.rest.items ≡ []
-      → AreGathered remaining reads has_failed first first at []
+      → AreGathered D first first at []
   none_gathered well at log line done none = record {
     ended = [];
     begun = [];
@@ -389,31 +362,29 @@ module _ {S : Type 0} (remaining : S → Option (List ℕ)) (reads : ReadRelatio
     gathered = refl;
     read = record {
       before = first;
-      read = reading.none_delivered remaining reads fails has_failed first well;
+      read = reading.none_delivered D first well;
       begun = inl (refl, none);
     };
   }
 
   -- no source is left
   pub all_gathered : (now : List S) → length now ≤ max_logs → (at : Position)
-      → (lines : List MeaningAt) → AreGathered remaining reads has_failed first now at lines
+      → (lines : List MeaningAt) → AreGathered D first now at lines
       → length now ≤ at.log → (logs : List (List ℕ))
-      × EndsReading remaining reads fails has_failed first now (Ok logs)
-      × (lines ≡ meanings_of logs)
+      × EndsReading D first now (Ok logs) × (lines ≡ meanings_of logs)
   all_gathered now few at lines h over =
       let bytes = h.begun ++ at.rest.items in
-      let many = as_many remaining reads fails has_failed first now few h.ended bytes h.read in
+      let many = as_many D first now few h.ended bytes h.read in
       by many h.read.begun where
         by : length now ≡ length first
-            → IsBegun remaining reads has_failed h.read.before now (length h.ended)
+            → IsBegun D h.read.before now (length h.ended)
             (h.begun ++ at.rest.items) → (logs : List (List ℕ))
-            × EndsReading remaining reads fails has_failed first now (Ok logs)
-            × (lines ≡ meanings_of logs)
+            × EndsReading D first now (Ok logs) × (lines ≡ meanings_of logs)
         by many (inl (same, none)) =
             let begun : h.begun ≡ [] = nil_from_length h.begun
             (omega (arith, ap length none, length-append h.begun at.rest.items)) in (
               h.ended,
-              rw same (reading.all_delivered remaining reads fails has_failed first h.read.before
+              rw same (reading.all_delivered D first h.read.before
                   (length h.ended) h.ended h.read.read (omega (arith, many, few))
                   (omega (arith, many, h.log, over))),
               h.gathered ∙ ap (lines_so_far h.ended) begun ∙ append-nil (meanings_of h.ended),

@@ -1,12 +1,12 @@
 -- How a run ends, by how reading its sources and merging their logs ended.
-use Rattle.std.proofs.Common.{◌≡◌, ◌↔◌, ℕ, Bool, true, false, List, [], ◌∷◌, length, Option}
+use Rattle.std.proofs.Common.{◌≡◌, ◌↔◌, ℕ, true, false, List, [], ◌∷◌, length}
 use Rattle.std.proofs.Common.{Result, Ok, Err, Vec, Global, inl, inr, sym, subst}
 use Rattle.std.proofs.Common.{arith}
 use Rattle.std.specs.Io.KnownBytes.{Appends}
 use Rattle.std.specs.Prelude.{OnOk, IfErr, IsErr}
 use Rattle.epx_types.specs.declared.fault.Fault.{Fault}
 use Rattle.epx_types.specs.declared.fault.Fault.TheVariants.{Write}
-use Rattle.epx_devices.specs.Deliveries.{FailRelation, ReadRelation}
+use Rattle.epx_devices.specs.Models.{SinkModel, SourceModel}
 use Rattle.epx_devices.specs.Transfers.{AppendsPrefix}
 use Rattle.epx_merge.specs.LogLines.{bytes_of}
 use Rattle.epx_compare.specs.declared.comparison.Comparison.{Comparison}
@@ -20,65 +20,58 @@ use Rattle.epx_tool.proofs.ReturnedFaultLemmas.{run_fault_of_lines}
 use Rattle.epx_tool.proofs.RunEndingLemmas.{leaves_again, leaves_after}
 use Rattle.epx_tool.proofs.RunEndingLemmas.{writes_nothing, writes_text}
 
-module _ {S : Type 0} (remaining : S → Option (List ℕ)) (reads : ReadRelation S)
-    (fails : FailRelation S) (has_failed : S → Bool) (old new : List S) where
+module _ {S : Type 0} (D : SourceModel S) (old new : List S) where
   -- all sources are read before something is made of their logs
   pub made_after : {T : Type 0} (Made : List (List ℕ) → Result T Fault → Type 0)
       (logs : List (List ℕ)) (result : Result T Fault)
-      → EndsReading remaining reads fails has_failed old new (Ok logs) → Made logs result
-      → EndsMaking remaining reads fails has_failed Made old new result
+      → EndsReading D old new (Ok logs) → Made logs result → EndsMaking D Made old new result
   made_after Made logs (Ok made) read is = (logs, read, is)
   made_after Made logs (Err fault) read is = inr (logs, read, is)
 
   -- the later sources are read while the lines of the first log are compared
   pub compared_with : (first : List ℕ) (later : Result (Vec (Vec ℕ Global) Global) Fault)
       (result : Result Comparison Fault)
-      → EndsReading remaining reads fails has_failed old new (logs_after (first ∷ []) later)
-      → IsComparisonWith first later result
-      → EndsMaking remaining reads fails has_failed IsComparisonResult old new result
+      → EndsReading D old new (logs_after (first ∷ []) later) → IsComparisonWith first later result
+      → EndsMaking D IsComparisonResult old new result
   compared_with first (Ok later) result read compared =
       made_after IsComparisonResult (first ∷ bytes_of later.items) result read compared
   compared_with first (Err fault) result read same =
-      subst (EndsMaking remaining reads fails has_failed IsComparisonResult old new) (sym same)
-      (inl read)
+      subst (EndsMaking D IsComparisonResult old new) (sym same) (inl read)
 
-module _ {S : Type 0} (remaining : S → Option (List ℕ)) (reads : ReadRelation S)
-    (fails : FailRelation S) (has_failed : S → Bool)
-    (Answer : List (List ℕ) → Result (List ℕ) Fault → Type 0) (old new : List S)
-    (was : Option (List ℕ)) (is_flushed sink_failed : Bool) where
+module _ {S T : Type 0} (D : SourceModel S) (W : SinkModel T)
+    (Answer : List (List ℕ) → Result (List ℕ) Fault → Type 0) (old new : List S) (was : T) where
   -- the sources could not be read, or their logs are refused
-  pub run_refused : (fault : Fault) → IsLogAnswer Answer → sink_failed ≡ false
-      → EndsMaking remaining reads fails has_failed Answer old new (Err fault)
-      → EndsRun remaining reads fails has_failed Answer old new was was is_flushed sink_failed
-      (Err fault)
+  pub run_refused : (fault : Fault) → IsLogAnswer Answer → W.has_failed was ≡ false
+      → EndsMaking D Answer old new (Err fault) → EndsRun D W Answer old new was was (Err fault)
   run_refused fault own well (inl read) = record {
-    sink = writes_nothing _ _ _ _ _ _ _ _ fault well
+    sink = writes_nothing _ _ _ _ _ _ _ fault well
         (λ is. read.nothing_written (same_error fault Write is))
         (λ logs are. own.of_reading logs fault (read.refusal logs are))
         (inl read.stopped);
-    sources = leaves_again remaining has_failed old new fault read.sources;
+    sources = leaves_again D old new fault read.sources;
   }
   run_refused fault own well (inr (logs, read, refused)) =
       let of_lines = own.of_lines logs fault read.fit refused in
       let has = HasRead-of_lines {T = Unit {0}} (length old) fault of_lines in record {
-        sink = writes_nothing _ _ _ _ _ _ _ _ fault well
+        sink = writes_nothing _ _ _ _ _ _ _ fault well
             (of_lines_not_write (length old) fault of_lines)
             (λ given are. subst (λ ls. IsFaultOfRun Answer ls fault) (read.bytes given are)
             (run_fault_of_lines Answer logs fault of_lines refused))
             (inr (record { logs = logs; delivered = read.delivered; refusal = refused }));
-        sources = leaves_after remaining has_failed old new (length old) logs (Err fault)
-            (omega arith) has read.sources;
+        sources = leaves_after D old new (length old) logs (Err fault) (omega arith) has
+            read.sources;
       }
 
   -- the text was written, whole or in part
-  pub run_written : (now : Option (List ℕ)) (text : List ℕ) (done : Result (Unit {0}) Fault)
-      → EndsMaking remaining reads fails has_failed Answer old new (Ok text)
-      → OnOk done (Appends was now text) → OnOk done (is_flushed ≡ true)
-      → IfErr done (λ fault. fault ≡ Write) → IsErr done ↔ (sink_failed ≡ true)
-      → AppendsPrefix was now text
-      → EndsRun remaining reads fails has_failed Answer old new was now is_flushed sink_failed done
+  pub run_written : (now : T) (text : List ℕ) (done : Result (Unit {0}) Fault)
+      → EndsMaking D Answer old new (Ok text)
+      → OnOk done (Appends (W.contents was) (W.contents now) text)
+      → OnOk done (W.is_flushed now ≡ true)
+      → IfErr done (λ fault. fault ≡ Write) → IsErr done ↔ (W.has_failed now ≡ true)
+      → AppendsPrefix (W.contents was) (W.contents now) text
+      → EndsRun D W Answer old new was now done
   run_written now text done (logs, read, answer) bytes flushed faults failed prefix = record {
-    sink = writes_text _ _ _ _ _ _ _ _ now text done
+    sink = writes_text _ _ _ _ _ _ _ now text done
         (λ P known given are. known given
         (subst (λ (ls : List (List ℕ)). Answer ls (Ok text)) (read.bytes given are) answer))
         (λ Written written. record {
@@ -88,6 +81,6 @@ module _ {S : Type 0} (remaining : S → Option (List ℕ)) (reads : ReadRelatio
           answer = answer;
           written = written;
         }) (λ given answered. (text, answered)) bytes flushed faults failed prefix;
-    sources = leaves_after remaining has_failed old new (length old) logs done (omega arith)
+    sources = leaves_after D old new (length old) logs done (omega arith)
         (HasRead-written (length old) done faults) read.sources;
   }

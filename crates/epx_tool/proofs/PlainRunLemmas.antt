@@ -1,6 +1,6 @@
 -- Runs that say what their answer finds, without it.
 use Rattle.std.proofs.Common.{ℕ, Bool, List, Option, Some, None, Ok}
-use Rattle.epx_devices.specs.Deliveries.{FailRelation, ReadRelation}
+use Rattle.epx_devices.specs.Models.{SinkModel, SourceModel}
 use Rattle.epx_tool.specs.Findings.{AnswersFindingBy, IsFindingWith}
 use Rattle.epx_tool.specs.Questions.{AnswersBy, IsBadInput, IsInputAnswer, IsTextWith}
 use Rattle.epx_tool.specs.RunEndings.{EndsRun, EndsRunWithInput}
@@ -21,23 +21,19 @@ pub text_plain : (question : InputQuestion) (found : Bool) (input : List ℕ) (l
     → IsInputAnswer question input logs (Ok text)
 text_plain question found input logs text h = (h.0, (h.1.0, h.1.1, h.1.2.0))
 
-module _ {S : Type 0} (remaining : S → Option (List ℕ)) (reads : ReadRelation S)
-    (fails : FailRelation S) (has_failed : S → Bool) where
+module _ {S : Type 0} (D : SourceModel S) where
   module _ (answered : Option MapText) (found : Bool) (old new : List S) where
     pub making_plain : (text : List ℕ)
-        → EndsMaking remaining reads fails has_failed (AnswersFindingBy answered found) old new
-        (Ok text)
-        → EndsMaking remaining reads fails has_failed (AnswersBy answered) old new (Ok text)
+        → EndsMaking D (AnswersFindingBy answered found) old new (Ok text)
+        → EndsMaking D (AnswersBy answered) old new (Ok text)
     making_plain text h = (h.0, h.1, answer_plain answered found h.0 text h.2)
 
-    pub run_plain : (was now : Option (List ℕ)) (is_flushed sink_failed : Bool)
-        → EndsRun remaining reads fails has_failed (AnswersFindingBy answered found) old new was now
-        is_flushed sink_failed (Ok tt)
-        → EndsRun remaining reads fails has_failed (AnswersBy answered) old new was now is_flushed
-        sink_failed (Ok tt)
-    run_plain was now is_flushed sink_failed run = record {
-      sink = writes_weaker _ _ _ _ _ _ _ _ _ was now is_flushed sink_failed
-          (λ P Q f h logs are. f logs (h logs are)) (answer_plain answered found)
+    pub run_plain : {T : Type 0} (W : SinkModel T) (was now : T)
+        → EndsRun D W (AnswersFindingBy answered found) old new was now (Ok tt)
+        → EndsRun D W (AnswersBy answered) old new was now (Ok tt)
+    run_plain W was now run = record {
+      sink = writes_weaker _ _ _ _ _ _ _ _ _ W was now (λ P Q f h logs are. f logs (h logs are))
+          (answer_plain answered found)
           (λ h. record {
             logs = h.logs;
             delivered = h.delivered;
@@ -48,19 +44,15 @@ module _ {S : Type 0} (remaining : S → Option (List ℕ)) (reads : ReadRelatio
       sources = run.sources;
     }
 
-  module _ {I : Type 0} (input_remaining : I → Option (List ℕ)) (input_reads : ReadRelation I)
-      (input_fails : FailRelation I) (input_failed : I → Bool) (question : InputQuestion)
-      (found : Bool) where
-    pub input_run_plain : (first last : I) (old new : List S) (was now : Option (List ℕ))
-        (is_flushed sink_failed : Bool)
-        → EndsRunWithInput input_remaining input_reads input_fails input_failed remaining reads
-        fails has_failed (IsBadInput question) (IsFindingWith question found) first last old new was
-        now is_flushed sink_failed (Ok tt)
-        → EndsRunWithInput input_remaining input_reads input_fails input_failed remaining reads
-        fails has_failed (IsBadInput question) (IsTextWith question) first last old new was now
-        is_flushed sink_failed (Ok tt)
-    input_run_plain first last old new was now is_flushed sink_failed run = record {
-      sink = writes_weaker _ _ _ _ _ _ _ _ _ was now is_flushed sink_failed
+  module _ {I : Type 0} (E : SourceModel I) (question : InputQuestion) (found : Bool) where
+    pub input_run_plain : {T : Type 0} (W : SinkModel T) (first last : I) (old new : List S)
+        (was now : T)
+        → EndsRunWithInput E D W (IsBadInput question) (IsFindingWith question found) first last
+        old new was now (Ok tt)
+        → EndsRunWithInput E D W (IsBadInput question) (IsTextWith question) first last old new
+        was now (Ok tt)
+    input_run_plain W first last old new was now run = record {
+      sink = writes_weaker _ _ _ _ _ _ _ _ _ W was now
           (λ P Q f h input logs is are. f (input, logs) (h input logs is are))
           (λ given text. text_plain question found given.0 given.1 text)
           (λ h. record {

@@ -1,5 +1,5 @@
 -- How a run ends, by how reading its sources ended and by what it wrote.
-use Rattle.std.proofs.Common.{◌≡◌, ◌↔◌, ◌<◌, ◌≤◌, ◌||◌, ℕ, Bool, true, false, List, length, Option}
+use Rattle.std.proofs.Common.{◌≡◌, ◌↔◌, ◌<◌, ◌≤◌, ◌||◌, ℕ, Bool, true, false, List, length}
 use Rattle.std.proofs.Common.{Result, Ok, Err, IsErrOf, refl, sym, subst, inr, arith}
 use Rattle.std.proofs.lemmas.Option.{slice_get_within}
 use Rattle.std.proofs.lemmas.Result.{on_ok_weaker, IfErr-weaker}
@@ -15,6 +15,7 @@ use Rattle.epx_tool.proofs.ConsumedLemmas.{as_many_consumed}
 use Rattle.epx_tool.proofs.ReturnedFaultLemmas.{same_error, same_error_iff, same_stop, HasRead}
 use Rattle.epx_tool.proofs.ReturnedFaultLemmas.{neither, other_iff, same_past_end, written_iff}
 use Rattle.epx_tool.proofs.ReturnedFaultLemmas.{ok_is_no_fault, on_ok, keeps_itself}
+use Rattle.epx_devices.specs.Models.{SinkModel, SourceModel}
 
 -- a device that had not failed has failed exactly where this call returned an error
 pub failed_first : {T E : Type 0} (before now : Bool) (result : Result T E) → before ≡ false
@@ -27,12 +28,10 @@ failed_first before now (Err fault) well is =
 
 -- ---- the sources
 
-module _ {S T V : Type 0} (remaining : S → Option (List ℕ)) (has_failed : S → Bool)
-    (old new : List S) where
+module _ {S T V : Type 0} (D : SourceModel S) (old new : List S) where
   -- the fault of the reading is returned
   pub leaves_again : (fault : Fault)
-      → LeavesSources {T = T} remaining has_failed old new (Err fault)
-      → LeavesSources {T = V} remaining has_failed old new (Err fault)
+      → LeavesSources {T = T} D old new (Err fault) → LeavesSources {T = V} D old new (Err fault)
   leaves_again fault h = record {
     read = λ log source there. same_error_iff fault (Read log) _ (h.read log source there);
     taken = h.taken;
@@ -44,10 +43,9 @@ module _ {S T V : Type 0} (remaining : S → Option (List ℕ)) (has_failed : S 
 
   -- the sources were read, and what is returned is no fault of theirs
   pub leaves_after : (n : ℕ) (x : T) (result : Result V Fault) → length old ≤ n → HasRead n result
-      → LeavesSources remaining has_failed old new (Ok x)
-      → LeavesSources remaining has_failed old new result
+      → LeavesSources D old new (Ok x) → LeavesSources D old new result
   leaves_after n x result all has h =
-      let many : length new ≡ length old = as_many_consumed remaining _ old new h.taken in record {
+      let many : length new ≡ length old = as_many_consumed D _ old new h.taken in record {
         read = λ log source there. other_iff result x (Read log) _
             (λ is. let far = has.not_stopped log (inr is) in
             omega (arith, far, all, many, slice_get_within new log source there))
@@ -60,11 +58,10 @@ module _ {S T V : Type 0} (remaining : S → Option (List ℕ)) (has_failed : S 
         none_read = λ is. absurd (has.not_too_many is);
       }
 
-module _ {I T V : Type 0} (remaining : I → Option (List ℕ)) (has_failed : I → Bool)
-    (first last : I) (count : ℕ) where
+module _ {I T V : Type 0} (E : SourceModel I) (first last : I) (count : ℕ) where
   pub input_again : (fault : Fault)
-      → LeavesInput {T = T} remaining has_failed first last count (Err fault)
-      → LeavesInput {T = V} remaining has_failed first last count (Err fault)
+      → LeavesInput {T = T} E first last count (Err fault)
+      → LeavesInput {T = V} E first last count (Err fault)
   input_again fault h = record {
     read = same_error_iff fault (Read count) _ h.read;
     taken = h.taken;
@@ -74,8 +71,7 @@ module _ {I T V : Type 0} (remaining : I → Option (List ℕ)) (has_failed : I 
   }
 
   pub input_after : (n : ℕ) (x : T) (result : Result V Fault) → count < n → HasRead n result
-      → LeavesInput remaining has_failed first last count (Ok x)
-      → LeavesInput remaining has_failed first last count result
+      → LeavesInput E first last count (Ok x) → LeavesInput E first last count result
   input_after n x result all has h = record {
     read = other_iff result x (Read count) _
         (λ is. let far = has.not_stopped count (inr is) in omega (arith, far, all)) h.read;
@@ -88,37 +84,37 @@ module _ {I T V : Type 0} (remaining : I → Option (List ℕ)) (has_failed : I 
 
 -- ---- the sink
 
-module _ {Given : Type 0} (OfKnown : (Given → Type 0) → Type 0)
+module _ {Given T : Type 0} (OfKnown : (Given → Type 0) → Type 0)
     (Answer : Given → List ℕ → Type 0) (IsFault : Given → Fault → Type 0)
-    (Delivered : (List ℕ → Type 0) → Type 0) (Ends : Fault → Type 0) (was : Option (List ℕ))
-    (is_flushed sink_failed : Bool) where
+    (Delivered : (List ℕ → Type 0) → Type 0) (Ends : Fault → Type 0) (W : SinkModel T)
+    (was : T) where
   -- nothing was written
-  pub writes_nothing : (fault : Fault) → sink_failed ≡ false
+  pub writes_nothing : (fault : Fault) → W.has_failed was ≡ false
       → ¬ IsErrOf {T = Unit {0}} (Err fault) Write → OfKnown (λ given. IsFault given fault)
       → Ends fault
-      → WritesAnswer OfKnown Answer IsFault Delivered Ends was was is_flushed sink_failed
-      (Err fault)
+      → WritesAnswer OfKnown Answer IsFault Delivered Ends W was was (Err fault)
   writes_nothing fault well other refusal refused = record {
     text = tt;
     answered = tt;
     flushed = tt;
     refusal = refusal;
     refused = λ _. refused;
-    nothing = λ _. keeps_itself was;
+    nothing = λ _. keeps_itself (W.contents was);
     prefix = λ is. absurd (other is);
     part = λ is. absurd (other is);
     written = neither _ _ other well;
   }
 
   -- the text was written, whole or in part
-  pub writes_text : (now : Option (List ℕ)) (text : List ℕ) (done : Result (Unit {0}) Fault)
+  pub writes_text : (now : T) (text : List ℕ) (done : Result (Unit {0}) Fault)
       → ((P : Given → Type 0) → ((given : Given) → Answer given text → P given) → OfKnown P)
       → ((Written : List ℕ → Type 0) → Written text → Delivered Written)
       → ((given : Given) → Answer given text → IsFault given Write)
-      → OnOk done (Appends was now text) → OnOk done (is_flushed ≡ true)
-      → IfErr done (λ fault. fault ≡ Write) → IsErr done ↔ (sink_failed ≡ true)
-      → AppendsPrefix was now text
-      → WritesAnswer OfKnown Answer IsFault Delivered Ends was now is_flushed sink_failed done
+      → OnOk done (Appends (W.contents was) (W.contents now) text)
+      → OnOk done (W.is_flushed now ≡ true)
+      → IfErr done (λ fault. fault ≡ Write) → IsErr done ↔ (W.has_failed now ≡ true)
+      → AppendsPrefix (W.contents was) (W.contents now) text
+      → WritesAnswer OfKnown Answer IsFault Delivered Ends W was now done
   writes_text now text done known delivered faulty bytes flushed faults failed prefix = record {
     text = on_ok_weaker done (λ written. known _ (λ given is. (text, is, written))) bytes;
     answered = on_ok_weaker done (λ written. delivered _ written) bytes;
@@ -133,15 +129,16 @@ module _ {Given : Type 0} (OfKnown : (Given → Type 0) → Type 0)
   }
 
 -- a text that was written whole, as a weaker answer
-module _ {Given : Type 0} (OfKnown : (Given → Type 0) → Type 0)
+module _ {Given T : Type 0} (OfKnown : (Given → Type 0) → Type 0)
     (Answer Weaker : Given → List ℕ → Type 0) (IsFault IsOther : Given → Fault → Type 0)
     (Delivered Others : (List ℕ → Type 0) → Type 0) (Ends Stops : Fault → Type 0)
-    (was now : Option (List ℕ)) (is_flushed sink_failed : Bool) where
+    (W : SinkModel T) (was now : T) where
   pub writes_weaker : (((P Q : Given → Type 0) → ((given : Given) → P given → Q given) → OfKnown P
       → OfKnown Q)) → ((given : Given) (text : List ℕ) → Answer given text → Weaker given text)
-      → (Delivered (Appends was now) → Others (Appends was now))
-      → WritesAnswer OfKnown Answer IsFault Delivered Ends was now is_flushed sink_failed (Ok tt)
-      → WritesAnswer OfKnown Weaker IsOther Others Stops was now is_flushed sink_failed (Ok tt)
+      → (Delivered (Appends (W.contents was) (W.contents now))
+      → Others (Appends (W.contents was) (W.contents now)))
+      → WritesAnswer OfKnown Answer IsFault Delivered Ends W was now (Ok tt)
+      → WritesAnswer OfKnown Weaker IsOther Others Stops W was now (Ok tt)
   writes_weaker known weaker delivered run = record {
     text = known _ _ (λ given h. (h.0, weaker given h.0 h.1, h.2)) run.text;
     answered = delivered run.answered;

@@ -23,6 +23,7 @@ use Rattle.epx_tool.specs.Runs.{AreBytesOf, NoneTooLongBefore, IsReadingRefusal}
 use Rattle.epx_tool.specs.Sources.{EachConsumesUpTo}
 use Rattle.epx_tool.specs.inner.SourceReadings.{AreReadUpTo}
 use Rattle.epx_tool.proofs.ConsumedLemmas.{none_consumed, one_consumed}
+use Rattle.epx_devices.specs.Models.{SourceModel}
 
 -- bytes that begin with other bytes are at least as many
 pub longer : (later : Option (List ℕ)) (bytes start : List ℕ) → Consumes (Some bytes) later start
@@ -30,9 +31,9 @@ pub longer : (later : Option (List ℕ)) (bytes start : List ℕ) → Consumes (
 longer None bytes start h = absurd h
 longer (Some rest) bytes start h = omega (arith, ap length h, length-append start rest)
 
-module _ {S : Type 0} (remaining : S → Option (List ℕ)) (has_failed : S → Bool) where
-  pub none_read : (first : List S) → All (λ s. has_failed s ≡ false) first
-      → AreReadUpTo remaining has_failed first first 0 []
+module _ {S : Type 0} (D : SourceModel S) where
+  pub none_read : (first : List S) → All (λ s. D.has_failed s ≡ false) first
+      → AreReadUpTo D first first 0 []
   none_read first whole = record {
     as_many = refl;
     within = omega arith;
@@ -41,23 +42,23 @@ module _ {S : Type 0} (remaining : S → Option (List ℕ)) (has_failed : S → 
     known = λ logs e. refl;
     short = λ k d l. absurd (omega arith);
     count = refl;
-    taken = none_consumed remaining (max_log_bytes + 1) first;
+    taken = none_consumed D (max_log_bytes + 1) first;
     ended = λ k d l. absurd (omega arith);
   }
 
   -- the bytes of one source
-  bytes_at : (first : List S) (logs : List (List ℕ)) → AreBytesOf remaining first logs
+  bytes_at : (first : List S) (logs : List (List ℕ)) → AreBytesOf D first logs
       → (n : ℕ) (s : S) → slice_get first n ≡ Some s
-      → (b : List ℕ) × (slice_get logs n ≡ Some b) × (remaining s ≡ Some b)
+      → (b : List ℕ) × (slice_get logs n ≡ Some b) × (D.remaining s ≡ Some b)
   bytes_at first logs e n s there =
-      let here = sym (ap (λ xs. slice_get xs n) e) ∙ slice_get-map remaining first n s there in
-      let b = slice_get-from_map Some logs n (remaining s) here in
+      let here = sym (ap (λ xs. slice_get xs n) e) ∙ slice_get-map D.remaining first n s there in
+      let b = slice_get-from_map Some logs n (D.remaining s) here in
       (b.0, b.1, sym b.2)
 
-  pub as_many_logs : (first : List S) (logs : List (List ℕ)) → AreBytesOf remaining first logs
+  pub as_many_logs : (first : List S) (logs : List (List ℕ)) → AreBytesOf D first logs
       → length logs ≡ length first
   as_many_logs first logs e = sym (length-map logs Some) ∙ sym (ap length e)
-      ∙ length-map first remaining
+      ∙ length-map first D.remaining
 
   fault_in : {T : Type 0} → Result T Fault → Fault
   fault_in (Ok x) = Memory
@@ -70,7 +71,7 @@ module _ {S : Type 0} (remaining : S → Option (List ℕ)) (has_failed : S → 
   read_well false x log h = refl
 
   module _ (first now : List S) (n : ℕ) (read : List (List ℕ))
-      (h : AreReadUpTo remaining has_failed first now n read) where
+      (h : AreReadUpTo D first now n read) where
     -- the next source is unchanged
     pub same_next : (d : S) → get_or now n d ≡ get_or first n d
     same_next d =
@@ -87,22 +88,22 @@ module _ {S : Type 0} (remaining : S → Option (List ℕ)) (has_failed : S → 
         ∙ drop_more_same now first n h.rest
 
     pub taken_further : (d later : S)
-        → ConsumesUpTo (remaining (get_or now n d)) (remaining later) (max_log_bytes + 1)
-        → EachConsumesUpTo remaining first (set now n later) (max_log_bytes + 1)
-    taken_further d later c = one_consumed remaining (max_log_bytes + 1) first now n d later
-        h.taken (subst (λ s. ConsumesUpTo (remaining s) (remaining later) (max_log_bytes + 1))
+        → ConsumesUpTo (D.remaining (get_or now n d)) (D.remaining later) (max_log_bytes + 1)
+        → EachConsumesUpTo D first (set now n later) (max_log_bytes + 1)
+    taken_further d later c = one_consumed D (max_log_bytes + 1) first now n d later
+        h.taken (subst (λ s. ConsumesUpTo (D.remaining s) (D.remaining later) (max_log_bytes + 1))
         (same_next d) c)
 
-    pub read_step : n < length first → (d later : S) → has_failed later ≡ false → (bytes : List ℕ)
-        → IfSome (remaining (get_or now n d)) (λ all. bytes ≡ all) → length bytes ≤ max_log_bytes
-        → ConsumesUpTo (remaining (get_or now n d)) (remaining later) (max_log_bytes + 1)
-        → IsAtEnd (remaining later) → AreReadUpTo remaining has_failed first (set now n later)
+    pub read_step : n < length first → (d later : S) → D.has_failed later ≡ false → (bytes : List ℕ)
+        → IfSome (D.remaining (get_or now n d)) (λ all. bytes ≡ all) → length bytes ≤ max_log_bytes
+        → ConsumesUpTo (D.remaining (get_or now n d)) (D.remaining later) (max_log_bytes + 1)
+        → IsAtEnd (D.remaining later) → AreReadUpTo D first (set now n later)
         (n + 1) (read ++ bytes ∷ [])
     read_step l d later whole bytes gives few took end = record {
       as_many = length-set now n later ∙ h.as_many;
       within = omega (arith, l, h.as_many);
       rest = rest_after later;
-      whole = All-set (λ s. has_failed s ≡ false) now n later whole h.whole;
+      whole = All-set (λ s. D.has_failed s ≡ false) now n later whole h.whole;
       known = λ logs e.
           let b = bytes_at first logs e n (get_or now n d) (next_source l d) in
           let same : bytes ≡ b.0 = subst (λ o. IfSome o (λ all. bytes ≡ all)) b.2 gives in
@@ -112,13 +113,13 @@ module _ {S : Type 0} (remaining : S → Option (List ℕ)) (has_failed : S → 
       short = All-push (λ bytes. length bytes ≤ max_log_bytes) read bytes h.short few;
       count = omega (arith, h.count, length-append read (bytes ∷ []));
       taken = taken_further d later took;
-      ended = subst (All (λ s. IsAtEnd (remaining s)))
+      ended = subst (All (λ s. IsAtEnd (D.remaining s)))
           (sym (take_more_set now n later (omega (arith, l, h.as_many))))
-          (All-push (λ s. IsAtEnd (remaining s)) (take n now) later h.ended end);
+          (All-push (λ s. IsAtEnd (D.remaining s)) (take n now) later h.ended end);
     }
 
     -- a log that was read is not too long
-    short_before : n < length first → (logs : List (List ℕ)) → AreBytesOf remaining first logs
+    short_before : n < length first → (logs : List (List ℕ)) → AreBytesOf D first logs
         → NoneTooLongBefore logs n
     short_before l logs e k bytes m there =
         let here : get_or (take n logs) k bytes ≡ bytes =
@@ -131,8 +132,8 @@ module _ {S : Type 0} (remaining : S → Option (List ℕ)) (has_failed : S → 
     pub reading_refusal : {T : Type 0} → n < length first → length first ≤ max_logs
         → (d : S) (later : Option (List ℕ)) (f : Fault) → IsReadLogFault n f
         → (IsErrOf {T = T} (Err f) (LogTooLong n)
-        → ConsumesExactly (remaining (get_or now n d)) later (max_log_bytes + 1))
-        → (logs : List (List ℕ)) → AreBytesOf remaining first logs → IsReadingRefusal logs f
+        → ConsumesExactly (D.remaining (get_or now n d)) later (max_log_bytes + 1))
+        → (logs : List (List ℕ)) → AreBytesOf D first logs → IsReadingRefusal logs f
     reading_refusal l few d later Memory of_log long logs e = tt
     reading_refusal l few d later TooManyLogs of_log long logs e = absurd of_log
     reading_refusal l few d later (LogTooLong log) of_log long logs e =
@@ -171,26 +172,26 @@ module _ {S : Type 0} (remaining : S → Option (List ℕ)) (has_failed : S → 
     each_read all = omega (arith, all, h.count, h.within)
 
     -- the logs are the bytes of the sources, where these are known
-    pub all_known : length first ≤ n → (logs : List (List ℕ)) → AreBytesOf remaining first logs
+    pub all_known : length first ≤ n → (logs : List (List ℕ)) → AreBytesOf D first logs
         → read ≡ logs
     all_known all logs e =
         h.known logs e ∙ take_all n logs (omega (arith, all, as_many_logs first logs e))
 
     -- all sources are at their ends
-    pub all_ended : length first ≤ n → All (λ s. IsAtEnd (remaining s)) now
-    all_ended all = subst (All (λ s. IsAtEnd (remaining s)))
+    pub all_ended : length first ≤ n → All (λ s. IsAtEnd (D.remaining s)) now
+    all_ended all = subst (All (λ s. IsAtEnd (D.remaining s)))
         (take_all n now (omega (arith, all, h.as_many))) h.ended
 
     -- no source has failed
-    pub none_failed : (k : ℕ) (s : S) → slice_get now k ≡ Some s → has_failed s ≡ false
-    none_failed k s there = subst (λ t. has_failed t ≡ false)
+    pub none_failed : (k : ℕ) (s : S) → slice_get now k ≡ Some s → D.has_failed s ≡ false
+    none_failed k s there = subst (λ t. D.has_failed t ≡ false)
         (get_or_from_slice_get now k s s there) (h.whole k s (slice_get_within now k s there))
 
     -- the fault names the source that failed
     pub one_failed : {T V : Type 0} → n < length first → (later : S) (f : Fault)
-        → IsReadLogFault n f → IsErrOf {T = T} (Err f) (Read n) ↔ (has_failed later ≡ true)
+        → IsReadLogFault n f → IsErrOf {T = T} (Err f) (Read n) ↔ (D.has_failed later ≡ true)
         → (k : ℕ) (s : S) → slice_get (set now n later) k ≡ Some s
-        → IsErrOf {T = V} (Err f) (Read k) ↔ (has_failed s ≡ true)
+        → IsErrOf {T = V} (Err f) (Read k) ↔ (D.has_failed s ≡ true)
     unfolding fault_in
     one_failed {T} {V} l later f of_log failed k s there =
         let entry = get_or_from_slice_get (set now n later) k s s there in
@@ -199,14 +200,14 @@ module _ {S : Type 0} (remaining : S → Option (List ℕ)) (has_failed : S → 
               let same : later ≡ s =
               sym (get_or-set_same now n later s (omega (arith, l, h.as_many)))
               ∙ ap (λ i. get_or (set now n later) i s) (sym e) ∙ entry in (
-                λ is. subst (λ t. has_failed t ≡ true) same
+                λ is. subst (λ t. D.has_failed t ≡ true) same
                     (failed.0 (ap Err (ap fault_in is ∙ ap Read e))),
                 λ bad. ap Err
-                    (ap fault_in (failed.1 (subst (λ t. has_failed t ≡ true) (sym same) bad))
+                    (ap fault_in (failed.1 (subst (λ t. D.has_failed t ≡ true) (sym same) bad))
                     ∙ ap Read (sym e)),
               )
           | inr other ↦
-              let well : has_failed s ≡ false = subst (λ t. has_failed t ≡ false)
+              let well : D.has_failed s ≡ false = subst (λ t. D.has_failed t ≡ false)
               (sym (get_or-set_other now n k later s other) ∙ entry)
               (h.whole k s
               (omega (

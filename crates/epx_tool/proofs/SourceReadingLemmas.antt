@@ -1,13 +1,14 @@
 -- How reading all sources ends, by how far it is.
-use Rattle.std.proofs.Common.{◌≡◌, ◌↔◌, ◌+◌, ◌++◌, ◌∷◌, [], ◌<◌, ◌≤◌, ℕ, Bool, true, false, List}
-use Rattle.std.proofs.Common.{length, drop, get_or, set, All, Option, Result, Ok, Err, IsErrOf}
+use Rattle.std.proofs.Common.{◌≡◌, ◌↔◌, ◌+◌, ◌++◌, ◌∷◌, [], ◌<◌, ◌≤◌, ℕ, true, false, List}
+use Rattle.std.proofs.Common.{length, drop, get_or, set, All, Result, Ok, Err, IsErrOf}
 use Rattle.std.proofs.Common.{IfSome, IfOk, OnOk, IfErr, MatchResult, Vec, Global, inl, refl, sym}
 use Rattle.std.proofs.Common.{subst}
 use Rattle.std.specs.Io.KnownBytes.{IsAtEnd}
 use Rattle.epx_types.specs.declared.fault.Fault.{Fault}
 use Rattle.epx_types.specs.declared.fault.Fault.TheVariants.{Memory, TooManyLogs, LogTooLong}
 use Rattle.epx_types.specs.declared.fault.Fault.TheVariants.{Read, Write}
-use Rattle.epx_devices.specs.Deliveries.{FailRelation, ReadRelation, DeliversAll, IsLogStop}
+use Rattle.epx_devices.specs.Deliveries.{DeliversAll, IsLogStop}
+use Rattle.epx_devices.specs.Models.{SourceModel}
 use Rattle.epx_devices.specs.LogParts.{EndsLog}
 use Rattle.epx_devices.specs.Transfers.{IsReadLogFault, ConsumesUpTo, ConsumesExactly}
 use Rattle.epx_types.specs.Limits.{max_logs, max_log_bytes}
@@ -24,32 +25,30 @@ use Rattle.epx_tool.proofs.SourceLemmas.{read_step, reading_refusal, rest_after,
 use Rattle.epx_tool.proofs.SourceLemmas.{all_fit, each_read, all_ended, all_known, none_failed}
 use Rattle.epx_tool.proofs.SourceLemmas.{one_failed}
 
-module _ {S : Type 0} (remaining : S → Option (List ℕ)) (reads : ReadRelation S)
-    (fails : FailRelation S) (has_failed : S → Bool) (first : List S) where
+module _ {S : Type 0} (D : SourceModel S) (first : List S) where
   -- no source is read yet
-  pub none_delivered : All (λ s. has_failed s ≡ false) first
-      → AreDeliveredUpTo remaining reads has_failed first first 0 []
+  pub none_delivered : All (λ s. D.has_failed s ≡ false) first
+      → AreDeliveredUpTo D first first 0 []
   none_delivered well = record {
-    read = none_read remaining has_failed first well;
+    read = none_read D first well;
     delivered = tt;
   }
 
-  pub too_many_sources : All (λ s. has_failed s ≡ false) first → max_logs < length first
-      → EndsReading remaining reads fails has_failed first first (Err TooManyLogs)
+  pub too_many_sources : All (λ s. D.has_failed s ≡ false) first → max_logs < length first
+      → EndsReading D first first (Err TooManyLogs)
   too_many_sources well many = record {
     bytes = tt;
     delivered = tt;
     fit = tt;
     refusal = λ logs are.
-        subst (λ n. max_logs < n) (sym (as_many_logs remaining has_failed first logs are)) many;
+        subst (λ n. max_logs < n) (sym (as_many_logs D first logs are)) many;
     stopped = inl many;
     nothing_written = differs TooManyLogs Write (λ same. cc same);
     place = λ log stops. absurd (too_many_does_not_stop log stops);
     sources = record {
       read = λ k source there. neither _ _ (differs TooManyLogs (Read k) (λ same. cc same))
-          (none_failed remaining has_failed _ _ _ _ (none_read remaining has_failed first well) k
-          source there);
-      taken = none_consumed remaining (max_log_bytes + 1) first;
+          (none_failed D _ _ _ _ (none_read D first well) k source there);
+      taken = none_consumed D (max_log_bytes + 1) first;
       ended = tt;
       no_further = λ log stops. refl;
       too_many = (λ is. many, λ more. refl);
@@ -58,9 +57,8 @@ module _ {S : Type 0} (remaining : S → Option (List ℕ)) (reads : ReadRelatio
   }
 
   module _ (now : List S) (n : ℕ) (logs : List (List ℕ))
-      (h : AreDeliveredUpTo remaining reads has_failed first now n logs)
-      (few : length first ≤ max_logs) where
-    pub out_of_memory : EndsReading remaining reads fails has_failed first now (Err Memory)
+      (h : AreDeliveredUpTo D first now n logs) (few : length first ≤ max_logs) where
+    pub out_of_memory : EndsReading D first now (Err Memory)
     out_of_memory = record {
       bytes = tt;
       delivered = tt;
@@ -71,7 +69,7 @@ module _ {S : Type 0} (remaining : S → Option (List ℕ)) (reads : ReadRelatio
       place = λ log stops. absurd (memory_does_not_stop log stops);
       sources = record {
         read = λ k source there. neither _ _ (differs Memory (Read k) (λ same. cc same))
-            (none_failed remaining has_failed _ _ _ _ h.read k source there);
+            (none_failed D _ _ _ _ h.read k source there);
         taken = h.read.taken;
         ended = tt;
         no_further = λ log stops. absurd (memory_does_not_stop log stops);
@@ -82,23 +80,23 @@ module _ {S : Type 0} (remaining : S → Option (List ℕ)) (reads : ReadRelatio
     }
 
     pub all_delivered : length first ≤ n
-        → EndsReading remaining reads fails has_failed first now (Ok logs)
+        → EndsReading D first now (Ok logs)
     all_delivered all = record {
-      bytes = λ given are. all_known remaining has_failed _ _ _ _ h.read all given are;
+      bytes = λ given are. all_known D _ _ _ _ h.read all given are;
       delivered = record {
-        as_many = each_read remaining has_failed _ _ _ _ h.read all;
+        as_many = each_read D _ _ _ _ h.read all;
         whole = h.delivered;
       };
-      fit = all_fit remaining has_failed _ _ _ _ h.read all few;
+      fit = all_fit D _ _ _ _ h.read all few;
       refusal = tt;
       stopped = tt;
       nothing_written = ok_is_no_fault _ Write;
       place = λ log stops. absurd (ok_does_not_stop _ log stops);
       sources = record {
         read = λ k source there. neither _ _ (ok_is_no_fault _ (Read k))
-            (none_failed remaining has_failed _ _ _ _ h.read k source there);
+            (none_failed D _ _ _ _ h.read k source there);
         taken = h.read.taken;
-        ended = all_ended remaining has_failed _ _ _ _ h.read all;
+        ended = all_ended D _ _ _ _ h.read all;
         no_further = λ log stops. absurd (ok_does_not_stop _ log stops);
         too_many = none_of_both _ _ (ok_is_no_fault _ TooManyLogs)
             (few_are_not_many (length first) few);
@@ -109,51 +107,50 @@ module _ {S : Type 0} (remaining : S → Option (List ℕ)) (reads : ReadRelatio
     module _ (within : n < length first) (next later : S) where
       -- the next source is read
       one_delivered : {T : Type 0} (x : T)
-          → IsErrOf (Ok x) (Read n) ↔ (has_failed later ≡ true) → (bytes : List ℕ)
-          → IfSome (remaining (get_or now n next)) (λ all. bytes ≡ all)
+          → IsErrOf (Ok x) (Read n) ↔ (D.has_failed later ≡ true) → (bytes : List ℕ)
+          → IfSome (D.remaining (get_or now n next)) (λ all. bytes ≡ all)
           → length bytes ≤ max_log_bytes
-          → ConsumesUpTo (remaining (get_or now n next)) (remaining later) (max_log_bytes + 1)
-          → IsAtEnd (remaining later) → DeliversAll reads (get_or now n next) later bytes
-          → AreDeliveredUpTo remaining reads has_failed first (set now n later) (n + 1)
-          (logs ++ bytes ∷ [])
+          → ConsumesUpTo (D.remaining (get_or now n next)) (D.remaining later) (max_log_bytes + 1)
+          → IsAtEnd (D.remaining later) → DeliversAll D (get_or now n next) later bytes
+          → AreDeliveredUpTo D first (set now n later) (n + 1) (logs ++ bytes ∷ [])
       one_delivered x failed bytes given short taken ended whole =
-          let well = read_well remaining has_failed (has_failed later) x n failed in
-          let same = same_next remaining has_failed _ _ _ _ h.read next in
+          let well = read_well D (D.has_failed later) x n failed in
+          let same = same_next D _ _ _ _ h.read next in
           record {
-            read = read_step remaining has_failed _ _ _ _ h.read within next later well bytes
-                given short taken ended;
-            delivered = delivered_step reads first now logs n next later bytes h.read.count within
+            read = read_step D _ _ _ _ h.read within next later well bytes given short taken ended;
+            delivered = delivered_step D first now logs n next later bytes h.read.count within
                 h.read.as_many h.delivered
-                (subst (λ s. DeliversAll reads s later bytes) same whole);
+                (subst (λ s. DeliversAll D s later bytes) same whole);
           }
 
       -- reading the next source stops
       stopped_at : {T : Type 0} (fault : Fault) → IsReadLogFault n fault
           → (IsErrOf {T = T} (Err fault) (LogTooLong n)
-          → ConsumesExactly (remaining (get_or now n next)) (remaining later) (max_log_bytes + 1))
-          → IsLogStop reads fails n (get_or now n next) later fault
-          → IsErrOf {T = T} (Err fault) (Read n) ↔ (has_failed later ≡ true)
-          → ConsumesUpTo (remaining (get_or now n next)) (remaining later) (max_log_bytes + 1)
-          → EndsReading remaining reads fails has_failed first (set now n later) (Err fault)
+          → ConsumesExactly (D.remaining (get_or now n next)) (D.remaining later)
+          (max_log_bytes + 1))
+          → IsLogStop D n (get_or now n next) later fault
+          → IsErrOf {T = T} (Err fault) (Read n) ↔ (D.has_failed later ≡ true)
+          → ConsumesUpTo (D.remaining (get_or now n next)) (D.remaining later) (max_log_bytes + 1)
+          → EndsReading D first (set now n later) (Err fault)
       stopped_at fault of_log long stops failed taken = record {
         bytes = tt;
         delivered = tt;
         fit = tt;
-        refusal = reading_refusal remaining has_failed _ _ _ _ h.read within few next
-            (remaining later) fault of_log long;
-        stopped = stops_reading remaining reads fails has_failed _ _ _ _ h within next later fault
-            (same_next remaining has_failed _ _ _ _ h.read next) stops;
+        refusal = reading_refusal D _ _ _ _ h.read within few next
+            (D.remaining later) fault of_log long;
+        stopped = stops_reading D _ _ _ _ h within next later fault
+            (same_next D _ _ _ _ h.read next) stops;
         nothing_written = input_not_write n fault of_log;
         place = λ k stops. subst (λ m. m < length first)
             (sym (stops_at_input n fault of_log k stops)) within;
         sources = record {
-          read = one_failed remaining has_failed _ _ _ _ h.read within later fault of_log failed;
-          taken = taken_further remaining has_failed _ _ _ _ h.read next later taken;
+          read = one_failed D _ _ _ _ h.read within later fault of_log failed;
+          taken = taken_further D _ _ _ _ h.read next later taken;
           ended = tt;
           no_further = λ k stops. subst
               (λ m. drop (m + 1) (set now n later) ≡ drop (m + 1) first)
               (sym (stops_at_input n fault of_log k stops))
-              (rest_after remaining has_failed _ _ _ _ h.read later);
+              (rest_after D _ _ _ _ h.read later);
           too_many = none_of_both _ _ (input_not_too_many n fault of_log)
               (few_are_not_many (length first) few);
           none_read = λ is. absurd (input_not_too_many n fault of_log is);
@@ -162,20 +159,20 @@ module _ {S : Type 0} (remaining : S → Option (List ℕ)) (reads : ReadRelatio
 
       -- the result of reading the next source
       pub next_read : (result : Result (Vec ℕ Global) Fault)
-          → IfOk result (λ b. IfSome (remaining (get_or now n next)) (λ all. b.items ≡ all))
-          → IfOk result (λ b. DeliversAll reads (get_or now n next) later b.items)
-          → OnOk result (IsAtEnd (remaining later))
+          → IfOk result (λ b. IfSome (D.remaining (get_or now n next)) (λ all. b.items ≡ all))
+          → IfOk result (λ b. DeliversAll D (get_or now n next) later b.items)
+          → OnOk result (IsAtEnd (D.remaining later))
           → IfOk result (λ b. length b.items ≤ max_log_bytes)
           → IfErr result (IsReadLogFault n)
-          → IfErr result (IsLogStop reads fails n (get_or now n next) later)
-          → IsErrOf result (Read n) ↔ (has_failed later ≡ true)
+          → IfErr result (IsLogStop D n (get_or now n next) later)
+          → IsErrOf result (Read n) ↔ (D.has_failed later ≡ true)
           → (IsErrOf result (LogTooLong n)
-          → ConsumesExactly (remaining (get_or now n next)) (remaining later) (max_log_bytes + 1))
-          → ConsumesUpTo (remaining (get_or now n next)) (remaining later) (max_log_bytes + 1)
+          → ConsumesExactly (D.remaining (get_or now n next)) (D.remaining later)
+          (max_log_bytes + 1))
+          → ConsumesUpTo (D.remaining (get_or now n next)) (D.remaining later) (max_log_bytes + 1)
           → MatchResult result
-          (λ b. AreDeliveredUpTo remaining reads has_failed first (set now n later) (n + 1)
-          (logs ++ b.items ∷ []))
-          (λ f. EndsReading remaining reads fails has_failed first (set now n later) (Err f))
+          (λ b. AreDeliveredUpTo D first (set now n later) (n + 1) (logs ++ b.items ∷ []))
+          (λ f. EndsReading D first (set now n later) (Err f))
       next_read (Ok b) given whole ended short of_log stops failed long taken =
           one_delivered b failed b.items given short taken ended whole
       next_read (Err f) given whole ended short of_log stops failed long taken =
@@ -183,11 +180,9 @@ module _ {S : Type 0} (remaining : S → Option (List ℕ)) (reads : ReadRelatio
 
       -- the same, by how reading its log ended
       pub next_log : (result : Result (List ℕ) Fault)
-          → EndsLog remaining reads fails has_failed n (get_or now n next) later result
-          → MatchResult result
-          (λ bytes. AreDeliveredUpTo remaining reads has_failed first (set now n later) (n + 1)
-          (logs ++ bytes ∷ []))
-          (λ f. EndsReading remaining reads fails has_failed first (set now n later) (Err f))
+          → EndsLog D n (get_or now n next) later result → MatchResult result
+          (λ bytes. AreDeliveredUpTo D first (set now n later) (n + 1) (logs ++ bytes ∷ []))
+          (λ f. EndsReading D first (set now n later) (Err f))
       next_log (Ok b) e =
           one_delivered b e.failed b e.bytes e.fits e.no_further e.ended e.delivered
       next_log (Err f) e = stopped_at f e.faults e.too_long e.stops e.failed e.no_further

@@ -7,46 +7,46 @@ use Rattle.epx_types.specs.declared.fault.Fault.TheVariants.{Memory, TooManyLogs
 use Rattle.epx_types.specs.Instances.{Instance}
 use Rattle.epx_types.specs.Limits.{max_logs}
 use Rattle.epx_merge.specs.Refusals.{NoneTooLong, IsRefusal}
-use Rattle.epx_devices.specs.Deliveries.{FailRelation, ReadRelation, DeliversAll, IsLogStop}
+use Rattle.epx_devices.specs.Deliveries.{DeliversAll, IsLogStop}
+use Rattle.epx_devices.specs.Models.{SourceModel}
 use Rattle.epx_tool.specs.Answer.{Answers}
 
 -- ---- the logs that were delivered
 
 -- the first sources delivered these logs, one whole log each
-abbrev pub FirstDeliver : {S : Type 0} → ReadRelation S
-    → List S → List S → List (List ℕ) → Type 0
-FirstDeliver reads old new [] = Unit {0}
-FirstDeliver reads (s ∷ old) (t ∷ new) (log ∷ logs) =
-    DeliversAll reads s t log × FirstDeliver reads old new logs
-FirstDeliver reads _ _ (log ∷ logs) = ⊥
+abbrev pub FirstDeliver : {S : Type 0} → SourceModel S → List S → List S → List (List ℕ) → Type 0
+FirstDeliver D old new [] = Unit {0}
+FirstDeliver D (s ∷ old) (t ∷ new) (log ∷ logs) =
+    DeliversAll D s t log × FirstDeliver D old new logs
+FirstDeliver D _ _ (log ∷ logs) = ⊥
 
 -- the sources delivered these logs, one whole log each
-pub record EachDelivers {S : Type 0} (reads : ReadRelation S)
-    (old new : List S) (logs : List (List ℕ)) : Type 0 where
+pub record EachDelivers {S : Type 0} (D : SourceModel S) (old new : List S)
+    (logs : List (List ℕ)) : Type 0 where
   pub as_many : length logs ≡ length old
-  pub whole : FirstDeliver reads old new logs
+  pub whole : FirstDeliver D old new logs
 
 -- ---- why reading stopped
 
 -- the sources before this log's source delivered a log each, none of them too long
-pub record DeliveredBefore {S : Type 0} (reads : ReadRelation S)
-    (old new : List S) (log : ℕ) : Type 0 where
+pub record DeliveredBefore {S : Type 0} (D : SourceModel S) (old new : List S) (log : ℕ) : Type
+    0 where
   pub within : log < length old
   pub logs : List (List ℕ)
   pub as_many : length logs ≡ log
-  pub whole : FirstDeliver reads old new logs
+  pub whole : FirstDeliver D old new logs
   pub short : NoneTooLong logs
 
 -- reading stopped at a source, with this fault: its log is too long, or a read of it failed
-pub record StopsAtSource {S : Type 0} (reads : ReadRelation S) (fails : FailRelation S)
-    (old new : List S) (fault : Fault) : Type 0 where
+pub record StopsAtSource {S : Type 0} (D : SourceModel S) (old new : List S) (fault : Fault) : Type
+    0 where
   pub log : ℕ
-  pub before : DeliveredBefore reads old new log
+  pub before : DeliveredBefore D old new log
   pub first : S
   pub last : S
   pub was : slice_get old log ≡ Some first
   pub is : slice_get new log ≡ Some last
-  pub stopped : IsLogStop reads fails log first last fault
+  pub stopped : IsLogStop D log first last fault
 
 -- the faults without a source: out of memory, and too many sources
 abbrev pub IsOfNoSource : ℕ → Fault → Type 0
@@ -55,42 +55,39 @@ IsOfNoSource count TooManyLogs = max_logs < count
 IsOfNoSource count _ = ⊥
 
 -- reading the sources stopped with this fault
-abbrev pub StopsReading : {S : Type 0} → ReadRelation S → FailRelation S
-    → List S → List S → Fault → Type 0
-StopsReading reads fails old new fault =
-    IsOfNoSource (length old) fault ⊎ StopsAtSource reads fails old new fault
+abbrev pub StopsReading : {S : Type 0} → SourceModel S → List S → List S → Fault → Type 0
+StopsReading D old new fault = IsOfNoSource (length old) fault ⊎ StopsAtSource D old new fault
 
 -- ---- how a run ends
 
 -- the logs that the sources delivered have an answer, and it was written as `Written` says
-pub record WritesDelivered {S : Type 0} (reads : ReadRelation S)
+pub record WritesDelivered {S : Type 0} (D : SourceModel S)
     (Answer : List (List ℕ) → Result (List ℕ) Fault → Type 0) (old new : List S)
     (Written : List ℕ → Type 0) : Type 0 where
   pub logs : List (List ℕ)
-  pub delivered : EachDelivers reads old new logs
+  pub delivered : EachDelivers D old new logs
   pub text : List ℕ
   pub answer : Answer logs (Ok text)
   pub written : Written text
 
 -- the same for the text `Is` of the committed map
-abbrev pub AnswersDelivered : {S : Type 0} → ReadRelation S → (List Instance → List ℕ → Type 0)
+abbrev pub AnswersDelivered : {S : Type 0} → SourceModel S → (List Instance → List ℕ → Type 0)
     → List S → List S → (List ℕ → Type 0) → Type 0
-AnswersDelivered reads Is = WritesDelivered reads (Answers Is)
+AnswersDelivered D Is = WritesDelivered D (Answers Is)
 
 -- the sources delivered logs, and the fault is the refusal of these logs
-pub record RefusesDelivered {S : Type 0} (reads : ReadRelation S)
+pub record RefusesDelivered {S : Type 0} (D : SourceModel S)
     (Refuses : List (List ℕ) → Fault → Type 0) (old new : List S) (fault : Fault) : Type 0 where
   pub logs : List (List ℕ)
-  pub delivered : EachDelivers reads old new logs
+  pub delivered : EachDelivers D old new logs
   pub refusal : Refuses logs fault
 
 -- a run ends with this fault: reading stopped with it, or it is the refusal of the delivered logs
-abbrev pub EndsRefused : {S : Type 0} → ReadRelation S → FailRelation S
-    → (List (List ℕ) → Fault → Type 0) → List S → List S → Fault → Type 0
-EndsRefused reads fails Refuses old new fault =
-    StopsReading reads fails old new fault ⊎ RefusesDelivered reads Refuses old new fault
+abbrev pub EndsRefused : {S : Type 0} → SourceModel S → (List (List ℕ) → Fault → Type 0)
+    → List S → List S → Fault → Type 0
+EndsRefused D Refuses old new fault =
+    StopsReading D old new fault ⊎ RefusesDelivered D Refuses old new fault
 
 -- the same for the refusals of logs that are merged
-abbrev pub EndsWithout : {S : Type 0} → ReadRelation S → FailRelation S
-    → List S → List S → Fault → Type 0
-EndsWithout reads fails = EndsRefused reads fails IsRefusal
+abbrev pub EndsWithout : {S : Type 0} → SourceModel S → List S → List S → Fault → Type 0
+EndsWithout D = EndsRefused D IsRefusal

@@ -28,7 +28,8 @@ pub mod Findings
 pub mod FindingLaws
 pub use Rattle.epx_devices.specs.Devices
 pub use Rattle.epx_devices.specs.Reads
-pub use Rattle.epx_devices.specs.MemorySink
+pub use Rattle.epx_devices.specs.Models
+pub use Rattle.epx_devices.specs.MemoryDevices
 pub use Rattle.epx_devices.specs.DeviceStates
 pub use Rattle.epx_devices.specs.Fuses
 pub use Rattle.epx_devices.specs.Transfers

@@ -1,5 +1,5 @@
 -- A run: logs are read from sources, and the answer to them is written to a sink.
-use Rattle.std.specs.Prelude.{◌≡◌, ℕ, ◌<◌, ◌≤◌, List, map, length, slice_get, Option, Some}
+use Rattle.std.specs.Prelude.{◌≡◌, ℕ, ◌<◌, ◌≤◌, List, map, length, slice_get, Some}
 use Rattle.std.specs.Prelude.{Result, Ok, Err}
 use Rattle.epx_types.specs.declared.fault.Fault.{Fault}
 use Rattle.epx_types.specs.declared.fault.Fault.TheVariants.{Memory, TooManyLogs, LogTooLong, Read}
@@ -8,10 +8,11 @@ use Rattle.epx_types.specs.Instances.{Instance}
 use Rattle.epx_types.specs.Limits.{max_logs, max_log_bytes}
 use Rattle.epx_merge.specs.Refusals.{IsFirstTooLong}
 use Rattle.epx_tool.specs.Answer.{Answers}
+use Rattle.epx_devices.specs.Models.{SourceModel}
 
 -- the bytes that each source has left to deliver
-abbrev pub AreBytesOf : {S : Type 0} → (S → Option (List ℕ)) → List S → List (List ℕ) → Type 0
-AreBytesOf remaining sources logs = map remaining sources ≡ map Some logs
+abbrev pub AreBytesOf : {S : Type 0} → SourceModel S → List S → List (List ℕ) → Type 0
+AreBytesOf D sources logs = map D.remaining sources ≡ map Some logs
 
 -- no log before this one is too long
 abbrev pub NoneTooLongBefore : List (List ℕ) → ℕ → Type 0

@@ -34,47 +34,45 @@ pub fn run_check<T: Threads + RandomSource + Sync, L: Source, S: Source, W: Sink
     plan: Plan,
     sink: &mut W,
 ) -> Result<(), Fault>
-    requires list { L.has_failed list.old ≡ false }
-    requires sources { All (λ s. S.has_failed s ≡ false) sources.old }
-    requires sink { W.has_failed sink.old ≡ false }
+    requires list { L.model.has_failed list.old ≡ false }
+    requires sources { All (λ s. S.model.has_failed s ≡ false) sources.old }
+    requires sink { W.model.has_failed sink.old ≡ false }
 
-    ensures text { OnOk result ((listed : _) (logs : _) → L.remaining list.old ≡ Some listed
-        → AreBytesOf S.remaining sources.old logs →
+    ensures text { OnOk result ((listed : _) (logs : _) → L.model.remaining list.old ≡ Some listed
+        → AreBytesOf S.model sources.old logs →
         (text : _) × Checks listed logs (Ok text)
-        × Appends (W.contents sink.old) (W.contents sink.new) text) }
+        × Appends (W.model.contents sink.old) (W.model.contents sink.new) text) }
     ensures answered { OnOk result
-        (AnswersBoth L.reads S.reads IsBadList IsCheckText list.old list.new sources.old
-        sources.new
-        (Appends (W.contents sink.old) (W.contents sink.new))) }
-    ensures flushed { OnOk result (W.is_flushed sink.new ≡ true) }
+        (AnswersBoth L.model S.model IsBadList IsCheckText list.old list.new sources.old sources.new
+        (Appends (W.model.contents sink.old) (W.model.contents sink.new))) }
+    ensures flushed { OnOk result (W.model.is_flushed sink.new ≡ true) }
 
     ensures refusal { IfErr result (λ fault. (listed : _) (logs : _)
-        → L.remaining list.old ≡ Some listed
-        → AreBytesOf S.remaining sources.old logs
+        → L.model.remaining list.old ≡ Some listed → AreBytesOf S.model sources.old logs
         → IsRunFaultWithInput IsBadList IsCheckText listed logs fault) }
-    ensures refused { IfErr result (λ fault. fault ≢ Fault.Write → EndsWithoutBoth L.reads L.fails
-        S.reads S.fails IsBadList list.old list.new sources.old sources.new fault) }
+    ensures refused { IfErr result (λ fault. fault ≢ Fault.Write → EndsWithoutBoth L.model
+        S.model IsBadList list.old list.new sources.old sources.new fault) }
     ensures nothing { IfErr result (λ fault. fault ≢ Fault.Write
-        → Keeps (W.contents sink.old) (W.contents sink.new)) }
+        → Keeps (W.model.contents sink.old) (W.model.contents sink.new)) }
     ensures prefix { IsErrOf result Fault.Write → (listed : _) (logs : _)
-        → L.remaining list.old ≡ Some listed → AreBytesOf S.remaining sources.old logs →
+        → L.model.remaining list.old ≡ Some listed → AreBytesOf S.model sources.old logs →
         (text : _) × Checks listed logs (Ok text)
-        × AppendsPrefix (W.contents sink.old) (W.contents sink.new) text }
+        × AppendsPrefix (W.model.contents sink.old) (W.model.contents sink.new) text }
     ensures part { IsErrOf result Fault.Write →
-        AnswersBoth L.reads S.reads IsBadList IsCheckText list.old list.new sources.old sources.new
-        (AppendsPrefix (W.contents sink.old) (W.contents sink.new)) }
+        AnswersBoth L.model S.model IsBadList IsCheckText list.old list.new sources.old sources.new
+        (AppendsPrefix (W.model.contents sink.old) (W.model.contents sink.new)) }
 
     ensures read { (log : _) (source : _) → slice_get sources.new log ≡ Some source
-        → IsErrOf result (Fault.Read log) ↔ (S.has_failed source ≡ true) }
+        → IsErrOf result (Fault.Read log) ↔ (S.model.has_failed source ≡ true) }
     ensures list_read { IsErrOf result (Fault.Read (length sources.old))
-        ↔ (L.has_failed list.new ≡ true) }
-    ensures written { IsErrOf result Fault.Write ↔ (W.has_failed sink.new ≡ true) }
+        ↔ (L.model.has_failed list.new ≡ true) }
+    ensures written { IsErrOf result Fault.Write ↔ (W.model.has_failed sink.new ≡ true) }
 
-    ensures taken { EachConsumesUpTo S.remaining sources.old sources.new (max_log_bytes + 1) }
-    ensures list_taken { ConsumesUpTo (L.remaining list.old) (L.remaining list.new)
+    ensures taken { EachConsumesUpTo S.model sources.old sources.new (max_log_bytes + 1) }
+    ensures list_taken { ConsumesUpTo (L.model.remaining list.old) (L.model.remaining list.new)
         (max_log_bytes + 1) }
-    ensures ended { OnOk result (All (λ s. IsAtEnd (S.remaining s)) sources.new) }
-    ensures list_ended { OnOk result (IsAtEnd (L.remaining list.new)) }
+    ensures ended { OnOk result (All (λ s. IsAtEnd (S.model.remaining s)) sources.new) }
+    ensures list_ended { OnOk result (IsAtEnd (L.model.remaining list.new)) }
     ensures no_further { (log : ℕ) → StopsAt result log
         → drop (log + 1) sources.new ≡ drop (log + 1) sources.old }
     ensures list_untouched { (log : ℕ) → StopsAt result log → log < length sources.old

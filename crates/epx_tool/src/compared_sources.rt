@@ -24,9 +24,8 @@ fn compare_meanwhile<R: Threads + RandomSource + Sync, S: Source>(
 ) -> Result<Comparison, Fault>
     requires some { 0 < length sources.old }
     requires few { length sources.old ≤ max_logs }
-    requires well { All (λ s. S.has_failed s ≡ false) sources.old }
-    ensures { EndsMaking S.remaining S.reads S.fails S.has_failed IsComparisonResult sources.old
-        sources.new result }
+    requires well { All (λ s. S.model.has_failed s ≡ false) sources.old }
+    ensures { EndsMaking S.model IsComparisonResult sources.old sources.new result }
 {
     let first = match read_next(alloc, 0, sources) {
         Ok(bytes) => bytes,
@@ -34,11 +33,10 @@ fn compare_meanwhile<R: Threads + RandomSource + Sync, S: Source>(
     };
     let mut more = || -> Result<Vec<Vec<u8>>, Fault>
         requires { (length sources.now ≤ max_logs) × ((first : _) × (before : _)
-            × AreDeliveredUpTo S.remaining S.reads S.has_failed first sources.now 1 before) }
+            × AreDeliveredUpTo S.model first sources.now 1 before) }
         ensures { (first : _) (before : _)
-            → AreDeliveredUpTo S.remaining S.reads S.has_failed first sources.entry.now 1 before
-            → EndsReading S.remaining S.reads S.fails S.has_failed first sources.exit.now
-            (logs_after before result) }
+            → AreDeliveredUpTo S.model first sources.entry.now 1 before
+            → EndsReading S.model first sources.exit.now (logs_after before result) }
     { read_onward(alloc, 1, sources) };
     compare_during(rt, alloc, &first, &mut more, plan)
 }
@@ -50,9 +48,8 @@ pub(crate) fn compare_sources<R: Threads + RandomSource + Sync, S: Source>(
     sources: &mut [S],
     plan: Plan,
 ) -> Result<Comparison, Fault>
-    requires { All (λ s. S.has_failed s ≡ false) sources.old }
-    ensures { EndsMaking S.remaining S.reads S.fails S.has_failed IsComparisonResult sources.old
-        sources.new result }
+    requires { All (λ s. S.model.has_failed s ≡ false) sources.old }
+    ensures { EndsMaking S.model IsComparisonResult sources.old sources.new result }
 {
     if plan.workers() > 1 && sources.len() > 1 && sources.len() <= MAX_LOGS {
         return compare_meanwhile(rt, alloc, sources, plan);

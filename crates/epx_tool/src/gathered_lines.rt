@@ -70,14 +70,13 @@ fn gather_part<S: Source>(
     requires within { at.old.log < length sources.old }
     requires few { length sources.old ≤ max_logs }
     requires begun { (first : _) × (lines : _)
-        × AreGathered S.remaining S.reads S.has_failed first sources.old at.old lines }
+        × AreGathered S.model first sources.old at.old lines }
     ensures lines { (first : _) (lines cut : List MeaningAt)
-        → AreGathered S.remaining S.reads S.has_failed first sources.old at.old lines
+        → AreGathered S.model first sources.old at.old lines
         → DropsCached [] cut batch.old → MatchResult result
         (λ _. (more : List MeaningAt) × DropsCached [] (cut ++ more) batch.new
-        × AreGathered S.remaining S.reads S.has_failed first sources.new at.new (lines ++ more))
-        (λ fault. EndsReading S.remaining S.reads S.fails S.has_failed first sources.new
-        (Err fault)) }
+        × AreGathered S.model first sources.new at.new (lines ++ more))
+        (λ fault. EndsReading S.model first sources.new (Err fault)) }
     ensures fewer { OnOk result
         (left_of (length sources.new) at.new < left_of (length sources.old) at.old) }
     ensures few { OnOk result (length batch.new ≤ length batch.old + 2 ^ 26) }
@@ -155,14 +154,12 @@ pub(crate) fn gather<S: Source>(
     requires empty { batch.old ≡ [] }
     requires most { most ≤ 2 ^ 32 }
     requires begun { (first : _) × (lines : _)
-        × AreGathered S.remaining S.reads S.has_failed first sources.old at.old lines }
+        × AreGathered S.model first sources.old at.old lines }
     ensures lines { (first : _) (lines : List MeaningAt)
-        → AreGathered S.remaining S.reads S.has_failed first sources.old at.old lines
-        → MatchResult result
+        → AreGathered S.model first sources.old at.old lines → MatchResult result
         (λ _. (cut : List MeaningAt) × DropsCached [] cut batch.new
-        × AreGathered S.remaining S.reads S.has_failed first sources.new at.new (lines ++ cut))
-        (λ fault. EndsReading S.remaining S.reads S.fails S.has_failed first sources.new
-        (Err fault)) }
+        × AreGathered S.model first sources.new at.new (lines ++ cut))
+        (λ fault. EndsReading S.model first sources.new (Err fault)) }
     ensures fewer { OnOk result
         (left_of (length sources.new) at.new < left_of (length sources.old) at.old) }
     ensures few { OnOk result (length batch.new ≤ 2 ^ 40) }

@@ -28,18 +28,16 @@ pub fn run_with_input<T: Threads + RandomSource + Sync, I: Source, S: Source, W:
     held: &mut Held,
     sink: &mut W,
 ) -> Result<bool, Fault>
-    requires input { I.has_failed input.old ≡ false }
-    requires sources { All (λ s. S.has_failed s ≡ false) sources.old }
-    requires sink { W.has_failed sink.old ≡ false }
+    requires input { I.model.has_failed input.old ≡ false }
+    requires sources { All (λ s. S.model.has_failed s ≡ false) sources.old }
+    requires sink { W.model.has_failed sink.old ≡ false }
     ensures { MatchResult result
-        (λ found. EndsRunWithInput I.remaining I.reads I.fails I.has_failed S.remaining S.reads
-        S.fails S.has_failed (IsBadInput question) (IsFindingWith question found) input.old
-        input.new sources.old sources.new (W.contents sink.old) (W.contents sink.new)
-        (W.is_flushed sink.new) (W.has_failed sink.new) (Ok (record {})))
-        (λ fault. EndsRunWithInput I.remaining I.reads I.fails I.has_failed S.remaining S.reads
-        S.fails S.has_failed (IsBadInput question) (IsTextWith question) input.old input.new
-        sources.old sources.new (W.contents sink.old) (W.contents sink.new) (W.is_flushed sink.new)
-        (W.has_failed sink.new) (Err fault)) }
+        (λ found. EndsRunWithInput I.model S.model W.model (IsBadInput question)
+        (IsFindingWith question found) input.old input.new sources.old sources.new sink.old
+        sink.new (Ok (record {})))
+        (λ fault. EndsRunWithInput I.model S.model W.model (IsBadInput question)
+        (IsTextWith question) input.old input.new sources.old sources.new sink.old sink.new
+        (Err fault)) }
 {
     let (text, logs) = match read_with_input(alloc, input, sources) {
         Ok(read) => read,
@@ -68,13 +66,12 @@ pub(crate) fn write_with_input<T: Threads + RandomSource + Sync, I: Source, S: S
     plan: Plan,
     sink: &mut W,
 ) -> Result<(), Fault>
-    requires input { I.has_failed input.old ≡ false }
-    requires sources { All (λ s. S.has_failed s ≡ false) sources.old }
-    requires sink { W.has_failed sink.old ≡ false }
-    ensures { EndsRunWithInput I.remaining I.reads I.fails I.has_failed S.remaining S.reads S.fails
-        S.has_failed (IsBadInput question) (IsTextWith question) input.old input.new sources.old
-        sources.new (W.contents sink.old) (W.contents sink.new) (W.is_flushed sink.new)
-        (W.has_failed sink.new) result }
+    requires input { I.model.has_failed input.old ≡ false }
+    requires sources { All (λ s. S.model.has_failed s ≡ false) sources.old }
+    requires sink { W.model.has_failed sink.old ≡ false }
+    ensures { EndsRunWithInput I.model S.model W.model (IsBadInput question)
+        (IsTextWith question) input.old input.new sources.old sources.new sink.old sink.new
+        result }
 {
     let mut held = Held::nothing();
     match run_with_input(rt, alloc, question, input, sources, plan, &mut held, sink) {

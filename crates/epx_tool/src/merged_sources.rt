@@ -18,8 +18,8 @@ pub(crate) fn merge_sources<R: Threads + RandomSource + Sync, S: Source>(
     sources: &mut [S],
     plan: Plan,
 ) -> Result<Merged, Fault>
-    requires { All (λ s. S.has_failed s ≡ false) sources.old }
-    ensures { EndsMerging S.remaining S.reads S.fails S.has_failed sources.old sources.new result }
+    requires { All (λ s. S.model.has_failed s ≡ false) sources.old }
+    ensures { EndsMerging S.model sources.old sources.new result }
 {
     let ledger = empty_ledger(rt, alloc);
     let (noted, ()) = note_sources(rt, alloc, sources, ledger, &mut || (), plan, &FreeGate)?;

@@ -55,15 +55,15 @@ fn read_and_gather<'a, R: Threads + Sync, S: Source, N: Notes + Sync + Drop, G: 
     requires here { length here.now ≤ 2 ^ 40 }
     requires next { next.old ≡ [] }
     requires begun { (first : _) × (lines : _)
-        × AreGathered S.remaining S.reads S.has_failed first sources.old at.old lines }
+        × AreGathered S.model first sources.old at.old lines }
     ensures read { (lines cut : List MeaningAt) → HasRead N.has_read lines reader.entry
         → DropsCached [] cut here.now → HasRead N.has_read (lines ++ cut) result.0 }
     ensures lines { (first : _) (lines : List MeaningAt)
-        → AreGathered S.remaining S.reads S.has_failed first sources.old at.old lines
+        → AreGathered S.model first sources.old at.old lines
         → MatchResult result.1
         (λ _. (cut : List MeaningAt) × DropsCached [] cut next.new
-        × AreGathered S.remaining S.reads S.has_failed first sources.new at.new (lines ++ cut))
-        (λ fault. EndsReading S.remaining S.reads S.fails S.has_failed first sources.new
+        × AreGathered S.model first sources.new at.new (lines ++ cut))
+        (λ fault. EndsReading S.model first sources.new
         (Err fault)) }
     ensures fewer { OnOk result.1
         (left_of (length sources.new) at.new < left_of (length sources.old) at.old) }
@@ -73,14 +73,14 @@ fn read_and_gather<'a, R: Threads + Sync, S: Source, N: Notes + Sync + Drop, G: 
     let mut more = || -> Result<(), Fault>
         requires { (at.now.log < length sources.now) × (length sources.now ≤ max_logs)
             × (next.now ≡ []) × (most ≤ 2 ^ 32) × ((first : _) × (lines : _)
-            × AreGathered S.remaining S.reads S.has_failed first sources.now at.now lines) }
+            × AreGathered S.model first sources.now at.now lines) }
         ensures lines { (first : _) (lines : List MeaningAt)
-            → AreGathered S.remaining S.reads S.has_failed first sources.entry.now at.entry.now
+            → AreGathered S.model first sources.entry.now at.entry.now
             lines → MatchResult result
             (λ _. (cut : List MeaningAt) × DropsCached [] cut next.exit.now
-            × AreGathered S.remaining S.reads S.has_failed first sources.exit.now at.exit.now
+            × AreGathered S.model first sources.exit.now at.exit.now
             (lines ++ cut))
-            (λ fault. EndsReading S.remaining S.reads S.fails S.has_failed first
+            (λ fault. EndsReading S.model first
             sources.exit.now (Err fault)) }
         ensures fewer { OnOk result (left_of (length sources.exit.now) at.exit.now
             < left_of (length sources.entry.now) at.entry.now) }
@@ -107,10 +107,10 @@ pub(crate) fn note_sources<
     plan: Plan,
     gate: &G,
 ) -> Result<(Result<N, Fault>, T), Fault>
-    requires well { All (λ s. S.has_failed s ≡ false) sources.old }
+    requires well { All (λ s. S.model.has_failed s ≡ false) sources.old }
     requires none { N.has_read [] notes [] [] }
     requires last { M.pre last.old }
-    ensures noted { EndsNoting S.remaining S.reads S.fails S.has_failed N.has_read sources.old
+    ensures noted { EndsNoting S.model N.has_read sources.old
         sources.new result }
     ensures last { IfOk result (λ v. M.step last.old v.1 last.new) }
 {

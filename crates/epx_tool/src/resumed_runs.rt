@@ -34,48 +34,47 @@ pub fn run_resume<T: Threads + RandomSource + Sync, B: Source, S: Source, W: Sin
     plan: Plan,
     sink: &mut W,
 ) -> Result<(), Fault>
-    requires base { B.has_failed base.old ≡ false }
-    requires sources { All (λ s. S.has_failed s ≡ false) sources.old }
-    requires sink { W.has_failed sink.old ≡ false }
+    requires base { B.model.has_failed base.old ≡ false }
+    requires sources { All (λ s. S.model.has_failed s ≡ false) sources.old }
+    requires sink { W.model.has_failed sink.old ≡ false }
 
-    ensures text { OnOk result ((before : _) (logs : _) → B.remaining base.old ≡ Some before
-        → AreBytesOf S.remaining sources.old logs →
+    ensures text { OnOk result ((before : _) (logs : _) → B.model.remaining base.old ≡ Some before
+        → AreBytesOf S.model sources.old logs →
         (text : _) × Resumes before logs (Ok text)
-        × Appends (W.contents sink.old) (W.contents sink.new) text) }
+        × Appends (W.model.contents sink.old) (W.model.contents sink.new) text) }
     ensures answered { OnOk result
-        (AnswersBoth B.reads S.reads IsBadBase IsResumedText base.old base.new sources.old
+        (AnswersBoth B.model S.model IsBadBase IsResumedText base.old base.new sources.old
         sources.new
-        (Appends (W.contents sink.old) (W.contents sink.new))) }
-    ensures flushed { OnOk result (W.is_flushed sink.new ≡ true) }
+        (Appends (W.model.contents sink.old) (W.model.contents sink.new))) }
+    ensures flushed { OnOk result (W.model.is_flushed sink.new ≡ true) }
 
     ensures refusal { IfErr result (λ fault. (before : _) (logs : _)
-        → B.remaining base.old ≡ Some before
-        → AreBytesOf S.remaining sources.old logs
+        → B.model.remaining base.old ≡ Some before → AreBytesOf S.model sources.old logs
         → IsRunFaultWithInput IsBadBase IsResumedText before logs fault) }
-    ensures refused { IfErr result (λ fault. fault ≢ Fault.Write → EndsWithoutBoth B.reads B.fails
-        S.reads S.fails IsBadBase base.old base.new sources.old sources.new fault) }
+    ensures refused { IfErr result (λ fault. fault ≢ Fault.Write → EndsWithoutBoth B.model
+        S.model IsBadBase base.old base.new sources.old sources.new fault) }
     ensures nothing { IfErr result (λ fault. fault ≢ Fault.Write
-        → Keeps (W.contents sink.old) (W.contents sink.new)) }
+        → Keeps (W.model.contents sink.old) (W.model.contents sink.new)) }
     ensures prefix { IsErrOf result Fault.Write → (before : _) (logs : _)
-        → B.remaining base.old ≡ Some before → AreBytesOf S.remaining sources.old logs →
+        → B.model.remaining base.old ≡ Some before → AreBytesOf S.model sources.old logs →
         (text : _) × Resumes before logs (Ok text)
-        × AppendsPrefix (W.contents sink.old) (W.contents sink.new) text }
+        × AppendsPrefix (W.model.contents sink.old) (W.model.contents sink.new) text }
     ensures part { IsErrOf result Fault.Write →
-        AnswersBoth B.reads S.reads IsBadBase IsResumedText base.old base.new sources.old
+        AnswersBoth B.model S.model IsBadBase IsResumedText base.old base.new sources.old
         sources.new
-        (AppendsPrefix (W.contents sink.old) (W.contents sink.new)) }
+        (AppendsPrefix (W.model.contents sink.old) (W.model.contents sink.new)) }
 
     ensures read { (log : _) (source : _) → slice_get sources.new log ≡ Some source
-        → IsErrOf result (Fault.Read log) ↔ (S.has_failed source ≡ true) }
+        → IsErrOf result (Fault.Read log) ↔ (S.model.has_failed source ≡ true) }
     ensures base_read { IsErrOf result (Fault.Read (length sources.old))
-        ↔ (B.has_failed base.new ≡ true) }
-    ensures written { IsErrOf result Fault.Write ↔ (W.has_failed sink.new ≡ true) }
+        ↔ (B.model.has_failed base.new ≡ true) }
+    ensures written { IsErrOf result Fault.Write ↔ (W.model.has_failed sink.new ≡ true) }
 
-    ensures taken { EachConsumesUpTo S.remaining sources.old sources.new (max_log_bytes + 1) }
-    ensures base_taken { ConsumesUpTo (B.remaining base.old) (B.remaining base.new)
+    ensures taken { EachConsumesUpTo S.model sources.old sources.new (max_log_bytes + 1) }
+    ensures base_taken { ConsumesUpTo (B.model.remaining base.old) (B.model.remaining base.new)
         (max_log_bytes + 1) }
-    ensures ended { OnOk result (All (λ s. IsAtEnd (S.remaining s)) sources.new) }
-    ensures base_ended { OnOk result (IsAtEnd (B.remaining base.new)) }
+    ensures ended { OnOk result (All (λ s. IsAtEnd (S.model.remaining s)) sources.new) }
+    ensures base_ended { OnOk result (IsAtEnd (B.model.remaining base.new)) }
     ensures no_further { (log : ℕ) → StopsAt result log
         → drop (log + 1) sources.new ≡ drop (log + 1) sources.old }
     ensures base_untouched { (log : ℕ) → StopsAt result log → log < length sources.old

@@ -38,12 +38,11 @@ fn answer_compared<R: Threads + RandomSource + Sync, S: Source>(
     sources: &mut [S],
     plan: Plan,
 ) -> Result<Answered, Fault>
-    requires { All (λ s. S.has_failed s ≡ false) sources.old }
+    requires { All (λ s. S.model.has_failed s ≡ false) sources.old }
     ensures { MatchResult result
-        (λ a. EndsMaking S.remaining S.reads S.fails S.has_failed
-        (AnswersFindingBy None a.has_findings) sources.old sources.new (Ok a.text.items))
-        (λ fault. EndsMaking S.remaining S.reads S.fails S.has_failed Compares sources.old
-        sources.new (Err fault)) }
+        (λ a. EndsMaking S.model (AnswersFindingBy None a.has_findings) sources.old sources.new
+        (Ok a.text.items))
+        (λ fault. EndsMaking S.model Compares sources.old sources.new (Err fault)) }
 {
     match compare_sources(rt, alloc, sources, plan) {
         Ok(Comparison { text, has_findings }) => Ok(Answered { text, has_findings }),
@@ -60,12 +59,12 @@ fn answer_merged<R: Threads + RandomSource + Sync, S: Source>(
     plan: Plan,
     held: &mut Held,
 ) -> Result<Answered, Fault>
-    requires { All (λ s. S.has_failed s ≡ false) sources.old }
+    requires { All (λ s. S.model.has_failed s ≡ false) sources.old }
     ensures { MatchResult result
-        (λ a. EndsMaking S.remaining S.reads S.fails S.has_failed
-        (AnswersFindingBy (Some kind) a.has_findings) sources.old sources.new (Ok a.text.items))
-        (λ fault. EndsMaking S.remaining S.reads S.fails S.has_failed (AnswersBy (Some kind))
-        sources.old sources.new (Err fault)) }
+        (λ a. EndsMaking S.model (AnswersFindingBy (Some kind) a.has_findings) sources.old
+        sources.new (Ok a.text.items))
+        (λ fault. EndsMaking S.model (AnswersBy (Some kind)) sources.old sources.new
+        (Err fault)) }
 {
     let merged = match merge_sources(rt, alloc, sources, plan) {
         Ok(merged) => merged,
@@ -87,12 +86,12 @@ fn answer_sources<R: Threads + RandomSource + Sync, S: Source>(
     plan: Plan,
     held: &mut Held,
 ) -> Result<Answered, Fault>
-    requires { All (λ s. S.has_failed s ≡ false) sources.old }
+    requires { All (λ s. S.model.has_failed s ≡ false) sources.old }
     ensures { MatchResult result
-        (λ a. EndsMaking S.remaining S.reads S.fails S.has_failed
-        (AnswersFinding question a.has_findings) sources.old sources.new (Ok a.text.items))
-        (λ fault. EndsMaking S.remaining S.reads S.fails S.has_failed (AnswersQuestion question)
-        sources.old sources.new (Err fault)) }
+        (λ a. EndsMaking S.model (AnswersFinding question a.has_findings) sources.old
+        sources.new (Ok a.text.items))
+        (λ fault. EndsMaking S.model (AnswersQuestion question) sources.old sources.new
+        (Err fault)) }
 {
     match question.map_text() {
         Some(kind) => answer_merged(rt, alloc, kind, sources, plan, held),
@@ -112,15 +111,13 @@ pub fn run_question<T: Threads + RandomSource + Sync, S: Source, W: Sink>(
     held: &mut Held,
     sink: &mut W,
 ) -> Result<bool, Fault>
-    requires sources { All (λ s. S.has_failed s ≡ false) sources.old }
-    requires sink { W.has_failed sink.old ≡ false }
+    requires sources { All (λ s. S.model.has_failed s ≡ false) sources.old }
+    requires sink { W.model.has_failed sink.old ≡ false }
     ensures { MatchResult result
-        (λ found. EndsRun S.remaining S.reads S.fails S.has_failed (AnswersFinding question found)
-        sources.old sources.new (W.contents sink.old) (W.contents sink.new) (W.is_flushed sink.new)
-        (W.has_failed sink.new) (Ok (record {})))
-        (λ fault. EndsRun S.remaining S.reads S.fails S.has_failed (AnswersQuestion question)
-        sources.old sources.new (W.contents sink.old) (W.contents sink.new) (W.is_flushed sink.new)
-        (W.has_failed sink.new) (Err fault)) }
+        (λ found. EndsRun S.model W.model (AnswersFinding question found) sources.old sources.new
+        sink.old sink.new (Ok (record {})))
+        (λ fault. EndsRun S.model W.model (AnswersQuestion question) sources.old sources.new
+        sink.old sink.new (Err fault)) }
 {
     let answered = match answer_sources(rt, alloc, question, sources, plan, held) {
         Ok(answered) => answered,
@@ -144,11 +141,10 @@ fn write_answer<T: Threads + RandomSource + Sync, S: Source, W: Sink>(
     plan: Plan,
     sink: &mut W,
 ) -> Result<(), Fault>
-    requires sources { All (λ s. S.has_failed s ≡ false) sources.old }
-    requires sink { W.has_failed sink.old ≡ false }
-    ensures { EndsRun S.remaining S.reads S.fails S.has_failed (AnswersQuestion question)
-        sources.old sources.new (W.contents sink.old) (W.contents sink.new) (W.is_flushed sink.new)
-        (W.has_failed sink.new) result }
+    requires sources { All (λ s. S.model.has_failed s ≡ false) sources.old }
+    requires sink { W.model.has_failed sink.old ≡ false }
+    ensures { EndsRun S.model W.model (AnswersQuestion question) sources.old sources.new
+        sink.old sink.new result }
 {
     let mut held = Held::nothing();
     match run_question(rt, alloc, question, sources, plan, &mut held, sink) {
@@ -168,36 +164,36 @@ pub fn run<T: Threads + RandomSource + Sync, S: Source, W: Sink>(
     plan: Plan,
     sink: &mut W,
 ) -> Result<(), Fault>
-    requires sources { All (λ s. S.has_failed s ≡ false) sources.old }
-    requires sink { W.has_failed sink.old ≡ false }
+    requires sources { All (λ s. S.model.has_failed s ≡ false) sources.old }
+    requires sink { W.model.has_failed sink.old ≡ false }
 
-    ensures text { OnOk result ((logs : _) → AreBytesOf S.remaining sources.old logs →
+    ensures text { OnOk result ((logs : _) → AreBytesOf S.model sources.old logs →
         (text : _) × Answers IsReport logs (Ok text)
-        × Appends (W.contents sink.old) (W.contents sink.new) text) }
-    ensures answered { OnOk result (AnswersDelivered S.reads IsReport sources.old sources.new
-        (Appends (W.contents sink.old) (W.contents sink.new))) }
-    ensures flushed { OnOk result (W.is_flushed sink.new ≡ true) }
+        × Appends (W.model.contents sink.old) (W.model.contents sink.new) text) }
+    ensures answered { OnOk result (AnswersDelivered S.model IsReport sources.old sources.new
+        (Appends (W.model.contents sink.old) (W.model.contents sink.new))) }
+    ensures flushed { OnOk result (W.model.is_flushed sink.new ≡ true) }
 
-    ensures refusal { IfErr result (λ fault. (logs : _) → AreBytesOf S.remaining sources.old logs
+    ensures refusal { IfErr result (λ fault. (logs : _) → AreBytesOf S.model sources.old logs
         → IsRunFault IsReport logs fault) }
     ensures refused { IfErr result (λ fault. fault ≢ Fault.Write →
-        EndsWithout S.reads S.fails sources.old sources.new fault) }
+        EndsWithout S.model sources.old sources.new fault) }
     ensures nothing { IfErr result (λ fault. fault ≢ Fault.Write
-        → Keeps (W.contents sink.old) (W.contents sink.new)) }
+        → Keeps (W.model.contents sink.old) (W.model.contents sink.new)) }
     ensures prefix { IsErrOf result Fault.Write → (logs : _)
-        → AreBytesOf S.remaining sources.old logs →
+        → AreBytesOf S.model sources.old logs →
         (text : _) × Answers IsReport logs (Ok text)
-        × AppendsPrefix (W.contents sink.old) (W.contents sink.new) text }
+        × AppendsPrefix (W.model.contents sink.old) (W.model.contents sink.new) text }
     ensures part { IsErrOf result Fault.Write →
-        AnswersDelivered S.reads IsReport sources.old sources.new
-        (AppendsPrefix (W.contents sink.old) (W.contents sink.new)) }
+        AnswersDelivered S.model IsReport sources.old sources.new
+        (AppendsPrefix (W.model.contents sink.old) (W.model.contents sink.new)) }
 
     ensures read { (log : _) (source : _) → slice_get sources.new log ≡ Some source
-        → IsErrOf result (Fault.Read log) ↔ (S.has_failed source ≡ true) }
-    ensures written { IsErrOf result Fault.Write ↔ (W.has_failed sink.new ≡ true) }
+        → IsErrOf result (Fault.Read log) ↔ (S.model.has_failed source ≡ true) }
+    ensures written { IsErrOf result Fault.Write ↔ (W.model.has_failed sink.new ≡ true) }
 
-    ensures taken { EachConsumesUpTo S.remaining sources.old sources.new (max_log_bytes + 1) }
-    ensures ended { OnOk result (All (λ s. IsAtEnd (S.remaining s)) sources.new) }
+    ensures taken { EachConsumesUpTo S.model sources.old sources.new (max_log_bytes + 1) }
+    ensures ended { OnOk result (All (λ s. IsAtEnd (S.model.remaining s)) sources.new) }
     ensures no_further { (log : ℕ) → StopsAt result log
         → drop (log + 1) sources.new ≡ drop (log + 1) sources.old }
     ensures too_many { IsErrOf result Fault.TooManyLogs ↔ (max_logs < length sources.old) }
@@ -215,38 +211,38 @@ pub fn show<T: Threads + RandomSource + Sync, S: Source, W: Sink>(
     plan: Plan,
     sink: &mut W,
 ) -> Result<(), Fault>
-    requires sources { All (λ s. S.has_failed s ≡ false) sources.old }
-    requires sink { W.has_failed sink.old ≡ false }
+    requires sources { All (λ s. S.model.has_failed s ≡ false) sources.old }
+    requires sink { W.model.has_failed sink.old ≡ false }
 
-    ensures text { OnOk result ((logs : _) → AreBytesOf S.remaining sources.old logs →
+    ensures text { OnOk result ((logs : _) → AreBytesOf S.model sources.old logs →
         (text : _) × AnswersView ask logs (Ok text)
-        × Appends (W.contents sink.old) (W.contents sink.new) text) }
+        × Appends (W.model.contents sink.old) (W.model.contents sink.new) text) }
     ensures answered { OnOk result
-        (WritesDelivered S.reads (AnswersView ask) sources.old sources.new
-        (Appends (W.contents sink.old) (W.contents sink.new))) }
-    ensures flushed { OnOk result (W.is_flushed sink.new ≡ true) }
+        (WritesDelivered S.model (AnswersView ask) sources.old sources.new
+        (Appends (W.model.contents sink.old) (W.model.contents sink.new))) }
+    ensures flushed { OnOk result (W.model.is_flushed sink.new ≡ true) }
 
-    ensures refusal { IfErr result (λ fault. (logs : _) → AreBytesOf S.remaining sources.old logs
+    ensures refusal { IfErr result (λ fault. (logs : _) → AreBytesOf S.model sources.old logs
         → IsFaultOfRun (AnswersView ask) logs fault) }
     ensures refused { IfErr result (λ fault. fault ≢ Fault.Write →
-        EndsRefused S.reads S.fails (λ logs why. AnswersView ask logs (Err why)) sources.old
+        EndsRefused S.model (λ logs why. AnswersView ask logs (Err why)) sources.old
         sources.new fault) }
     ensures nothing { IfErr result (λ fault. fault ≢ Fault.Write
-        → Keeps (W.contents sink.old) (W.contents sink.new)) }
+        → Keeps (W.model.contents sink.old) (W.model.contents sink.new)) }
     ensures prefix { IsErrOf result Fault.Write → (logs : _)
-        → AreBytesOf S.remaining sources.old logs →
+        → AreBytesOf S.model sources.old logs →
         (text : _) × AnswersView ask logs (Ok text)
-        × AppendsPrefix (W.contents sink.old) (W.contents sink.new) text }
+        × AppendsPrefix (W.model.contents sink.old) (W.model.contents sink.new) text }
     ensures part { IsErrOf result Fault.Write →
-        WritesDelivered S.reads (AnswersView ask) sources.old sources.new
-        (AppendsPrefix (W.contents sink.old) (W.contents sink.new)) }
+        WritesDelivered S.model (AnswersView ask) sources.old sources.new
+        (AppendsPrefix (W.model.contents sink.old) (W.model.contents sink.new)) }
 
     ensures read { (log : _) (source : _) → slice_get sources.new log ≡ Some source
-        → IsErrOf result (Fault.Read log) ↔ (S.has_failed source ≡ true) }
-    ensures written { IsErrOf result Fault.Write ↔ (W.has_failed sink.new ≡ true) }
+        → IsErrOf result (Fault.Read log) ↔ (S.model.has_failed source ≡ true) }
+    ensures written { IsErrOf result Fault.Write ↔ (W.model.has_failed sink.new ≡ true) }
 
-    ensures taken { EachConsumesUpTo S.remaining sources.old sources.new (max_log_bytes + 1) }
-    ensures ended { OnOk result (All (λ s. IsAtEnd (S.remaining s)) sources.new) }
+    ensures taken { EachConsumesUpTo S.model sources.old sources.new (max_log_bytes + 1) }
+    ensures ended { OnOk result (All (λ s. IsAtEnd (S.model.remaining s)) sources.new) }
     ensures no_further { (log : ℕ) → StopsAt result log
         → drop (log + 1) sources.new ≡ drop (log + 1) sources.old }
     ensures too_many { IsErrOf result Fault.TooManyLogs ↔ (max_logs < length sources.old) }

@@ -24,14 +24,11 @@ pub(crate) fn read_next<S: Source>(
 ) -> Result<Vec<u8>, Fault>
     requires within { log < length sources.old }
     requires few { length sources.old ≤ max_logs }
-    requires well { All (λ s. S.has_failed s ≡ false) sources.old }
+    requires well { All (λ s. S.model.has_failed s ≡ false) sources.old }
     ensures { (first : _) (before : _)
-        → AreDeliveredUpTo S.remaining S.reads S.has_failed first sources.old log before
-        → MatchResult result
-        (λ bytes. AreDeliveredUpTo S.remaining S.reads S.has_failed first sources.new (log + 1)
-        (before ++ bytes.items ∷ []))
-        (λ fault. EndsReading S.remaining S.reads S.fails S.has_failed first sources.new
-        (Err fault)) }
+        → AreDeliveredUpTo S.model first sources.old log before → MatchResult result
+        (λ bytes. AreDeliveredUpTo S.model first sources.new (log + 1) (before ++ bytes.items ∷ []))
+        (λ fault. EndsReading S.model first sources.new (Err fault)) }
 {
     read_log(alloc, log, &mut sources[log])
 }
@@ -44,11 +41,10 @@ pub(crate) fn read_onward<S: Source>(
 ) -> Result<Vec<Vec<u8>>, Fault>
     requires few { length sources.old ≤ max_logs }
     requires begun { (first : _) × (before : _)
-        × AreDeliveredUpTo S.remaining S.reads S.has_failed first sources.old start before }
+        × AreDeliveredUpTo S.model first sources.old start before }
     ensures { (first : _) (before : _)
-        → AreDeliveredUpTo S.remaining S.reads S.has_failed first sources.old start before
-        → EndsReading S.remaining S.reads S.fails S.has_failed first sources.new
-        (logs_after before result) }
+        → AreDeliveredUpTo S.model first sources.old start before
+        → EndsReading S.model first sources.new (logs_after before result) }
 {
     let mut logs = Vec::new(alloc);
     for log in start..sources.len() {
@@ -68,9 +64,8 @@ pub(crate) fn read_sources<S: Source>(
     alloc: Global,
     sources: &mut [S],
 ) -> Result<Vec<Vec<u8>>, Fault>
-    requires { All (λ s. S.has_failed s ≡ false) sources.old }
-    ensures { EndsReading S.remaining S.reads S.fails S.has_failed sources.old sources.new
-        (logs_after [] result) }
+    requires { All (λ s. S.model.has_failed s ≡ false) sources.old }
+    ensures { EndsReading S.model sources.old sources.new (logs_after [] result) }
 {
     if sources.len() > MAX_LOGS {
         return Err(Fault::TooManyLogs);
@@ -84,26 +79,25 @@ pub(crate) fn read_with_input<B: Source, S: Source>(
     input: &mut B,
     sources: &mut [S],
 ) -> Result<(Vec<u8>, Vec<Vec<u8>>), Fault>
-    requires input { B.has_failed input.old ≡ false }
-    requires sources { All (λ s. S.has_failed s ≡ false) sources.old }
+    requires input { B.model.has_failed input.old ≡ false }
+    requires sources { All (λ s. S.model.has_failed s ≡ false) sources.old }
 
-    ensures text { IfOk result (λ v. (before : _) → B.remaining input.old ≡ Some before
+    ensures text { IfOk result (λ v. (before : _) → B.model.remaining input.old ≡ Some before
         → v.0.items ≡ before) }
-    ensures bytes { IfOk result (λ v. (logs : _) → AreBytesOf S.remaining sources.old logs
+    ensures bytes { IfOk result (λ v. (logs : _) → AreBytesOf S.model sources.old logs
         → bytes_of v.1.items ≡ logs) }
     ensures short { IfOk result (λ v. IsShort v.0.items) }
     ensures fit { IfOk result (λ v. FitLimits (bytes_of v.1.items)) }
-    ensures delivered { IfOk result (λ v. DeliversBoth B.reads S.reads input.old input.new
+    ensures delivered { IfOk result (λ v. DeliversBoth B.model S.model input.old input.new
         sources.old sources.new v.0.items (bytes_of v.1.items)) }
     ensures refusal { IfErr result (λ fault. (before : _) (logs : _)
-        → B.remaining input.old ≡ Some before
-        → AreBytesOf S.remaining sources.old logs → IsReadingRefusalWithInput before logs fault) }
-    ensures stopped { IfErr result (StopsReadingBoth B.reads B.fails S.reads S.fails
+        → B.model.remaining input.old ≡ Some before
+        → AreBytesOf S.model sources.old logs → IsReadingRefusalWithInput before logs fault) }
+    ensures stopped { IfErr result (StopsReadingBoth B.model S.model
         input.old input.new sources.old sources.new) }
     ensures nothing_written { ¬ IsErrOf result Fault.Write }
-    ensures sources_left { LeavesSources S.remaining S.has_failed sources.old sources.new result }
-    ensures input_left { LeavesInput B.remaining B.has_failed input.old input.new
-        (length sources.old) result }
+    ensures sources_left { LeavesSources S.model sources.old sources.new result }
+    ensures input_left { LeavesInput B.model input.old input.new (length sources.old) result }
 {
     let logs = match read_sources(alloc, sources) {
         Ok(logs) => logs,

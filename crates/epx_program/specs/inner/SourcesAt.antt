@@ -1,12 +1,20 @@
 -- The sources that are made for paths.
 use Rattle.std.specs.Prelude.{◌≡◌, ◌≢◌, ◌⊎◌, ℕ, false, List, [], ◌∷◌, Option, Some, None, codes}
-use Rattle.epx_devices.specs.DeviceStates.{PathState}
+use Rattle.epx_devices.specs.DeviceStates.{PathState, path_source}
+use Rattle.epx_devices.specs.EitherSources.{either_source}
+use Rattle.epx_devices.specs.MemoryDevices.{memory_source}
+use Rattle.epx_devices.specs.Models.{OpenerModel, SourceModel}
 use Rattle.epx_devices.specs.declared.either_source.EitherSource.{EitherSource}
 use Rattle.epx_devices.specs.declared.either_source.EitherSource.TheVariants.{First, Second}
 
 -- a source at a path: of a file, of the input, or of bytes in memory
 abbrev pub SourceAt : Type 0 → Type 0 → Type 0 → Type 0
 SourceAt O F I = EitherSource (PathState O F) (EitherSource I (List ℕ))
+
+-- its model
+abbrev pub model_at : {O F I : Type 0} → OpenerModel O F → SourceModel F → SourceModel I
+    → SourceModel (SourceAt O F I)
+model_at opening D E = either_source (path_source opening D) (either_source E memory_source)
 
 -- a file that is not open yet
 abbrev pub unopened : {O F I : Type 0} → O → List ℕ → SourceAt O F I

@@ -1,7 +1,7 @@
 -- How far the lines of sources are gathered.
-use Rattle.std.specs.Prelude.{◌≡◌, ◌≤◌, ◌<◌, ◌+◌, ◌-◌, ◌*◌, ◌++◌, ◌⊎◌, [], ℕ, Bool, List, Option}
+use Rattle.std.specs.Prelude.{◌≡◌, ◌≤◌, ◌<◌, ◌+◌, ◌-◌, ◌*◌, ◌++◌, ◌⊎◌, [], ℕ, List}
 use Rattle.std.specs.Prelude.{length, slice_index_or, slice_set}
-use Rattle.epx_devices.specs.Deliveries.{ReadRelation}
+use Rattle.epx_devices.specs.Models.{SourceModel}
 use Rattle.epx_devices.specs.LogParts.{IsReadUpTo}
 use Rattle.epx_lines.specs.Lines.{lines_of}
 use Rattle.epx_types.specs.Limits.{max_log_bytes}
@@ -11,25 +11,22 @@ use Rattle.epx_tool.specs.declared.gathered_lines.Position.{Position}
 use Rattle.epx_tool.specs.inner.SourceReadings.{AreDeliveredUpTo}
 
 -- the source after these logs is as it was, or these bytes of it are read
-abbrev pub IsBegun : {S : Type 0} → (S → Option (List ℕ)) → ReadRelation S → (S → Bool) → List S
-    → List S → ℕ → List ℕ → Type 0
-IsBegun remaining reads has_failed before now n bytes = ((now ≡ before) × (bytes ≡ []))
+abbrev pub IsBegun : {S : Type 0} → SourceModel S → List S → List S → ℕ → List ℕ → Type 0
+IsBegun D before now n bytes = ((now ≡ before) × (bytes ≡ []))
     ⊎ ((source : _) × (n < length before) × (now ≡ slice_set before n source)
-    × IsReadUpTo remaining reads has_failed (slice_index_or before n source) source bytes
+    × IsReadUpTo D (slice_index_or before n source) source bytes
     × (length bytes ≤ max_log_bytes))
 
 -- these logs are read to their ends, and of the next one these bytes
-pub record AreReadOnward {S : Type 0} (remaining : S → Option (List ℕ)) (reads : ReadRelation S)
-    (has_failed : S → Bool) (first now : List S) (ended : List (List ℕ)) (bytes : List ℕ) : Type
-    0 where
+pub record AreReadOnward {S : Type 0} (D : SourceModel S) (first now : List S)
+    (ended : List (List ℕ)) (bytes : List ℕ) : Type 0 where
   pub before : List S
-  pub read : AreDeliveredUpTo remaining reads has_failed first before (length ended) ended
-  pub begun : IsBegun remaining reads has_failed before now (length ended) bytes
+  pub read : AreDeliveredUpTo D first before (length ended) ended
+  pub begun : IsBegun D before now (length ended) bytes
 
 -- the lines up to this position are gathered
-pub record AreGathered {S : Type 0} (remaining : S → Option (List ℕ)) (reads : ReadRelation S)
-    (has_failed : S → Bool) (first now : List S) (at : Position) (lines : List MeaningAt) : Type
-    0 where
+pub record AreGathered {S : Type 0} (D : SourceModel S) (first now : List S) (at : Position)
+    (lines : List MeaningAt) : Type 0 where
   pub ended : List (List ℕ)
   pub begun : List ℕ
   pub log : at.log ≡ length ended
@@ -37,7 +34,7 @@ pub record AreGathered {S : Type 0} (remaining : S → Option (List ℕ)) (reads
   pub done : at.done ≡ length begun
   pub whole : EndsLine begun
   pub gathered : lines ≡ lines_so_far ended begun
-  pub read : AreReadOnward remaining reads has_failed first now ended (begun ++ at.rest.items)
+  pub read : AreReadOnward D first now ended (begun ++ at.rest.items)
 
 -- a number that falls as so many sources are read
 abbrev pub left_of : ℕ → Position → ℕ

@@ -8,26 +8,26 @@ use Rattle.epx_devices.proofs.transfer.read_on.Goals as goal
 
 pub returns-in_err-map_err-in-Ok : goal.returns-in_err-map_err-in-Ok
 returns-in_err-map_err-in-Ok g c = λ first head long before.
-    let S = g.R.Source in
+    let D = g.R.Source.model in
     let sofar = c.loop-bytes.bytes.items in
     let part = take c.in-Ok.count c.read_some.new.part in
-    let whole : S.has_failed c.read_some.new.self ≡ false = grind (arith, common_steps) in
+    let whole : D.has_failed c.read_some.new.self ≡ false = grind (arith, common_steps) in
     let few : c.args.before + (length sofar + length part) ≤ 67108865 =
     grind (arith, common_steps) in
-    let read = IsReadUpTo-step S.reads S.remaining S.has_failed first c.loop-bytes.source
+    let read = IsReadUpTo-step D first c.loop-bytes.source
     c.read_some.new.self (head ++ sofar) part _ (c.loop-bytes.invariant.2 first head long before)
     c.in-Ok.ensures.bytes.0 c.in-Ok.ensures.delivered
     (omega (arith, few, long, length-append head sofar)) whole in
-    let lost = out_of_memory S.reads S.remaining S.has_failed S.fails c.args.log first
+    let lost = out_of_memory D c.args.log first
     c.read_some.new.self c.read_some.new.self _ read in
     search (rules, lost)
 
 pub loop-bytes-preserved : goal.loop-bytes-preserved
 loop-bytes-preserved g c =
-    let S = g.R.Source in
+    let D = g.R.Source.model in
     let sofar = c.loop-bytes.bytes.items in
     let part = take c.in-Ok.count c.read_some.new.part in
-    let whole : S.has_failed c.read_some.new.self ≡ false = grind (arith, common_steps) in
+    let whole : D.has_failed c.read_some.new.self ≡ false = grind (arith, common_steps) in
     let few : c.args.before + (length sofar + length part) ≤ 67108865 =
     grind (arith, common_steps) in
     let grown : c.extend_from_slice.new.self.items ≡ sofar ++ part =
@@ -35,11 +35,11 @@ loop-bytes-preserved g c =
       whole,
       rw grown (omega (arith, few, length-append sofar part)),
       λ first head long before.
-          let read = IsReadUpTo-step S.reads S.remaining S.has_failed first c.loop-bytes.source
+          let read = IsReadUpTo-step D first c.loop-bytes.source
           c.read_some.new.self (head ++ sofar) part _
           (c.loop-bytes.invariant.2 first head long before)
           c.in-Ok.ensures.bytes.0 c.in-Ok.ensures.delivered
           (omega (arith, few, long, length-append head sofar)) whole in
-          subst (IsReadUpTo S.remaining S.reads S.has_failed first c.read_some.new.self)
+          subst (IsReadUpTo D first c.read_some.new.self)
           (append_assoc head sofar part ∙ ap (λ l. head ++ l) (sym grown)) read,
     )

@@ -4,13 +4,13 @@ use Rattle.epx_devices.proofs.transfer.read_on.Given as goal
 
 abbrev pub invariant-loop-bytes : goal.invariant-loop-bytes
 invariant-loop-bytes g l =
-    let source = g.R.Source in
-    (source.has_failed l.source ≡ false)
+    let D = g.R.Source.model in
+    (D.has_failed l.source ≡ false)
     × (l.before + length l.bytes.items ≤ 67108865)
     × ((first : g.row.R.Denot) (head : List ℕ) → length head ≡ l.before
-    → IsReadUpTo source.remaining source.reads source.has_failed first l.fn.source
+    → IsReadUpTo D first l.fn.source
     (head ++ l.fn.bytes.items)
-    → IsReadUpTo source.remaining source.reads source.has_failed first l.source
+    → IsReadUpTo D first l.source
     (head ++ l.bytes.items))
 
 abbrev pub decreases-loop-bytes : goal.decreases-loop-bytes

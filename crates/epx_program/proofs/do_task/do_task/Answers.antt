@@ -14,7 +14,7 @@ returns-clause-answered g c =
     (map string_bytes c.in-Some.paths.items) c.deref_mut-2.result.now =
     rw (c.deref_mut-2.ensures.value, ← c.deref.ensures.value) at.1 in
     rw c.in-Some.is (answer_read c.args.task _ _
-    (texts_at g.O.Opener.opens g.O.Opened.Source.reads c.args.opener.now g.I.Source.reads
+    (texts_at g.O.Opener.model g.O.Opened.Source.model c.args.opener.now g.I.Source.model
     c.args.input at.0 _ _ _ are) c.write_answer-done.result c.write_answer-done.ensures.answered)
 
 pub returns-clause-part : goal.returns-clause-part
@@ -24,14 +24,14 @@ returns-clause-part g c =
     (map string_bytes c.in-Some.paths.items) c.deref_mut-2.result.now =
     rw (c.deref_mut-2.ensures.value, ← c.deref.ensures.value) at.1 in
     rw c.in-Some.is (λ failed. part_read c.args.task _ _
-    (texts_at g.O.Opener.opens g.O.Opened.Source.reads c.args.opener.now g.I.Source.reads
+    (texts_at g.O.Opener.model g.O.Opened.Source.model c.args.opener.now g.I.Source.model
     c.args.input at.0 _ _ _ are) (c.write_answer-done.ensures.part failed))
 
 pub returns-in_default-clause-answered : goal.returns-in_default-clause-answered
 returns-in_default-clause-answered g c =
     let only : c.deref_mut.result.now ≡ c.args.input ∷ [] = search rules in
     rw c.in_default.is (answer_read c.args.task _ _
-    (text_of_input g.O.Opener.opens g.O.Opened.Source.reads c.args.opener.now g.I.Source.reads
+    (text_of_input g.O.Opener.model g.O.Opened.Source.model c.args.opener.now g.I.Source.model
     c.args.input _ _ only)
     c.write_answer.result c.write_answer.ensures.answered)
 
@@ -39,7 +39,7 @@ pub returns-in_default-clause-part : goal.returns-in_default-clause-part
 returns-in_default-clause-part g c =
     let only : c.deref_mut.result.now ≡ c.args.input ∷ [] = search rules in
     rw c.in_default.is (λ failed. part_read c.args.task _ _
-    (text_of_input g.O.Opener.opens g.O.Opened.Source.reads c.args.opener.now g.I.Source.reads
+    (text_of_input g.O.Opener.model g.O.Opened.Source.model c.args.opener.now g.I.Source.model
     c.args.input _ _ only)
     (c.write_answer.ensures.part failed))
 
@@ -56,9 +56,9 @@ returns-clause-unread g c = rw c.in-Some.is (λ log failed hyphen.
     let at = c.in-Ok.ensures.at in
     let is = only_source_at c.args.opener.now c.args.input at.0 _ _
     (ap (map string_bytes) c.deref.ensures.value ∙ hyphen) at.1 in
-    let one = subst (OneHasFailedRead _ _) (c.deref_mut-2.ensures.value ∙ is)
+    let one = subst (OneHasFailedRead _) (c.deref_mut-2.ensures.value ∙ is)
     (c.write_answer-done.ensures.unread log failed) in
-    input_failed _ _ g.I.Source.reads g.I.Source.fails _ _ c.args.input (alone _ _ _ one))
+    input_failed _ g.I.Source.model _ c.args.input (alone _ _ one))
 
 pub returns-in_default-sources_at-clause-unread : goal.returns-in_default-sources_at-clause-unread
 returns-in_default-sources_at-clause-unread g c log unread = absurd (cc unread)

@@ -12,11 +12,11 @@ returns-clause-do_task g c =
     let done = c.do_task-done.result in
     let do_task = c.do_task-done.ensures in
     let ended = c.report_task-status.ensures in
-    let failed = g.W.Sink.has_failed c.do_task-done.new.output in
-    let old = g.W.Sink.contents c.args.output.now in
-    let new = g.W.Sink.contents c.do_task-done.new.output in
-    let Is = text_relation g.O.Opener.opens g.O.Opened.Source.reads c.args.opener.now
-    g.I.Source.reads c.args.input in
+    let failed = g.W.Sink.model.has_failed c.do_task-done.new.output in
+    let old = g.W.Sink.model.contents c.args.output.now in
+    let new = g.W.Sink.model.contents c.do_task-done.new.output in
+    let Is = text_relation g.O.Opener.model g.O.Opened.Source.model c.args.opener.now
+    g.I.Source.model c.args.input in
     let Adds : Bool → Type 0 =
     λ found. AddsAnswer c.args.task found (AreTextsRead Is (paths_of c.args.paths)) old new in
     record {
@@ -33,7 +33,7 @@ returns-clause-do_task g c =
 pub returns-clause-nothing : goal.returns-clause-nothing
 returns-clause-nothing g c =
     unchanged_by_work c.args.flags.exit_code c.do_task-done.result _
-    (g.W.Sink.has_failed c.do_task-done.new.output) _ _ c.report_task-status.ensures
+    (g.W.Sink.model.has_failed c.do_task-done.new.output) _ _ c.report_task-status.ensures
     c.do_task-done.ensures.nothing c.do_task-done.ensures.written
 
 pub returns-clause-flushed : goal.returns-clause-flushed

@@ -23,7 +23,6 @@ returns-in-Text-clause-text g c =
 
 pub returns-in-Text-clause-nothing : goal.returns-in-Text-clause-nothing
 returns-in-Text-clause-nothing g c =
-    unchanged_by_text g.W.Sink.contents c.args.output.now c.print_text.new.output c.in-Text.status
-    _
-    (g.W.Sink.has_failed c.print_text.new.output) c.print_text.ensures.refused
-    c.print_text.ensures.status
+    let W = g.W.Sink.model in
+    unchanged_by_text W.contents c.args.output.now c.print_text.new.output c.in-Text.status _
+    (W.has_failed c.print_text.new.output) c.print_text.ensures.refused c.print_text.ensures.status

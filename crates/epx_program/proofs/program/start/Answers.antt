@@ -36,7 +36,7 @@ returns-clause-read_args g c texts taken = rw c.from.ensures (elim c.match-read_
       rw (w.status-is, w.output-is) (inr (
         w.in-Ok.words,
         w.in-Ok.ensures.read_args texts taken,
-        ends_as_asked g.W.Sink.contents _ _ (g.I.Source.remaining c.args.input) _ _ _ _
+        ends_as_asked g.W.Sink.model.contents _ _ (g.I.Source.model.remaining c.args.input) _ _ _ _
             w.in-Ok.words
             said.do_task said.shown said.prefix said.text said.refused,
       ))

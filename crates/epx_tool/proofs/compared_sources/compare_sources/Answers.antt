@@ -8,10 +8,10 @@ use Rattle.epx_tool.proofs.compared_sources.compare_sources.Goals as goal
 
 pub returns : goal.returns
 returns g c =
-    let S = g.S.Source in
+    let D = g.S.Source.model in
     let is = result_of (bytes_of c.deref.result.now) c.compare.result c.compare.ensures.answer
     c.compare.ensures.found in
-    made_after S.remaining S.reads S.fails S.has_failed c.args.sources.now
+    made_after D c.args.sources.now
     c.read_sources.new.sources IsComparisonResult (bytes_of c.in-Ok.logs.items) c.compare.result
     c.in-Ok.ensures (subst (λ (logs : List (Vec ℕ Global)).
     IsComparisonResult (bytes_of logs) c.compare.result) c.deref.ensures.value is)

@@ -47,7 +47,7 @@ loop-at-preserved g c =
           (part.lines first (lines ++ now.0) now.0 now.2 now.1) in (
             now.0 ++ next.0,
             next.1,
-            subst (AreGathered g.S.Source.remaining g.S.Source.reads g.S.Source.has_failed first
+            subst (AreGathered g.S.Source.model first
                 c.gather_part-in-loop-at.new.sources c.gather_part-in-loop-at.new.at)
                 (append_assoc lines now.0 next.0) next.2,
           ),

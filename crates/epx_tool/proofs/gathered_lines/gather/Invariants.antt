@@ -6,14 +6,14 @@ use Rattle.epx_tool.proofs.gathered_lines.gather.Given as goal
 
 abbrev pub invariant-loop-at : goal.invariant-loop-at
 invariant-loop-at g l =
-    let S = g.S.Source in
+    let D = g.S.Source.model in
     (length l.sources ≡ length l.fn.sources)
     × (left_of (length l.sources) l.at < left_of (length l.fn.sources) l.fn.at)
     × (length l.batch ≤ l.most + 2 ^ 26)
     × ((first : _) (lines : List MeaningAt)
-    → AreGathered S.remaining S.reads S.has_failed first l.fn.sources l.fn.at lines
+    → AreGathered D first l.fn.sources l.fn.at lines
     → (cut : List MeaningAt) × DropsCached [] cut l.batch
-    × AreGathered S.remaining S.reads S.has_failed first l.sources l.at (lines ++ cut))
+    × AreGathered D first l.sources l.at (lines ++ cut))
 
 abbrev pub decreases-loop-at : goal.decreases-loop-at
 decreases-loop-at g l = left_of (length l.sources) l.at

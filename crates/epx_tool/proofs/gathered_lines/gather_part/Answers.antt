@@ -10,45 +10,39 @@ use Rattle.epx_tool.proofs.gathered_lines.gather_part.Goals.{then-is_last, else-
 
 pub returns-in-Err-clause-lines : goal.returns-in-Err-clause-lines
 returns-in-Err-clause-lines g c = λ first lines cut h drops.
-    let S = g.S.Source in
+    let D = g.S.Source.model in
     let sources = c.args.sources.now in
     let at = c.args.at.now in
     let d = c.index-sources-at.result in
-    let read = read_up_to S.remaining S.reads S.fails S.has_failed first sources c.requires.few at
-    lines h c.requires.within d in
-    let origin = start S.remaining S.reads S.fails S.has_failed first sources c.requires.few at
-    lines h c.requires.within d in
+    let read = read_up_to D first sources c.requires.few at lines h c.requires.within d in
+    let origin = start D first sources c.requires.few at lines h c.requires.within d in
     let ends = c.read_on.ensures origin h.begun (sym h.done) (rw c.replace-rest.ensures.value read)
     in
-    part_fails S.remaining S.reads S.fails S.has_failed first sources c.requires.few at lines h
+    part_fails D first sources c.requires.few at lines h
     c.requires.within d c.read_on.new.source c.max-most.result c.in-Err.fault
     (rw c.in-Err.is at ends)
 
 pub returns-in_default-clause-lines : goal.returns-in_default-clause-lines
 returns-in_default-clause-lines g c = λ first lines cut h drops.
-    let S = g.S.Source in
+    let D = g.S.Source.model in
     let sources = c.args.sources.now in
     let at = c.args.at.now in
     let d = c.index-sources-at.result in
-    let read = read_up_to S.remaining S.reads S.fails S.has_failed first sources c.requires.few at
-    lines h c.requires.within d in
-    let origin = start S.remaining S.reads S.fails S.has_failed first sources c.requires.few at
-    lines h c.requires.within d in
+    let read = read_up_to D first sources c.requires.few at lines h c.requires.within d in
+    let origin = start D first sources c.requires.few at lines h c.requires.within d in
     let ends = c.read_on.ensures origin h.begun (sym h.done) (rw c.replace-rest.ensures.value read)
     in
-    no_room_left S.remaining S.reads S.fails S.has_failed first sources c.requires.few at lines h
+    no_room_left D first sources c.requires.few at lines h
     c.requires.within d c.read_on.new.source c.max-most.result c.in-Ok.part (rw c.in-Ok.is at ends)
 
 pub returns-clause-lines : goal.returns-clause-lines
 returns-clause-lines g c = λ first lines cut h drops.
-    let S = g.S.Source in
+    let D = g.S.Source.model in
     let sources = c.args.sources.now in
     let at = c.args.at.now in
     let d = c.index-sources-at.result in
-    let read = read_up_to S.remaining S.reads S.fails S.has_failed first sources c.requires.few at
-    lines h c.requires.within d in
-    let origin = start S.remaining S.reads S.fails S.has_failed first sources c.requires.few at
-    lines h c.requires.within d in
+    let read = read_up_to D first sources c.requires.few at lines h c.requires.within d in
+    let origin = start D first sources c.requires.few at lines h c.requires.within d in
     let ends = rw c.in-Ok.is at (c.read_on.ensures origin h.begun (sym h.done)
     (rw c.replace-rest.ensures.value read)) in
     let bytes = c.in-Ok.part.bytes.items in
@@ -65,19 +59,19 @@ returns-clause-lines g c = λ first lines cut h drops.
     let most = c.max-most.result in
     let part = c.in-Ok.part in
     let size = length-take-le end bytes upto in
-    let fits = lines_fit S.remaining S.reads S.fails S.has_failed first sources c.requires.few at
+    let fits = lines_fit D first sources c.requires.few at
     lines h c.requires.within d later most part ends here (omega (arith, size, upto)) in
     let added = (rw c.deref.ensures.value at c.in-Ok-add_part.ensures.lines) fits cut drops in
-    let next : IsNext S.remaining S.reads S.fails S.has_failed first sources c.requires.few at lines
+    let next : IsNext D first sources c.requires.few at lines
     h c.requires.within d later most part ends end c.in-Ok-add_part.line upto all feeds rest left
     c.if-is_last.drop = elim c.if-is_last.branch [
       | then-is_last w ↦ inl (w.if-is_last.true, w.drop-is)
       | else-is_last w ↦ inr (w.if-is_last.false, w.drop-is)
     ] in (
       lines_of_part h.ended h.begun here,
-      part_lines S.remaining S.reads S.fails S.has_failed first sources c.requires.few at lines h
+      part_lines D first sources c.requires.few at lines h
           c.requires.within d later most part ends cut c.add_part.new.self here added.0,
-      part_gathered S.remaining S.reads S.fails S.has_failed first sources c.requires.few at lines
+      part_gathered D first sources c.requires.few at lines
           h c.requires.within d later most part ends end c.in-Ok-add_part.line upto all feeds rest
           left added.1 c.if-is_last.drop next,
     )
@@ -87,14 +81,12 @@ returns-clause-fewer g c =
     let first = c.requires.begun.0 in
     let lines = c.requires.begun.1 in
     let h = c.requires.begun.2 in
-    let S = g.S.Source in
+    let D = g.S.Source.model in
     let sources = c.args.sources.now in
     let at = c.args.at.now in
     let d = c.index-sources-at.result in
-    let read = read_up_to S.remaining S.reads S.fails S.has_failed first sources c.requires.few at
-    lines h c.requires.within d in
-    let origin = start S.remaining S.reads S.fails S.has_failed first sources c.requires.few at
-    lines h c.requires.within d in
+    let read = read_up_to D first sources c.requires.few at lines h c.requires.within d in
+    let origin = start D first sources c.requires.few at lines h c.requires.within d in
     let ends = rw c.in-Ok.is at (c.read_on.ensures origin h.begun (sym h.done)
     (rw c.replace-rest.ensures.value read)) in
     let bytes = c.in-Ok.part.bytes.items in
@@ -110,14 +102,14 @@ returns-clause-fewer g c =
     let later = c.read_on.new.source in
     let most = c.max-most.result in
     let part = c.in-Ok.part in
-    let next : IsNext S.remaining S.reads S.fails S.has_failed first sources c.requires.few at lines
+    let next : IsNext D first sources c.requires.few at lines
     h c.requires.within d later most part ends end c.in-Ok-add_part.line upto all feeds rest left
     c.if-is_last.drop = elim c.if-is_last.branch [
       | then-is_last w ↦ inl (w.if-is_last.true, w.drop-is)
       | else-is_last w ↦ inr (w.if-is_last.false, w.drop-is)
     ] in
     let room : length at.rest.items < most = search rules in
-    part_leaves_fewer S.remaining S.reads S.fails S.has_failed first sources c.requires.few at lines
+    part_leaves_fewer D first sources c.requires.few at lines
     h c.requires.within d later most part ends end c.in-Ok-add_part.line upto all feeds rest left
     room c.if-is_last.drop next
 
@@ -126,14 +118,12 @@ returns-clause-few g c =
     let first = c.requires.begun.0 in
     let lines = c.requires.begun.1 in
     let h = c.requires.begun.2 in
-    let S = g.S.Source in
+    let D = g.S.Source.model in
     let sources = c.args.sources.now in
     let at = c.args.at.now in
     let d = c.index-sources-at.result in
-    let read = read_up_to S.remaining S.reads S.fails S.has_failed first sources c.requires.few at
-    lines h c.requires.within d in
-    let origin = start S.remaining S.reads S.fails S.has_failed first sources c.requires.few at
-    lines h c.requires.within d in
+    let read = read_up_to D first sources c.requires.few at lines h c.requires.within d in
+    let origin = start D first sources c.requires.few at lines h c.requires.within d in
     let ends = rw c.in-Ok.is at (c.read_on.ensures origin h.begun (sym h.done)
     (rw c.replace-rest.ensures.value read)) in
     let bytes = c.in-Ok.part.bytes.items in
@@ -146,7 +136,7 @@ returns-clause-few g c =
     search (rules, c.whole_lines-end.ensures.lines) in
     let later = c.read_on.new.source in
     let most = c.max-most.result in
-    let fits = lines_fit S.remaining S.reads S.fails S.has_failed first sources c.requires.few at
+    let fits = lines_fit D first sources c.requires.few at
     lines h c.requires.within d later most c.in-Ok.part ends here
     (omega (arith, length-take-le end bytes upto, upto)) in
     let added = rw c.deref.ensures.value at c.in-Ok-add_part.ensures.few in

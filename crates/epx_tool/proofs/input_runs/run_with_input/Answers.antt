@@ -19,13 +19,13 @@ returns-in-Err g c =
     let fault = c.in-Err.fault in
     let read = c.in-Err.ensures in
     record {
-      sink = writes_nothing _ _ _ _ _ _ _ _ fault c.requires.sink
+      sink = writes_nothing _ _ _ _ _ _ _ fault c.requires.sink
           (λ is. read.nothing_written (same_error fault Write is))
           (λ given logs known are. run_fault_of_reading logs given IsBad Is fault
           (read.refusal given logs known are))
           (inl read.stopped);
-      sources = leaves_again _ _ _ _ fault read.sources_left;
-      input = input_again _ _ _ _ _ fault read.input_left;
+      sources = leaves_again _ _ _ fault read.sources_left;
+      input = input_again _ _ _ _ fault read.input_left;
     }
 
 pub returns-in-Err-answer_owned : goal.returns-in-Err-answer_owned
@@ -40,7 +40,7 @@ returns-in-Err-answer_owned g c =
     let n = length c.args.sources.now + 1 in
     let has = HasRead-refused_with_input n logs fault read.fit IsBad input read.short refused in
     record {
-      sink = writes_nothing _ _ _ _ _ _ _ _ fault c.requires.sink
+      sink = writes_nothing _ _ _ _ _ _ _ fault c.requires.sink
           (refusal_with_input_not_write IsBad input logs fault refused)
           (λ given others known are.
           subst (λ ls. IsRunFaultWithInput IsBad Is given ls fault) (read.bytes others are)
@@ -52,6 +52,6 @@ returns-in-Err-answer_owned g c =
             delivered = read.delivered;
             refusal = refused;
           }));
-      sources = leaves_after _ _ _ _ n _ _ (omega arith) has read.sources_left;
-      input = input_after _ _ _ _ _ n _ _ (omega arith) has read.input_left;
+      sources = leaves_after _ _ _ n _ _ (omega arith) has read.sources_left;
+      input = input_after _ _ _ _ n _ _ (omega arith) has read.input_left;
     }

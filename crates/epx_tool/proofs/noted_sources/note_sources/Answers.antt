@@ -8,21 +8,21 @@ use Rattle.epx_tool.proofs.noted_sources.note_sources.Goals as goal
 pub returns-then-sources-gt-MAX_LOGS-clause-noted :
     goal.returns-then-sources-gt-MAX_LOGS-clause-noted
 returns-then-sources-gt-MAX_LOGS-clause-noted g c =
-    let S = g.S.Source in
-    too_many_sources S.remaining S.reads S.fails S.has_failed c.args.sources.now c.requires.well
+    let D = g.S.Source.model in
+    too_many_sources D c.args.sources.now c.requires.well
     c.if-sources-gt-MAX_LOGS.true
 
 pub returns-in_default-clause-noted : goal.returns-in_default-clause-noted
 returns-in_default-clause-noted g c =
-    let S = g.S.Source in
+    let D = g.S.Source.model in
     let sources = c.args.sources.now in
-    out_of_memory S.remaining S.reads S.fails S.has_failed sources sources 0 []
-    (none_delivered S.remaining S.reads S.fails S.has_failed sources c.requires.well)
+    out_of_memory D sources sources 0 []
+    (none_delivered D sources c.requires.well)
     (omega (arith, c.if-sources-gt-MAX_LOGS.false))
 
 pub loop-sources-init : goal.loop-sources-init
 loop-sources-init g c =
-    let S = g.S.Source in
+    let D = g.S.Source.model in
     let at = c.new-at.ensures in (
       refl,
       omega (arith, ap length c.new-here.ensures),
@@ -31,8 +31,7 @@ loop-sources-init g c =
         [],
         c.in-Ok.ensures,
         c.new-here.ensures,
-        none_gathered S.remaining S.reads S.fails S.has_failed c.args.sources.now c.requires.well
-            c.new-at.result at.0 at.1 at.2 at.3,
+        none_gathered D c.args.sources.now c.requires.well c.new-at.result at.0 at.1 at.2 at.3,
       ),
     )
 
@@ -63,12 +62,12 @@ loop-sources-preserved g c =
 
 pub returns-clause-noted : goal.returns-clause-noted
 returns-clause-noted g c =
-    let S = g.S.Source in
+    let D = g.S.Source.model in
     let has_read = g.N.Notes.has_read in
     let h = c.loop-sources.invariant.2 in
     let sources = c.loop-sources.sources in
     let same = c.loop-sources.invariant.0 in
-    let all = all_gathered S.remaining S.reads S.fails S.has_failed c.args.sources.now sources
+    let all = all_gathered D c.args.sources.now sources
     (omega (arith, same, c.if-sources-gt-MAX_LOGS.false)) c.loop-sources.at (h.0 ++ h.1) h.4
     (omega (arith, c.loop-sources-test.false, c.logs.ensures)) in
     let read = c.read_during-reader.ensures.lines h.0 h.1 h.2 h.3 in

@@ -8,11 +8,11 @@ use Rattle.epx_tool.proofs.noted_sources.note_sources.Given as goal
 -- some lines are read, and the next ones are gathered
 abbrev pub invariant-loop-sources : goal.invariant-loop-sources
 invariant-loop-sources g l =
-    let S = g.S.Source in
+    let D = g.S.Source.model in
     (length l.sources ≡ length l.fn.sources) × (length l.here ≤ 2 ^ 40)
     × ((read cut : List MeaningAt) × HasRead g.N.Notes.has_read read l.reader
     × DropsCached [] cut l.here
-    × AreGathered S.remaining S.reads S.has_failed l.fn.sources l.sources l.at (read ++ cut))
+    × AreGathered D l.fn.sources l.sources l.at (read ++ cut))
 
 abbrev pub decreases-loop-sources : goal.decreases-loop-sources
 decreases-loop-sources g l = left_of (length l.sources) l.at

@@ -8,22 +8,18 @@ use Rattle.epx_tool.proofs.runs.answer_sources.Goals as goal
 
 pub returns-in-Some : goal.returns-in-Some
 returns-in-Some g c =
-    let S = g.S.Source in
+    let D = g.S.Source.model in
     subst (λ (answered : Option MapText). MatchResult c.answer_merged.result
-    (λ a. EndsMaking S.remaining S.reads S.fails S.has_failed
-    (AnswersFindingBy answered a.has_findings) c.args.sources.now c.answer_merged.new.sources
-    (Ok a.text.items))
-    (λ fault. EndsMaking S.remaining S.reads S.fails S.has_failed (AnswersBy answered)
-    c.args.sources.now c.answer_merged.new.sources (Err fault)))
-    (sym c.in-Some.is ∙ c.map_text.ensures) c.answer_merged.ensures
+    (λ a. EndsMaking D (AnswersFindingBy answered a.has_findings) c.args.sources.now
+    c.answer_merged.new.sources (Ok a.text.items))
+    (λ fault. EndsMaking D (AnswersBy answered) c.args.sources.now c.answer_merged.new.sources
+    (Err fault))) (sym c.in-Some.is ∙ c.map_text.ensures) c.answer_merged.ensures
 
 pub returns-in-None : goal.returns-in-None
 returns-in-None g c =
-    let S = g.S.Source in
+    let D = g.S.Source.model in
     subst (λ (answered : Option MapText). MatchResult c.answer_compared.result
-    (λ a. EndsMaking S.remaining S.reads S.fails S.has_failed
-    (AnswersFindingBy answered a.has_findings) c.args.sources.now c.answer_compared.new.sources
-    (Ok a.text.items))
-    (λ fault. EndsMaking S.remaining S.reads S.fails S.has_failed (AnswersBy answered)
-    c.args.sources.now c.answer_compared.new.sources (Err fault)))
-    (sym c.in-None.is ∙ c.map_text.ensures) c.answer_compared.ensures
+    (λ a. EndsMaking D (AnswersFindingBy answered a.has_findings) c.args.sources.now
+    c.answer_compared.new.sources (Ok a.text.items))
+    (λ fault. EndsMaking D (AnswersBy answered) c.args.sources.now c.answer_compared.new.sources
+    (Err fault))) (sym c.in-None.is ∙ c.map_text.ensures) c.answer_compared.ensures

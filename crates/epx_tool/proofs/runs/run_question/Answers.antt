@@ -10,22 +10,20 @@ use Rattle.epx_tool.proofs.runs.run_question.Goals as goal
 
 pub returns-in-Err : goal.returns-in-Err
 returns-in-Err g c =
-    let S = g.S.Source in
-    run_refused S.remaining S.reads S.fails S.has_failed (AnswersQuestion c.args.question) _ _ _ _ _
+    run_refused g.S.Source.model g.W.Sink.model (AnswersQuestion c.args.question) _ _ _
     c.in-Err.fault (question_answer c.args.question) c.requires.sink c.in-Err.ensures
 
 pub returns-in-Err-write_out : goal.returns-in-Err-write_out
 returns-in-Err-write_out g c =
-    let S = g.S.Source in
+    let D = g.S.Source.model in
     let Answer = AnswersQuestion c.args.question in
     let failed = c.in-Err-write_out.ensures in
-    let made = making_plain S.remaining S.reads S.fails S.has_failed (map_text_of c.args.question)
+    let made = making_plain D (map_text_of c.args.question)
     c.in-Ok.answered.has_findings c.args.sources.now c.answer_sources.new.sources
     c.in-Ok.answered.text.items c.in-Ok.ensures in
-    run_written S.remaining S.reads S.fails S.has_failed Answer _ _ _ _ _ _ c.deref.result.now
-    (Err c.in-Err-write_out.fault)
-    (subst (λ (text : List ℕ). EndsMaking S.remaining S.reads S.fails S.has_failed Answer
-    c.args.sources.now c.answer_sources.new.sources (Ok text)) (sym c.deref.ensures.value) made)
+    run_written D g.W.Sink.model Answer _ _ _ _ c.deref.result.now (Err c.in-Err-write_out.fault)
+    (subst (λ (text : List ℕ). EndsMaking D Answer c.args.sources.now
+    c.answer_sources.new.sources (Ok text)) (sym c.deref.ensures.value) made)
     failed.bytes failed.flushed failed.faults
     (failed_first {T = Unit {0}} {E = Fault} _ _ (Err c.in-Err-write_out.fault) c.requires.sink
     failed.failed) failed.prefix

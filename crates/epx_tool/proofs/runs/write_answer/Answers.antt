@@ -4,6 +4,5 @@ use Rattle.epx_tool.proofs.runs.write_answer.Goals as goal
 
 pub returns-in-Ok : goal.returns-in-Ok
 returns-in-Ok g c =
-    let S = g.S.Source in
-    run_plain S.remaining S.reads S.fails S.has_failed (map_text_of c.args.question)
-    c.in-Ok.field-0 _ _ _ _ _ _ c.in-Ok.ensures
+    run_plain g.S.Source.model (map_text_of c.args.question) c.in-Ok.field-0 _ _ g.W.Sink.model _ _
+    c.in-Ok.ensures

@@ -5,10 +5,10 @@ use Rattle.epx_tool.proofs.sources.read_next.Goals as goal
 
 pub returns : goal.returns
 returns g c = λ first before h.
-    let S = g.S.Source in
+    let D = g.S.Source.model in
     let read = c.read_log.ensures in
     let few : length first ≤ max_logs = omega (arith, h.read.as_many, c.requires.few) in
-    next_read S.remaining S.reads S.fails S.has_failed first c.args.sources.now c.args.log before h
+    next_read D first c.args.sources.now c.args.log before h
     few (omega (arith, h.read.as_many, c.requires.within)) c.index-sources-log.result
     c.read_log.new.source c.read_log.result read.bytes read.delivered read.end read.fits
     read.faults read.stops read.failed read.too_long read.no_further

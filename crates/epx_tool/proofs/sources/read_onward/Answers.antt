@@ -20,35 +20,34 @@ returns-in-Err g c = λ first before h.
 
 pub returns-in_default : goal.returns-in_default
 returns-in_default g c = λ first before h.
-    let S = g.S.Source in
+    let D = g.S.Source.model in
     let few : length first ≤ max_logs = omega (arith, h.read.as_many, c.requires.few) in
     let next = c.in-Ok.ensures first (before ++ bytes_of c.loop-log.logs.items)
     (c.loop-log.invariant.1 first before h) in
-    out_of_memory S.remaining S.reads S.fails S.has_failed first _ _ _ next few
+    out_of_memory D first _ _ _ next few
 
 pub returns : goal.returns
 returns g c = λ first before h.
-    let S = g.S.Source in
+    let D = g.S.Source.model in
     let few : length first ≤ max_logs = omega (arith, h.read.as_many, c.requires.few) in
-    all_delivered S.remaining S.reads S.fails S.has_failed first _ _ _
-    (c.loop-log.invariant.1 first before h) few
+    all_delivered D first _ _ _ (c.loop-log.invariant.1 first before h) few
     (omega (arith, h.read.as_many, c.loop-log.invariant.0, c.loop-log-test.false))
 
 pub loop-log-init : goal.loop-log-init
 loop-log-init g c = (
   refl,
   λ first before h.
-      let S = g.S.Source in
+      let D = g.S.Source.model in
       let none : before ≡ before ++ bytes_of c.new-logs.result.items =
       sym (ap (λ l. before ++ bytes_of l) c.new-logs.ensures.items ∙ append-nil before) in
-      subst (AreDeliveredUpTo S.remaining S.reads S.has_failed first _ _) none h,
+      subst (AreDeliveredUpTo D first _ _) none h,
 )
 
 pub loop-log-preserved : goal.loop-log-preserved
 loop-log-preserved g c = (
   search (rules, c.loop-log.invariant.0),
   λ first before h.
-      let S = g.S.Source in
+      let D = g.S.Source.model in
       let logs = c.loop-log.logs.items in
       let bytes = c.in-Ok.bytes.items in
       let pushed : bytes_of logs ++ bytes ∷ [] ≡ bytes_of c.push.new.self.items =
@@ -56,6 +55,6 @@ loop-log-preserved g c = (
       ∙ map-append (λ log. log.items) logs (c.in-Ok.bytes ∷ [])) in
       let grown = append_assoc before (bytes_of logs) (bytes ∷ [])
       ∙ ap (λ l. before ++ l) pushed in
-      subst (AreDeliveredUpTo S.remaining S.reads S.has_failed first _ _) grown
+      subst (AreDeliveredUpTo D first _ _) grown
       (c.in-Ok.ensures first (before ++ bytes_of logs) (c.loop-log.invariant.1 first before h)),
 )

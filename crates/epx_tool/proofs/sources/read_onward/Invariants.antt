@@ -5,9 +5,8 @@ use Rattle.epx_tool.proofs.sources.read_onward.Given as goal
 
 abbrev pub invariant-loop-log : goal.invariant-loop-log
 invariant-loop-log g l =
-    let S = g.S.Source in
+    let D = g.S.Source.model in
     (length l.sources ≡ length l.fn.sources)
     × ((first : List g.row.S.Denot) (before : List (List ℕ))
-    → AreDeliveredUpTo S.remaining S.reads S.has_failed first l.fn.sources l.fn.start before
-    → AreDeliveredUpTo S.remaining S.reads S.has_failed first l.sources l.log
-    (before ++ bytes_of l.logs.items))
+    → AreDeliveredUpTo D first l.fn.sources l.fn.start before
+    → AreDeliveredUpTo D first l.sources l.log (before ++ bytes_of l.logs.items))

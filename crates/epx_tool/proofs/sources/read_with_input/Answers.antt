@@ -32,12 +32,12 @@ returns-in-Err g c =
           reading_refusal_with_input logs before fault (read.refusal logs are);
       stopped = inl read.stopped;
       nothing_written = λ is. read.nothing_written (same_error fault Write is);
-      sources_left = leaves_again _ _ _ _ fault read.sources;
+      sources_left = leaves_again _ _ _ fault read.sources;
       input_left = record {
         read = neither _ _ (λ is.
             let below = read.place count (inr (same_error fault (Read count) is)) in
             omega (arith, below)) c.requires.input;
-        taken = nothing_consumed (max_log_bytes + 1) (g.B.Source.remaining c.args.input.now);
+        taken = nothing_consumed (max_log_bytes + 1) (g.B.Source.model.remaining c.args.input.now);
         ended = tt;
         untouched = λ log stops lower. refl;
         none_read = λ is. refl;
@@ -53,7 +53,7 @@ returns-in-Err-read_log g c =
     let count = length c.read_sources.new.sources in
     let many = c.read_sources.auto.sources in
     let StopsAt : ℕ → Type 0 = λ n.
-    IsLogStop g.B.Source.reads g.B.Source.fails n c.args.input.now c.read_log.new.source fault in
+    IsLogStop g.B.Source.model n c.args.input.now c.read_log.new.source fault in
     record {
       text = tt;
       bytes = tt;
@@ -65,10 +65,10 @@ returns-in-Err-read_log g c =
           let logs_many : count ≡ length logs =
           many ∙ sym read.delivered.as_many ∙ ap length same in
           refusal_of_reading_with_input logs before count
-          (g.B.Source.remaining c.read_log.new.source) fault logs_many
+          (g.B.Source.model.remaining c.read_log.new.source) fault logs_many
           (subst FitLimits same read.fit) of_input.faults
           (λ is. subst (λ (o : Option (List ℕ)). ConsumesExactly o
-          (g.B.Source.remaining c.read_log.new.source) (max_log_bytes + 1)) known
+          (g.B.Source.model.remaining c.read_log.new.source) (max_log_bytes + 1)) known
           (of_input.too_long is));
       stopped = inr (record {
         logs = bytes_of c.in-Ok.logs.items;
@@ -77,7 +77,7 @@ returns-in-Err-read_log g c =
         stopped = subst StopsAt many of_input.stops;
       });
       nothing_written = input_not_write count fault of_input.faults;
-      sources_left = leaves_after _ _ _ _ count _ _ (omega (arith, many))
+      sources_left = leaves_after _ _ _ count _ _ (omega (arith, many))
           (HasRead-input count fault of_input.faults) read.sources;
       input_left = record {
         read = input_failed_iff fault count (length old) _ many of_input.failed;
@@ -103,7 +103,7 @@ returns-in-Ok-read_log g c =
       refusal = tt;
       stopped = tt;
       nothing_written = ok_is_no_fault _ Write;
-      sources_left = leaves_after _ _ _ _ (length c.args.sources.now) _ _ (omega arith)
+      sources_left = leaves_after _ _ _ (length c.args.sources.now) _ _ (omega arith)
           (HasRead-written _ _ tt) read.sources;
       input_left = record {
         read = ok_failed_iff _ _ _ _ _ of_input.failed;
