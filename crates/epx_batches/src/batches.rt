@@ -27,8 +27,8 @@ fn append_executed(
 
 /// Appends the lines of the instances that wait, as a log has them, and those of the store.
 fn append_rest(alloc: Global, text: &mut Vec<u8>, executor: &Executor) -> Result<(), Memory> {
-    for entry in executor.pending() {
-        let line = write_line(alloc, entry)?;
+    for entry in executor.pending(alloc)?.iter() {
+        let line = write_line(alloc, *entry)?;
         text.extend_from_slice(line.as_bytes())?;
         text.push(b'\n')?;
     }

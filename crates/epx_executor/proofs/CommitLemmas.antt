@@ -1,7 +1,8 @@
 -- What a commit comes to.
 use Rattle.std.proofs.Common.{◌≡◌, ◌⊎◌, ◌↔◌, ◌≤◌, ◌^◌, ℕ, zero, suc, List, [], ◌∷◌, map, zip}
 use Rattle.std.proofs.Common.{length, arith}
-use Rattle.std.proofs.Common.{Contains, slice_get, Option, Some, refl, sym, ap, ◌∙◌, subst, inl}
+use Rattle.std.proofs.Common.{Contains, slice_get, Option, None, Some, refl, sym, ap, ◌∙◌, subst}
+use Rattle.std.proofs.Common.{inl}
 use Rattle.std.proofs.Common.{inr}
 use Rattle.std.proofs.lemmas.List.{length-map}
 use Rattle.epx_types.specs.declared.id.Id.{Id}
@@ -16,20 +17,25 @@ use Rattle.epx_types.specs.Ids.{IsRising}
 use Rattle.epx_types.specs.Instances.{Instance}
 use Rattle.epx_types.specs.Readiness.{IsReady}
 use Rattle.epx_types.specs.Sound.{HasRemaining}
+use Rattle.epx_types.specs.WaitingLists.{Waiting}
+use Rattle.epx_types.proofs.committed.AgreementLemmas.{IsRising-same}
 use Rattle.epx_types.proofs.orders.ExecutionOrderLemmas.{IsExecutionOrder-IsLawful}
 use Rattle.epx_types.proofs.remaining.RemainingLemmas.{Contains-remaining_iff, IsRising-remaining}
 use Rattle.epx_types.proofs.remaining.ResumedMapLemmas.{IsReady-in_whole}
 use Rattle.epx_types.proofs.graph.ReachingLemmas.{IsReady-reached}
 use Rattle.epx_laws.specs.DoneLaws.{RemainingIsReadyAlike}
 use Rattle.epx_laws.specs.ResumedRunLaws.{CanResume, run_on}
-use Rattle.epx_committed.specs.MergedLines.{IsMerged}
-use Rattle.epx_executor.specs.inner.Batches.{IsBatch}
+use Rattle.epx_executor.specs.declared.choose.Choice.{Choice}
+use Rattle.epx_executor.specs.inner.Batches.{IsNextBatch}
+use Rattle.epx_executor.specs.inner.Choices.{IsPassedOver}
 use Rattle.epx_executor.proofs.CallLineLemmas.{merged_are_few, merged_instances}
+use Rattle.epx_executor.proofs.NextBatchLemmas.{is_pending}
 use Rattle.epx_executor.proofs.OrderedLemmas.{commands_found, few_ids}
 use Rattle.epx_executor.specs.CallLines.{call_lines}
 use Rattle.epx_executor.specs.Commits.{ExecutorView, IsCommit, IsSettled, not_done}
 use Rattle.epx_executor.specs.ExecutorLaws.{IsSoundFor}
-use Rattle.epx_executor.proofs.RemainderLemmas.{from_not_done, rising_not_done, remaining-not_done}
+use Rattle.epx_executor.proofs.RemainderLemmas.{Contains-not_done, from_not_done, rising_not_done}
+use Rattle.epx_executor.proofs.RemainderLemmas.{remaining-not_done, same_instances}
 use Rattle.epx_executor.proofs.RemainderLemmas.{remaining-twice, same_remaining}
 
 -- ---- nothing is left ready
@@ -123,43 +129,82 @@ zip_at (a ∷ xs) (b ∷ ys) (suc i) x y h = zip_at xs ys i x y h
 
 -- ---- a batch that is executed is a commit
 
-module _ (done : List Id) (c : Contents) (pending came m : List Instance)
-    (order : List Ranked) (positions : List (Id × ℕ)) (now : List Id)
-    (merged : IsMerged (call_lines done pending came) m)
-    (batch : IsBatch done m m order positions now) where
-  pub settled_after_batch : (v : ExecutorView) → v.done ≡ now → v.pending ≡ not_done now m
+module _ (done : List Id) (c : Contents) (pending came : List Instance) (choice : Option Choice)
+    (entries : List Instance) (order : List Ranked) (positions : List (Id × ℕ))
+    (waiters : List Waiting) (now : List Id)
+    (batch : IsNextBatch done pending came choice entries order positions waiters now) where
+  old : (e : Instance) → Contains pending e → Contains batch.m e
+  old = is_pending done pending came choice entries order positions waiters now batch
+
+  pub settled_after_batch : (v : ExecutorView) → v.done ≡ now → v.pending ≡ not_done now batch.m
       → IsSettled v
   settled_after_batch v is also =
-      settled_after done now m order v merged.committed.rising batch.ordered batch.done_now is also
+      settled_after done now batch.m order v batch.merged.committed.rising batch.ordered
+      batch.done_now is also
+
+  -- an entry of a pending Id is the pending one
+  pub agree_with_pending : (p e : Instance) → Contains pending p → Contains entries e
+      → p.id ≡ e.id → p ≡ e
+  agree_with_pending p e h k same =
+      IsRising-same batch.m batch.merged.committed.rising p e (old p h) (batch.within e k) same
+
+  -- what is pending after it
+  pub left_after : ((e : Instance) → Contains pending e → ¬ Contains done e.id)
+      → (left : List Instance) → IsRising (ids_of left)
+      → ((e : Instance) → Contains left e ↔ ((Contains pending e
+      ⊎ (Contains entries e × (¬ Contains now e.id))) × (¬ Contains (ranked_ids order) e.id)))
+      → left ≡ not_done now batch.m
+  left_after none left rising same =
+      same_instances left (not_done now batch.m) rising
+      (rising_not_done now batch.m batch.merged.committed.rising) (λ e. (
+        λ h. let k = (same e).0 h in elim k.0 [
+          | inl before ↦ Contains-not_done now batch.m e (old e before) (λ there.
+              elim ((batch.done_now e.id).0 there)
+              [ inl d ↦ none e before d | inr new ↦ k.1 new ])
+          | inr new ↦ Contains-not_done now batch.m e (batch.within e new.0) new.1
+        ],
+        λ h. let k = from_not_done now batch.m e h in (same e).1 (
+          elim (batch.whole e k.0) [
+            | inl over ↦ inl (passed_over choice e over)
+            | inr there ↦ inr (there, k.1)
+          ],
+          λ new. k.1 ((batch.done_now e.id).1 (inr new)),
+        ),
+      ))
+    where
+      passed_over : (o : Option Choice) (e : Instance) → IsPassedOver o pending e
+          → Contains pending e
+      passed_over None e h = absurd h
+      passed_over (Some c) e h = h.0
 
   -- the commands at the positions are those of the order
   module _ (os : List (List Op))
-      (at : os ≡ map (λ (p : Id × ℕ). ops_or_empty (slice_get m p.1)) positions) where
+      (at : os ≡ map (λ (p : Id × ℕ). ops_or_empty (slice_get entries p.1)) positions) where
     pub length_of_batch : length os ≡ length (ranked_ids order)
     length_of_batch = ap length (at ∙ batch.found)
-        ∙ length-map (ranked_ids order) (λ x. ops_or_empty (instance_of m x))
+        ∙ length-map (ranked_ids order) (λ x. ops_or_empty (instance_of batch.m x))
 
     pub few_in_batch : length os ≤ 2 ^ 40
     few_in_batch = omega (
       arith,
       length_of_batch,
-      few_ids done m order batch.ordered
-          (merged_are_few (call_lines done pending came) m merged),
+      few_ids done batch.m order batch.ordered
+          (merged_are_few (call_lines done pending came) batch.m batch.merged),
     )
 
     pub IsCommit-batch : (d : Contents) → d ≡ c → (final : Contents)
         (replies : List (Id × Reply)) (left : List Instance) → final ≡ (execute os d).final
-        → replies ≡ zip (ranked_ids order) (execute os d).replies → left ≡ not_done now m
+        → replies ≡ zip (ranked_ids order) (execute os d).replies → left ≡ not_done now batch.m
         → IsCommit (record { done = done; store = c; pending = pending }) came
         (record { done = now; store = final; pending = left }) replies
     IsCommit-batch d is final replies left last replied stay =
-        let same : execute os d ≡ run_on done c m order =
+        let same : execute os d ≡ run_on done c batch.m order =
         ap (execute os) is ∙ ap (λ ks. execute ks c)
-        (at ∙ batch.found ∙ commands_found done m order batch.ordered) in
+        (at ∙ batch.found ∙ commands_found done batch.m order batch.ordered) in
         record {
-          other = m;
+          other = batch.m;
           order = order;
-          merged = merged;
+          merged = batch.merged;
           ordered = batch.ordered;
           store = last ∙ ap (λ e. e.final) same;
           replied = replied ∙ ap (λ e. zip (ranked_ids order) e.replies) same;

@@ -68,6 +68,16 @@ from_not_done done m e h = (
   )),
 )
 
+-- maps with the same instances are the same
+pub same_instances : (m n : List Instance) → IsRising (ids_of m) → IsRising (ids_of n)
+    → ((e : Instance) → Contains m e ↔ Contains n e) → m ≡ n
+same_instances m n rising rising' same =
+    same_rising (λ (a b : Instance). Below a.id b.id) (λ a. below_irrefl id_cmp_total a.id)
+    (λ a b d. below_trans id_cmp_total a.id b.id d.id) m n
+    (AllPairs-from_rising_ids (λ (i : Instance). i.id) m rising)
+    (AllPairs-from_rising_ids (λ (i : Instance). i.id) n rising')
+    (λ e h. (same e).0 h) (λ e h. (same e).1 h)
+
 -- maps with the same instances that are not done have the same list of these
 pub same_not_done : (done : List Id) (m n : List Instance) → IsRising (ids_of m)
     → IsRising (ids_of n)

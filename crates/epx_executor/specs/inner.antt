@@ -1,2 +1,4 @@
 -- Words of private clauses: no public contract speaks of them.
 pub mod Batches
+pub mod Filings
+pub mod Choices

@@ -1,6 +1,6 @@
 //! What a call of `commit` makes ready.
 ghost use Rattle.std.specs.Prelude.{◌≡◌, ◌++◌, filter, map, slice_get, Contains, IfOk, OnOk};
-ghost use Rattle.std.specs.Prelude.{MatchResult};
+ghost use Rattle.std.specs.Prelude.{List, MatchResult, IfSome};
 ghost use Rattle.epx_types.specs.declared.id.Id.{Id};
 ghost use Rattle.epx_types.specs.CommittedMap.{ids_of, ops_or_empty, commands_in};
 ghost use Rattle.epx_types.specs.Done.{is_among, remaining};
@@ -8,15 +8,19 @@ ghost use Rattle.epx_types.specs.ExecutionOrder.{IsExecutionOrder};
 ghost use Rattle.epx_types.specs.Ids.{IsRising};
 ghost use Rattle.epx_types.specs.Instances.{Instance};
 ghost use Rattle.epx_committed.specs.MergedLines.{IsMerged, IsMergeFault};
-ghost use Rattle.epx_executor.specs.CallLines.{call_lines};
-ghost use Rattle.epx_executor.specs.Commits.{not_done};
-ghost use Rattle.epx_executor.specs.inner.Batches.{AreDoneDeps, IsBatch};
+ghost use Rattle.epx_types.specs.WaitingLists.{IsWaitingList};
+ghost use Rattle.epx_executor.specs.CallLines.{call_lines, lines_from};
+ghost use Rattle.epx_executor.specs.inner.Batches.{AreDoneDeps, IsBatch, IsNextBatch};
+ghost use Rattle.epx_executor.specs.inner.Choices.{IsChoice};
+ghost use Rattle.epx_executor.specs.inner.Filings.{Filings};
 
-use crate::call_lines::{is_left, merge_call};
+use crate::call_lines::{is_left, merge_call, pending_lines};
+use crate::choose::{Choice, looked_at};
 use crate::done_runs::DoneRuns;
-use epx_committed::Merged;
+use crate::pending::Pending;
+use epx_committed::{Merged, PlacedEntry};
 use epx_components::OrderList;
-use epx_graph::build_after;
+use epx_graph::{Waiter, build_after, waiting};
 use epx_ranking::order;
 use epx_types::id_list::sort_unique;
 use epx_types::{Entry, Fault, Id, Memory, Plan};
@@ -62,22 +66,26 @@ fn positions_of(alloc: Global, merged: &Merged, ids: &[Id]) -> Result<Vec<(Id, u
     Ok(positions)
 }
 
-/// The execution order of the remaining map. No instance of the map is done.
+/// The execution order of the remaining map, and what waits in it. No instance of the map is done.
 fn order_remaining<R: Threads + Sync>(
     rt: &R,
     alloc: Global,
     done: &DoneRuns,
     merged: &Merged,
     plan: Plan,
-) -> Result<OrderList, Memory>
+) -> Result<(OrderList, Vec<Waiter>), Memory>
     requires { (x : Id) → Contains (ids_of merged.now) x → ¬ Contains done.now x }
-    ensures { IfOk result (λ order. IsExecutionOrder (remaining done.now merged.now) order) }
+    ensures ordered { IfOk result
+        (λ v. IsExecutionOrder (remaining done.now merged.now) v.0) }
+    ensures waiting { IfOk result
+        (λ v. IsWaitingList (remaining done.now merged.now) v.1.items) }
 {
     // Of the done instances, only those that the map depends on matter. So the cost does not grow
     // with all that was ever executed.
     let deps = done_deps(alloc, done, merged)?;
     let graph = build_after(rt, alloc, merged, &deps, plan)?;
-    order(rt, alloc, merged, &graph)
+    let waiters = waiting(alloc, &graph)?;
+    Ok((order(rt, alloc, merged, &graph)?, waiters))
 }
 
 /// What a call of `commit` executes, and what is done afterwards.
@@ -89,6 +97,8 @@ pub(crate) struct Batch {
     pub(crate) order: OrderList,
     /// The instances of the order with the positions of their entries.
     pub(crate) positions: Vec<(Id, usize)>,
+    /// The instances that wait.
+    pub(crate) waiters: Vec<Waiter>,
     pub(crate) done: DoneRuns,
 }
 
@@ -102,9 +112,9 @@ fn batch_of<R: Threads + Sync>(
 ) -> Result<Batch, Memory>
     requires { (x : Id) → Contains (ids_of merged) x → ¬ Contains done.now x }
     ensures { IfOk result (λ batch. IsBatch done.now merged
-        batch.entries.items batch.order batch.positions.items batch.done) }
+        batch.entries.items batch.order batch.positions.items batch.waiters.items batch.done) }
 {
-    let order = order_remaining(rt, alloc, done, &merged, plan)?;
+    let (order, waiters) = order_remaining(rt, alloc, done, &merged, plan)?;
     let positions = positions_of(alloc, &merged, order.ids())?;
     let done = done.with(alloc, order.ids())?;
     let entries = merged.into_entries(alloc)?;
@@ -112,34 +122,52 @@ fn batch_of<R: Threads + Sync>(
         entries,
         order,
         positions,
+        waiters,
         done,
     })
 }
 
-/// The batch of the map that the lines of a call commit, or why they commit none.
+/// The batch of the map that lines of pending entries and those that came commit, or why they
+/// commit none.
 pub(crate) fn read_batch<R: Threads + RandomSource + Sync>(
     rt: &R,
     alloc: Global,
     done: &DoneRuns,
-    pending: &[Entry],
+    old: Vec<PlacedEntry>,
     came: Vec<Entry>,
     plan: Plan,
 ) -> Result<Batch, Fault>
-    requires { (e : Instance) → Contains pending.now e → ¬ Contains done.now e.id }
-    ensures { let lines = call_lines done.now pending.now came.items in
+    requires { (part : List Instance) × (old.items ≡ lines_from 0 1 part)
+        × ((e : Instance) → Contains part e → ¬ Contains done.now e.id) }
+    ensures { (part : List Instance) → old.items ≡ lines_from 0 1 part →
+        let lines = call_lines done.now part came.items in
         MatchResult result (λ batch. IsMerged lines batch.entries.items × IsBatch done.now
-        batch.entries.items batch.entries.items batch.order batch.positions.items batch.done)
-        (IsMergeFault lines) }
+        batch.entries.items batch.entries.items batch.order batch.positions.items
+        batch.waiters.items batch.done) (IsMergeFault lines) }
 {
-    let merged = merge_call(rt, alloc, done, pending, came)?;
+    let merged = merge_call(rt, alloc, done, old, came)?;
     Ok(batch_of(rt, alloc, done, merged, plan)?)
 }
 
-/// The entries that are not done. They are moved.
-pub(crate) fn keep_left(done: &DoneRuns, entries: Vec<Entry>) -> Vec<Entry>
-    ensures { result.items ≡ not_done done.now entries.items }
+/// The batch of the map that the lines of a call commit, or why they commit none.
+pub(crate) fn next_batch<R: Threads + RandomSource + Sync>(
+    rt: &R,
+    alloc: Global,
+    done: &DoneRuns,
+    pending: &Pending,
+    choice: &Option<Choice>,
+    came: Vec<Entry>,
+    plan: Plan,
+) -> Result<Batch, Fault>
+    requires rising { IsRising (ids_of pending.now) }
+    requires left { (e : Instance) → Contains pending.now e → ¬ Contains done.now e.id }
+    requires choice { IfSome choice.now (λ c. (filings : Filings)
+        × IsChoice done.now pending.now came.items filings c.ids.items c.blocked.items) }
+    ensures { MatchResult result (λ batch. IsNextBatch done.now pending.now came.items choice.now
+        batch.entries.items batch.order batch.positions.items batch.waiters.items batch.done)
+        (IsMergeFault (call_lines done.now pending.now came.items)) }
 {
-    let mut left = entries;
-    left.retain(|entry| is_left(done, entry.id()));
-    left
+    let part = looked_at(alloc, pending, choice)?;
+    let old = pending_lines(alloc, &part)?;
+    read_batch(rt, alloc, done, old, came, plan)
 }

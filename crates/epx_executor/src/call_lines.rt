@@ -1,5 +1,6 @@
 //! The map that the lines of a call commit.
-ghost use Rattle.std.specs.Prelude.{◌≡◌, ◌∷◌, [], ◌++◌, not, IfOk, OnOk, MatchResult};
+ghost use Rattle.std.specs.Prelude.{◌≡◌, ◌∷◌, [], ◌++◌, List, map, not, IfOk, OnOk, MatchResult};
+ghost use Rattle.epx_types.specs.Instances.{Instance};
 ghost use Rattle.epx_types.specs.Done.{is_among};
 ghost use Rattle.epx_committed.specs.MergedLines.{IsMerged, IsMergeFault};
 ghost use Rattle.epx_executor.specs.CallLines.{call_lines, lines_from, lines_not_done};
@@ -18,13 +19,14 @@ pub(crate) fn is_left(done: &DoneRuns, id: Id) -> bool
     !done.contains(id)
 }
 
-/// Copies of the pending entries, on the lines of log 0.
-fn pending_lines(alloc: Global, pending: &[Entry]) -> Result<Vec<PlacedEntry>, Memory>
-    ensures { IfOk result (λ lines. lines.items ≡ lines_from 0 1 pending.now) }
+/// Copies of pending entries, on the lines of log 0.
+pub(crate) fn pending_lines(alloc: Global, entries: &[&Entry]) -> Result<Vec<PlacedEntry>, Memory>
+    ensures { IfOk result
+        (λ lines. lines.items ≡ lines_from 0 1 (map (λ e. e.now) entries.now)) }
 {
     let mut line = 0;
-    let mut lines = Vec::with_capacity(alloc, pending.len())?;
-    for entry in pending {
+    let mut lines = Vec::with_capacity(alloc, entries.len())?;
+    for entry in entries {
         line += 1;
         let copy = entry.copy(alloc)?;
         lines.push(PlacedEntry::new(Place { log: 0, line }, copy))?;
@@ -62,18 +64,18 @@ fn lines_left(alloc: Global, done: &DoneRuns, came: Vec<Entry>) -> Result<Vec<Pl
     Ok(lines)
 }
 
-/// The map that the lines of a call commit, or why they commit none.
+/// The map that lines of pending entries and those that came commit, or why they commit none.
 pub(crate) fn merge_call<R: RandomSource>(
     rt: &R,
     alloc: Global,
     done: &DoneRuns,
-    pending: &[Entry],
+    old: Vec<PlacedEntry>,
     came: Vec<Entry>,
 ) -> Result<Merged, Fault>
-    ensures { let lines = call_lines done.now pending.now came.items in
+    ensures { (part : List Instance) → old.items ≡ lines_from 0 1 part →
+        let lines = call_lines done.now part came.items in
         MatchResult result (IsMerged lines) (IsMergeFault lines) }
 {
-    let old = pending_lines(alloc, pending)?;
     let new = lines_left(alloc, done, came)?;
     let count = old.len().saturating_add(new.len());
     let mut ledger = Ledger::for_lines(alloc, Seed::draw(rt), count);

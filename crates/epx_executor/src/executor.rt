@@ -1,14 +1,18 @@
 //! The executor.
-ghost use Rattle.std.specs.Prelude.{◌≡◌, ◌↔◌, [], Contains};
-ghost use Rattle.std.specs.Prelude.{IsTrue, IfOk, IfErr, OnErr};
+ghost use Rattle.std.specs.Prelude.{◌≡◌, ◌↔◌, [], Contains, length, map};
+ghost use Rattle.std.specs.Prelude.{IsTrue, IfOk, IfErr, IfSome, OnErr};
 ghost use Rattle.std.specs.FinMap as contents;
 ghost use Rattle.epx_committed.specs.MergedLines.{IsMergeFault};
 ghost use Rattle.epx_executor.specs.CallLines.{call_lines};
 ghost use Rattle.epx_executor.specs.Commits.{IsCommit, IsSettled};
 
-use crate::batch::{Batch, keep_left, read_batch};
+use crate::batch::{Batch, next_batch};
+use crate::blockers::Blockers;
+use crate::choose::choose;
 use crate::done_runs::DoneRuns;
 use crate::execute_all::{commands_at, execute_all, store_after};
+use crate::pending::Pending;
+use crate::refile::refile;
 use epx_txn::Store;
 use epx_types::{Entry, Fault, Id, Memory, Plan, Reply};
 use std::alloc::Global;
@@ -19,8 +23,9 @@ use std::thread::Threads;
 
 /// What a replica has executed, its store, and the committed instances that wait.
 ///
-/// `commit` takes time n log n in the pending instances, those that come, their dependencies, and
-/// the runs of done numbers. It does not look at what was executed earlier.
+/// `commit` takes time n log n in the instances that come, the pending ones that may be ready now,
+/// the dependencies of both, and the runs of done numbers. It does not look at what was executed
+/// earlier, nor at what waits behind an instance that has not come.
 ///
 /// Memory holds the store twice. A commit executes on the second one. Then they change places, and
 /// the other one executes the same. So an error leaves the store as it was.
@@ -31,13 +36,18 @@ pub struct Executor {
     /// A second store with the same contents. None at first, and after memory ran out. Then the
     /// next commit copies the store.
     spare: Option<Store>,
-    pending: Vec<Entry>,
+    pending: Pending,
+    /// Behind which instance each pending one waits. None after memory ran out: then the next
+    /// commit looks at all pending ones.
+    blockers: Option<Blockers>,
 }
 
 impl Model for Executor {
     ghost use Rattle.std.specs.Prelude.{◌≡◌, IfSome};
     ghost use Rattle.std.specs.Coded.{codes};
+    ghost use Rattle.epx_types.specs.Done.{remaining};
     ghost use Rattle.epx_executor.specs.Commits.{contents_code, ExecutorView, IsSettled};
+    ghost use Rattle.epx_executor.specs.inner.Choices.{AreFiledIn};
 
     ghost Value = { ExecutorView };
 
@@ -46,14 +56,27 @@ impl Model for Executor {
     ghost view = { λ e. record {
       done = e.done;
       store = e.store;
-      pending = e.pending.items;
+      pending = e.pending;
     } };
 
     ghost invariant = { λ e. IsSettled (record {
       done = e.done;
       store = e.store;
-      pending = e.pending.items;
-    }) × IfSome e.spare (λ s. s ≡ e.store) };
+      pending = e.pending;
+    }) × IfSome e.spare (λ s. s ≡ e.store)
+        × IfSome e.blockers (AreFiledIn (remaining e.done e.pending)) };
+}
+
+/// Takes the second store, or copies the first if there is none.
+fn take_spare(spare: &mut Option<Store>, store: &Store) -> Result<Store, Memory>
+    requires { IfSome spare.old (λ s. s ≡ store.now) }
+    ensures same { IfOk result (λ s. s ≡ store.now) }
+    ensures left { IfSome spare.new (λ s. s ≡ store.now) }
+{
+    match spare.take() {
+        Some(spare) => Ok(spare),
+        None => store.copy(),
+    }
 }
 
 impl Executor {
@@ -61,30 +84,18 @@ impl Executor {
     pub fn new(alloc: Global) -> Executor
         ensures { result ≡ record { done = []; store = contents.empty; pending = [] } }
     {
-        Executor::after(alloc, DoneRuns::new(alloc), Store::new(alloc))
+        Executor::with_none_pending(alloc, DoneRuns::new(alloc), Store::new(alloc))
     }
 
-    /// An executor that goes on after these instances are done and left this store. Its first
-    /// commit copies the store.
-    pub fn after(alloc: Global, done: DoneRuns, store: Store) -> Executor
+    fn with_none_pending(alloc: Global, done: DoneRuns, store: Store) -> Executor
         ensures { result ≡ record { done = done; store = store; pending = [] } }
     {
         Executor {
             done,
             store,
             spare: None,
-            pending: Vec::new(alloc),
-        }
-    }
-
-    /// Takes the second store.
-    fn take_spare(&mut self) -> Result<Store, Memory>
-        ensures same { IfOk result (λ store. store ≡ self.old.store) }
-        ensures unchanged { self.new ≡ self.old }
-    {
-        match self.spare.take() {
-            Some(spare) => Ok(spare),
-            None => self.store.copy(),
+            pending: Pending::new(alloc),
+            blockers: None,
         }
     }
 
@@ -110,30 +121,64 @@ impl Executor {
             (IsMergeFault (call_lines self.old.done self.old.pending came.items)) }
         ensures unchanged { OnErr result (self.new ≡ self.old) }
     {
-        let batch = read_batch(rt, alloc, &self.done, &self.pending, came, plan)?;
+        let choice = choose(alloc, &self.done, &self.pending, &self.blockers, &came)?;
+        let batch = next_batch(rt, alloc, &self.done, &self.pending, &choice, came, plan)?;
         let Batch {
             entries,
             order,
             positions,
+            waiters,
             done,
         } = batch;
-        let spare = self.take_spare()?;
+        let spare = take_spare(&mut self.spare, &self.store)?;
         let commands = commands_at(alloc, &entries, &positions)?;
         let (store, replies) = execute_all(rt, alloc, spare, order.ids(), &commands, plan)?;
+        self.pending.update(alloc, &done, &entries, order.ids())?;
+        // From here on nothing fails.
+        self.blockers = refile(alloc, self.blockers.take(), choice, &waiters);
         let before = replace(&mut self.store, store);
         self.spare = store_after(rt, alloc, before, &commands, plan);
-        drop(commands);
-        self.pending = keep_left(&done, entries);
         self.done = done;
         Ok(replies)
     }
 
     /// The committed instances that wait, by rising Id. None of them is ready.
-    pub fn pending(&self) -> &[Entry]
-        ensures pending { result.now ≡ self.now.pending }
+    pub fn pending(&self, alloc: Global) -> Result<Vec<&Entry>, Memory>
+        ensures pending { IfOk result
+            (λ entries. map (λ e. e.now) entries.items ≡ self.now.pending) }
         ensures settled { IsSettled self.now }
     {
-        self.pending.as_slice()
+        self.pending.entries(alloc)
+    }
+
+    /// An executor that goes on where another one stopped, from what that one holds: its done
+    /// instances, its store and its pending instances. Then there are no replies.
+    ///
+    /// Other instances may be given as pending too. The replies are those of the ones that are
+    /// ready, and the faults are those of `commit`: in their places log 1 is the list `pending`.
+    /// Takes the time of a commit of these, and copies the store.
+    pub fn after<R: Threads + RandomSource + Sync>(
+        rt: &R,
+        alloc: Global,
+        done: DoneRuns,
+        store: Store,
+        pending: Vec<Entry>,
+        plan: Plan,
+    ) -> Result<(Executor, Vec<(Id, Reply)>), Fault>
+        ensures ok { IfOk result (λ v. IsCommit
+            (record { done = done; store = store; pending = [] }) pending.items v.0 v.1.items) }
+        ensures refused { IfErr result (IsMergeFault (call_lines done [] pending.items)) }
+    {
+        let mut executor = Executor::with_none_pending(alloc, done, store);
+        let replies = executor.commit(rt, alloc, pending, plan)?;
+        Ok((executor, replies))
+    }
+
+    /// How many committed instances wait.
+    pub fn pending_len(&self) -> usize
+        ensures { result ≡ length self.now.pending }
+    {
+        self.pending.len()
     }
 
     pub fn store(&self) -> &Store

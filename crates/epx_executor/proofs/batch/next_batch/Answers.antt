@@ -1,0 +1,30 @@
+use Rattle.std.proofs.Common.{List, map, ap, ◌∙◌}
+use Rattle.std.proofs.lemmas.Result.{MatchResult-weaker}
+use Rattle.epx_types.specs.Instances.{Instance}
+use Rattle.epx_executor.specs.CallLines.{lines_from}
+use Rattle.epx_executor.proofs.NextBatchLemmas.{fault_of, next_of, part_is_pending}
+use Rattle.epx_executor.proofs.batch.next_batch.Goals as goal
+
+pub read_batch-requires-after_bounds : goal.read_batch-requires-after_bounds
+read_batch-requires-after_bounds g c κs within =
+    let part : List Instance = map (λ e. e.now) c.in_ok-part.part.items in (
+      part,
+      c.in_ok-old.ensures ∙ ap (λ es. lines_from 0 1 (map (λ e. e.now) es)) c.deref.ensures.value,
+      λ e h. c.requires.left e
+          (part_is_pending c.args.choice.now c.args.pending.now part c.in_ok-part.ensures e h),
+    )
+
+pub returns : goal.returns
+returns g c =
+    let done = c.args.done.now in
+    let pending = c.args.pending.now in
+    let came = c.args.came.items in
+    let choice = c.args.choice.now in
+    let part : List Instance = map (λ e. e.now) c.in_ok-part.part.items in
+    let is = c.in_ok-part.ensures in
+    let lines = c.in_ok-old.ensures
+    ∙ ap (λ es. lines_from 0 1 (map (λ e. e.now) es)) c.deref.ensures.value in
+    MatchResult-weaker c.read_batch.result (c.read_batch.ensures part lines)
+    (λ b h. next_of choice done pending came part b.entries.items b.order b.positions.items
+    b.waiters.items b.done c.requires.rising c.requires.choice is h.0 h.1)
+    (fault_of choice done pending came part c.requires.rising c.requires.choice is)

@@ -1,0 +1,10 @@
+use Rattle.std.proofs.Common.{rules, ◌≡◌, Some}
+use Rattle.std.specs.BTreeMap.{get}
+use Rattle.epx_types.specs.Ids.{id_cmp}
+use Rattle.epx_executor.proofs.FilingMapLemmas.{Contains-retained}
+use Rattle.epx_executor.proofs.blockers.keep_filed.Goals as goal
+
+pub returns : goal.returns
+returns c =
+    Contains-retained _ (λ x. get id_cmp c.args.parents.now x ≡ Some c.args.under) _
+    (λ x b g k. search rules) _ _ c.retain.ensures.filtered
