@@ -26,13 +26,13 @@ use Rattle.epx_types.proofs.graph.ReachingLemmas.{IsReady-reached}
 use Rattle.epx_laws.specs.DoneLaws.{RemainingIsReadyAlike}
 use Rattle.epx_laws.specs.ResumedRunLaws.{CanResume, run_on}
 use Rattle.epx_executor.specs.declared.choose.Choice.{Choice}
-use Rattle.epx_executor.specs.inner.Batches.{IsNextBatch}
+use Rattle.epx_executor.specs.inner.Batches.{IsCallBatch}
 use Rattle.epx_executor.specs.inner.Choices.{IsPassedOver}
 use Rattle.epx_executor.proofs.CallLineLemmas.{merged_are_few, merged_instances}
-use Rattle.epx_executor.proofs.NextBatchLemmas.{is_pending}
+use Rattle.epx_executor.proofs.CallBatchLemmas.{is_pending}
 use Rattle.epx_executor.proofs.OrderedLemmas.{commands_found, few_ids}
 use Rattle.epx_executor.specs.CallLines.{call_lines}
-use Rattle.epx_executor.specs.Commits.{ExecutorView, IsCommit, IsSettled, not_done}
+use Rattle.epx_executor.specs.Commits.{ExecutorView, IsCommit, AllWait, not_done}
 use Rattle.epx_executor.specs.ExecutorLaws.{IsSoundFor}
 use Rattle.epx_executor.proofs.RemainderLemmas.{Contains-not_done, from_not_done, rising_not_done}
 use Rattle.epx_executor.proofs.RemainderLemmas.{remaining-not_done, same_instances}
@@ -70,7 +70,7 @@ pub settled_after : (done now : List Id) (other : List Instance)
     (order : List Ranked) (v : ExecutorView) → IsRising (ids_of other)
     → IsExecutionOrder (remaining done other) order
     → ((x : Id) → Contains now x ↔ (Contains done x ⊎ Contains (ranked_ids order) x))
-    → v.done ≡ now → v.pending ≡ not_done now other → IsSettled v
+    → v.done ≡ now → v.pending ≡ not_done now other → AllWait v
 settled_after done now other order v rising ordered same is left = record {
   rising = subst (λ (m : List Instance). IsRising (ids_of m)) (sym left)
       (rising_not_done now other rising);
@@ -82,7 +82,7 @@ settled_after done now other order v rising ordered same is left = record {
       ∙ remaining-not_done now other) ready);
 }
 
-pub nothing_is_held_back : RemainingIsReadyAlike → (v : ExecutorView) → IsSettled v
+pub nothing_is_held_back : RemainingIsReadyAlike → (v : ExecutorView) → AllWait v
     → (all : List Instance) → IsRising (ids_of all)
     → ((e : Instance) → ¬ Contains v.done e.id → Contains all e ↔ Contains v.pending e)
     → ((x : Id) → Contains v.done x → IsReady all x) →
@@ -132,12 +132,12 @@ zip_at (a ∷ xs) (b ∷ ys) (suc i) x y h = zip_at xs ys i x y h
 module _ (done : List Id) (c : Contents) (pending came : List Instance) (choice : Option Choice)
     (entries : List Instance) (order : List Ranked) (positions : List (Id × ℕ))
     (waiters : List Waiting) (now : List Id)
-    (batch : IsNextBatch done pending came choice entries order positions waiters now) where
+    (batch : IsCallBatch done pending came choice entries order positions waiters now) where
   old : (e : Instance) → Contains pending e → Contains batch.m e
   old = is_pending done pending came choice entries order positions waiters now batch
 
   pub settled_after_batch : (v : ExecutorView) → v.done ≡ now → v.pending ≡ not_done now batch.m
-      → IsSettled v
+      → AllWait v
   settled_after_batch v is also =
       settled_after done now batch.m order v batch.merged.committed.rising batch.ordered
       batch.done_now is also

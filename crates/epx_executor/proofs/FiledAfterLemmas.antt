@@ -14,19 +14,19 @@ use Rattle.epx_types.proofs.lists.MembershipLemmas.{Contains-nil, Contains-map, 
 use Rattle.epx_types.proofs.orders.ExecutionOrderLemmas.{IsExecutionOrder-IsLawful}
 use Rattle.epx_types.proofs.remaining.RemainingLemmas.{Contains-remaining_iff}
 use Rattle.epx_executor.specs.declared.choose.Choice.{Choice}
-use Rattle.epx_executor.specs.inner.Batches.{IsNextBatch}
+use Rattle.epx_executor.specs.inner.Batches.{IsCallBatch}
 use Rattle.epx_executor.specs.inner.Choices.{AreFiledIn, CanRefile, IsBlockedIn, IsChoice}
 use Rattle.epx_executor.specs.inner.Choices.{IsPassedOver, IsRefiled}
 use Rattle.epx_executor.specs.inner.Filings.{Filings}
 use Rattle.epx_executor.proofs.FilingLemmas.{IsFiled-under}
-use Rattle.epx_executor.proofs.NextBatchLemmas.{IsUnion-merged, is_pending}
+use Rattle.epx_executor.proofs.CallBatchLemmas.{IsUnion-merged, is_pending}
 use Rattle.epx_executor.proofs.PartLemmas.{Reaches-left, Reaches-more, remaining-part}
 use Rattle.epx_executor.proofs.RemainderLemmas.{remaining-twice}
 
 module _ (done : List Id) (pending came : List Instance) (choice : Option Choice)
     (entries : List Instance) (order : List Ranked) (positions : List (Id × ℕ))
     (waiters : List Waiting) (now : List Id)
-    (batch : IsNextBatch done pending came choice entries order positions waiters now) where
+    (batch : IsCallBatch done pending came choice entries order positions waiters now) where
   abbrev before : List Instance
   before = remaining done batch.m
 
@@ -85,7 +85,7 @@ module _ (done : List Id) (pending came : List Instance) (choice : Option Choice
 can_refile : (done : List Id) (pending came : List Instance) (c : Choice)
     (entries : List Instance) (order : List Ranked) (positions : List (Id × ℕ))
     (waiters : List Waiting) (now : List Id)
-    (batch : IsNextBatch done pending came (Some c) entries order positions waiters now)
+    (batch : IsCallBatch done pending came (Some c) entries order positions waiters now)
     (filings : Filings) → AreFiledIn (remaining done pending) filings
     → IsChoice done pending came filings c.ids.items c.blocked.items
     → CanRefile (remaining now batch.m) filings c.ids.items c.blocked.items waiters
@@ -144,7 +144,7 @@ IsChoiceOf done pending came before choice = IfSome choice (λ c. (filings : Fil
 pub filed_after : (before : Option Filings) (choice : Option Choice) (done : List Id)
     (pending came : List Instance) (entries : List Instance) (order : List Ranked)
     (positions : List (Id × ℕ)) (waiters : List Waiting) (now : List Id)
-    (batch : IsNextBatch done pending came choice entries order positions waiters now)
+    (batch : IsCallBatch done pending came choice entries order positions waiters now)
     → IfSome before (AreFiledIn (remaining done pending))
     → IsChoiceOf done pending came before choice → (filings : Filings)
     → IsRefiled before choice waiters filings → AreFiledIn (remaining now batch.m) filings

@@ -15,7 +15,7 @@ use Rattle.epx_types.proofs.graph.WaitingLemmas.{Id-cases}
 use Rattle.epx_types.proofs.lists.ComparisonLemmas.{id_cmp_total, id_cmp-IsAntisymmetric}
 use Rattle.epx_types.proofs.lists.MembershipLemmas.{Contains-nil, Contains-head, Contains-cons}
 use Rattle.epx_types.proofs.lists.MembershipLemmas.{Contains-cons_cases}
-use Rattle.epx_executor.specs.inner.Filings.{AreListed, Filings, IsFiled, IsListed}
+use Rattle.epx_executor.specs.inner.Filings.{AreListedUnder, Filings, IsFiled, IsListed}
 use Rattle.epx_executor.proofs.FilingLemmas.{IsFiled-under, filed_under}
 
 -- ---- what a map of the filings holds
@@ -139,19 +139,20 @@ module _ {Z : Type 0} (m n : BTreeMap Id (Vec Id Z)) (id : Id) where
   ]
 
   -- another list for an Id, with all that is filed under it
-  pub AreListed-updated : (filings : Filings) (w : Vec Id Z) → Updates id_cmp m n id (Some w)
-      → ((x : Id) → Contains filings (x, id) → Contains w.items x) → AreListed filings m
-      → AreListed filings n
-  AreListed-updated filings w u kept listed x y h = elim (Id-cases y id) [
+  pub AreListedUnder-updated : (filings : Filings) (w : Vec Id Z) → Updates id_cmp m n id (Some w)
+      → ((x : Id) → Contains filings (x, id) → Contains w.items x) → AreListedUnder filings m
+      → AreListedUnder filings n
+  AreListedUnder-updated filings w u kept listed x y h = elim (Id-cases y id) [
     | inl e ↦ subst (IsListed n x) (sym e)
         (IsListed-here w u x (kept x (subst (λ (z : Id). Contains filings (x, z)) e h)))
     | inr apart ↦ IsListed-other (Some w) u x y apart (listed x y h)
   ]
 
   -- no list for an Id under which nothing is filed
-  pub AreListed-removed : (filings : Filings) → Updates id_cmp m n id None
-      → ((x : Id) → ¬ Contains filings (x, id)) → AreListed filings m → AreListed filings n
-  AreListed-removed filings u none listed x y h = elim (Id-cases y id) [
+  pub AreListedUnder-removed : (filings : Filings) → Updates id_cmp m n id None
+      → ((x : Id) → ¬ Contains filings (x, id)) → AreListedUnder filings m
+      → AreListedUnder filings n
+  AreListedUnder-removed filings u none listed x y h = elim (Id-cases y id) [
     | inl e ↦ absurd (none x (subst (λ (z : Id). Contains filings (x, z)) e h))
     | inr apart ↦ IsListed-other None u x y apart (listed x y h)
   ]
@@ -202,19 +203,19 @@ module _ {X F : Type 0} (R : F → X → Bool → F → Type 0) (P : X → Type 
 
 module _ {Z : Type 0} (parents : BTreeMap Id Id) (m n : BTreeMap Id (Vec Id Z)) (id : Id)
     (list left : Vec Id Z) (order : IsOrdered id_cmp parents)
-    (found : Some list ≡ get id_cmp m id) (listed : AreListed parents.entries m)
+    (found : Some list ≡ get id_cmp m id) (listed : AreListedUnder parents.entries m)
     (keeps : (x : Id) → Contains list.items x → get id_cmp parents x ≡ Some id
     → Contains left.items x) where
   kept_filed : (x : Id) → Contains parents.entries (x, id) → Contains left.items x
   kept_filed x h = keeps x (Contains-from_listed m x id list found (listed x id h))
       (get-from_Contains parents order x id h)
 
-  pub AreListed-kept : Updates id_cmp m n id (Some left) → AreListed parents.entries n
-  AreListed-kept u = AreListed-updated m n id parents.entries left u kept_filed listed
+  pub AreListedUnder-kept : Updates id_cmp m n id (Some left) → AreListedUnder parents.entries n
+  AreListedUnder-kept u = AreListedUnder-updated m n id parents.entries left u kept_filed listed
 
-  pub AreListed-emptied : (o : BTreeMap Id (Vec Id Z)) → Updates id_cmp m n id (Some left)
-      → Updates id_cmp n o id None → left.len ≡ 0 → AreListed parents.entries o
-  AreListed-emptied o u v empty =
-      AreListed-removed n o id parents.entries v
+  pub AreListedUnder-emptied : (o : BTreeMap Id (Vec Id Z)) → Updates id_cmp m n id (Some left)
+      → Updates id_cmp n o id None → left.len ≡ 0 → AreListedUnder parents.entries o
+  AreListedUnder-emptied o u v empty =
+      AreListedUnder-removed n o id parents.entries v
       (λ x h. let there = kept_filed x h in absurd (omega (arith, there.1, left.ok.0, empty)))
-      (AreListed-kept u)
+      (AreListedUnder-kept u)

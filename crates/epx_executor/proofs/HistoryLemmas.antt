@@ -13,7 +13,7 @@ use Rattle.epx_types.proofs.lists.MembershipLemmas.{Contains-nil, Contains-head,
 use Rattle.epx_types.proofs.lists.MembershipLemmas.{Contains-cons_cases}
 use Rattle.epx_types.proofs.remaining.RemainingLemmas.{is_among_cases}
 use Rattle.epx_laws.specs.ResumedRunLaws.{HasReply, whole_run}
-use Rattle.epx_executor.specs.Commits.{ExecutorView, IsCommit, IsSettled}
+use Rattle.epx_executor.specs.Commits.{ExecutorView, IsCommit, AllWait}
 use Rattle.epx_executor.specs.ExecutorLaws.{IsSoundFor, CommittingStaysSound}
 use Rattle.epx_executor.specs.ExecutorLaws.{CommittedRepliesAreThoseOfTheWhole}
 use Rattle.epx_executor.specs.ExecutorLaws.{NothingIsHeldBack, new_executor}
@@ -59,18 +59,18 @@ module _ (m : List Instance) (stays : CommittingStaysSound) where
         ]
 
 settled_by : (came : List Instance) (before after : ExecutorView) (replies : List (Id × Reply))
-    → IsCommit before came after replies → IsSettled after
+    → IsCommit before came after replies → AllWait after
 settled_by came before after replies commit =
     settled_after before.done after.done commit.other commit.order after
     commit.merged.committed.rising commit.ordered commit.done refl commit.pending
 
-pub settled_after_all : (calls : List Call) (before after : ExecutorView) → IsSettled before
-    → AreCommits before calls after → IsSettled after
-settled_after_all [] before after settled are = subst IsSettled are settled
+pub settled_after_all : (calls : List Call) (before after : ExecutorView) → AllWait before
+    → AreCommits before calls after → AllWait after
+settled_after_all [] before after settled are = subst AllWait are settled
 settled_after_all (call ∷ calls) before after settled are =
     settled_after_all calls are.0 after (settled_by call.0 before are.0 call.1 are.1) are.2
 
-pub new_is_settled : IsSettled new_executor
+pub new_is_settled : AllWait new_executor
 new_is_settled = record {
   rising = tt;
   not_done = λ e h. absurd (Contains-nil e h);

@@ -8,7 +8,7 @@ mod PendingLemmas
 mod RefileLemmas
 mod PartLemmas
 mod PartLineLemmas
-mod NextBatchLemmas
+mod CallBatchLemmas
 mod FilingLemmas
 mod FilingMapLemmas
 mod FilingSearchLemmas

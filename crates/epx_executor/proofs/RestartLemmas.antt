@@ -17,7 +17,7 @@ use Rattle.epx_laws.specs.AgreementLaws.{CommittedMapIsUnique}
 use Rattle.epx_laws.specs.OrderLaws.{ExecutionOrderIsUnique}
 use Rattle.epx_laws.specs.ResumedRunLaws.{run_on}
 use Rattle.epx_executor.specs.CallLines.{call_lines, lines_from, lines_not_done}
-use Rattle.epx_executor.specs.Commits.{ExecutorView, IsCommit, IsSettled, not_done}
+use Rattle.epx_executor.specs.Commits.{ExecutorView, IsCommit, AllWait, not_done}
 use Rattle.epx_executor.specs.ExecutorLaws.{HoldTheSame}
 use Rattle.epx_executor.proofs.CallLineLemmas.{merged_instances}
 use Rattle.epx_executor.proofs.FilterLemmas.{filter-agree}
@@ -115,7 +115,7 @@ none_ordered : (ids : List Id) → ((x : Id) → ¬ Contains ids x) → ids ≡ 
 none_ordered [] none = refl
 none_ordered (x ∷ ids) none = absurd (none x (Contains-head x ids))
 
-module _ (v : ExecutorView) (settled : IsSettled v) (done : List Id)
+module _ (v : ExecutorView) (settled : AllWait v) (done : List Id)
     (same : (x : Id) → Contains done x ↔ Contains v.done x) (after : ExecutorView)
     (replies : List (Id × Reply))
     (commit : IsCommit (record { done = done; store = v.store; pending = [] }) v.pending after

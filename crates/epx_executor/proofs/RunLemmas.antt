@@ -25,8 +25,8 @@ use Rattle.epx_types.proofs.lists.MembershipLemmas.{Contains-flat_map, Contains-
 use Rattle.epx_types.proofs.lists.TotalOrderLemmas.{below_trans, below_cases}
 use Rattle.epx_executor.specs.declared.done_runs.Run.{Run}
 use Rattle.epx_executor.specs.contracts.done_runs.RunOrd.TheImpl as run_ord
-use Rattle.epx_executor.specs.Runs.{AreFilled, AreRuns, BeginInOrder, first_of, ids_in}
-use Rattle.epx_executor.specs.Runs.{ids_of_run, IsFilled, IsInRun, IsInRuns, last_of}
+use Rattle.epx_executor.specs.Runs.{AreFilled, AreRuns, BeginInOrder, start_of, ids_in}
+use Rattle.epx_executor.specs.Runs.{ids_of_run, IsFilled, IsInRun, IsInRuns, end_of}
 
 -- ---- the Ids of runs
 
@@ -98,36 +98,36 @@ Below-from_lt x y h = lt_of_fields (nat_cmp x.replica y.replica) (nat_cmp x.numb
 
 -- a run that is not less than another one does not begin before it
 pub Run-by_first : (a b : Run) → is_lt (run_ord.cmp-value.it b a) ≡ false
-    → UpTo (first_of a) (first_of b)
+    → UpTo (start_of a) (start_of b)
 Run-by_first a b h =
-    elim (below_cases id_cmp_total id_cmp-IsAntisymmetric (first_of a) (first_of b)) [
+    elim (below_cases id_cmp_total id_cmp-IsAntisymmetric (start_of a) (start_of b)) [
       | inl lower ↦ inr lower
       | inr (inl same) ↦ inl same
-      | inr (inr back) ↦ absurd (less (below_numbers (first_of b) (first_of a) back))
+      | inr (inr back) ↦ absurd (less (below_numbers (start_of b) (start_of a) back))
     ]
   where
     less : (b.replica < a.replica) ⊎ (b.replica ≡ a.replica) × (b.first < a.first) → ⊥
     less k = grind (arith, nat_tests)
 
 -- an Id in a run is not below its first one
-pub in_run_from : (r : Run) (x : Id) → IsInRun r x → ¬ Below x (first_of r)
-in_run_from r x h l = elim (below_numbers x (first_of r) l) [
+pub in_run_from : (r : Run) (x : Id) → IsInRun r x → ¬ Below x (start_of r)
+in_run_from r x h l = elim (below_numbers x (start_of r) l) [
   | inl lower ↦ absurd (omega (arith, h.0))
   | inr same ↦ absurd (omega (arith, h.1, same.1))
 ]
 
 -- the last Id of a run is not below an Id in it
-pub in_run_upto : (r : Run) (x : Id) → IsInRun r x → ¬ Below (last_of r) x
-in_run_upto r x h l = elim (below_numbers (last_of r) x l) [
+pub in_run_upto : (r : Run) (x : Id) → IsInRun r x → ¬ Below (end_of r) x
+in_run_upto r x h l = elim (below_numbers (end_of r) x l) [
   | inl lower ↦ absurd (omega (arith, h.0))
   | inr same ↦ absurd (omega (arith, h.2, same.1))
 ]
 
 -- the first Id of a run, and the last one
-first_upto_last : (r : Run) → IsFilled r → UpTo (first_of r) (last_of r)
+first_upto_last : (r : Run) → IsFilled r → UpTo (start_of r) (end_of r)
 first_upto_last r filled = elim (cases_eq r.first r.last) [
   | inl same ↦ inl (ap (λ (n : ℕ). record { replica = r.replica; number = n }) same)
-  | inr other ↦ inr (below_from_numbers (first_of r) (last_of r) (inr (refl, omega arith)))
+  | inr other ↦ inr (below_from_numbers (start_of r) (end_of r) (inr (refl, omega arith)))
 ]
 
 upto_below : (x y z : Id) → UpTo x y → Below y z → Below x z
@@ -146,10 +146,10 @@ upto_trans x y z (inr k) (inr l) = inr (below_trans id_cmp_total x y z k l)
 -- ---- runs that are appended
 
 pub AreRuns-push : (runs : List Run) (run : Run) → AreRuns runs → IsFilled run
-    → All (λ r. Below (last_of r) (first_of run)) runs → AreRuns (runs ++ run ∷ [])
+    → All (λ r. Below (end_of r) (start_of run)) runs → AreRuns (runs ++ run ∷ [])
 AreRuns-push runs run are filled apart = record {
   filled = All-push IsFilled runs run are.filled filled;
-  apart = all_pairs_push (λ a b. Below (last_of a) (first_of b)) runs run are.apart apart;
+  apart = all_pairs_push (λ a b. Below (end_of a) (start_of b)) runs run are.apart apart;
 }
 
 -- the first run
@@ -196,28 +196,28 @@ module _ (runs front : List Run) (last : Run) (parts : runs ≡ front ++ last �
   pub AreRuns-front : AreRuns front
   AreRuns-front = record {
     filled = front_filled.0;
-    apart = AllPairs-front (λ a b. Below (last_of a) (first_of b)) front last are_parts.apart;
+    apart = AllPairs-front (λ a b. Below (end_of a) (start_of b)) front last are_parts.apart;
   }
 
-  front_apart : All (λ r. Below (last_of r) (first_of last)) front
-  front_apart = AllPairs-last (λ a b. Below (last_of a) (first_of b)) front last are_parts.apart
+  front_apart : All (λ r. Below (end_of r) (start_of last)) front
+  front_apart = AllPairs-last (λ a b. Below (end_of a) (start_of b)) front last are_parts.apart
 
   -- the last one is lengthened
-  pub AreRuns-lengthened : (joined : Run) → first_of joined ≡ first_of last → IsFilled joined
+  pub AreRuns-lengthened : (joined : Run) → start_of joined ≡ start_of last → IsFilled joined
       → AreRuns (front ++ joined ∷ [])
   AreRuns-lengthened joined same filled =
       AreRuns-push front joined AreRuns-front filled
-      (λ k d l. subst (Below (last_of (get_or front k d))) (sym same) (front_apart k d l))
+      (λ k d l. subst (Below (end_of (get_or front k d))) (sym same) (front_apart k d l))
 
   -- a run after the last one
-  pub AreRuns-after : (run : Run) → Below (last_of last) (first_of run) → IsFilled run
+  pub AreRuns-after : (run : Run) → Below (end_of last) (start_of run) → IsFilled run
       → AreRuns ((front ++ last ∷ []) ++ run ∷ [])
   AreRuns-after run apart filled =
       AreRuns-push (front ++ last ∷ []) run are_parts filled
-      (All-push (λ r. Below (last_of r) (first_of run)) front last
-      (λ k d l. below_trans id_cmp_total (last_of (get_or front k d)) (first_of last) (first_of run)
+      (All-push (λ r. Below (end_of r) (start_of run)) front last
+      (λ k d l. below_trans id_cmp_total (end_of (get_or front k d)) (start_of last) (start_of run)
       (front_apart k d l)
-      (upto_below (first_of last) (last_of last) (first_of run)
+      (upto_below (start_of last) (end_of last) (start_of run)
       (first_upto_last last front_filled.1) apart)) apart)
 
 -- the Ids in runs of which one is appended
@@ -262,50 +262,50 @@ IsInRuns-lengthened runs front last run joined parts same x = (there, back) wher
 
 -- sorted runs begin in order
 module _ (cmp : Run → Run → Ordering) (runs : List Run)
-    (by_first : (a b : Run) → is_lt (cmp b a) ≡ false → UpTo (first_of a) (first_of b))
+    (by_first : (a b : Run) → is_lt (cmp b a) ≡ false → UpTo (start_of a) (start_of b))
     (sorted : IsSorted cmp runs) where
   begin_next : (k : ℕ) (d : Run) → k + 1 < length runs
-      → UpTo (first_of (get_or runs k d)) (first_of (get_or runs (k + 1) d))
+      → UpTo (start_of (get_or runs k d)) (start_of (get_or runs (k + 1) d))
   begin_next k d l = by_first (get_or runs k d) (get_or runs (k + 1) d)
       (sorted k d (omega arith) l)
 
   begin_later : (n k : ℕ) (d : Run) → k + (n + 1) < length runs
-      → UpTo (first_of (get_or runs k d)) (first_of (get_or runs (k + (n + 1)) d))
+      → UpTo (start_of (get_or runs k d)) (start_of (get_or runs (k + (n + 1)) d))
   begin_later zero k d l = begin_next k d l
   begin_later (suc n) k d l =
       let e : k + 1 + (n + 1) ≡ k + (suc n + 1) = omega arith in
-      upto_trans (first_of (get_or runs k d)) (first_of (get_or runs (k + 1) d))
-      (first_of (get_or runs (k + (suc n + 1)) d))
+      upto_trans (start_of (get_or runs k d)) (start_of (get_or runs (k + 1) d))
+      (start_of (get_or runs (k + (suc n + 1)) d))
       (begin_next k d (omega arith))
-      (subst (λ (m : ℕ). UpTo (first_of (get_or runs (k + 1) d)) (first_of (get_or runs m d))) e
+      (subst (λ (m : ℕ). UpTo (start_of (get_or runs (k + 1) d)) (start_of (get_or runs m d))) e
       (begin_later n (k + 1) d (omega arith)))
 
   pub BeginInOrder-from_sorted : BeginInOrder runs
   BeginInOrder-from_sorted i j d l k =
       let e : i + (j - i - 1 + 1) ≡ j = omega arith in
-      subst (λ (m : ℕ). UpTo (first_of (get_or runs i d)) (first_of (get_or runs m d))) e
+      subst (λ (m : ℕ). UpTo (start_of (get_or runs i d)) (start_of (get_or runs m d))) e
       (begin_later (j - i - 1) i d (omega arith))
 
 -- the first n of some runs, with their numbers in runs that lie apart
 pub record AreJoined (sorted : List Run) (n : ℕ) (runs : List Run) : Type 0 where
   pub apart : AreRuns runs
   pub after : (k : ℕ) (d : Run) → n ≤ k → k < length sorted
-      → All (λ r. UpTo (first_of r) (first_of (get_or sorted k d))) runs
+      → All (λ r. UpTo (start_of r) (start_of (get_or sorted k d))) runs
   pub members : (x : Id) → IsInRuns runs x ↔ IsInRuns (take n sorted) x
 
 pub AreJoined-more : (sorted : List Run) (n : ℕ) (d : Run) (runs more : List Run)
     → BeginInOrder sorted → n < length sorted → AreJoined sorted n runs → AreRuns more
-    → All (λ r. UpTo (first_of r) (first_of (get_or sorted n d))) more
+    → All (λ r. UpTo (start_of r) (start_of (get_or sorted n d))) more
     → ((x : Id) → IsInRuns more x ↔ (IsInRuns runs x ⊎ IsInRun (get_or sorted n d) x))
     → AreJoined sorted (n + 1) more
 AreJoined-more sorted n d runs more order l joined are after members = record {
   apart = are;
   after = λ k e low m. λ j f p.
-      let here : UpTo (first_of (get_or more j f)) (first_of (get_or sorted n e)) =
-      subst (λ (r : Run). UpTo (first_of (get_or more j f)) (first_of r))
+      let here : UpTo (start_of (get_or more j f)) (start_of (get_or sorted n e)) =
+      subst (λ (r : Run). UpTo (start_of (get_or more j f)) (start_of r))
       (get_or_default sorted n d e l) (after j f p) in
-      upto_trans (first_of (get_or more j f)) (first_of (get_or sorted n e))
-      (first_of (get_or sorted k e)) here (order n k e (omega arith) m);
+      upto_trans (start_of (get_or more j f)) (start_of (get_or sorted n e))
+      (start_of (get_or sorted k e)) here (order n k e (omega arith) m);
   members = λ x. subst (λ (xs : List Run). IsInRuns more x ↔ IsInRuns xs x)
       (sym (take_more sorted n d l)) (
         λ h. (IsInRuns-push (take n sorted) (get_or sorted n d) x).1 (elim ((members x).0 h) [
@@ -387,38 +387,38 @@ module _ (runs : List Run) (are : AreRuns runs) (middle : ℕ) (e : Run)
     (within : middle < length runs) (x : Id) (k : ℕ) (d : Run) (l : k < length runs)
     (there : IsInRun (get_or runs k d) x) where
   -- all runs from the middle on are after the Id
-  pub run_before : Below x (first_of (get_or runs middle e)) → k < middle
+  pub run_before : Below x (start_of (get_or runs middle e)) → k < middle
   run_before lower = elim (cases_lt k middle) [
     | inl before ↦ before
     | inr from ↦ absurd (in_run_from (get_or runs k d) x there (elim (cases_eq middle k) [
-      | inl same ↦ subst (λ (r : Run). Below x (first_of r))
+      | inl same ↦ subst (λ (r : Run). Below x (start_of r))
           (get_or_default runs middle e d within ∙ ap (λ (n : ℕ). get_or runs n d) same) lower
       | inr other ↦
-          let mine : Below x (first_of (get_or runs middle d)) =
-          subst (λ (r : Run). Below x (first_of r)) (get_or_default runs middle e d within)
+          let mine : Below x (start_of (get_or runs middle d)) =
+          subst (λ (r : Run). Below x (start_of r)) (get_or_default runs middle e d within)
           lower in
-          below_trans id_cmp_total x (last_of (get_or runs middle d))
-          (first_of (get_or runs k d))
-          (below_upto x (first_of (get_or runs middle d)) (last_of (get_or runs middle d)) mine
+          below_trans id_cmp_total x (end_of (get_or runs middle d))
+          (start_of (get_or runs k d))
+          (below_upto x (start_of (get_or runs middle d)) (end_of (get_or runs middle d)) mine
           (first_upto_last (get_or runs middle d) (are.filled middle d within)))
           (are.apart middle k d (omega arith) l)
     ]))
   ]
 
   -- all runs up to the middle are before the Id
-  pub run_after : Below (last_of (get_or runs middle e)) x → middle < k
+  pub run_after : Below (end_of (get_or runs middle e)) x → middle < k
   run_after upper = elim (cases_lt middle k) [
     | inl after ↦ after
     | inr upto ↦ absurd (in_run_upto (get_or runs k d) x there (elim (cases_eq middle k) [
-      | inl same ↦ subst (λ (r : Run). Below (last_of r) x)
+      | inl same ↦ subst (λ (r : Run). Below (end_of r) x)
           (get_or_default runs middle e d within ∙ ap (λ (n : ℕ). get_or runs n d) same) upper
       | inr other ↦
-          let mine : Below (last_of (get_or runs middle d)) x =
-          subst (λ (r : Run). Below (last_of r) x) (get_or_default runs middle e d within)
+          let mine : Below (end_of (get_or runs middle d)) x =
+          subst (λ (r : Run). Below (end_of r) x) (get_or_default runs middle e d within)
           upper in
-          below_trans id_cmp_total (last_of (get_or runs k d)) (first_of (get_or runs middle d)) x
+          below_trans id_cmp_total (end_of (get_or runs k d)) (start_of (get_or runs middle d)) x
           (are.apart k middle d (omega arith) within)
-          (upto_below (first_of (get_or runs middle d)) (last_of (get_or runs middle d)) x
+          (upto_below (start_of (get_or runs middle d)) (end_of (get_or runs middle d)) x
           (first_upto_last (get_or runs middle d) (are.filled middle d within)) mine)
     ]))
   ]

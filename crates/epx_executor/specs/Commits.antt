@@ -27,7 +27,7 @@ abbrev pub not_done : List Id → List Instance → List Instance
 not_done done m = filter (λ e. not (is_among done e.id)) m
 
 -- no pending instance is done or ready
-pub record IsSettled (v : ExecutorView) : Type 0 where
+pub record AllWait (v : ExecutorView) : Type 0 where
   pub rising : IsRising (ids_of v.pending)
   pub not_done : (e : Instance) → Contains v.pending e → ¬ Contains v.done e.id
   pub none_ready : (x : Id) → ¬ IsReady (remaining v.done v.pending) x

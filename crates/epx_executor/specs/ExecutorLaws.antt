@@ -12,7 +12,7 @@ use Rattle.epx_types.specs.Instances.{Instance}
 use Rattle.epx_types.specs.Readiness.{IsReady}
 use Rattle.epx_types.specs.Sound.{IsSound, HasRemaining}
 use Rattle.epx_laws.specs.ResumedRunLaws.{HasReply, whole_run}
-use Rattle.epx_executor.specs.Commits.{ExecutorView, IsCommit, IsSettled}
+use Rattle.epx_executor.specs.Commits.{ExecutorView, IsCommit, AllWait}
 
 -- nothing is done, and the store is empty
 abbrev pub new_executor : ExecutorView
@@ -53,7 +53,7 @@ AllCommittedIsTheWhole = (m : List Instance) (v : ExecutorView) → IsSoundFor m
 -- after a commit no pending instance is done or ready
 abbrev pub CommitLeavesNoneReady : Type 0
 CommitLeavesNoneReady = (came : List Instance) (before after : ExecutorView)
-    (replies : List (Id × Reply)) → IsCommit before came after replies → IsSettled after
+    (replies : List (Id × Reply)) → IsCommit before came after replies → AllWait after
 
 -- if the instances of a map that are not done are those that are pending or come, its remaining map
 -- is the one that the commit executes
@@ -67,7 +67,7 @@ CommitResumesAllThatCame = (came : List Instance) (before after : ExecutorView)
 
 -- if the instances of a map that are not done are the pending ones, none of them is ready in it
 abbrev pub NothingIsHeldBack : Type 0
-NothingIsHeldBack = (v : ExecutorView) → IsSettled v → (all : List Instance)
+NothingIsHeldBack = (v : ExecutorView) → AllWait v → (all : List Instance)
     → IsRising (ids_of all)
     → ((e : Instance) → ¬ Contains v.done e.id → Contains all e ↔ Contains v.pending e)
     → ((x : Id) → Contains v.done x → IsReady all x) →
@@ -95,7 +95,7 @@ SameExecutorsCommitAlike = (v w : ExecutorView) → HoldTheSame v w → (came : 
 -- an executor that starts with what another one has done and stored, and commits what is pending
 -- there, replies nothing and holds the same
 abbrev pub RestartedExecutorHoldsTheSame : Type 0
-RestartedExecutorHoldsTheSame = (v : ExecutorView) → IsSettled v →
+RestartedExecutorHoldsTheSame = (v : ExecutorView) → AllWait v →
     (done : List Id) → ((x : Id) → Contains done x ↔ Contains v.done x) →
     (after : ExecutorView) (replies : List (Id × Reply))
     → IsCommit (record { done = done; store = v.store; pending = [] }) v.pending after replies

@@ -12,11 +12,11 @@ IsInRun r x = (x.replica ≡ r.replica) × (r.first ≤ x.number) × (x.number �
 abbrev pub IsInRuns : List Run → Id → Type 0
 IsInRuns runs x = (r : Run) × Contains runs r × IsInRun r x
 
-abbrev pub first_of : Run → Id
-first_of r = record { replica = r.replica; number = r.first }
+abbrev pub start_of : Run → Id
+start_of r = record { replica = r.replica; number = r.first }
 
-abbrev pub last_of : Run → Id
-last_of r = record { replica = r.replica; number = r.last }
+abbrev pub end_of : Run → Id
+end_of r = record { replica = r.replica; number = r.last }
 
 -- a run has a number
 abbrev pub IsFilled : Run → Type 0
@@ -27,12 +27,12 @@ AreFilled runs = All IsFilled runs
 
 -- no run begins before an earlier one
 abbrev pub BeginInOrder : List Run → Type 0
-BeginInOrder runs = AllPairs (λ a b. UpTo (first_of a) (first_of b)) runs
+BeginInOrder runs = AllPairs (λ a b. UpTo (start_of a) (start_of b)) runs
 
 -- the runs have numbers, and each ends before the next ones begin
 pub record AreRuns (runs : List Run) : Type 0 where
   pub filled : AreFilled runs
-  pub apart : AllPairs (λ a b. Below (last_of a) (first_of b)) runs
+  pub apart : AllPairs (λ a b. Below (end_of a) (start_of b)) runs
 
 unfoldable pub ids_of_run : Run → List Id
 ids_of_run r = map (λ n. record { replica = r.replica; number = n })

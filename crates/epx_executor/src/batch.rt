@@ -10,7 +10,7 @@ ghost use Rattle.epx_types.specs.Instances.{Instance};
 ghost use Rattle.epx_committed.specs.MergedLines.{IsMerged, IsMergeFault};
 ghost use Rattle.epx_types.specs.WaitingLists.{IsWaitingList};
 ghost use Rattle.epx_executor.specs.CallLines.{call_lines, lines_from};
-ghost use Rattle.epx_executor.specs.inner.Batches.{AreDoneDeps, IsBatch, IsNextBatch};
+ghost use Rattle.epx_executor.specs.inner.Batches.{AreDoneDeps, IsMapBatch, IsCallBatch};
 ghost use Rattle.epx_executor.specs.inner.Choices.{IsChoice};
 ghost use Rattle.epx_executor.specs.inner.Filings.{Filings};
 
@@ -111,7 +111,7 @@ fn batch_of<R: Threads + Sync>(
     plan: Plan,
 ) -> Result<Batch, Memory>
     requires { (x : Id) → Contains (ids_of merged) x → ¬ Contains done.now x }
-    ensures { IfOk result (λ batch. IsBatch done.now merged
+    ensures { IfOk result (λ batch. IsMapBatch done.now merged
         batch.entries.items batch.order batch.positions.items batch.waiters.items batch.done) }
 {
     let (order, waiters) = order_remaining(rt, alloc, done, &merged, plan)?;
@@ -141,7 +141,7 @@ pub(crate) fn read_batch<R: Threads + RandomSource + Sync>(
         × ((e : Instance) → Contains part e → ¬ Contains done.now e.id) }
     ensures { (part : List Instance) → old.items ≡ lines_from 0 1 part →
         let lines = call_lines done.now part came.items in
-        MatchResult result (λ batch. IsMerged lines batch.entries.items × IsBatch done.now
+        MatchResult result (λ batch. IsMerged lines batch.entries.items × IsMapBatch done.now
         batch.entries.items batch.entries.items batch.order batch.positions.items
         batch.waiters.items batch.done) (IsMergeFault lines) }
 {
@@ -163,7 +163,7 @@ pub(crate) fn next_batch<R: Threads + RandomSource + Sync>(
     requires left { (e : Instance) → Contains pending.now e → ¬ Contains done.now e.id }
     requires choice { IfSome choice.now (λ c. (filings : Filings)
         × IsChoice done.now pending.now came.items filings c.ids.items c.blocked.items) }
-    ensures { MatchResult result (λ batch. IsNextBatch done.now pending.now came.items choice.now
+    ensures { MatchResult result (λ batch. IsCallBatch done.now pending.now came.items choice.now
         batch.entries.items batch.order batch.positions.items batch.waiters.items batch.done)
         (IsMergeFault (call_lines done.now pending.now came.items)) }
 {

@@ -77,14 +77,14 @@ pub(crate) struct Blockers {
 impl Model for Blockers {
     ghost use Rattle.std.specs.BTreeMap.{IsOrdered};
     ghost use Rattle.epx_types.specs.Ids.{id_cmp};
-    ghost use Rattle.epx_executor.specs.inner.Filings.{AreFilings, AreListed, Filings};
+    ghost use Rattle.epx_executor.specs.inner.Filings.{AreFilings, AreListedUnder, Filings};
 
     ghost Value = { Filings };
 
     ghost view = { λ b. b.parents.entries };
 
     ghost invariant = { λ b. AreFilings b.parents.entries × IsOrdered id_cmp b.parents
-        × AreListed b.parents.entries b.children };
+        × AreListedUnder b.parents.entries b.children };
 }
 
 impl Blockers {

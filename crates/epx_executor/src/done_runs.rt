@@ -3,8 +3,8 @@ ghost use Rattle.std.specs.Prelude.{◌≡◌, ◌↔◌, ◌⊎◌, [], All, Co
 ghost use Rattle.std.specs.Prelude.{IfOk, IfSome, IfNone, OnOk, OnErr};
 ghost use Rattle.epx_types.specs.declared.id.Id.{Id};
 ghost use Rattle.epx_types.specs.Ids.{Below, UpTo};
-ghost use Rattle.epx_executor.specs.Runs.{AreFilled, AreRuns, BeginInOrder, first_of};
-ghost use Rattle.epx_executor.specs.Runs.{ids_in, IsFilled, IsInRun, IsInRuns, last_of};
+ghost use Rattle.epx_executor.specs.Runs.{AreFilled, AreRuns, BeginInOrder, start_of};
+ghost use Rattle.epx_executor.specs.Runs.{ids_in, IsFilled, IsInRun, IsInRuns, end_of};
 
 use epx_types::{Id, Memory};
 use std::alloc::Global;
@@ -33,7 +33,7 @@ impl Run {
     }
 
     fn first_id(self) -> Id
-        ensures { result ≡ first_of self }
+        ensures { result ≡ start_of self }
     {
         Id {
             replica: self.replica,
@@ -42,7 +42,7 @@ impl Run {
     }
 
     fn last_id(self) -> Id
-        ensures { result ≡ last_of self }
+        ensures { result ≡ end_of self }
     {
         Id {
             replica: self.replica,
@@ -54,12 +54,12 @@ impl Run {
     /// one.
     fn join(self, next: Run) -> Option<Run>
         requires filled { IsFilled self × IsFilled next }
-        requires order { UpTo (first_of self) (first_of next) }
-        ensures first { IfSome result (λ r. first_of r ≡ first_of self) }
+        requires order { UpTo (start_of self) (start_of next) }
+        ensures first { IfSome result (λ r. start_of r ≡ start_of self) }
         ensures filled { IfSome result (λ r. IsFilled r) }
         ensures members { IfSome result
             (λ r. (x : Id) → IsInRun r x ↔ (IsInRun self x ⊎ IsInRun next x)) }
-        ensures apart { IfNone result (Below (last_of self) (first_of next)) }
+        ensures apart { IfNone result (Below (end_of self) (start_of next)) }
     {
         if self.replica != next.replica || self.last.saturating_add(1) < next.first {
             return None;
@@ -75,10 +75,10 @@ impl Run {
 /// last run, that one is lengthened.
 fn push_run(runs: &mut Vec<Run>, run: Run) -> Result<(), Memory>
     requires filled { IsFilled run }
-    requires after { All (λ r. UpTo (first_of r) (first_of run)) runs.old.items }
+    requires after { All (λ r. UpTo (start_of r) (start_of run)) runs.old.items }
     requires runs { AreRuns runs.old.items }
     ensures runs { OnOk result (AreRuns runs.new.items) }
-    ensures after { OnOk result (All (λ r. UpTo (first_of r) (first_of run)) runs.new.items) }
+    ensures after { OnOk result (All (λ r. UpTo (start_of r) (start_of run)) runs.new.items) }
     ensures members { OnOk result ((x : Id)
         → IsInRuns runs.new.items x ↔ (IsInRuns runs.old.items x ⊎ IsInRun run x)) }
 {

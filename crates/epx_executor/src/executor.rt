@@ -4,7 +4,7 @@ ghost use Rattle.std.specs.Prelude.{IsTrue, IfOk, IfErr, IfSome, OnErr};
 ghost use Rattle.std.specs.FinMap as contents;
 ghost use Rattle.epx_committed.specs.MergedLines.{IsMergeFault};
 ghost use Rattle.epx_executor.specs.CallLines.{call_lines};
-ghost use Rattle.epx_executor.specs.Commits.{IsCommit, IsSettled};
+ghost use Rattle.epx_executor.specs.Commits.{IsCommit, AllWait};
 
 use crate::batch::{Batch, next_batch};
 use crate::blockers::Blockers;
@@ -46,7 +46,7 @@ impl Model for Executor {
     ghost use Rattle.std.specs.Prelude.{◌≡◌, IfSome};
     ghost use Rattle.std.specs.Coded.{codes};
     ghost use Rattle.epx_types.specs.Done.{remaining};
-    ghost use Rattle.epx_executor.specs.Commits.{contents_code, ExecutorView, IsSettled};
+    ghost use Rattle.epx_executor.specs.Commits.{contents_code, ExecutorView, AllWait};
     ghost use Rattle.epx_executor.specs.inner.Choices.{AreFiledIn};
 
     ghost Value = { ExecutorView };
@@ -59,7 +59,7 @@ impl Model for Executor {
       pending = e.pending;
     } };
 
-    ghost invariant = { λ e. IsSettled (record {
+    ghost invariant = { λ e. AllWait (record {
       done = e.done;
       store = e.store;
       pending = e.pending;
@@ -146,7 +146,7 @@ impl Executor {
     pub fn pending(&self, alloc: Global) -> Result<Vec<&Entry>, Memory>
         ensures pending { IfOk result
             (λ entries. map (λ e. e.now) entries.items ≡ self.now.pending) }
-        ensures settled { IsSettled self.now }
+        ensures settled { AllWait self.now }
     {
         self.pending.entries(alloc)
     }

@@ -21,7 +21,7 @@ pub record AreDoneDeps (done : List Id) (m : List Instance) (found : List Id) : 
 
 -- the entries of the map, the execution order of its remaining map with the positions of the
 -- instances, the waiting list of that map, and what is done after it
-pub record IsBatch (done : List Id) (m entries : List Instance) (order : List Ranked)
+pub record IsMapBatch (done : List Id) (m entries : List Instance) (order : List Ranked)
     (positions : List (Id × ℕ)) (waiters : List Waiting) (now : List Id) : Type 0 where
   pub same : entries ≡ m
   pub ordered : IsExecutionOrder (remaining done m) order
@@ -32,7 +32,7 @@ pub record IsBatch (done : List Id) (m entries : List Instance) (order : List Ra
 
 -- The batch of the map m that the lines of a call commit. The entries are those of m at which the
 -- call looks. The others are pending and not ready
-pub record IsNextBatch (done : List Id) (pending came : List Instance) (choice : Option Choice)
+pub record IsCallBatch (done : List Id) (pending came : List Instance) (choice : Option Choice)
     (entries : List Instance) (order : List Ranked) (positions : List (Id × ℕ))
     (waiters : List Waiting) (now : List Id) : Type 0 where
   pub m : List Instance

@@ -37,8 +37,8 @@ abbrev pub IsListed : {Z : Type 0} → BTreeMap Id (Vec Id Z) → Id → Id → 
 IsListed children x y = MatchOption (get id_cmp children y) ⊥ (λ v. Contains v.items x)
 
 -- what is filed under an Id is in its list
-abbrev pub AreListed : {Z : Type 0} → Filings → BTreeMap Id (Vec Id Z) → Type 0
-AreListed filings children = (x y : Id) → Contains filings (x, y) → IsListed children x y
+abbrev pub AreListedUnder : {Z : Type 0} → Filings → BTreeMap Id (Vec Id Z) → Type 0
+AreListedUnder filings children = (x y : Id) → Contains filings (x, y) → IsListed children x y
 
 -- a search keeps what it found in a set too, each once
 pub record AreSeen (seen : BTreeSet Id) (found : List Id) : Type 0 where

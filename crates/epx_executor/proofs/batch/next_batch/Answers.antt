@@ -2,7 +2,7 @@ use Rattle.std.proofs.Common.{List, map, ap, ◌∙◌}
 use Rattle.std.proofs.lemmas.Result.{MatchResult-weaker}
 use Rattle.epx_types.specs.Instances.{Instance}
 use Rattle.epx_executor.specs.CallLines.{lines_from}
-use Rattle.epx_executor.proofs.NextBatchLemmas.{fault_of, next_of, part_is_pending}
+use Rattle.epx_executor.proofs.CallBatchLemmas.{fault_of, next_of, part_is_pending}
 use Rattle.epx_executor.proofs.batch.next_batch.Goals as goal
 
 pub read_batch-requires-after_bounds : goal.read_batch-requires-after_bounds

@@ -3,7 +3,7 @@ use Rattle.std.proofs.lemmas.List.Elements.{All-push, All-pop}
 use Rattle.epx_types.specs.declared.id.Id.{Id}
 use Rattle.epx_types.specs.Ids.{UpTo}
 use Rattle.epx_executor.specs.declared.done_runs.Run.{Run}
-use Rattle.epx_executor.specs.Runs.{AreRuns, first_of, IsInRun, IsInRuns}
+use Rattle.epx_executor.specs.Runs.{AreRuns, start_of, IsInRun, IsInRuns}
 use Rattle.epx_executor.proofs.RunLemmas.{AreRuns-lengthened, IsInRuns-lengthened, AreRuns-after}
 use Rattle.epx_executor.proofs.RunLemmas.{AreRuns-first}
 use Rattle.epx_executor.proofs.done_runs.push_run.Goals as goal
@@ -18,12 +18,12 @@ returns-in-Some-join-clause-runs c =
 
 pub returns-in-Some-join-clause-after : goal.returns-in-Some-join-clause-after
 returns-in-Some-join-clause-after c =
-    let P : Run → Type 0 = λ r. UpTo (first_of r) (first_of c.args.run) in
+    let P : Run → Type 0 = λ r. UpTo (start_of r) (start_of c.args.run) in
     let old = All-pop P c.args.runs.now.items c.pop.new.self.items (Some c.in-Some.last)
     c.in-Some.ensures.items c.requires.after in
     subst (All P) (sym c.in_ok-push.ensures.items)
     (All-push P c.pop.new.self.items c.in-Some-join.joined old.0
-    (subst (λ (x : Id). UpTo x (first_of c.args.run)) (sym c.in-Some-join.ensures.first) old.1))
+    (subst (λ (x : Id). UpTo x (start_of c.args.run)) (sym c.in-Some-join.ensures.first) old.1))
 
 pub returns-in-Some-join-clause-members : goal.returns-in-Some-join-clause-members
 returns-in-Some-join-clause-members c = λ x.

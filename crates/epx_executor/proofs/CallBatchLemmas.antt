@@ -17,7 +17,7 @@ use Rattle.epx_types.proofs.remaining.RemainingLemmas.{Contains-remaining_iff, I
 use Rattle.epx_committed.specs.MergedLines.{IsMerged, IsMergeFault}
 use Rattle.epx_executor.specs.declared.choose.Choice.{Choice}
 use Rattle.epx_executor.specs.CallLines.{call_lines}
-use Rattle.epx_executor.specs.inner.Batches.{IsBatch, IsNextBatch}
+use Rattle.epx_executor.specs.inner.Batches.{IsMapBatch, IsCallBatch}
 use Rattle.epx_executor.specs.inner.Choices.{IsBlockedIn, IsChoice, IsPart, IsPassedOver, IsUnion}
 use Rattle.epx_executor.specs.inner.Filings.{Filings}
 use Rattle.epx_executor.proofs.CallLineLemmas.{merged_instances}
@@ -37,7 +37,7 @@ IsUnion-merged done pending came m merged = record {
 pub is_pending : (done : List Id) (pending came : List Instance) (choice : Option Choice)
     (entries : List Instance) (order : List Ranked) (positions : List (Id × ℕ))
     (waiters : List Waiting) (now : List Id)
-    (batch : IsNextBatch done pending came choice entries order positions waiters now)
+    (batch : IsCallBatch done pending came choice entries order positions waiters now)
     (e : Instance) → Contains pending e → Contains batch.m e
 is_pending done pending came choice entries order positions waiters now batch e h =
     (merged_instances done pending came batch.m batch.merged e).1 (inl h)
@@ -46,7 +46,8 @@ is_pending done pending came choice entries order positions waiters now batch e 
 
 module _ (done : List Id) (pending came : List Instance) (choice : Option Choice)
     (m s : List Instance) (order : List Ranked) (positions : List (Id × ℕ))
-    (waiters : List Waiting) (now : List Id) (batch : IsBatch done s s order positions waiters now)
+    (waiters : List Waiting) (now : List Id)
+    (batch : IsMapBatch done s s order positions waiters now)
     (merged : IsMerged (call_lines done pending came) m) (rising : IsRising (ids_of s))
     (within : (e : Instance) → Contains s e → Contains m e)
     (ready : (x : Id) → IsReady (remaining done m) x → Contains (ids_of (remaining done s)) x)
@@ -101,10 +102,10 @@ module _ (done : List Id) (pending came : List Instance) (choice : Option Choice
         let is = (IsExecutionOrder-IsLawful part order batch.ordered).only x there in
         ((Contains-remaining_iff done s x).0 is.committed).0
 
-    pub IsNextBatch-part : ((e : Instance) → Contains m e
+    pub IsCallBatch-part : ((e : Instance) → Contains m e
         → IsPassedOver choice pending e ⊎ Contains s e)
-        → IsNextBatch done pending came choice s order positions waiters now
-    IsNextBatch-part whole = record {
+        → IsCallBatch done pending came choice s order positions waiters now
+    IsCallBatch-part whole = record {
       m = m;
       merged = merged;
       rising = rising;
@@ -123,10 +124,10 @@ module _ (done : List Id) (pending came : List Instance) (choice : Option Choice
 
 next_of_all : (done : List Id) (pending came s : List Instance) (order : List Ranked)
     (positions : List (Id × ℕ)) (waiters : List Waiting) (now : List Id)
-    → IsBatch done s s order positions waiters now → IsMerged (call_lines done pending came) s
-    → IsNextBatch done pending came None s order positions waiters now
+    → IsMapBatch done s s order positions waiters now → IsMerged (call_lines done pending came) s
+    → IsCallBatch done pending came None s order positions waiters now
 next_of_all done pending came s order positions waiters now batch merged =
-    IsNextBatch-part done pending came None s s order positions waiters now batch merged
+    IsCallBatch-part done pending came None s s order positions waiters now batch merged
     merged.committed.rising (λ e h. h) (λ x is. is.committed) (λ e h. inr h)
 
 -- ---- a call that looks at a choice
@@ -148,7 +149,7 @@ module _ (done : List Id) (pending came : List Instance) (filings : Filings) (c 
 
   module _ (s : List Instance) (order : List Ranked) (positions : List (Id × ℕ))
       (waiters : List Waiting) (now : List Id)
-      (batch : IsBatch done s s order positions waiters now)
+      (batch : IsMapBatch done s s order positions waiters now)
       (merged : IsMerged (call_lines done part came) s) where
     all : (m : List Instance) × IsMerged (call_lines done pending came) m
         × ((e : Instance) → Contains m e ↔ (Contains pending e ⊎ Contains s e))
@@ -175,9 +176,9 @@ module _ (done : List Id) (pending came : List Instance) (filings : Filings) (c 
           here.1,
         )
 
-    next_of_choice : IsNextBatch done pending came (Some c) s order positions waiters now
+    next_of_choice : IsCallBatch done pending came (Some c) s order positions waiters now
     next_of_choice =
-        IsNextBatch-part done pending came (Some c) all.0 s order positions waiters now batch all.1
+        IsCallBatch-part done pending came (Some c) all.0 s order positions waiters now batch all.1
         merged.committed.rising (λ e h. (all.2 e).1 (inr h)) ready
         (λ e h. elim ((all.2 e).0 h) [
           | inr new ↦ inr new
@@ -203,8 +204,8 @@ pub next_of : (choice : Option Choice) (done : List Id) (pending came part s : L
     (order : List Ranked) (positions : List (Id × ℕ)) (waiters : List Waiting) (now : List Id)
     → IsRising (ids_of pending) → IsSoundChoice done pending came choice
     → IsPart choice pending part → IsMerged (call_lines done part came) s
-    → IsBatch done s s order positions waiters now
-    → IsNextBatch done pending came choice s order positions waiters now
+    → IsMapBatch done s s order positions waiters now
+    → IsCallBatch done pending came choice s order positions waiters now
 next_of None done pending came part s order positions waiters now rising sound is merged batch =
     next_of_all done pending came s order positions waiters now batch
     (subst (λ (es : List Instance). IsMerged (call_lines done es came) s) is merged)
