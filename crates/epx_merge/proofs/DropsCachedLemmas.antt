@@ -1,6 +1,6 @@
 -- Lines without some that are redundant in a cache, and lines that go into a cache.
-use Rattle.std.proofs.Common.{◌≡◌, ◌≤◌, inl, inr, List, [], ◌∷◌, ◌++◌, length, Contains, Result}
-use Rattle.std.proofs.Common.{refl, sym, ap, subst, ◌∙◌, append_assoc, append-nil, arith}
+use Rattle.std.proofs.Common.{◌≡◌, inl, inr, List, [], ◌∷◌, ◌++◌, Contains, Result}
+use Rattle.std.proofs.Common.{refl, sym, ap, subst, ◌∙◌, append_assoc, append-nil}
 use Rattle.std.proofs.lemmas.List.Elements.{Contains-append_left, Contains-append_right}
 use Rattle.epx_types.specs.declared.fault.Why.{Why}
 use Rattle.epx_types.proofs.lists.MembershipLemmas.{Contains-nil, Contains-head}
@@ -41,15 +41,6 @@ module _ (cache : List (Result Line Why)) where
   DropsCached-append (x ∷ xs) ys a b (inl h) k =
       inl (h.0 ++ b, ap (λ l. l ++ b) h.1, DropsCached-append xs ys h.0 b h.2 k)
   DropsCached-append (x ∷ xs) ys a b (inr h) k = inr (h.0, DropsCached-append xs ys a b h.1 k)
-
-  -- at most as many lines are kept as there are
-  pub length-uncached : (lines kept : List MeaningAt) → DropsCached cache lines kept
-      → length kept ≤ length lines
-  length-uncached [] kept h = let none = ap length h in omega arith
-  length-uncached (l ∷ lines) kept (inl h) =
-      let rest = length-uncached lines h.0 h.2 in let same = ap length h.1 in omega arith
-  length-uncached (l ∷ lines) kept (inr h) =
-      let rest = length-uncached lines kept h.1 in omega arith
 
   -- the blank lines are dropped first
   pub DropsCached-trans : (lines some kept : List MeaningAt) → DropsCached [] lines some
@@ -131,9 +122,6 @@ module _ (lines : List MeaningAt) where
 
 -- ---- a batch that is cut line by line
 
-pub batch_none : (walk lines : List MeaningAt) → lines ≡ [] → IsNextBatch walk walk lines
-batch_none walk lines none = record { gone = []; whole = refl; drops = none }
-
 module _ (old walk walk' lines : List MeaningAt) (line : MeaningAt) (next : walk ≡ line ∷ walk')
     (h : IsNextBatch old walk lines) where
   gone_more : old ≡ (h.gone ++ line ∷ []) ++ walk'
@@ -158,3 +146,14 @@ module _ (old walk walk' lines : List MeaningAt) (line : MeaningAt) (next : walk
     drops = subst (DropsCached [] (h.gone ++ line ∷ [])) (append-nil lines)
         (DropsCached-append [] h.gone (line ∷ []) lines [] h.drops (inr (blank, refl)));
   }
+
+-- the cache with some of the lines in addition
+pub IsCacheOf-more : (cache : List (Result Line Why)) (before lines kept : List MeaningAt)
+    → IsCacheOf before cache → DropsCached cache lines kept → (cache' : List (Result Line Why))
+    → CachesSomeOf lines cache cache' → IsCacheOf (before ++ kept) cache'
+IsCacheOf-more cache before lines kept good h cache' more m has =
+    elim (more m has) [
+      | inl older ↦ IsRedundant-append before kept m (good m older)
+      | inr some ↦ subst (IsRedundant (before ++ kept)) some.2
+          (redundant_of_line cache lines kept before some.0 good h some.1)
+    ]

@@ -9,31 +9,15 @@ use Rattle.epx_merge.specs.declared.pieces.BadLine.{BadLine}
 use Rattle.epx_merge.specs.declared.pieces.ReadPiece.{ReadPiece}
 use Rattle.epx_merge.specs.LedgerNotes.{AreReadUpTo}
 use Rattle.epx_merge.specs.LogLines.{MeaningAt, placed_among, bad_lines_among}
-use Rattle.epx_merge.specs.inner.NotedLines.{AreNoted}
 use Rattle.epx_merge.specs.ReadFaults.{IsReadFault}
 use Rattle.epx_merge.specs.ReadPieces.{AreReadBeside, HasEntries}
 use Rattle.epx_merge.specs.RedundantLines.{DropsCached, DropsRedundant, IsCacheOf, CachesSomeOf}
-use Rattle.epx_merge.proofs.BatchLemmas.{IsCacheOf-more}
 use Rattle.epx_merge.proofs.DropsCachedLemmas.{DropsCached-trans, DropsRedundant-cached}
+use Rattle.epx_merge.proofs.DropsCachedLemmas.{IsCacheOf-more}
 use Rattle.epx_merge.proofs.ReadFaultLemmas.{placed_among-append, bad_lines_among-append}
 use Rattle.epx_merge.proofs.ReadFaultLemmas.{fault_after}
 use Rattle.epx_merge.proofs.ReadPieceLemmas.{read_together}
 use Rattle.epx_merge.proofs.RedundantLineLemmas.{DropsRedundant-append, SameOutcome-kept}
-
--- all lines are noted, and no piece is pending
-pub none_pending : (lines : List MeaningAt) (ledger : LedgerView) (cache : List (Result Line Why))
-    → AreNoted lines ledger cache → AreReadUpTo lines ledger cache []
-none_pending lines ledger cache h =
-    let all = sym (append-nil h.kept) in
-    record {
-      read = h.kept;
-      pending = [];
-      drops = subst (DropsRedundant lines []) all h.drops;
-      clean = h.clean;
-      noted = h.noted;
-      given = refl;
-      cached = subst (λ l. IsCacheOf l cache) all h.cached;
-    }
 
 -- ---- the pending pieces are noted
 
@@ -53,15 +37,19 @@ module _ (lines : List MeaningAt) (ledger : LedgerView) (cache : List (Result Li
 
   pub pending_noted : (ledger' : LedgerView) → bad_lines_among h.pending ≡ []
       → NotesLines (placed_among h.pending) ledger ledger' → AreReadUpTo lines ledger' cache []
-  pending_noted ledger' clean noted = none_pending lines ledger' cache (record {
-    kept = kept;
-    drops = h.drops;
-    clean = bad_lines_among-append h.read h.pending
-        ∙ ap (λ l. l ++ bad_lines_among h.pending) h.clean ∙ clean;
-    noted = subst (λ l. IsLedgerOf l ledger') (sym (placed_among-append h.read h.pending))
-        (noted (placed_among h.read) h.noted);
-    cached = h.cached;
-  })
+  pending_noted ledger' clean noted =
+      let all = sym (append-nil kept) in
+      record {
+        read = kept;
+        pending = [];
+        drops = subst (DropsRedundant lines []) all h.drops;
+        clean = bad_lines_among-append h.read h.pending
+            ∙ ap (λ l. l ++ bad_lines_among h.pending) h.clean ∙ clean;
+        noted = subst (λ l. IsLedgerOf l ledger') (sym (placed_among-append h.read h.pending))
+            (noted (placed_among h.read) h.noted);
+        given = refl;
+        cached = subst (λ l. IsCacheOf l cache) all h.cached;
+      }
 
 -- ---- no piece is pending
 

@@ -5,7 +5,6 @@ mod DropsCachedLemmas
 pub mod LaterLogLemmas
 mod OnwardLemmas
 pub mod LogPartLemmas
-mod BatchLemmas
 mod LedgerNoteLemmas
 mod LineBatchLemmas
 mod LineEndLemmas
@@ -16,3 +15,10 @@ mod ReadFaultLemmas
 mod AnswerLemmas
 pub mod UniquenessLemmas
 pub mod ExistenceLemmas
+pub mod ConsumedLemmas
+pub mod ReturnedFaultLemmas
+pub mod SourceLemmas
+pub mod DeliveredLemmas
+pub mod SourceReadingLemmas
+mod GatheredLemmas
+pub mod MemoryLogLemmas

@@ -1,5 +1,5 @@
 -- Lines read one after another: their instances, and the first bad line.
-use Rattle.std.proofs.Common.{◌≡◌, List, [], ◌++◌}
+use Rattle.std.proofs.Common.{◌≡◌, Bool, true, false, List, [], ◌++◌}
 use Rattle.std.proofs.Common.{refl, sym, ap, subst, ◌∙◌}
 use Rattle.std.proofs.lemmas.Grind.{flat_map-append}
 use Rattle.epx_types.specs.declared.fault.Fault.{Fault}
@@ -8,7 +8,7 @@ use Rattle.epx_types.specs.declared.fault.Fault.TheVariants.{BadLine, TooManyIns
 use Rattle.epx_types.specs.declared.fault.Fault.TheVariants.{Read, Write, BadBase}
 use Rattle.epx_merge.specs.LogLines.{MeaningAt, placed_at}
 use Rattle.epx_merge.specs.LogLines.{placed_among, BadLineAt, bad_lines_at, bad_lines_among}
-use Rattle.epx_merge.specs.ReadFaults.{IsReadFault}
+use Rattle.epx_merge.specs.ReadFaults.{IsReadFault, refused_among}
 
 pub placed_among-append : (xs ys : List MeaningAt)
     → placed_among (xs ++ ys) ≡ placed_among xs ++ placed_among ys
@@ -42,7 +42,9 @@ fault_after xs ys zs all f clean h is =
     subst P (ap bad_lines_among is)
     (subst P (sym whole) (fault_before (bad_lines_among ys) (bad_lines_among zs) f h))
 
--- the first bad one of some lines is that of more lines
-pub bad_stays : (lines cut : List MeaningAt) (f : Fault) → IsReadFault (bad_lines_among lines) f
-    → IsReadFault (bad_lines_among (lines ++ cut)) f
-bad_stays lines cut f bad = fault_after [] lines cut (lines ++ cut) f refl bad refl
+-- the first refused one of some lines is that of more lines
+pub refused_stays : (refuses : Bool) (lines cut : List MeaningAt) (f : Fault)
+    → IsReadFault (refused_among refuses lines) f
+    → IsReadFault (refused_among refuses (lines ++ cut)) f
+refused_stays true lines cut f bad = fault_after [] lines cut (lines ++ cut) f refl bad refl
+refused_stays false lines cut f bad = bad

@@ -9,4 +9,8 @@ pub mod LogParts
 pub mod LinePieces
 pub mod LogReaders
 pub mod LedgerNotes
+pub mod ReadingRefusals
+pub mod SourceEndings
+pub mod DeliveredLogs
+pub mod SourceReadings
 pub mod inner

@@ -9,7 +9,7 @@ use Rattle.epx_merge.specs.LogLines.{MeaningAt, placed_at, placed_among, bad_lin
 use Rattle.epx_merge.specs.LogLines.{bad_lines_among}
 use Rattle.epx_merge.specs.LinePieces.{ArePiecesOf}
 use Rattle.epx_merge.specs.Refusals.{IsFirstBadLine}
-use Rattle.epx_merge.specs.RedundantLines.{IsRedundantIn, DropsCached, CachesSomeOf}
+use Rattle.epx_merge.specs.RedundantLines.{IsRedundantIn, DropsCached}
 
 -- the entries of the piece are those of these lines
 abbrev pub HasEntries : List Placed → ReadPiece → Type 0
@@ -53,10 +53,3 @@ IsReadBeside holds cache lines piece =
 abbrev pub AreReadBeside : {E : Type 0} → (List Placed → E → Type 0) → List (Result Line Why)
     → List MeaningAt → List (Result E BadLine) → Type 0
 AreReadBeside holds cache lines pieces = ArePiecesOf (IsReadBeside holds cache) lines pieces
-
--- the lines are read beside the old cache, and the new one has some of them in addition
-pub record IsBatchRead {E : Type 0} (holds : List Placed → E → Type 0)
-    (cache cache' : List (Result Line Why)) (lines : List MeaningAt)
-    (pieces : List (Result E BadLine)) : Type 0 where
-  pub read : AreReadBeside holds cache lines pieces
-  pub cached : CachesSomeOf lines cache cache'

@@ -47,8 +47,9 @@ DropsCached cache (line ∷ lines) kept =
     ((rest : List MeaningAt) × (kept ≡ line ∷ rest) × DropsCached cache lines rest)
     ⊎ (IsRedundantIn cache line.meaning × DropsCached cache lines kept)
 
--- the walk goes past some lines; the batch has them, except for some blank ones
-pub record IsNextBatch (old new batch : List MeaningAt) : Type 0 where
+-- the lines are some that are gone past and these; the batch has those that are gone past, except
+-- for some blank ones
+pub record IsNextBatch (lines left batch : List MeaningAt) : Type 0 where
   pub gone : List MeaningAt
-  pub whole : old ≡ gone ++ new
+  pub whole : lines ≡ gone ++ left
   pub drops : DropsCached [] gone batch

@@ -1,5 +1,5 @@
 //! The ledger of the committed map notes the lines of logs.
-ghost use Rattle.std.specs.Prelude.{◌≡◌, ◌++◌, List, [], Result, MatchResult};
+ghost use Rattle.std.specs.Prelude.{◌≡◌, ◌++◌, true, List, [], Result, MatchResult};
 ghost use Rattle.epx_types.specs.declared.fault.Why.{Why};
 ghost use Rattle.epx_lines.specs.declared.Line.{Line};
 ghost use Rattle.epx_merge.specs.LedgerNotes.{AreReadUpTo};
@@ -34,11 +34,17 @@ impl Notes for Ledger {
 
     type Shared = ();
 
+    ghost refuses_bad_lines = { true };
+
     ghost shared_of = { λ _. tt };
 
     ghost is_read = { λ _ cache lines piece. IsReadBeside HasEntries cache lines piece };
 
     ghost has_read = { AreReadUpTo };
+
+    fn ends_batches_with_logs() -> bool {
+        false
+    }
 
     fn shared(&self) {}
 

@@ -5,9 +5,9 @@ ghost use Rattle.epx_types.specs.Pieces.{piece_count};
 ghost use Rattle.epx_types.specs.declared.fault.Why.{Why};
 ghost use Rattle.epx_lines.specs.declared.Line.{Line};
 ghost use Rattle.epx_merge.specs.LinePieces.{ArePiecesOf, lines_of_piece};
-ghost use Rattle.epx_merge.specs.LogLines.{MeaningAt, bad_lines_among};
+ghost use Rattle.epx_merge.specs.LogLines.{MeaningAt};
 ghost use Rattle.epx_merge.specs.LogReaders.{HasRead, IsNoting, IsReading};
-ghost use Rattle.epx_merge.specs.ReadFaults.{IsReadFault};
+ghost use Rattle.epx_merge.specs.ReadFaults.{IsReadFault, refused_among};
 ghost use Rattle.epx_merge.specs.RedundantLines.{DropsCached};
 
 use crate::line_batch::LineBatch;
@@ -65,10 +65,10 @@ fn after_batch<'a, N: Notes + Drop>(
 ) -> Result<ReadLines<'a, N>, Fault>
     ensures { (lines cut : List MeaningAt) → DropsCached [] cut batch.now
         → MatchResult noted (λ _. N.has_read lines notes cache.entry [])
-        (IsReadFault (bad_lines_among lines))
+        (IsReadFault (refused_among N.refuses_bad_lines lines))
         → IfOk read (λ v.
         ArePiecesOf (N.is_read (N.shared_of notes) cache.entry) batch.now v.items)
-        → IsReading N.has_read (lines ++ cut) result }
+        → IsReading N.has_read N.refuses_bad_lines (lines ++ cut) result }
 {
     noted?;
     let mut pending = read?;
@@ -97,7 +97,8 @@ fn read_on<'a, N: Notes + Sync + Drop, R: Threads + Sync, G: Gate + Sync, T, M: 
     ensures more { M.step more.old result.1 more.new }
     ensures lines { (lines cut : List MeaningAt)
         → N.has_read lines before.entry.notes before.entry.cache before.entry.pending.items
-        → DropsCached [] cut batch.now → IsReading N.has_read (lines ++ cut) result.0 }
+        → DropsCached [] cut batch.now
+        → IsReading N.has_read N.refuses_bad_lines (lines ++ cut) result.0 }
 {
     let ReadLines {
         mut notes,
@@ -109,7 +110,8 @@ fn read_on<'a, N: Notes + Sync + Drop, R: Threads + Sync, G: Gate + Sync, T, M: 
         requires { M.pre more.now }
         ensures noted { (lines : List MeaningAt) (known : List (Result Line Why))
             → N.has_read lines notes.entry known pending.entry.items → MatchResult result.0
-            (λ _. N.has_read lines notes.exit known []) (IsReadFault (bad_lines_among lines)) }
+            (λ _. N.has_read lines notes.exit known [])
+            (IsReadFault (refused_among N.refuses_bad_lines lines)) }
         ensures shared { N.shared_of notes.exit ≡ N.shared_of notes.entry }
         ensures more { M.step more.entry.now result.1 more.exit.now }
     {
@@ -137,7 +139,7 @@ impl<'a, N: Notes + Sync + Drop> LogReader<'a, N> {
     /// No line is read yet. The number of logs is a hint.
     pub fn new(alloc: Global, notes: N, logs: usize) -> Result<LogReader<'a, N>, Memory>
         requires { N.has_read [] notes [] [] }
-        ensures { IfOk result (HasRead N.has_read []) }
+        ensures { IfOk result (HasRead N.has_read N.refuses_bad_lines []) }
     {
         let cache = LineCache::new(alloc, logs)?;
         Ok(LogReader {
@@ -165,8 +167,10 @@ impl<'a, N: Notes + Sync + Drop> LogReader<'a, N> {
         requires few { length batch.now ≤ 2 ^ 40 }
         requires more { M.pre more.old }
         ensures more { M.step more.old result.1 more.new }
-        ensures lines { (lines cut : List MeaningAt) → HasRead N.has_read lines self.entry
-            → DropsCached [] cut batch.now → HasRead N.has_read (lines ++ cut) result.0 }
+        ensures lines { (lines cut : List MeaningAt)
+            → HasRead N.has_read N.refuses_bad_lines lines self.entry
+            → DropsCached [] cut batch.now
+            → HasRead N.has_read N.refuses_bad_lines (lines ++ cut) result.0 }
     {
         let before = match self.read {
             Ok(before) => before,
@@ -178,8 +182,8 @@ impl<'a, N: Notes + Sync + Drop> LogReader<'a, N> {
 
     /// Has what is read noted.
     pub fn finish(self) -> Result<N, Fault>
-        ensures { (lines : List MeaningAt) → HasRead N.has_read lines self.entry
-            → IsNoting N.has_read lines result }
+        ensures { (lines : List MeaningAt) → HasRead N.has_read N.refuses_bad_lines lines self.entry
+            → IsNoting N.has_read N.refuses_bad_lines lines result }
     {
         let ReadLines {
             mut notes,

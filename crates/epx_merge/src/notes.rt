@@ -1,10 +1,10 @@
 //! What notes the lines of logs.
-ghost use Rattle.std.specs.Prelude.{◌≡◌, ◌++◌, List, [], Result, IfOk, MatchResult};
+ghost use Rattle.std.specs.Prelude.{◌≡◌, ◌++◌, Bool, List, [], Result, IfOk, MatchResult};
 ghost use Rattle.epx_types.specs.declared.fault.Why.{Why};
 ghost use Rattle.epx_lines.specs.declared.Line.{Line};
 ghost use Rattle.epx_merge.specs.LinePieces.{ArePiecesOf};
-ghost use Rattle.epx_merge.specs.LogLines.{MeaningAt, bad_lines_among};
-ghost use Rattle.epx_merge.specs.ReadFaults.{IsReadFault};
+ghost use Rattle.epx_merge.specs.LogLines.{MeaningAt};
+ghost use Rattle.epx_merge.specs.ReadFaults.{IsReadFault, refused_among};
 ghost use Rattle.epx_merge.specs.RedundantLines.{DropsCached};
 
 use crate::line::PlacedLine;
@@ -23,6 +23,10 @@ pub trait Notes {
     /// What the workers share while they read.
     type Shared: Copy + Sync;
 
+    // Whether bad lines are refused, so that the first of them ends reading. Where they are not,
+    // they are noted as other lines are.
+    ghost refuses_bad_lines: { Bool };
+
     // What the workers share, by what is noted.
     ghost shared_of: { Self → Self.Shared };
 
@@ -34,6 +38,10 @@ pub trait Notes {
     // recognizes no others.
     ghost has_read: { List MeaningAt → Self → List (Result Line Why) → List Self.Piece
         → Type 0 };
+
+    /// Whether a batch ends with each log. Otherwise only the first log ends its batch.
+    // No clause: where batches end changes no answer.
+    fn ends_batches_with_logs() -> bool;
 
     /// What the workers share.
     fn shared(&self) -> Self::Shared
@@ -54,7 +62,8 @@ pub trait Notes {
         ensures shared { shared_of self.new ≡ shared_of self.old }
         ensures noted { (lines : List MeaningAt) (cache : List (Result Line Why))
             → has_read lines self.old cache pieces.items → MatchResult result
-            (λ _. has_read lines self.new cache []) (IsReadFault (bad_lines_among lines)) };
+            (λ _. has_read lines self.new cache [])
+            (IsReadFault (refused_among refuses_bad_lines lines)) };
 
     /// Puts lines of the batch, whose pieces these are, into the cache. Without room for copies it
     /// puts none there. It may note the pieces at once, and then leaves none.
@@ -70,5 +79,5 @@ pub trait Notes {
             → ArePiecesOf (is_read (shared_of self.old) cache.old) batch.now pieces.old.items
             → MatchResult result
             (λ _. has_read (lines ++ cut) self.new cache.new pieces.new.items)
-            (IsReadFault (bad_lines_among (lines ++ cut))) };
+            (IsReadFault (refused_among refuses_bad_lines (lines ++ cut))) };
 }

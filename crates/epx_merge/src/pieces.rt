@@ -1,10 +1,8 @@
 //! Pieces of a batch, which workers read.
-ghost use Rattle.std.specs.Prelude.{◌≡◌, ◌<◌, ◌++◌, ◌∷◌, List, [], IfOk, MatchOption};
-ghost use Rattle.std.specs.Prelude.{MatchResult, length};
-ghost use Rattle.epx_types.specs.Pieces.{piece_count};
+ghost use Rattle.std.specs.Prelude.{◌≡◌, ◌++◌, ◌∷◌, List, [], IfOk, MatchOption};
+ghost use Rattle.std.specs.Prelude.{MatchResult};
 ghost use Rattle.epx_merge.specs.LogLines.{MeaningAt, placed_at, placed_among, bad_lines_at};
 ghost use Rattle.epx_merge.specs.LogLines.{bad_lines_among};
-ghost use Rattle.epx_merge.specs.LinePieces.{lines_of_piece};
 ghost use Rattle.epx_merge.specs.ReadPieces.{AreRead, HasEntries, IsReadBeside, SkipsOrReads};
 ghost use Rattle.epx_committed.specs.Ledgers.{NotesLines};
 ghost use Rattle.epx_merge.specs.ReadFaults.{IsReadFault};
@@ -14,7 +12,7 @@ use crate::line::PlacedLine;
 use crate::line_cache::LineCache;
 use epx_committed::{Ledger, PlacedEntry};
 use epx_lines::{Line, LineFault, LineReader};
-use epx_types::{Fault, Memory, Place, Plan, Why};
+use epx_types::{Fault, Memory, Place, Why};
 use std::alloc::Global;
 
 /// A line with a fault, and its reason.
@@ -123,22 +121,6 @@ pub(crate) fn read_lines(
         }
     }
     Ok(Ok(piece))
-}
-
-/// The entries of the lines of a piece that the cache lacks, or its first bad line.
-pub(crate) fn read_piece(
-    alloc: Global,
-    plan: Plan,
-    cache: &LineCache<'_>,
-    lines: &[PlacedLine<'_>],
-    piece: usize,
-) -> Result<Result<ReadPiece, BadLine>, Memory>
-    requires { piece < piece_count plan.cut (length lines.now) }
-    ensures { IfOk result (IsReadBeside HasEntries cache.now
-        (lines_of_piece plan.cut piece lines.now)) }
-{
-    let (start, end) = plan.range(piece, lines.len());
-    read_lines(alloc, cache, &lines[start..end], start)
 }
 
 /// Records the entries of pieces in order, up to the first bad line.

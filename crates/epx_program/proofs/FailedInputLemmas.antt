@@ -9,7 +9,8 @@ use Rattle.epx_devices.specs.declared.either_source.EitherSource.TheVariants.{Fi
 use Rattle.epx_devices.specs.EitherSources.{either_source}
 use Rattle.epx_devices.specs.Models.{SourceModel}
 use Rattle.epx_devices.proofs.EitherSourceLemmas.{first_then_fails, second_then_fails}
-use Rattle.epx_tool.specs.Delivered.{EndsRefused, StopsAtSource}
+use Rattle.epx_tool.specs.Delivered.{EndsRefused}
+use Rattle.epx_merge.specs.DeliveredLogs.{StopsAtSource}
 use Rattle.epx_tool.specs.DeliveredWithInput.{EndsWithoutBoth}
 use Rattle.epx_tool.specs.Questions.{AnswersBy}
 use Rattle.epx_tool.specs.declared.question.MapText.{MapText}

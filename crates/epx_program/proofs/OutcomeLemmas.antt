@@ -8,18 +8,18 @@ use Rattle.epx_types.specs.declared.fault.Fault.{Fault}
 use Rattle.epx_types.specs.declared.fault.Fault.TheVariants.{Read, Write}
 use Rattle.epx_words.specs.declared.words.Task.{Task}
 use Rattle.epx_devices.specs.Models.{SinkModel, SourceModel}
-use Rattle.epx_tool.specs.Delivered.{EachDelivers}
+use Rattle.epx_merge.specs.DeliveredLogs.{EachDelivers}
 use Rattle.epx_tool.specs.DeliveredWithInput.{DeliversBoth}
 use Rattle.epx_tool.specs.Findings.{AnswersFinding, IsFindingWith}
 use Rattle.epx_tool.specs.Questions.{AnswersQuestion, IsBadInput, IsInputAnswer, IsTextWith}
 use Rattle.epx_tool.specs.Questions.{map_text_of}
 use Rattle.epx_tool.specs.RunEndings.{WritesAnswer, EndsRun, EndsRunWithInput}
-use Rattle.epx_tool.specs.Runs.{AreBytesOf}
+use Rattle.epx_merge.specs.ReadingRefusals.{AreBytesOf}
 use Rattle.epx_tool.specs.RunsWithInput.{IsRunFaultWithInput}
 use Rattle.epx_tool.specs.WithInput.{AnswersWithInput}
 use Rattle.epx_tool.specs.declared.question.InputQuestion.{InputQuestion}
 use Rattle.epx_tool.specs.declared.question.Question.{Question}
-use Rattle.epx_tool.proofs.ReturnedFaultLemmas.{ok_is_no_fault}
+use Rattle.epx_merge.proofs.ReturnedFaultLemmas.{ok_is_no_fault}
 use Rattle.epx_program.specs.declared.do_task.Asked.TheVariants as asked
 use Rattle.epx_program.specs.Endings.{AddsAnswer, AddsPart, IsFindingTo, IsTaskResult}
 use Rattle.epx_program.specs.Endings.{IsTaskAnswer}

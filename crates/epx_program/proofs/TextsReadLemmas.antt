@@ -13,7 +13,7 @@ use Rattle.epx_devices.specs.MemoryDevices.{memory_source}
 use Rattle.epx_devices.specs.Models.{OpenerModel, SourceModel}
 use Rattle.epx_devices.specs.declared.either_source.EitherSource.{EitherSource}
 use Rattle.epx_devices.specs.declared.either_source.EitherSource.TheVariants.{First, Second}
-use Rattle.epx_tool.specs.Delivered.{EachDelivers, FirstDeliver}
+use Rattle.epx_merge.specs.DeliveredLogs.{EachDelivers, FirstDeliver}
 use Rattle.epx_program.specs.Endings.{AddsAnswer, AddsPart}
 use Rattle.epx_program.specs.Inputs.{AreTextsAt, IsFileText, IsWholeText, TextRelation}
 use Rattle.epx_program.specs.Inputs.{text_relation}

@@ -1,13 +1,8 @@
-mod ConsumedLemmas
-mod SourceLemmas
-mod SourceReadingLemmas
-mod DeliveredLemmas
 mod UniqueAnswerLemmas
 mod LogsWithInputLemmas
 pub mod ReturnedFaultLemmas
 mod RunEndingLemmas
 mod MergedSourceLemmas
-mod GatheredLemmas
 mod UniqueAnswerWithInputLemmas
 mod AnswerWithInputLemmas
 mod InputReadingLemmas

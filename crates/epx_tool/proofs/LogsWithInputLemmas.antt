@@ -12,11 +12,11 @@ use Rattle.epx_types.specs.Instances.{Instance}
 use Rattle.epx_types.specs.Limits.{max_log_bytes}
 use Rattle.epx_merge.specs.Refusals.{FitLimits, IsFirstTooLong, NoneTooLong, IsRefusal}
 use Rattle.epx_devices.specs.Transfers.{IsReadLogFault, ConsumesExactly}
-use Rattle.epx_tool.specs.Runs.{NoneTooLongBefore, IsReadingRefusal}
+use Rattle.epx_merge.specs.ReadingRefusals.{NoneTooLongBefore, IsReadingRefusal}
 use Rattle.epx_tool.specs.WithInput.{IsShort, IsRefusalWithInput}
 use Rattle.epx_tool.specs.RunsWithInput.{IsReadingRefusalWithInput, IsRunFaultWithInput}
-use Rattle.epx_tool.specs.Sources.{StopsAt}
-use Rattle.epx_tool.proofs.SourceLemmas.{longer}
+use Rattle.epx_merge.specs.SourceEndings.{StopsAt}
+use Rattle.epx_merge.proofs.SourceLemmas.{longer}
 
 -- ---- positions of the texts
 

@@ -13,7 +13,8 @@ use Rattle.epx_compare.specs.declared.comparison.Comparison.{Comparison}
 use Rattle.epx_compare.specs.LaterLogComparisons.{IsComparisonResult, IsComparisonWith}
 use Rattle.epx_tool.specs.Runs.{IsFaultOfRun}
 use Rattle.epx_tool.specs.RunEndings.{EndsRun}
-use Rattle.epx_tool.specs.inner.SourceReadings.{EndsReading, EndsMaking, logs_after}
+use Rattle.epx_merge.specs.SourceReadings.{EndsReading, EndsMaking}
+use Rattle.epx_tool.specs.inner.ReadSources.{logs_after}
 use Rattle.epx_tool.proofs.ReturnedFaultLemmas.{IsLogAnswer, same_error, HasRead-of_lines}
 use Rattle.epx_tool.proofs.ReturnedFaultLemmas.{HasRead-written, of_lines_not_write}
 use Rattle.epx_tool.proofs.ReturnedFaultLemmas.{run_fault_of_lines}
@@ -21,13 +22,6 @@ use Rattle.epx_tool.proofs.RunEndingLemmas.{leaves_again, leaves_after}
 use Rattle.epx_tool.proofs.RunEndingLemmas.{writes_nothing, writes_text}
 
 module _ {S : Type 0} (D : SourceModel S) (old new : List S) where
-  -- all sources are read before something is made of their logs
-  pub made_after : {T : Type 0} (Made : List (List ℕ) → Result T Fault → Type 0)
-      (logs : List (List ℕ)) (result : Result T Fault)
-      → EndsReading D old new (Ok logs) → Made logs result → EndsMaking D Made old new result
-  made_after Made logs (Ok made) read is = (logs, read, is)
-  made_after Made logs (Err fault) read is = inr (logs, read, is)
-
   -- the later sources are read while the lines of the first log are compared
   pub compared_with : (first : List ℕ) (later : Result (Vec (Vec ℕ Global) Global) Fault)
       (result : Result Comparison Fault)

@@ -5,7 +5,7 @@ use Rattle.epx_tool.specs.Findings.{AnswersFindingBy, IsFindingWith}
 use Rattle.epx_tool.specs.Questions.{AnswersBy, IsBadInput, IsInputAnswer, IsTextWith}
 use Rattle.epx_tool.specs.RunEndings.{EndsRun, EndsRunWithInput}
 use Rattle.epx_tool.specs.WithInput.{AnswersWithInput}
-use Rattle.epx_tool.specs.inner.SourceReadings.{EndsMaking}
+use Rattle.epx_merge.specs.SourceReadings.{EndsMaking}
 use Rattle.epx_tool.specs.declared.question.InputQuestion.{InputQuestion}
 use Rattle.epx_tool.specs.declared.question.MapText.{MapText}
 use Rattle.epx_tool.proofs.RunEndingLemmas.{writes_weaker}

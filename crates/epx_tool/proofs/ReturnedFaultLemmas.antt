@@ -16,43 +16,16 @@ use Rattle.epx_compare.specs.ComparisonAnswers.{IsComparisonRefusal}
 use Rattle.epx_merge.specs.Refusals.{FitLimits, IsRefusal}
 use Rattle.epx_devices.specs.Transfers.{IsReadLogFault}
 use Rattle.epx_tool.specs.Questions.{AnswersBy, AnswersQuestion, map_text_of}
-use Rattle.epx_tool.specs.Runs.{IsReadingRefusal, IsFaultOfRun}
+use Rattle.epx_merge.specs.ReadingRefusals.{IsReadingRefusal}
+use Rattle.epx_tool.specs.Runs.{IsFaultOfRun}
 use Rattle.epx_tool.specs.RunsWithInput.{IsRunFaultWithInput}
-use Rattle.epx_tool.specs.Sources.{StopsAt}
+use Rattle.epx_merge.specs.SourceEndings.{StopsAt}
 use Rattle.epx_tool.specs.declared.question.MapText.{MapText}
 use Rattle.epx_tool.specs.declared.question.Question.{Question}
 use Rattle.epx_tool.specs.WithInput.{IsShort, IsRefusalWithInput}
 use Rattle.epx_tool.proofs.LogsWithInputLemmas.{no_stop}
 
 -- ---- a fault that is returned again
-
-fault_in : {T : Type 0} → Result T Fault → Fault
-fault_in (Ok x) = Memory
-fault_in (Err fault) = fault
-
-pub fault_is : {T : Type 0} (fault other : Fault) → IsErrOf {T = T} (Err fault) other
-    → fault ≡ other
-unfolding fault_in
-fault_is fault other is = ap fault_in is
-
-pub ok_is_no_fault : {T : Type 0} (x : T) (other : Fault) → ¬ IsErrOf (Ok x) other
-ok_is_no_fault x other is = cc is
-
-pub ok_does_not_stop : {T : Type 0} (x : T) (log : ℕ) → ¬ StopsAt (Ok x) log
-ok_does_not_stop x log (inl is) = cc is
-ok_does_not_stop x log (inr is) = cc is
-
-pub differs : {T : Type 0} (fault other : Fault) → ¬ (fault ≡ other)
-    → ¬ IsErrOf {T = T} (Err fault) other
-differs fault other apart is = apart (fault_is fault other is)
-
-pub too_many_does_not_stop : {T : Type 0} (log : ℕ) → ¬ StopsAt {T = T} (Err TooManyLogs) log
-too_many_does_not_stop log (inl is) = cc is
-too_many_does_not_stop log (inr is) = cc is
-
-pub memory_does_not_stop : {T : Type 0} (log : ℕ) → ¬ StopsAt {T = T} (Err Memory) log
-memory_does_not_stop log (inl is) = cc is
-memory_does_not_stop log (inr is) = cc is
 
 module _ {T V : Type 0} (fault : Fault) where
   pub same_error : (other : Fault) → IsErrOf {T = T} (Err fault) other
@@ -76,16 +49,6 @@ ok_failed_iff x y fault other P h = (
   λ is. absurd (ok_is_no_fault y other is),
   λ p. absurd (ok_is_no_fault x fault (h.1 p)),
 )
-
--- neither happens
-pub neither : (P : Type 0) (failed : Bool) → ¬ P → failed ≡ false → P ↔ (failed ≡ true)
-neither P failed never well = (λ p. absurd (never p), λ bad. absurd (cc (well, bad)))
-
-pub none_of_both : (P Q : Type 0) → ¬ P → ¬ Q → P ↔ Q
-none_of_both P Q never nor = (λ p. absurd (never p), λ q. absurd (nor q))
-
-pub few_are_not_many : (n : ℕ) → n ≤ max_logs → ¬ max_logs < n
-few_are_not_many n few many = omega (arith, few, many)
 
 -- a fault that this result is not, and that the call before it did not return
 pub other_iff : {T V : Type 0} (result : Result T Fault) (x : V) (fault : Fault) (P : Type 0)
@@ -154,24 +117,11 @@ module _ {T : Type 0} (n : ℕ) (logs : List (List ℕ)) (fault : Fault)
 -- ---- the faults of reading the extra input
 
 module _ {T : Type 0} (n : ℕ) (fault : Fault) (of_input : IsReadLogFault n fault) where
-  also : (other : Fault) → IsErrOf {T = T} (Err fault) other → IsReadLogFault n other
-  also other is = subst (IsReadLogFault n) (fault_is fault other is) of_input
-
-  pub input_not_write : ¬ IsErrOf {T = T} (Err fault) Write
-  input_not_write is = also Write is
-
-  pub input_not_too_many : ¬ IsErrOf {T = T} (Err fault) TooManyLogs
-  input_not_too_many is = also TooManyLogs is
-
-  pub stops_at_input : (log : ℕ) → StopsAt {T = T} (Err fault) log → log ≡ n
-  stops_at_input log (inl is) = also (LogTooLong log) is
-  stops_at_input log (inr is) = also (Read log) is
-
   -- the extra input comes after all logs
   pub HasRead-input : HasRead {T = T} n (Err fault)
   HasRead-input = record {
-    not_stopped = λ log stops. omega (arith, stops_at_input log stops);
-    not_too_many = input_not_too_many;
+    not_stopped = λ log stops. omega (arith, stops_at_input n fault of_input log stops);
+    not_too_many = input_not_too_many n fault of_input;
   }
 
 -- the number of the extra input is the number of logs

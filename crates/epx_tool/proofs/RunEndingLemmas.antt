@@ -10,11 +10,14 @@ use Rattle.epx_types.specs.declared.fault.Fault.TheVariants.{TooManyLogs, Read, 
 use Rattle.epx_devices.specs.Devices.{failed_after}
 use Rattle.epx_devices.specs.Transfers.{AppendsPrefix}
 use Rattle.epx_tool.specs.RunEndings.{WritesAnswer}
-use Rattle.epx_tool.specs.Sources.{LeavesSources, LeavesInput}
-use Rattle.epx_tool.proofs.ConsumedLemmas.{as_many_consumed}
+use Rattle.epx_merge.specs.SourceEndings.{LeavesSources}
+use Rattle.epx_tool.specs.Sources.{LeavesInput}
+use Rattle.epx_merge.proofs.ConsumedLemmas.{as_many_consumed}
 use Rattle.epx_tool.proofs.ReturnedFaultLemmas.{same_error, same_error_iff, same_stop, HasRead}
-use Rattle.epx_tool.proofs.ReturnedFaultLemmas.{neither, other_iff, same_past_end, written_iff}
-use Rattle.epx_tool.proofs.ReturnedFaultLemmas.{ok_is_no_fault, on_ok, keeps_itself}
+use Rattle.epx_merge.proofs.ReturnedFaultLemmas.{neither}
+use Rattle.epx_tool.proofs.ReturnedFaultLemmas.{other_iff, same_past_end, written_iff}
+use Rattle.epx_merge.proofs.ReturnedFaultLemmas.{ok_is_no_fault}
+use Rattle.epx_tool.proofs.ReturnedFaultLemmas.{on_ok, keeps_itself}
 use Rattle.epx_devices.specs.Models.{SinkModel, SourceModel}
 
 -- a device that had not failed has failed exactly where this call returned an error

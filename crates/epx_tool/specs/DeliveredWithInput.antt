@@ -6,7 +6,7 @@ use Rattle.epx_merge.specs.Refusals.{NoneTooLong}
 use Rattle.epx_devices.specs.Deliveries.{DeliversAll, IsLogStop}
 use Rattle.epx_devices.specs.Models.{SourceModel}
 use Rattle.epx_tool.specs.WithInput.{AnswersWithInput, IsRefusalWithInput}
-use Rattle.epx_tool.specs.Delivered.{EachDelivers, StopsReading}
+use Rattle.epx_merge.specs.DeliveredLogs.{EachDelivers, StopsReading}
 
 -- In these definitions E is the model of the source of the extra input, and D that of the logs.
 

@@ -9,9 +9,11 @@ use Rattle.epx_devices.specs.Models.{SinkModel, SourceModel}
 use Rattle.epx_devices.specs.Transfers.{AppendsPrefix}
 use Rattle.epx_tool.specs.Delivered.{WritesDelivered, EndsRefused}
 use Rattle.epx_tool.specs.DeliveredWithInput.{AnswersBoth, EndsWithoutBoth}
-use Rattle.epx_tool.specs.Runs.{AreBytesOf, IsFaultOfRun}
+use Rattle.epx_merge.specs.ReadingRefusals.{AreBytesOf}
+use Rattle.epx_tool.specs.Runs.{IsFaultOfRun}
 use Rattle.epx_tool.specs.RunsWithInput.{IsRunFaultWithInput}
-use Rattle.epx_tool.specs.Sources.{LeavesSources, LeavesInput}
+use Rattle.epx_merge.specs.SourceEndings.{LeavesSources}
+use Rattle.epx_tool.specs.Sources.{LeavesInput}
 use Rattle.epx_tool.specs.WithInput.{AnswersWithInput}
 
 -- A run writes an answer or ends with a fault. `Given` is what it is over, and `OfKnown P` says `P`

@@ -1,33 +1,11 @@
 -- A run: logs are read from sources, and the answer to them is written to a sink.
-use Rattle.std.specs.Prelude.{◌≡◌, ℕ, ◌<◌, ◌≤◌, List, map, length, slice_get, Some}
-use Rattle.std.specs.Prelude.{Result, Ok, Err}
+use Rattle.std.specs.Prelude.{ℕ, ◌<◌, ◌≤◌, List, length, Result, Ok, Err}
 use Rattle.epx_types.specs.declared.fault.Fault.{Fault}
-use Rattle.epx_types.specs.declared.fault.Fault.TheVariants.{Memory, TooManyLogs, LogTooLong, Read}
-use Rattle.epx_types.specs.declared.fault.Fault.TheVariants.{Write}
+use Rattle.epx_types.specs.declared.fault.Fault.TheVariants.{Read, Write}
 use Rattle.epx_types.specs.Instances.{Instance}
-use Rattle.epx_types.specs.Limits.{max_logs, max_log_bytes}
-use Rattle.epx_merge.specs.Refusals.{IsFirstTooLong}
+use Rattle.epx_types.specs.Limits.{max_logs}
+use Rattle.epx_merge.specs.ReadingRefusals.{NoneTooLongBefore}
 use Rattle.epx_tool.specs.Answer.{Answers}
-use Rattle.epx_devices.specs.Models.{SourceModel}
-
--- the bytes that each source has left to deliver
-abbrev pub AreBytesOf : {S : Type 0} → SourceModel S → List S → List (List ℕ) → Type 0
-AreBytesOf D sources logs = map D.remaining sources ≡ map Some logs
-
--- no log before this one is too long
-abbrev pub NoneTooLongBefore : List (List ℕ) → ℕ → Type 0
-NoneTooLongBefore logs log = (k : ℕ) (bytes : List ℕ) → k < log → slice_get logs k ≡ Some bytes
-    → length bytes ≤ max_log_bytes
-
--- the faults of reading the logs: too many logs, or the first log that is too long or cannot be
--- read
-abbrev pub IsReadingRefusal : List (List ℕ) → Fault → Type 0
-IsReadingRefusal logs Memory = Unit {0}
-IsReadingRefusal logs TooManyLogs = max_logs < length logs
-IsReadingRefusal logs (LogTooLong log) = (length logs ≤ max_logs) × IsFirstTooLong logs log
-IsReadingRefusal logs (Read log) = (length logs ≤ max_logs) × (log < length logs)
-    × NoneTooLongBefore logs log
-IsReadingRefusal logs _ = ⊥
 
 -- the faults of a run that writes this answer: the refusal of the logs, or the fault of a device
 abbrev pub IsFaultOfRun : (List (List ℕ) → Result (List ℕ) Fault → Type 0) → List (List ℕ) → Fault

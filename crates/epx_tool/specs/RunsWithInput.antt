@@ -7,7 +7,7 @@ use Rattle.epx_types.specs.declared.fault.Fault.TheVariants.{Write}
 use Rattle.epx_types.specs.Instances.{Instance}
 use Rattle.epx_types.specs.Limits.{max_logs}
 use Rattle.epx_merge.specs.Refusals.{IsFirstTooLong}
-use Rattle.epx_tool.specs.Runs.{NoneTooLongBefore}
+use Rattle.epx_merge.specs.ReadingRefusals.{NoneTooLongBefore}
 use Rattle.epx_tool.specs.WithInput.{AnswersWithInput, IsRefusalWithInput}
 
 -- the source of this number can fail: that of a log, or that of the extra input, whose number is

@@ -1,5 +1,4 @@
 -- Words of private clauses: no public contract speaks of them.
 pub mod ReportParts
-pub mod SourceReadings
-pub mod Gathered
+pub mod ReadSources
 pub mod InputReadings

@@ -2,8 +2,8 @@
 ghost use Rattle.std.specs.Prelude.{◌≡◌, ◌<◌, ◌≤◌, false, length, All};
 ghost use Rattle.epx_types.specs.Limits.{max_logs};
 ghost use Rattle.epx_compare.specs.LaterLogComparisons.{IsComparisonResult};
-ghost use Rattle.epx_tool.specs.inner.SourceReadings.{AreDeliveredUpTo, EndsMaking, EndsReading};
-ghost use Rattle.epx_tool.specs.inner.SourceReadings.{logs_after};
+ghost use Rattle.epx_merge.specs.SourceReadings.{AreDeliveredUpTo, EndsMaking, EndsReading};
+ghost use Rattle.epx_tool.specs.inner.ReadSources.{logs_after};
 
 use crate::sources::{read_next, read_onward, read_sources};
 use epx_compare::{Comparison, compare, compare_during};

@@ -6,9 +6,9 @@ ghost use Rattle.std.specs.Io.KnownBytes.{Appends, Keeps, IsAtEnd};
 ghost use Rattle.epx_report.specs.Bases.{IsBadBase};
 ghost use Rattle.epx_types.specs.Limits.{max_logs, max_log_bytes};
 ghost use Rattle.epx_tool.specs.Resumption.{IsResumedText, Resumes};
-ghost use Rattle.epx_tool.specs.Runs.{AreBytesOf};
+ghost use Rattle.epx_merge.specs.ReadingRefusals.{AreBytesOf};
 ghost use Rattle.epx_tool.specs.RunsWithInput.{IsRunFaultWithInput};
-ghost use Rattle.epx_tool.specs.Sources.{EachConsumesUpTo, StopsAt};
+ghost use Rattle.epx_merge.specs.SourceEndings.{EachConsumesUpTo, StopsAt};
 ghost use Rattle.epx_tool.specs.DeliveredWithInput.{AnswersBoth, EndsWithoutBoth};
 ghost use Rattle.epx_devices.specs.Transfers.{AppendsPrefix, ConsumesUpTo};
 

@@ -6,14 +6,15 @@ ghost use Rattle.std.specs.Io.KnownBytes.{Appends, Keeps, IsAtEnd};
 ghost use Rattle.epx_types.specs.Limits.{max_logs, max_log_bytes};
 ghost use Rattle.epx_tool.specs.Answer.{Answers};
 ghost use Rattle.epx_tool.specs.Report.{IsReport};
-ghost use Rattle.epx_tool.specs.Runs.{AreBytesOf, IsFaultOfRun, IsRunFault};
-ghost use Rattle.epx_tool.specs.Sources.{EachConsumesUpTo, StopsAt};
+ghost use Rattle.epx_merge.specs.ReadingRefusals.{AreBytesOf};
+ghost use Rattle.epx_tool.specs.Runs.{IsFaultOfRun, IsRunFault};
+ghost use Rattle.epx_merge.specs.SourceEndings.{EachConsumesUpTo, StopsAt};
 ghost use Rattle.epx_tool.specs.Delivered.{AnswersDelivered, EndsRefused, EndsWithout};
 ghost use Rattle.epx_tool.specs.Delivered.{WritesDelivered};
 ghost use Rattle.epx_tool.specs.Questions.{AnswersBy, AnswersQuestion, AnswersView};
 ghost use Rattle.epx_tool.specs.Findings.{AnswersFinding, AnswersFindingBy};
 ghost use Rattle.epx_tool.specs.RunEndings.{EndsRun};
-ghost use Rattle.epx_tool.specs.inner.SourceReadings.{EndsMaking};
+ghost use Rattle.epx_merge.specs.SourceReadings.{EndsMaking};
 ghost use Rattle.epx_compare.specs.ComparisonAnswers.{Compares};
 ghost use Rattle.epx_devices.specs.Transfers.{AppendsPrefix};
 
@@ -22,10 +23,11 @@ use crate::compared_sources::compare_sources;
 use crate::findings::Answered;
 use crate::held::Held;
 use crate::map_texts::text_of;
-use crate::merged_sources::merge_sources;
 use crate::question::{MapText, Question};
+use epx_claims::FreeGate;
 use epx_compare::Comparison;
 use epx_devices::{Sink, Source, write_out};
+use epx_merge::merge_sources;
 use epx_types::{Fault, Plan};
 use std::alloc::Global;
 use std::random::RandomSource;
@@ -66,7 +68,7 @@ fn answer_merged<R: Threads + RandomSource + Sync, S: Source>(
         (λ fault. EndsMaking S.model (AnswersBy (Some kind)) sources.old sources.new
         (Err fault)) }
 {
-    let merged = match merge_sources(rt, alloc, sources, plan) {
+    let merged = match merge_sources(rt, alloc, sources, plan, &FreeGate) {
         Ok(merged) => merged,
         Err(fault) => return Err(fault),
     };

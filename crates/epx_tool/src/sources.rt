@@ -4,12 +4,14 @@ ghost use Rattle.std.specs.Prelude.{IfOk, IfErr, IsErrOf, MatchResult, Err};
 ghost use Rattle.epx_types.specs.Limits.{max_logs};
 ghost use Rattle.epx_merge.specs.Refusals.{FitLimits};
 ghost use Rattle.epx_merge.specs.LogLines.{bytes_of};
-ghost use Rattle.epx_tool.specs.Runs.{AreBytesOf};
+ghost use Rattle.epx_merge.specs.ReadingRefusals.{AreBytesOf};
 ghost use Rattle.epx_tool.specs.WithInput.{IsShort};
 ghost use Rattle.epx_tool.specs.RunsWithInput.{IsReadingRefusalWithInput};
-ghost use Rattle.epx_tool.specs.Sources.{LeavesInput, LeavesSources};
+ghost use Rattle.epx_tool.specs.Sources.{LeavesInput};
+ghost use Rattle.epx_merge.specs.SourceEndings.{LeavesSources};
 ghost use Rattle.epx_tool.specs.DeliveredWithInput.{DeliversBoth, StopsReadingBoth};
-ghost use Rattle.epx_tool.specs.inner.SourceReadings.{AreDeliveredUpTo, EndsReading, logs_after};
+ghost use Rattle.epx_merge.specs.SourceReadings.{AreDeliveredUpTo, EndsReading};
+ghost use Rattle.epx_tool.specs.inner.ReadSources.{logs_after};
 
 use epx_devices::{Source, read_log};
 use epx_types::Fault;

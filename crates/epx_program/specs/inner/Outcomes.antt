@@ -6,8 +6,8 @@ use Rattle.epx_types.specs.declared.fault.Fault.{Fault}
 use Rattle.epx_types.specs.declared.fault.Fault.TheVariants.{Read, Write}
 use Rattle.epx_words.specs.declared.words.Task.{Task}
 use Rattle.epx_devices.specs.Models.{SinkModel, SourceModel}
-use Rattle.epx_tool.specs.Delivered.{EachDelivers}
-use Rattle.epx_tool.specs.Runs.{AreBytesOf}
+use Rattle.epx_merge.specs.DeliveredLogs.{EachDelivers}
+use Rattle.epx_merge.specs.ReadingRefusals.{AreBytesOf}
 use Rattle.epx_program.specs.Endings.{AddsAnswer, AddsPart, IsTaskResult}
 use Rattle.epx_program.specs.Inputs.{OneHasFailedRead}
 

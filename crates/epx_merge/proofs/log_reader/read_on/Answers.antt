@@ -2,8 +2,7 @@ use Rattle.std.proofs.Common.{◌≡◌, ◌<◌, ◌∙◌, IfOk, [], MatchResu
 use Rattle.std.proofs.lemmas.Result.{IfOk-weaker}
 use Rattle.epx_types.specs.Pieces.{piece_count}
 use Rattle.epx_merge.specs.LinePieces.{ArePiecesOf, lines_of_piece}
-use Rattle.epx_merge.specs.LogLines.{bad_lines_among}
-use Rattle.epx_merge.specs.ReadFaults.{IsReadFault}
+use Rattle.epx_merge.specs.ReadFaults.{IsReadFault, refused_among}
 use Rattle.epx_merge.proofs.LinePieceLemmas.{pieces_in_order}
 use Rattle.epx_merge.proofs.log_reader.read_on.Goals as goal
 
@@ -27,7 +26,7 @@ returns-clause-lines g c = λ lines cut read drops.
           (a.0, a.1, here);
     })) did.ensures.ok in
     let noted = subst (λ n. MatchResult did.result.0.0 (λ _. N.has_read lines n cache [])
-    (IsReadFault (bad_lines_among lines))) (search rules)
+    (IsReadFault (refused_among N.refuses_bad_lines lines))) (search rules)
     (did.ensures.first.met.1.0 lines cache read) in
     let kept = subst (λ n. N.shared_of n ≡ N.shared_of c.args.before.notes) (search rules)
     did.ensures.first.met.1.1.0 in

@@ -1,9 +1,9 @@
 use Rattle.std.proofs.Common.{◌≤◌, ◌∷◌, [], List, ℕ, length, inl, subst, arith, rules}
 use Rattle.epx_types.specs.Limits.{max_logs}
 use Rattle.epx_compare.specs.LaterLogComparisons.{IsComparisonResult, IsComparisonWith}
-use Rattle.epx_tool.specs.inner.SourceReadings.{EndsMaking}
+use Rattle.epx_merge.specs.SourceReadings.{EndsMaking}
 use Rattle.epx_tool.proofs.MergedSourceLemmas.{compared_with}
-use Rattle.epx_tool.proofs.SourceReadingLemmas.{none_delivered}
+use Rattle.epx_merge.proofs.SourceReadingLemmas.{none_delivered}
 use Rattle.epx_tool.proofs.compared_sources.compare_meanwhile.Goals as goal
 
 pub returns-in-Err : goal.returns-in-Err

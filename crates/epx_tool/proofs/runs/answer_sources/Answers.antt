@@ -2,7 +2,7 @@ use Rattle.std.proofs.Common.{◌∙◌, Option, Ok, Err, MatchResult, sym}
 use Rattle.std.proofs.Common.{subst}
 use Rattle.epx_tool.specs.Findings.{AnswersFindingBy}
 use Rattle.epx_tool.specs.Questions.{AnswersBy}
-use Rattle.epx_tool.specs.inner.SourceReadings.{EndsMaking}
+use Rattle.epx_merge.specs.SourceReadings.{EndsMaking}
 use Rattle.epx_tool.specs.declared.question.MapText.{MapText}
 use Rattle.epx_tool.proofs.runs.answer_sources.Goals as goal
 

@@ -1,7 +1,7 @@
 use Rattle.std.proofs.Common.{List, Ok, Err, ℕ, subst, sym}
 use Rattle.epx_types.specs.declared.fault.Fault.{Fault}
 use Rattle.epx_tool.specs.Questions.{AnswersQuestion, map_text_of}
-use Rattle.epx_tool.specs.inner.SourceReadings.{EndsMaking}
+use Rattle.epx_merge.specs.SourceReadings.{EndsMaking}
 use Rattle.epx_tool.proofs.MergedSourceLemmas.{run_refused, run_written}
 use Rattle.epx_tool.proofs.PlainRunLemmas.{making_plain}
 use Rattle.epx_tool.proofs.RunEndingLemmas.{failed_first}

@@ -1,6 +1,6 @@
 use Rattle.std.proofs.Common.{length, arith, ◌≤◌}
 use Rattle.epx_types.specs.Limits.{max_logs}
-use Rattle.epx_tool.proofs.SourceReadingLemmas.{next_read}
+use Rattle.epx_merge.proofs.SourceReadingLemmas.{next_read}
 use Rattle.epx_tool.proofs.sources.read_next.Goals as goal
 
 pub returns : goal.returns

@@ -3,8 +3,8 @@ use Rattle.std.proofs.Common.{refl, sym, ap, ◌∙◌, subst, arith, rules}
 use Rattle.std.proofs.lemmas.List.{map-append}
 use Rattle.epx_merge.specs.LogLines.{bytes_of}
 use Rattle.epx_types.specs.Limits.{max_logs}
-use Rattle.epx_tool.specs.inner.SourceReadings.{AreDeliveredUpTo}
-use Rattle.epx_tool.proofs.SourceReadingLemmas.{out_of_memory, all_delivered}
+use Rattle.epx_merge.specs.SourceReadings.{AreDeliveredUpTo}
+use Rattle.epx_merge.proofs.SourceReadingLemmas.{out_of_memory, all_delivered}
 use Rattle.epx_tool.proofs.sources.read_onward.Goals as goal
 
 pub read_next-requires : goal.read_next-requires

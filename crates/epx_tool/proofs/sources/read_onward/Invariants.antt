@@ -1,6 +1,6 @@
 use Rattle.std.proofs.Common.{◌≡◌, ◌++◌, ℕ, List, length}
 use Rattle.epx_merge.specs.LogLines.{bytes_of}
-use Rattle.epx_tool.specs.inner.SourceReadings.{AreDeliveredUpTo}
+use Rattle.epx_merge.specs.SourceReadings.{AreDeliveredUpTo}
 use Rattle.epx_tool.proofs.sources.read_onward.Given as goal
 
 abbrev pub invariant-loop-log : goal.invariant-loop-log

@@ -1,5 +1,5 @@
 use Rattle.std.proofs.Common.{[]}
-use Rattle.epx_tool.proofs.SourceReadingLemmas.{too_many_sources, none_delivered}
+use Rattle.epx_merge.proofs.SourceReadingLemmas.{too_many_sources, none_delivered}
 use Rattle.epx_tool.proofs.sources.read_sources.Goals as goal
 
 pub returns-then-sources-gt-MAX_LOGS : goal.returns-then-sources-gt-MAX_LOGS

@@ -7,13 +7,16 @@ use Rattle.epx_devices.specs.Transfers.{ConsumesExactly}
 use Rattle.epx_types.specs.Limits.{max_log_bytes}
 use Rattle.epx_merge.specs.Refusals.{FitLimits}
 use Rattle.epx_merge.specs.LogLines.{bytes_of}
-use Rattle.epx_tool.proofs.ConsumedLemmas.{nothing_consumed}
+use Rattle.epx_merge.proofs.ConsumedLemmas.{nothing_consumed}
 use Rattle.epx_tool.proofs.LogsWithInputLemmas.{reading_refusal_with_input}
 use Rattle.epx_tool.proofs.LogsWithInputLemmas.{refusal_of_reading_with_input}
-use Rattle.epx_tool.proofs.ReturnedFaultLemmas.{same_error, neither, ok_is_no_fault}
-use Rattle.epx_tool.proofs.ReturnedFaultLemmas.{ok_does_not_stop, ok_failed_iff}
-use Rattle.epx_tool.proofs.ReturnedFaultLemmas.{input_not_write, input_not_too_many}
-use Rattle.epx_tool.proofs.ReturnedFaultLemmas.{input_failed_iff, stops_at_input}
+use Rattle.epx_tool.proofs.ReturnedFaultLemmas.{same_error}
+use Rattle.epx_merge.proofs.ReturnedFaultLemmas.{neither, ok_is_no_fault}
+use Rattle.epx_merge.proofs.ReturnedFaultLemmas.{ok_does_not_stop}
+use Rattle.epx_tool.proofs.ReturnedFaultLemmas.{ok_failed_iff}
+use Rattle.epx_merge.proofs.ReturnedFaultLemmas.{input_not_write, input_not_too_many}
+use Rattle.epx_tool.proofs.ReturnedFaultLemmas.{input_failed_iff}
+use Rattle.epx_merge.proofs.ReturnedFaultLemmas.{stops_at_input}
 use Rattle.epx_tool.proofs.ReturnedFaultLemmas.{HasRead-input, HasRead-written}
 use Rattle.epx_tool.proofs.RunEndingLemmas.{leaves_again, leaves_after}
 use Rattle.epx_tool.proofs.sources.read_with_input.Goals as goal

@@ -1,5 +1,0 @@
-use Rattle.epx_merge.specs.RedundantLines.{CachesSomeOf}
-use Rattle.epx_merge.proofs.fresh_line.cache_batch.Given as goal
-
-abbrev pub invariant-loop-piece : goal.invariant-loop-piece
-invariant-loop-piece l = CachesSomeOf l.lines l.fn.cache l.cache

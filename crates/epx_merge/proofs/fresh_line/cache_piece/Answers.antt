@@ -1,6 +1,0 @@
-use Rattle.epx_merge.proofs.DropsCachedLemmas.{CachesSomeOf-trans}
-use Rattle.epx_merge.proofs.fresh_line.cache_piece.Goals as goal
-
-pub loop-line-preserved : goal.loop-line-preserved
-loop-line-preserved c = CachesSomeOf-trans c.args.lines.now c.args.cache.now c.loop-line.cache
-    c.cache_line.new.cache c.loop-line.invariant c.cache_line.ensures

@@ -1,5 +1,0 @@
-use Rattle.epx_merge.specs.RedundantLines.{CachesSomeOf}
-use Rattle.epx_merge.proofs.fresh_line.cache_piece.Given as goal
-
-abbrev pub invariant-loop-line : goal.invariant-loop-line
-invariant-loop-line l = CachesSomeOf l.lines l.fn.cache l.cache
