@@ -19,7 +19,7 @@ use Rattle.epx_audit.specs.declared.touches.Touch.{Touch}
 use Rattle.epx_audit.specs.inner.RelatedTouches.{AreAllRelated}
 use Rattle.epx_audit.specs.inner.DoubtfulKeys.{doubtful_touch, ShareKey, HoldAllConflicts}
 use Rattle.epx_components.specs.ReadyMarks.{AreReadyMarks}
-use Rattle.epx_audit.specs.inner.Touches.{touch, hash_of, touches_of, HoldTouches}
+use Rattle.epx_audit.specs.inner.Touches.{touch, hash_of, hashed_touches, HoldTouches}
 use Rattle.epx_audit.specs.inner.ReachIndexes.{AreOrderNodes}
 use Rattle.epx_audit.proofs.HashLemmas.{contains_or_not}
 use Rattle.epx_audit.proofs.QuickAuditLemmas.{HasPosition, position_of_ready, related}
@@ -65,8 +65,8 @@ module _ (m : List Instance) (g : DependencyGraph) (is : IsGraphOf m g) where
     -- commands that touch one key, of which one writes it
     by_key : (d e : Instance) (s : HasPosition m g is order orders nodes are d)
         (t : HasPosition m g is order orders nodes are e) → d.id ≢ e.id → (k : List ℕ) (w v : Bool)
-        → Contains (touches_of start s.position d.ops) (touch start s.position k w)
-        → Contains (touches_of start t.position e.ops) (touch start t.position k v)
+        → Contains (hashed_touches start s.position d.ops) (touch start s.position k w)
+        → Contains (hashed_touches start t.position e.ops) (touch start t.position k v)
         → IsTrue w ⊎ IsTrue v → (Reaches m d.id e.id ⊎ Reaches m e.id d.id)
         ⊎ ShareKey doubtful (get_or nodes s.position 0) (get_or nodes t.position 0)
     by_key d e s t differ k w v in_d in_e one =

@@ -10,7 +10,7 @@ use Rattle.epx_types.proofs.lists.MembershipLemmas.{Contains-from_filter}
 use Rattle.epx_types.proofs.lists.MembershipLemmas.{passes-from_filter, Contains-flat_map}
 use Rattle.epx_types.proofs.lists.MembershipLemmas.{Contains-from_flat_map}
 use Rattle.epx_audit.specs.declared.touches.Touch.{Touch}
-use Rattle.epx_audit.specs.inner.Touches.{touch, touches_by, touches_of}
+use Rattle.epx_audit.specs.inner.Touches.{touch, touches_by, hashed_touches}
 
 module _ (start : DefaultHasher) (position : ℕ) where
   abbrev touch_by : List ℕ × Bool → Touch
@@ -38,7 +38,7 @@ module _ (start : DefaultHasher) (position : ℕ) where
 
   -- a touched key has a touch, and a written one a touch that writes
   pub touch_of_touched : (ops : List Op) (q : List ℕ) → Contains (touched_keys ops) q
-      → (w : Bool) × Contains (touches_of start position ops) (touch start position q w)
+      → (w : Bool) × Contains (hashed_touches start position ops) (touch start position q w)
   touch_of_touched ops q h =
       let f = Contains-from_flat_map touched_by ops q (Contains-from_rising_keys _ q h) in
       let t = by_touched f.0 q f.2 in (
@@ -48,7 +48,7 @@ module _ (start : DefaultHasher) (position : ℕ) where
       )
 
   pub touch_of_written : (ops : List Op) (q : List ℕ) → Contains (written_keys ops) q
-      → Contains (touches_of start position ops) (touch start position q true)
+      → Contains (hashed_touches start position ops) (touch start position q true)
   touch_of_written ops q h =
       let f = Contains-from_flat_map written_by ops q (Contains-from_rising_keys _ q h) in
       Contains-flat_map (touches_by start position) ops f.0 (touch start position q true) f.1
@@ -60,7 +60,7 @@ module _ (start : DefaultHasher) (position : ℕ) where
       subst (λ t. t.position ≡ position) a.2 refl
 
   -- each touch is at the position of the command
-  pub touch_place : (ops : List Op) (t : Touch) → Contains (touches_of start position ops) t
+  pub touch_place : (ops : List Op) (t : Touch) → Contains (hashed_touches start position ops) t
       → t.position ≡ position
   touch_place ops t h = let f = Contains-from_flat_map (touches_by start position) ops t h in
       place_by f.0 t f.2

@@ -1,6 +1,7 @@
 //! Which keys the commands of an order touch.
 ghost use Rattle.std.specs.Prelude.{◌≡◌, ◌<◌, [], ◌∷◌, ◌++◌, length, All, IfOk, OnOk};
-ghost use Rattle.epx_audit.specs.inner.Touches.{hash_of, touch, touches_by, touches_of, ArePlaced};
+ghost use Rattle.epx_audit.specs.inner.Touches.{hash_of, hashed_touches, touch, touches_by};
+ghost use Rattle.epx_audit.specs.inner.Touches.{ArePlaced};
 ghost use Rattle.epx_audit.specs.inner.Touches.{HoldTouches};
 
 use epx_committed::Merged;
@@ -73,7 +74,7 @@ fn add_command(
     ops: &[Op],
 ) -> Result<(), Memory>
     ensures { OnOk result (touches.new.items ≡ touches.old.items
-        ++ touches_of start position ops.now) }
+        ++ hashed_touches start position ops.now) }
 {
     for op in ops {
         add_operation(touches, start, position, op)?;

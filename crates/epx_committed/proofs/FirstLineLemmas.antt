@@ -16,7 +16,7 @@ use Rattle.epx_committed.specs.declared.rows.Row.{Row}
 use Rattle.epx_committed.specs.Ledgers.{LedgerView, NotesLines}
 use Rattle.epx_committed.specs.inner.FirstLines.{AreFirstLines, Extends, ledger_view}
 use Rattle.epx_committed.specs.inner.LineIndexes.{IsIndexOf, mark_of}
-use Rattle.epx_committed.specs.inner.LineRows.{firsts_at, line_at, IsRowOf, NamesItsLine}
+use Rattle.epx_committed.specs.inner.LineRows.{firsts_at, line_at, IsLineRow, NamesItsLine}
 use Rattle.epx_committed.proofs.LedgerLemmas.{keys, NotesLines-new}
 use Rattle.epx_committed.proofs.LineIndexLemmas.{there, not_there, distinct_push, IsIndexOf-push}
 use Rattle.epx_committed.proofs.LineIndexLemmas.{IsIndexOf-same, slice_get-push}
@@ -76,7 +76,7 @@ module _ (lists : Lists) (old : FirstLines) (h : AreFirstLines lists old) where
 
   -- ---- the row of a new Id
 
-  module _ (p : Placed) (r : Row) (is : IsRowOf lists p r) (new : mark_of old.index r.id ≡ 0)
+  module _ (p : Placed) (r : Row) (is : IsLineRow lists p r) (new : mark_of old.index r.id ≡ 0)
     where
       none : ¬ Contains (names rows) r.id
       none = not_there (names rows) old.index r.id h.found new

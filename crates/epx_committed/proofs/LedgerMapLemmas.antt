@@ -56,11 +56,6 @@ module _ {V : Type 0} where
       → ¬ Contains (keys es) x
   no_key x es t = by_no_look_up x es (lookup (same_id x) es) refl t
 
--- a look-up that finds nothing
-pub is_none : {V : Type 0} (o : Option V) → is_some o ≡ false → o ≡ None
-is_none None e = refl
-is_none (Some v) e = absurd (cc e)
-
 -- ---- one more line of an instance whose first line is known
 
 module _ (firsts : List (Id × Placed)) (disagreements : List (Id × Disagreement))

@@ -29,7 +29,7 @@ use Rattle.epx_committed.specs.Ledgers.{IsLedgerOf}
 use Rattle.epx_committed.specs.MergedLines.{IsMerged}
 use Rattle.epx_committed.specs.inner.FirstLines.{AreFirstLines, ledger_view}
 use Rattle.epx_committed.specs.inner.LineRows.{line_at, instances_at, firsts_at}
-use Rattle.epx_committed.specs.inner.LineRows.{HasList, IsRowOf, NamesItsLine, AreLineRows}
+use Rattle.epx_committed.specs.inner.LineRows.{HasList, IsLineRow, NamesItsLine, AreLineRows}
 use Rattle.epx_committed.proofs.LedgerLemmas.{keys}
 use Rattle.epx_committed.proofs.LedgerMapLemmas.{same_id}
 use Rattle.epx_committed.proofs.LedgerCloseLemmas.{AreNamedBy-sorted, IsCommittedBy-sorted}
@@ -101,7 +101,7 @@ module _ (lists : Lists) where
 -- ---- one more row, or one more list
 
 -- the first line of one more row
-pub firsts_at-push : (lists : Lists) (rows : List Row) (p : Placed) (r : Row) → IsRowOf lists p r
+pub firsts_at-push : (lists : Lists) (rows : List Row) (p : Placed) (r : Row) → IsLineRow lists p r
     → firsts_at lists (rows ++ r ∷ []) ≡ firsts_at lists rows ++ (p.instance.id, p) ∷ []
 firsts_at-push lists rows p r is =
     let last : firsts_at lists (r ∷ []) ≡ (p.instance.id, p) ∷ [] =

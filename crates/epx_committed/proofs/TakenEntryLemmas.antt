@@ -17,7 +17,7 @@ use Rattle.epx_types.proofs.lists.ListPositionLemmas.{slice_get-map}
 use Rattle.epx_types.proofs.lists.RisingIdLemmas.{AllPairs-from_IsRising}
 use Rattle.epx_types.proofs.lists.TotalOrderLemmas.{below_irrefl}
 use Rattle.epx_committed.specs.declared.rows.Row.{Row}
-use Rattle.epx_committed.specs.inner.LineRows.{line_at, instances_at, IsRowOf}
+use Rattle.epx_committed.specs.inner.LineRows.{line_at, instances_at, IsLineRow}
 use Rattle.epx_committed.specs.inner.LineRows.{AreLineRows, NamesItsLine}
 use Rattle.epx_committed.proofs.LineRowLemmas.{Lists, line_there, list_of, stands_under}
 
@@ -35,9 +35,9 @@ set_elsewhere (z ∷ xs) zero (suc j) y other = refl
 set_elsewhere (z ∷ xs) (suc k) zero y other = refl
 set_elsewhere (z ∷ xs) (suc k) (suc j) y other = set_elsewhere xs k j y (λ e. other (ap suc e))
 
-module _ (lists : Lists) (row : Row) (q new : Placed) (is : IsRowOf lists q row) where
+module _ (lists : Lists) (row : Row) (q new : Placed) (is : IsLineRow lists q row) where
   pub other_lines_stay : (l : Vec Placed Global) → slice_get lists row.list ≡ Some l
-      → (r : Row) → r.id ≢ row.id → (p : Placed) → IsRowOf lists p r
+      → (r : Row) → r.id ≢ row.id → (p : Placed) → IsLineRow lists p r
       → line_at (slice_set lists row.list (with_item l row.at new)) r ≡ Some p
   other_lines_stay l here r other p there =
       let after = slice_set lists row.list (with_item l row.at new) in
@@ -90,12 +90,12 @@ module _ (lists now after : Lists) (rows : List Row) (are : AreLineRows lists ro
       (slice_get-map (λ (q : Row). q.id) rows j r there) in
       below_irrefl id_cmp_total row.id (subst (Below row.id) same below)
 
-  pub later_lines_stay : ((r : Row) → r.id ≢ row.id → (p : Placed) → IsRowOf now p r
+  pub later_lines_stay : ((r : Row) → r.id ≢ row.id → (p : Placed) → IsLineRow now p r
       → line_at after r ≡ Some p) → LaterLinesStay lists after rows (k + 1)
   later_lines_stay others j later r there p line =
       let q = named_at j r there in
       let same : q.0 ≡ p = ap (λ o. unwrap_or o p) (sym q.1.0 ∙ line) in
-      let is : IsRowOf lists p r = subst (λ l. IsRowOf lists l r) same q.1 in
+      let is : IsLineRow lists p r = subst (λ l. IsLineRow lists l r) same q.1 in
       others r (later_is_other j r (omega (arith, later)) there) p
       (stay j (omega (arith, later)) r there p line, is.1, is.2)
 

@@ -1,4 +1,5 @@
 //! Guesses of the positions of instances in a list by rising Id.
+ghost use Rattle.std.specs.Iterator.{IsFinite};
 
 use epx_types::{Id, Memory};
 use std::alloc::Global;
@@ -48,6 +49,20 @@ impl Guesses {
             blocks: Vec::new(alloc),
             offsets: [None; 256],
         }
+    }
+
+    /// Guesses for the instances of a list by rising Id.
+    pub fn of<I: Iterator<Item = Id> + Drop>(alloc: Global, ids: I) -> Result<Guesses, Memory>
+        requires can { I.can_next ids }
+        requires ends { IsFinite (I.remaining ids) }
+    {
+        let mut guesses = Guesses::new(alloc);
+        let mut position: usize = 0;
+        for id in ids {
+            guesses.note(id, position)?;
+            position = position.wrapping_add(1);
+        }
+        Ok(guesses)
     }
 
     /// Records the position of an instance. Call it by rising Id.

@@ -5,7 +5,7 @@ ghost use Rattle.epx_types.specs.declared.id.Id.{Id};
 ghost use Rattle.epx_types.specs.PlacedLines.{Placed};
 ghost use Rattle.epx_committed.specs.Ledgers.{IsLedgerOf, NotesLines};
 ghost use Rattle.epx_committed.specs.inner.FirstLines.{AreFirstLines, Extends, ledger_view};
-ghost use Rattle.epx_committed.specs.inner.LineRows.{IsRowOf};
+ghost use Rattle.epx_committed.specs.inner.LineRows.{IsLineRow};
 ghost use Rattle.epx_committed.specs.inner.LeastDisagreement.{IsLeastDisagreement};
 ghost use Rattle.epx_committed.specs.LineOrder.{IsSortedByPlace};
 ghost use Rattle.epx_committed.specs.MergedLines.{IsMerged, IsMergeFault};
@@ -73,7 +73,7 @@ impl FirstLines {
         row: Row,
     ) -> Result<(), Memory>
         requires firsts { AreFirstLines lists.now self.old }
-        requires row { IsRowOf lists.now line.now row }
+        requires row { IsLineRow lists.now line.now row }
         ensures firsts { AreFirstLines lists.now self.new }
         ensures rows { Extends self.old.rows.items self.new.rows.items }
         ensures noted { OnOk result (NotesLines (line.now ∷ [])

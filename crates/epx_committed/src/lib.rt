@@ -2,6 +2,7 @@
 //! the fault for which they commit none.
 #![tactic(auto)]
 
+mod commands;
 mod entries;
 mod guesses;
 mod ledger;
@@ -13,6 +14,7 @@ mod placed;
 mod rows;
 pub mod same_entry;
 
+pub use commands::commands_of;
 pub use entries::from_entries;
 pub use epx_types::limits::MAX_INSTANCES;
 pub use guesses::Guesses;

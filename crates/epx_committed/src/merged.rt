@@ -5,7 +5,7 @@ ghost use Rattle.epx_types.specs.CommittedMap.{ids_of, instance_of, position_of}
 ghost use Rattle.epx_types.specs.Ids.{IsRising};
 ghost use Rattle.epx_types.specs.PlacedLines.{Placed};
 ghost use Rattle.epx_committed.specs.declared.rows.Row.{Row};
-ghost use Rattle.epx_committed.specs.inner.LineRows.{AreLineRows, IsRowOf, NamesItsLine};
+ghost use Rattle.epx_committed.specs.inner.LineRows.{AreLineRows, IsLineRow, NamesItsLine};
 ghost use Rattle.epx_committed.specs.inner.LineRows.{instances_at, line_at};
 ghost use Rattle.epx_committed.specs.inner.NumberRanges.{AreRangesIn};
 
@@ -46,7 +46,7 @@ impl Model for Merged {
 fn take_entry(alloc: Global, lists: &mut Vec<Vec<PlacedEntry>>, row: Row) -> Entry
     requires { NamesItsLine lists.old.items row }
     ensures entry { (p : Placed) → line_at lists.old.items row ≡ Some p → result ≡ p.instance }
-    ensures others { (r : Row) → r.id ≢ row.id → (p : Placed) → IsRowOf lists.old.items p r
+    ensures others { (r : Row) → r.id ≢ row.id → (p : Placed) → IsLineRow lists.old.items p r
         → line_at lists.new.items r ≡ Some p }
 {
     let empty = Entry::new(row.id, row.seq, Vec::new(alloc), Vec::new(alloc)).unwrap();

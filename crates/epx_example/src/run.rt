@@ -4,11 +4,11 @@ ghost use Rattle.epx_types.specs.Ids.{IsRising};
 use crate::order_entries::{Ordered, order_entries};
 use epx_apply::run_order;
 use epx_claims::FreeGate;
-use epx_committed::{MAX_INSTANCES, Merged};
+use epx_committed::{MAX_INSTANCES, commands_of};
 use epx_graph::{Waiter, waiting};
 use epx_order::OrderList;
 use epx_txn::Store;
-use epx_types::{Command, Entry, Fault, Id, Memory, Plan, Reply};
+use epx_types::{Entry, Fault, Id, Plan, Reply};
 use std::alloc::Global;
 use std::random::RandomSource;
 use std::thread::Threads;
@@ -20,24 +20,6 @@ pub(crate) struct RunResult {
     pub(crate) order: OrderList,
     pub(crate) replies: Vec<Reply>,
     pub(crate) waiters: Vec<Waiter>,
-}
-
-/// The commands of these instances, with their operations borrowed from the map.
-fn commands_of<'a>(
-    alloc: Global,
-    merged: &'a Merged,
-    ids: &[Id],
-) -> Result<Vec<Command<'a>>, Memory> {
-    let mut commands = Vec::new(alloc);
-    for id in ids {
-        if let Some(entry) = merged.get(*id) {
-            commands.push(Command {
-                id: *id,
-                ops: entry.ops(),
-            })?;
-        }
-    }
-    Ok(commands)
 }
 
 /// Executes the instances of the entries that are ready and not done, over the store.

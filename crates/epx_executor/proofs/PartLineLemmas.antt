@@ -1,6 +1,6 @@
 -- The lines of a call, where only a part of the pending instances is looked at.
-use Rattle.std.proofs.Common.{◌≡◌, ◌≢◌, ◌≤◌, ◌+◌, ◌↔◌, ◌⊎◌, List, [], ◌++◌, length, get_or}
-use Rattle.std.proofs.Common.{Contains, AllPairs, refl, sym, ◌∙◌, subst, inl, inr, arith}
+use Rattle.std.proofs.Common.{◌≡◌, ◌≢◌, ◌≤◌, ◌+◌, ◌↔◌, ◌⊎◌, List, [], ◌++◌, length}
+use Rattle.std.proofs.Common.{Contains, refl, sym, ◌∙◌, subst, inl, inr, arith}
 use Rattle.std.proofs.lemmas.List.{length-map, length-append}
 use Rattle.std.proofs.lemmas.List.Elements.{Contains-append_cases, Contains-append_left}
 use Rattle.std.proofs.lemmas.List.Elements.{Contains-append_right}
@@ -9,7 +9,7 @@ use Rattle.epx_types.specs.declared.fault.Fault.{Fault}
 use Rattle.epx_types.specs.declared.fault.Fault.TheVariants.{Memory, TooManyLogs, LogTooLong}
 use Rattle.epx_types.specs.declared.fault.Fault.TheVariants.{BadLine, TooManyInstances, Disagree}
 use Rattle.epx_types.specs.declared.fault.Fault.TheVariants.{Read, Write, BadBase}
-use Rattle.epx_types.specs.Ids.{Below, IsRising}
+use Rattle.epx_types.specs.Ids.{IsRising}
 use Rattle.epx_types.specs.Instances.{Instance}
 use Rattle.epx_types.specs.Limits.{max_instances}
 use Rattle.epx_types.specs.PlacedLines.{Placed}
@@ -17,10 +17,8 @@ use Rattle.epx_types.specs.Agreement.{Agree, Differ, IsFirstDisagreement}
 use Rattle.epx_types.specs.CommittedMap.{ids_of}
 use Rattle.epx_types.proofs.committed.AgreementLemmas.{IsRising-same}
 use Rattle.epx_types.proofs.committed.AgreementLemmas.{IsFirstDisagreement-not_Agree}
-use Rattle.epx_types.proofs.lists.ComparisonLemmas.{id_cmp_total}
 use Rattle.epx_types.proofs.lists.MembershipLemmas.{Contains-nil, Contains-map}
-use Rattle.epx_types.proofs.lists.RisingIdLemmas.{AllPairs-from_IsRising}
-use Rattle.epx_types.proofs.lists.TotalOrderLemmas.{below_irrefl}
+use Rattle.epx_types.proofs.lists.RisingIdLemmas.{rising_once}
 use Rattle.epx_types.proofs.orders.OrderLengthLemmas.{fewer}
 use Rattle.epx_committed.specs.InstanceCounts.{AreNamedBy, FewInstances, ManyInstances}
 use Rattle.epx_committed.specs.MergedLines.{IsMerged, IsMergeFault}
@@ -30,11 +28,6 @@ use Rattle.epx_executor.specs.CallLines.{call_lines, lines_from, lines_not_done}
 use Rattle.epx_executor.proofs.CallLineLemmas.{call_in_order, from_call, merged_instances}
 
 -- rising Ids are distinct
-rising_once : (xs : List Id) → IsRising xs → AllPairs (λ x y. x ≢ y) xs
-rising_once xs rising i j d l k same = below_irrefl id_cmp_total (get_or xs j d)
-    (subst (λ (x : Id). Below x (get_or xs j d)) same
-    (AllPairs-from_IsRising xs rising i j d l k))
-
 module _ (done : List Id) (pending part came : List Instance) (rising : IsRising (ids_of pending))
     (within : (e : Instance) → Contains part e → Contains pending e)
     (few : length pending + length came ≤ max_instances)

@@ -10,11 +10,9 @@ use Rattle.std.proofs.lemmas.List.Elements.{Contains-append_left, Contains-appen
 use Rattle.std.proofs.lemmas.List.Elements.{Contains-append_cases}
 use Rattle.std.specs.BTreeMap.{insert_entry, is_at}
 use Rattle.std.specs.Cmp.{Equal-is, tied_itself}
-use Rattle.std.specs.List.{AllByRecursion}
-use Rattle.std.specs.List.Sorted.{IsStrictlySortedBy}
 use Rattle.std.specs.Map.{lookup, remove_entry}
 use Rattle.std.specs.Option.{option_copied, IfSome}
-use Rattle.std.specs.Ordering.{is_eq, is_lt, match_ordering}
+use Rattle.std.specs.Ordering.{is_eq, match_ordering}
 use Rattle.epx_types.specs.declared.id.Id.{Id}
 use Rattle.epx_types.specs.CommittedMap.{ids_of}
 use Rattle.epx_types.specs.Ids.{id_cmp, Below, BelowAll, IsRising}
@@ -49,14 +47,6 @@ equal_at : (x y : Id) → is_eq (id_cmp x y) ≡ true → x ≡ y
 equal_at x y e = id_cmp-IsAntisymmetric x y ((Equal-is (id_cmp x y)).0 e)
 
 -- ---- keys that ascend
-
-pub rising_keys : (xs : List Id) → IsStrictlySortedBy id_cmp xs → IsRising xs
-unfolding IsStrictlySortedBy
-rising_keys [] h = tt
-rising_keys (x ∷ xs) h = (below_all xs h.0, rising_keys xs h.1) where
-  below_all : (ys : List Id) → AllByRecursion (λ y. id_cmp x y ≡ Less) ys → BelowAll x ys
-  below_all [] k = tt
-  below_all (y ∷ ys) k = (ap is_lt k.0, below_all ys k.1)
 
 below_each : (x : Id) (xs : List Id) (y : Id) → BelowAll x xs → Contains xs y → Below x y
 below_each x [] y l h = absurd (Contains-nil y h)

@@ -2,10 +2,9 @@
 use Rattle.std.proofs.Common.{◌≡◌, ◌⊎◌, ◌↔◌, ℕ, ◌+◌, ◌-◌, ◌<◌, ◌≤◌, List, [], ◌∷◌, ◌++◌, length}
 use Rattle.std.proofs.Common.{get_or, map, Contains, All, AllPairs, refl, sym, ap, subst}
 use Rattle.std.proofs.Common.{inl, inr, ◌∙◌, arith, Some, true, false, zero, suc, Ordering, take}
-use Rattle.std.proofs.Common.{Less, Equal, Greater}
 use Rattle.std.specs.List.{range_with_len}
 use Rattle.std.specs.List.Sorted.{IsSorted, IsPermutation}
-use Rattle.std.specs.Ordering.{nat_cmp, is_lt, is_some_and, ordering_then, partial_ordering_then}
+use Rattle.std.specs.Ordering.{nat_cmp, is_lt, is_some_and, partial_ordering_then}
 use Rattle.std.proofs.lemmas.Bool.{cases_lt, cases_eq}
 use Rattle.std.proofs.lemmas.Bool.Decides.{nat_tests}
 use Rattle.std.proofs.lemmas.List.{get_or_append_left, get_or_default, take_more, length-append}
@@ -23,10 +22,11 @@ use Rattle.epx_types.proofs.lists.MembershipLemmas.{Contains-nil, Contains-head,
 use Rattle.epx_types.proofs.lists.MembershipLemmas.{Contains-map, Contains-from_map}
 use Rattle.epx_types.proofs.lists.MembershipLemmas.{Contains-flat_map, Contains-from_flat_map}
 use Rattle.epx_types.proofs.lists.TotalOrderLemmas.{below_trans, below_cases}
+use Rattle.epx_graph.proofs.NeighbourLemmas.{is_lt-from_lt}
 use Rattle.epx_executor.specs.declared.done_runs.Run.{Run}
 use Rattle.epx_executor.specs.contracts.done_runs.RunOrd.TheImpl as run_ord
 use Rattle.epx_executor.specs.Runs.{AreFilled, AreRuns, BeginInOrder, start_of, ids_in}
-use Rattle.epx_executor.specs.Runs.{ids_of_run, IsFilled, IsInRun, IsInRuns, end_of}
+use Rattle.epx_executor.specs.Runs.{ids_of_run, IsFilledRun, IsInRun, IsInRuns, end_of}
 
 -- ---- the Ids of runs
 
@@ -89,12 +89,7 @@ below_from_numbers x y h = grind (arith, nat_tests)
 -- `<` of two Ids, from the comparisons of their fields
 pub Below-from_lt : (x y : Id) → is_some_and is_lt (partial_ordering_then
     (Some (nat_cmp x.replica y.replica)) (Some (nat_cmp x.number y.number))) ≡ true → Below x y
-Below-from_lt x y h = lt_of_fields (nat_cmp x.replica y.replica) (nat_cmp x.number y.number) h where
-  lt_of_fields : (r s : Ordering) → is_some_and is_lt (partial_ordering_then (Some r) (Some s))
-      ≡ true → is_lt (ordering_then r s) ≡ true
-  lt_of_fields Less s p = p
-  lt_of_fields Equal s p = p
-  lt_of_fields Greater s p = p
+Below-from_lt x y h = is_lt-from_lt (nat_cmp x.replica y.replica) (nat_cmp x.number y.number) h
 
 -- a run that is not less than another one does not begin before it
 pub Run-by_first : (a b : Run) → is_lt (run_ord.cmp-value.it b a) ≡ false
@@ -124,7 +119,7 @@ in_run_upto r x h l = elim (below_numbers (end_of r) x l) [
 ]
 
 -- the first Id of a run, and the last one
-first_upto_last : (r : Run) → IsFilled r → UpTo (start_of r) (end_of r)
+first_upto_last : (r : Run) → IsFilledRun r → UpTo (start_of r) (end_of r)
 first_upto_last r filled = elim (cases_eq r.first r.last) [
   | inl same ↦ inl (ap (λ (n : ℕ). record { replica = r.replica; number = n }) same)
   | inr other ↦ inr (below_from_numbers (start_of r) (end_of r) (inr (refl, omega arith)))
@@ -145,15 +140,15 @@ upto_trans x y z (inr k) (inr l) = inr (below_trans id_cmp_total x y z k l)
 
 -- ---- runs that are appended
 
-pub AreRuns-push : (runs : List Run) (run : Run) → AreRuns runs → IsFilled run
+pub AreRuns-push : (runs : List Run) (run : Run) → AreRuns runs → IsFilledRun run
     → All (λ r. Below (end_of r) (start_of run)) runs → AreRuns (runs ++ run ∷ [])
 AreRuns-push runs run are filled apart = record {
-  filled = All-push IsFilled runs run are.filled filled;
+  filled = All-push IsFilledRun runs run are.filled filled;
   apart = all_pairs_push (λ a b. Below (end_of a) (start_of b)) runs run are.apart apart;
 }
 
 -- the first run
-pub AreRuns-first : (runs : List Run) (run : Run) → length runs ≡ 0 → IsFilled run
+pub AreRuns-first : (runs : List Run) (run : Run) → length runs ≡ 0 → IsFilledRun run
     → AreRuns (runs ++ run ∷ [])
 AreRuns-first runs run none filled =
     AreRuns-push runs run (record {
@@ -190,8 +185,8 @@ module _ (runs front : List Run) (last : Run) (parts : runs ≡ front ++ last �
   are_parts : AreRuns (front ++ last ∷ [])
   are_parts = subst AreRuns parts are
 
-  front_filled : AreFilled front × IsFilled last
-  front_filled = All-pop IsFilled runs front (Some last) parts are.filled
+  front_filled : AreFilled front × IsFilledRun last
+  front_filled = All-pop IsFilledRun runs front (Some last) parts are.filled
 
   pub AreRuns-front : AreRuns front
   AreRuns-front = record {
@@ -203,14 +198,14 @@ module _ (runs front : List Run) (last : Run) (parts : runs ≡ front ++ last �
   front_apart = AllPairs-last (λ a b. Below (end_of a) (start_of b)) front last are_parts.apart
 
   -- the last one is lengthened
-  pub AreRuns-lengthened : (joined : Run) → start_of joined ≡ start_of last → IsFilled joined
+  pub AreRuns-lengthened : (joined : Run) → start_of joined ≡ start_of last → IsFilledRun joined
       → AreRuns (front ++ joined ∷ [])
   AreRuns-lengthened joined same filled =
       AreRuns-push front joined AreRuns-front filled
       (λ k d l. subst (Below (end_of (get_or front k d))) (sym same) (front_apart k d l))
 
   -- a run after the last one
-  pub AreRuns-after : (run : Run) → Below (end_of last) (start_of run) → IsFilled run
+  pub AreRuns-after : (run : Run) → Below (end_of last) (start_of run) → IsFilledRun run
       → AreRuns ((front ++ last ∷ []) ++ run ∷ [])
   AreRuns-after run apart filled =
       AreRuns-push (front ++ last ∷ []) run are_parts filled
@@ -353,8 +348,8 @@ All-permuted P xs ys moved h k d l =
 -- runs that are sorted after others were appended
 module _ (singles runs sorted : List Run) (moved : IsPermutation (singles ++ runs) sorted) where
   pub AreFilled-sorted : AreFilled singles → AreFilled runs → AreFilled sorted
-  AreFilled-sorted h k = All-permuted IsFilled (singles ++ runs) sorted moved
-      (All-append IsFilled singles runs h k)
+  AreFilled-sorted h k = All-permuted IsFilledRun (singles ++ runs) sorted moved
+      (All-append IsFilledRun singles runs h k)
 
   pub IsInRuns-sorted : (ids : List Id) (x : Id) → (IsInRuns singles x ↔ Contains ids x)
       → IsInRuns sorted x ↔ (IsInRuns runs x ⊎ Contains ids x)

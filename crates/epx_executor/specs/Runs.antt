@@ -19,11 +19,11 @@ abbrev pub end_of : Run → Id
 end_of r = record { replica = r.replica; number = r.last }
 
 -- a run has a number
-abbrev pub IsFilled : Run → Type 0
-IsFilled r = r.first ≤ r.last
+abbrev pub IsFilledRun : Run → Type 0
+IsFilledRun r = r.first ≤ r.last
 
 abbrev pub AreFilled : List Run → Type 0
-AreFilled runs = All IsFilled runs
+AreFilled runs = All IsFilledRun runs
 
 -- no run begins before an earlier one
 abbrev pub BeginInOrder : List Run → Type 0

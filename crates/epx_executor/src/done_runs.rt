@@ -4,7 +4,7 @@ ghost use Rattle.std.specs.Prelude.{IfOk, IfSome, IfNone, OnOk, OnErr};
 ghost use Rattle.epx_types.specs.declared.id.Id.{Id};
 ghost use Rattle.epx_types.specs.Ids.{Below, UpTo};
 ghost use Rattle.epx_executor.specs.Runs.{AreFilled, AreRuns, BeginInOrder, start_of};
-ghost use Rattle.epx_executor.specs.Runs.{ids_in, IsFilled, IsInRun, IsInRuns, end_of};
+ghost use Rattle.epx_executor.specs.Runs.{ids_in, IsFilledRun, IsInRun, IsInRuns, end_of};
 
 use epx_types::{Id, Memory};
 use std::alloc::Global;
@@ -22,7 +22,7 @@ pub struct Run {
 impl Run {
     /// The run of one instance.
     fn of(id: Id) -> Run
-        ensures filled { IsFilled result }
+        ensures filled { IsFilledRun result }
         ensures alone { (x : Id) → IsInRun result x ↔ (x ≡ id) }
     {
         Run {
@@ -53,10 +53,10 @@ impl Run {
     /// Both runs as one, if no number lies between them. The next one does not begin before this
     /// one.
     fn join(self, next: Run) -> Option<Run>
-        requires filled { IsFilled self × IsFilled next }
+        requires filled { IsFilledRun self × IsFilledRun next }
         requires order { UpTo (start_of self) (start_of next) }
         ensures first { IfSome result (λ r. start_of r ≡ start_of self) }
-        ensures filled { IfSome result (λ r. IsFilled r) }
+        ensures filled { IfSome result (λ r. IsFilledRun r) }
         ensures members { IfSome result
             (λ r. (x : Id) → IsInRun r x ↔ (IsInRun self x ⊎ IsInRun next x)) }
         ensures apart { IfNone result (Below (end_of self) (start_of next)) }
@@ -74,7 +74,7 @@ impl Run {
 /// Appends a run that does not begin before an earlier one. If no number lies between it and the
 /// last run, that one is lengthened.
 fn push_run(runs: &mut Vec<Run>, run: Run) -> Result<(), Memory>
-    requires filled { IsFilled run }
+    requires filled { IsFilledRun run }
     requires after { All (λ r. UpTo (start_of r) (start_of run)) runs.old.items }
     requires runs { AreRuns runs.old.items }
     ensures runs { OnOk result (AreRuns runs.new.items) }

@@ -4,7 +4,7 @@ pub mod MapPathLemmas
 pub mod GraphUniquenessLemmas
 mod MissingIdLemmas
 mod RemainderLemmas
-mod NeighbourLemmas
+pub mod NeighbourLemmas
 mod MapNodeLemmas
 mod RisingRowLemmas
 mod GatherPieceLemmas

@@ -21,7 +21,7 @@ use Rattle.epx_types.proofs.lists.MembershipLemmas.{Contains-nil}
 use Rattle.epx_types.proofs.lists.ListPositionLemmas.{Contains-slice_get, slice_get-map}
 use Rattle.epx_types.proofs.committed.PositionLemmas.{position_of-instance, position_of-found}
 use Rattle.epx_types.proofs.lists.RisingIdLemmas.{AllPairs-from_IsRising, IsRising-from_AllPairs}
-use Rattle.epx_graph.specs.inner.Remainder.{RemainderView, left_of, IsIdStateOf, IsAtPosition}
+use Rattle.epx_graph.specs.inner.Remainder.{RemainderView, rest_of, IsIdStateOf, IsAtPosition}
 use Rattle.epx_graph.specs.inner.Remainder.{IsPositionLeft, ArePositionTables}
 use Rattle.epx_graph.specs.inner.Nodes.{missing_of, positions_of}
 use Rattle.epx_graph.specs.declared.left.IdState.{IdState}
@@ -85,12 +85,12 @@ position-nil (d ∷ m) zero e at = let same : d ≡ e = cc at in
 position-nil (d ∷ m) (suc p) e at = position-nil m p e at
 
 module _ (r : RemainderView) (none : length r.done ≡ 0) where
-  pub all_left : left_of r ≡ r.whole
+  pub all_left : rest_of r ≡ r.whole
   all_left = ap (λ done. remaining done r.whole) (nil_from_length r.done none)
       ∙ remaining-nil r.whole
 
   -- each instance has the same position as in the map
-  pub position_as_in_map : (p : ℕ) → p < length (left_of r) → IsAtPosition r p p
+  pub position_as_in_map : (p : ℕ) → p < length (rest_of r) → IsAtPosition r p p
   position_as_in_map p l =
       let d : Instance = record {
         id = record { replica = 0; number = 0 };
@@ -159,8 +159,8 @@ module _ (r : RemainderView) (positions : List ℕ) (positions_left : List (Opti
     all = length_push positions_left (Some (length positions)) ∙ ap (λ k. k + 1) are.all;
     all_positions_left = tables_push (Some (length positions)) here;
   } where
-    here : slice_get (left_of r) (length positions) ≡ Some (without_deps r.done e)
-    here = ap (slice_get (left_of r)) are.many ∙ remaining_position r.done r.whole n e at left
+    here : slice_get (rest_of r) (length positions) ≡ Some (without_deps r.done e)
+    here = ap (slice_get (rest_of r)) are.many ∙ remaining_position r.done r.whole n e at left
 
     at_positions : (k : ℕ) → k < length (positions ++ n ∷ [])
         → IsAtPosition r (get_or (positions ++ n ∷ []) k 0) k
@@ -171,17 +171,17 @@ module _ (r : RemainderView) (positions : List ℕ) (positions_left : List (Opti
           | inr not_lower ↦
               let same : length positions ≡ k = omega (arith, l, length_push positions n) in
               subst (λ p. IsAtPosition r p k) (sym (get_or_push positions n 0 k same))
-              (e, at, ap (slice_get (left_of r)) (sym same) ∙ here)
+              (e, at, ap (slice_get (rest_of r)) (sym same) ∙ here)
         ]
 
 module _ (r : RemainderView) (positions : List ℕ) (positions_left : List (Option ℕ))
     (are : ArePositionTables r positions positions_left (length r.whole)) where
-  pub tables_long : length positions ≡ length (left_of r)
+  pub tables_long : length positions ≡ length (rest_of r)
   tables_long = are.many ∙ ap (λ es. length (remaining r.done es))
       (take_all (length r.whole) r.whole (omega arith))
 
   -- what the table says of the position of an instance that is left
-  pub position_from_table : (k p : ℕ) → k < length (left_of r) → p ≡ get_or positions k p
+  pub position_from_table : (k p : ℕ) → k < length (rest_of r) → p ≡ get_or positions k p
       → IsAtPosition r p k
   position_from_table k p l read =
       let within : k < length positions = omega (arith, l, tables_long) in
@@ -203,13 +203,13 @@ module _ (r : RemainderView) (positions : List ℕ) (positions_left : List (Opti
       → IsIdStateOf r x (found.Left k)
   found_left rising p k x index at read some =
       let e = position_of-instance r.whole x p at in
-      let there : slice_get (left_of r) k ≡ Some (without_deps r.done e.0) =
+      let there : slice_get (rest_of r) k ≡ Some (without_deps r.done e.0) =
       subst (IsPositionLeft r e.0) some (position_read p e.0 index e.1 read) in
-      let is = Contains-slice_get (ids_of (left_of r)) k x
-      (slice_get-map (λ (i : Instance). i.id) (left_of r) k (without_deps r.done e.0) there
+      let is = Contains-slice_get (ids_of (rest_of r)) k x
+      (slice_get-map (λ (i : Instance). i.id) (rest_of r) k (without_deps r.done e.0) there
       ∙ ap Some e.2) in (
         ((Contains-remaining_iff r.done r.whole x).0 is).1,
-        position_of-found (left_of r) (IsRising-remaining r.done r.whole rising) x k
+        position_of-found (rest_of r) (IsRising-remaining r.done r.whole rising) x k
             (without_deps r.done e.0) there e.2,
       )
 
@@ -225,7 +225,7 @@ pub found_missing : (r : RemainderView) (x : Id) → position_of r.whole x ≡ N
     → ¬ Contains r.done x → IsIdStateOf r x found.Missing
 found_missing r x none left = (
   left,
-  none_position (left_of r) x
+  none_position (rest_of r) x
       (λ h. no_position r.whole x none ((Contains-remaining_iff r.done r.whole x).0 h).0),
 )
 
@@ -244,31 +244,31 @@ missing_found x found.Missing = x ∷ []
 
 module _ (r : RemainderView) where
   abbrev positions_in : List Id → List ℕ
-  positions_in xs = positions_of (left_of r) (remaining_ids r.done xs)
+  positions_in xs = positions_of (rest_of r) (remaining_ids r.done xs)
 
   abbrev missing_in : List Id → List Id
-  missing_in xs = missing_of (left_of r) (remaining_ids r.done xs)
+  missing_in xs = missing_of (rest_of r) (remaining_ids r.done xs)
 
   gathered_push : (xs : List Id) (x : Id) (f : IdState) → IsIdStateOf r x f
       → (positions_in (xs ++ x ∷ []) ≡ positions_in xs ++ positions_found f)
       × (missing_in (xs ++ x ∷ []) ≡ missing_in xs ++ missing_found x f)
   gathered_push xs x (found.Left k) is =
       let rest = rest_more r.done xs x is.0 in (
-        ap (positions_of (left_of r)) rest ∙ positions_take (left_of r) (remaining_ids r.done xs) x
+        ap (positions_of (rest_of r)) rest ∙ positions_take (rest_of r) (remaining_ids r.done xs) x
             k is.1,
-        ap (missing_of (left_of r)) rest ∙ lacking_skip (left_of r) (remaining_ids r.done xs) x k
+        ap (missing_of (rest_of r)) rest ∙ lacking_skip (rest_of r) (remaining_ids r.done xs) x k
             is.1 ∙ sym (append-nil (missing_in xs)),
       )
   gathered_push xs x found.Done is =
       let rest = rest_skip r.done xs x is in (
-        ap (positions_of (left_of r)) rest ∙ sym (append-nil (positions_in xs)),
-        ap (missing_of (left_of r)) rest ∙ sym (append-nil (missing_in xs)),
+        ap (positions_of (rest_of r)) rest ∙ sym (append-nil (positions_in xs)),
+        ap (missing_of (rest_of r)) rest ∙ sym (append-nil (missing_in xs)),
       )
   gathered_push xs x found.Missing is =
       let rest = rest_more r.done xs x is.0 in (
-        ap (positions_of (left_of r)) rest ∙ positions_skip (left_of r) (remaining_ids r.done xs) x
+        ap (positions_of (rest_of r)) rest ∙ positions_skip (rest_of r) (remaining_ids r.done xs) x
             is.1 ∙ sym (append-nil (positions_in xs)),
-        ap (missing_of (left_of r)) rest ∙ lacking_take (left_of r) (remaining_ids r.done xs) x
+        ap (missing_of (rest_of r)) rest ∙ lacking_take (rest_of r) (remaining_ids r.done xs) x
             is.1,
       )
 

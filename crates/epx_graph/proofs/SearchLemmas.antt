@@ -17,7 +17,7 @@ use Rattle.epx_types.proofs.lists.MembershipLemmas.{Contains-cons_cases}
 use Rattle.epx_types.proofs.lists.SearchLemmas.{value_of_some, none_from_test}
 use Rattle.epx_graph.specs.Graphs.{DependencyGraph, edges_of, IsGraph}
 use Rattle.epx_graph.specs.NodePaths.{IsNodePath, NodeReaches}
-use Rattle.epx_graph.specs.inner.LeastMissing.{IsLeastMissing, mark_of, AreMarksOf}
+use Rattle.epx_graph.specs.inner.LeastMissing.{IsLeastMissing, node_mark, AreMarksOf}
 use Rattle.epx_rows.specs.Rows.{row_of, AreTransposed}
 use Rattle.epx_graph.specs.inner.Searches.{SearchView, IsMarked, steps_left, IsVisit}
 use Rattle.epx_graph.specs.inner.Searches.{IsMissingSearch, IsSpreadFrom, BeginsFrom}
@@ -50,7 +50,7 @@ module _ (nodes : List ℕ) (root : ℕ) (old new : SearchView) (x : ℕ)
   }
 
   -- a node that has no mark
-  pub visits_mark : mark_of new.marks x ≡ None → x < length new.marks
+  pub visits_mark : node_mark new.marks x ≡ None → x < length new.marks
       → IsVisit (nodes ++ x ∷ []) root old
       (record { marks = set new.marks x (Some root); stack = new.stack ++ x ∷ [] })
   visits_mark none l = record {
@@ -59,7 +59,7 @@ module _ (nodes : List ℕ) (root : ℕ) (old new : SearchView) (x : ℕ)
     marked = marked;
     all = λ k h. elim (Contains-push_cases nodes x k h) [
       | inl among ↦ let was = is.all k among in still k was.0 was.1
-      | inr last ↦ (root, ap (mark_of (set new.marks x (Some root))) (sym last) ∙ now)
+      | inr last ↦ (root, ap (node_mark (set new.marks x (Some root))) (sym last) ∙ now)
     ];
     stacked = λ k h. Contains-append_left new.stack (x ∷ []) k (is.stacked k h);
     from = λ k h. elim (Contains-push_cases new.stack x k h) [
@@ -71,44 +71,45 @@ module _ (nodes : List ℕ) (root : ℕ) (old new : SearchView) (x : ℕ)
     ];
     same_work = same_work;
   } where
-    now : mark_of (set new.marks x (Some root)) x ≡ Some root
+    now : node_mark (set new.marks x (Some root)) x ≡ Some root
     now = get_or-set_same new.marks x (Some root) None l
 
-    still : (k z : ℕ) → mark_of new.marks k ≡ Some z → IsMarked (set new.marks x (Some root)) k
+    still : (k z : ℕ) → node_mark new.marks k ≡ Some z → IsMarked (set new.marks x (Some root)) k
     still k z h =
         elim (cases_eq k x) [
-          | inl same ↦ (root, ap (mark_of (set new.marks x (Some root))) same ∙ now)
+          | inl same ↦ (root, ap (node_mark (set new.marks x (Some root))) same ∙ now)
           | inr other ↦ (z, get_or-set_other new.marks x k (Some root) None other ∙ h)
         ]
 
-    kept : (k z : ℕ) → mark_of old.marks k ≡ Some z
-        → mark_of (set new.marks x (Some root)) k ≡ Some z
+    kept : (k z : ℕ) → node_mark old.marks k ≡ Some z
+        → node_mark (set new.marks x (Some root)) k ≡ Some z
     kept k z h =
         let had = is.kept k z h in
         elim (cases_eq k x) [
-          | inl same ↦ let at : mark_of new.marks k ≡ None = ap (mark_of new.marks) same ∙ none in
+          | inl same ↦
+              let at : node_mark new.marks k ≡ None = ap (node_mark new.marks) same ∙ none in
               absurd (cc (had, at))
           | inr other ↦ get_or-set_other new.marks x k (Some root) None other ∙ had
         ]
 
-    unmarked_before : mark_of old.marks x ≡ None
-    unmarked_before = by (mark_of old.marks x) refl where
-      by : (o : Option ℕ) → mark_of old.marks x ≡ o → mark_of old.marks x ≡ None
+    unmarked_before : node_mark old.marks x ≡ None
+    unmarked_before = by (node_mark old.marks x) refl where
+      by : (o : Option ℕ) → node_mark old.marks x ≡ o → node_mark old.marks x ≡ None
       by None e = e
       by (Some z) e = let had = is.kept x z e in absurd (cc (had, none))
 
-    marked : (k z : ℕ) → mark_of (set new.marks x (Some root)) k ≡ Some z
-        → (mark_of old.marks k ≡ Some z)
-        ⊎ ((mark_of old.marks k ≡ None) × Contains (nodes ++ x ∷ []) k × (z ≡ root)
+    marked : (k z : ℕ) → node_mark (set new.marks x (Some root)) k ≡ Some z
+        → (node_mark old.marks k ≡ Some z)
+        ⊎ ((node_mark old.marks k ≡ None) × Contains (nodes ++ x ∷ []) k × (z ≡ root)
         × Contains (new.stack ++ x ∷ []) k)
     marked k z h =
         elim (cases_eq k x) [
           | inl same ↦
               let one : Some root ≡ Some z =
-              sym now ∙ ap (mark_of (set new.marks x (Some root))) (sym same) ∙ h in
+              sym now ∙ ap (node_mark (set new.marks x (Some root))) (sym same) ∙ h in
               let at : root ≡ z = cc one in
               inr (
-                ap (mark_of old.marks) same ∙ unmarked_before,
+                ap (node_mark old.marks) same ∙ unmarked_before,
                 subst (Contains (nodes ++ x ∷ [])) (sym same) (Contains-push nodes x),
                 sym at,
                 subst (Contains (new.stack ++ x ∷ [])) (sym same) (Contains-push new.stack x),
@@ -137,7 +138,7 @@ module _ (nodes : List ℕ) (root : ℕ) (old new : SearchView) (x : ℕ)
 -- ---- one more node to mark
 
 pub visit_skip : (nodes : List ℕ) (i root : ℕ) (old new : SearchView) (mark : Option ℕ)
-    → i < length nodes → mark ≡ mark_of new.marks (get_or nodes i 0) → is_some mark ≡ true
+    → i < length nodes → mark ≡ node_mark new.marks (get_or nodes i 0) → is_some mark ≡ true
     → IsVisit (take i nodes) root old new → IsVisit (take (i + 1) nodes) root old new
 visit_skip nodes i root old new mark l at some is =
     let has = value_of_some mark some in
@@ -145,7 +146,7 @@ visit_skip nodes i root old new mark l at some is =
     (visits_skip (take i nodes) root old new (get_or nodes i 0) is (has.0, sym at ∙ has.1))
 
 pub visit_mark : (nodes : List ℕ) (i root : ℕ) (old new : SearchView) (mark : Option ℕ)
-    → i < length nodes → mark ≡ mark_of new.marks (get_or nodes i 0) → is_some mark ≡ false
+    → i < length nodes → mark ≡ node_mark new.marks (get_or nodes i 0) → is_some mark ≡ false
     → get_or nodes i 0 < length new.marks → IsVisit (take i nodes) root old new
     → IsVisit (take (i + 1) nodes) root old
     (record {
@@ -176,7 +177,7 @@ module _ (g : DependencyGraph) (graph : IsGraph g) (root : ℕ) (sources : List 
     source_leads : (k : ℕ) → Contains (row_of sources node) k → NodeReaches (edges_of g) k root
     source_leads k h = (node ∷ node_leads.0, ((transpose k node).1 h, node_leads.1))
 
-    new_mark : (k : ℕ) → mark_of old.marks k ≡ None → Contains (row_of sources node) k
+    new_mark : (k : ℕ) → node_mark old.marks k ≡ None → Contains (row_of sources node) k
         → g.committed ≤ root → IsLeastMissing g k root
     new_mark k none h missing = record {
       missing = missing;
@@ -189,9 +190,9 @@ module _ (g : DependencyGraph) (graph : IsGraph g) (root : ℕ) (sources : List 
       ];
     }
 
-    none_before : (k : ℕ) → mark_of new.marks k ≡ None → mark_of old.marks k ≡ None
-    none_before k none = by (mark_of old.marks k) refl where
-      by : (o : Option ℕ) → mark_of old.marks k ≡ o → mark_of old.marks k ≡ None
+    none_before : (k : ℕ) → node_mark new.marks k ≡ None → node_mark old.marks k ≡ None
+    none_before k none = by (node_mark old.marks k) refl where
+      by : (o : Option ℕ) → node_mark old.marks k ≡ o → node_mark old.marks k ≡ None
       by None e = e
       by (Some z) e = let had = visits.kept k z e in absurd (cc (had, none))
 
@@ -306,7 +307,7 @@ module _ (g : DependencyGraph) (root : ℕ) (marks : List (Option ℕ))
       ]
     ];
   } where
-    clear : (k z : ℕ) → k < g.committed → mark_of marks k ≡ None → g.committed ≤ z → z < root + 1
+    clear : (k z : ℕ) → k < g.committed → node_mark marks k ≡ None → g.committed ≤ z → z < root + 1
         → ¬ NodeReaches (edges_of g) k z
     clear k z l none from lower there =
         elim (cases_lt z root) [
@@ -320,7 +321,7 @@ module _ (g : DependencyGraph) (root : ℕ) (marks : List (Option ℕ))
               ]
         ]
 
-no_mark : (n k : ℕ) → mark_of (replicate n None) k ≡ None
+no_mark : (n k : ℕ) → node_mark (replicate n None) k ≡ None
 no_mark n k =
     elim (cases_lt k n) [
       | inl l ↦ get_or-replicate n k None None l

@@ -19,7 +19,7 @@ use Rattle.epx_types.proofs.graph.ReachingLemmas.{UpTo-antisymm}
 use Rattle.epx_graph.specs.Graphs.{DependencyGraph, edges_of, IsGraph}
 use Rattle.epx_graph.specs.GraphOf.{IsGraphOf}
 use Rattle.epx_graph.specs.NodePaths.{NodeReaches}
-use Rattle.epx_graph.specs.inner.LeastMissing.{mark_of, AreMarksOf}
+use Rattle.epx_graph.specs.inner.LeastMissing.{node_mark, AreMarksOf}
 use Rattle.epx_graph.specs.inner.Waiters.{IsWaiter, AreWaiters}
 use Rattle.epx_graph.proofs.GraphNodeLemmas.{committed_order, missing_order, node_id}
 use Rattle.epx_graph.proofs.GraphNodeLemmas.{reached_within}
@@ -37,14 +37,14 @@ waiters_none g marks = record {
 
 -- a node without a mark
 pub waiters_skip : (g : DependencyGraph) (marks : List (Option ℕ)) (n : ℕ) (ws : List Waiting)
-    → mark_of marks n ≡ None → AreWaiters g marks n ws → AreWaiters g marks (n + 1) ws
+    → node_mark marks n ≡ None → AreWaiters g marks n ws → AreWaiters g marks (n + 1) ws
 waiters_skip g marks n ws none is = record {
   from = λ w h. let at = is.from w h in (at.0, omega (arith, at.1), at.2);
   whole = λ k w l h. elim (cases_lt k n) [
     | inl lower ↦ is.whole k w lower h
     | inr not_lower ↦
         let same : k ≡ n = omega arith in
-        let marked : mark_of marks n ≡ Some h.mark = ap (mark_of marks) (sym same) ∙ h.marked in
+        let marked : node_mark marks n ≡ Some h.mark = ap (node_mark marks) (sym same) ∙ h.marked in
         absurd (cc (marked, none))
   ];
   rising = is.rising;
@@ -57,7 +57,7 @@ waiter_is_one g marks k n v w same p q =
     let ids : Some w.id ≡ Some v.id = sym q.id ∙ ap (slice_get g.ids) (sym same) ∙ p.id in
     let id : w.id ≡ v.id = cc ids in
     let both : Some q.mark ≡ Some p.mark =
-    sym q.marked ∙ ap (mark_of marks) (sym same) ∙ p.marked in
+    sym q.marked ∙ ap (node_mark marks) (sym same) ∙ p.marked in
     let mark : q.mark ≡ p.mark = cc both in
     let missings : Some w.missing ≡ Some v.missing =
     sym q.missing ∙ ap (slice_get g.ids) mark ∙ p.missing in
@@ -128,11 +128,11 @@ module _ (m : List Instance) (g : DependencyGraph) (is : IsGraphOf m g) (marks :
       let k = node_of_committed m g is x waits.committed in
       let j = reached_node m g is k.0 x y k.2 waits.reached in
       let past = missing_number m g is j.0 y j.1 waits.missing in
-      by k.0 k.1 k.2 j.0 j.1 j.2 past (mark_of marks k.0) refl
+      by k.0 k.1 k.2 j.0 j.1 j.2 past (node_mark marks k.0) refl
     where
       by : (k : ℕ) → k < g.committed → slice_get g.ids k ≡ Some x → (j : ℕ)
           → slice_get g.ids j ≡ Some y → NodeReaches (edges_of g) k j → g.committed ≤ j
-          → (o : Option ℕ) → mark_of marks k ≡ o → (i : ℕ) × (i < g.committed)
+          → (o : Option ℕ) → node_mark marks k ≡ o → (i : ℕ) × (i < g.committed)
           × IsWaiter g marks i (record { id = x; missing = y })
       by k l at j to there past None none =
           absurd (are.unmarked k j l none past (slice_get_within g.ids j y to) there)

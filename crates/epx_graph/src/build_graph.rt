@@ -5,7 +5,7 @@ ghost use Rattle.epx_types.specs.Ids.{Below, IsRising};
 ghost use Rattle.epx_types.specs.CommittedMap.{ids_of, IsCommitted};
 ghost use Rattle.epx_types.specs.Done.{remaining};
 ghost use Rattle.epx_graph.specs.GraphOf.{IsGraphOfRest, IsGraphOf};
-ghost use Rattle.epx_graph.specs.inner.Remainder.{left_of};
+ghost use Rattle.epx_graph.specs.inner.Remainder.{rest_of};
 ghost use Rattle.epx_graph.specs.inner.Nodes.{AreNodesOf, ArePositionsOf, AreRowsOf, IsGathered};
 
 use crate::committed::{Gathered, committed_rows};
@@ -20,7 +20,7 @@ use std::thread::Threads;
 
 /// The Ids of the instances that are left, with room for more.
 fn committed_ids(alloc: Global, left: &Remainder, more: usize) -> Result<Vec<Id>, Memory>
-    ensures { IfOk result (λ ids. ids.items ≡ ids_of (left_of left.now)) }
+    ensures { IfOk result (λ ids. ids.items ≡ ids_of (rest_of left.now)) }
 {
     let mut ids = Vec::with_capacity(alloc, left.len().saturating_add(more))?;
     for index in 0..left.len() {
@@ -31,8 +31,8 @@ fn committed_ids(alloc: Global, left: &Remainder, more: usize) -> Result<Vec<Id>
 
 /// The Ids of the nodes: the instances that are left, and then the missing ones.
 fn nodes(alloc: Global, left: &Remainder, gathered: &Gathered) -> Result<Vec<Id>, Memory>
-    requires { IsGathered (left_of left.now) gathered.now.rows gathered.now.missing.items }
-    ensures { IfOk result (λ ids. AreNodesOf (left_of left.now) ids.items) }
+    requires { IsGathered (rest_of left.now) gathered.now.rows gathered.now.missing.items }
+    ensures { IfOk result (λ ids. AreNodesOf (rest_of left.now) ids.items) }
 {
     let missing = sort_unique(alloc, &gathered.missing)?;
     let mut ids = committed_ids(alloc, left, missing.len())?;
@@ -47,9 +47,9 @@ fn number_missing(
     missing: &[Id],
     row: &mut Vec<usize>,
 ) -> Result<(), Memory>
-    requires nodes { AreNodesOf (left_of left.now) ids.now }
+    requires nodes { AreNodesOf (rest_of left.now) ids.now }
     requires rising { AllPairs Below missing.now }
-    requires missing { All (λ x. ¬ IsCommitted (left_of left.now) x) missing.now }
+    requires missing { All (λ x. ¬ IsCommitted (rest_of left.now) x) missing.now }
     ensures { OnOk result (ArePositionsOf ids.now missing.now row.new.items) }
 {
     row.clear();
@@ -70,10 +70,10 @@ fn numbered_rows(
     ids: &[Id],
     gathered: &Gathered,
 ) -> Result<Rows, Memory>
-    requires nodes { AreNodesOf (left_of left.now) ids.now }
-    requires gathered { IsGathered (left_of left.now) gathered.now.rows gathered.now.missing.items }
+    requires nodes { AreNodesOf (rest_of left.now) ids.now }
+    requires gathered { IsGathered (rest_of left.now) gathered.now.rows gathered.now.missing.items }
     ensures { IfOk result
-        (λ rows. AreRowsOf (left_of left.now) ids.now rows (length (left_of left.now))) }
+        (λ rows. AreRowsOf (rest_of left.now) ids.now rows (length (rest_of left.now))) }
 {
     let mut rows = gathered.rows.room(alloc, gathered.missing.len())?;
     let mut missing = gathered.missing.as_slice();
@@ -91,10 +91,10 @@ fn numbered_rows(
 
 /// The edges of the nodes that are left.
 fn rows(alloc: Global, left: &Remainder, ids: &[Id], gathered: Gathered) -> Result<Rows, Memory>
-    requires nodes { AreNodesOf (left_of left.now) ids.now }
-    requires gathered { IsGathered (left_of left.now) gathered.rows gathered.missing.items }
+    requires nodes { AreNodesOf (rest_of left.now) ids.now }
+    requires gathered { IsGathered (rest_of left.now) gathered.rows gathered.missing.items }
     ensures { IfOk result
-        (λ rows. AreRowsOf (left_of left.now) ids.now rows (length (left_of left.now))) }
+        (λ rows. AreRowsOf (rest_of left.now) ids.now rows (length (rest_of left.now))) }
 {
     if gathered.missing.is_empty() {
         let Gathered { rows, missing: _ } = gathered;

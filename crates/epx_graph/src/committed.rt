@@ -1,7 +1,7 @@
 //! Looks up each dependency once.
 ghost use Rattle.std.specs.Prelude.{◌≡◌, ◌≤◌, ◌++◌, ◌∷◌, [], length, flat_map, IfOk, OnOk};
 ghost use Rattle.epx_types.specs.Done.{remaining_ids};
-ghost use Rattle.epx_graph.specs.inner.Remainder.{left_of};
+ghost use Rattle.epx_graph.specs.inner.Remainder.{rest_of};
 ghost use Rattle.epx_graph.specs.inner.Nodes.{missing_of, positions_of, IsGathered, IsGatheredOf};
 ghost use Rattle.epx_graph.specs.inner.Nodes.{instances_of_piece};
 
@@ -40,10 +40,10 @@ fn gather(
 ) -> Result<(), Memory>
     ensures rows { OnOk result (row.new.rows ≡ row.old.rows) }
     ensures row { OnOk result
-        (row.new.row ≡ row.old.row ++ positions_of (left_of left.now)
+        (row.new.row ≡ row.old.row ++ positions_of (rest_of left.now)
         (remaining_ids left.now.done deps.now)) }
     ensures missing { OnOk result
-        (missing.new.items ≡ missing.old.items ++ missing_of (left_of left.now)
+        (missing.new.items ≡ missing.old.items ++ missing_of (rest_of left.now)
         (remaining_ids left.now.done deps.now)) }
 {
     for id in deps {
@@ -65,10 +65,10 @@ fn push_committed(
     missing: &mut Vec<Id>,
 ) -> Result<Rows, Memory>
     ensures rows { IfOk result
-        (λ pushed. pushed ≡ rows ++ positions_of (left_of left.now)
+        (λ pushed. pushed ≡ rows ++ positions_of (rest_of left.now)
         (remaining_ids left.now.done deps.now) ∷ []) }
     ensures missing { OnOk result
-        (missing.new.items ≡ missing.old.items ++ missing_of (left_of left.now)
+        (missing.new.items ≡ missing.old.items ++ missing_of (rest_of left.now)
         (remaining_ids left.now.done deps.now)) }
 {
     let mut row = rows.open_row();
@@ -94,7 +94,7 @@ impl Gathered {
 
 /// How many dependencies the instances from `start` to `end` have.
 fn count_deps(left: &Remainder, start: usize, end: usize) -> usize
-    requires { end ≤ length (left_of left.now) }
+    requires { end ≤ length (rest_of left.now) }
 {
     let mut count: usize = 0;
     for index in start..end {
@@ -112,7 +112,7 @@ fn begin_run(
     end: usize,
     missing: &mut Vec<Id>,
 ) -> Result<(), Memory>
-    requires { end ≤ length (left_of left.now) }
+    requires { end ≤ length (rest_of left.now) }
     ensures { missing.new.items ≡ missing.old.items }
 {
     if instance % RUN_LEN == 0 {
@@ -129,9 +129,9 @@ fn gather_piece(
     pieces: InstancePieces,
     piece: usize,
 ) -> Result<Gathered, Memory>
-    requires { pieces.instances ≡ length (left_of left.now) }
-    ensures { IfOk result (λ gathered. IsGatheredOf (left_of left.now)
-        (instances_of_piece pieces.size (left_of left.now) piece)
+    requires { pieces.instances ≡ length (rest_of left.now) }
+    ensures { IfOk result (λ gathered. IsGatheredOf (rest_of left.now)
+        (instances_of_piece pieces.size (rest_of left.now) piece)
         gathered.rows gathered.missing.items) }
 {
     let (start, end) = pieces.range(piece);
@@ -192,7 +192,7 @@ pub(crate) fn committed_rows<R: Threads + Sync>(
     plan: Plan,
 ) -> Result<Gathered, Memory>
     ensures { IfOk result
-        (λ gathered. IsGathered (left_of left.now) gathered.rows gathered.missing.items) }
+        (λ gathered. IsGathered (rest_of left.now) gathered.rows gathered.missing.items) }
 {
     let pieces = InstancePieces::new(plan, left.len(), mean_deps(left));
     let gathered = claimed_map(rt, alloc, pieces.count, plan, &FreeGate, |piece| {

@@ -13,7 +13,7 @@ use std::marker::Model;
 /// The instances of a committed map and their dependencies, as numbered nodes: first the committed
 /// instances by rising Id, then the missing ones by rising Id.
 ///
-/// Takes one word for each edge. No call on it allocates.
+/// Takes one word for each edge.
 #[derive(Debug, Drop)]
 pub struct Graph {
     ids: Vec<Id>,
@@ -111,8 +111,9 @@ impl Graph {
         &[]
     }
 
-    /// For each node, the nodes with an edge to it.
-    pub(crate) fn sources(&self, alloc: Global) -> Result<Rows, Memory>
+    /// For each node, the nodes with an edge to it. Takes time linear in nodes and edges. No other
+    /// call on a graph allocates.
+    pub fn sources(&self, alloc: Global) -> Result<Rows, Memory>
         ensures nodes { IfOk result (λ sources. length sources ≡ length self.now.ids) }
         ensures transpose { IfOk result (AreTransposed self.now.edges) }
     {

@@ -4,7 +4,7 @@ ghost use Rattle.std.specs.Prelude.{IfOk};
 ghost use Rattle.epx_types.specs.CommittedMap.{ids_of};
 ghost use Rattle.epx_types.specs.Done.{remaining_ids, without_deps};
 ghost use Rattle.epx_types.specs.Ids.{IsRising};
-ghost use Rattle.epx_graph.specs.inner.Remainder.{IsIdStateOf, IsAtPosition, left_of};
+ghost use Rattle.epx_graph.specs.inner.Remainder.{IsIdStateOf, IsAtPosition, rest_of};
 
 use crate::neighbours::is_absent;
 use epx_committed::{Guesses, Merged};
@@ -53,15 +53,6 @@ impl<'a> Model for Remainder<'a> {
         IsRising (ids_of r.whole) × IsRising r.done
         × (0 < length r.done → ArePositionTables r l.positions.items l.positions_left.items
         (length r.whole)) };
-}
-
-/// Guesses of the positions of the done instances.
-fn guesses_of(alloc: Global, done: &[Id]) -> Result<Guesses, Memory> {
-    let mut guesses = Guesses::new(alloc);
-    for (index, id) in done.iter().enumerate() {
-        guesses.note(*id, index)?;
-    }
-    Ok(guesses)
 }
 
 /// Whether the Id at this position of the done ones is the given one.
@@ -121,7 +112,7 @@ impl<'a> Remainder<'a> {
         requires { IsRising done.now }
         ensures { IfOk result (λ left. left ≡ record { whole = merged.now; done = done.now }) }
     {
-        let guesses = guesses_of(alloc, done)?;
+        let guesses = Guesses::of(alloc, done.iter().copied())?;
         let mut positions = Vec::new(alloc);
         let mut positions_left = Vec::new(alloc);
         let all = merged.len();
@@ -149,8 +140,8 @@ impl<'a> Remainder<'a> {
 
     /// How many instances are left.
     pub(crate) fn len(&self) -> usize
-        ensures len { result ≡ length (left_of self.now) }
-        ensures rising { IsRising (ids_of (left_of self.now)) }
+        ensures len { result ≡ length (rest_of self.now) }
+        ensures rising { IsRising (ids_of (rest_of self.now)) }
     {
         if self.done.is_empty() {
             return self.merged.len();
@@ -160,7 +151,7 @@ impl<'a> Remainder<'a> {
 
     /// The position in the map of the instance at a position of those that are left.
     fn position_at(&self, index: usize) -> usize
-        requires { index < length (left_of self.now) }
+        requires { index < length (rest_of self.now) }
         ensures { IsAtPosition self.now result index }
     {
         if self.done.is_empty() {
@@ -171,16 +162,16 @@ impl<'a> Remainder<'a> {
 
     /// The Id of the instance at a position of those that are left.
     pub(crate) fn id_at(&self, index: usize) -> Id
-        requires { index < length (left_of self.now) }
-        ensures { slice_get (ids_of (left_of self.now)) index ≡ Some result }
+        requires { index < length (rest_of self.now) }
+        ensures { slice_get (ids_of (rest_of self.now)) index ≡ Some result }
     {
         self.merged.id_at(self.position_at(index))
     }
 
     /// The entry at a position of those that are left. It still has its done dependencies.
     pub(crate) fn entry_at(&self, index: usize) -> &Entry
-        requires { index < length (left_of self.now) }
-        ensures { slice_get (left_of self.now) index
+        requires { index < length (rest_of self.now) }
+        ensures { slice_get (rest_of self.now) index
             ≡ Some (without_deps self.now.done result.now) }
     {
         self.merged.entry_at(self.position_at(index))

@@ -39,8 +39,8 @@ abbrev pub box_line : NodeBox → List ℕ
 box_line d = in_cluster d.cluster (box_text d)
 
 -- boxes of missing instances are dotted
-abbrev pub missing_line : Id → List ℕ
-missing_line x = codes "  \"" ++ (id_text x ++ codes "\" [style=dotted];\n")
+abbrev pub missing_box_line : Id → List ℕ
+missing_box_line x = codes "  \"" ++ (id_text x ++ codes "\" [style=dotted];\n")
 
 -- an arrow goes from an instance to one that it depends on
 abbrev pub arrow_line : Id → Id → List ℕ
@@ -53,4 +53,4 @@ arrow_lines e = flat_map (arrow_line e.id) e.deps
 abbrev pub picture_text : List Instance → List NodeBox → List Id → List ℕ
 picture_text m node_boxes missing =
     head_text ++ (flat_map box_line node_boxes
-    ++ (flat_map missing_line missing ++ (flat_map arrow_lines m ++ foot_text)))
+    ++ (flat_map missing_box_line missing ++ (flat_map arrow_lines m ++ foot_text)))

@@ -1,6 +1,7 @@
 //! The text of pictures.
 ghost use Rattle.std.specs.Prelude.{◌≡◌, ◌++◌, OnOk, IfOk, flat_map, string_bytes};
-ghost use Rattle.epx_picture.specs.PictureText.{arrow_line, arrow_lines, box_line, missing_line};
+ghost use Rattle.epx_picture.specs.PictureText.{arrow_line, arrow_lines, box_line};
+ghost use Rattle.epx_picture.specs.PictureText.{missing_box_line};
 ghost use Rattle.epx_picture.specs.PictureText.{picture_text};
 
 use crate::node_box::NodeBox;
@@ -18,7 +19,7 @@ fn write_box(text: &mut String, node_box: NodeBox) -> Result<(), AllocError>
 }
 
 fn write_missing(text: &mut String, id: Id) -> Result<(), AllocError>
-    ensures { OnOk result (string_bytes text.new ≡ string_bytes text.old ++ missing_line id) }
+    ensures { OnOk result (string_bytes text.new ≡ string_bytes text.old ++ missing_box_line id) }
 {
     write!(text, "  \"{id}\" [style=dotted];\n")
 }
@@ -52,7 +53,7 @@ fn write_boxes(text: &mut String, node_boxes: &[NodeBox]) -> Result<(), AllocErr
 
 fn write_all_missing(text: &mut String, missing: &[Id]) -> Result<(), AllocError>
     ensures { OnOk result (string_bytes text.new
-        ≡ string_bytes text.old ++ flat_map missing_line missing.now) }
+        ≡ string_bytes text.old ++ flat_map missing_box_line missing.now) }
 {
     for id in missing {
         write_missing(text, *id)?;

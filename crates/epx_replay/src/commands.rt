@@ -1,34 +1,14 @@
-//! The commands of instances.
+//! The commands of instances, found piece by piece.
 ghost use Rattle.std.specs.Prelude.{◌≡◌, ◌<◌, ◌≤◌, ◌^◌, length, map, IfOk};
 ghost use Rattle.epx_types.specs.Pieces.{piece_count};
 ghost use Rattle.epx_claims.specs.inner.PieceItems.{items_of_piece};
 ghost use Rattle.epx_types.specs.CommittedMap.{commands_in};
 
 use epx_claims::{FreeGate, append_parts, claimed_map};
-use epx_committed::Merged;
+use epx_committed::{Merged, commands_of};
 use epx_types::{Command, Id, Memory, Plan};
 use std::alloc::Global;
 use std::thread::Threads;
-
-/// The commands of some instances.
-pub fn commands_of<'a>(
-    alloc: Global,
-    merged: &'a Merged,
-    ids: &[Id],
-) -> Result<Vec<Command<'a>>, Memory>
-    ensures { IfOk result (λ commands. map (λ c. c.ops.now) commands.items
-        ≡ commands_in merged.now ids.now) }
-{
-    let mut commands = Vec::with_capacity(alloc, ids.len())?;
-    for id in ids {
-        let ops = match merged.get(*id) {
-            Some(entry) => entry.ops(),
-            None => &[],
-        };
-        commands.push(Command { id: *id, ops })?;
-    }
-    Ok(commands)
-}
 
 /// The commands of one of the pieces into which the plan cuts some instances.
 fn commands_of_piece<'a>(

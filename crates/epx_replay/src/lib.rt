@@ -9,5 +9,4 @@ mod reply_parts;
 mod store_lines;
 
 pub use batches::replay;
-pub use commands::commands_of;
 pub use store_lines::append_store_lines;

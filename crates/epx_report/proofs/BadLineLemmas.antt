@@ -1,25 +1,25 @@
 -- A text has one first bad line at most.
 use Rattle.std.proofs.Common.{◌≡◌, ◌⊎◌, inl, inr, ℕ, ◌-◌, ◌<◌, ◌≤◌, List, take, subst, arith}
 use Rattle.std.proofs.lemmas.List.{take-take}
-use Rattle.epx_report.specs.BadLines.{IsFirstBadLine}
+use Rattle.epx_report.specs.BadLines.{IsFirstNotGood}
 
 -- the first lines of good ones are good
 module _ (AreGood : List (List ℕ) → Type 0)
     (shorter : (n : ℕ) (lines : List (List ℕ)) → AreGood lines → AreGood (take n lines))
     (lines : List (List ℕ)) where
   -- if all lines are good, none is bad
-  pub none_bad : (line : ℕ) → AreGood lines → ¬ IsFirstBadLine AreGood lines line
+  pub none_bad : (line : ℕ) → AreGood lines → ¬ IsFirstNotGood AreGood lines line
   none_bad line good bad = bad.bad_with (shorter line lines good)
 
-  good_until : (line other : ℕ) → line < other → IsFirstBadLine AreGood lines other
+  good_until : (line other : ℕ) → line < other → IsFirstNotGood AreGood lines other
       → AreGood (take line lines)
   good_until line other l bad =
       let among : line ≤ other - 1 = omega arith in
       subst AreGood (take-take line (other - 1) lines among)
       (shorter line (take (other - 1) lines) bad.good_before)
 
-  pub one_bad : (line other : ℕ) → IsFirstBadLine AreGood lines line
-      → IsFirstBadLine AreGood lines other → line ≡ other
+  pub one_bad : (line other : ℕ) → IsFirstNotGood AreGood lines line
+      → IsFirstNotGood AreGood lines other → line ≡ other
   one_bad line other p q =
       elim (cases line other) [
         | inl below ↦ absurd (p.bad_with (good_until line other below q))

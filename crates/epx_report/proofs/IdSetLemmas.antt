@@ -1,13 +1,14 @@
 -- The rising and the late Ids of a set.
-use Rattle.std.proofs.Common.{◌≡◌, ◌⊎◌, inl, inr, ℕ, ◌+◌, ◌<◌, true, false, cond, nat_lt, not}
+use Rattle.std.proofs.Common.{◌≡◌, ◌⊎◌, inl, inr, ℕ, ◌+◌, true, false, cond, nat_lt, not}
 use Rattle.std.proofs.Common.{◌==◌, ◌&&◌, Bool, Ordering, Less, Equal, Greater, is_lt, List, []}
-use Rattle.std.proofs.Common.{◌∷◌, ◌++◌, length, get_or, Contains, Some, refl, sym, ap, ap₂, ◌∙◌}
+use Rattle.std.proofs.Common.{◌∷◌, ◌++◌, Contains, Some, refl, sym, ap, ap₂, ◌∙◌}
+use Rattle.std.proofs.Common.{Option, None, MatchOption, is_some, slice_get}
 use Rattle.std.proofs.Common.{subst, arith}
 use Rattle.std.specs.BTreeSet.{insert_key}
-use Rattle.std.specs.List.{HoldsAt, dedup}
+use Rattle.std.specs.List.{dedup}
 use Rattle.std.specs.List.Retain.{IsFiltered, DiffersFromLast}
-use Rattle.std.specs.List.Sorted.{IsSorted, IsPermutation, IsNonDecreasingBy, IsPartitionPoint}
-use Rattle.std.specs.Ordering.{is_eq, nat_cmp, ordering_then, eq_by_cmp, ordering_index}
+use Rattle.std.specs.List.Sorted.{IsSorted, IsPermutation}
+use Rattle.std.specs.Ordering.{is_eq, nat_cmp, ordering_then, eq_by_cmp}
 use Rattle.std.specs.Cmp.{eq_by_cmp_equiv, IsEquivalence}
 use Rattle.std.proofs.lemmas.Bool.{cases_Bool}
 use Rattle.std.proofs.lemmas.Bool.Decides.{nat_tests}
@@ -19,6 +20,7 @@ use Rattle.std.proofs.lemmas.List.Kept.{Contains-dedup, Contains-from_dedup}
 use Rattle.std.proofs.lemmas.List.Kept.{IsStrictlySortedBy-dedup}
 use Rattle.std.proofs.lemmas.List.Sorted.{Contains-permutation}
 use Rattle.std.proofs.lemmas.List.Sorted.{IsPermutation-sym}
+use Rattle.std.proofs.lemmas.Option.{slice_get_within, get_or_from_slice_get}
 use Rattle.epx_types.specs.declared.id.Id.{Id}
 use Rattle.epx_types.specs.Ids.{id_cmp, Below, IsRising}
 use Rattle.epx_types.specs.Done.{is_among}
@@ -27,7 +29,7 @@ use Rattle.epx_types.proofs.lists.MembershipLemmas.{Contains-cons_cases}
 use Rattle.epx_types.proofs.lists.ComparisonLemmas.{id_cmp_total, id_cmp-IsAntisymmetric}
 use Rattle.epx_types.proofs.lists.TotalOrderLemmas.{below_irrefl, below_trans}
 use Rattle.epx_types.proofs.lists.RisingIdLemmas.{same_ids, IsRising-push}
-use Rattle.epx_types.proofs.lists.IdListLemmas.{absent, rising_from_strict}
+use Rattle.epx_types.proofs.lists.IdListLemmas.{rising_from_strict}
 use Rattle.epx_types.proofs.remaining.RemainingLemmas.{is_among_cases}
 use Rattle.epx_lines.proofs.EntryLemmas.{IsRising-insert, IsRising-fold}
 use Rattle.epx_report.specs.inner.Seen.{last, is_after_last}
@@ -293,17 +295,13 @@ module _ (rising late : List Id) (h : AreRisingAndLate rising late) where
 
 -- ---- the binary search
 
-pub present : (xs : List Id) (x : Id) (i : ℕ) → i < length xs
-    → HoldsAt (λ y. id_cmp y x ≡ Equal) xs i → true ≡ is_among xs x
-present xs x i within h =
-    let same : get_or xs i x ≡ x = id_cmp-IsAntisymmetric (get_or xs i x) x (h x) in
-    sym (among xs x (i, within, same))
-
-pub missing : (xs : List Id) (x : Id) (i : ℕ) → IsRising xs
-    → (IsNonDecreasingBy (λ y. ordering_index (id_cmp y x)) xs
-    → IsPartitionPoint (λ y. id_cmp y x ≡ Less) (λ y. id_cmp y x ≡ Greater) xs i)
-    → false ≡ is_among xs x
-missing xs x i rising parts = sym (not_among xs x (absent xs x i rising parts))
+-- whether a search finds an Id says whether it is among them
+pub is_some-among : (xs : List Id) (x : Id) (found : Option ℕ)
+    → MatchOption found (¬ Contains xs x) (λ k. slice_get xs k ≡ Some x)
+    → is_some found ≡ is_among xs x
+is_some-among xs x None h = sym (not_among xs x h)
+is_some-among xs x (Some k) h =
+    sym (among xs x (k, slice_get_within xs k x h, get_or_from_slice_get xs k x x h))
 
 -- ---- the Ids as a vector
 

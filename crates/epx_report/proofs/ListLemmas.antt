@@ -5,7 +5,7 @@ use Rattle.std.proofs.Common.{sym, ap, ap₂, ◌∙◌, subst, arith, append-ni
 use Rattle.epx_types.specs.declared.id.Id.{Id}
 use Rattle.epx_lines.specs.Lines.{lines_of}
 use Rattle.epx_lines.specs.Meaning.{is_blank}
-use Rattle.epx_report.specs.Lists.{listed_id_of, filled_lines, NameIds, AreListLines, IsList}
+use Rattle.epx_report.specs.Lists.{listed_id_of, filled_lines, LinesName, AreListLines, IsList}
 use Rattle.epx_report.specs.Lists.{IsBadList}
 use Rattle.epx_report.specs.ListLaws.{ListOrBadList, ListIsNoBadList, ListNamesOneList}
 use Rattle.epx_report.specs.ListLaws.{BadListIsBadAtOneLine}
@@ -16,11 +16,11 @@ use Rattle.epx_report.proofs.SaidLineLemmas.{first_some, same_somes}
 -- ---- one line more
 
 blank_more : (l : List ℕ) (ls : List (List ℕ)) (ids : List Id) → is_blank l ≡ true
-    → NameIds ls ids → NameIds (l ∷ ls) ids
+    → LinesName ls ids → LinesName (l ∷ ls) ids
 blank_more l ls ids e h = rw e h
 
 blank_less : (l : List ℕ) (ls : List (List ℕ)) (ids : List Id) → is_blank l ≡ true
-    → NameIds (l ∷ ls) ids → NameIds ls ids
+    → LinesName (l ∷ ls) ids → LinesName ls ids
 blank_less l ls ids e h = rw e at h
 
 filled : (l : List ℕ) (ls : List (List ℕ)) → is_blank l ≡ false
@@ -28,13 +28,13 @@ filled : (l : List ℕ) (ls : List (List ℕ)) → is_blank l ≡ false
 filled l ls e = rw e refl
 
 id_more : (l : List ℕ) (ls : List (List ℕ)) (x : Id) (ids : List Id) → is_blank l ≡ false
-    → listed_id_of l ≡ Some x → NameIds ls ids → NameIds (l ∷ ls) (x ∷ ids)
+    → listed_id_of l ≡ Some x → LinesName ls ids → LinesName (l ∷ ls) (x ∷ ids)
 id_more l ls x ids e named h =
     ap (map listed_id_of) (filled l ls e) ∙ ap₂ (λ o os. o ∷ os) named h
 
 id_less : (l : List ℕ) (ls : List (List ℕ)) (ids : List Id) → is_blank l ≡ false
-    → NameIds (l ∷ ls) ids
-    → (x : Id) × (rest : List Id) × (listed_id_of l ≡ Some x) × NameIds ls rest × (ids ≡ x ∷ rest)
+    → LinesName (l ∷ ls) ids
+    → (x : Id) × (rest : List Id) × (listed_id_of l ≡ Some x) × LinesName ls rest × (ids ≡ x ∷ rest)
 id_less l ls ids e h = first_some (listed_id_of l) (map listed_id_of (filled_lines ls)) ids
     (sym (ap (map listed_id_of) (filled l ls e)) ∙ h)
 
@@ -42,7 +42,7 @@ id_less l ls ids e h = first_some (listed_id_of l) (map listed_id_of (filled_lin
 
 -- what reading says of the lines: the first one has the number n
 abbrev Reads : List Id → ℕ → List (List ℕ) → Result (List Id) ℕ → Type 0
-Reads ids n ls (Ok all) = (more : List Id) × NameIds ls more × (all ≡ ids ++ more)
+Reads ids n ls (Ok all) = (more : List Id) × LinesName ls more × (all ≡ ids ++ more)
 Reads ids n ls (Err line) =
     (k : ℕ) × (line ≡ n + k) × AreListLines (take k ls) × ¬ AreListLines (take (suc k) ls)
 
@@ -114,7 +114,7 @@ pub list_is_read : (bytes : List ℕ) (ids : List Id) → list_reading bytes ≡
     → IsList bytes ids
 list_is_read bytes ids e =
     let all = subst (Reads [] 1 (lines_of bytes)) e (reads_all [] 1 (lines_of bytes)) in
-    subst (NameIds (lines_of bytes)) (sym all.2) all.1
+    subst (LinesName (lines_of bytes)) (sym all.2) all.1
 
 -- the line at which reading stops is the first bad one
 pub bad_list_is_read : (bytes : List ℕ) (line : ℕ) → list_reading bytes ≡ Err line

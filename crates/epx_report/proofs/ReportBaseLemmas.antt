@@ -5,7 +5,7 @@ use Rattle.std.specs.FinMap as contents
 use Rattle.std.specs.FinMap.{is_sorted}
 use Rattle.epx_types.specs.Keys.{key_cmp}
 use Rattle.epx_report.specs.ReportReadings.{replied_ids, parts_of_report}
-use Rattle.epx_report.specs.ReportBases.{DoneAfterExists, ReportIsBase}
+use Rattle.epx_report.specs.ReportBases.{DoneAfterExists, ReportIsABase}
 use Rattle.epx_report.proofs.ReportReadingLemmas.{report_is_read_as_it_says}
 use Rattle.epx_report.proofs.RisingListLemmas.{is_true}
 use Rattle.epx_report.proofs.WholeBaseLemmas.{done_exists}
@@ -13,7 +13,7 @@ use Rattle.epx_report.proofs.WholeBaseLemmas.{done_exists}
 pub done_after_exists : DoneAfterExists
 done_after_exists r rising = done_exists r.done (replied_ids r.replies) rising
 
-pub report_is_a_base : ReportIsBase
+pub report_is_a_base : ReportIsABase
 report_is_a_base r done stored fits order those is_stored = record {
   parts = parts_of_report r;
   said = report_is_read_as_it_says r fits;

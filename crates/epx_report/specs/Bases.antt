@@ -15,7 +15,7 @@ use Rattle.epx_report.specs.declared.base.BaseFault.TheVariants.{Memory, Bad}
 use Rattle.epx_report.specs.declared.form.BaseLine.{BaseLine}
 use Rattle.epx_report.specs.declared.form.BaseLine.TheVariants as line
 use Rattle.epx_report.specs.declared.form.Counts.{Counts}
-use Rattle.epx_report.specs.BadLines.{IsFirstBadLine}
+use Rattle.epx_report.specs.BadLines.{IsFirstNotGood}
 use Rattle.epx_report.specs.Forms.{base_line_of}
 
 -- ---- the lines of a base
@@ -98,7 +98,7 @@ pub record EndsEarly (lines : List (List ℕ)) (line : ℕ) : Type 0 where
 -- lines if the text ends too early
 abbrev pub IsBadBase : List ℕ → ℕ → Type 0
 IsBadBase bytes line =
-    IsFirstBadLine BeginBase (lines_of bytes) line ⊎ EndsEarly (lines_of bytes) line
+    IsFirstNotGood BeginBase (lines_of bytes) line ⊎ EndsEarly (lines_of bytes) line
 
 -- `Memory` says nothing about the bytes
 abbrev pub IsBaseFault : List ℕ → BaseFault → Type 0

@@ -5,7 +5,7 @@ use Rattle.epx_types.specs.declared.id.Id.{Id}
 use Rattle.epx_lines.specs.DependencyList.{id_of}
 use Rattle.epx_lines.specs.Lines.{lines_of}
 use Rattle.epx_lines.specs.Meaning.{max_line_bytes, is_blank, json_of}
-use Rattle.epx_report.specs.BadLines.{IsFirstBadLine}
+use Rattle.epx_report.specs.BadLines.{IsFirstNotGood}
 use Rattle.epx_report.specs.declared.base.BaseFault.{BaseFault}
 use Rattle.epx_report.specs.declared.base.BaseFault.TheVariants.{Memory, Bad}
 
@@ -18,19 +18,19 @@ abbrev pub filled_lines : List (List ℕ) → List (List ℕ)
 filled_lines lines = filter (λ l. not (is_blank l)) lines
 
 -- each line that is not blank names an instance; these are the instances, in the order of the lines
-abbrev pub NameIds : List (List ℕ) → List Id → Type 0
-NameIds lines ids = map listed_id_of (filled_lines lines) ≡ map Some ids
+abbrev pub LinesName : List (List ℕ) → List Id → Type 0
+LinesName lines ids = map listed_id_of (filled_lines lines) ≡ map Some ids
 
 abbrev pub IsList : List ℕ → List Id → Type 0
-IsList bytes ids = NameIds (lines_of bytes) ids
+IsList bytes ids = LinesName (lines_of bytes) ids
 
 -- each line names an instance or is blank
 abbrev pub AreListLines : List (List ℕ) → Type 0
-AreListLines lines = (ids : List Id) × NameIds lines ids
+AreListLines lines = (ids : List Id) × LinesName lines ids
 
 -- `line` is the number of the first line that is not blank and names no instance
 abbrev pub IsBadList : List ℕ → ℕ → Type 0
-IsBadList bytes line = IsFirstBadLine AreListLines (lines_of bytes) line
+IsBadList bytes line = IsFirstNotGood AreListLines (lines_of bytes) line
 
 -- `Memory` says nothing about the bytes
 abbrev pub IsListFault : List ℕ → BaseFault → Type 0

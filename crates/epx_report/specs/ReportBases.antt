@@ -22,7 +22,7 @@ abbrev pub DoneAfterExists : Type 0
 DoneAfterExists = (r : ReportData) → IsRising r.done → (done : List Id) × AreDoneAfter r done
 
 -- a report in order whose store lines list the contents is a base
-abbrev pub ReportIsBase : Type 0
-ReportIsBase = (r : ReportData) (done : List Id) (stored : Contents) → FitsReportData r
+abbrev pub ReportIsABase : Type 0
+ReportIsABase = (r : ReportData) (done : List Id) (stored : Contents) → FitsReportData r
     → AreLinesInOrder r → AreDoneAfter r done → r.stored ≡ contents.entries stored
     → IsBase (text_of_report r) done stored

@@ -5,6 +5,7 @@ ghost use Rattle.epx_types.specs.Ids.{id_cmp, IsRising};
 ghost use Rattle.epx_types.specs.Done.{is_among};
 ghost use Rattle.epx_report.specs.inner.Seen.{last, is_after_last};
 
+use epx_types::id_list::find_id;
 use epx_types::{Id, Memory};
 use std::alloc::Global;
 use std::collections::BTreeSet;
@@ -21,14 +22,11 @@ pub(crate) fn is_after_last<T: Ord>(last: Option<&T>, item: &T) -> bool
 }
 
 /// Whether the Id is among rising ones, by binary search.
-fn contains_id(rising: &[Id], id: &Id) -> bool
+fn contains_id(rising: &[Id], id: Id) -> bool
     requires { IsRising rising.now }
-    ensures { result ≡ is_among rising.now id.now }
+    ensures { result ≡ is_among rising.now id }
 {
-    match rising.binary_search(id) {
-        Ok(_) => true,
-        Err(_) => false,
-    }
+    find_id(rising, id).is_some()
 }
 
 /// A set of Ids. Contracts see it as the rising list of its Ids. To insert an Id that is greater
@@ -76,7 +74,7 @@ impl IdSet {
     pub(crate) fn contains(&self, id: &Id) -> bool
         ensures { result ≡ is_among self.now id.now }
     {
-        contains_id(&self.rising, id) || self.late.contains(id)
+        contains_id(&self.rising, *id) || self.late.contains(id)
     }
 
     /// Inserts an Id. Returns true if it is new.
@@ -88,7 +86,7 @@ impl IdSet {
             self.rising.push(id)?;
             return Ok(true);
         }
-        if contains_id(&self.rising, &id) {
+        if contains_id(&self.rising, id) {
             return Ok(false);
         }
         Ok(self.late.insert(id)?)

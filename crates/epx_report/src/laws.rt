@@ -4,7 +4,7 @@ ghost use Rattle.epx_report.specs.Laws.{BadBaseIsBadAtOneLine};
 ghost use Rattle.epx_report.specs.ListLaws.{ListOrBadList, ListIsNoBadList, ListNamesOneList};
 ghost use Rattle.epx_report.specs.ListLaws.{BadListIsBadAtOneLine};
 ghost use Rattle.epx_report.specs.ReportReadings.{ReportIsReadAsItSays};
-ghost use Rattle.epx_report.specs.ReportBases.{DoneAfterExists, ReportIsBase};
+ghost use Rattle.epx_report.specs.ReportBases.{DoneAfterExists, ReportIsABase};
 
 /// Any bytes are a base or a bad base.
 pub fn base_or_bad_base()
@@ -39,7 +39,7 @@ pub fn done_after_exists()
 /// A report with its lines in order is a base. Its done instances are those that are done after
 /// the report, and its store is the final store.
 pub fn report_is_a_base()
-    ensures { ReportIsBase }
+    ensures { ReportIsABase }
 {}
 
 /// Any bytes are a list or a bad list.

@@ -11,6 +11,7 @@ mod list;
 mod progress;
 mod read;
 mod report_lines;
+mod value_lines;
 mod view_lines;
 
 pub use base::{Base, BaseFault, read_base};
@@ -23,6 +24,7 @@ pub use list::read_list;
 pub use report_lines::{
     append_done, append_header, append_pairs, append_replies, append_store, append_waiter,
 };
+pub use value_lines::append_line;
 pub use view_lines::{
     append_level, append_ranked, missing_line, name_line, position_line, uncovered_line,
 };

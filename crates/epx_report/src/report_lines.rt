@@ -14,7 +14,7 @@ use json::Writer;
 use std::alloc::{AllocError, Global};
 use std::mem::replace;
 
-const LINE_FEED: u8 = 10;
+pub(crate) const LINE_FEED: u8 = 10;
 
 /// Begins the array of a line and writes its name. The line is written into the buffer of the
 /// previous line, because a writer at the end of the whole text would first clear the text's spare

@@ -1,37 +1,17 @@
 //! The text of a trace.
-ghost use Rattle.std.specs.Prelude.{◌≡◌, map, flat_map, IfOk};
+ghost use Rattle.std.specs.Prelude.{◌≡◌, flat_map, IfOk};
 ghost use Rattle.epx_types.specs.ExecutionOrder.{IsExecutionOrder};
 ghost use Rattle.epx_trace.specs.TraceLines.{touch_line};
-ghost use Rattle.epx_trace.specs.TraceTexts.{command_of, IsTraceText};
+ghost use Rattle.epx_trace.specs.TraceTexts.{IsTraceText};
 
 use crate::execution::trace_of;
 use crate::touch::Touch;
 use crate::trace_lines::append_touch;
-use epx_committed::Merged;
+use epx_committed::{Merged, commands_of};
 use epx_components::OrderList;
 use epx_txn::Store;
-use epx_types::{Command, Id, Key, Memory};
+use epx_types::{Key, Memory};
 use std::alloc::Global;
-
-/// The commands of some instances.
-fn commands_of<'a>(
-    alloc: Global,
-    merged: &'a Merged,
-    ids: &[Id],
-) -> Result<Vec<Command<'a>>, Memory>
-    ensures { IfOk result (λ commands. map (λ c. (c.id, c.ops.now)) commands.items
-        ≡ map (command_of merged.now) ids.now) }
-{
-    let mut commands = Vec::with_capacity(alloc, ids.len())?;
-    for id in ids {
-        let ops = match merged.get(*id) {
-            Some(entry) => entry.ops(),
-            None => &[],
-        };
-        commands.push(Command { id: *id, ops })?;
-    }
-    Ok(commands)
-}
 
 /// The lines of some touches.
 fn lines_of(alloc: Global, touches: &[Touch], reads: bool) -> Result<Vec<u8>, Memory>

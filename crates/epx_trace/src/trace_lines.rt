@@ -1,28 +1,16 @@
 //! Writes the lines of a trace: JSON (RFC 8259) in compact form, each ended by a line feed.
-ghost use Rattle.std.specs.Prelude.{◌≡◌, ◌++◌, ◌∷◌, [], false, IfOk, OnOk};
+ghost use Rattle.std.specs.Prelude.{◌≡◌, ◌++◌, false, IfOk, OnOk};
 ghost use Rattle.serde_json.specs.View.{view};
-ghost use Rattle.serde_json.specs.Written.{has_float, compact_text};
+ghost use Rattle.serde_json.specs.Written.{has_float};
 ghost use Rattle.epx_lines.specs.Text.{data_of_value};
-ghost use Rattle.epx_report.specs.ReportLines.{array_of, line_feed};
+ghost use Rattle.epx_report.specs.ReportLines.{array_of};
 ghost use Rattle.epx_trace.specs.TraceLines.{read_data, write_data, touch_line};
 
 use crate::touch::Touch;
+use epx_report::append_line;
 use epx_types::{Id, Memory};
 use serde_json::{Value, json};
 use std::alloc::{AllocError, Global};
-
-const LINE_FEED: u8 = 10;
-
-/// Appends the line of a value.
-fn append_line(alloc: Global, text: &mut Vec<u8>, value: &Value) -> Result<(), Memory>
-    requires { has_float (view value.now) ≡ false }
-    ensures { OnOk result (text.new.items
-        ≡ text.old.items ++ (compact_text (view value.now) ++ line_feed ∷ [])) }
-{
-    text.extend_from_slice(&value.to_vec(alloc)?)?;
-    text.push(LINE_FEED)?;
-    Ok(())
-}
 
 /// The number under a key, or null if the key is absent.
 fn stored_value(alloc: Global, stored: Option<i64>) -> Result<Value, AllocError>

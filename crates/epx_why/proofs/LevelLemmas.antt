@@ -19,15 +19,15 @@ use Rattle.epx_types.proofs.lists.MembershipLemmas.{Contains-from_flat_map}
 use Rattle.epx_types.proofs.lists.SearchLemmas.{value_of_some, none_from_test}
 use Rattle.epx_rows.specs.Rows.{row_of}
 use Rattle.epx_why.specs.inner.NodeSteps.{LeadsIn, AreLeast, distance_at}
-use Rattle.epx_why.specs.inner.LevelSearches.{SearchView, steps_left, IsVisit, IsSearch}
+use Rattle.epx_why.specs.inner.LevelSearches.{LevelView, left_to_find, IsLevelVisit, IsLevelSearch}
 
 -- ---- one more target
 
-module _ (targets : List ℕ) (steps : ℕ) (old new : SearchView) (x : ℕ)
-    (is : IsVisit targets steps old new) where
+module _ (targets : List ℕ) (steps : ℕ) (old new : LevelView) (x : ℕ)
+    (is : IsLevelVisit targets steps old new) where
   -- a target that has a distance
   visits_skip : (n : ℕ) → distance_at new.distances x ≡ Some n
-      → IsVisit (targets ++ x ∷ []) steps old new
+      → IsLevelVisit (targets ++ x ∷ []) steps old new
   visits_skip n has = record {
     len = is.len;
     kept = is.kept;
@@ -46,7 +46,7 @@ module _ (targets : List ℕ) (steps : ℕ) (old new : SearchView) (x : ℕ)
 
   -- a target that has none
   visits_more : distance_at new.distances x ≡ None → x < length new.distances
-      → IsVisit (targets ++ x ∷ []) steps old
+      → IsLevelVisit (targets ++ x ∷ []) steps old
       (record { distances = set new.distances x (Some steps); level = new.level ++ x ∷ [] })
   visits_more none l = record {
     len = length-set new.distances x (Some steps) ∙ is.len;
@@ -108,44 +108,45 @@ module _ (targets : List ℕ) (steps : ℕ) (old new : SearchView) (x : ℕ)
               ]
         ]
 
-    same_work : steps_left
+    same_work : left_to_find
         (record { distances = set new.distances x (Some steps); level = new.level ++ x ∷ [] })
-        ≡ steps_left old
+        ≡ left_to_find old
     same_work =
         let f = λ (d : Option ℕ). cond (not (is_some d)) 1 0 in
         let counted = sum_by-set f new.distances x (Some steps) None l in
         let had : f (get_or new.distances x None) ≡ 1 = ap f none in
         omega (arith, counted, had, length_push new.level x, is.same_work)
 
-pub visit_skip : (targets : List ℕ) (i steps : ℕ) (old new : SearchView) (d : Option ℕ)
+pub visit_skip : (targets : List ℕ) (i steps : ℕ) (old new : LevelView) (d : Option ℕ)
     → i < length targets → d ≡ distance_at new.distances (get_or targets i 0) → is_some d ≡ true
-    → IsVisit (take i targets) steps old new → IsVisit (take (i + 1) targets) steps old new
+    → IsLevelVisit (take i targets) steps old new
+    → IsLevelVisit (take (i + 1) targets) steps old new
 visit_skip targets i steps old new d l at some is =
     let has = value_of_some d some in
-    subst (λ (xs : List ℕ). IsVisit xs steps old new) (sym (take_more targets i 0 l))
+    subst (λ (xs : List ℕ). IsLevelVisit xs steps old new) (sym (take_more targets i 0 l))
     (visits_skip (take i targets) steps old new (get_or targets i 0) is has.0 (sym at ∙ has.1))
 
-pub visit_more : (targets : List ℕ) (i steps : ℕ) (old new : SearchView) (d : Option ℕ)
+pub visit_more : (targets : List ℕ) (i steps : ℕ) (old new : LevelView) (d : Option ℕ)
     → i < length targets → d ≡ distance_at new.distances (get_or targets i 0) → is_some d ≡ false
-    → get_or targets i 0 < length new.distances → IsVisit (take i targets) steps old new
-    → IsVisit (take (i + 1) targets) steps old
+    → get_or targets i 0 < length new.distances → IsLevelVisit (take i targets) steps old new
+    → IsLevelVisit (take (i + 1) targets) steps old
     (record {
       distances = set new.distances (get_or targets i 0) (Some steps);
       level = new.level ++ get_or targets i 0 ∷ [];
     })
 visit_more targets i steps old new d l at none within is =
-    let after : SearchView = record {
+    let after : LevelView = record {
       distances = set new.distances (get_or targets i 0) (Some steps);
       level = new.level ++ get_or targets i 0 ∷ [];
     } in
-    subst (λ (xs : List ℕ). IsVisit xs steps old after) (sym (take_more targets i 0 l))
+    subst (λ (xs : List ℕ). IsLevelVisit xs steps old after) (sym (take_more targets i 0 l))
     (visits_more (take i targets) steps old new (get_or targets i 0) is
     (sym at ∙ none_from_test d none) within)
 
 -- ---- the targets of one more node
 
-pub visits_append : (xs ys : List ℕ) (steps : ℕ) (a b c : SearchView) → IsVisit xs steps a b
-    → IsVisit ys steps b c → IsVisit (xs ++ ys) steps a c
+pub visits_append : (xs ys : List ℕ) (steps : ℕ) (a b c : LevelView) → IsLevelVisit xs steps a b
+    → IsLevelVisit ys steps b c → IsLevelVisit (xs ++ ys) steps a c
 visits_append xs ys steps a b c p q = record {
   len = q.len ∙ p.len;
   kept = λ k n h. q.kept k n (p.kept k n h);
@@ -216,7 +217,7 @@ module _ (rows : List (List ℕ)) (start : ℕ) where
         let most = count_by-le-length (λ (d : Option ℕ). not (is_some d)) none in
         omega (arith, counted, had, most, length-replicate {A = Option ℕ} (length rows) None)
 
-    pub search_first : IsSearch rows start 0 (record { distances = first; level = start ∷ [] })
+    pub search_first : IsLevelSearch rows start 0 (record { distances = first; level = start ∷ [] })
     search_first = record {
       len = length-set (replicate (length rows) None) start (Some 0) ∙ long;
       leads = λ j i h. let at = only j i h in
@@ -234,9 +235,9 @@ module _ (rows : List (List ℕ)) (start : ℕ) where
       found j zero l there = (0, omega arith, ap (distance_at first) (sym there) ∙ here)
       found j (suc i) l there = absurd (omega arith)
 
-  module _ (n : ℕ) (old new : SearchView) (is : IsSearch rows start n old)
+  module _ (n : ℕ) (old new : LevelView) (is : IsLevelSearch rows start n old)
       (some : 0 < length old.level)
-      (visits : IsVisit (flat_map (row_of rows) old.level) (n + 1)
+      (visits : IsLevelVisit (flat_map (row_of rows) old.level) (n + 1)
       (record { distances = old.distances; level = [] }) new) where
     leads_next : (j i : ℕ) → distance_at new.distances j ≡ Some i
         → LeadsIn (row_of rows) start i j × (i ≤ n + 1)
@@ -286,7 +287,7 @@ module _ (rows : List (List ℕ)) (start : ℕ) where
           | inr before ↦ known_before j i before there
         ]
 
-    pub search_next : IsSearch rows start (n + 1) new
+    pub search_next : IsLevelSearch rows start (n + 1) new
     search_next = record {
       len = visits.len ∙ is.len;
       leads = leads_next;
@@ -303,7 +304,7 @@ module _ (rows : List (List ℕ)) (start : ℕ) where
     }
 
   -- after the last level
-  module _ (n : ℕ) (s : SearchView) (is : IsSearch rows start n s) (none : s.level ≡ []) where
+  module _ (n : ℕ) (s : LevelView) (is : IsLevelSearch rows start n s) (none : s.level ≡ []) where
     found_all : (i j : ℕ) → LeadsIn (row_of rows) start i j
         → (l : ℕ) × (l ≤ i) × (distance_at s.distances j ≡ Some l)
     found_all zero j there = is.found j zero (omega arith) there
@@ -328,7 +329,7 @@ module _ (rows : List (List ℕ)) (start : ℕ) where
     }
 
   -- the nodes of a level have rows
-  pub level_within : (n : ℕ) (s : SearchView) → IsSearch rows start n s
+  pub level_within : (n : ℕ) (s : LevelView) → IsLevelSearch rows start n s
       → All (λ k. k < length rows) s.level
   level_within n s is =
       All-weaker (Contains s.level) (λ k. k < length rows) within s.level

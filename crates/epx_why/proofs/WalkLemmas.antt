@@ -17,7 +17,7 @@ use Rattle.epx_types.proofs.lists.ListPositionLemmas.{Contains-slice_get}
 use Rattle.epx_why.specs.FirstPaths.{ComesUpTo, path_ids, IsFirstPath, HasNoPath}
 use Rattle.epx_why.specs.inner.NodeSteps.{LeadsTo, AreDistancesTo, distance_at}
 use Rattle.epx_why.specs.inner.NodeWalks.{id_at, IsFewest, IsNext, IsFirstWalk}
-use Rattle.epx_why.specs.inner.NodeWalks.{IsFirstNodePath, IsBegun}
+use Rattle.epx_why.specs.inner.NodeWalks.{IsFirstNodePath, IsWalkBegun}
 use Rattle.epx_why.proofs.NodeStepLemmas.{LeadsTo-node_path}
 use Rattle.epx_why.proofs.MapStepLemmas.{slice_get-id_at, map_path, node_path}
 use Rattle.epx_why.proofs.MapStepLemmas.{steps_over_nodes, AreLeast-fewest}
@@ -89,16 +89,16 @@ module _ (g : DependencyGraph) (graph : IsGraph g) (t : ℕ) (distances : List (
   -- ---- node by node
 
   pub begun_first : (k n c : ℕ) → IsFewest distances (edges_of g k) n
-      → IsNext g distances (edges_of g k) n c → IsBegun g distances t k (suc n) (c ∷ []) c n
+      → IsNext g distances (edges_of g k) n c → IsWalkBegun g distances t k (suc n) (c ∷ []) c n
   begun_first k n c few next = record {
     distance = next.distance;
     goes_on = λ rest walk. walk_step k n c rest few next walk;
   }
 
   pub begun_more : (k steps : ℕ) (nodes : List ℕ) (last left c : ℕ)
-      → IsBegun g distances t k steps nodes last (suc left)
+      → IsWalkBegun g distances t k steps nodes last (suc left)
       → IsNext g distances (edges_of g last) left c
-      → IsBegun g distances t k steps (nodes ++ c ∷ []) c left
+      → IsWalkBegun g distances t k steps (nodes ++ c ∷ []) c left
   begun_more k steps nodes last left c begun next = record {
     distance = next.distance;
     goes_on = λ rest walk.
@@ -108,7 +108,7 @@ module _ (g : DependencyGraph) (graph : IsGraph g) (t : ℕ) (distances : List (
   }
 
   pub begun_end : (k n : ℕ) (nodes : List ℕ) (last : ℕ) → IsFewest distances (edges_of g k) n
-      → IsBegun g distances t k (suc n) nodes last 0 → IsFirstNodePath g t k nodes
+      → IsWalkBegun g distances t k (suc n) nodes last 0 → IsFirstNodePath g t k nodes
   begun_end k n nodes last few begun = record {
     fewest = n;
     walk = subst (IsFirstWalk g t (suc n) k) (append-nil nodes)

@@ -45,8 +45,6 @@ pub(crate) fn distances_to(
     requires node { node < length graph.now.ids }
     ensures { IfOk result (λ distances. AreDistancesTo graph.now node distances.items) }
 {
-    let edges = all_edges(alloc, graph)?;
-    let sources = edges.transpose(alloc, graph.len())?;
-    drop(edges);
+    let sources = graph.sources(alloc)?;
     find_distances(alloc, &sources, node)
 }

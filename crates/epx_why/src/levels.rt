@@ -2,7 +2,7 @@
 ghost use Rattle.std.specs.Prelude.{◌≡◌, ◌<◌, [], None, length, replicate, flat_map};
 ghost use Rattle.std.specs.Prelude.{All, IfOk, OnOk};
 ghost use Rattle.epx_rows.specs.Rows.{row_of};
-ghost use Rattle.epx_why.specs.inner.LevelSearches.{IsVisit};
+ghost use Rattle.epx_why.specs.inner.LevelSearches.{IsLevelVisit};
 ghost use Rattle.epx_why.specs.inner.NodeSteps.{AreLeast, LeadsIn};
 
 use epx_rows::Rows;
@@ -24,7 +24,7 @@ fn visit(
     next: &mut Vec<usize>,
 ) -> Result<(), Memory>
     requires { All (λ k. k < length distances.old) targets.now }
-    ensures { OnOk result (IsVisit targets.now steps
+    ensures { OnOk result (IsLevelVisit targets.now steps
         (record { distances = distances.old; level = next.old.items })
         (record { distances = distances.new; level = next.new.items })) }
 {
@@ -48,7 +48,7 @@ fn next_level(
 ) -> Result<Vec<usize>, Memory>
     requires rows { All (All (λ k. k < length distances.old)) rows.now }
     requires level { All (λ k. k < length rows.now) level.now }
-    ensures { IfOk result (λ next. IsVisit (flat_map (row_of rows.now) level.now) steps
+    ensures { IfOk result (λ next. IsLevelVisit (flat_map (row_of rows.now) level.now) steps
         (record { distances = distances.old; level = [] })
         (record { distances = distances.new; level = next.items })) }
 {

@@ -1,12 +1,11 @@
 //! Writes the lines about one instance, and the line of a path: JSON (RFC 8259) in compact form,
 //! each ended by a line feed.
-ghost use Rattle.std.specs.Prelude.{◌≡◌, ◌<◌, ◌++◌, ◌∷◌, [], false, length, map, flat_map};
+ghost use Rattle.std.specs.Prelude.{◌≡◌, ◌<◌, ◌++◌, ◌∷◌, false, length, map, flat_map};
 ghost use Rattle.std.specs.Prelude.{slice_get};
 ghost use Rattle.std.specs.Prelude.{All, IfOk, OnOk, Some};
 ghost use Rattle.serde_json.specs.View.{view};
-ghost use Rattle.serde_json.specs.Written.{has_float, compact_text};
+ghost use Rattle.serde_json.specs.Written.{has_float};
 ghost use Rattle.epx_types.specs.ExecutionOrder.{Ranked};
-ghost use Rattle.epx_report.specs.ReportLines.{line_feed};
 ghost use Rattle.epx_report.specs.ReportLines.{array_of};
 ghost use Rattle.epx_why.specs.WhyLines.{id_data, need_data, need_line, path_data, path_line};
 ghost use Rattle.epx_why.specs.WhyLines.{ready_data, ready_line};
@@ -15,22 +14,10 @@ ghost use Rattle.epx_why.specs.inner.NodeWalks.{id_at};
 use crate::need::Need;
 use epx_components::OrderList;
 use epx_graph::Graph;
+use epx_report::append_line;
 use epx_types::{Id, Memory};
 use serde_json::{Value, json};
 use std::alloc::{AllocError, Global};
-
-const LINE_FEED: u8 = 10;
-
-/// Appends the line of a value.
-fn append_line(alloc: Global, text: &mut Vec<u8>, value: &Value) -> Result<(), Memory>
-    requires { has_float (view value.now) ≡ false }
-    ensures { OnOk result (text.new.items
-        ≡ text.old.items ++ (compact_text (view value.now) ++ line_feed ∷ [])) }
-{
-    text.extend_from_slice(&value.to_vec(alloc)?)?;
-    text.push(LINE_FEED)?;
-    Ok(())
-}
 
 fn ready_value(
     alloc: Global,

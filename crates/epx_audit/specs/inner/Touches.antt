@@ -21,13 +21,13 @@ touch start position key writes =
 abbrev pub touches_by : DefaultHasher → ℕ → Op → List Touch
 touches_by start position op = map (λ a. touch start position a.0 a.1) (accesses_of op)
 
-abbrev pub touches_of : DefaultHasher → ℕ → List Op → List Touch
-touches_of start position ops = flat_map (touches_by start position) ops
+abbrev pub hashed_touches : DefaultHasher → ℕ → List Op → List Touch
+hashed_touches start position ops = flat_map (touches_by start position) ops
 
 -- the touches of the commands at the first n positions, each of which has a node
 abbrev pub HoldTouches : DefaultHasher → List Instance → List ℕ → ℕ → List Touch → Type 0
 HoldTouches start m nodes n touches = (p : ℕ) (e : Instance) (t : Touch) → p < n
-    → slice_get m (slice_index nodes p) ≡ Some e → Contains (touches_of start p e.ops) t
+    → slice_get m (slice_index nodes p) ≡ Some e → Contains (hashed_touches start p e.ops) t
     → Contains touches t
 
 -- each touch is at one of the first n positions

@@ -10,13 +10,13 @@ pub record IsLeastMissing (g : DependencyGraph) (k s : ℕ) : Type 0 where
   pub least : (z : ℕ) → g.committed ≤ z → NodeReaches (edges_of g) k z → s ≤ z
 
 -- the mark of a node, if it has one
-abbrev pub mark_of : List (Option ℕ) → ℕ → Option ℕ
-mark_of marks k = slice_index_or marks k None
+abbrev pub node_mark : List (Option ℕ) → ℕ → Option ℕ
+node_mark marks k = slice_index_or marks k None
 
 -- the mark of each committed node is the least missing node that it reaches; a node without a mark
 -- reaches none
 pub record AreMarksOf (g : DependencyGraph) (marks : List (Option ℕ)) : Type 0 where
   pub nodes : length marks ≡ g.committed
-  pub marked : (k s : ℕ) → mark_of marks k ≡ Some s → IsLeastMissing g k s
-  pub unmarked : (k s : ℕ) → k < g.committed → mark_of marks k ≡ None → g.committed ≤ s
+  pub marked : (k s : ℕ) → node_mark marks k ≡ Some s → IsLeastMissing g k s
+  pub unmarked : (k s : ℕ) → k < g.committed → node_mark marks k ≡ None → g.committed ≤ s
       → s < length g.ids → ¬ NodeReaches (edges_of g) k s

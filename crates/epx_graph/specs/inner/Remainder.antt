@@ -13,24 +13,24 @@ pub record RemainderView : Type 0 where
   pub whole : List Instance
   pub done : List Id
 
-abbrev pub left_of : RemainderView → List Instance
-left_of r = remaining r.done r.whole
+abbrev pub rest_of : RemainderView → List Instance
+rest_of r = remaining r.done r.whole
 
 -- what an Id is: left, at its position among those left; done; or missing
 abbrev pub IsIdStateOf : RemainderView → Id → IdState → Type 0
-IsIdStateOf r x (found.Left k) = (¬ Contains r.done x) × (position_of (left_of r) x ≡ Some k)
+IsIdStateOf r x (found.Left k) = (¬ Contains r.done x) × (position_of (rest_of r) x ≡ Some k)
 IsIdStateOf r x found.Done = Contains r.done x
-IsIdStateOf r x found.Missing = (¬ Contains r.done x) × (position_of (left_of r) x ≡ None)
+IsIdStateOf r x found.Missing = (¬ Contains r.done x) × (position_of (rest_of r) x ≡ None)
 
 -- the instance at position p of the map is at position k of what is left
 abbrev pub IsAtPosition : RemainderView → ℕ → ℕ → Type 0
 IsAtPosition r p k = (e : Instance) × (slice_get r.whole p ≡ Some e)
-    × (slice_get (left_of r) k ≡ Some (without_deps r.done e))
+    × (slice_get (rest_of r) k ≡ Some (without_deps r.done e))
 
 -- the position of an instance of the map among those that are left, if it is left
 abbrev pub IsPositionLeft : RemainderView → Instance → Option ℕ → Type 0
 IsPositionLeft r e None = Contains r.done e.id
-IsPositionLeft r e (Some k) = slice_get (left_of r) k ≡ Some (without_deps r.done e)
+IsPositionLeft r e (Some k) = slice_get (rest_of r) k ≡ Some (without_deps r.done e)
 
 -- for the first n instances of the map: the positions of those that are left, and the position of
 -- each among them

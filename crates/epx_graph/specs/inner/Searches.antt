@@ -4,7 +4,7 @@ use Rattle.std.specs.Prelude.{Option, Some, None, not, is_some, count_by}
 use Rattle.epx_graph.specs.Graphs.{DependencyGraph, edges_of, IsGraph}
 use Rattle.epx_graph.specs.NodePaths.{NodeReaches}
 use Rattle.epx_rows.specs.Rows.{AreTransposed}
-use Rattle.epx_graph.specs.inner.LeastMissing.{IsLeastMissing, mark_of}
+use Rattle.epx_graph.specs.inner.LeastMissing.{IsLeastMissing, node_mark}
 
 -- the mark of each committed node, and the nodes whose sources are to be visited
 pub record SearchView : Type 0 where
@@ -13,7 +13,7 @@ pub record SearchView : Type 0 where
 
 -- the node is marked with some root
 abbrev pub IsMarked : List (Option ℕ) → ℕ → Type 0
-IsMarked marks k = (root : ℕ) × (mark_of marks k ≡ Some root)
+IsMarked marks k = (root : ℕ) × (node_mark marks k ≡ Some root)
 
 -- how much is left to do: it falls with each step
 abbrev pub steps_left : SearchView → ℕ
@@ -22,9 +22,9 @@ steps_left s = length s.stack + count_by (λ mark. not (is_some mark)) s.marks
 -- the nodes without a mark are marked with the root, and are pushed onto the stack
 pub record IsVisit (nodes : List ℕ) (root : ℕ) (old new : SearchView) : Type 0 where
   pub len : length new.marks ≡ length old.marks
-  pub kept : (k s : ℕ) → mark_of old.marks k ≡ Some s → mark_of new.marks k ≡ Some s
-  pub marked : (k s : ℕ) → mark_of new.marks k ≡ Some s → (mark_of old.marks k ≡ Some s)
-      ⊎ ((mark_of old.marks k ≡ None) × Contains nodes k × (s ≡ root) × Contains new.stack k)
+  pub kept : (k s : ℕ) → node_mark old.marks k ≡ Some s → node_mark new.marks k ≡ Some s
+  pub marked : (k s : ℕ) → node_mark new.marks k ≡ Some s → (node_mark old.marks k ≡ Some s)
+      ⊎ ((node_mark old.marks k ≡ None) × Contains nodes k × (s ≡ root) × Contains new.stack k)
   pub all : (k : ℕ) → Contains nodes k → IsMarked new.marks k
   pub stacked : (k : ℕ) → Contains old.stack k → Contains new.stack k
   pub from : (k : ℕ) → Contains new.stack k → Contains old.stack k ⊎ Contains nodes k
@@ -34,8 +34,8 @@ pub record IsVisit (nodes : List ℕ) (root : ℕ) (old new : SearchView) : Type
 -- stack, or all nodes with an edge to it are marked
 pub record IsMissingSearch (g : DependencyGraph) (root : ℕ) (s : SearchView) : Type 0 where
   pub len : length s.marks ≡ g.committed
-  pub sound : (k z : ℕ) → mark_of s.marks k ≡ Some z → IsLeastMissing g k z
-  pub clear : (k z : ℕ) → k < g.committed → mark_of s.marks k ≡ None → g.committed ≤ z → z < root
+  pub sound : (k z : ℕ) → node_mark s.marks k ≡ Some z → IsLeastMissing g k z
+  pub clear : (k z : ℕ) → k < g.committed → node_mark s.marks k ≡ None → g.committed ≤ z → z < root
       → ¬ NodeReaches (edges_of g) k z
   pub leads : (k : ℕ) → Contains s.stack k → NodeReaches (edges_of g) k root
   pub closed : (k j : ℕ) → Contains (edges_of g k) j → (j ≡ root) ⊎ IsMarked s.marks j

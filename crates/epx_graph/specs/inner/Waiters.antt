@@ -3,13 +3,13 @@ use Rattle.std.specs.Prelude.{◌≡◌, ℕ, ◌<◌, List, Contains, Option, S
 use Rattle.epx_types.specs.Ids.{IsRising}
 use Rattle.epx_types.specs.WaitingLists.{Waiting, waiting_ids}
 use Rattle.epx_graph.specs.Graphs.{DependencyGraph}
-use Rattle.epx_graph.specs.inner.LeastMissing.{mark_of}
+use Rattle.epx_graph.specs.inner.LeastMissing.{node_mark}
 
 -- what a marked node waits for
 pub record IsWaiter (g : DependencyGraph) (marks : List (Option ℕ)) (k : ℕ) (w : Waiting) : Type
     0 where
   pub mark : ℕ
-  pub marked : mark_of marks k ≡ Some mark
+  pub marked : node_mark marks k ≡ Some mark
   pub id : slice_get g.ids k ≡ Some w.id
   pub missing : slice_get g.ids mark ≡ Some w.missing
 

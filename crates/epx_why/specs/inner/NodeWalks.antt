@@ -55,7 +55,7 @@ pub record IsFirstNodePath (g : DependencyGraph) (t k : ℕ) (cs : List ℕ) : T
   pub shortest : (n : ℕ) → LeadsTo (edges_of g) k (suc n) t → fewest ≤ n
 
 -- the nodes lead from k to `last`, and the first walk from there makes them the first walk from k
-pub record IsBegun (g : DependencyGraph) (distances : List (Option ℕ)) (t k steps : ℕ)
+pub record IsWalkBegun (g : DependencyGraph) (distances : List (Option ℕ)) (t k steps : ℕ)
     (nodes : List ℕ) (last left : ℕ) : Type 0 where
   pub distance : distance_at distances last ≡ Some left
   pub goes_on : (rest : List ℕ) → IsFirstWalk g t left last rest

@@ -5,7 +5,7 @@ use Rattle.std.proofs.lemmas.List.Elements.{Contains-append_left, Contains-appen
 use Rattle.std.proofs.lemmas.List.Elements.{Contains-append_cases}
 use Rattle.std.proofs.lemmas.List.Sorted.{Contains-permutation, IsPermutation-sym}
 use Rattle.epx_types.specs.Instances.{Instance}
-use Rattle.epx_audit.specs.inner.Touches.{touches_of}
+use Rattle.epx_audit.specs.inner.Touches.{hashed_touches}
 use Rattle.epx_audit.proofs.TouchLemmas.{touch_place}
 use Rattle.epx_audit.proofs.touches.find_touches.Goals as goal
 
@@ -15,7 +15,7 @@ loop-position-preserved c =
     let start = c.args.start in
     let old = c.loop-position.touches.items in
     let ops = c.ops.result.now in
-    let more = touches_of start n ops in
+    let more = hashed_touches start n ops in
     let new : c.add_command.new.touches.items ≡ old ++ more = c.in_ok-add_command.ensures in
     record {
       placed = λ t h. elim (Contains-append_cases old more t (subst (λ ts. Contains ts t) new h)) [
@@ -34,8 +34,8 @@ loop-position-preserved c =
             let one : c.entry_at.result.now ≡ e = cc read in
             let its : ops ≡ e.ops = c.ops.ensures.ops ∙ ap (λ (e : Instance). e.ops) one in
             Contains-append_right old more t
-            (subst (λ x. Contains (touches_of start n x) t) (sym its)
-            (subst (λ i. Contains (touches_of start i e.ops) t) same h))
+            (subst (λ x. Contains (hashed_touches start n x) t) (sym its)
+            (subst (λ i. Contains (hashed_touches start i e.ops) t) same h))
       ]);
     }
 

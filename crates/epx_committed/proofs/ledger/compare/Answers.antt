@@ -1,7 +1,8 @@
 use Rattle.std.proofs.Common.{◌≢◌, ◌∙◌, sym, true≢false}
 use Rattle.indexmap.proofs.CallerLemmas.{insert_entry-new}
+use Rattle.epx_types.proofs.lists.SearchLemmas.{none_from_test}
 use Rattle.epx_committed.specs.declared.ledger.Disagreement.{Disagreement}
-use Rattle.epx_committed.proofs.LedgerMapLemmas.{same_id, is_none, noted_equal}
+use Rattle.epx_committed.proofs.LedgerMapLemmas.{same_id, noted_equal}
 use Rattle.epx_committed.proofs.LedgerMapLemmas.{noted_disagreed, noted_disagreement}
 use Rattle.epx_committed.proofs.ledger.compare.Goals as goal
 use Rattle.epx_committed.proofs.ledger.compare.Goals.{then-same_entry-via-then-same_entry}
@@ -31,7 +32,7 @@ returns c = λ firsts known.
     record { first = c.place.result; second = c.place-2.result } in
     let absent = sym c.contains_key.ensures ∙ c.if-contains_key.false in
     let last = c.in_ok-insert.ensures.entries ∙ insert_entry-new same_id disagreements
-    c.id-id.result disagreement (is_none _ absent) in
+    c.id-id.result disagreement (none_from_test _ absent) in
     let differ : first.instance ≢ line.instance =
     λ e. true≢false (sym (c.same_entry.ensures.1 (c.entry.ensures ∙ e ∙ sym c.entry-2.ensures))
     ∙ c.if-same_entry.false) in

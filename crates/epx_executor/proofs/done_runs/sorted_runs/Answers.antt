@@ -5,7 +5,7 @@ use Rattle.std.proofs.lemmas.List.Elements.{All-push}
 use Rattle.std.proofs.lemmas.List.{take_all}
 use Rattle.epx_types.specs.declared.id.Id.{Id}
 use Rattle.epx_executor.specs.declared.done_runs.Run.{Run}
-use Rattle.epx_executor.specs.Runs.{AreFilled, IsInRuns, IsFilled}
+use Rattle.epx_executor.specs.Runs.{AreFilled, IsInRuns, IsFilledRun}
 use Rattle.epx_executor.proofs.RunLemmas.{IsInRuns-of_more, AreFilled-sorted, IsInRuns-sorted}
 use Rattle.epx_executor.proofs.RunLemmas.{BeginInOrder-from_sorted, Run-by_first}
 use Rattle.epx_executor.proofs.done_runs.sorted_runs.Goals as goal
@@ -13,7 +13,7 @@ use Rattle.epx_executor.proofs.done_runs.sorted_runs.Goals as goal
 pub loop-id-preserved : goal.loop-id-preserved
 loop-id-preserved c =
     let items = c.in_ok-push.ensures.items in (
-      subst AreFilled (sym items) (All-push IsFilled c.loop-id.all.items c.of.result
+      subst AreFilled (sym items) (All-push IsFilledRun c.loop-id.all.items c.of.result
           c.loop-id.invariant.0 c.of.ensures.filled),
       λ x. subst (λ (rs : List Run). IsInRuns rs x
           ↔ Contains (take (c.loop-id.id-index + 1) c.args.ids.now) x) (sym items)

@@ -2,13 +2,13 @@ use Rattle.std.proofs.Common.{◌++◌, ◌∷◌, [], take, sym, ap, ◌∙◌}
 use Rattle.epx_types.specs.Instances.{Instance}
 use Rattle.epx_types.specs.CommittedMap.{ids_of}
 use Rattle.epx_types.proofs.lists.ListPositionLemmas.{slice_get-from_map}
-use Rattle.epx_graph.specs.inner.Remainder.{left_of}
+use Rattle.epx_graph.specs.inner.Remainder.{rest_of}
 use Rattle.epx_graph.proofs.MissingIdLemmas.{ids_more}
 use Rattle.epx_graph.proofs.build_graph.committed_ids.Goals as goal
 
 pub loop-index-preserved : goal.loop-index-preserved
 loop-index-preserved c =
-    let m = left_of c.args.left.now in
+    let m = rest_of c.args.left.now in
     let i = c.loop-index.index in
     let e = slice_get-from_map (λ (d : Instance). d.id) m i c.id_at.result c.id_at.ensures in
     c.in_ok-push.ensures.items

@@ -1,7 +1,7 @@
 use Rattle.std.proofs.Common.{◌≡◌, take}
 use Rattle.epx_types.specs.CommittedMap.{ids_of}
-use Rattle.epx_graph.specs.inner.Remainder.{left_of}
+use Rattle.epx_graph.specs.inner.Remainder.{rest_of}
 use Rattle.epx_graph.proofs.build_graph.committed_ids.Given as goal
 
 abbrev pub invariant-loop-index : goal.invariant-loop-index
-invariant-loop-index l = l.ids.items ≡ ids_of (take l.index (left_of l.left))
+invariant-loop-index l = l.ids.items ≡ ids_of (take l.index (rest_of l.left))

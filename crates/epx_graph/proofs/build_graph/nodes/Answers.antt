@@ -1,6 +1,6 @@
 use Rattle.std.proofs.Common.{◌≡◌, ◌++◌, sym, ap, subst, ◌∙◌}
 use Rattle.epx_types.specs.CommittedMap.{ids_of}
-use Rattle.epx_graph.specs.inner.Remainder.{left_of}
+use Rattle.epx_graph.specs.inner.Remainder.{rest_of}
 use Rattle.epx_graph.specs.inner.Nodes.{AreNodesOf}
 use Rattle.epx_graph.proofs.MissingIdLemmas.{missing_kept}
 use Rattle.epx_graph.proofs.MapNodeLemmas.{nodes_joined}
@@ -8,7 +8,7 @@ use Rattle.epx_graph.proofs.build_graph.nodes.Goals as goal
 
 pub returns : goal.returns
 returns c =
-    let m = left_of c.args.left.now in
+    let m = rest_of c.args.left.now in
     let missing = c.in_ok-missing.missing.items in
     let is : c.extend_from_slice.new.self.items ≡ ids_of m ++ missing =
     c.in_ok-extend_from_slice.ensures.items ∙ ap (λ l. l ++ c.deref-2.result.now)

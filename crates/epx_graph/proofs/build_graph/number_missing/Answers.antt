@@ -1,7 +1,7 @@
 use Rattle.std.proofs.Common.{◌≡◌, ◌++◌, ◌∷◌, [], ◌+◌, List, Some, slice_get, Contains, length}
 use Rattle.std.proofs.Common.{take, drop, get_or, sym, ap, subst, ◌∙◌}
 use Rattle.epx_types.specs.declared.id.Id.{Id}
-use Rattle.epx_graph.specs.inner.Remainder.{left_of}
+use Rattle.epx_graph.specs.inner.Remainder.{rest_of}
 use Rattle.epx_graph.specs.inner.Nodes.{ArePositionsOf}
 use Rattle.epx_graph.proofs.RisingRowLemmas.{missing_skip, missing_more}
 use Rattle.epx_graph.proofs.build_graph.number_missing.Goals as goal
@@ -9,7 +9,7 @@ use Rattle.epx_graph.proofs.build_graph.number_missing.Goals.{in-Some+in_ok-push
 
 pub loop-id-preserved : goal.loop-id-preserved
 loop-id-preserved c =
-    let m = left_of c.args.left.now in
+    let m = rest_of c.args.left.now in
     let ids = c.args.ids.now in
     let xs = c.args.missing.now in
     let i = c.loop-id.id-index in

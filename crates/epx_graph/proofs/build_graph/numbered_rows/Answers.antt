@@ -5,7 +5,7 @@ use Rattle.epx_types.specs.declared.id.Id.{Id}
 use Rattle.epx_types.specs.CommittedMap.{IsCommitted}
 use Rattle.epx_types.specs.Done.{without_deps, remaining_ids}
 use Rattle.epx_types.proofs.lists.RisingIdLemmas.{AllPairs-from_IsRising}
-use Rattle.epx_graph.specs.inner.Remainder.{left_of}
+use Rattle.epx_graph.specs.inner.Remainder.{rest_of}
 use Rattle.epx_graph.specs.inner.Nodes.{positions_of, missing_of, ArePositionsOf, AreRowsOf}
 use Rattle.epx_graph.proofs.MapNodeLemmas.{rows_more}
 use Rattle.epx_graph.proofs.RisingRowLemmas.{row_joined}
@@ -17,7 +17,7 @@ use Rattle.epx_graph.proofs.build_graph.numbered_rows.Goals as goal
 pub overflow_sub-lacks : goal.overflow_sub-lacks
 overflow_sub-lacks c =
     let done = c.args.left.now.done in
-    let short = row_short (left_of c.args.left.now) c.args.gathered.now.rows
+    let short = row_short (rest_of c.args.left.now) c.args.gathered.now.rows
     c.args.gathered.now.missing.items c.requires.gathered c.loop-index.index
     (without_deps done c.entry_at.result.now) c.entry_at.ensures in
     omega (
@@ -30,7 +30,7 @@ overflow_sub-lacks c =
 
 pub split_at-requires : goal.split_at-requires
 split_at-requires c =
-    let m = left_of c.args.left.now in
+    let m = rest_of c.args.left.now in
     let e = without_deps c.args.left.now.done c.entry_at.result.now in
     let count : c.count_undone.result ≡ length e.deps =
     c.count_undone.ensures ∙ ap (λ xs. length (remaining_ids c.args.left.now.done xs))
@@ -43,7 +43,7 @@ split_at-requires c =
 
 pub number_missing-requires-clause-rising : goal.number_missing-requires-clause-rising
 number_missing-requires-clause-rising c =
-    let m = left_of c.args.left.now in
+    let m = rest_of c.args.left.now in
     let done = c.args.left.now.done in
     let e = without_deps done c.entry_at.result.now in
     let count : c.count_undone.result ≡ length e.deps =
@@ -58,7 +58,7 @@ number_missing-requires-clause-rising c =
 
 pub number_missing-requires-clause-missing : goal.number_missing-requires-clause-missing
 number_missing-requires-clause-missing c =
-    let m = left_of c.args.left.now in
+    let m = rest_of c.args.left.now in
     let e = without_deps c.args.left.now.done c.entry_at.result.now in
     let count : c.count_undone.result ≡ length e.deps =
     c.count_undone.ensures ∙ ap (λ xs. length (remaining_ids c.args.left.now.done xs))
@@ -72,7 +72,7 @@ number_missing-requires-clause-missing c =
 
 pub loop-index-preserved : goal.loop-index-preserved
 loop-index-preserved c =
-    let m = left_of c.args.left.now in
+    let m = rest_of c.args.left.now in
     let done = c.args.left.now.done in
     let e = without_deps done c.entry_at.result.now in
     let count : c.count_undone.result ≡ length e.deps =
@@ -102,12 +102,12 @@ loop-index-preserved c =
 
 pub returns : goal.returns
 returns c =
-    let whole : c.loop-index.index ≡ length (left_of c.args.left.now) =
+    let whole : c.loop-index.index ≡ length (rest_of c.args.left.now) =
     omega (
       arith,
       c.loop-index-test.false,
       c.loop-index.auto.index-end,
       c.len-index-end.ensures.len,
     ) in
-    subst (AreRowsOf (left_of c.args.left.now) c.args.ids.now c.loop-index.rows) whole
+    subst (AreRowsOf (rest_of c.args.left.now) c.args.ids.now c.loop-index.rows) whole
     c.loop-index.invariant.rows

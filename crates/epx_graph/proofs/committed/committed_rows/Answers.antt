@@ -1,14 +1,14 @@
 use Rattle.std.proofs.Common.{ℕ, List, flat_map, sym, subst, rules, arith}
 use Rattle.std.proofs.lemmas.Result.{IfOk-weaker}
 use Rattle.epx_graph.specs.declared.committed.Gathered.{Gathered}
-use Rattle.epx_graph.specs.inner.Remainder.{left_of}
+use Rattle.epx_graph.specs.inner.Remainder.{rest_of}
 use Rattle.epx_graph.specs.inner.Nodes.{IsGatheredOf, instances_of_piece}
 use Rattle.epx_graph.proofs.GatherPieceLemmas.{gathered_all, IfOk-both}
 use Rattle.epx_graph.proofs.committed.committed_rows.Goals as goal
 
 pub returns : goal.returns
 returns g c =
-    let m = left_of c.args.left.now in
+    let m = rest_of c.args.left.now in
     let pieces = c.new-pieces.result in
     let answers = c.in_ok-gathered.ensures.ok in
     let rows_in = λ (piece : Gathered). piece.rows in

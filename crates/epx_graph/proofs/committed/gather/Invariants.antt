@@ -1,6 +1,6 @@
 use Rattle.std.proofs.Common.{◌≡◌, ◌++◌, take}
 use Rattle.epx_types.specs.Done.{remaining_ids}
-use Rattle.epx_graph.specs.inner.Remainder.{left_of}
+use Rattle.epx_graph.specs.inner.Remainder.{rest_of}
 use Rattle.epx_graph.specs.inner.Nodes.{positions_of, missing_of}
 use Rattle.epx_graph.proofs.committed.gather.Given as goal
 
@@ -8,7 +8,7 @@ abbrev pub invariant-loop-id : goal.invariant-loop-id
 invariant-loop-id l = record {
   rows : l.row.rows ≡ l.fn.row.rows;
   row : l.row.row ≡ l.fn.row.row
-      ++ positions_of (left_of l.left) (remaining_ids l.left.done (take l.id-index l.deps));
+      ++ positions_of (rest_of l.left) (remaining_ids l.left.done (take l.id-index l.deps));
   missing : l.missing.items ≡ l.fn.missing.items
-      ++ missing_of (left_of l.left) (remaining_ids l.left.done (take l.id-index l.deps));
+      ++ missing_of (rest_of l.left) (remaining_ids l.left.done (take l.id-index l.deps));
 }

@@ -1,7 +1,7 @@
 use Rattle.std.proofs.Common.{◌≡◌, ◌≤◌, ◌+◌, ◌++◌, ◌∷◌, [], List, ℕ, sym, ap, subst, ◌∙◌}
 use Rattle.std.proofs.Common.{arith, slice_range}
 use Rattle.epx_types.specs.Done.{without_deps, remaining_ids}
-use Rattle.epx_graph.specs.inner.Remainder.{left_of}
+use Rattle.epx_graph.specs.inner.Remainder.{rest_of}
 use Rattle.epx_graph.specs.inner.Nodes.{positions_of, missing_of, IsGatheredOf, first_of_piece}
 use Rattle.epx_graph.proofs.GatherPieceLemmas.{gathered_none, gathered_more}
 use Rattle.epx_graph.proofs.RemainderLemmas.{rest_rises}
@@ -9,7 +9,7 @@ use Rattle.epx_graph.proofs.committed.gather_piece.Goals as goal
 
 pub loop-index-init : goal.loop-index-init
 loop-index-init c =
-    let m = left_of c.args.left.now in
+    let m = rest_of c.args.left.now in
     let first = first_of_piece c.args.pieces.size c.args.pieces.instances c.args.piece in
     subst (λ n. IsGatheredOf m (slice_range m first n) c.in_ok-rows.rows
     c.new-missing.result.items) (sym c.range-start.ensures.start)
@@ -18,7 +18,7 @@ loop-index-init c =
 
 pub loop-index-preserved : goal.loop-index-preserved
 loop-index-preserved c =
-    let m = left_of c.args.left.now in
+    let m = rest_of c.args.left.now in
     let done = c.args.left.now.done in
     let e = c.entry_at.result.now in
     let deps = remaining_ids done e.deps in
@@ -44,7 +44,7 @@ loop-index-preserved c =
 
 pub returns : goal.returns
 returns c =
-    let m = left_of c.args.left.now in
+    let m = rest_of c.args.left.now in
     let size = c.args.pieces.size in
     let piece = c.args.piece in
     let last : c.loop-index.index

@@ -3,7 +3,7 @@ use Rattle.std.proofs.Common.{flat_map, sym, ap, subst, subst₂, ◌∙◌, ari
 use Rattle.std.proofs.lemmas.Bool.Decides.{nat_tests}
 use Rattle.std.proofs.lemmas.List.{nil_from_length}
 use Rattle.epx_rows.specs.Rows.{row_of}
-use Rattle.epx_why.specs.inner.LevelSearches.{SearchView, IsVisit, IsSearch}
+use Rattle.epx_why.specs.inner.LevelSearches.{LevelView, IsLevelVisit, IsLevelSearch}
 use Rattle.epx_why.proofs.LevelLemmas.{search_first, search_next, search_end, level_within}
 use Rattle.epx_why.proofs.LevelLemmas.{written_back}
 use Rattle.epx_why.proofs.levels.find_distances.Goals as goal
@@ -15,7 +15,7 @@ loop-alloc-init c =
     let none : c.in_ok-distances.distances.items ≡ replicate (length rows) None =
     c.in_ok-distances.ensures ∙ ap (λ n. replicate n None) c.len.ensures in
     let level : c.in_ok-level.level.items ≡ start ∷ [] = c.in_ok-level.ensures.items in
-    subst (IsSearch rows start 0) (λ i. record {
+    subst (IsLevelSearch rows start 0) (λ i. record {
       distances = set (sym none i) start (Some 0);
       level = sym level i;
     }) (search_first rows start c.requires.start)
@@ -33,11 +33,11 @@ loop-alloc-preserved c =
     let rows = c.args.rows.now in
     let start = c.args.start in
     let n = c.loop-alloc.steps in
-    let old : SearchView = record {
+    let old : LevelView = record {
       distances = c.loop-alloc.distances.items;
       level = c.loop-alloc.level.items;
     } in
-    let new : SearchView = record {
+    let new : LevelView = record {
       distances = c.next_level.new.distances;
       level = c.in_ok-level-2.level.items;
     } in
@@ -45,13 +45,13 @@ loop-alloc-preserved c =
     c.next_level.auto.distances ∙ ap length c.deref_mut.ensures.value in
     let back = written_back c.next_level.new.distances c.loop-alloc.distances.items
     c.loop-alloc.distances.len long c.loop-alloc.distances.ok.0 in
-    let visits : IsVisit (flat_map (row_of rows) old.level) (n + 1)
-    (record { distances = old.distances; level = [] }) new = subst₂ (λ ds level. IsVisit
+    let visits : IsLevelVisit (flat_map (row_of rows) old.level) (n + 1)
+    (record { distances = old.distances; level = [] }) new = subst₂ (λ ds level. IsLevelVisit
     (flat_map (row_of rows) level) (n + 1) (record { distances = ds; level = [] }) new)
     c.deref_mut.ensures.value c.deref.ensures.value c.in_ok-level-2.ensures in
     let some : 0 < length old.level =
     grind (arith, nat_tests, c.is_empty.ensures, c.loop-alloc-test.true) in
-    subst (λ ds. IsSearch rows start (n + 1) (record {
+    subst (λ ds. IsLevelSearch rows start (n + 1) (record {
       distances = ds;
       level = c.in_ok-level-2.level.items;
     })) (sym back) (search_next rows start n old new c.loop-alloc.invariant some visits)

@@ -1,6 +1,6 @@
 use Rattle.std.proofs.Common.{◌<◌, get_or, length, sym, refl, arith}
 use Rattle.std.proofs.lemmas.List.Elements.{All-get_or}
-use Rattle.epx_why.specs.inner.LevelSearches.{SearchView}
+use Rattle.epx_why.specs.inner.LevelSearches.{LevelView}
 use Rattle.epx_why.specs.inner.NodeSteps.{distance_at}
 use Rattle.epx_why.proofs.LevelLemmas.{visit_skip, visit_more}
 use Rattle.epx_why.proofs.levels.visit.Goals as goal
@@ -8,11 +8,11 @@ use Rattle.epx_why.proofs.levels.visit.Goals as goal
 pub loop-target-preserved-then-is_some : goal.loop-target-preserved-then-is_some
 loop-target-preserved-then-is_some c =
     let targets = c.args.targets.now in
-    let old : SearchView = record {
+    let old : LevelView = record {
       distances = c.args.distances.now;
       level = c.args.next.now.items;
     } in
-    let now : SearchView = record {
+    let now : LevelView = record {
       distances = c.loop-target.distances;
       level = c.loop-target.next.items;
     } in
@@ -24,11 +24,11 @@ pub loop-target-preserved : goal.loop-target-preserved
 loop-target-preserved c =
     let targets = c.args.targets.now in
     let i = c.loop-target.target-index in
-    let old : SearchView = record {
+    let old : LevelView = record {
       distances = c.args.distances.now;
       level = c.args.next.now.items;
     } in
-    let now : SearchView = record {
+    let now : LevelView = record {
       distances = c.loop-target.distances;
       level = c.loop-target.next.items;
     } in

@@ -1,6 +1,6 @@
 use Rattle.std.proofs.Common.{◌≡◌, ◌-◌, suc, sym, subst, subst₂, arith}
 use Rattle.epx_graph.specs.Graphs.{edges_of}
-use Rattle.epx_why.specs.inner.NodeWalks.{IsFewest, IsNext, IsBegun}
+use Rattle.epx_why.specs.inner.NodeWalks.{IsFewest, IsNext, IsWalkBegun}
 use Rattle.epx_why.proofs.WalkLemmas.{begun_first, begun_more, begun_end, fewest_on}
 use Rattle.epx_why.proofs.walk.first_walk.Goals as goal
 
@@ -15,18 +15,18 @@ loop-left-init c =
     c.edges.ensures.edges c.in-Some.ensures in
     let is : IsNext g ds (edges_of g k) n next = subst₂ (λ d x. IsNext g d x n next)
     c.deref-2.ensures.value c.edges-2.ensures.edges c.next_node-last.ensures in
-    subst (λ nodes. IsBegun g ds c.args.target k (suc n) nodes next n)
+    subst (λ nodes. IsWalkBegun g ds c.args.target k (suc n) nodes next n)
     (sym c.in_ok-nodes.ensures.items)
     (begun_first g c.requires.graph c.args.target ds c.in_ok-distances.ensures k n next few is)
 
 -- the walk before the step, with one step more to go
 begun : (c : goal.After-edges-in-loop-left)
-    → IsBegun c.args.graph.now c.in_ok-distances.distances.items
+    → IsWalkBegun c.args.graph.now c.in_ok-distances.distances.items
     c.args.target c.args.node (suc c.in-Some.fewest) c.loop-left.nodes.items c.loop-left.last
     (suc (c.loop-left.left - 1))
 begun c =
     let more : c.loop-left.left ≡ suc (c.loop-left.left - 1) = omega arith in
-    subst (IsBegun c.args.graph.now c.in_ok-distances.distances.items c.args.target c.args.node
+    subst (IsWalkBegun c.args.graph.now c.in_ok-distances.distances.items c.args.target c.args.node
     (suc c.in-Some.fewest) c.loop-left.nodes.items c.loop-left.last) more c.loop-left.invariant
 
 pub next_node-last-requires-in-loop-left-clause-some :
@@ -51,12 +51,12 @@ loop-left-preserved c =
     let last = c.loop-left.last in
     let next = c.next_node-last-in-loop-left.result in
     let more : c.loop-left.left ≡ suc left = omega arith in
-    let was = subst (IsBegun g ds c.args.target k (suc c.in-Some.fewest) c.loop-left.nodes.items
+    let was = subst (IsWalkBegun g ds c.args.target k (suc c.in-Some.fewest) c.loop-left.nodes.items
     last) more c.loop-left.invariant in
     let is : IsNext g ds (edges_of g last) left next = subst₂ (λ d x. IsNext g d x left next)
     c.deref-in-loop-left.ensures.value c.edges-in-loop-left.ensures.edges
     c.next_node-last-in-loop-left.ensures in
-    subst (λ nodes. IsBegun g ds c.args.target k (suc c.in-Some.fewest) nodes next left)
+    subst (λ nodes. IsWalkBegun g ds c.args.target k (suc c.in-Some.fewest) nodes next left)
     (sym c.in_ok-push.ensures.items)
     (begun_more g c.requires.graph c.args.target ds c.in_ok-distances.ensures k
     (suc c.in-Some.fewest) c.loop-left.nodes.items last left next was is)
@@ -72,5 +72,5 @@ returns c =
     let done : c.loop-left.left ≡ 0 = omega arith in
     begun_end g c.requires.graph c.args.target ds c.in_ok-distances.ensures k n
     c.loop-left.nodes.items c.loop-left.last few
-    (subst (IsBegun g ds c.args.target k (suc n) c.loop-left.nodes.items c.loop-left.last) done
+    (subst (IsWalkBegun g ds c.args.target k (suc n) c.loop-left.nodes.items c.loop-left.last) done
     c.loop-left.invariant)

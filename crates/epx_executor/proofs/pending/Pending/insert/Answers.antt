@@ -1,19 +1,19 @@
 use Rattle.std.proofs.Common.{subst, sym}
+use Rattle.epx_types.proofs.lists.IdListLemmas.{rising_from_strict}
 use Rattle.epx_executor.proofs.PendingLemmas.{AreKeyed, keyed_after_insert, members_after_insert}
-use Rattle.epx_executor.proofs.PendingLemmas.{rising_keys}
 use Rattle.epx_executor.proofs.pending.Pending.insert.Goals as goal
 
 pub invariant_of-self : goal.invariant_of-self
 invariant_of-self c = (
   subst AreKeyed (sym c.in_err-insert.ensures.err) c.self.invariant.0,
-  rising_keys _ c.insert.ensures.ordered,
+  rising_from_strict _ c.insert.ensures.ordered,
 )
 
 pub invariant_of-self-2 : goal.invariant_of-self-2
 invariant_of-self-2 c = (
   keyed_after_insert c.self.inside.entries.entries c.insert.new.self.entries c.id.result
       c.args.entry c.self.invariant.0 c.id.ensures c.in_ok-insert.ensures.entries,
-  rising_keys _ c.insert.ensures.ordered,
+  rising_from_strict _ c.insert.ensures.ordered,
 )
 
 pub returns-clause-inserted : goal.returns-clause-inserted

@@ -1,13 +1,14 @@
 use Rattle.std.proofs.Common.{subst}
 use Rattle.epx_types.specs.Ids.{IsRising}
-use Rattle.epx_executor.proofs.PendingLemmas.{keyed_after_remove, members_after_remove, rising_keys}
+use Rattle.epx_types.proofs.lists.IdListLemmas.{rising_from_strict}
+use Rattle.epx_executor.proofs.PendingLemmas.{keyed_after_remove, members_after_remove}
 use Rattle.epx_executor.proofs.pending.Pending.remove.Goals as goal
 
 pub invariant_of-self : goal.invariant_of-self
 invariant_of-self c = (
   keyed_after_remove c.self.inside.entries.entries c.remove.new.self.entries c.args.id
       c.self.invariant.0 c.remove.ensures.entries,
-  rising_keys _ c.remove.ensures.ordered,
+  rising_from_strict _ c.remove.ensures.ordered,
 )
 
 pub returns-clause-left : goal.returns-clause-left
@@ -18,4 +19,5 @@ returns-clause-left c = λ e.
 pub returns-clause-rising : goal.returns-clause-rising
 returns-clause-rising c =
     subst IsRising (keyed_after_remove c.self.inside.entries.entries c.remove.new.self.entries
-    c.args.id c.self.invariant.0 c.remove.ensures.entries) (rising_keys _ c.remove.ensures.ordered)
+    c.args.id c.self.invariant.0 c.remove.ensures.entries)
+    (rising_from_strict _ c.remove.ensures.ordered)
