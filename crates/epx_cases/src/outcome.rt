@@ -4,7 +4,7 @@ ghost use Rattle.std.specs.Prelude.{◌≡◌, All, IfOk, false};
 use crate::case_input::CaseInput;
 use crate::flow::Flow;
 use epx_tool::{
-    Ask, FuseSource, Held, InputQuestion, Task, answer, check, resume, run, run_check, run_resume,
+    Ask, FuseSource, InputQuestion, Task, answer, check, resume, run, run_check, run_resume,
     run_with_input, show, view,
 };
 use epx_types::{Fault, Plan};
@@ -99,7 +99,6 @@ pub(crate) fn deliver_input<R: Threads + RandomSource + Sync>(
         (Task::Resume, None) => { run_resume(rt, alloc, &mut first, &mut sources, plan, &mut sink) }
         (Task::Check, None) => { run_check(rt, alloc, &mut first, &mut sources, plan, &mut sink) }
         (Task::CheckPrefix, None) => {
-            let held = &mut Held::nothing();
             run_with_input(
                 rt,
                 alloc,
@@ -107,7 +106,6 @@ pub(crate) fn deliver_input<R: Threads + RandomSource + Sync>(
                 &mut first,
                 &mut sources,
                 plan,
-                held,
                 &mut sink,
             )
             .map(|_| ())

@@ -1,1 +1,2 @@
 pub mod IdNames
+pub mod Tasks

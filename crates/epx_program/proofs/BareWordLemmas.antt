@@ -12,7 +12,7 @@ use Rattle.epx_words.specs.App.{epx_app}
 use Rattle.epx_words.specs.ExitStatus.{IsTextStatus, status_of_kind}
 use Rattle.epx_words.specs.Requests.{IfText, IsBare}
 use Rattle.epx_words.specs.SubcommandRows.{Given}
-use Rattle.epx_words.specs.declared.words.Task.TheVariants.{Run}
+use Rattle.epx_names.specs.declared.task.Task.TheVariants.{Run}
 use Rattle.epx_words.specs.declared.words.Words.{Words}
 use Rattle.epx_words.specs.declared.words.Words.TheVariants as asked
 

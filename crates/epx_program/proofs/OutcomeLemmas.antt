@@ -6,7 +6,7 @@ use Rattle.std.specs.Io.KnownBytes.{Keeps}
 use Rattle.std.specs.Prelude.{IfErr, IfOk, MatchResult, OnOk}
 use Rattle.epx_types.specs.declared.fault.Fault.{Fault}
 use Rattle.epx_types.specs.declared.fault.Fault.TheVariants.{Read, Write}
-use Rattle.epx_words.specs.declared.words.Task.{Task}
+use Rattle.epx_names.specs.declared.task.Task.{Task}
 use Rattle.epx_devices.specs.Models.{SinkModel, SourceModel}
 use Rattle.epx_merge.specs.DeliveredLogs.{EachDelivers}
 use Rattle.epx_tool.specs.DeliveredWithInput.{DeliversBoth}
@@ -17,6 +17,7 @@ use Rattle.epx_tool.specs.RunEndings.{WritesAnswer, EndsRun, EndsRunWithInput}
 use Rattle.epx_merge.specs.ReadingRefusals.{AreBytesOf}
 use Rattle.epx_tool.specs.RunsWithInput.{IsRunFaultWithInput}
 use Rattle.epx_tool.specs.WithInput.{AnswersWithInput}
+use Rattle.epx_tool.specs.declared.findings.Answer.{Answer}
 use Rattle.epx_tool.specs.declared.question.InputQuestion.{InputQuestion}
 use Rattle.epx_tool.specs.declared.question.Question.{Question}
 use Rattle.epx_merge.proofs.ReturnedFaultLemmas.{ok_is_no_fault}
@@ -24,7 +25,7 @@ use Rattle.epx_program.specs.declared.do_task.Asked.TheVariants as asked
 use Rattle.epx_program.specs.Endings.{AddsAnswer, AddsPart, IsFindingTo, IsTaskResult}
 use Rattle.epx_program.specs.Endings.{IsTaskAnswer}
 use Rattle.epx_program.specs.Endings.{IsTaskFault, IsTaskText, IsAnswerTo, IsFaultOf, asked_of}
-use Rattle.epx_program.specs.Endings.{on_first_and_logs}
+use Rattle.epx_program.specs.Endings.{found_of, on_first_and_logs}
 use Rattle.epx_program.specs.Inputs.{HasFailedRead, OneHasFailedRead}
 use Rattle.epx_program.specs.inner.Outcomes.{TaskOutcome}
 use Rattle.epx_program.proofs.FailedInputLemmas.{unread, unread_both}
@@ -70,6 +71,12 @@ failed_of_all D sources rest source e h =
     ]
 
 -- ---- runs over known texts
+
+-- what is said of an answer and what it finds
+pub by_found : {P : Bool → Type 0} {Q : Fault → Type 0} (result : Result Answer Fault)
+    → MatchResult result (λ answer. P answer.has_findings) Q → MatchResult (found_of result) P Q
+by_found (Ok answer) h = h
+by_found (Err fault) h = h
 
 -- the result of a run that ended with this fault
 abbrev ended : Fault → Result (Unit {0}) Fault

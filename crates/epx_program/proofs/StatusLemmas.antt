@@ -10,7 +10,7 @@ use Rattle.epx_types.specs.declared.fault.Fault.TheVariants.{Memory, TooManyLogs
 use Rattle.epx_types.specs.declared.fault.Fault.TheVariants.{BadLine, TooManyInstances, Disagree}
 use Rattle.epx_types.specs.declared.fault.Fault.TheVariants.{Read, Write, BadBase}
 use Rattle.epx_words.specs.Requests.{IfText, IfWork, flags_of}
-use Rattle.epx_words.specs.declared.words.Task.{Task}
+use Rattle.epx_names.specs.declared.task.Task.{Task}
 use Rattle.epx_words.specs.declared.words.Words.{Words}
 use Rattle.epx_words.specs.declared.words.Words.TheVariants.{Work, WorkWith}
 use Rattle.epx_words.specs.declared.words.Words.TheVariants.{Text}

@@ -3,7 +3,7 @@ use Rattle.std.proofs.Common.{◌≡◌, ◌∷◌, [], ℕ, List, length, Optio
 use Rattle.std.proofs.Common.{refl, subst, inl, inr, arith, Bool, Result, Ok, Err}
 use Rattle.std.specs.Prelude.{IfOk}
 use Rattle.epx_types.specs.declared.fault.Fault.{Fault}
-use Rattle.epx_words.specs.declared.words.Task.{Task}
+use Rattle.epx_names.specs.declared.task.Task.{Task}
 use Rattle.epx_devices.proofs.DeliveryLemmas.{all_are_known, path_delivers_opened}
 use Rattle.epx_devices.proofs.EitherSourceLemmas.{first_delivers_all, second_delivers_all}
 use Rattle.epx_devices.specs.Deliveries.{DeliversAll}

@@ -17,7 +17,7 @@ use Rattle.epx_words.specs.Requests.{IsBare, IsWork, flags_of, task_name}
 use Rattle.epx_words.specs.ExitStatus.{IsTaken, IsTextStatus}
 use Rattle.epx_words.specs.Subjects.{NamesAll}
 use Rattle.epx_words.specs.SubcommandRows.{Given, IsCutOf, IsWorkersOf, name_in, rows_in}
-use Rattle.epx_words.specs.declared.words.Task.TheVariants.{Run}
+use Rattle.epx_names.specs.declared.task.Task.TheVariants.{Run}
 use Rattle.epx_words.specs.declared.words.Words.{Words}
 use Rattle.epx_words.specs.declared.words.Words.TheVariants.{Work, WorkWith}
 use Rattle.epx_words.specs.declared.words.Words.TheVariants.{Text as text}

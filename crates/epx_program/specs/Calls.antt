@@ -17,8 +17,8 @@ use Rattle.epx_words.specs.Requests.{AsksFor, FitFlags, IfText, IfWork, IsBare, 
 use Rattle.epx_words.specs.SubcommandRows.{rows_in}
 use Rattle.epx_words.specs.Subjects.{NamesAll}
 use Rattle.epx_words.specs.ExitStatus.{IsTaken, IsTextStatus}
-use Rattle.epx_words.specs.declared.words.Task.{Task}
-use Rattle.epx_words.specs.declared.words.Task.TheVariants.{Run}
+use Rattle.epx_names.specs.declared.task.Task.{Task}
+use Rattle.epx_names.specs.declared.task.Task.TheVariants.{Run}
 use Rattle.epx_words.specs.declared.words.Words.{Words}
 use Rattle.epx_words.specs.declared.words.Words.TheVariants as asked
 use Rattle.epx_program.specs.Endings.{AddsAnswer, AddsPart, EndsWith, IsAnswerStatus, IsStatus}

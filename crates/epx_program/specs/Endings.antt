@@ -7,10 +7,11 @@ use Rattle.epx_types.specs.declared.fault.Fault.{Fault}
 use Rattle.epx_types.specs.declared.fault.Fault.TheVariants.{Write}
 use Rattle.epx_types.specs.Faults.{fault_status}
 use Rattle.epx_devices.specs.Transfers.{AppendsPrefix}
-use Rattle.epx_words.specs.declared.words.Task.{Task}
-use Rattle.epx_words.specs.declared.words.Task.TheVariants.{Run, Order, Levels, Graph, Resume}
-use Rattle.epx_words.specs.declared.words.Task.TheVariants.{Audit, Check, CheckPrefix, Compare}
-use Rattle.epx_words.specs.declared.words.Task.TheVariants.{Why, Path, Trace}
+use Rattle.epx_names.specs.declared.task.Task.{Task}
+use Rattle.epx_names.specs.declared.task.Task.TheVariants.{Run, Order, Levels, Graph, Resume}
+use Rattle.epx_names.specs.declared.task.Task.TheVariants.{Audit, Check, CheckPrefix, Compare}
+use Rattle.epx_names.specs.declared.task.Task.TheVariants.{Why, Path, Trace}
+use Rattle.epx_tool.specs.declared.findings.Answer.{Answer}
 use Rattle.epx_tool.specs.Findings.{AnswersFinding, IsFindingWith}
 use Rattle.epx_tool.specs.Questions.{AnswersQuestion, IsBadInput, IsInputAnswer, IsTextWith}
 use Rattle.epx_tool.specs.Runs.{IsFaultOfRun}
@@ -110,6 +111,11 @@ abbrev pub IsTaskResult : Task → List (List ℕ) → Result Bool Fault
 IsTaskResult task texts done old new =
     MatchResult done (λ found. AppendsAnswer task found texts old new)
     (λ fault. HasFault task texts fault old new)
+
+-- whether the answer of a run finds something, or its fault
+abbrev pub found_of : Result Answer Fault → Result Bool Fault
+found_of (Ok answer) = Ok answer.has_findings
+found_of (Err fault) = Err fault
 
 -- the status of an answer: 5 if `--exit-code` is there and the answer finds something, otherwise 0
 abbrev pub answer_status : Bool → Bool → ℕ

@@ -4,15 +4,15 @@ ghost use Rattle.std.specs.Prelude.{IfOk, IsErrOf, OnOk};
 ghost use Rattle.std.specs.Io.KnownBytes.{Keeps};
 ghost use Rattle.epx_program.specs.Calls.{paths_of};
 ghost use Rattle.epx_program.specs.Endings.{AddsAnswer, AddsPart, IsTaskResult, asked_of};
+ghost use Rattle.epx_program.specs.Endings.{found_of};
 ghost use Rattle.epx_program.specs.Inputs.{AreTextsRead, HasFailedRead, IsInputAlone};
 ghost use Rattle.epx_program.specs.Inputs.{text_relation};
 ghost use Rattle.epx_program.specs.inner.Outcomes.{TaskOutcome};
 
 use crate::inputs::sources_at;
-use crate::left::Left;
-use epx_devices::Opener;
+use epx_devices::{KeptSource, Opener};
 use epx_tool::{
-    Ask, Held, InputQuestion, MemorySource, Question, Sink, Source, Task, run_question,
+    Answer, Ask, InputQuestion, MemorySource, Question, Sink, Source, Task, run_question,
     run_with_input,
 };
 use epx_types::{Fault, Memory, Plan};
@@ -49,44 +49,50 @@ fn asked_by(task: Task) -> Asked
     }
 }
 
-/// Writes the answer that the task asks for, and returns whether it finds something. Of what the
-/// task asks about a first text, the first source has the text and the others are the logs. If
-/// there is no source, the text is empty. `held` keeps what the caller may then free.
+/// Writes the answer that the task asks for. Of what the task asks about a first text, the first
+/// source has the text and the others are the logs. If there is no source, the text is empty.
 fn write_answer<R: Threads + RandomSource + Sync, S: Source, W: Sink>(
     rt: &R,
     alloc: Global,
     task: Task,
     plan: Plan,
     sources: &mut [S],
-    held: &mut Held,
     output: &mut W,
-) -> Result<bool, Fault>
+) -> Result<Answer, Fault>
     requires sources { All (λ s. S.model.has_failed s ≡ false) sources.old }
     requires output { W.model.has_failed output.old ≡ false }
-    ensures { TaskOutcome S.model W.model task sources.old sources.new result output.old
-        output.new }
+    ensures { TaskOutcome S.model W.model task sources.old sources.new (found_of result)
+        output.old output.new }
 {
     let question = match asked_by(task) {
         Asked::Logs(question) => {
-            return run_question(rt, alloc, question, sources, plan, held, output);
+            return run_question(rt, alloc, question, sources, plan, output);
         }
         Asked::First(question) => question,
     };
     match sources.split_first_mut() {
-        Some((first, logs)) => run_with_input(rt, alloc, question, first, logs, plan, held, output),
+        Some((first, logs)) => run_with_input(rt, alloc, question, first, logs, plan, output),
         None => {
             let mut first = MemorySource::new(&[]);
             let mut logs: [MemorySource; 0] = [];
-            run_with_input(
-                rt, alloc, question, &mut first, &mut logs, plan, held, output,
-            )
+            run_with_input(rt, alloc, question, &mut first, &mut logs, plan, output)
+        }
+    }
+}
+
+/// Takes over the bytes that the sources kept. If memory runs out, `kept` has those of the first
+/// sources.
+fn take_kept<S: Source>(sources: &mut [KeptSource<S>], kept: &mut Vec<Option<Vec<u8>>>) {
+    for source in sources {
+        if kept.push(source.take_kept()).is_err() {
+            return;
         }
     }
 }
 
 /// Reads the texts at the paths, where a hyphen means the input, and writes the answer. If `paths`
-/// is None, it reads the input alone. Returns whether the answer finds something. `left` gets what
-/// the run holds, and with `keeps` the bytes that can be read only once.
+/// is None, it reads the input alone. With `keeps`, `kept` gets the bytes that can be read only
+/// once.
 pub(crate) fn do_task<R, O, I, W>(
     rt: &R,
     opener: &O,
@@ -96,9 +102,9 @@ pub(crate) fn do_task<R, O, I, W>(
     paths: &Option<Vec<String>>,
     keeps: bool,
     input: I,
-    left: &mut Left,
+    kept: &mut Vec<Option<Vec<u8>>>,
     output: &mut W,
-) -> Result<bool, Fault>
+) -> Result<Answer, Fault>
 where
     R: Files + Threads + RandomSource + Sync,
     O: Opener,
@@ -109,30 +115,30 @@ where
 
     ensures input { (bytes : _) → IsInputAlone (paths_of paths.now)
         → I.model.remaining input ≡ Some bytes →
-        IsTaskResult task (bytes ∷ []) result (W.model.contents output.old)
+        IsTaskResult task (bytes ∷ []) (found_of result) (W.model.contents output.old)
         (W.model.contents output.new) }
     ensures answered { let Is = text_relation O.model O.Opened.model opener.now I.model input in
-        IfOk result (λ found. AddsAnswer task found (AreTextsRead Is (paths_of paths.now))
+        IfOk (found_of result) (λ found. AddsAnswer task found (AreTextsRead Is (paths_of paths.now))
         (W.model.contents output.old) (W.model.contents output.new)) }
     ensures part { let Is = text_relation O.model O.Opened.model opener.now I.model input in
-        IsErrOf result Fault.Write → AddsPart task (AreTextsRead Is (paths_of paths.now))
+        IsErrOf (found_of result) Fault.Write → AddsPart task (AreTextsRead Is (paths_of paths.now))
         (W.model.contents output.old) (W.model.contents output.new) }
-    ensures unread { (log : _) → IsErrOf result (Fault.Read log)
+    ensures unread { (log : _) → IsErrOf (found_of result) (Fault.Read log)
         → IsInputAlone (paths_of paths.now) → HasFailedRead I.model input }
-    ensures flushed { OnOk result (W.model.is_flushed output.new ≡ true) }
-    ensures nothing { IfErr result (λ fault. fault ≢ Fault.Write
+    ensures flushed { OnOk (found_of result) (W.model.is_flushed output.new ≡ true) }
+    ensures nothing { IfErr (found_of result) (λ fault. fault ≢ Fault.Write
         → Keeps (W.model.contents output.old) (W.model.contents output.new)) }
-    ensures written { IsErrOf result Fault.Write ↔ (W.model.has_failed output.new ≡ true) }
+    ensures written { IsErrOf (found_of result) Fault.Write ↔ (W.model.has_failed output.new ≡ true) }
 {
     let Some(paths) = paths else {
         let mut sources = Vec::new(alloc);
         sources.push(input).map_err(Memory::from)?;
-        return write_answer(rt, alloc, task, plan, &mut sources, &mut left.held, output);
+        return write_answer(rt, alloc, task, plan, &mut sources, output);
     };
     let Ok(mut sources) = sources_at(rt, opener, alloc, paths, keeps, input) else {
         return Err(Fault::Memory);
     };
-    let done = write_answer(rt, alloc, task, plan, &mut sources, &mut left.held, output);
-    left.keep(&mut sources);
+    let done = write_answer(rt, alloc, task, plan, &mut sources, output);
+    take_kept(&mut sources, kept);
     done
 }

@@ -1,9 +1,8 @@
 //! The lines that explain how a task ended.
 
-use crate::left::Left;
 use epx_advice::{explain_resume, explain_trace, explain_verdict};
 use epx_explain::{FirstInput, Inputs, explain_comparison, explain_fault, read_first_again};
-use epx_tool::{Held, KeyName, Task};
+use epx_tool::{Answer, KeyName, Task};
 use epx_types::{Fault, Memory, Plan};
 use std::alloc::{AllocGlobal, Global};
 use std::io::Eprint;
@@ -26,9 +25,9 @@ fn explain_first<R: Files + Threads + Sync>(
     task: Task,
     plan: Plan,
     inputs: &Inputs<'_>,
-    held: &Held,
+    answer: &Answer,
 ) -> Result<Option<String>, Memory> {
-    let (Some(merged), Some(text)) = (held.map(), held.text()) else {
+    let Some(merged) = &answer.merged else {
         return Ok(None);
     };
     let contents = read_first_again(rt, alloc, inputs)?;
@@ -37,7 +36,7 @@ fn explain_first<R: Files + Threads + Sync>(
     };
     match task {
         Task::Resume => explain_resume(alloc, merged, bytes),
-        _ => explain_verdict(rt, alloc, merged, bytes, text, plan),
+        _ => explain_verdict(rt, alloc, merged, bytes, &answer.text, plan),
     }
 }
 
@@ -47,13 +46,13 @@ fn explain_key<R: Files + Threads + Sync>(
     alloc: Global,
     key: KeyName,
     plan: Plan,
-    held: &Held,
+    answer: &Answer,
 ) -> Result<Option<String>, Memory> {
-    let (Some(merged), Some(text)) = (held.map(), held.text()) else {
+    let Some(merged) = &answer.merged else {
         return Ok(None);
     };
     let key = key.key(alloc)?;
-    explain_trace(rt, alloc, merged, key.text(), text, plan)
+    explain_trace(rt, alloc, merged, key.text(), &answer.text, plan)
 }
 
 /// The lines about an answer.
@@ -63,16 +62,16 @@ fn explain_answer<R: Files + Threads + Sync>(
     task: Task,
     plan: Plan,
     inputs: &Inputs<'_>,
-    held: &Held,
+    answer: &Answer,
 ) -> Result<Vec<String>, Memory> {
     let line = match task {
         Task::Compare => {
-            return explain_comparison(rt, alloc, inputs, held.text().unwrap_or(&[]));
+            return explain_comparison(rt, alloc, inputs, &answer.text);
         }
         Task::Resume | Task::Check | Task::CheckPrefix => {
-            explain_first(rt, alloc, task, plan, inputs, held)?
+            explain_first(rt, alloc, task, plan, inputs, answer)?
         }
-        Task::Trace { key, .. } => explain_key(rt, alloc, key, plan, held)?,
+        Task::Trace { key, .. } => explain_key(rt, alloc, key, plan, answer)?,
         _ => None,
     };
     let mut lines = Vec::new(alloc);
@@ -89,8 +88,8 @@ pub(crate) fn explain<'a, R: AllocGlobal + Eprint + Files + Threads + Sync>(
     task: &Task,
     plan: Plan,
     paths: &'a Option<Vec<String>>,
-    left: &'a Left,
-    done: Result<bool, Fault>,
+    kept: &'a [Option<Vec<u8>>],
+    done: &Result<Answer, Fault>,
 ) {
     let paths = match paths {
         Some(paths) => Some(paths.as_slice()),
@@ -99,19 +98,19 @@ pub(crate) fn explain<'a, R: AllocGlobal + Eprint + Files + Threads + Sync>(
     let inputs = Inputs {
         paths,
         first: first_input(*task),
-        kept: &left.kept,
+        kept,
     };
     let alloc = rt.alloc();
     match done {
-        Ok(_) => {
-            if let Ok(lines) = explain_answer(rt, alloc, *task, plan, &inputs, &left.held) {
+        Ok(answer) => {
+            if let Ok(lines) = explain_answer(rt, alloc, *task, plan, &inputs, answer) {
                 for line in &lines {
                     let _printed = eprintln!(rt; "epx: {line}");
                 }
             }
         }
         Err(fault) => {
-            if let Ok(Some(line)) = explain_fault(rt, alloc, fault, &inputs) {
+            if let Ok(Some(line)) = explain_fault(rt, alloc, *fault, &inputs) {
                 let _printed = eprintln!(rt; "epx: {line}");
             }
         }

@@ -6,7 +6,6 @@ mod exit_report;
 mod explain;
 pub mod input_kind;
 mod inputs;
-mod left;
 mod program;
 mod read_args;
 

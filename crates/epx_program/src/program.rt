@@ -14,7 +14,6 @@ use crate::do_task::do_task;
 use crate::exit_report::{print_text, report_fault, report_task};
 use crate::explain::explain;
 use crate::input_kind::{InputKind, say_what_is_read};
-use crate::left::Left;
 use crate::read_args::read_args;
 use epx_devices::Opener;
 use epx_tool::{Flags, Sink, Source, Task, Words};
@@ -59,7 +58,7 @@ where
         → Keeps (W.model.contents output.old) (W.model.contents output.new) }
 {
     let asked = &task;
-    let mut left = Left::nothing(rt.alloc());
+    let mut kept = Vec::new(rt.alloc());
     let done = do_task(
         rt,
         opener,
@@ -69,16 +68,16 @@ where
         &paths,
         flags.explain,
         input,
-        &mut left,
+        &mut kept,
         output,
     );
-    let status = report_task(rt, flags.exit_code, done);
+    let status = report_task(rt, flags.exit_code, &done);
     if flags.explain {
-        explain(rt, asked, plan, &paths, &left, done);
+        explain(rt, asked, plan, &paths, &kept, &done);
     }
     // To free each allocation of the map would take time. The process ends soon, and the system
     // then takes all pages back at once.
-    mem::forget(left);
+    mem::forget(done);
     status
 }
 

@@ -34,8 +34,8 @@ fn answer_question<R: Threads + RandomSource + Sync>(
         Ok(merged) => merged,
         Err(fault) => return Err(fault),
     };
-    let answered = text_of(rt, alloc, &kind, &merged, plan)?;
-    Ok(answered.text)
+    let answer = text_of(rt, alloc, &kind, &merged, plan)?;
+    Ok(answer.text)
 }
 
 /// The report of the logs, or the first refusal, in this order: `TooManyLogs`, `LogTooLong`,

@@ -1,30 +1,50 @@
-//! Whether an answer finds something.
-ghost use Rattle.std.specs.Prelude.{◌≡◌, ◌≢◌, ◌↔◌, List, false, true, IfOk};
+//! Answers, and whether they find something.
+ghost use Rattle.std.specs.Prelude.{◌≡◌, ◌≢◌, ◌↔◌, List, true, IfOk};
 ghost use Rattle.epx_types.specs.Instances.{Instance};
 ghost use Rattle.epx_types.specs.WaitingLists.{IsWaitingList};
 ghost use Rattle.epx_report.specs.ViewLines.{name_line};
 ghost use Rattle.epx_tool.specs.Findings.{SomeWaits};
 
 use epx_graph::Waiter;
+use epx_merge::Merged;
 use epx_report::name_line;
 use epx_types::Memory;
 use std::alloc::Global;
 
 /// An answer, and whether it finds something.
 #[derive(Drop)]
-pub(crate) struct Answered {
-    pub(crate) text: Vec<u8>,
-    pub(crate) has_findings: bool,
+pub struct Answer {
+    pub text: Vec<u8>,
+    pub has_findings: bool,
+    /// The committed map that the answer is about. A comparison is about none. The map has many
+    /// allocations, and to free each takes time. A caller that goes on drops it. A process that
+    /// ends may forget it with `mem::forget`: the system takes its pages back at once.
+    pub merged: Option<Merged>,
 }
 
-/// An answer that finds nothing.
-pub(crate) fn plain(text: Vec<u8>) -> Answered
-    ensures text { result.text ≡ text }
-    ensures found { result.has_findings ≡ false }
-{
-    Answered {
-        text,
-        has_findings: false,
+impl Answer {
+    /// An answer without its map.
+    pub(crate) fn new(text: Vec<u8>, has_findings: bool) -> Answer
+        ensures text { result.text ≡ text }
+        ensures found { result.has_findings ≡ has_findings }
+    {
+        Answer {
+            text,
+            has_findings,
+            merged: None,
+        }
+    }
+
+    /// The same answer with its map.
+    pub(crate) fn about(self, merged: Merged) -> Answer
+        ensures text { result.text ≡ self.text }
+        ensures found { result.has_findings ≡ self.has_findings }
+    {
+        Answer {
+            text: self.text,
+            has_findings: self.has_findings,
+            merged: Some(merged),
+        }
     }
 }
 

@@ -8,8 +8,7 @@ ghost use Rattle.epx_tool.specs.inner.InputReadings.{IsReading};
 ghost use Rattle.epx_tool.specs.Questions.{IsBadInput, IsInputAnswer};
 ghost use Rattle.epx_tool.specs.WithInput.{AnswersWithInput};
 
-use crate::findings::Answered;
-use crate::held::Held;
+use crate::findings::Answer;
 use crate::input_contents::{InputContents, read_both};
 use crate::input_texts::text_from;
 use crate::question::InputQuestion;
@@ -19,28 +18,25 @@ use std::alloc::Global;
 use std::random::RandomSource;
 use std::thread::Threads;
 
-/// The answer to an input and logs, by what was read of them, and whether it finds something.
-/// `held` keeps the map.
+/// The answer to an input and logs, by what was read of them.
 fn answer_reading<R: Threads + RandomSource + Sync>(
     rt: &R,
     alloc: Global,
     read: Result<(Merged, InputContents), Fault>,
     plan: Plan,
-    held: &mut Held,
-) -> Result<Answered, Fault>
+) -> Result<Answer, Fault>
     requires { (question : _) × (input : _) × (logs : _) × IsReading question input logs read }
     ensures { (question : _) (input : _) (logs : _) → IsReading question input logs read →
-        MatchResult result (λ answered. AnswersWithInput (IsBadInput question)
-        (IsFindingWith question answered.has_findings) input logs (Ok answered.text.items))
+        MatchResult result (λ answer. AnswersWithInput (IsBadInput question)
+        (IsFindingWith question answer.has_findings) input logs (Ok answer.text.items))
         (λ fault. IsInputAnswer question input logs (Err fault)) }
 {
     let (merged, contents) = match read {
         Ok(read) => read,
         Err(fault) => return Err(fault),
     };
-    let answered = text_from(rt, alloc, contents, &merged, plan)?;
-    held.keep(merged);
-    Ok(answered)
+    let answer = text_from(rt, alloc, contents, &merged, plan)?;
+    Ok(answer.about(merged))
 }
 
 /// The answer to a question about an input and logs in memory. `resume` and `check` are this call
@@ -58,15 +54,14 @@ pub fn answer_input<R: Threads + RandomSource + Sync>(
         (λ fault. IsInputAnswer question input.now bytes (Err fault)) }
 {
     let read = read_both(rt, alloc, question, input, logs, plan);
-    let mut held = Held::nothing();
-    match answer_reading(rt, alloc, read, plan, &mut held) {
-        Ok(answered) => Ok(answered.text),
+    match answer_reading(rt, alloc, read, plan) {
+        Ok(answer) => Ok(answer.text),
         Err(fault) => Err(fault),
     }
 }
 
-/// Like `answer_input`, with whether the answer finds something. It frees the input and the logs
-/// when they are read, and `held` keeps the map.
+/// Like `answer_input`, with whether the answer finds something, and the map. It frees the input
+/// and the logs when they are read.
 pub(crate) fn answer_owned<R: Threads + RandomSource + Sync>(
     rt: &R,
     alloc: Global,
@@ -74,17 +69,16 @@ pub(crate) fn answer_owned<R: Threads + RandomSource + Sync>(
     input: Vec<u8>,
     logs: Vec<Vec<u8>>,
     plan: Plan,
-    held: &mut Held,
-) -> Result<Answered, Fault>
+) -> Result<Answer, Fault>
     ensures { let bytes = bytes_of logs.items in
-        MatchResult result (λ answered. AnswersWithInput (IsBadInput question)
-        (IsFindingWith question answered.has_findings) input.items bytes (Ok answered.text.items))
+        MatchResult result (λ answer. AnswersWithInput (IsBadInput question)
+        (IsFindingWith question answer.has_findings) input.items bytes (Ok answer.text.items))
         (λ fault. IsInputAnswer question input.items bytes (Err fault)) }
 {
     let read = read_both(rt, alloc, question, &input, &logs, plan);
     drop(logs);
     drop(input);
-    answer_reading(rt, alloc, read, plan, held)
+    answer_reading(rt, alloc, read, plan)
 }
 
 /// The report of a run that resumes from a base, which is an earlier report. The instances that

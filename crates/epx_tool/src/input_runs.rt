@@ -4,7 +4,7 @@ ghost use Rattle.epx_tool.specs.Findings.{IsFindingWith};
 ghost use Rattle.epx_tool.specs.Questions.{IsBadInput, IsTextWith};
 ghost use Rattle.epx_tool.specs.RunEndings.{EndsRunWithInput};
 
-use crate::held::Held;
+use crate::findings::Answer;
 use crate::input_answers::answer_owned;
 use crate::question::InputQuestion;
 use crate::sources::read_with_input;
@@ -15,9 +15,8 @@ use std::random::RandomSource;
 use std::thread::Threads;
 
 /// Reads the logs from the sources in order, then the input from its own, and writes the answer to
-/// a question about them to the sink. Returns whether the answer finds something. `held` keeps what
-/// the caller may then free. `run_resume` and `run_check` are this call for one question each, and
-/// free it.
+/// a question about them to the sink. `run_resume` and `run_check` are this call for one question
+/// each.
 pub fn run_with_input<T: Threads + RandomSource + Sync, I: Source, S: Source, W: Sink>(
     rt: &T,
     alloc: Global,
@@ -25,15 +24,14 @@ pub fn run_with_input<T: Threads + RandomSource + Sync, I: Source, S: Source, W:
     input: &mut I,
     sources: &mut [S],
     plan: Plan,
-    held: &mut Held,
     sink: &mut W,
-) -> Result<bool, Fault>
+) -> Result<Answer, Fault>
     requires input { I.model.has_failed input.old ≡ false }
     requires sources { All (λ s. S.model.has_failed s ≡ false) sources.old }
     requires sink { W.model.has_failed sink.old ≡ false }
     ensures { MatchResult result
-        (λ found. EndsRunWithInput I.model S.model W.model (IsBadInput question)
-        (IsFindingWith question found) input.old input.new sources.old sources.new sink.old
+        (λ answer. EndsRunWithInput I.model S.model W.model (IsBadInput question)
+        (IsFindingWith question answer.has_findings) input.old input.new sources.old sources.new sink.old
         sink.new (Ok (record {})))
         (λ fault. EndsRunWithInput I.model S.model W.model (IsBadInput question)
         (IsTextWith question) input.old input.new sources.old sources.new sink.old sink.new
@@ -43,20 +41,17 @@ pub fn run_with_input<T: Threads + RandomSource + Sync, I: Source, S: Source, W:
         Ok(read) => read,
         Err(fault) => return Err(fault),
     };
-    let answered = match answer_owned(rt, alloc, question, text, logs, plan, held) {
-        Ok(answered) => answered,
+    let answer = match answer_owned(rt, alloc, question, text, logs, plan) {
+        Ok(answer) => answer,
         Err(fault) => return Err(fault),
     };
-    match write_out(&answered.text, sink) {
-        Ok(()) => {
-            held.keep_text(answered.text);
-            Ok(answered.has_findings)
-        }
+    match write_out(&answer.text, sink) {
+        Ok(()) => Ok(answer),
         Err(fault) => Err(fault),
     }
 }
 
-/// As `run_with_input`, without what the answer finds. It frees what the run holds.
+/// As `run_with_input`, without the answer.
 pub(crate) fn write_with_input<T: Threads + RandomSource + Sync, I: Source, S: Source, W: Sink>(
     rt: &T,
     alloc: Global,
@@ -73,8 +68,7 @@ pub(crate) fn write_with_input<T: Threads + RandomSource + Sync, I: Source, S: S
         (IsTextWith question) input.old input.new sources.old sources.new sink.old sink.new
         result }
 {
-    let mut held = Held::nothing();
-    match run_with_input(rt, alloc, question, input, sources, plan, &mut held, sink) {
+    match run_with_input(rt, alloc, question, input, sources, plan, sink) {
         Ok(_) => Ok(()),
         Err(fault) => Err(fault),
     }

@@ -5,7 +5,7 @@ ghost use Rattle.epx_tool.specs.Verdicts.{IsPrefixVerdict, IsVerdict};
 ghost use Rattle.epx_report.specs.ViewLines.{lawful_line};
 ghost use Rattle.epx_tool.specs.inner.InputReadings.{FindsFrom, IsTextFrom};
 
-use crate::findings::{Answered, is_other};
+use crate::findings::{Answer, is_other};
 use crate::input_contents::InputContents;
 use crate::map_texts::report_of;
 use crate::verdict::verdict_line;
@@ -24,16 +24,16 @@ fn verdict_of<R: Threads + Sync>(
     merged: &Merged,
     ids: &[Id],
     plan: Plan,
-) -> Result<Answered, Memory>
-    ensures text { IfOk result (λ answered. IsVerdict merged.now ids.now answered.text.items) }
-    ensures found { IfOk result (λ answered. (answered.has_findings ≡ true)
-        ↔ (answered.text.items ≢ lawful_line)) }
+) -> Result<Answer, Memory>
+    ensures text { IfOk result (λ answer. IsVerdict merged.now ids.now answer.text.items) }
+    ensures found { IfOk result (λ answer. (answer.has_findings ≡ true)
+        ↔ (answer.text.items ≢ lawful_line)) }
 {
     let graph = build(rt, alloc, merged, plan)?;
     let found = check_order(alloc, merged, &graph, ids);
     let text = verdict_line(alloc, found)?;
     let has_findings = is_other(alloc, &text, "lawful")?;
-    Ok(Answered { text, has_findings })
+    Ok(Answer::new(text, has_findings))
 }
 
 /// The verdict on a list of instances as a beginning, over a committed map.
@@ -43,17 +43,17 @@ fn prefix_verdict_of<R: Threads + Sync>(
     merged: &Merged,
     ids: &[Id],
     plan: Plan,
-) -> Result<Answered, Memory>
+) -> Result<Answer, Memory>
     ensures text { IfOk result
-        (λ answered. IsPrefixVerdict merged.now ids.now answered.text.items) }
-    ensures found { IfOk result (λ answered. (answered.has_findings ≡ true)
-        ↔ (answered.text.items ≢ lawful_line)) }
+        (λ answer. IsPrefixVerdict merged.now ids.now answer.text.items) }
+    ensures found { IfOk result (λ answer. (answer.has_findings ≡ true)
+        ↔ (answer.text.items ≢ lawful_line)) }
 {
     let graph = build(rt, alloc, merged, plan)?;
     let found = check_prefix(alloc, merged, &graph, ids);
     let text = verdict_line(alloc, found)?;
     let has_findings = is_other(alloc, &text, "lawful")?;
-    Ok(Answered { text, has_findings })
+    Ok(Answer::new(text, has_findings))
 }
 
 /// The text that a committed map has with the contents of an input: its report after the instances
@@ -64,11 +64,11 @@ pub(crate) fn text_from<R: Threads + RandomSource + Sync>(
     contents: InputContents,
     merged: &Merged,
     plan: Plan,
-) -> Result<Answered, Memory>
+) -> Result<Answer, Memory>
     requires { length merged.now ≤ max_instances }
-    ensures text { IfOk result (λ answered. IsTextFrom contents merged.now answered.text.items) }
-    ensures found { IfOk result (λ answered. (answered.has_findings ≡ true)
-        ↔ FindsFrom contents merged.now answered.text.items) }
+    ensures text { IfOk result (λ answer. IsTextFrom contents merged.now answer.text.items) }
+    ensures found { IfOk result (λ answer. (answer.has_findings ≡ true)
+        ↔ FindsFrom contents merged.now answer.text.items) }
 {
     match contents {
         InputContents::Base(base) => {

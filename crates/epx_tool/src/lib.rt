@@ -7,7 +7,6 @@ mod ask;
 mod checked_runs;
 mod compared_sources;
 mod findings;
-mod held;
 mod input_answers;
 mod input_contents;
 mod input_runs;
@@ -30,7 +29,7 @@ pub use epx_devices::{
 };
 pub use epx_names::{KeyName, read_id};
 pub use epx_words::{Flags, Task, Words, read_words};
-pub use held::Held;
+pub use findings::Answer;
 pub use input_answers::{answer_input, check, resume};
 pub use input_runs::run_with_input;
 pub use question::{InputQuestion, MapText, Question};

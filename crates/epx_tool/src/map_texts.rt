@@ -17,7 +17,7 @@ ghost use Rattle.epx_picture.specs.Pictures.{IsPicture};
 ghost use Rattle.epx_why.specs.WhyTexts.{IsWhyText, IsPathText};
 ghost use Rattle.epx_trace.specs.TraceTexts.{IsTraceText};
 
-use crate::findings::{Answered, is_other, plain, some_wait};
+use crate::findings::{Answer, is_other, some_wait};
 use crate::question::MapText;
 use crate::report::{begin_report, end_report, level_report, order_report};
 use crate::verdict::audit_line;
@@ -56,12 +56,12 @@ pub(crate) fn report_of<R: Threads + RandomSource + Sync>(
     done: &[Id],
     store: Store,
     plan: Plan,
-) -> Result<Answered, Memory>
+) -> Result<Answer, Memory>
     requires few { length merged.now ≤ max_instances }
     requires rising { IsRising done.now }
-    ensures text { IfOk result (λ answered.
-        IsReportAfter done.now store merged.now answered.text.items) }
-    ensures found { IfOk result (λ answered. (answered.has_findings ≡ true)
+    ensures text { IfOk result (λ answer.
+        IsReportAfter done.now store merged.now answer.text.items) }
+    ensures found { IfOk result (λ answer. (answer.has_findings ≡ true)
         ↔ SomeWaits (remaining done.now merged.now)) }
 {
     let graph = build_after(rt, alloc, merged, done, plan)?;
@@ -74,7 +74,7 @@ pub(crate) fn report_of<R: Threads + RandomSource + Sync>(
     // The lines of the store take the room of the order.
     drop(order);
     let text = end_report(rt, alloc, plan, text, &waiters, store)?;
-    Ok(Answered { text, has_findings })
+    Ok(Answer::new(text, has_findings))
 }
 
 /// The text of the execution order of a committed map.
@@ -83,9 +83,9 @@ fn order_of<R: Threads + Sync>(
     alloc: Global,
     merged: &Merged,
     plan: Plan,
-) -> Result<Answered, Memory>
-    ensures text { IfOk result (λ answered. IsOrderText merged.now answered.text.items) }
-    ensures found { IfOk result (λ answered. (answered.has_findings ≡ true)
+) -> Result<Answer, Memory>
+    ensures text { IfOk result (λ answer. IsOrderText merged.now answer.text.items) }
+    ensures found { IfOk result (λ answer. (answer.has_findings ≡ true)
         ↔ SomeWaits merged.now) }
 {
     let graph = build(rt, alloc, merged, plan)?;
@@ -93,7 +93,7 @@ fn order_of<R: Threads + Sync>(
     let waiters = waiting(alloc, &graph)?;
     let has_findings = some_wait(&waiters);
     let text = order_report(alloc, &order, &waiters)?;
-    Ok(Answered { text, has_findings })
+    Ok(Answer::new(text, has_findings))
 }
 
 /// The text of the conflict levels of a committed map, in execution order.
@@ -102,9 +102,9 @@ fn levels_of<R: Threads + Sync>(
     alloc: Global,
     merged: &Merged,
     plan: Plan,
-) -> Result<Answered, Memory>
-    ensures text { IfOk result (λ answered. IsLevelText merged.now answered.text.items) }
-    ensures found { IfOk result (λ answered. (answered.has_findings ≡ true)
+) -> Result<Answer, Memory>
+    ensures text { IfOk result (λ answer. IsLevelText merged.now answer.text.items) }
+    ensures found { IfOk result (λ answer. (answer.has_findings ≡ true)
         ↔ SomeWaits merged.now) }
 {
     let graph = build(rt, alloc, merged, plan)?;
@@ -113,7 +113,7 @@ fn levels_of<R: Threads + Sync>(
     let has_findings = some_wait(&waiters);
     let levels = command_levels(alloc, merged, order.ids())?;
     let text = level_report(alloc, &order, &waiters, &levels)?;
-    Ok(Answered { text, has_findings })
+    Ok(Answer::new(text, has_findings))
 }
 
 /// The text of the audit of a committed map.
@@ -122,17 +122,17 @@ fn audit_of<R: Threads + Sync>(
     alloc: Global,
     merged: &Merged,
     plan: Plan,
-) -> Result<Answered, Memory>
-    ensures text { IfOk result (λ answered. IsAuditText merged.now answered.text.items) }
-    ensures found { IfOk result (λ answered. (answered.has_findings ≡ true)
-        ↔ (answered.text.items ≢ covered_line)) }
+) -> Result<Answer, Memory>
+    ensures text { IfOk result (λ answer. IsAuditText merged.now answer.text.items) }
+    ensures found { IfOk result (λ answer. (answer.has_findings ≡ true)
+        ↔ (answer.text.items ≢ covered_line)) }
 {
     let graph = build(rt, alloc, merged, plan)?;
     let order = order(rt, alloc, merged, &graph)?;
     let found = audit(alloc, merged, &graph, &order)?;
     let text = audit_line(alloc, found)?;
     let has_findings = is_other(alloc, &text, "covered")?;
-    Ok(Answered { text, has_findings })
+    Ok(Answer::new(text, has_findings))
 }
 
 /// The picture of the dependency graph of a committed map.
@@ -203,22 +203,24 @@ pub(crate) fn text_of<R: Threads + RandomSource + Sync>(
     kind: &MapText,
     merged: &Merged,
     plan: Plan,
-) -> Result<Answered, Memory>
+) -> Result<Answer, Memory>
     requires few { length merged.now ≤ max_instances }
-    ensures text { IfOk result (λ answered. IsMapText kind.now merged.now answered.text.items) }
-    ensures found { IfOk result (λ answered. (answered.has_findings ≡ true)
-        ↔ FindsIn kind.now merged.now answered.text.items) }
+    ensures text { IfOk result (λ answer. IsMapText kind.now merged.now answer.text.items) }
+    ensures found { IfOk result (λ answer. (answer.has_findings ≡ true)
+        ↔ FindsIn kind.now merged.now answer.text.items) }
 {
     match kind {
         MapText::Report => report_of(rt, alloc, merged, &[], Store::new(alloc), plan),
         MapText::Order => order_of(rt, alloc, merged, plan),
         MapText::Levels => levels_of(rt, alloc, merged, plan),
         MapText::Audit => audit_of(rt, alloc, merged, plan),
-        MapText::Graph => Ok(plain(picture_of(rt, alloc, merged, plan)?)),
-        MapText::Why(id) => Ok(plain(why_of(rt, alloc, merged, *id, plan)?)),
-        MapText::Path(from, to) => Ok(plain(path_of(rt, alloc, merged, *from, *to, plan)?)),
+        MapText::Graph => Ok(Answer::new(picture_of(rt, alloc, merged, plan)?, false)),
+        MapText::Why(id) => Ok(Answer::new(why_of(rt, alloc, merged, *id, plan)?, false)),
+        MapText::Path(from, to) => {
+            Ok(Answer::new(path_of(rt, alloc, merged, *from, *to, plan)?, false))
+        }
         MapText::Trace { key, reads } => {
-            Ok(plain(trace_of(rt, alloc, merged, key, *reads, plan)?))
+            Ok(Answer::new(trace_of(rt, alloc, merged, key, *reads, plan)?, false))
         }
     }
 }

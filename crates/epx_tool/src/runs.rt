@@ -20,8 +20,7 @@ ghost use Rattle.epx_devices.specs.Transfers.{AppendsPrefix};
 
 use crate::ask::Ask;
 use crate::compared_sources::compare_sources;
-use crate::findings::Answered;
-use crate::held::Held;
+use crate::findings::Answer;
 use crate::map_texts::text_of;
 use crate::question::{MapText, Question};
 use epx_claims::FreeGate;
@@ -33,13 +32,13 @@ use std::alloc::Global;
 use std::random::RandomSource;
 use std::thread::Threads;
 
-/// The text of the comparison of the logs of all sources, and whether it finds something.
+/// The comparison of the logs of all sources.
 fn answer_compared<R: Threads + RandomSource + Sync, S: Source>(
     rt: &R,
     alloc: Global,
     sources: &mut [S],
     plan: Plan,
-) -> Result<Answered, Fault>
+) -> Result<Answer, Fault>
     requires { All (λ s. S.model.has_failed s ≡ false) sources.old }
     ensures { MatchResult result
         (λ a. EndsMaking S.model (AnswersFindingBy None a.has_findings) sources.old sources.new
@@ -47,20 +46,19 @@ fn answer_compared<R: Threads + RandomSource + Sync, S: Source>(
         (λ fault. EndsMaking S.model Compares sources.old sources.new (Err fault)) }
 {
     match compare_sources(rt, alloc, sources, plan) {
-        Ok(Comparison { text, has_findings }) => Ok(Answered { text, has_findings }),
+        Ok(Comparison { text, has_findings }) => Ok(Answer::new(text, has_findings)),
         Err(fault) => Err(fault),
     }
 }
 
-/// A text of the map that the logs of all sources commit, and whether it finds something.
+/// A text of the map that the logs of all sources commit.
 fn answer_merged<R: Threads + RandomSource + Sync, S: Source>(
     rt: &R,
     alloc: Global,
     kind: MapText,
     sources: &mut [S],
     plan: Plan,
-    held: &mut Held,
-) -> Result<Answered, Fault>
+) -> Result<Answer, Fault>
     requires { All (λ s. S.model.has_failed s ≡ false) sources.old }
     ensures { MatchResult result
         (λ a. EndsMaking S.model (AnswersFindingBy (Some kind) a.has_findings) sources.old
@@ -72,11 +70,10 @@ fn answer_merged<R: Threads + RandomSource + Sync, S: Source>(
         Ok(merged) => merged,
         Err(fault) => return Err(fault),
     };
-    let Ok(answered) = text_of(rt, alloc, &kind, &merged, plan) else {
+    let Ok(answer) = text_of(rt, alloc, &kind, &merged, plan) else {
         return Err(Fault::Memory);
     };
-    held.keep(merged);
-    Ok(answered)
+    Ok(answer.about(merged))
 }
 
 /// The answer to a question about the logs of all sources, which are read in order.
@@ -86,8 +83,7 @@ fn answer_sources<R: Threads + RandomSource + Sync, S: Source>(
     question: Question,
     sources: &mut [S],
     plan: Plan,
-    held: &mut Held,
-) -> Result<Answered, Fault>
+) -> Result<Answer, Fault>
     requires { All (λ s. S.model.has_failed s ≡ false) sources.old }
     ensures { MatchResult result
         (λ a. EndsMaking S.model (AnswersFinding question a.has_findings) sources.old
@@ -96,45 +92,40 @@ fn answer_sources<R: Threads + RandomSource + Sync, S: Source>(
         (Err fault)) }
 {
     match question.map_text() {
-        Some(kind) => answer_merged(rt, alloc, kind, sources, plan, held),
+        Some(kind) => answer_merged(rt, alloc, kind, sources, plan),
         None => answer_compared(rt, alloc, sources, plan),
     }
 }
 
 /// Reads the logs from the sources in order, and writes the answer to a question about them to the
-/// sink. Returns whether the answer finds something. `held` keeps what the caller may then free.
-/// `run` and `show` are this call for one question each, and free it.
+/// sink. `run` and `show` are this call for one question each.
 pub fn run_question<T: Threads + RandomSource + Sync, S: Source, W: Sink>(
     rt: &T,
     alloc: Global,
     question: Question,
     sources: &mut [S],
     plan: Plan,
-    held: &mut Held,
     sink: &mut W,
-) -> Result<bool, Fault>
+) -> Result<Answer, Fault>
     requires sources { All (λ s. S.model.has_failed s ≡ false) sources.old }
     requires sink { W.model.has_failed sink.old ≡ false }
     ensures { MatchResult result
-        (λ found. EndsRun S.model W.model (AnswersFinding question found) sources.old sources.new
-        sink.old sink.new (Ok (record {})))
+        (λ answer. EndsRun S.model W.model (AnswersFinding question answer.has_findings)
+        sources.old sources.new sink.old sink.new (Ok (record {})))
         (λ fault. EndsRun S.model W.model (AnswersQuestion question) sources.old sources.new
         sink.old sink.new (Err fault)) }
 {
-    let answered = match answer_sources(rt, alloc, question, sources, plan, held) {
-        Ok(answered) => answered,
+    let answer = match answer_sources(rt, alloc, question, sources, plan) {
+        Ok(answer) => answer,
         Err(fault) => return Err(fault),
     };
-    match write_out(&answered.text, sink) {
-        Ok(()) => {
-            held.keep_text(answered.text);
-            Ok(answered.has_findings)
-        }
+    match write_out(&answer.text, sink) {
+        Ok(()) => Ok(answer),
         Err(fault) => Err(fault),
     }
 }
 
-/// As `run_question`, without what the answer finds. It frees what the run holds.
+/// As `run_question`, without the answer.
 fn write_answer<T: Threads + RandomSource + Sync, S: Source, W: Sink>(
     rt: &T,
     alloc: Global,
@@ -148,8 +139,7 @@ fn write_answer<T: Threads + RandomSource + Sync, S: Source, W: Sink>(
     ensures { EndsRun S.model W.model (AnswersQuestion question) sources.old sources.new
         sink.old sink.new result }
 {
-    let mut held = Held::nothing();
-    match run_question(rt, alloc, question, sources, plan, &mut held, sink) {
+    match run_question(rt, alloc, question, sources, plan, sink) {
         Ok(_) => Ok(()),
         Err(fault) => Err(fault),
     }

@@ -16,8 +16,8 @@ use Rattle.epx_words.specs.Requests.{IsMeaningOf, IsText, IsWork, flags_of, task
 use Rattle.epx_words.specs.Subjects.{IsIdName, IsNameOf, NameIds, NamesAll, NamesLogs}
 use Rattle.epx_words.specs.Subjects.{NamesSubject}
 use Rattle.epx_words.specs.SubcommandRows.{Given, first_in, rows_in}
-use Rattle.epx_words.specs.declared.words.Task.{Task}
-use Rattle.epx_words.specs.declared.words.Task.TheVariants as task
+use Rattle.epx_names.specs.declared.task.Task.{Task}
+use Rattle.epx_names.specs.declared.task.Task.TheVariants as task
 use Rattle.epx_words.specs.declared.words.Words.{Words}
 use Rattle.epx_words.specs.declared.words.Words.TheVariants as words
 use Rattle.epx_words.proofs.FaultLemmas.{epx_is_simple}

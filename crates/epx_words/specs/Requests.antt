@@ -4,8 +4,8 @@ use Rattle.std.specs.Prelude.{None, codes, length, map, option_map, slice_get, s
 use Rattle.clap.specs.Words.{Row, Text}
 use Rattle.epx_types.specs.Pieces.{PlanNumbers}
 use Rattle.epx_types.specs.declared.id.Id.{Id}
-use Rattle.epx_words.specs.declared.words.Task.{Task}
-use Rattle.epx_words.specs.declared.words.Task.TheVariants as task
+use Rattle.epx_names.specs.declared.task.Task.{Task}
+use Rattle.epx_names.specs.declared.task.Task.TheVariants as task
 use Rattle.epx_words.specs.declared.words.Words.{Words}
 use Rattle.epx_words.specs.declared.words.Words.TheVariants as words
 use Rattle.epx_words.specs.declared.words.Flags.{Flags}
@@ -32,13 +32,6 @@ task_name task.Compare = codes "compare"
 task_name (task.Why x) = codes "why"
 task_name (task.Path x y) = codes "why"
 task_name (task.Trace key reads) = codes "trace"
-
--- the first argument is the path of a base or a list
-abbrev pub HasInputPath : Task → Type 0
-HasInputPath task.Resume = ⊤
-HasInputPath task.Check = ⊤
-HasInputPath task.CheckPrefix = ⊤
-HasInputPath _ = ⊥
 
 -- the path of the first argument, and then the paths of the logs
 abbrev pub AreFirstAndLogs : List Row → Option (List Text) → Type 0

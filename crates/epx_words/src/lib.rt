@@ -7,5 +7,6 @@ mod read;
 mod task_of;
 mod words;
 
+pub use epx_names::Task;
 pub use read::read_words;
-pub use words::{Flags, Task, Words};
+pub use words::{Flags, Words};

@@ -4,10 +4,11 @@ ghost use Rattle.std.specs.Prelude.{codes, length, map, false, string_bytes, tru
 ghost use Rattle.std.specs.Option.{IsSome};
 ghost use Rattle.clap.specs.Words.{fault_of, found_of, kind_of, one_of, rows_of, subcommand_of};
 ghost use Rattle.clap.specs.Words.{subcommand_rows_of, takes};
+ghost use Rattle.epx_names.specs.Tasks.{HasInput};
 ghost use Rattle.epx_words.specs.App.{epx_app};
 ghost use Rattle.epx_words.specs.Requests.{AreFirstAndLogs, ArePathsOf, FitFlags, FitsRows, IfText};
 ghost use Rattle.epx_words.specs.Requests.{IfWork, IsBare, IsMeaningOf, IsText, IsWork, flags_of};
-ghost use Rattle.epx_words.specs.Requests.{task_name, HasInputPath};
+ghost use Rattle.epx_words.specs.Requests.{task_name};
 ghost use Rattle.epx_words.specs.ExitStatus.{IsTaken, IsTextStatus, status_of_kind};
 ghost use Rattle.epx_words.specs.Subjects.{NamesAll, NamesLogs};
 ghost use Rattle.epx_words.specs.SubcommandRows.{AsksForWork, IsCutOf, IsNumberUpTo, IsWorkersOf};
@@ -15,9 +16,10 @@ ghost use Rattle.epx_words.specs.SubcommandRows.{first_in, logs_in, name_in, row
 
 use crate::commands::command;
 use crate::task_of::{has_flag, task_of};
-use crate::words::{Flags, Task, Words};
+use crate::words::{Flags, Words};
 use clap::error::ErrorKind;
 use clap::{ArgMatches, Error};
+use epx_names::Task;
 use epx_types::{Memory, Plan};
 use std::alloc::{AllocError, Global};
 
@@ -57,7 +59,7 @@ fn first_and_logs(alloc: Global, matches: &ArgMatches<'_>) -> Result<Vec<String>
 
 /// The paths that the task reads.
 fn paths_of(alloc: Global, task: Task, matches: &ArgMatches<'_>) -> Result<Vec<String>, AllocError>
-    requires { HasInputPath task → IsSome (first_in (rows_of (found_of matches.now))) }
+    requires { HasInput task → IsSome (first_in (rows_of (found_of matches.now))) }
     ensures { IfOk result (λ paths.
         ArePathsOf task (rows_of (found_of matches.now)) (Some (map string_bytes paths.items))) }
 {

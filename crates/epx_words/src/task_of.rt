@@ -5,9 +5,8 @@ ghost use Rattle.epx_words.specs.Requests.{FitsRows, task_name};
 ghost use Rattle.epx_words.specs.Subjects.{NameIds, NamesKey, NamesSubject};
 ghost use Rattle.epx_words.specs.SubcommandRows.{HasFlag, IsTaskName};
 
-use crate::words::Task;
 use clap::ArgMatches;
-use epx_names::{KeyName, read_id};
+use epx_names::{KeyName, Task, read_id};
 
 /// Whether a flag is there. Subcommands that have no such flag never have it.
 pub(crate) fn has_flag(matches: &ArgMatches<'_>, flag: &str) -> bool

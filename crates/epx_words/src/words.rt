@@ -1,36 +1,7 @@
 //! What a command line asks for.
 
-use epx_names::KeyName;
-use epx_types::{Id, Plan};
-
-/// The task of a subcommand.
-#[derive(Clone, Copy, Debug, PartialEq, Eq)]
-pub enum Task {
-    /// Write the report.
-    Run,
-    /// Write the execution order.
-    Order,
-    /// Write the conflict levels.
-    Levels,
-    /// Write the dependency graph as a picture.
-    Graph,
-    /// Execute what an earlier report, the base, has not executed, and write the report.
-    Resume,
-    /// Say whether the logs are covered.
-    Audit,
-    /// Say whether a list of instances is a lawful order.
-    Check,
-    /// Say whether a list of instances is the beginning of a lawful order.
-    CheckPrefix,
-    /// Say what the logs say against each other.
-    Compare,
-    /// Say why an instance is executed where it is, or why it is not.
-    Why(Id),
-    /// Find the first of the shortest paths of dependencies from one instance to another.
-    Path(Id, Id),
-    /// List the executed commands that write a key, and with `reads` those that only read it.
-    Trace { key: KeyName, reads: bool },
-}
+use epx_names::Task;
+use epx_types::Plan;
 
 /// What flags ask for. They change no answer.
 #[derive(Clone, Copy, Debug, PartialEq, Eq)]

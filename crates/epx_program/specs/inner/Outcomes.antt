@@ -4,7 +4,7 @@ use Rattle.std.specs.Prelude.{IfOk, IfErr, IsErrOf}
 use Rattle.std.specs.Io.KnownBytes.{Keeps}
 use Rattle.epx_types.specs.declared.fault.Fault.{Fault}
 use Rattle.epx_types.specs.declared.fault.Fault.TheVariants.{Read, Write}
-use Rattle.epx_words.specs.declared.words.Task.{Task}
+use Rattle.epx_names.specs.declared.task.Task.{Task}
 use Rattle.epx_devices.specs.Models.{SinkModel, SourceModel}
 use Rattle.epx_merge.specs.DeliveredLogs.{EachDelivers}
 use Rattle.epx_merge.specs.ReadingRefusals.{AreBytesOf}

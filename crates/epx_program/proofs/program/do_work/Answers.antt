@@ -1,6 +1,6 @@
 use Rattle.std.proofs.Common.{◌≡◌, Bool, true, ◌∷◌, [], ap, ◌∙◌}
 use Rattle.epx_program.specs.Calls.{paths_of}
-use Rattle.epx_program.specs.Endings.{AddsAnswer, status_of}
+use Rattle.epx_program.specs.Endings.{AddsAnswer, found_of, status_of}
 use Rattle.epx_program.specs.Inputs.{AreTextsRead, text_relation}
 use Rattle.epx_program.proofs.StatusLemmas.{failed_device, ends-as-done, flushed_by_work, is_status}
 use Rattle.epx_program.proofs.StatusLemmas.{of_done, unchanged_by_work}
@@ -9,7 +9,7 @@ use Rattle.epx_program.proofs.program.do_work.Goals as goal
 pub returns-clause-do_task : goal.returns-clause-do_task
 returns-clause-do_task g c =
     let exit_code = c.args.flags.exit_code in
-    let done = c.do_task-done.result in
+    let done = found_of c.do_task-done.result in
     let do_task = c.do_task-done.ensures in
     let ended = c.report_task-status.ensures in
     let failed = g.W.Sink.model.has_failed c.do_task-done.new.output in
@@ -32,13 +32,14 @@ returns-clause-do_task g c =
 
 pub returns-clause-nothing : goal.returns-clause-nothing
 returns-clause-nothing g c =
-    unchanged_by_work c.args.flags.exit_code c.do_task-done.result _
+    unchanged_by_work c.args.flags.exit_code (found_of c.do_task-done.result) _
     (g.W.Sink.model.has_failed c.do_task-done.new.output) _ _ c.report_task-status.ensures
     c.do_task-done.ensures.nothing c.do_task-done.ensures.written
 
 pub returns-clause-flushed : goal.returns-clause-flushed
 returns-clause-flushed g c =
-    flushed_by_work c.args.flags.exit_code c.do_task-done.result _ _ c.report_task-status.ensures
+    flushed_by_work c.args.flags.exit_code (found_of c.do_task-done.result) _ _
+    c.report_task-status.ensures
     c.do_task-done.ensures.flushed
 
 pub returns-clause-failed : goal.returns-clause-failed

@@ -13,13 +13,13 @@ text_from-requires-after_bounds g c κs within =
 pub returns : goal.returns
 returns g c = λ question input logs given.
     let read = subst (IsReading question input logs) c.in-Ok.is given in
-    let answered = c.in_ok-answered.answered in (
+    let answered = c.in_ok-answer.answer in (
       read.0,
       (
         c.in-Ok.read.0,
         read.1,
         finding_with_input question input c.in-Ok.read.1 c.in-Ok.read.0 answered.text.items
-            answered.has_findings read.2 c.in_ok-answered.ensures.text
-            c.in_ok-answered.ensures.found,
+            answered.has_findings read.2 c.in_ok-answer.ensures.text
+            c.in_ok-answer.ensures.found,
       ),
     )

@@ -60,13 +60,13 @@ returns-in-Audit-clause-found g c = subst
 pub returns-in_ok-picture_of-in-Graph-clause-text : goal.returns-in_ok-picture_of-in-Graph-clause-text
 returns-in_ok-picture_of-in-Graph-clause-text g c =
     let m = c.args.merged.now in
-    subst (λ kind. IsMapText kind m c.plain.result.text.items) (sym c.in-Graph.is)
-    (subst (λ t. IsPicture m t.items) (sym c.plain.ensures.text)
+    subst (λ kind. IsMapText kind m c.new-in-Graph.result.text.items) (sym c.in-Graph.is)
+    (subst (λ t. IsPicture m t.items) (sym c.new-in-Graph.ensures.text)
     c.in_ok-picture_of-in-Graph.ensures)
 
 pub returns-in_ok-trace_of-in-Trace-clause-text : goal.returns-in_ok-trace_of-in-Trace-clause-text
 returns-in_ok-trace_of-in-Trace-clause-text g c =
     let m = c.args.merged.now in
-    subst (λ kind. IsMapText kind m c.plain-in-Trace.result.text.items) (sym c.in-Trace.is)
+    subst (λ kind. IsMapText kind m c.new-in-Trace.result.text.items) (sym c.in-Trace.is)
     (subst (λ t. IsTraceText m c.in-Trace.key.text.bytes c.in-Trace.reads t.items)
-    (sym c.plain-in-Trace.ensures.text) c.in_ok-trace_of-in-Trace.ensures)
+    (sym c.new-in-Trace.ensures.text) c.in_ok-trace_of-in-Trace.ensures)

@@ -19,8 +19,8 @@ returns-in-Err-write_out g c =
     let Answer = AnswersQuestion c.args.question in
     let failed = c.in-Err-write_out.ensures in
     let made = making_plain D (map_text_of c.args.question)
-    c.in-Ok.answered.has_findings c.args.sources.now c.answer_sources.new.sources
-    c.in-Ok.answered.text.items c.in-Ok.ensures in
+    c.in-Ok.answer.has_findings c.args.sources.now c.answer_sources.new.sources
+    c.in-Ok.answer.text.items c.in-Ok.ensures in
     run_written D g.W.Sink.model Answer _ _ _ _ c.deref.result.now (Err c.in-Err-write_out.fault)
     (subst (λ (text : List ℕ). EndsMaking D Answer c.args.sources.now
     c.answer_sources.new.sources (Ok text)) (sym c.deref.ensures.value) made)

@@ -1,0 +1,44 @@
+//! The tasks of the program.
+ghost use Rattle.std.specs.Prelude.{◌≡◌, ◌↔◌, true};
+ghost use Rattle.epx_names.specs.Tasks.{HasInput};
+
+use crate::key_name::KeyName;
+use epx_types::Id;
+
+/// A task over logs. Each subcommand has one or two.
+#[derive(Clone, Copy, Debug, PartialEq, Eq)]
+pub enum Task {
+    /// Write the report.
+    Run,
+    /// Write the execution order.
+    Order,
+    /// Write the conflict levels.
+    Levels,
+    /// Write the dependency graph as a picture.
+    Graph,
+    /// Execute what an earlier report, the base, has not executed, and write the report.
+    Resume,
+    /// Say whether the logs are covered.
+    Audit,
+    /// Say whether a list of instances is a lawful order.
+    Check,
+    /// Say whether a list of instances is the beginning of a lawful order.
+    CheckPrefix,
+    /// Say what the logs say against each other.
+    Compare,
+    /// Say why an instance is executed where it is, or why it is not.
+    Why(Id),
+    /// Find the first of the shortest paths of dependencies from one instance to another.
+    Path(Id, Id),
+    /// List the executed commands that write a key, and with `reads` those that only read it.
+    Trace { key: KeyName, reads: bool },
+}
+
+impl Task {
+    /// Whether the task has an input besides the logs, as a base or a list is.
+    pub fn has_input(self) -> bool
+        ensures { (result ≡ true) ↔ HasInput self }
+    {
+        matches!(self, Task::Resume | Task::Check | Task::CheckPrefix)
+    }
+}
