@@ -20,9 +20,9 @@ uncovered_not_covered m x y bad covered =
       | inr back ↦ bad.apart.1 (rw (is_x, is_y) at back)
     ]
 
-pub least_uncovered_is_one : (m : List Instance) (x y v w : Id) → IsLeastUncovered m x y
+pub least_uncovered_is_unique : (m : List Instance) (x y v w : Id) → IsLeastUncovered m x y
     → IsLeastUncovered m v w → (x ≡ v) × (y ≡ w)
-least_uncovered_is_one m x y v w a b = elim (a.least v w b.rises b.uncovered) [
+least_uncovered_is_unique m x y v w a b = elim (a.least v w b.rises b.uncovered) [
   | inl lower ↦ elim (b.least x y a.rises a.uncovered) [
     | inl higher ↦ absurd (below_asymm id_cmp_total x v lower higher)
     | inr same ↦ absurd (below_irrefl id_cmp_total x (subst (Below x) same.0 lower))

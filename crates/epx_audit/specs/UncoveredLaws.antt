@@ -10,8 +10,8 @@ abbrev pub UncoveredPairShowsNotCovered : Type 0
 UncoveredPairShowsNotCovered = (m : List Instance) (x y : Id) → IsUncovered m x y → ¬ IsCovered m
 
 -- a map has at most one least uncovered pair
-abbrev pub LeastUncoveredPairIsOne : Type 0
-LeastUncoveredPairIsOne = (m : List Instance) (x y v w : Id) → IsLeastUncovered m x y
+abbrev pub LeastUncoveredPairIsUnique : Type 0
+LeastUncoveredPairIsUnique = (m : List Instance) (x y v w : Id) → IsLeastUncovered m x y
     → IsLeastUncovered m v w → (x ≡ v) × (y ≡ w)
 
 -- a map is covered, or has a least uncovered pair

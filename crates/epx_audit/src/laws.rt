@@ -1,6 +1,7 @@
 //! Laws of uncovered pairs: the definition means what it should. Each function has an empty body,
 //! and its contract is the law.
-ghost use Rattle.epx_audit.specs.UncoveredLaws.{CoveredOrLeastUncovered, LeastUncoveredPairIsOne};
+ghost use Rattle.epx_audit.specs.UncoveredLaws.{CoveredOrLeastUncovered};
+ghost use Rattle.epx_audit.specs.UncoveredLaws.{LeastUncoveredPairIsUnique};
 ghost use Rattle.epx_audit.specs.UncoveredLaws.{UncoveredPairShowsNotCovered};
 
 /// A map with an uncovered pair is not covered.
@@ -9,8 +10,8 @@ pub fn uncovered_pair_shows_not_covered()
 {}
 
 /// A map has at most one least uncovered pair.
-pub fn least_uncovered_pair_is_one()
-    ensures { LeastUncoveredPairIsOne }
+pub fn least_uncovered_pair_is_unique()
+    ensures { LeastUncoveredPairIsUnique }
 {}
 
 /// A map is covered, or it has a least uncovered pair.

@@ -20,7 +20,7 @@ use Rattle.epx_types.proofs.lists.MembershipLemmas.{Contains-nil, Contains-head,
 use Rattle.epx_types.proofs.lists.MembershipLemmas.{Contains-cons_cases, Contains-filter}
 use Rattle.epx_types.proofs.lists.MembershipLemmas.{Contains-from_filter, Contains-flat_map}
 use Rattle.epx_types.proofs.lists.MembershipLemmas.{Contains-from_flat_map}
-use Rattle.epx_types.proofs.lists.RisingIdLemmas.{rising_position_is_one}
+use Rattle.epx_types.proofs.lists.RisingIdLemmas.{rising_position_is_unique}
 use Rattle.epx_merge.specs.LogLines.{BadLineAt}
 use Rattle.epx_compare.specs.declared.catalog.Catalog.{Catalog}
 use Rattle.epx_versions.specs.LineVersions.{versions_of}
@@ -184,7 +184,7 @@ module _ (lines : List Placed) (bad : List BadLineAt) (c : Catalog)
         let at = slice_get-from_Contains (versions_of lines) e
         (version_of_line lines found.0 found.1) in
         let position = version_position at.0 e at.1 in
-        let same : position.0 ≡ k = rising_position_is_one c.ids rising position.0 k y
+        let same : position.0 ≡ k = rising_position_is_unique c.ids rising position.0 k y
         (position.2 ∙ ap Some id) here in
         let number : Contains (row_of c.versions k) at.0 =
         (catalogs.versions.exact k at.0).1 (position.1 ∙ ap Some same) in

@@ -9,7 +9,7 @@ use Rattle.std.proofs.lemmas.Simd.{map-map}
 use Rattle.std.proofs.lemmas.Option.{slice_get_within, get_or_from_slice_get}
 use Rattle.epx_types.proofs.lists.ListPositionLemmas.{slice_get-map, slice_get-from_map}
 use Rattle.epx_types.proofs.lists.MembershipLemmas.{map-agree, passes-from_filter}
-use Rattle.epx_types.proofs.lists.RisingIdLemmas.{rising_position_is_one}
+use Rattle.epx_types.proofs.lists.RisingIdLemmas.{rising_position_is_unique}
 use Rattle.epx_types.specs.declared.id.Id.{Id}
 use Rattle.epx_types.specs.Ids.{IsRising}
 use Rattle.epx_types.specs.Instances.{Instance}
@@ -129,7 +129,7 @@ module _ (lines : List Placed) (bad : List BadLineAt) (c : Catalog)
       let some : slice_get (map (slice_get c.ids) c.positions.items) p ≡ Some (Some x) =
       at_version p ∙ slice_get-map Some (version_ids lines) p x listed in
       let found = slice_get-from_map (slice_get c.ids) c.positions.items p (Some x) some in
-      found.1 ∙ ap Some (rising_position_is_one c.ids rising found.0 k x found.2 at)
+      found.1 ∙ ap Some (rising_position_is_unique c.ids rising found.0 k x found.2 at)
 
   -- the numbers of an instance's versions
   pub numbers_of : IsRising c.ids → (k : ℕ) (x : Id) → slice_get c.ids k ≡ Some x

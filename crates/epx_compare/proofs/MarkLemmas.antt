@@ -9,7 +9,7 @@ use Rattle.epx_types.specs.declared.place.Place.{Place}
 use Rattle.epx_types.specs.Ids.{IsRising}
 use Rattle.epx_types.specs.Instances.{Instance}
 use Rattle.epx_types.specs.PlacedLines.{Placed}
-use Rattle.epx_types.proofs.lists.RisingIdLemmas.{rising_position_is_one}
+use Rattle.epx_types.proofs.lists.RisingIdLemmas.{rising_position_is_unique}
 use Rattle.epx_versions.specs.declared.noted.Row.{Row}
 use Rattle.epx_compare.specs.Gaps.{has_line}
 use Rattle.epx_versions.specs.SameInstances.{same_id}
@@ -48,7 +48,8 @@ module _ (ids : List Id) (rising : IsRising ids) where
               let both : Some e.id ≡ Some x =
               sym own ∙ (ap (slice_get ids) there ∙ at) in cc both,
           λ e_is. (nat_eq_decides _ _).1
-              (rising_position_is_one ids rising (slice_index positions v) k x (own ∙ ap Some e_is)
+              (rising_position_is_unique ids rising (slice_index positions v) k x
+              (own ∙ ap Some e_is)
               at),
         )
 

@@ -14,8 +14,8 @@ abbrev pub ComparisonExists : Type 0
 ComparisonExists = (logs : List (List ℕ)) → (text : List ℕ) × IsComparison logs text
 
 -- and one thing alone
-abbrev pub ComparisonIsOne : Type 0
-ComparisonIsOne = (logs : List (List ℕ)) (a b : List ℕ) → IsComparison logs a
+abbrev pub ComparisonIsUnique : Type 0
+ComparisonIsUnique = (logs : List (List ℕ)) (a b : List ℕ) → IsComparison logs a
     → IsComparison logs b → a ≡ b
 
 -- no bad line, and no line of an instance that lines commit differently

@@ -1,5 +1,5 @@
 //! Laws of what logs say against each other: each function's contract is a law.
-ghost use Rattle.epx_compare.specs.ComparisonLaws.{ComparisonExists, ComparisonIsOne};
+ghost use Rattle.epx_compare.specs.ComparisonLaws.{ComparisonExists, ComparisonIsUnique};
 ghost use Rattle.epx_compare.specs.ComparisonLaws.{NothingDiffersWhereLogsAgree};
 ghost use Rattle.epx_compare.specs.ComparisonLaws.{NothingFoundWhereLogsAreAlike};
 ghost use Rattle.epx_compare.specs.GapLaws.{GapsAreOfTheLacked};
@@ -12,8 +12,8 @@ pub fn comparison_exists()
 {}
 
 /// Logs have at most one comparison.
-pub fn comparison_is_one()
-    ensures { ComparisonIsOne }
+pub fn comparison_is_unique()
+    ensures { ComparisonIsUnique }
 {}
 
 /// A comparison has no bad line and no difference exactly where the logs are accepted.

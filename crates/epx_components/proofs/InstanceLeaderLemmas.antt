@@ -9,7 +9,7 @@ use Rattle.epx_types.proofs.graph.ReachingLemmas.{Reaches-trans}
 use Rattle.epx_types.proofs.graph.ReachingDecisionLemmas.{Reaches-committed}
 use Rattle.epx_graph.specs.Graphs.{DependencyGraph, IsGraph, edges_of}
 use Rattle.epx_graph.specs.GraphOf.{IsGraphOf}
-use Rattle.epx_graph.proofs.GraphNodeLemmas.{reached_within, node_is_one}
+use Rattle.epx_graph.proofs.GraphNodeLemmas.{reached_within, node_is_unique}
 use Rattle.epx_graph.proofs.MapPathLemmas.{node_committed, node_reaches, node_order, reached_node}
 use Rattle.epx_components.specs.NodeComponents.{IsNodeLeader}
 
@@ -36,7 +36,7 @@ leader_from_node m g is k l x y at to lead = record {
       elim (cases_lt l j.0) [
         | inl less ↦
             let apart : ¬ (y ≡ z) =
-            λ same. (let one_node = node_is_one g is.graph l j.0 y to
+            λ same. (let one_node = node_is_unique g is.graph l j.0 y to
             (j.1 ∙ ap Some (sym same)) in omega arith) in
             let l_in = (node_committed m g is l y to).1
             (Reaches-committed m y z (Reaches-trans m y x z here one.0) apart) in

@@ -31,8 +31,8 @@ module _ (m : List Instance) (g : DependencyGraph) (is : IsGraphOf m g) where
       x.1 ∙ ap Some (sym d.2 ∙ ap (λ (i : Instance). i.id) one)
 
   -- instances with equal Ids are equal
-  instance_is_one : (d e : Instance) → Contains m d → Contains m e → d.id ≡ e.id → d ≡ e
-  instance_is_one d e in_d in_e same =
+  instance_is_unique : (d e : Instance) → Contains m d → Contains m e → d.id ≡ e.id → d ≡ e
+  instance_is_unique d e in_d in_e same =
       let rising = subst IsRising is.committed is.graph.committed_rise in
       let found = (instance_of_iff m rising e.id d).1 (in_d, same) in
       let also = (instance_of_iff m rising e.id e).1 (in_e, refl) in
@@ -48,7 +48,7 @@ module _ (m : List Instance) (g : DependencyGraph) (is : IsGraphOf m g) where
       (λ missing. complete (node_rank.missing.1 missing)) in
       record {
         ready = ready;
-        seq = λ d in_d same. ap (λ (i : Instance). i.seq) (instance_is_one d e in_d in_m same);
+        seq = λ d in_d same. ap (λ (i : Instance). i.seq) (instance_is_unique d e in_d in_m same);
         leader = leader_from_node m g is k s.leader e.id leader node to node_rank.leader;
         depth = depth_from_node m g is k e.id s.depth node node_rank.depth;
       }

@@ -16,6 +16,6 @@ mod FoundOpsLemmas
 mod CommitLemmas
 mod FiledAfterLemmas
 mod HistoryLemmas
-mod BeginningLemmas
+mod PrefixLemmas
 mod RestartLemmas
 mod ChoiceLemmas

@@ -44,7 +44,7 @@ module _ (a b : List Id) (same : (x : Id) → Contains a x ↔ Contains b x) whe
 
 -- ---- they commit alike
 
-module _ (map_is_one : CommittedMapIsUnique) (order_is_one : ExecutionOrderIsUnique)
+module _ (map_is_unique : CommittedMapIsUnique) (order_is_unique : ExecutionOrderIsUnique)
     (v w : ExecutorView) (same : HoldTheSame v w) (came : List Instance)
     (next last : ExecutorView) (replies others : List (Id × Reply))
     (first : IsCommit v came next replies) (second : IsCommit w came last others) where
@@ -54,7 +54,7 @@ module _ (map_is_one : CommittedMapIsUnique) (order_is_one : ExecutionOrderIsUni
       (lines_alike v.done w.done same.done (lines_from 1 1 came))
 
   same_other : first.other ≡ second.other
-  same_other = map_is_one (call_lines w.done w.pending came) first.other second.other
+  same_other = map_is_unique (call_lines w.done w.pending came) first.other second.other
       (subst (λ (ls : List Placed). IsCommittedBy ls first.other) same_lines
       first.merged.committed) second.merged.committed
 
@@ -63,7 +63,7 @@ module _ (map_is_one : CommittedMapIsUnique) (order_is_one : ExecutionOrderIsUni
       ∙ ap (remaining w.done) same_other
 
   same_order : first.order ≡ second.order
-  same_order = order_is_one (remaining w.done second.other) first.order second.order
+  same_order = order_is_unique (remaining w.done second.other) first.order second.order
       (subst (λ (m : List Instance). IsExecutionOrder m first.order) same_map first.ordered)
       second.ordered
 

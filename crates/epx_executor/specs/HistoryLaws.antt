@@ -9,7 +9,7 @@ use Rattle.epx_types.specs.Execution.{execute}
 use Rattle.epx_types.specs.ExecutionOrder.{Ranked, IsExecutionOrder}
 use Rattle.epx_types.specs.Ids.{IsRising}
 use Rattle.epx_types.specs.Instances.{Instance}
-use Rattle.epx_types.specs.LawfulBeginnings.{IsLawfulBeginning}
+use Rattle.epx_types.specs.LawfulPrefixes.{IsLawfulPrefix}
 use Rattle.epx_types.specs.Readiness.{IsReady}
 use Rattle.epx_laws.specs.ResumedRunLaws.{HasReply, whole_run}
 use Rattle.epx_executor.specs.Commits.{ExecutorView, IsCommit}
@@ -43,13 +43,13 @@ abbrev pub AllCame : List Instance → List Call → Type 0
 AllCame m calls = (e : Instance) → Contains m e
     → (call : Call) × Contains calls call × Contains call.0 e
 
--- Covered or not: the calls of a new executor execute, one after another, the beginning of a
+-- Covered or not: the calls of a new executor execute, one after another, a prefix of a
 -- lawful order of each map that contains what came
-abbrev pub CallsExecuteALawfulBeginning : Type 0
-CallsExecuteALawfulBeginning = (m : List Instance) → IsRising (ids_of m) →
+abbrev pub CallsExecuteALawfulPrefix : Type 0
+CallsExecuteALawfulPrefix = (m : List Instance) → IsRising (ids_of m) →
     (calls : List Call) (after : ExecutorView) → AreCommits new_executor calls after
     → CameFrom m calls →
-    IsLawfulBeginning m (executed_ids calls)
+    IsLawfulPrefix m (executed_ids calls)
     × (execute (commands_in m (executed_ids calls)) contents.empty
     ≡ record { replies = replies_of calls; final = after.store })
 

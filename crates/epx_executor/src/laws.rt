@@ -5,7 +5,7 @@ ghost use Rattle.epx_executor.specs.ExecutorLaws.{AllCommittedIsTheWhole, Commit
 ghost use Rattle.epx_executor.specs.ExecutorLaws.{CommitResumesAllThatCame, NothingIsHeldBack};
 ghost use Rattle.epx_executor.specs.ExecutorLaws.{NoneIsExecutedTwice, SameExecutorsCommitAlike};
 ghost use Rattle.epx_executor.specs.ExecutorLaws.{RestartedExecutorHoldsTheSame};
-ghost use Rattle.epx_executor.specs.HistoryLaws.{CallsExecuteALawfulBeginning};
+ghost use Rattle.epx_executor.specs.HistoryLaws.{CallsExecuteALawfulPrefix};
 ghost use Rattle.epx_executor.specs.HistoryLaws.{CallsReplyAsTheWhole};
 ghost use Rattle.epx_executor.specs.HistoryLaws.{CallsLeaveWhatTheWholeLeaves};
 
@@ -81,10 +81,10 @@ pub fn restarted_executor_holds_the_same()
     ensures { RestartedExecutorHoldsTheSame }
 {}
 
-/// All calls of a new executor together execute the beginning of a lawful order of each map that
+/// All calls of a new executor together execute a prefix of a lawful order of each map that
 /// contains what came.
-pub fn calls_execute_a_lawful_beginning()
-    ensures { CallsExecuteALawfulBeginning }
+pub fn calls_execute_a_lawful_prefix()
+    ensures { CallsExecuteALawfulPrefix }
 {
     new_executor_is_sound();
     committing_stays_sound();

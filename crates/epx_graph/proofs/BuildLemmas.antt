@@ -20,7 +20,7 @@ use Rattle.epx_graph.specs.Graphs.{edges_of, IsGraph, graph_over}
 use Rattle.epx_graph.specs.GraphOf.{IsGraphOf}
 use Rattle.epx_rows.specs.Rows.{row_of, AreTransposed}
 use Rattle.epx_graph.specs.inner.Nodes.{AreNodesOf, AreRowsOf}
-use Rattle.epx_graph.proofs.GraphNodeLemmas.{committed_node, node_is_one}
+use Rattle.epx_graph.proofs.GraphNodeLemmas.{committed_node, node_is_unique}
 use Rattle.epx_graph.proofs.MapNodeLemmas.{nodes_long}
 use Rattle.epx_graph.proofs.RisingPositionLemmas.{slice_get-take}
 
@@ -135,7 +135,7 @@ module _ (m : List Instance) (ids : List Id) (rows : List (List ℕ)) (nodes : A
       let found = committed_node g graph_kept x
       (subst (λ (l : List Id). Contains l x) (sym committed_is)
       (DependsOn-committed m x y d)) in
-      let same : found.0 ≡ k = node_is_one g graph_kept found.0 k x found.2 p in
+      let same : found.0 ≡ k = node_is_unique g graph_kept found.0 k x found.2 p in
       let l : k < length rows = omega (arith, found.1) in
       let at : slice_get (ids_of m) k ≡ Some x =
       ap (λ xs. slice_get xs k) (sym committed_is)

@@ -8,7 +8,7 @@ use Rattle.epx_types.specs.declared.id.Id.{Id}
 use Rattle.epx_types.specs.Ids.{Below}
 use Rattle.epx_types.proofs.lists.MembershipLemmas.{Contains-nil}
 use Rattle.epx_types.proofs.lists.ListPositionLemmas.{slice_get-from_Contains, Contains-slice_get}
-use Rattle.epx_types.proofs.lists.RisingIdLemmas.{rising_positions, rising_position_is_one}
+use Rattle.epx_types.proofs.lists.RisingIdLemmas.{rising_positions, rising_position_is_unique}
 use Rattle.epx_graph.specs.Graphs.{DependencyGraph, edges_of, committed_ids, missing_ids, IsGraph}
 use Rattle.epx_graph.specs.NodePaths.{IsNodePath}
 use Rattle.epx_graph.proofs.RisingPositionLemmas.{slice_get-take, slice_get-from_take}
@@ -52,19 +52,19 @@ module _ (g : DependencyGraph) (is : IsGraph g) where
 
   -- ---- each Id has one node
 
-  pub node_is_one : (k j : ℕ) (x : Id) → slice_get g.ids k ≡ Some x → slice_get g.ids j ≡ Some x
+  pub node_is_unique : (k j : ℕ) (x : Id) → slice_get g.ids k ≡ Some x → slice_get g.ids j ≡ Some x
       → k ≡ j
-  node_is_one k j x p q =
+  node_is_unique k j x p q =
       elim (cases_lt k g.committed) [
         | inl l ↦ elim (cases_lt j g.committed) [
-          | inl m ↦ rising_position_is_one (committed_ids g) is.committed_rise k j x
+          | inl m ↦ rising_position_is_unique (committed_ids g) is.committed_rise k j x
               (committed_at k x p l) (committed_at j x q m)
           | inr m ↦ absurd (is.apart x (Contains-committed k x p l) (Contains-missing j x q m))
         ]
         | inr l ↦ elim (cases_lt j g.committed) [
           | inl m ↦ absurd (is.apart x (Contains-committed j x q m) (Contains-missing k x p l))
           | inr m ↦
-              let same = rising_position_is_one (missing_ids g) is.missing_rise (k - g.committed)
+              let same = rising_position_is_unique (missing_ids g) is.missing_rise (k - g.committed)
               (j - g.committed) x (missing_at k x p l) (missing_at j x q m) in
               omega arith
         ]

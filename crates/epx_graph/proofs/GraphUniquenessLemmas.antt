@@ -7,7 +7,7 @@ use Rattle.epx_types.proofs.lists.TotalOrderLemmas.{same_rising}
 use Rattle.epx_types.proofs.lists.RisingIdLemmas.{same_ids}
 use Rattle.epx_graph.specs.Graphs.{DependencyGraph, edges_of, committed_ids, missing_ids}
 use Rattle.epx_graph.specs.GraphOf.{IsGraphOf}
-use Rattle.epx_graph.specs.GraphLaws.{GraphIsOne}
+use Rattle.epx_graph.specs.GraphLaws.{GraphIsUnique}
 use Rattle.epx_graph.proofs.GraphNodeLemmas.{edge_within, node_id}
 use Rattle.epx_graph.proofs.MapPathLemmas.{committed_count}
 
@@ -36,8 +36,8 @@ one_row m g h p q k l =
     (λ j c. edge_there m g h p q k j c l)
     (λ j c. edge_there m h g q p k j c (omega (arith, ap length (one_ids m g h p q))))
 
-pub graph_is_one : GraphIsOne
-graph_is_one m g h p q =
+pub graph_is_unique : GraphIsUnique
+graph_is_unique m g h p q =
     let ids = one_ids m g h p q in
     let committed : g.committed ≡ h.committed =
     committed_count m g p ∙ sym (committed_count m h q) in

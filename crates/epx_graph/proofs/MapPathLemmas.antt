@@ -15,7 +15,7 @@ use Rattle.epx_graph.specs.Graphs.{DependencyGraph, edges_of, committed_ids}
 use Rattle.epx_graph.specs.GraphOf.{IsGraphOf}
 use Rattle.epx_graph.specs.NodePaths.{IsNodePath, NodeReaches}
 use Rattle.epx_graph.proofs.GraphNodeLemmas.{committed_at, committed_node, missing_node}
-use Rattle.epx_graph.proofs.GraphNodeLemmas.{Contains-committed, Contains-missing, node_is_one}
+use Rattle.epx_graph.proofs.GraphNodeLemmas.{Contains-committed, Contains-missing, node_is_unique}
 use Rattle.epx_graph.proofs.GraphNodeLemmas.{edge_within, node_id, committed_order}
 
 module _ (m : List Instance) (g : DependencyGraph) (is : IsGraphOf m g) where
@@ -117,4 +117,5 @@ module _ (m : List Instance) (g : DependencyGraph) (is : IsGraphOf m g) where
     back : Reaches m x y → NodeReaches (edges_of g) k j
     back there =
         let found = reached_node k x y at there in
-        subst (NodeReaches (edges_of g) k) (node_is_one g is.graph found.0 j y found.1 to) found.2
+        subst (NodeReaches (edges_of g) k) (node_is_unique g is.graph found.0 j y found.1 to)
+        found.2

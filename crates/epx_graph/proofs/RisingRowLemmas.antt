@@ -20,7 +20,7 @@ use Rattle.epx_types.proofs.lists.ListPositionLemmas.{Contains-slice_get, slice_
 use Rattle.epx_types.proofs.lists.ListPositionLemmas.{slice_get-map, AllPairs-head, AllPairs-tail}
 use Rattle.epx_types.proofs.lists.ListPositionLemmas.{AllPairs-slice_get, AllPairs-from_parts}
 use Rattle.epx_types.proofs.lists.ListPositionLemmas.{AllPairs-append}
-use Rattle.epx_types.proofs.lists.RisingIdLemmas.{rising_position_is_one}
+use Rattle.epx_types.proofs.lists.RisingIdLemmas.{rising_position_is_unique}
 use Rattle.epx_types.proofs.committed.PositionLemmas.{position_of-instance}
 use Rattle.epx_graph.specs.inner.Nodes.{positions_of, missing_of, AreNodesOf, ArePositionsOf}
 use Rattle.epx_graph.proofs.MissingIdLemmas.{no_position, lacks-from_missing, lacking_missing}
@@ -69,7 +69,7 @@ positions_cons ids rising x xs i row rise at are = record {
     ],
     λ h. elim (Contains-cons_cases x xs h.0 h.1) [
       | inl first ↦
-          let same : i ≡ j = rising_position_is_one ids rising i j x at
+          let same : i ≡ j = rising_position_is_unique ids rising i j x at
           (h.2 ∙ ap Some (sym first)) in
           subst (Contains (i ∷ row)) same (Contains-head i row)
       | inr rest ↦ Contains-cons i row j ((are.exact j).1 (h.0, rest, h.2))
@@ -249,7 +249,7 @@ module _ (m : List Instance) (ids : List Id) (nodes : AreNodesOf m ids) where
           one : (j : ℕ) → slice_get ids j ≡ Some x → length m + index ≡ j
           one j there =
               let past = missing_above m ids nodes x j lacks_x there in
-              let same = rising_position_is_one (drop (length m) ids) nodes.missing.rising index
+              let same = rising_position_is_unique (drop (length m) ids) nodes.missing.rising index
               (j - length m) x at (slice_get-drop ids (length m) j x past there) in
               omega arith
 

@@ -51,9 +51,9 @@ waiters_skip g marks n ws none is = record {
 }
 
 -- a node has one waiter
-waiter_is_one : (g : DependencyGraph) (marks : List (Option ℕ)) (k n : ℕ) (v w : Waiting) → k ≡ n
+waiter_is_unique : (g : DependencyGraph) (marks : List (Option ℕ)) (k n : ℕ) (v w : Waiting) → k ≡ n
     → IsWaiter g marks k v → IsWaiter g marks n w → w ≡ v
-waiter_is_one g marks k n v w same p q =
+waiter_is_unique g marks k n v w same p q =
     let ids : Some w.id ≡ Some v.id = sym q.id ∙ ap (slice_get g.ids) (sym same) ∙ p.id in
     let id : w.id ≡ v.id = cc ids in
     let both : Some q.mark ≡ Some p.mark =
@@ -77,7 +77,7 @@ waiters_more g graph marks n ws w within waits is = record {
     | inl lower ↦ Contains-append_left ws (w ∷ []) v (is.whole k v lower h)
     | inr not_lower ↦
         let same : k ≡ n = omega arith in
-        subst (Contains (ws ++ w ∷ [])) (waiter_is_one g marks k n v w same h waits)
+        subst (Contains (ws ++ w ∷ [])) (waiter_is_unique g marks k n v w same h waits)
         (Contains-push ws w)
   ];
   rising = subst IsRising (sym (map_push (λ (v : Waiting). v.id) ws w))

@@ -11,5 +11,5 @@ abbrev pub GraphExists : Type 0
 GraphExists = (m : List Instance) → IsRising (ids_of m) → (g : DependencyGraph) × IsGraphOf m g
 
 -- a map has at most one graph
-abbrev pub GraphIsOne : Type 0
-GraphIsOne = (m : List Instance) (g h : DependencyGraph) → IsGraphOf m g → IsGraphOf m h → g ≡ h
+abbrev pub GraphIsUnique : Type 0
+GraphIsUnique = (m : List Instance) (g h : DependencyGraph) → IsGraphOf m g → IsGraphOf m h → g ≡ h

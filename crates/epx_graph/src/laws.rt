@@ -1,5 +1,5 @@
 //! Laws of the graph of a map: each function's contract is a law.
-ghost use Rattle.epx_graph.specs.GraphLaws.{GraphExists, GraphIsOne};
+ghost use Rattle.epx_graph.specs.GraphLaws.{GraphExists, GraphIsUnique};
 
 /// A committed map has a graph.
 pub fn graph_exists()
@@ -7,6 +7,6 @@ pub fn graph_exists()
 {}
 
 /// A map has at most one graph.
-pub fn graph_is_one()
-    ensures { GraphIsOne }
+pub fn graph_is_unique()
+    ensures { GraphIsUnique }
 {}

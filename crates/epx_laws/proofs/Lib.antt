@@ -1,6 +1,6 @@
 mod ComponentCountLemmas
 mod LargerMapLemmas
-pub mod BeginningLemmas
+pub mod PrefixLemmas
 mod RemainingReadinessLemmas
 mod RenamedContentsLemmas
 mod RenamedExecutionLemmas

@@ -20,7 +20,7 @@ use Rattle.epx_types.proofs.lists.MembershipLemmas.{passes-from_filter}
 use Rattle.epx_types.proofs.orders.LawfulPartLemmas.{IsLawful-part_and_rest, passes_rest}
 use Rattle.epx_types.proofs.orders.LawfulOrderLemmas.{Before-not_both}
 use Rattle.epx_laws.specs.OrderLaws.{ConflictsAreOrdered}
-use Rattle.epx_laws.proofs.BeginningLemmas.{lawful_order}
+use Rattle.epx_laws.proofs.PrefixLemmas.{lawful_order}
 
 -- a test of a property that is decided
 decided : {A : Type 0} → A ⊎ (¬ A) → (b : Bool) × (b ≡ true → A) × (A → b ≡ true)

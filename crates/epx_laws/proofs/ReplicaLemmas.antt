@@ -1,4 +1,4 @@
--- Beginnings of lawful orders in maps that grow, and in parts of one map.
+-- Prefixes of lawful orders in maps that grow, and in parts of one map.
 use Rattle.std.proofs.Common.{◌≡◌, ◌≢◌, ◌↔◌, ◌∙◌, ℕ, ◌<◌, List, ◌++◌, length, Contains}
 use Rattle.std.proofs.Common.{AllPairs, Some, slice_get, get_or, append_assoc, sym, ap, subst}
 use Rattle.std.proofs.Common.{inl, inr, arith}
@@ -14,7 +14,7 @@ use Rattle.epx_types.specs.CommittedMap.{ids_of, instance_of, commands_in, ops_o
 use Rattle.epx_types.specs.Conflicts.{Conflict, IsCovered}
 use Rattle.epx_types.specs.Done.{remaining_ids}
 use Rattle.epx_types.specs.Execution.{execute}
-use Rattle.epx_types.specs.LawfulBeginnings.{IsLawfulBeginning}
+use Rattle.epx_types.specs.LawfulPrefixes.{IsLawfulPrefix}
 use Rattle.epx_types.specs.LawfulOrders.{Before, IsLawful, IsLawfulFor}
 use Rattle.epx_types.specs.Reaching.{Reaches}
 use Rattle.epx_types.specs.Readiness.{IsReady}
@@ -38,16 +38,16 @@ use Rattle.epx_types.proofs.orders.LawfulPartLemmas.{IsLawful-part_and_rest}
 use Rattle.epx_types.proofs.orders.LawfulExecutionLemmas.{reply_function}
 use Rattle.epx_laws.specs.GrowthLaws.{IsWithin}
 use Rattle.epx_laws.specs.ReplicaLaws.{HasExecuted}
-use Rattle.epx_laws.proofs.BeginningLemmas.{lawful_order, reply-beginning}
+use Rattle.epx_laws.proofs.PrefixLemmas.{lawful_order, reply-prefix}
 use Rattle.epx_laws.proofs.LargerMapLemmas.{IsReady-in_more, Reaches-in_less, lawful_in_more}
 use Rattle.epx_laws.proofs.LargerMapLemmas.{commands-in_more}
 
--- ---- beginnings in larger maps
+-- ---- prefixes in larger maps
 
 module _ (m more : List Instance) (rising : IsRising (ids_of more)) (within : IsWithin m more) where
-  pub IsLawfulBeginning-in_more : (ids : List Id) → IsLawfulBeginning m ids
-      → IsLawfulBeginning more ids
-  IsLawfulBeginning-in_more ids (rest, lawful) =
+  pub IsLawfulPrefix-in_more : (ids : List Id) → IsLawfulPrefix m ids
+      → IsLawfulPrefix more ids
+  IsLawfulPrefix-in_more ids (rest, lawful) =
       let whole = lawful_order more rising in
       let left = remaining_ids (ids ++ rest) whole.0 in
       let all = IsLawful-part_and_rest more (IsReady m) (IsReady-in_more m more rising within)
@@ -65,13 +65,13 @@ module _ (m more : List Instance) (rising : IsRising (ids_of more)) (within : Is
         | inr back ↦ inr (Reaches-in_less m more rising within e.id d.id ready' back)
       ]
 
-  -- a beginning has the same commands in both
-  commands-beginning : (ids : List Id) → IsLawfulBeginning m ids
+  -- a prefix has the same commands in both
+  commands-prefix : (ids : List Id) → IsLawfulPrefix m ids
       → commands_in m ids ≡ commands_in more ids
-  commands-beginning ids (rest, lawful) = commands-in_more m more rising within ids
+  commands-prefix ids (rest, lawful) = commands-in_more m more rising within ids
       (λ x h. (lawful.only x (Contains-append_left ids rest x h)).committed)
 
--- ---- the order of a beginning
+-- ---- the order of a prefix
 
 -- in a list without repeats, what is before a member of the front is so in the front too
 pub Before-in_front : (front rest : List Id) → AllPairs (λ x y. x ≢ y) (front ++ rest) → (x y : Id)
@@ -92,10 +92,10 @@ AllPairs-front front rest once = AllPairs-from_slice_get (λ x y. x ≢ y) front
     (λ i j x y l p q. AllPairs-slice_get (λ v w. v ≢ w) (front ++ rest) once i j x y l
     (slice_get-append_left front rest i x p) (slice_get-append_left front rest j y q))
 
--- ---- two beginnings with the same instances
+-- ---- two prefixes with the same instances
 
 module _ (m : List Instance) (rising : IsRising (ids_of m)) (covered : IsCovered m)
-    (ids other : List Id) (begins : IsLawfulBeginning m ids) (begins' : IsLawfulBeginning m other)
+    (ids other : List Id) (begins : IsLawfulPrefix m ids) (begins' : IsLawfulPrefix m other)
     (same : (x : Id) → Contains ids x ↔ Contains other x) where
   ready_in : (x : Id) → Contains ids x → IsReady m x
   ready_in x h = begins.1.only x (Contains-append_left ids begins.0 x h)
@@ -149,9 +149,9 @@ module _ (m : List Instance) (rising : IsRising (ids_of m)) (covered : IsCovered
   }
 
   -- they leave the same contents
-  final-beginnings : (c : Contents) → (execute (commands_in m other) c).final
+  final-prefixes : (c : Contents) → (execute (commands_in m other) c).final
       ≡ (execute (commands_in m ids) c).final
-  final-beginnings c =
+  final-prefixes c =
       let replies = (execute (commands_in m ids) c).replies in
       let long : length replies ≡ length ids = length-replies (commands_in m ids) c
       ∙ length-map ids (λ x. ops_or_empty (instance_of m x)) in
@@ -164,23 +164,23 @@ module _ (m : List Instance) (rising : IsRising (ids_of m)) (covered : IsCovered
 module _ (m : List Instance) (rising : IsRising (ids_of m)) (covered : IsCovered m)
     (a b : List Instance) (ids other : List Id) (has : HasExecuted m a ids)
     (has' : HasExecuted m b other) where
-  in_whole : IsLawfulBeginning m ids
-  in_whole = IsLawfulBeginning-in_more a m rising has.within ids has.begins
+  in_whole : IsLawfulPrefix m ids
+  in_whole = IsLawfulPrefix-in_more a m rising has.within ids has.begins
 
-  in_whole' : IsLawfulBeginning m other
-  in_whole' = IsLawfulBeginning-in_more b m rising has'.within other has'.begins
+  in_whole' : IsLawfulPrefix m other
+  in_whole' = IsLawfulPrefix-in_more b m rising has'.within other has'.begins
 
   commands : commands_in a ids ≡ commands_in m ids
-  commands = commands-beginning a m rising has.within ids has.begins
+  commands = commands-prefix a m rising has.within ids has.begins
 
   commands' : commands_in b other ≡ commands_in m other
-  commands' = commands-beginning b m rising has'.within other has'.begins
+  commands' = commands-prefix b m rising has'.within other has'.begins
 
   pub final-replicas : ((x : Id) → Contains ids x ↔ Contains other x) → (c : Contents)
       → (execute (commands_in a ids) c).final ≡ (execute (commands_in b other) c).final
   final-replicas same c =
       ap (λ os. (execute os c).final) commands
-      ∙ sym (final-beginnings m rising covered ids other in_whole in_whole' same c)
+      ∙ sym (final-prefixes m rising covered ids other in_whole in_whole' same c)
       ∙ sym (ap (λ os. (execute os c).final) commands')
 
   module _ (c : Contents) (i j : ℕ) (x : Id) (p : slice_get ids i ≡ Some x)
@@ -193,8 +193,8 @@ module _ (m : List Instance) (rising : IsRising (ids_of m)) (covered : IsCovered
         (Contains-append_left ids in_whole.0 x (Contains-slice_get ids i x p)) in
         let at = slice_get-from_Contains whole.0 x (whole.1.whole x ready) in
         ap (λ os. slice_get (execute os c).replies i) commands
-        ∙ reply-beginning m rising covered ids in_whole.0 whole.0 in_whole.1 whole.1 c i at.0 x p
+        ∙ reply-prefix m rising covered ids in_whole.0 whole.0 in_whole.1 whole.1 c i at.0 x p
         at.1
-        ∙ sym (reply-beginning m rising covered other in_whole'.0 whole.0 in_whole'.1 whole.1 c j
+        ∙ sym (reply-prefix m rising covered other in_whole'.0 whole.0 in_whole'.1 whole.1 c j
         at.0 x q at.1)
         ∙ sym (ap (λ os. slice_get (execute os c).replies j) commands')

@@ -7,7 +7,7 @@ use Rattle.epx_types.specs.declared.id.Id.{Id}
 use Rattle.epx_types.specs.Instances.{Instance}
 use Rattle.epx_types.specs.Conflicts.{Conflict}
 use Rattle.epx_types.specs.LawfulOrders.{Before, IsLawful}
-use Rattle.epx_types.specs.LawfulBeginnings.{IsLawfulBeginning}
+use Rattle.epx_types.specs.LawfulPrefixes.{IsLawfulPrefix}
 use Rattle.epx_types.specs.Reaching.{Reaches}
 use Rattle.epx_types.proofs.graph.ReachingDecisionLemmas.{Reaches-cases}
 use Rattle.epx_types.proofs.graph.ReachingLemmas.{IsReady-reached}
@@ -36,9 +36,9 @@ lower_first m ids lawful d e in_d in_e h there l =
           })
     ]
 
--- so a beginning keeps the time that the map respects
+-- so a prefix keeps the time that the map respects
 pub time_kept : (m : List Instance) (earlier : Id → Id → Bool) → RespectsTime m earlier
-    → (ids : List Id) → IsLawfulBeginning m ids → (d e : Instance) → Contains m d → Contains m e
+    → (ids : List Id) → IsLawfulPrefix m ids → (d e : Instance) → Contains m d → Contains m e
     → Conflict d.ops e.ops → earlier d.id e.id ≡ true → Contains ids e.id → Before ids d.id e.id
 time_kept m earlier respects ids (rest, lawful) d e in_d in_e conflict precedes h =
     let apart = respects d e in_d in_e conflict precedes in

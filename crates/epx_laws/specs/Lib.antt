@@ -9,7 +9,7 @@ pub mod LevelLaws
 pub mod PieceLaws
 pub mod DoneLaws
 pub mod GrowthLaws
-pub mod BeginningLaws
+pub mod PrefixLaws
 pub mod ReplicaLaws
 pub mod TimeLaws
 pub mod AlgorithmLaws

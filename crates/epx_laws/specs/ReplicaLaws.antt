@@ -7,24 +7,24 @@ use Rattle.epx_types.specs.CommittedMap.{ids_of, commands_in}
 use Rattle.epx_types.specs.Contents.{Contents}
 use Rattle.epx_types.specs.Execution.{execute}
 use Rattle.epx_types.specs.Conflicts.{IsCovered}
-use Rattle.epx_types.specs.LawfulBeginnings.{IsLawfulBeginning}
+use Rattle.epx_types.specs.LawfulPrefixes.{IsLawfulPrefix}
 use Rattle.epx_laws.specs.GrowthLaws.{IsWithin}
 
--- a beginning of a lawful order of a map is one of every map that contains it: what a replica has
+-- a prefix of a lawful order of a map is one of every map that contains it: what a replica has
 -- executed stays lawful, whatever is committed later
-abbrev pub BeginningsStay : Type 0
-BeginningsStay = (m more : List Instance) → IsRising (ids_of more) → IsWithin m more
-    → (ids : List Id) → IsLawfulBeginning m ids → IsLawfulBeginning more ids
+abbrev pub PrefixesStay : Type 0
+PrefixesStay = (m more : List Instance) → IsRising (ids_of more) → IsWithin m more
+    → (ids : List Id) → IsLawfulPrefix m ids → IsLawfulPrefix more ids
 
 -- each part of a covered map is covered
 abbrev pub PartsAreCovered : Type 0
 PartsAreCovered = (m more : List Instance) → IsRising (ids_of more) → IsWithin m more
     → IsCovered more → IsCovered m
 
--- a replica knows a part of the map m, and has executed a beginning of a lawful order of that part
+-- a replica knows a part of the map m, and has executed a prefix of a lawful order of that part
 pub record HasExecuted (m known : List Instance) (ids : List Id) : Type 0 where
   pub within : IsWithin known m
-  pub begins : IsLawfulBeginning known ids
+  pub begins : IsLawfulPrefix known ids
 
 -- two replicas that know parts of one covered map gave the same reply to each instance that both
 -- have executed

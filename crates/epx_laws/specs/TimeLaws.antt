@@ -5,7 +5,7 @@ use Rattle.epx_types.specs.Instances.{Instance}
 use Rattle.epx_types.specs.Conflicts.{Conflict}
 use Rattle.epx_types.specs.Reaching.{Reaches}
 use Rattle.epx_types.specs.LawfulOrders.{Before, IsLawful}
-use Rattle.epx_types.specs.LawfulBeginnings.{IsLawfulBeginning}
+use Rattle.epx_types.specs.LawfulPrefixes.{IsLawfulPrefix}
 
 -- an instance comes after each one that it reaches and that has a lower sequence number
 abbrev pub LowerSequenceComesFirst : Type 0
@@ -24,5 +24,5 @@ RespectsTime m earlier = (d e : Instance) → Contains m d → Contains m e → 
 -- then who has executed the later of the two has executed the earlier before it
 abbrev pub TimeIsKept : Type 0
 TimeIsKept = (m : List Instance) (earlier : Id → Id → Bool) → RespectsTime m earlier
-    → (ids : List Id) → IsLawfulBeginning m ids → (d e : Instance) → Contains m d → Contains m e
+    → (ids : List Id) → IsLawfulPrefix m ids → (d e : Instance) → Contains m d → Contains m e
     → Conflict d.ops e.ops → earlier d.id e.id ≡ true → Contains ids e.id → Before ids d.id e.id

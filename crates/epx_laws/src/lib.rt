@@ -4,7 +4,7 @@
 
 pub mod agreement;
 pub mod algorithm;
-pub mod beginnings;
+pub mod prefixes;
 pub mod commands;
 pub mod comparisons;
 pub mod conflicts;

@@ -1,10 +1,10 @@
 //! Laws of replicas that execute what they know of one map, while others know more.
-ghost use Rattle.epx_laws.specs.ReplicaLaws.{BeginningsStay, PartsAreCovered};
+ghost use Rattle.epx_laws.specs.ReplicaLaws.{PrefixesStay, PartsAreCovered};
 ghost use Rattle.epx_laws.specs.ReplicaLaws.{ReplicasReplyAlike, ReplicasStoreAlike};
 
 /// What a replica has executed stays lawful, whatever is committed later.
-pub fn beginnings_stay()
-    ensures { BeginningsStay }
+pub fn prefixes_stay()
+    ensures { PrefixesStay }
 {}
 
 /// Each part of a covered map is covered.

@@ -114,17 +114,17 @@ lines_are bs = record {
 -- ---- no other list of lines satisfies the description
 
 -- what is before the first line feed and what is after it are unique
-first_feed_is_one : (l m after rest : List ℕ) → ¬ Contains l 10 → ¬ Contains m 10
+first_feed_is_unique : (l m after rest : List ℕ) → ¬ Contains l 10 → ¬ Contains m 10
     → l ++ 10 ∷ after ≡ m ++ 10 ∷ rest → (l ≡ m) × (after ≡ rest)
-first_feed_is_one [] [] after rest p q e = (refl, cc)
-first_feed_is_one [] (y ∷ m) after rest p q e = let same : y ≡ 10 = cc in
+first_feed_is_unique [] [] after rest p q e = (refl, cc)
+first_feed_is_unique [] (y ∷ m) after rest p q e = let same : y ≡ 10 = cc in
     absurd (q (subst (Contains (y ∷ m)) same (Contains-head y m)))
-first_feed_is_one (x ∷ l) [] after rest p q e = let same : x ≡ 10 = cc in
+first_feed_is_unique (x ∷ l) [] after rest p q e = let same : x ≡ 10 = cc in
     absurd (p (subst (Contains (x ∷ l)) same (Contains-head x l)))
-first_feed_is_one (x ∷ l) (y ∷ m) after rest p q e =
+first_feed_is_unique (x ∷ l) (y ∷ m) after rest p q e =
     let first : x ≡ y = cc in
     let more : l ++ 10 ∷ after ≡ m ++ 10 ∷ rest = cc in
-    let both = first_feed_is_one l m after rest (λ h. p (Contains-cons x l 10 h))
+    let both = first_feed_is_unique l m after rest (λ h. p (Contains-cons x l 10 h))
     (λ h. q (Contains-cons y m 10 h)) more in
     (ap₂ (λ z zs. z ∷ zs) first both.0, both.1)
 
@@ -132,17 +132,17 @@ some_closed : (l : List ℕ) (ls : List (List ℕ)) → with_line_feeds (l ∷ l
 some_closed [] ls e = cc
 some_closed (x ∷ l) ls e = cc
 
-closed_is_one : (ls ms : List (List ℕ)) → All (λ l. ¬ Contains l 10) ls
+closed_is_unique : (ls ms : List (List ℕ)) → All (λ l. ¬ Contains l 10) ls
     → All (λ l. ¬ Contains l 10) ms → with_line_feeds ls ≡ with_line_feeds ms → ls ≡ ms
-closed_is_one [] [] p q e = refl
-closed_is_one [] (m ∷ ms) p q e = absurd (some_closed m ms (sym e))
-closed_is_one (l ∷ ls) [] p q e = absurd (some_closed l ls e)
-closed_is_one (l ∷ ls) (m ∷ ms) p q e =
+closed_is_unique [] [] p q e = refl
+closed_is_unique [] (m ∷ ms) p q e = absurd (some_closed m ms (sym e))
+closed_is_unique (l ∷ ls) [] p q e = absurd (some_closed l ls e)
+closed_is_unique (l ∷ ls) (m ∷ ms) p q e =
     let regrouped = sym (append_assoc l (10 ∷ []) (with_line_feeds ls)) ∙ e
     ∙ append_assoc m (10 ∷ []) (with_line_feeds ms) in
-    let both = first_feed_is_one l m (with_line_feeds ls) (with_line_feeds ms)
+    let both = first_feed_is_unique l m (with_line_feeds ls) (with_line_feeds ms)
     (p 0 l (omega arith)) (q 0 m (omega arith)) regrouped in
-    let more = closed_is_one ls ms (λ k d within. p (suc k) d (omega arith))
+    let more = closed_is_unique ls ms (λ k d within. p (suc k) d (omega arith))
     (λ k d within. q (suc k) d (omega arith)) both.1 in
     ap₂ (λ x xs. x ∷ xs) both.0 more
 
@@ -150,4 +150,4 @@ pub lines_are_one : (bs : List ℕ) (lines : List (List ℕ)) → AreLinesOf bs 
     → lines ≡ lines_of bs
 lines_are_one bs lines h =
     let these = lines_are bs in
-    closed_is_one lines (lines_of bs) h.unbroken these.unbroken (h.whole ∙ sym these.whole)
+    closed_is_unique lines (lines_of bs) h.unbroken these.unbroken (h.whole ∙ sym these.whole)

@@ -16,13 +16,13 @@ AcceptedIsNotRefused = (logs : List (List ℕ)) (m : List Instance) (f : Fault) 
     → f ≢ Memory → ¬ IsRefusal logs f
 
 -- logs have at most one refusal, except running out of memory
-abbrev pub RefusalIsOne : Type 0
-RefusalIsOne = (logs : List (List ℕ)) (f g : Fault) → f ≢ Memory → g ≢ Memory → IsRefusal logs f
+abbrev pub RefusalIsUnique : Type 0
+RefusalIsUnique = (logs : List (List ℕ)) (f g : Fault) → f ≢ Memory → g ≢ Memory → IsRefusal logs f
     → IsRefusal logs g → f ≡ g
 
 -- accepted logs commit one map
-abbrev pub AcceptedMapIsOne : Type 0
-AcceptedMapIsOne = (logs : List (List ℕ)) (m n : List Instance) → IsAccepted logs m
+abbrev pub AcceptedMapIsUnique : Type 0
+AcceptedMapIsUnique = (logs : List (List ℕ)) (m n : List Instance) → IsAccepted logs m
     → IsAccepted logs n → m ≡ n
 
 -- every list of logs is accepted or refused

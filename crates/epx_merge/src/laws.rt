@@ -1,5 +1,5 @@
 //! Laws of refusals and accepted logs: each function's contract is a law.
-ghost use Rattle.epx_merge.specs.LogLaws.{AcceptedIsNotRefused, RefusalIsOne, AcceptedMapIsOne};
+ghost use Rattle.epx_merge.specs.LogLaws.{AcceptedIsNotRefused, RefusalIsUnique, AcceptedMapIsUnique};
 ghost use Rattle.epx_merge.specs.LogLaws.{LogsHaveAnAnswer, LinesHaveDistinctPlaces};
 ghost use Rattle.epx_merge.specs.LogLaws.{NamedBadLineIsLeast};
 
@@ -9,13 +9,13 @@ pub fn accepted_is_not_refused()
 {}
 
 /// Logs have at most one refusal, except running out of memory.
-pub fn refusal_is_one()
-    ensures { RefusalIsOne }
+pub fn refusal_is_unique()
+    ensures { RefusalIsUnique }
 {}
 
 /// Accepted logs commit one map.
-pub fn accepted_map_is_one()
-    ensures { AcceptedMapIsOne }
+pub fn accepted_map_is_unique()
+    ensures { AcceptedMapIsUnique }
 {}
 
 /// Every list of logs is accepted or refused.

@@ -22,7 +22,7 @@ pub enum Task {
     Audit,
     /// Say whether a list of instances is a lawful order.
     Check,
-    /// Say whether a list of instances is the beginning of a lawful order.
+    /// Say whether a list of instances is a prefix of a lawful order.
     CheckPrefix,
     /// Say what the logs say against each other.
     Compare,

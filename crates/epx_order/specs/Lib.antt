@@ -1,4 +1,4 @@
 pub use Rattle.epx_ranking.specs.OrderFaults
 pub use Rattle.epx_ranking.specs.OrderFaultLaws
-pub use Rattle.epx_ranking.specs.BeginningFaults
-pub use Rattle.epx_ranking.specs.BeginningFaultLaws
+pub use Rattle.epx_ranking.specs.PrefixFaults
+pub use Rattle.epx_ranking.specs.PrefixFaultLaws

@@ -10,7 +10,7 @@ use Rattle.epx_types.specs.Components.{InOneComponent}
 use Rattle.epx_graph.specs.Graphs.{DependencyGraph, edges_of}
 use Rattle.epx_graph.specs.GraphOf.{IsGraphOf}
 use Rattle.epx_graph.specs.NodePaths.{NodeReaches}
-use Rattle.epx_graph.proofs.GraphNodeLemmas.{node_id, node_is_one}
+use Rattle.epx_graph.proofs.GraphNodeLemmas.{node_id, node_is_unique}
 use Rattle.epx_graph.proofs.MapPathLemmas.{node_reaches, reached_node}
 use Rattle.epx_components.specs.declared.node_ranks.NodeRank.{NodeRank}
 use Rattle.epx_components.specs.NodeComponents.{InOneNodeComponent, IsNodeLeader}
@@ -49,7 +49,7 @@ module _ (m : List Instance) (g : DependencyGraph) (is : IsGraphOf m g) (k : ℕ
     (
       leader,
       in_component s.leader leader to rank.leader.member,
-      λ same. other (node_is_one g is.graph s.leader k x (to ∙ ap Some same) at),
+      λ same. other (node_is_unique g is.graph s.leader k x (to ∙ ap Some same) at),
     ),
   )
 
@@ -68,7 +68,7 @@ module _ (m : List Instance) (g : DependencyGraph) (is : IsGraphOf m g) (k : ℕ
           (
             y.0,
             in_component led.node y.0 y.1 (member.1, member.0),
-            λ same. led.other (node_is_one g is.graph led.node k x (y.1 ∙ ap Some same) at),
+            λ same. led.other (node_is_unique g is.graph led.node k x (y.1 ∙ ap Some same) at),
           ),
         )
 

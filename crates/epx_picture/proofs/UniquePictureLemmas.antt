@@ -13,7 +13,7 @@ use Rattle.epx_types.proofs.graph.ReachingLemmas.{IsLeader-unique, IsDepth-uniqu
 use Rattle.epx_picture.specs.declared.node_box.NodeBox.{NodeBox}
 use Rattle.epx_picture.specs.NodeBoxes.{IsCluster, IsBoxOf}
 use Rattle.epx_picture.specs.PictureText.{picture_text}
-use Rattle.epx_picture.specs.PictureLaws.{PictureIsOne}
+use Rattle.epx_picture.specs.PictureLaws.{PictureIsUnique}
 
 same_marks : (a b : Bool) → (IsTrue a → IsTrue b) → (IsTrue b → IsTrue a) → a ≡ b
 same_marks true true there back = refl
@@ -64,8 +64,8 @@ same_boxes m (d ∷ ds) (f ∷ fs) e p q =
     (same_boxes m ds fs rest (λ x h. p x (Contains-cons d ds x h))
     (λ x h. q x (Contains-cons f fs x h)))
 
-pub picture_is_one : PictureIsOne
-picture_is_one m text other p q =
+pub picture_is_unique : PictureIsUnique
+picture_is_unique m text other p q =
     let committed : (d : NodeBox) → Contains p.node_boxes d
     → IsCommitted m d.id = λ d h. subst (λ ids. Contains ids d.id) p.named
     (Contains-map (λ (d : NodeBox). d.id) p.node_boxes d h) in

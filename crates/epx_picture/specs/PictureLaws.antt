@@ -10,6 +10,6 @@ abbrev pub PictureExists : Type 0
 PictureExists = (m : List Instance) → IsRising (ids_of m) → (text : List ℕ) × IsPicture m text
 
 -- a committed map has at most one picture
-abbrev pub PictureIsOne : Type 0
-PictureIsOne = (m : List Instance) (text other : List ℕ) → IsPicture m text → IsPicture m other
+abbrev pub PictureIsUnique : Type 0
+PictureIsUnique = (m : List Instance) (text other : List ℕ) → IsPicture m text → IsPicture m other
     → text ≡ other

@@ -1,6 +1,6 @@
 //! Laws of pictures: the definition means what it should. Each function has an empty body, and its
 //! contract is the law.
-ghost use Rattle.epx_picture.specs.PictureLaws.{PictureExists, PictureIsOne};
+ghost use Rattle.epx_picture.specs.PictureLaws.{PictureExists, PictureIsUnique};
 
 /// A committed map has a picture.
 pub fn picture_exists()
@@ -8,6 +8,6 @@ pub fn picture_exists()
 {}
 
 /// A committed map has at most one picture.
-pub fn picture_is_one()
-    ensures { PictureIsOne }
+pub fn picture_is_unique()
+    ensures { PictureIsUnique }
 {}

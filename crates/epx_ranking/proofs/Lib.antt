@@ -6,8 +6,8 @@ pub mod LeftOutLemmas
 pub mod NodeListLemmas
 pub mod ListedNodeLemmas
 pub mod LawfulOrderLemmas
-pub mod BeginningLemmas
+pub mod PrefixLemmas
 pub mod NodeFaultLemmas
 pub mod UniqueFaultLemmas
 pub mod OrderFaultLemmas
-pub mod BeginningFaultLemmas
+pub mod PrefixFaultLemmas

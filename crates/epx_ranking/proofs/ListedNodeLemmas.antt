@@ -9,11 +9,11 @@ use Rattle.epx_types.specs.Instances.{Instance}
 use Rattle.epx_types.proofs.lists.ListPositionLemmas.{Contains-slice_get, slice_get-from_Contains}
 use Rattle.epx_graph.specs.Graphs.{DependencyGraph}
 use Rattle.epx_graph.specs.GraphOf.{IsGraphOf}
-use Rattle.epx_graph.proofs.GraphNodeLemmas.{node_is_one}
+use Rattle.epx_graph.proofs.GraphNodeLemmas.{node_is_unique}
 use Rattle.epx_graph.proofs.MapPathLemmas.{committed_count, node_committed, node_of_committed}
 use Rattle.epx_graph.proofs.MapPathLemmas.{node_order}
 use Rattle.epx_ranking.specs.inner.NodeLists.{AreListed, IsListedIfReady, IsListingFault}
-use Rattle.epx_ranking.specs.BeginningFaults.{IsBeginningFault}
+use Rattle.epx_ranking.specs.PrefixFaults.{IsPrefixFault}
 use Rattle.epx_ranking.specs.OrderFaults.{HasAllReady, IsOrderFault, ReadyOnce}
 use Rattle.epx_components.specs.ReadyMarks.{is_marked, AreReadyMarks}
 use Rattle.epx_ranking.specs.declared.order_fault.OrderFault.{OrderFault}
@@ -21,7 +21,7 @@ use Rattle.epx_ranking.specs.declared.order_fault.OrderFault.TheVariants.{Memory
 use Rattle.epx_ranking.specs.declared.order_fault.OrderFault.TheVariants.{Missing, Early, Sequence}
 use Rattle.epx_components.proofs.ReadyMarkLemmas.{ready_from_mark, mark_from_ready}
 
--- a place that is wrong by itself is the fault of the list, as an order and as a beginning
+-- a place that is wrong by itself is the fault of the list, as an order and as a prefix
 pub order_fault_of_place : (m : List Instance) (ids : List Id) (f : OrderFault)
     → IsListingFault m ids f → IsOrderFault m ids f
 order_fault_of_place m ids Memory h = tt
@@ -31,14 +31,14 @@ order_fault_of_place m ids (Missing x) h = absurd h
 order_fault_of_place m ids (Early i) h = absurd h
 order_fault_of_place m ids (Sequence i) h = absurd h
 
-pub beginning_fault_of_place : (m : List Instance) (ids : List Id) (f : OrderFault)
-    → IsListingFault m ids f → IsBeginningFault m ids f
-beginning_fault_of_place m ids Memory h = tt
-beginning_fault_of_place m ids (Stranger i) h = h
-beginning_fault_of_place m ids (Repeat i) h = h
-beginning_fault_of_place m ids (Missing x) h = absurd h
-beginning_fault_of_place m ids (Early i) h = absurd h
-beginning_fault_of_place m ids (Sequence i) h = absurd h
+pub prefix_fault_of_place : (m : List Instance) (ids : List Id) (f : OrderFault)
+    → IsListingFault m ids f → IsPrefixFault m ids f
+prefix_fault_of_place m ids Memory h = tt
+prefix_fault_of_place m ids (Stranger i) h = h
+prefix_fault_of_place m ids (Repeat i) h = h
+prefix_fault_of_place m ids (Missing x) h = absurd h
+prefix_fault_of_place m ids (Early i) h = absurd h
+prefix_fault_of_place m ids (Sequence i) h = absurd h
 
 module _ (m : List Instance) (g : DependencyGraph) (is : IsGraphOf m g) (ids : List Id)
     (nodes : List ℕ) (marks : List Bool) (listed : AreListed g ids (length ids) nodes marks) where
@@ -58,7 +58,7 @@ module _ (m : List Instance) (g : DependencyGraph) (is : IsGraphOf m g) (ids : L
       let i = slice_get-from_Contains ids x h in
       let l = slice_get_within ids i.0 x i.1 in
       (listed.marked k).1
-      (i.0, l, node_is_one g is.graph (get_or nodes i.0 0) k x (listed.each i.0 x l i.1) at)
+      (i.0, l, node_is_unique g is.graph (get_or nodes i.0 0) k x (listed.each i.0 x l i.1) at)
 
   module _ (ready : List Bool) (marked : AreReadyMarks g ready) where
     pub ready_is_listed : ((k : ℕ) → IsListedIfReady ready marks k) → HasAllReady m ids

@@ -10,7 +10,7 @@ use Rattle.std.proofs.lemmas.Option.{slice_get_within, slice_get-get_or}
 use Rattle.epx_types.specs.declared.id.Id.{Id}
 use Rattle.epx_types.specs.Ids.{id_cmp, IsRising}
 use Rattle.epx_types.specs.Instances.{Instance}
-use Rattle.epx_types.specs.LawfulBeginnings.{IsLawfulBeginning}
+use Rattle.epx_types.specs.LawfulPrefixes.{IsLawfulPrefix}
 use Rattle.epx_types.specs.Reaching.{Reaches}
 use Rattle.epx_types.specs.Readiness.{IsReady}
 use Rattle.epx_types.proofs.committed.AgreementLemmas.{IsRising-same}
@@ -24,8 +24,8 @@ use Rattle.epx_graph.proofs.MapPathLemmas.{committed_count, node_committed, node
 use Rattle.epx_graph.proofs.MapPathLemmas.{node_of_committed, node_reaches}
 use Rattle.epx_ranking.specs.inner.Ends.{AreEnds, AreRaised, IsEndBelow}
 use Rattle.epx_ranking.specs.inner.NodeLists.{AreListed, AreListedReady}
-use Rattle.epx_ranking.specs.BeginningFaults.{IsTooEarlyAt, IsAfterGapAt, BeginsInOrder}
-use Rattle.epx_ranking.specs.BeginningFaults.{IsOutOfSequenceAt, IsBeginningFault}
+use Rattle.epx_ranking.specs.PrefixFaults.{IsTooEarlyAt, IsAfterGapAt, BeginsInOrder}
+use Rattle.epx_ranking.specs.PrefixFaults.{IsOutOfSequenceAt, IsPrefixFault}
 use Rattle.epx_ranking.specs.OrderFaults.{IsOvertakenAt}
 use Rattle.epx_components.specs.Partitions.{ComponentParts, IsPartitionOf, component_of}
 use Rattle.epx_components.specs.Partitions.{number_for}
@@ -38,7 +38,7 @@ use Rattle.epx_ranking.specs.declared.check.sequence_key.SequenceKey.{SequenceKe
 use Rattle.epx_ranking.specs.declared.order_fault.OrderFault.{OrderFault}
 use Rattle.epx_ranking.specs.declared.order_fault.OrderFault.TheVariants.{Memory, Stranger, Repeat}
 use Rattle.epx_ranking.specs.declared.order_fault.OrderFault.TheVariants.{Missing, Early, Sequence}
-use Rattle.epx_ranking.proofs.BeginningLemmas.{beginning_from_order}
+use Rattle.epx_ranking.proofs.PrefixLemmas.{prefix_from_order}
 use Rattle.epx_ranking.proofs.ListedNodeLemmas.{listed_from_mark, mark_from_listed}
 use Rattle.epx_ranking.proofs.SequenceKeyLemmas.{least_before}
 use Rattle.epx_components.proofs.NodePathLemmas.{reach_falls, reaches_on}
@@ -435,14 +435,14 @@ module _ (m : List Instance) (g : DependencyGraph) (is : IsGraphOf m g) (p : Com
       λ wrong. (none i l).1 (node_sequence_from left_out left i wrong),
     )
 
-    pub beginning_from_nodes : AreNodesInOrder m p left_out below nodes (length nodes)
-        → IsLawfulBeginning m ids
-    beginning_from_nodes none = beginning_from_order m
+    pub prefix_from_nodes : AreNodesInOrder m p left_out below nodes (length nodes)
+        → IsLawfulPrefix m ids
+    prefix_from_nodes none = prefix_from_order m
         (subst IsRising is.committed is.graph.committed_rise) ids ready.once
         (subst (BeginsInOrder m ids) listed.whole (order_from_nodes (length nodes) none))
 
     pub fault_from_place : (f : OrderFault) → IsNodeFault m p left_out below nodes f
-        → IsBeginningFault m ids f
+        → IsPrefixFault m ids f
     fault_from_place Memory h = tt
     fault_from_place (Stranger i) h = absurd h
     fault_from_place (Repeat i) h = absurd h

@@ -9,7 +9,7 @@ use Rattle.epx_types.specs.declared.id.Id.{Id}
 use Rattle.epx_types.specs.Instances.{Instance}
 use Rattle.epx_types.specs.Readiness.{IsReady}
 use Rattle.epx_graph.specs.Graphs.{DependencyGraph, IsGraph}
-use Rattle.epx_graph.proofs.GraphNodeLemmas.{node_is_one}
+use Rattle.epx_graph.proofs.GraphNodeLemmas.{node_is_unique}
 use Rattle.epx_ranking.specs.inner.NodeLists.{AreListed}
 use Rattle.epx_ranking.specs.OrderFaults.{ReadyOnce}
 use Rattle.epx_components.specs.ReadyMarks.{is_marked}
@@ -31,7 +31,7 @@ module _ (g : DependencyGraph) (is : IsGraph g) (ids : List Id) (n : ℕ) (nodes
 
   pub mark_from_earlier : (i : ℕ) → i < n → slice_get ids i ≡ Some x → IsTrue (is_marked marks k)
   mark_from_earlier i l there =
-      (old.marked k).1 (i, l, node_is_one g is (get_or nodes i 0) k x (old.each i x l there) to)
+      (old.marked k).1 (i, l, node_is_unique g is (get_or nodes i 0) k x (old.each i x l there) to)
 
   pub listed_step : AreListed g ids (n + 1) (nodes ++ k ∷ []) (set marks k true)
   listed_step = record {

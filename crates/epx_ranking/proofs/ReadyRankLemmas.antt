@@ -12,7 +12,7 @@ use Rattle.epx_types.specs.Readiness.{IsReady}
 use Rattle.epx_types.proofs.lists.MembershipLemmas.{Contains-nil}
 use Rattle.epx_graph.specs.Graphs.{DependencyGraph, IsGraph}
 use Rattle.epx_graph.specs.GraphOf.{IsGraphOf}
-use Rattle.epx_graph.proofs.GraphNodeLemmas.{node_is_one}
+use Rattle.epx_graph.proofs.GraphNodeLemmas.{node_is_unique}
 use Rattle.epx_graph.proofs.MapPathLemmas.{node_of_committed}
 use Rattle.epx_components.specs.Ranks.{ranked}
 use Rattle.epx_ranking.specs.inner.ReadyRanks.{AreReadyRanks}
@@ -79,7 +79,7 @@ module _ (m : List Instance) (g : DependencyGraph) where
         ];
     once = all_pairs_push (λ a b. a.id ≢ b.id) ranks r old.once (λ i d l same.
         let k = old.node (get_or ranks i d) (Contains-get_or ranks i d l) in
-        omega (arith, k.1, node_is_one g is k.0 n r.id (k.2 ∙ ap Some same) at));
+        omega (arith, k.1, node_is_unique g is k.0 n r.id (k.2 ∙ ap Some same) at));
   }
 
   -- the ranks of all committed nodes are those of all ready instances

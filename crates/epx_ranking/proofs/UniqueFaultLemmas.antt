@@ -65,49 +65,49 @@ module _ (m : List Instance) (ids : List Id) where
     not_in_order p q l (inl early) order = (order p l).0 early
     not_in_order p q l (inr overtaken) order = (order p l).1 overtaken
 
-  pub fault_is_one : (f g : OrderFault) → f ≢ Memory → g ≢ Memory → IsOrderFault m ids f
+  pub fault_is_unique : (f g : OrderFault) → f ≢ Memory → g ≢ Memory → IsOrderFault m ids f
       → IsOrderFault m ids g → f ≡ g
-  fault_is_one Memory g nf ng a b = absurd (nf refl)
-  fault_is_one (Stranger i) Memory nf ng a b = absurd (ng refl)
-  fault_is_one (Stranger i) (Stranger j) nf ng a b =
+  fault_is_unique Memory g nf ng a b = absurd (nf refl)
+  fault_is_unique (Stranger i) Memory nf ng a b = absurd (ng refl)
+  fault_is_unique (Stranger i) (Stranger j) nf ng a b =
       ap Stranger (one_place i j (inl a.0) a.1 (inl b.0) b.1)
-  fault_is_one (Stranger i) (Repeat j) nf ng a b =
+  fault_is_unique (Stranger i) (Repeat j) nf ng a b =
       absurd (not_both j (subst (IsStrangerAt m ids) (one_place i j (inl a.0) a.1 (inr b.0) b.1)
       a.0) b.0)
-  fault_is_one (Stranger i) (Missing y) nf ng a b = absurd (not_whole i (inl a.0) b.0)
-  fault_is_one (Stranger i) (Early j) nf ng a b = absurd (not_whole i (inl a.0) b.0.0)
-  fault_is_one (Stranger i) (Sequence j) nf ng a b = absurd (not_whole i (inl a.0) b.0.0)
-  fault_is_one (Repeat i) Memory nf ng a b = absurd (ng refl)
-  fault_is_one (Repeat i) (Stranger j) nf ng a b =
+  fault_is_unique (Stranger i) (Missing y) nf ng a b = absurd (not_whole i (inl a.0) b.0)
+  fault_is_unique (Stranger i) (Early j) nf ng a b = absurd (not_whole i (inl a.0) b.0.0)
+  fault_is_unique (Stranger i) (Sequence j) nf ng a b = absurd (not_whole i (inl a.0) b.0.0)
+  fault_is_unique (Repeat i) Memory nf ng a b = absurd (ng refl)
+  fault_is_unique (Repeat i) (Stranger j) nf ng a b =
       absurd (not_both i (subst (IsStrangerAt m ids) (one_place j i (inl b.0) b.1 (inr a.0) a.1)
       b.0) a.0)
-  fault_is_one (Repeat i) (Repeat j) nf ng a b =
+  fault_is_unique (Repeat i) (Repeat j) nf ng a b =
       ap Repeat (one_place i j (inr a.0) a.1 (inr b.0) b.1)
-  fault_is_one (Repeat i) (Missing y) nf ng a b = absurd (not_whole i (inr a.0) b.0)
-  fault_is_one (Repeat i) (Early j) nf ng a b = absurd (not_whole i (inr a.0) b.0.0)
-  fault_is_one (Repeat i) (Sequence j) nf ng a b = absurd (not_whole i (inr a.0) b.0.0)
-  fault_is_one (Missing x) Memory nf ng a b = absurd (ng refl)
-  fault_is_one (Missing x) (Stranger j) nf ng a b = absurd (not_whole j (inl b.0) a.0)
-  fault_is_one (Missing x) (Repeat j) nf ng a b = absurd (not_whole j (inr b.0) a.0)
-  fault_is_one (Missing x) (Missing y) nf ng a b =
+  fault_is_unique (Repeat i) (Missing y) nf ng a b = absurd (not_whole i (inr a.0) b.0)
+  fault_is_unique (Repeat i) (Early j) nf ng a b = absurd (not_whole i (inr a.0) b.0.0)
+  fault_is_unique (Repeat i) (Sequence j) nf ng a b = absurd (not_whole i (inr a.0) b.0.0)
+  fault_is_unique (Missing x) Memory nf ng a b = absurd (ng refl)
+  fault_is_unique (Missing x) (Stranger j) nf ng a b = absurd (not_whole j (inl b.0) a.0)
+  fault_is_unique (Missing x) (Repeat j) nf ng a b = absurd (not_whole j (inr b.0) a.0)
+  fault_is_unique (Missing x) (Missing y) nf ng a b =
       ap Missing (UpTo-antisymm x y (a.3 y b.1 b.2) (b.3 x a.1 a.2))
-  fault_is_one (Missing x) (Early j) nf ng a b = absurd (a.2 (b.0.1 x a.1))
-  fault_is_one (Missing x) (Sequence j) nf ng a b = absurd (a.2 (b.0.1 x a.1))
-  fault_is_one (Early i) Memory nf ng a b = absurd (ng refl)
-  fault_is_one (Early i) (Stranger j) nf ng a b = absurd (not_whole j (inl b.0) a.0.0)
-  fault_is_one (Early i) (Repeat j) nf ng a b = absurd (not_whole j (inr b.0) a.0.0)
-  fault_is_one (Early i) (Missing y) nf ng a b = absurd (b.2 (a.0.1 y b.1))
-  fault_is_one (Early i) (Early j) nf ng a b =
+  fault_is_unique (Missing x) (Early j) nf ng a b = absurd (a.2 (b.0.1 x a.1))
+  fault_is_unique (Missing x) (Sequence j) nf ng a b = absurd (a.2 (b.0.1 x a.1))
+  fault_is_unique (Early i) Memory nf ng a b = absurd (ng refl)
+  fault_is_unique (Early i) (Stranger j) nf ng a b = absurd (not_whole j (inl b.0) a.0.0)
+  fault_is_unique (Early i) (Repeat j) nf ng a b = absurd (not_whole j (inr b.0) a.0.0)
+  fault_is_unique (Early i) (Missing y) nf ng a b = absurd (b.2 (a.0.1 y b.1))
+  fault_is_unique (Early i) (Early j) nf ng a b =
       ap Early (one_order_place i j (inl a.1) a.2 (inl b.1) b.2)
-  fault_is_one (Early i) (Sequence j) nf ng a b =
+  fault_is_unique (Early i) (Sequence j) nf ng a b =
       absurd (b.2 (subst (IsEarlyAt m ids) (one_order_place i j (inl a.1) a.2 (inr b.1) b.3) a.1))
-  fault_is_one (Sequence i) Memory nf ng a b = absurd (ng refl)
-  fault_is_one (Sequence i) (Stranger j) nf ng a b = absurd (not_whole j (inl b.0) a.0.0)
-  fault_is_one (Sequence i) (Repeat j) nf ng a b = absurd (not_whole j (inr b.0) a.0.0)
-  fault_is_one (Sequence i) (Missing y) nf ng a b = absurd (b.2 (a.0.1 y b.1))
-  fault_is_one (Sequence i) (Early j) nf ng a b =
+  fault_is_unique (Sequence i) Memory nf ng a b = absurd (ng refl)
+  fault_is_unique (Sequence i) (Stranger j) nf ng a b = absurd (not_whole j (inl b.0) a.0.0)
+  fault_is_unique (Sequence i) (Repeat j) nf ng a b = absurd (not_whole j (inr b.0) a.0.0)
+  fault_is_unique (Sequence i) (Missing y) nf ng a b = absurd (b.2 (a.0.1 y b.1))
+  fault_is_unique (Sequence i) (Early j) nf ng a b =
       absurd (a.2 (subst (IsEarlyAt m ids) (one_order_place j i (inl b.1) b.2 (inr a.1) a.3) b.1))
-  fault_is_one (Sequence i) (Sequence j) nf ng a b =
+  fault_is_unique (Sequence i) (Sequence j) nf ng a b =
       ap Sequence (one_order_place i j (inr a.1) a.3 (inr b.1) b.3)
 
   pub lawful_has_no_fault : (f : OrderFault) → f ≢ Memory → IsLawful m ids → ¬ IsOrderFault m ids f

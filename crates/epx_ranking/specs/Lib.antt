@@ -1,5 +1,5 @@
 pub mod OrderFaults
 pub mod OrderFaultLaws
-pub mod BeginningFaults
-pub mod BeginningFaultLaws
+pub mod PrefixFaults
+pub mod PrefixFaultLaws
 pub mod inner

@@ -8,9 +8,9 @@ use Rattle.epx_ranking.specs.declared.order_fault.OrderFault.TheVariants.{Memory
 use Rattle.epx_ranking.specs.OrderFaults.{IsOrderFault}
 
 -- a list has at most one fault, except for out of memory
-abbrev pub OrderFaultIsOne : Type 0
-OrderFaultIsOne = (m : List Instance) (ids : List Id) (f g : OrderFault) → f ≢ Memory → g ≢ Memory
-    → IsOrderFault m ids f → IsOrderFault m ids g → f ≡ g
+abbrev pub OrderFaultIsUnique : Type 0
+OrderFaultIsUnique = (m : List Instance) (ids : List Id) (f g : OrderFault)
+    → f ≢ Memory → g ≢ Memory → IsOrderFault m ids f → IsOrderFault m ids g → f ≡ g
 
 -- a lawful order has none
 abbrev pub LawfulOrderHasNoFault : Type 0

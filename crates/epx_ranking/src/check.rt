@@ -1,10 +1,10 @@
 //! Lists of instances, checked against the orders that the protocol allows.
 ghost use Rattle.std.specs.Prelude.{◌≡◌, ◌<◌, List, length, All, MatchResult};
 ghost use Rattle.epx_types.specs.declared.id.Id.{Id};
-ghost use Rattle.epx_types.specs.LawfulBeginnings.{IsLawfulBeginning};
+ghost use Rattle.epx_types.specs.LawfulPrefixes.{IsLawfulPrefix};
 ghost use Rattle.epx_types.specs.LawfulOrders.{IsLawful};
 ghost use Rattle.epx_graph.specs.GraphOf.{IsGraphOf};
-ghost use Rattle.epx_ranking.specs.BeginningFaults.{IsBeginningFault};
+ghost use Rattle.epx_ranking.specs.PrefixFaults.{IsPrefixFault};
 ghost use Rattle.epx_ranking.specs.OrderFaults.{IsOrderFault};
 ghost use Rattle.epx_components.specs.Partitions.{parts, IsPartitionOf};
 ghost use Rattle.epx_ranking.specs.inner.NodeLists.{AreListedReady};
@@ -54,7 +54,7 @@ pub fn check_order(
     check_listed(alloc, merged, graph, &partition, &node_list)
 }
 
-/// Checks that a list is the beginning of an order that the protocol allows, as the list of a
+/// Checks that a list is a prefix of an order that the protocol allows, as the list of a
 /// replica that is still executing. It may lack any ready instances at the end. The time is that
 /// of `check_order`.
 ///
@@ -73,8 +73,8 @@ pub fn check_prefix(
     ids: &[Id],
 ) -> Result<(), OrderFault>
     requires { IsGraphOf merged.now graph.now }
-    ensures { MatchResult result (λ _. IsLawfulBeginning merged.now ids.now)
-        (IsBeginningFault merged.now ids.now) }
+    ensures { MatchResult result (λ _. IsLawfulPrefix merged.now ids.now)
+        (IsPrefixFault merged.now ids.now) }
 {
     let partition = find_components(alloc, graph)?;
     let ready = ready_nodes(alloc, graph, &partition)?;
@@ -82,7 +82,7 @@ pub fn check_prefix(
     check_listed(alloc, merged, graph, &partition, &node_list)
 }
 
-/// Checks that a list of ready instances, each listed once, is the beginning of an order that the
+/// Checks that a list of ready instances, each listed once, is a prefix of an order that the
 /// protocol allows. Otherwise it returns the least position where the order is wrong.
 fn check_listed(
     alloc: Global,
@@ -97,8 +97,8 @@ fn check_listed(
         node_list.now.nodes.items node_list.now.marks.items }
     ensures { (ids : List Id) → AreListedReady merged.now graph.now ids
         node_list.now.nodes.items node_list.now.marks.items
-        → MatchResult result (λ _. IsLawfulBeginning merged.now ids)
-        (IsBeginningFault merged.now ids) }
+        → MatchResult result (λ _. IsLawfulPrefix merged.now ids)
+        (IsPrefixFault merged.now ids) }
 {
     let left_out = find_left_out(alloc, merged, partition, &node_list.marks)?;
     let mut ends = find_ends(alloc, partition, &node_list.nodes)?;

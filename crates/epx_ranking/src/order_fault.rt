@@ -1,7 +1,7 @@
-//! The fault of a list that is not a lawful order, or not the beginning of one.
+//! The fault of a list that is not a lawful order, or not a prefix of one.
 use epx_types::{Id, Memory};
 
-/// Why a list of instances is not a lawful order, or not the beginning of one. A `place` is a
+/// Why a list of instances is not a lawful order, or not a prefix of one. A `place` is a
 /// position in the list, counted from 0.
 #[derive(Clone, Copy, Debug, PartialEq, Eq)]
 pub enum OrderFault {
@@ -11,13 +11,13 @@ pub enum OrderFault {
     Stranger { place: usize },
     /// The instance at this position is also listed at an earlier one.
     Repeat { place: usize },
-    /// This ready instance is not in the list. A beginning may lack any.
+    /// This ready instance is not in the list. A prefix may lack any.
     Missing { id: Id },
     /// The instance at this position reaches another one, outside its component, that is not listed
     /// before it.
     Early { place: usize },
     /// An instance of the same component that belongs after the instance at this position is
-    /// listed before it; or one that belongs before it is left out of a beginning.
+    /// listed before it; or one that belongs before it is left out of a prefix.
     Sequence { place: usize },
 }
 

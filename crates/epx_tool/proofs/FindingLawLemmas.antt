@@ -12,7 +12,7 @@ use Rattle.epx_tool.specs.Verdicts.{IsVerdict, IsPrefixVerdict}
 use Rattle.epx_tool.proofs.CheckLemmas.{verdict-of_logs}
 use Rattle.epx_tool.proofs.CoveredTextLemmas.{covered-from_text}
 use Rattle.epx_tool.proofs.VerdictLemmas.{lawful-from_verdict, lawful_line-from_lawful}
-use Rattle.epx_tool.proofs.VerdictLemmas.{beginning-from_verdict, lawful_line-from_beginning}
+use Rattle.epx_tool.proofs.VerdictLemmas.{lawful_prefix-from_verdict, lawful_line-from_prefix}
 
 -- `line` is the text of what is good; an answer finds something exactly if its text is another
 found_iff_not_good : {Good : Type 0} (Is : List ℕ → Type 0) (line : List ℕ)
@@ -44,9 +44,9 @@ check_finds_not_lawful = record {
       (verdict-of_logs IsVerdict list ids is logs m accepted text
       (said.1.0, said.1.1, said.1.2.0))
       said.1.2.1;
-  beginning = λ list logs ids m is accepted found text said. found_iff_not_good
-      (IsPrefixVerdict m ids) lawful_line (beginning-from_verdict m ids)
-      (lawful_line-from_beginning m ids) found text
+  prefix = λ list logs ids m is accepted found text said. found_iff_not_good
+      (IsPrefixVerdict m ids) lawful_line (lawful_prefix-from_verdict m ids)
+      (lawful_line-from_prefix m ids) found text
       (verdict-of_logs IsPrefixVerdict list ids is logs m accepted text
       (said.1.0, said.1.1, said.1.2.0))
       said.1.2.1;

@@ -21,7 +21,7 @@ mod InputAnswerLemmas
 mod CoveredTextLemmas
 mod SameLineLemmas
 mod LawfulListLemmas
-mod LawfulBeginningLemmas
+mod LawfulPrefixLemmas
 mod ReportRangeLemmas
 mod ResumableAnswersLemmas
 mod FindingLemmas

@@ -19,14 +19,14 @@ use Rattle.epx_tool.specs.OrderText.{IsOrderText, order_text}
 use Rattle.epx_tool.specs.LevelText.{IsLevelText, level_text}
 use Rattle.epx_tool.specs.AuditText.{IsAuditText}
 use Rattle.epx_report.specs.ViewLines.{uncovered_line}
-use Rattle.epx_picture.proofs.UniquePictureLemmas.{picture_is_one}
-use Rattle.epx_audit.proofs.UniquePairLemmas.{uncovered_not_covered, least_uncovered_is_one}
+use Rattle.epx_picture.proofs.UniquePictureLemmas.{picture_is_unique}
+use Rattle.epx_audit.proofs.UniquePairLemmas.{uncovered_not_covered, least_uncovered_is_unique}
 use Rattle.epx_compare.proofs.ComparisonAnswerLemmas.{compares_unique}
 use Rattle.epx_tool.specs.declared.question.MapText.{MapText}
 use Rattle.epx_tool.specs.declared.question.MapText.TheVariants.{Report, Order, Levels, Audit}
 use Rattle.epx_tool.specs.declared.question.MapText.TheVariants.{Graph, Why, Path, Trace}
-use Rattle.epx_why.proofs.UniqueTextLemmas.{why_text_is_one, path_text_is_one}
-use Rattle.epx_trace.proofs.TraceLemmas.{trace_text_is_one}
+use Rattle.epx_why.proofs.UniqueTextLemmas.{why_text_is_unique, path_text_is_unique}
+use Rattle.epx_trace.proofs.TraceLemmas.{trace_text_is_unique}
 use Rattle.epx_tool.specs.MapTexts.{IsMapText}
 use Rattle.epx_tool.specs.Questions.{AnswersBy}
 use Rattle.epx_tool.specs.Answer.{Answers}
@@ -65,7 +65,7 @@ IsAuditText-unique m text other (inl p) (inr q) =
 IsAuditText-unique m text other (inr p) (inl q) =
     absurd (uncovered_not_covered m p.0 p.1 p.2.uncovered q.0)
 IsAuditText-unique m text other (inr p) (inr q) =
-    let same = least_uncovered_is_one m p.0 p.1 q.0 q.1 p.2 q.2 in
+    let same = least_uncovered_is_unique m p.0 p.1 q.0 q.1 p.2 q.2 in
     p.3 ∙ ap₂ uncovered_line same.0 same.1 ∙ sym q.3
 
 IsMapText-unique : (kind : MapText) (m : List Instance) (text other : List ℕ)
@@ -74,10 +74,10 @@ IsMapText-unique Report = IsReport-unique
 IsMapText-unique Order = IsOrderText-unique
 IsMapText-unique Levels = IsLevelText-unique
 IsMapText-unique Audit = IsAuditText-unique
-IsMapText-unique Graph = picture_is_one
-IsMapText-unique (Why x) = λ m. why_text_is_one m x
-IsMapText-unique (Path x y) = λ m. path_text_is_one m x y
-IsMapText-unique (Trace key reads) = λ m. trace_text_is_one m key.text.bytes reads
+IsMapText-unique Graph = picture_is_unique
+IsMapText-unique (Why x) = λ m. why_text_is_unique m x
+IsMapText-unique (Path x y) = λ m. path_text_is_unique m x y
+IsMapText-unique (Trace key reads) = λ m. trace_text_is_unique m key.text.bytes reads
 
 -- if each committed map has at most one text, logs have at most one answer, except for out of
 -- memory

@@ -1,4 +1,4 @@
--- A list has exactly one verdict: that it is good, as a lawful order or the beginning of one, or
+-- A list has exactly one verdict: that it is good, as a lawful order or a prefix of one, or
 -- its fault.
 use Rattle.std.proofs.Common.{◌≡◌, ◌≢◌, ◌⊎◌, ℕ, List, refl, sym, ap, ◌∙◌, inl, inr}
 use Rattle.json.specs.Print.{escape_byte}
@@ -6,17 +6,17 @@ use Rattle.epx_types.specs.declared.id.Id.{Id}
 use Rattle.epx_types.specs.CommittedMap.{ids_of}
 use Rattle.epx_types.specs.Ids.{IsRising}
 use Rattle.epx_types.specs.Instances.{Instance}
-use Rattle.epx_types.specs.LawfulBeginnings.{IsLawfulBeginning}
+use Rattle.epx_types.specs.LawfulPrefixes.{IsLawfulPrefix}
 use Rattle.epx_types.specs.LawfulOrders.{IsLawful}
 use Rattle.epx_ranking.specs.declared.order_fault.OrderFault.{OrderFault}
 use Rattle.epx_ranking.specs.declared.order_fault.OrderFault.TheVariants.{Memory, Stranger, Repeat}
 use Rattle.epx_ranking.specs.declared.order_fault.OrderFault.TheVariants.{Missing, Early, Sequence}
-use Rattle.epx_ranking.specs.BeginningFaults.{IsBeginningFault}
+use Rattle.epx_ranking.specs.PrefixFaults.{IsPrefixFault}
 use Rattle.epx_ranking.specs.OrderFaults.{IsOrderFault}
-use Rattle.epx_ranking.proofs.BeginningFaultLemmas as beginning
-use Rattle.epx_ranking.proofs.BeginningLemmas.{beginning_has_no_fault}
+use Rattle.epx_ranking.proofs.PrefixFaultLemmas as prefix
+use Rattle.epx_ranking.proofs.PrefixLemmas.{prefix_has_no_fault}
 use Rattle.epx_ranking.proofs.OrderFaultLemmas.{lawful_or_fault}
-use Rattle.epx_ranking.proofs.UniqueFaultLemmas.{fault_is_one, lawful_has_no_fault}
+use Rattle.epx_ranking.proofs.UniqueFaultLemmas.{fault_is_unique, lawful_has_no_fault}
 use Rattle.epx_report.specs.ViewLines.{lawful_line}
 use Rattle.epx_tool.specs.Verdicts.{order_fault_text, IsVerdict, IsPrefixVerdict}
 
@@ -67,10 +67,10 @@ module _ (m : List Instance) (ids : List Id) where
   verdict_exists rising =
       verdict_exists_by (IsLawful m ids) (IsOrderFault m ids) (lawful_or_fault m ids rising)
 
-  pub verdict_is_one : (text other : List ℕ) → IsVerdict m ids text → IsVerdict m ids other
+  pub verdict_is_unique : (text other : List ℕ) → IsVerdict m ids text → IsVerdict m ids other
       → text ≡ other
-  verdict_is_one = verdict_is_one_by (IsLawful m ids) (IsOrderFault m ids)
-      (lawful_has_no_fault m ids) (fault_is_one m ids)
+  verdict_is_unique = verdict_is_one_by (IsLawful m ids) (IsOrderFault m ids)
+      (lawful_has_no_fault m ids) (fault_is_unique m ids)
 
   pub lawful-from_verdict : IsVerdict m ids lawful_line → IsLawful m ids
   lawful-from_verdict = good-from_verdict (IsLawful m ids) (IsOrderFault m ids)
@@ -80,21 +80,21 @@ module _ (m : List Instance) (ids : List Id) where
   lawful_line-from_lawful =
       lawful_line-from_good (IsLawful m ids) (IsOrderFault m ids) (lawful_has_no_fault m ids)
 
-  -- ---- as a beginning
+  -- ---- as a prefix
 
   pub prefix_verdict_exists : IsRising (ids_of m) → (text : List ℕ) × IsPrefixVerdict m ids text
-  prefix_verdict_exists rising = verdict_exists_by (IsLawfulBeginning m ids)
-      (IsBeginningFault m ids) (beginning.beginning_or_fault m ids rising)
+  prefix_verdict_exists rising = verdict_exists_by (IsLawfulPrefix m ids)
+      (IsPrefixFault m ids) (prefix.prefix_or_fault m ids rising)
 
-  pub prefix_verdict_is_one : (text other : List ℕ) → IsPrefixVerdict m ids text
+  pub prefix_verdict_is_unique : (text other : List ℕ) → IsPrefixVerdict m ids text
       → IsPrefixVerdict m ids other → text ≡ other
-  prefix_verdict_is_one = verdict_is_one_by (IsLawfulBeginning m ids) (IsBeginningFault m ids)
-      (beginning_has_no_fault m ids) (beginning.fault_is_one m ids)
+  prefix_verdict_is_unique = verdict_is_one_by (IsLawfulPrefix m ids) (IsPrefixFault m ids)
+      (prefix_has_no_fault m ids) (prefix.fault_is_unique m ids)
 
-  pub beginning-from_verdict : IsPrefixVerdict m ids lawful_line → IsLawfulBeginning m ids
-  beginning-from_verdict = good-from_verdict (IsLawfulBeginning m ids) (IsBeginningFault m ids)
+  pub lawful_prefix-from_verdict : IsPrefixVerdict m ids lawful_line → IsLawfulPrefix m ids
+  lawful_prefix-from_verdict = good-from_verdict (IsLawfulPrefix m ids) (IsPrefixFault m ids)
 
-  pub lawful_line-from_beginning : (text : List ℕ) → IsPrefixVerdict m ids text
-      → IsLawfulBeginning m ids → text ≡ lawful_line
-  lawful_line-from_beginning = lawful_line-from_good (IsLawfulBeginning m ids)
-      (IsBeginningFault m ids) (beginning_has_no_fault m ids)
+  pub lawful_line-from_prefix : (text : List ℕ) → IsPrefixVerdict m ids text
+      → IsLawfulPrefix m ids → text ≡ lawful_line
+  lawful_line-from_prefix = lawful_line-from_good (IsLawfulPrefix m ids)
+      (IsPrefixFault m ids) (prefix_has_no_fault m ids)

@@ -31,23 +31,23 @@ MapTextExists = (kind : MapText) (m : List Instance) → IsRising (ids_of m) →
     × IsMapText kind m text
 
 -- a committed map has at most one report
-abbrev pub ReportIsOne : Type 0
-ReportIsOne = (m : List Instance) (text other : List ℕ) → IsReport m text → IsReport m other
+abbrev pub ReportIsUnique : Type 0
+ReportIsUnique = (m : List Instance) (text other : List ℕ) → IsReport m text → IsReport m other
     → text ≡ other
 
 -- a committed map has at most one text of its execution order
-abbrev pub OrderTextIsOne : Type 0
-OrderTextIsOne = (m : List Instance) (text other : List ℕ) → IsOrderText m text
+abbrev pub OrderTextIsUnique : Type 0
+OrderTextIsUnique = (m : List Instance) (text other : List ℕ) → IsOrderText m text
     → IsOrderText m other → text ≡ other
 
 -- a committed map has at most one text of its conflict levels
-abbrev pub LevelTextIsOne : Type 0
-LevelTextIsOne = (m : List Instance) (text other : List ℕ) → IsLevelText m text
+abbrev pub LevelTextIsUnique : Type 0
+LevelTextIsUnique = (m : List Instance) (text other : List ℕ) → IsLevelText m text
     → IsLevelText m other → text ≡ other
 
 -- a committed map has at most one text of its audit
-abbrev pub AuditTextIsOne : Type 0
-AuditTextIsOne = (m : List Instance) (text other : List ℕ) → IsAuditText m text
+abbrev pub AuditTextIsUnique : Type 0
+AuditTextIsUnique = (m : List Instance) (text other : List ℕ) → IsAuditText m text
     → IsAuditText m other → text ≡ other
 
 -- every list of logs has an answer other than out of memory
@@ -61,13 +61,13 @@ ViewExists = (ask : Ask) (logs : List (List ℕ)) → (a : Result (List ℕ) Fau
     × AnswersView ask logs a
 
 -- logs have at most one answer, except for out of memory
-abbrev pub AnswerIsOne : Type 0
-AnswerIsOne = (logs : List (List ℕ)) (a b : Result (List ℕ) Fault) → a ≢ Err Memory
+abbrev pub AnswerIsUnique : Type 0
+AnswerIsUnique = (logs : List (List ℕ)) (a b : Result (List ℕ) Fault) → a ≢ Err Memory
     → b ≢ Err Memory → IsAnswer logs a → IsAnswer logs b → a ≡ b
 
 -- logs have at most one answer to each view, except for out of memory
-abbrev pub ViewIsOne : Type 0
-ViewIsOne = (ask : Ask) (logs : List (List ℕ)) (a b : Result (List ℕ) Fault) → a ≢ Err Memory
+abbrev pub ViewIsUnique : Type 0
+ViewIsUnique = (ask : Ask) (logs : List (List ℕ)) (a b : Result (List ℕ) Fault) → a ≢ Err Memory
     → b ≢ Err Memory → AnswersView ask logs a → AnswersView ask logs b → a ≡ b
 
 -- the audit of logs says that they are covered exactly if they are

@@ -11,7 +11,7 @@ use Rattle.epx_tool.specs.Verdicts.{IsPrefixVerdict, IsVerdict}
 abbrev pub IsCheckText : List ℕ → List Instance → List ℕ → Type 0
 IsCheckText list m text = (ids : List Id) × IsList list ids × IsVerdict m ids text
 
--- the verdict on the instances that the list names, as a beginning
+-- the verdict on the instances that the list names, as a prefix
 abbrev pub IsPrefixCheckText : List ℕ → List Instance → List ℕ → Type 0
 IsPrefixCheckText list m text = (ids : List Id) × IsList list ids × IsPrefixVerdict m ids text
 

@@ -7,7 +7,7 @@ use Rattle.epx_types.specs.Instances.{Instance}
 use Rattle.epx_types.specs.Execution.{execute, Execution}
 use Rattle.epx_types.specs.ExecutionOrder.{Ranked, IsExecutionOrder, ranked_ids}
 use Rattle.epx_types.specs.CommittedMap.{commands_in}
-use Rattle.epx_types.specs.LawfulBeginnings.{IsLawfulBeginning}
+use Rattle.epx_types.specs.LawfulPrefixes.{IsLawfulPrefix}
 use Rattle.epx_types.specs.LawfulOrders.{IsLawful}
 use Rattle.epx_merge.specs.Acceptance.{IsAccepted}
 use Rattle.epx_report.specs.Lists.{IsList}
@@ -43,18 +43,18 @@ LawfulListExecutesAlike = (list : List ℕ) (logs : List (List ℕ))
     → ExecuteAlike ids (ranked_ids order) (execute (commands_in m ids) contents.empty)
     (execute (commands_in m (ranked_ids order)) contents.empty)
 
--- ---- a list that is checked as a beginning
+-- ---- a list that is checked as a prefix
 
 -- it is reported as lawful exactly if a lawful order of what the logs commit begins with it
-abbrev pub LawfulTextMeansBeginning : Type 0
-LawfulTextMeansBeginning = (list : List ℕ) (logs : List (List ℕ)) (ids : List Id)
+abbrev pub LawfulTextMeansPrefix : Type 0
+LawfulTextMeansPrefix = (list : List ℕ) (logs : List (List ℕ)) (ids : List Id)
     (m : List Instance) → IsShort list → IsList list ids → IsAccepted logs m →
-    IsInputAnswer CheckPrefix list logs (Ok lawful_line) ↔ IsLawfulBeginning m ids
+    IsInputAnswer CheckPrefix list logs (Ok lawful_line) ↔ IsLawfulPrefix m ids
 
 -- if it is reported as lawful and the logs as covered, executing it from the empty store gives each
 -- listed instance the reply that the report of the logs has
-abbrev pub LawfulBeginningRepliesAlike : Type 0
-LawfulBeginningRepliesAlike = (list : List ℕ) (logs : List (List ℕ))
+abbrev pub LawfulPrefixRepliesAlike : Type 0
+LawfulPrefixRepliesAlike = (list : List ℕ) (logs : List (List ℕ))
     → IsInputAnswer CheckPrefix list logs (Ok lawful_line)
     → AnswersView Audit logs (Ok covered_line)
     → (ids : List Id) (m : List Instance) → IsList list ids → IsAccepted logs m →
@@ -63,7 +63,7 @@ LawfulBeginningRepliesAlike = (list : List ℕ) (logs : List (List ℕ))
     → slice_get (execute (commands_in m ids) contents.empty).replies i
     ≡ slice_get (execute (commands_in m (ranked_ids order)) contents.empty).replies j
 
--- a list of all ready instances has the same answer as a beginning and as an order
+-- a list of all ready instances has the same answer as a prefix and as an order
 abbrev pub WholeListsAreAnsweredAlike : Type 0
 WholeListsAreAnsweredAlike = (list : List ℕ) (logs : List (List ℕ)) (ids : List Id)
     (m : List Instance) → IsList list ids → IsAccepted logs m → HasAllReady m ids
@@ -71,8 +71,8 @@ WholeListsAreAnsweredAlike = (list : List ℕ) (logs : List (List ℕ)) (ids : L
 
 -- if logs call it lawful, so do all accepted logs that have their lines: what a replica has
 -- executed stays lawful, whatever is committed later
-abbrev pub LawfulBeginningsStay : Type 0
-LawfulBeginningsStay = (list : List ℕ) (logs more : List (List ℕ)) → HaveLinesOf more logs
+abbrev pub LawfulPrefixesStay : Type 0
+LawfulPrefixesStay = (list : List ℕ) (logs more : List (List ℕ)) → HaveLinesOf more logs
     → (m : List Instance) → IsAccepted more m
     → IsInputAnswer CheckPrefix list logs (Ok lawful_line)
     → IsInputAnswer CheckPrefix list more (Ok lawful_line)

@@ -4,7 +4,7 @@ use Rattle.epx_types.specs.declared.fault.Fault.{Fault}
 use Rattle.epx_types.specs.declared.id.Id.{Id}
 use Rattle.epx_types.specs.Instances.{Instance}
 use Rattle.epx_types.specs.Conflicts.{IsCovered}
-use Rattle.epx_types.specs.LawfulBeginnings.{IsLawfulBeginning}
+use Rattle.epx_types.specs.LawfulPrefixes.{IsLawfulPrefix}
 use Rattle.epx_types.specs.LawfulOrders.{IsLawful}
 use Rattle.epx_merge.specs.Acceptance.{IsAccepted}
 use Rattle.epx_report.specs.Lists.{IsList}
@@ -28,13 +28,13 @@ AuditFindsNotCovered = (logs : List (List ℕ)) (m : List Instance) → IsAccept
     → (found : Bool) (text : List ℕ) → AnswersFinding (View Audit) found logs (Ok text)
     → (found ≡ true) ↔ (¬ IsCovered m)
 
--- a check finds something exactly if the list is not a lawful order, or, checked as a beginning,
--- not the beginning of one
+-- a check finds something exactly if the list is not a lawful order, or, checked as a prefix,
+-- not a prefix of one
 pub record CheckFindsNotLawful : Type 0 where
   pub order : (list : List ℕ) (logs : List (List ℕ)) (ids : List Id) (m : List Instance)
       → IsList list ids → IsAccepted logs m → (found : Bool) (text : List ℕ)
       → AnswersFindingWith Check found list logs (Ok text) → (found ≡ true) ↔ (¬ IsLawful m ids)
-  pub beginning : (list : List ℕ) (logs : List (List ℕ)) (ids : List Id) (m : List Instance)
+  pub prefix : (list : List ℕ) (logs : List (List ℕ)) (ids : List Id) (m : List Instance)
       → IsList list ids → IsAccepted logs m → (found : Bool) (text : List ℕ)
       → AnswersFindingWith CheckPrefix found list logs (Ok text)
-      → (found ≡ true) ↔ (¬ IsLawfulBeginning m ids)
+      → (found ≡ true) ↔ (¬ IsLawfulPrefix m ids)

@@ -11,7 +11,7 @@ InputAnswerExists = (question : InputQuestion) (input : List ℕ) (logs : List (
     → (a : Result (List ℕ) Fault) × (a ≢ Err Memory) × IsInputAnswer question input logs a
 
 -- an input and logs have at most one answer to each question about both, except for out of memory
-abbrev pub InputAnswerIsOne : Type 0
-InputAnswerIsOne = (question : InputQuestion) (input : List ℕ) (logs : List (List ℕ))
+abbrev pub InputAnswerIsUnique : Type 0
+InputAnswerIsUnique = (question : InputQuestion) (input : List ℕ) (logs : List (List ℕ))
     (a b : Result (List ℕ) Fault) → a ≢ Err Memory → b ≢ Err Memory
     → IsInputAnswer question input logs a → IsInputAnswer question input logs b → a ≡ b

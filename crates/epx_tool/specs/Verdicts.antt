@@ -3,14 +3,14 @@ use Rattle.std.specs.Prelude.{◌≡◌, ◌≢◌, ◌⊎◌, ℕ, List, [], co
 use Rattle.serde_json.specs.Data.{Data}
 use Rattle.epx_types.specs.declared.id.Id.{Id}
 use Rattle.epx_types.specs.Instances.{Instance}
-use Rattle.epx_types.specs.LawfulBeginnings.{IsLawfulBeginning}
+use Rattle.epx_types.specs.LawfulPrefixes.{IsLawfulPrefix}
 use Rattle.epx_types.specs.LawfulOrders.{IsLawful}
 use Rattle.epx_report.specs.ReportLines.{line_of}
 use Rattle.epx_report.specs.ViewLines.{lawful_line, position_data, missing_data}
 use Rattle.epx_ranking.specs.declared.order_fault.OrderFault.{OrderFault}
 use Rattle.epx_ranking.specs.declared.order_fault.OrderFault.TheVariants.{Memory, Stranger, Repeat}
 use Rattle.epx_ranking.specs.declared.order_fault.OrderFault.TheVariants.{Missing, Early, Sequence}
-use Rattle.epx_ranking.specs.BeginningFaults.{IsBeginningFault}
+use Rattle.epx_ranking.specs.PrefixFaults.{IsPrefixFault}
 use Rattle.epx_ranking.specs.OrderFaults.{IsOrderFault}
 
 -- the line of a fault; out of memory has no verdict
@@ -31,8 +31,8 @@ IsVerdict m ids text = (IsLawful m ids × (text ≡ lawful_line))
     ⊎ ((fault : OrderFault) × (fault ≢ Memory) × IsOrderFault m ids fault
     × (text ≡ order_fault_text fault))
 
--- the verdict is that the list is the beginning of a lawful order, or its fault as a beginning
+-- the verdict is that the list is a prefix of a lawful order, or its fault as a prefix
 abbrev pub IsPrefixVerdict : List Instance → List Id → List ℕ → Type 0
-IsPrefixVerdict m ids text = (IsLawfulBeginning m ids × (text ≡ lawful_line))
-    ⊎ ((fault : OrderFault) × (fault ≢ Memory) × IsBeginningFault m ids fault
+IsPrefixVerdict m ids text = (IsLawfulPrefix m ids × (text ≡ lawful_line))
+    ⊎ ((fault : OrderFault) × (fault ≢ Memory) × IsPrefixFault m ids fault
     × (text ≡ order_fault_text fault))

@@ -40,7 +40,7 @@ fn answer_reading<R: Threads + RandomSource + Sync>(
 }
 
 /// The answer to a question about an input and logs in memory. `resume` and `check` are this call
-/// for one question each. The check of a beginning is asked here alone.
+/// for one question each. The check of a prefix is asked here alone.
 pub fn answer_input<R: Threads + RandomSource + Sync>(
     rt: &R,
     alloc: Global,

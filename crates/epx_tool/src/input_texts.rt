@@ -36,7 +36,7 @@ fn verdict_of<R: Threads + Sync>(
     Ok(Answer::new(text, has_findings))
 }
 
-/// The verdict on a list of instances as a beginning, over a committed map.
+/// The verdict on a list of instances as a prefix, over a committed map.
 fn prefix_verdict_of<R: Threads + Sync>(
     rt: &R,
     alloc: Global,

@@ -1,15 +1,15 @@
 //! Laws of answers: these definitions mean what they should. Each function has an empty body, and
 //! its contract is the law.
-ghost use Rattle.epx_tool.specs.AnswerLaws.{ReportExists, MapTextExists, ReportIsOne};
-ghost use Rattle.epx_tool.specs.AnswerLaws.{OrderTextIsOne, LevelTextIsOne, AuditTextIsOne};
-ghost use Rattle.epx_tool.specs.AnswerLaws.{AnswerExists, ViewExists, AnswerIsOne, ViewIsOne};
+ghost use Rattle.epx_tool.specs.AnswerLaws.{ReportExists, MapTextExists, ReportIsUnique};
+ghost use Rattle.epx_tool.specs.AnswerLaws.{OrderTextIsUnique, LevelTextIsUnique, AuditTextIsUnique};
+ghost use Rattle.epx_tool.specs.AnswerLaws.{AnswerExists, ViewExists, AnswerIsUnique, ViewIsUnique};
 ghost use Rattle.epx_tool.specs.AnswerLaws.{CoveredTextMeansCovered};
 ghost use Rattle.epx_tool.specs.CheckLaws.{LawfulTextMeansLawful, LawfulListExecutesAlike};
-ghost use Rattle.epx_tool.specs.CheckLaws.{LawfulTextMeansBeginning};
-ghost use Rattle.epx_tool.specs.CheckLaws.{LawfulBeginningRepliesAlike};
-ghost use Rattle.epx_tool.specs.CheckLaws.{LawfulBeginningsStay, WholeListsAreAnsweredAlike};
+ghost use Rattle.epx_tool.specs.CheckLaws.{LawfulTextMeansPrefix};
+ghost use Rattle.epx_tool.specs.CheckLaws.{LawfulPrefixRepliesAlike};
+ghost use Rattle.epx_tool.specs.CheckLaws.{LawfulPrefixesStay, WholeListsAreAnsweredAlike};
 ghost use Rattle.epx_tool.specs.FindingLaws.{AuditFindsNotCovered, CheckFindsNotLawful};
-ghost use Rattle.epx_tool.specs.InputAnswerLaws.{InputAnswerExists, InputAnswerIsOne};
+ghost use Rattle.epx_tool.specs.InputAnswerLaws.{InputAnswerExists, InputAnswerIsUnique};
 ghost use Rattle.epx_tool.specs.ResumableAnswers.{AnswerIsBase, ResumptionIsBase};
 ghost use Rattle.epx_tool.specs.ResumableAnswers.{ReportOfAPartIsSound, ResumedReportIsSound};
 ghost use Rattle.epx_tool.specs.ResumableAnswers.{ResumedReportRepeatsTheWhole};
@@ -19,7 +19,7 @@ ghost use Rattle.epx_tool.specs.SameLineLaws.{SameLinesAreAcceptedAlike, SameLin
 ghost use Rattle.epx_tool.specs.TraceReportLaws.{LastWriteLineIsTheStoreLine};
 ghost use Rattle.epx_tool.specs.TraceReportLaws.{TraceEndsInTheStore};
 
-use epx_laws::replicas::beginnings_stay;
+use epx_laws::replicas::prefixes_stay;
 
 /// A committed map has a report.
 pub fn report_exists()
@@ -34,23 +34,23 @@ pub fn map_text_exists()
 {}
 
 /// A committed map has at most one report.
-pub fn report_is_one()
-    ensures { ReportIsOne }
+pub fn report_is_unique()
+    ensures { ReportIsUnique }
 {}
 
 /// A committed map has at most one text of its execution order.
-pub fn order_text_is_one()
-    ensures { OrderTextIsOne }
+pub fn order_text_is_unique()
+    ensures { OrderTextIsUnique }
 {}
 
 /// A committed map has at most one text of its conflict levels.
-pub fn level_text_is_one()
-    ensures { LevelTextIsOne }
+pub fn level_text_is_unique()
+    ensures { LevelTextIsUnique }
 {}
 
 /// A committed map has at most one text of its audit.
-pub fn audit_text_is_one()
-    ensures { AuditTextIsOne }
+pub fn audit_text_is_unique()
+    ensures { AuditTextIsUnique }
 {}
 
 /// Every list of logs has an answer other than out of memory.
@@ -64,13 +64,13 @@ pub fn view_exists()
 {}
 
 /// Logs have at most one answer, except for out of memory.
-pub fn answer_is_one()
-    ensures { AnswerIsOne }
+pub fn answer_is_unique()
+    ensures { AnswerIsUnique }
 {}
 
 /// Logs have at most one answer to each view, except for out of memory.
-pub fn view_is_one()
-    ensures { ViewIsOne }
+pub fn view_is_unique()
+    ensures { ViewIsUnique }
 {}
 
 /// An input and logs have an answer to each question about both, other than out of memory.
@@ -79,8 +79,8 @@ pub fn input_answer_exists()
 {}
 
 /// An input and logs have at most one answer to each question about both, except for out of memory.
-pub fn input_answer_is_one()
-    ensures { InputAnswerIsOne }
+pub fn input_answer_is_unique()
+    ensures { InputAnswerIsUnique }
 {}
 
 /// The report of a map is its report after nothing is done, from the empty store.
@@ -110,19 +110,19 @@ pub fn lawful_list_executes_alike()
     ensures { LawfulListExecutesAlike }
 {}
 
-/// A list that is checked as a beginning is reported as lawful exactly if a lawful order of what
+/// A list that is checked as a prefix is reported as lawful exactly if a lawful order of what
 /// the logs commit begins with it.
-pub fn lawful_text_means_beginning()
-    ensures { LawfulTextMeansBeginning }
+pub fn lawful_text_means_prefix()
+    ensures { LawfulTextMeansPrefix }
 {}
 
-/// If logs are reported as covered, a list that is reported as lawful as a beginning replies as
+/// If logs are reported as covered, a list that is reported as lawful as a prefix replies as
 /// their report says.
-pub fn lawful_beginning_replies_alike()
-    ensures { LawfulBeginningRepliesAlike }
+pub fn lawful_prefix_replies_alike()
+    ensures { LawfulPrefixRepliesAlike }
 {}
 
-/// A list of all ready instances has the same answer as a beginning and as an order.
+/// A list of all ready instances has the same answer as a prefix and as an order.
 pub fn whole_lists_are_answered_alike()
     ensures { WholeListsAreAnsweredAlike }
 {}
@@ -132,18 +132,18 @@ pub fn audit_finds_not_covered()
     ensures { AuditFindsNotCovered }
 {}
 
-/// A check finds something exactly if the list is not a lawful order, or, checked as a beginning,
-/// not the beginning of one.
+/// A check finds something exactly if the list is not a lawful order, or, checked as a prefix,
+/// not a prefix of one.
 pub fn check_finds_not_lawful()
     ensures { CheckFindsNotLawful }
 {}
 
-/// A list that logs call a lawful beginning is called so by all accepted logs that have their
+/// A list that logs call a lawful prefix is called so by all accepted logs that have their
 /// lines.
-pub fn lawful_beginnings_stay()
-    ensures { LawfulBeginningsStay }
+pub fn lawful_prefixes_stay()
+    ensures { LawfulPrefixesStay }
 {
-    beginnings_stay();
+    prefixes_stay();
 }
 
 /// The store of a report has under a key what the last write of the key's trace leaves.

@@ -1,2 +1,3 @@
 pub mod KeyTestLemmas
+mod CommandPairLemmas
 pub mod TraceLemmas

@@ -11,7 +11,7 @@ use Rattle.epx_types.proofs.orders.ExecutionOrderLemmas.{IsExecutionOrder-unique
 use Rattle.epx_types.proofs.orders.OrderExistenceLemmas.{execution_order_exists}
 use Rattle.epx_trace.specs.Traces.{IdCommand, has_key, writes_key, touch_of, trace_of}
 use Rattle.epx_trace.specs.TraceLaws.{value_before, value_left, FindLastWrites}
-use Rattle.epx_trace.specs.TraceLaws.{TraceTextExists, TraceTextIsOne}
+use Rattle.epx_trace.specs.TraceLaws.{TraceTextExists, TraceTextIsUnique}
 use Rattle.epx_trace.specs.TraceLaws.{TouchesFindLastWrites, LastWriteIsStored}
 use Rattle.epx_trace.specs.TraceLines.{touch_line}
 use Rattle.epx_trace.specs.TraceTexts.{ordered_commands}
@@ -24,8 +24,8 @@ trace_text_exists m key reads rising =
       record { order = order.0; ordered = order.1; printed = refl },
     )
 
-pub trace_text_is_one : TraceTextIsOne
-trace_text_is_one m key reads text other p q =
+pub trace_text_is_unique : TraceTextIsUnique
+trace_text_is_unique m key reads text other p q =
     p.printed
     ∙ ap (λ (order : List Ranked). flat_map (touch_line reads)
     (trace_of (ordered_commands m order) contents.empty key))

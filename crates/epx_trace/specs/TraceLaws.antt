@@ -17,8 +17,8 @@ TraceTextExists = (m : List Instance) (key : List ℕ) (reads : Bool) → IsRisi
     → (text : List ℕ) × IsTraceText m key reads text
 
 -- and no other one
-abbrev pub TraceTextIsOne : Type 0
-TraceTextIsOne = (m : List Instance) (key : List ℕ) (reads : Bool) (text other : List ℕ)
+abbrev pub TraceTextIsUnique : Type 0
+TraceTextIsUnique = (m : List Instance) (key : List ℕ) (reads : Bool) (text other : List ℕ)
     → IsTraceText m key reads text → IsTraceText m key reads other → text ≡ other
 
 -- the value that a touch finds

@@ -1,6 +1,6 @@
 //! Laws of traces: each function has an empty body, and its contract is the law.
 ghost use Rattle.epx_trace.specs.TraceLaws.{LastWriteIsStored, TouchesFindLastWrites};
-ghost use Rattle.epx_trace.specs.TraceLaws.{TraceTextExists, TraceTextIsOne};
+ghost use Rattle.epx_trace.specs.TraceLaws.{TraceTextExists, TraceTextIsUnique};
 
 /// Each key has a text of its trace.
 pub fn trace_text_exists()
@@ -8,8 +8,8 @@ pub fn trace_text_exists()
 {}
 
 /// A key has at most one such text.
-pub fn trace_text_is_one()
-    ensures { TraceTextIsOne }
+pub fn trace_text_is_unique()
+    ensures { TraceTextIsUnique }
 {}
 
 /// Each touch finds the value that the last write before it left.

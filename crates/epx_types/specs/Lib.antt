@@ -20,7 +20,7 @@ pub mod Components
 pub mod Depth
 pub mod ExecutionOrder
 pub mod LawfulOrders
-pub mod LawfulBeginnings
+pub mod LawfulPrefixes
 pub mod Conflicts
 pub mod Levels
 pub mod Rearrangements

@@ -49,8 +49,8 @@ module _ (g : DependencyGraph) (distances : List (Option ℕ)) (start : ℕ) whe
   module _ (graph : IsGraph g) (end : ℕ) (needs : List Need) (w : Need) (start_low : start ≤ end)
       (kind : (end < g.committed) ⊎ (g.committed ≤ start)) (here : IsNeedAt g distances end w)
       (are : AreNeedsIn g distances start end needs) where
-    need_is_one : (k : ℕ) (n : Need) → k ≡ end → IsNeedAt g distances k n → w ≡ n
-    need_is_one k n same at =
+    need_is_unique : (k : ℕ) (n : Need) → k ≡ end → IsNeedAt g distances k n → w ≡ n
+    need_is_unique k n same at =
         let ids : Some w.id ≡ Some n.id = sym here.id ∙ ap (slice_get g.ids) (sym same) ∙ at.id in
         let id : w.id ≡ n.id = cc ids in
         let both : Some w.steps ≡ Some n.steps = sym here.steps
@@ -81,7 +81,7 @@ module _ (g : DependencyGraph) (distances : List (Option ℕ)) (start : ℕ) whe
         | inl before ↦ Contains-append_left needs (w ∷ []) n (are.whole k n low before h)
         | inr not_before ↦
             let same : k ≡ end = omega arith in
-            subst (Contains (needs ++ w ∷ [])) (need_is_one k n same h) (Contains-push needs w)
+            subst (Contains (needs ++ w ∷ [])) (need_is_unique k n same h) (Contains-push needs w)
       ];
       rising = subst IsRising (sym (map_push (λ (n : Need). n.id) needs w))
           (IsRising-push (map (λ (n : Need). n.id) needs) w.id are.rising below);

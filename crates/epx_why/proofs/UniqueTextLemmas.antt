@@ -21,7 +21,7 @@ use Rattle.epx_why.specs.declared.need.Need.{Need}
 use Rattle.epx_why.specs.Distances.{IsDistance}
 use Rattle.epx_why.specs.FirstPaths.{ComesUpTo, path_ids}
 use Rattle.epx_why.specs.Needs.{AreNeeds}
-use Rattle.epx_why.specs.WhyLaws.{WhyTextIsOne, PathTextIsOne}
+use Rattle.epx_why.specs.WhyLaws.{WhyTextIsUnique, PathTextIsUnique}
 use Rattle.epx_why.specs.WhyLines.{ready_line, need_line, path_line}
 use Rattle.epx_why.specs.WhyTexts.{IsReadyText}
 
@@ -50,9 +50,9 @@ module _ (m : List Instance) (x : Id) where
   ready_by text p = subst (IsReady m) p.named
       (p.executed.ranked p.ranked (Contains-slice_get p.order p.position p.ranked p.there)).ready
 
-  ready_is_one : (text other : List ℕ) → IsReadyText m x text → IsReadyText m x other
+  ready_is_unique : (text other : List ℕ) → IsReadyText m x text → IsReadyText m x other
       → text ≡ other
-  ready_is_one text other p q =
+  ready_is_unique text other p q =
       let orders = IsExecutionOrder-unique m p.order q.order p.executed q.executed in
       let here : slice_get q.order p.position ≡ Some p.ranked =
       ap (λ order. slice_get order p.position) (sym orders) ∙ p.there in
@@ -81,24 +81,24 @@ module _ (m : List Instance) (x : Id) where
             ]
           ]
 
-pub why_text_is_one : WhyTextIsOne
-why_text_is_one m x text other (inl p) (inl q) = ready_is_one m x text other p q
-why_text_is_one m x text other (inl p) (inr (inl q)) =
+pub why_text_is_unique : WhyTextIsUnique
+why_text_is_unique m x text other (inl p) (inl q) = ready_is_unique m x text other p q
+why_text_is_unique m x text other (inl p) (inr (inl q)) =
     absurd (IsReady-not_waiting m x q.missing (ready_by m x text p) q.waits)
-why_text_is_one m x text other (inl p) (inr (inr q)) =
+why_text_is_unique m x text other (inl p) (inr (inr q)) =
     absurd (q.missing (ready_by m x text p).committed)
-why_text_is_one m x text other (inr (inl p)) (inl q) =
+why_text_is_unique m x text other (inr (inl p)) (inl q) =
     absurd (IsReady-not_waiting m x p.missing (ready_by m x other q) p.waits)
-why_text_is_one m x text other (inr (inl p)) (inr (inl q)) =
+why_text_is_unique m x text other (inr (inl p)) (inr (inl q)) =
     let missing = WaitsFor-unique m x p.missing q.missing p.waits q.waits in
     let needs = AreNeeds-unique _ p.needs q.needs p.needed q.needed in
     p.printed ∙ (λ i. waiting_line (record { id = x; missing = missing i })
     ++ flat_map (need_line (codes "needs")) (needs i)) ∙ sym q.printed
-why_text_is_one m x text other (inr (inl p)) (inr (inr q)) = absurd (q.missing p.waits.committed)
-why_text_is_one m x text other (inr (inr p)) (inl q) =
+why_text_is_unique m x text other (inr (inl p)) (inr (inr q)) = absurd (q.missing p.waits.committed)
+why_text_is_unique m x text other (inr (inr p)) (inl q) =
     absurd (p.missing (ready_by m x other q).committed)
-why_text_is_one m x text other (inr (inr p)) (inr (inl q)) = absurd (p.missing q.waits.committed)
-why_text_is_one m x text other (inr (inr p)) (inr (inr q)) =
+why_text_is_unique m x text other (inr (inr p)) (inr (inl q)) = absurd (p.missing q.waits.committed)
+why_text_is_unique m x text other (inr (inr p)) (inr (inr q)) =
     let needing = AreNeeds-unique _ p.needing q.needing p.reaching q.reaching in
     p.printed ∙ ap (λ ns. missing_line x ++ flat_map (need_line (codes "needed")) ns) needing
     ∙ sym q.printed
@@ -117,14 +117,14 @@ ComesUpTo-antisymm (x ∷ xs) (y ∷ ys) (inr l) (inl k) =
 ComesUpTo-antisymm (x ∷ xs) (y ∷ ys) (inr l) (inr k) =
     ap₂ (λ z zs. z ∷ zs) l.0 (ComesUpTo-antisymm xs ys l.1 k.1)
 
-pub path_text_is_one : PathTextIsOne
-path_text_is_one m x y text other (inl p) (inl q) =
+pub path_text_is_unique : PathTextIsUnique
+path_text_is_unique m x y text other (inl p) (inl q) =
     let low = p.first.shortest q.via q.first.path in
     let high = q.first.shortest p.via p.first.path in
     let ids = ComesUpTo-antisymm (path_ids x p.via y) (path_ids x q.via y)
     (p.first.first q.via q.first.path (omega arith))
     (q.first.first p.via p.first.path (omega arith)) in
     p.printed ∙ ap path_line ids ∙ sym q.printed
-path_text_is_one m x y text other (inl p) (inr q) = absurd (q.0 p.via p.first.path)
-path_text_is_one m x y text other (inr p) (inl q) = absurd (p.0 q.via q.first.path)
-path_text_is_one m x y text other (inr p) (inr q) = p.1 ∙ sym q.1
+path_text_is_unique m x y text other (inl p) (inr q) = absurd (q.0 p.via p.first.path)
+path_text_is_unique m x y text other (inr p) (inl q) = absurd (p.0 q.via q.first.path)
+path_text_is_unique m x y text other (inr p) (inr q) = p.1 ∙ sym q.1

@@ -11,7 +11,7 @@ use Rattle.epx_types.specs.Reaching.{IsPath}
 use Rattle.epx_graph.specs.Graphs.{DependencyGraph, edges_of, IsGraph}
 use Rattle.epx_graph.specs.GraphOf.{IsGraphOf}
 use Rattle.epx_graph.specs.NodePaths.{IsNodePath}
-use Rattle.epx_graph.proofs.GraphNodeLemmas.{edge_within, node_is_one}
+use Rattle.epx_graph.proofs.GraphNodeLemmas.{edge_within, node_is_unique}
 use Rattle.epx_graph.proofs.MapPathLemmas.{node_of_committed, reached_node}
 use Rattle.epx_types.proofs.lists.ListPositionLemmas.{Contains-slice_get}
 use Rattle.epx_why.specs.FirstPaths.{ComesUpTo, path_ids, IsFirstPath, HasNoPath}
@@ -77,7 +77,7 @@ module _ (g : DependencyGraph) (graph : IsGraph g) (t : ℕ) (distances : List (
             → ComesUpTo (id_at g c ∷ map (id_at g) cs) (id_at g o ∷ map (id_at g) os)
         by os path rest (inr below) = inl below
         by os path rest (inl tied) =
-            let same : c ≡ o = node_is_one g graph c o (id_at g c)
+            let same : c ≡ o = node_is_unique g graph c o (id_at g c)
             (slice_get-id_at g c (edge_within g graph k c next.edge))
             (slice_get-id_at g o (edge_within g graph k o path.0) ∙ ap Some (sym tied)) in
             inr (

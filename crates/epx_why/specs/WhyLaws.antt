@@ -15,8 +15,8 @@ WhyTextExists = (m : List Instance) (x : Id) → IsRising (ids_of m)
     → (text : List ℕ) × IsWhyText m x text
 
 -- and no other one
-abbrev pub WhyTextIsOne : Type 0
-WhyTextIsOne = (m : List Instance) (x : Id) (text other : List ℕ) → IsWhyText m x text
+abbrev pub WhyTextIsUnique : Type 0
+WhyTextIsUnique = (m : List Instance) (x : Id) (text other : List ℕ) → IsWhyText m x text
     → IsWhyText m x other → text ≡ other
 
 -- for each map and two Ids there is a text of a path
@@ -24,8 +24,8 @@ abbrev pub PathTextExists : Type 0
 PathTextExists = (m : List Instance) (x y : Id) → (text : List ℕ) × IsPathText m x y text
 
 -- and no other one
-abbrev pub PathTextIsOne : Type 0
-PathTextIsOne = (m : List Instance) (x y : Id) (text other : List ℕ) → IsPathText m x y text
+abbrev pub PathTextIsUnique : Type 0
+PathTextIsUnique = (m : List Instance) (x y : Id) (text other : List ℕ) → IsPathText m x y text
     → IsPathText m x y other → text ≡ other
 
 -- what a waiting instance needs begins with the missing instance that it waits for

@@ -1,5 +1,6 @@
 //! Laws of the texts: each function has an empty body, and its contract is the law.
-ghost use Rattle.epx_why.specs.WhyLaws.{PathTextExists, PathTextIsOne, WhyTextExists, WhyTextIsOne};
+ghost use Rattle.epx_why.specs.WhyLaws.{PathTextExists, PathTextIsUnique};
+ghost use Rattle.epx_why.specs.WhyLaws.{WhyTextExists, WhyTextIsUnique};
 ghost use Rattle.epx_why.specs.WhyLaws.{NeedsBeginWithTheMissing, NeedingInstancesWait};
 
 /// Each instance has a text that says why.
@@ -8,8 +9,8 @@ pub fn why_text_exists()
 {}
 
 /// An instance has at most one such text.
-pub fn why_text_is_one()
-    ensures { WhyTextIsOne }
+pub fn why_text_is_unique()
+    ensures { WhyTextIsUnique }
 {}
 
 /// Each two instances have a text of a path.
@@ -18,8 +19,8 @@ pub fn path_text_exists()
 {}
 
 /// Two instances have at most one such text.
-pub fn path_text_is_one()
-    ensures { PathTextIsOne }
+pub fn path_text_is_unique()
+    ensures { PathTextIsUnique }
 {}
 
 /// What a waiting instance needs begins with the missing instance that it waits for.

@@ -55,7 +55,7 @@ pub record NamesOne (x : Id) (rows : List Row) : Type 0 where
   pub named : (text : Text) × (first_in rows ≡ Some text) × IsNameOf x text
   pub alone : reaches_in rows ≡ None
 
--- what a task has besides its name is what the rows have: a check is one of a beginning exactly
+-- what a task has besides its name is what the rows have: a check is one of a prefix exactly
 -- if the flag `--prefix` is there, and so on
 abbrev pub FitsRows : Task → List Row → Type 0
 FitsRows task.Check rows = ¬ HasFlag (codes "prefix") rows

@@ -95,9 +95,9 @@ rising_positions xs rising i j x y p q l =
     AllPairs-slice_get Below xs (AllPairs-from_IsRising xs rising) i j x y l p q
 
 -- an Id has one position
-pub rising_position_is_one : (xs : List Id) → IsRising xs → (i j : ℕ) (x : Id)
+pub rising_position_is_unique : (xs : List Id) → IsRising xs → (i j : ℕ) (x : Id)
     → slice_get xs i ≡ Some x → slice_get xs j ≡ Some x → i ≡ j
-rising_position_is_one xs rising i j x p q =
+rising_position_is_unique xs rising i j x p q =
     elim (cases_lt i j) [
       | inl l ↦ absurd (below_irrefl id_cmp_total x (rising_positions xs rising i j x x p q l))
       | inr m ↦ elim (cases_lt j i) [

@@ -6,7 +6,7 @@ use Rattle.epx_ranking.specs.inner.Ends.{AreEnds, AreRaised, IsEndBelow}
 use Rattle.epx_ranking.specs.inner.SequenceKeys.{AreLeftOut}
 use Rattle.epx_components.specs.Partitions.{parts, number_for}
 use Rattle.epx_ranking.proofs.ListedNodeLemmas.{nodes_committed, nodes_within}
-use Rattle.epx_ranking.proofs.NodeFaultLemmas.{beginning_from_nodes, fault_from_place}
+use Rattle.epx_ranking.proofs.NodeFaultLemmas.{prefix_from_nodes, fault_from_place}
 use Rattle.epx_ranking.proofs.check.check_listed.Goals as goal
 
 pub find_ends-requires-clause-nodes : goal.find_ends-requires-clause-nodes
@@ -69,7 +69,7 @@ returns c = λ ids ready.
     MatchResult-weaker c.check_positions.result
     (rw (c.deref-5.ensures.value, c.deref-6.ensures.value, c.deref-7.ensures.value)
     at c.check_positions.ensures)
-    (λ _ none. beginning_from_nodes m g is p part ids nodes marks ready left_out are_left ends
+    (λ _ none. prefix_from_nodes m g is p part ids nodes marks ready left_out are_left ends
     raised below are_ends are_raised are_below none)
     (fault_from_place m g is p part ids nodes marks ready left_out are_left ends raised below
     are_ends are_raised are_below)

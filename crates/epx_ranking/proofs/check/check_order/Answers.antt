@@ -2,7 +2,7 @@ use Rattle.std.proofs.Common.{ℕ, rules}
 use Rattle.std.proofs.lemmas.Result.{MatchResult-weaker}
 use Rattle.epx_ranking.specs.inner.NodeLists.{AreListedReady, IsListedIfReady}
 use Rattle.epx_ranking.specs.OrderFaults.{HasAllReady}
-use Rattle.epx_ranking.proofs.BeginningLemmas.{lawful_from_beginning, order_fault_from}
+use Rattle.epx_ranking.proofs.PrefixLemmas.{lawful_from_prefix, order_fault_from}
 use Rattle.epx_ranking.proofs.ListedNodeLemmas.{missing_found, order_fault_of_place}
 use Rattle.epx_ranking.proofs.ListedNodeLemmas.{ready_is_listed}
 use Rattle.epx_ranking.proofs.check.check_order.Goals as goal
@@ -42,4 +42,4 @@ returns c =
     let ready : AreListedReady m g ids nodes marks =
     record { listed = listed; once = c.in_ok-node_list.ensures.sound m is } in
     MatchResult-weaker c.check_listed.result (c.check_listed.ensures ids ready)
-    (λ _ beginning. lawful_from_beginning m ids whole beginning) (order_fault_from m ids whole)
+    (λ _ prefix. lawful_from_prefix m ids whole prefix) (order_fault_from m ids whole)

@@ -1,5 +1,0 @@
-use Rattle.epx_audit.proofs.UniquePairLemmas.{least_uncovered_is_one}
-use Rattle.epx_audit.proofs.laws.least_uncovered_pair_is_one.Goals as goal
-
-pub returns : goal.returns
-returns c = least_uncovered_is_one

@@ -1,5 +1,0 @@
-use Rattle.epx_compare.proofs.ComparisonLawLemmas.{comparison_unique}
-use Rattle.epx_compare.proofs.laws.comparison_is_one.Goals as goal
-
-pub returns : goal.returns
-returns c = comparison_unique

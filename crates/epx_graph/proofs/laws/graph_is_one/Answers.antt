@@ -1,5 +1,0 @@
-use Rattle.epx_graph.proofs.GraphUniquenessLemmas.{graph_is_one}
-use Rattle.epx_graph.proofs.laws.graph_is_one.Goals as goal
-
-pub returns : goal.returns
-returns c = graph_is_one

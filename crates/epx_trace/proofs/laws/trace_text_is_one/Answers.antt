@@ -1,5 +1,0 @@
-use Rattle.epx_trace.proofs.TraceLemmas.{trace_text_is_one}
-use Rattle.epx_trace.proofs.laws.trace_text_is_one.Goals as goal
-
-pub returns : goal.returns
-returns c = trace_text_is_one

@@ -1,0 +1,9 @@
+-- Prefixes of the orders that the protocol allows: what a replica has executed so far.
+use Rattle.std.specs.Prelude.{List, ◌++◌}
+use Rattle.epx_types.specs.declared.id.Id.{Id}
+use Rattle.epx_types.specs.Instances.{Instance}
+use Rattle.epx_types.specs.LawfulOrders.{IsLawful}
+
+-- some further instances make the list a lawful order
+abbrev pub IsLawfulPrefix : List Instance → List Id → Type 0
+IsLawfulPrefix m ids = (rest : List Id) × IsLawful m (ids ++ rest)

@@ -1,5 +1,0 @@
-use Rattle.epx_why.proofs.UniqueTextLemmas.{why_text_is_one}
-use Rattle.epx_why.proofs.laws.why_text_is_one.Goals as goal
-
-pub returns : goal.returns
-returns c = why_text_is_one
