@@ -26,13 +26,13 @@ pub struct Key {
 impl Model for Key {
     ghost use Rattle.std.specs.Prelude.{◌≡◌, List, ℕ};
     ghost use Rattle.epx_types.specs.Keys.{FitsKey};
-    ghost use Rattle.epx_types.specs.inner.KeyTexts.{bytes_of};
+    ghost use Rattle.epx_types.specs.inner.KeyTexts.{text_bytes};
 
     ghost Value = { List ℕ };
 
-    ghost view = { λ k. bytes_of k.text };
+    ghost view = { λ k. text_bytes k.text };
 
-    ghost invariant = { λ k. FitsKey (bytes_of k.text) };
+    ghost invariant = { λ k. FitsKey (text_bytes k.text) };
 }
 
 impl Key {

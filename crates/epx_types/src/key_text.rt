@@ -1,7 +1,7 @@
 //! The text of a key, stored in the key itself if it is short.
 ghost use Rattle.std.specs.Prelude.{◌≡◌, ◌≤◌, length, IfOk};
 ghost use Rattle.epx_types.specs.KeyHeads.{AreBytes, head_of};
-ghost use Rattle.epx_types.specs.inner.KeyTexts.{bytes_of};
+ghost use Rattle.epx_types.specs.inner.KeyTexts.{text_bytes};
 
 use crate::long_text::LongText;
 use crate::memory::Memory;
@@ -19,7 +19,7 @@ pub(crate) enum KeyText {
 impl KeyText {
     pub(crate) fn new(alloc: Global, text: &str) -> Result<KeyText, Memory>
         requires { length text.now ≤ 64 }
-        ensures { IfOk result (λ t. bytes_of t ≡ text.now) }
+        ensures { IfOk result (λ t. text_bytes t ≡ text.now) }
     {
         match ShortText::new(text) {
             Some(short) => Ok(KeyText::Short(short)),
@@ -28,7 +28,7 @@ impl KeyText {
     }
 
     pub(crate) fn as_str(&self) -> &str
-        ensures { result.now ≡ bytes_of self.now }
+        ensures { result.now ≡ text_bytes self.now }
     {
         match self {
             KeyText::Short(text) => text.as_str(),
@@ -38,8 +38,8 @@ impl KeyText {
 
     /// The first eight bytes as a big-endian number, padded with zeros.
     pub(crate) fn head(&self) -> u64
-        ensures head { result ≡ head_of (bytes_of self.now) }
-        ensures bytes { AreBytes (bytes_of self.now) }
+        ensures head { result ≡ head_of (text_bytes self.now) }
+        ensures bytes { AreBytes (text_bytes self.now) }
     {
         match self {
             KeyText::Short(text) => text.head(),
@@ -48,7 +48,7 @@ impl KeyText {
     }
 
     pub(crate) fn copy(&self) -> Result<KeyText, Memory>
-        ensures { IfOk result (λ t. bytes_of t ≡ bytes_of self.now) }
+        ensures { IfOk result (λ t. text_bytes t ≡ text_bytes self.now) }
     {
         match self {
             KeyText::Short(text) => Ok(KeyText::Short(*text)),

@@ -3,6 +3,6 @@ use Rattle.std.specs.Prelude.{ℕ, List, take}
 use Rattle.epx_types.specs.declared.key_text.KeyText.{KeyText}
 use Rattle.epx_types.specs.declared.key_text.KeyText.TheVariants.{Short, Long}
 
-abbrev pub bytes_of : KeyText → List ℕ
-bytes_of (Short text) = take text.len text.bytes
-bytes_of (Long text) = text.text.value.bytes
+abbrev pub text_bytes : KeyText → List ℕ
+text_bytes (Short text) = take text.len text.bytes
+text_bytes (Long text) = text.text.value.bytes
