@@ -2,7 +2,6 @@ mod ReadPieceLemmas
 mod LinePieceLemmas
 mod RedundantLineLemmas
 mod DropsCachedLemmas
-pub mod LaterLogLemmas
 mod OnwardLemmas
 pub mod LogPartLemmas
 mod LedgerNoteLemmas
@@ -10,7 +9,6 @@ mod LineBatchLemmas
 mod LineEndLemmas
 mod LineCacheLemmas
 mod PlaceOrderLemmas
-mod WalkLemmas
 mod ReadFaultLemmas
 mod AnswerLemmas
 pub mod UniquenessLemmas

@@ -33,12 +33,6 @@ abbrev pub meanings_from : ℕ → List (List ℕ) → List MeaningAt
 meanings_from n [] = []
 meanings_from n (log ∷ logs) = meanings_in n 1 (lines_of log) ++ meanings_from (suc n) logs
 
--- the lines that are left of logs: the rest of this log, from these bytes after this line, and
--- then the later logs
-abbrev pub meanings_left : ℕ → ℕ → List ℕ → List (List ℕ) → List MeaningAt
-meanings_left log line rest others =
-    meanings_in log (suc line) (lines_of rest) ++ meanings_from (suc log) others
-
 -- the lines of all logs, by rising place
 abbrev pub meanings_of : List (List ℕ) → List MeaningAt
 meanings_of logs = meanings_from 0 logs

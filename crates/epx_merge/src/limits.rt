@@ -1,5 +1,5 @@
 //! Logs that are too long.
-ghost use Rattle.std.specs.Prelude.{◌∷◌, MatchOption};
+ghost use Rattle.std.specs.Prelude.{MatchOption};
 ghost use Rattle.epx_merge.specs.Refusals.{IsFirstTooLong, NoneTooLong};
 ghost use Rattle.epx_merge.specs.LogLines.{bytes_of};
 
@@ -16,16 +16,4 @@ pub fn first_too_long(logs: &[Vec<u8>]) -> Option<usize>
         }
     }
     None
-}
-
-/// As `first_too_long`, for the first log and the later ones.
-pub fn first_too_long_with(first: &[u8], later: &[Vec<u8>]) -> Option<usize>
-    ensures { let logs = first.now ∷ bytes_of later.now in
-        MatchOption result (NoneTooLong logs) (IsFirstTooLong logs) }
-{
-    if first.len() > MAX_LOG_BYTES {
-        return Some(0);
-    }
-    let log = first_too_long(later)?;
-    Some(log + 1)
 }

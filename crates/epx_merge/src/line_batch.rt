@@ -87,7 +87,7 @@ impl LineBatch {
     }
 
     /// The line with this index.
-    pub(crate) fn line(&self, index: usize) -> Option<PlacedLine<'_>>
+    pub fn line(&self, index: usize) -> Option<PlacedLine<'_>>
         ensures { result ≡ slice_get self.now index }
     {
         let span = self.spans.get(index)?;

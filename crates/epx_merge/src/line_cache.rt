@@ -199,19 +199,9 @@ impl<'a> LineCache<'a> {
         None
     }
 
-    /// Keeps a line with this hash if a slot is free, and returns whether it did. Its number is
-    /// then the count of lines kept before.
-    pub fn insert(&mut self, hash: u64, bytes: &'a [u8]) -> bool
-        ensures { self.new ≡ if result then self.old ++ meaning_of bytes.now ∷ [] else self.old }
-    {
-        match self.free_slot(hash) {
-            Some(at) => self.keep(at, hash >> 32, bytes),
-            None => false,
-        }
-    }
-
-    /// As `insert`, for bytes that do not last: they are copied if a slot is free.
-    pub(crate) fn insert_copy(&mut self, hash: u64, bytes: &[u8], copies: &'a Bump) -> bool
+    /// Keeps a copy of a line with this hash if a slot is free, and returns whether it did. Its
+    /// number is then the count of lines kept before.
+    pub fn insert_copy(&mut self, hash: u64, bytes: &[u8], copies: &'a Bump) -> bool
         ensures { self.new ≡ if result then self.old ++ meaning_of bytes.now ∷ [] else self.old }
     {
         let Some(at) = self.free_slot(hash) else {

@@ -3,7 +3,7 @@ use Rattle.epx_merge.specs.LogReaders.{IsNoting}
 use Rattle.epx_merge.specs.LogLines.{meanings_of}
 use Rattle.epx_merge.proofs.GatheredLemmas.{all_gathered, none_gathered}
 use Rattle.epx_merge.proofs.SourceReadingLemmas.{none_delivered, out_of_memory, too_many_sources}
-use Rattle.epx_merge.proofs.note_sources.note_sources.Goals as goal
+use Rattle.epx_merge.proofs.noted_sources.note_sources.Goals as goal
 
 pub returns-then-sources-gt-MAX_LOGS-clause-noted :
     goal.returns-then-sources-gt-MAX_LOGS-clause-noted

@@ -3,7 +3,7 @@ use Rattle.epx_merge.specs.LogLines.{MeaningAt}
 use Rattle.epx_merge.specs.LogReaders.{HasRead}
 use Rattle.epx_merge.specs.RedundantLines.{DropsCached}
 use Rattle.epx_merge.specs.inner.Gathered.{AreGathered, most_unread}
-use Rattle.epx_merge.proofs.note_sources.note_sources.Given as goal
+use Rattle.epx_merge.proofs.noted_sources.note_sources.Given as goal
 
 -- some lines are read, and the next ones are gathered
 abbrev pub invariant-loop-sources : goal.invariant-loop-sources

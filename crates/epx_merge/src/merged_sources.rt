@@ -8,8 +8,8 @@ ghost use Rattle.epx_merge.specs.Refusals.{FitLimits, IsRefusal};
 ghost use Rattle.epx_merge.specs.SourceReadings.{EndsMerging};
 
 use crate::ledger_notes::empty_ledger;
-use crate::memory_sources::memory_sources;
-use crate::note_sources::note_sources;
+use crate::logs_in_memory::memory_sources;
+use crate::noted_sources::note_sources;
 use epx_claims::Gate;
 use epx_committed::{Ledger, Merged};
 use epx_devices::Source;

@@ -2,7 +2,7 @@ use Rattle.std.proofs.Common.{rules}
 use Rattle.epx_merge.specs.LogLines.{bytes_of}
 use Rattle.epx_merge.specs.SourceReadings.{IsMerging}
 use Rattle.epx_merge.proofs.MemoryLogLemmas.{made_in_memory, refused_for_limits}
-use Rattle.epx_merge.proofs.merge_sources.read_logs.Goals as goal
+use Rattle.epx_merge.proofs.merged_sources.read_logs.Goals as goal
 
 pub returns : goal.returns
 returns g c =

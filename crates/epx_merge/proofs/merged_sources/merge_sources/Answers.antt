@@ -1,7 +1,7 @@
 use Rattle.std.proofs.Common.{Err, inl, subst, rules}
 use Rattle.epx_merge.specs.SourceReadings.{EndsMerging, IsMerging}
 use Rattle.epx_merge.proofs.SourceReadingLemmas.{made_after}
-use Rattle.epx_merge.proofs.merge_sources.merge_sources.Goals as goal
+use Rattle.epx_merge.proofs.merged_sources.merge_sources.Goals as goal
 
 pub returns-in_err-noted : goal.returns-in_err-noted
 returns-in_err-noted g c =

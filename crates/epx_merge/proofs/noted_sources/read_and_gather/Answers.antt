@@ -1,5 +1,5 @@
 use Rattle.std.proofs.Common.{rules}
-use Rattle.epx_merge.proofs.note_sources.read_and_gather.Goals as goal
+use Rattle.epx_merge.proofs.noted_sources.read_and_gather.Goals as goal
 
 pub returns-clause-lines : goal.returns-clause-lines
 returns-clause-lines g c = λ first lines h.

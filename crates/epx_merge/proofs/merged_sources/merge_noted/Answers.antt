@@ -7,7 +7,7 @@ use Rattle.epx_merge.specs.ReadFaults.{IsReadFault}
 use Rattle.epx_merge.proofs.PlaceOrderLemmas.{placed_in_order}
 use Rattle.epx_merge.proofs.AnswerLemmas.{ledger_answers, read_fault_refuses}
 use Rattle.epx_merge.proofs.LedgerNoteLemmas.{all_noted}
-use Rattle.epx_merge.proofs.merge_sources.merge_noted.Goals as goal
+use Rattle.epx_merge.proofs.merged_sources.merge_noted.Goals as goal
 
 pub returns-in_err-noted : goal.returns-in_err-noted
 returns-in_err-noted c = λ logs fits read.

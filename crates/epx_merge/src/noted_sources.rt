@@ -9,7 +9,7 @@ ghost use Rattle.epx_merge.specs.RedundantLines.{DropsCached};
 ghost use Rattle.epx_merge.specs.inner.Gathered.{AreGathered, most_unread};
 ghost use Rattle.epx_merge.specs.SourceReadings.{EndsNoting, EndsReading};
 
-use crate::batch_len::batch_len;
+use crate::batch_lens::batch_len;
 use crate::gathered_lines::{Position, gather};
 use crate::line_batch::LineBatch;
 use crate::log_reader::LogReader;
