@@ -4,16 +4,14 @@ ghost use Rattle.std.specs.Prelude.{◌≡◌, All, IfOk, false};
 use crate::case_input::CaseInput;
 use crate::flow::Flow;
 use epx_tool::{
-    Ask, FuseSource, InputQuestion, Task, answer, check, resume, run, run_check, run_resume,
-    run_with_input, show, view,
+    Ask, FuseSource, Task, answer, answer_texts, check, resume, run, run_check, run_resume,
+    run_task, show, view,
 };
 use epx_types::{Fault, Plan};
 use std::alloc::{AllocError, Global};
 use std::io;
 use std::random::RandomSource;
 use std::thread::Threads;
-
-const PREFIX: InputQuestion = InputQuestion::CheckPrefix;
 
 /// The view that a task asks for, or None if it asks for a report or the verdict on a list.
 fn ask_of(task: &Task) -> Option<Ask> {
@@ -54,7 +52,7 @@ pub(crate) fn answer_input<R: Threads + RandomSource + Sync>(
         (Task::Resume, None) => resume(rt, alloc, &case_input.first, logs, plan),
         (Task::Check, None) => check(rt, alloc, &case_input.first, logs, plan),
         (Task::CheckPrefix, None) => {
-            epx_tool::answer_input(rt, alloc, PREFIX, &case_input.first, logs, plan)
+            answer_texts(rt, alloc, *task, &case_input.first, logs, plan)
         }
         (_, None) => answer(rt, alloc, logs, plan),
     };
@@ -99,16 +97,7 @@ pub(crate) fn deliver_input<R: Threads + RandomSource + Sync>(
         (Task::Resume, None) => { run_resume(rt, alloc, &mut first, &mut sources, plan, &mut sink) }
         (Task::Check, None) => { run_check(rt, alloc, &mut first, &mut sources, plan, &mut sink) }
         (Task::CheckPrefix, None) => {
-            run_with_input(
-                rt,
-                alloc,
-                PREFIX,
-                &mut first,
-                &mut sources,
-                plan,
-                &mut sink,
-            )
-            .map(|_| ())
+            run_task(rt, alloc, *task, &mut first, &mut sources, plan, &mut sink).map(|_| ())
         }
         (_, None) => run(rt, alloc, &mut sources, plan, &mut sink),
     };

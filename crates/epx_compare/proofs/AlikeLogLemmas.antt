@@ -22,7 +22,7 @@ use Rattle.epx_compare.specs.ComparisonLines.{lacks_data}
 use Rattle.epx_compare.specs.Comparisons.{HasFindings, bad_text, difference_text, findings_text}
 use Rattle.epx_compare.specs.Comparisons.{for_logs, gaps_text}
 use Rattle.epx_compare.specs.Gaps.{Gap, gaps_of, has_line}
-use Rattle.epx_compare.specs.GapLaws.{first_of}
+use Rattle.epx_compare.specs.GapLaws.{first_lacked}
 use Rattle.epx_compare.proofs.GapLawLemmas.{gaps_are}
 use Rattle.epx_compare.proofs.MemberLemmas.{list_any-found, list_any-from}
 use Rattle.epx_compare.proofs.NoDifferenceLemmas.{left_nil, right_nil, both_nil, line_not_nil}
@@ -137,10 +137,10 @@ module _ (logs : List (List ℕ)) (ids : List Id) (named : AreNamedBy (placed_of
         let are = gaps_are (has_line (placed_of logs) i) ids named.rising in
         let first = (are.ends g (subst (λ (gs : List Gap). Contains gs g) (sym e)
         (Contains-head g gaps))).first in
-        let p = named.named (first_of g) first.among in
+        let p = named.named (first_lacked g) first.among in
         let r = own.given p.0.instance (accepted.committed.whole p.0 p.1) in
         let q = own_to_all logs i log at r.0 r.1 in
-        let is : q.0.instance.id ≡ first_of g =
+        let is : q.0.instance.id ≡ first_lacked g =
         ap (λ (d : Instance). d.id) (q.3 ∙ r.2) ∙ p.2 in
         let has = subst (λ (x : Id). has_line (placed_of logs) i x ≡ true) is
         (line_has (placed_of logs) i q.0 q.1 q.2) in

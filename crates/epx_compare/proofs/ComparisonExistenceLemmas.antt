@@ -13,7 +13,7 @@ use Rattle.epx_types.proofs.lists.RisingListLemmas.{rising_list}
 use Rattle.epx_merge.specs.LogLines.{placed_of, bad_lines_of}
 use Rattle.epx_compare.specs.Comparisons.{IsComparison, comparison_text}
 use Rattle.epx_versions.specs.SameInstances.{same_id}
-use Rattle.epx_compare.specs.Unmet.{AreUnmet}
+use Rattle.epx_compare.specs.MissingDeps.{AreMissingDeps}
 use Rattle.epx_versions.specs.inner.EqualVersions.{ids_decide}
 use Rattle.epx_committed.proofs.InstanceCountLemmas.{named_ids}
 
@@ -28,8 +28,9 @@ lacks_or_has ids x = elim (cases_Bool (list_any (same_id x) ids)) [
       absurd (cc (found, none)))
 ]
 
-unmet_exist : (lines : List Placed) (ids : List Id) → (unmet : List Id) × AreUnmet lines ids unmet
-unmet_exist lines ids =
+missing_exist : (lines : List Placed) (ids : List Id)
+    → (missing : List Id) × AreMissingDeps lines ids missing
+missing_exist lines ids =
     let deps : Placed → List Id = λ p. p.instance.deps in
     let found = rising_list id_cmp_total id_cmp-IsAntisymmetric (λ x. ¬ Contains ids x)
     (lacks_or_has ids) (flat_map deps lines) in (
@@ -49,13 +50,13 @@ comparison_existence logs =
     let lines = placed_of logs in
     let bad = bad_lines_of logs in
     let ids = named_ids lines in
-    let unmet = unmet_exist lines ids.0 in (
-      comparison_text (length logs) lines bad ids.0 unmet.0,
+    let missing = missing_exist lines ids.0 in (
+      comparison_text (length logs) lines bad ids.0 missing.0,
       record {
         ids = ids.0;
-        unmet = unmet.0;
+        missing = missing.0;
         named = ids.1;
-        open_ends = unmet.1;
+        open_ends = missing.1;
         printed = refl;
       },
     )

@@ -5,12 +5,12 @@ use Rattle.epx_types.specs.PlacedLines.{Placed}
 use Rattle.epx_types.proofs.lists.RisingIdLemmas.{same_ids}
 use Rattle.epx_merge.specs.LogLines.{placed_of, bad_lines_of}
 use Rattle.epx_compare.specs.Comparisons.{IsComparison, comparison_text}
-use Rattle.epx_compare.specs.Unmet.{AreUnmet}
+use Rattle.epx_compare.specs.MissingDeps.{AreMissingDeps}
 use Rattle.epx_committed.proofs.InstanceCountLemmas.{named_unique}
 
-unmet_unique : (lines : List Placed) (ids xs ys : List Id) → AreUnmet lines ids xs
-    → AreUnmet lines ids ys → xs ≡ ys
-unmet_unique lines ids xs ys p q = same_ids xs ys p.rising q.rising
+missing_unique : (lines : List Placed) (ids xs ys : List Id) → AreMissingDeps lines ids xs
+    → AreMissingDeps lines ids ys → xs ≡ ys
+missing_unique lines ids xs ys p q = same_ids xs ys p.rising q.rising
     (λ x among. (q.each x).1 ((p.each x).0 among)) (λ x among. (p.each x).1 ((q.each x).0 among))
 
 pub comparison_unique : (logs : List (List ℕ)) (a b : List ℕ) → IsComparison logs a
@@ -18,9 +18,9 @@ pub comparison_unique : (logs : List (List ℕ)) (a b : List ℕ) → IsComparis
 comparison_unique logs a b p q =
     let lines = placed_of logs in
     let ids = named_unique lines p.ids q.ids p.named q.named in
-    let ends = subst (λ xs. AreUnmet lines xs q.unmet) (sym ids) q.open_ends in
-    let unmet = unmet_unique lines p.ids p.unmet q.unmet p.open_ends ends in
-    let texts : comparison_text (length logs) lines (bad_lines_of logs) p.ids p.unmet
-    ≡ comparison_text (length logs) lines (bad_lines_of logs) q.ids q.unmet =
-    λ i. comparison_text (length logs) lines (bad_lines_of logs) (ids i) (unmet i) in
+    let ends = subst (λ xs. AreMissingDeps lines xs q.missing) (sym ids) q.open_ends in
+    let missing = missing_unique lines p.ids p.missing q.missing p.open_ends ends in
+    let texts : comparison_text (length logs) lines (bad_lines_of logs) p.ids p.missing
+    ≡ comparison_text (length logs) lines (bad_lines_of logs) q.ids q.missing =
+    λ i. comparison_text (length logs) lines (bad_lines_of logs) (ids i) (missing i) in
     p.printed ∙ texts ∙ sym q.printed

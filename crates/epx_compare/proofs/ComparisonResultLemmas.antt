@@ -3,9 +3,8 @@ use Rattle.std.proofs.Common.{◌≡◌, ◌↔◌, ℕ, List, Result, Ok, Err, 
 use Rattle.std.specs.Prelude.{IfOk, MatchResult}
 use Rattle.epx_types.specs.declared.fault.Fault.{Fault}
 use Rattle.epx_compare.specs.declared.comparison.Comparison.{Comparison}
-use Rattle.epx_compare.specs.ComparisonAnswers.{Compares}
+use Rattle.epx_compare.specs.ComparisonAnswers.{Compares, IsComparisonResult}
 use Rattle.epx_compare.specs.Comparisons.{HasFindings}
-use Rattle.epx_compare.specs.LaterLogComparisons.{IsComparisonResult}
 
 module _ (logs : List (List ℕ)) where
   abbrev pub HasAnswer : Result Comparison Fault → Type 0

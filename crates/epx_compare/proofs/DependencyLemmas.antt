@@ -25,10 +25,10 @@ use Rattle.epx_merge.specs.LogLines.{BadLineAt}
 use Rattle.epx_compare.specs.declared.catalog.Catalog.{Catalog}
 use Rattle.epx_versions.specs.LineVersions.{versions_of}
 use Rattle.epx_versions.specs.SameInstances.{same_id, same_instance}
-use Rattle.epx_compare.specs.Unmet.{depends_on}
+use Rattle.epx_compare.specs.MissingDeps.{depends_on}
 use Rattle.epx_compare.specs.inner.Catalogs.{IsCatalogOf, version_ids}
 use Rattle.epx_versions.specs.inner.EqualVersions.{ids_decide, same_by_test}
-use Rattle.epx_compare.specs.inner.UnmetCounts.{is_unmet, deps_at, deps_of}
+use Rattle.epx_compare.specs.inner.MissingCounts.{is_missing, deps_at, deps_at_numbers}
 
 -- ---- tests
 
@@ -76,9 +76,9 @@ pub both_so : (a b : Bool) → a ≡ true → b ≡ true → (a && b) ≡ true
 both_so a b p q = cc
 
 -- lists with the same elements have the same dependencies
-pub same_unmet : (ids deps more : List Id) → ((x : Id) → Contains deps x ↔ Contains more x)
-    → (x : Id) → is_unmet ids deps x ≡ is_unmet ids more x
-same_unmet ids deps more same x = ap (λ b. not (list_any (same_id x) ids) && b)
+pub same_missing : (ids deps more : List Id) → ((x : Id) → Contains deps x ↔ Contains more x)
+    → (x : Id) → is_missing ids deps x ≡ is_missing ids more x
+same_missing ids deps more same x = ap (λ b. not (list_any (same_id x) ids) && b)
     (same_answer (list_any (λ d. same_id d x) deps) (list_any (λ d. same_id d x) more)
     (λ h. from_member x more ((same x).0 (member x deps h)))
     (λ h. from_member x deps ((same x).1 (member x more h))))
@@ -173,7 +173,7 @@ module _ (lines : List Placed) (bad : List BadLineAt) (c : Catalog)
   module _ (rising : IsRising c.ids) (k : ℕ) (y : Id) (here : slice_get c.ids k ≡ Some y)
       (x : Id) where
     from_line : depends_on lines x y ≡ true
-        → Contains (deps_of c.noted.versions.keys (row_of c.versions k)) x
+        → Contains (deps_at_numbers c.noted.versions.keys (row_of c.versions k)) x
     from_line h =
         let test = λ (p : Placed). same_id p.instance.id y
         && list_any (λ d. same_id d x) p.instance.deps in
@@ -193,7 +193,7 @@ module _ (lines : List Placed) (bad : List BadLineAt) (c : Catalog)
         Contains-flat_map (deps_at c.noted.versions.keys) (row_of c.versions k) at.0 x number
         (dep_at c.noted.versions.keys at.0 x e keys dep)
 
-    to_line : Contains (deps_of c.noted.versions.keys (row_of c.versions k)) x
+    to_line : Contains (deps_at_numbers c.noted.versions.keys (row_of c.versions k)) x
         → depends_on lines x y ≡ true
     to_line h =
         let keys = c.noted.versions.keys in
@@ -218,8 +218,8 @@ module _ (lines : List Placed) (bad : List BadLineAt) (c : Catalog)
 
     -- an instance depends on x exactly where its versions do
     pub depends_here : depends_on lines x y
-        ≡ list_any (λ d. same_id d x) (deps_of c.noted.versions.keys (row_of c.versions k))
+        ≡ list_any (λ d. same_id d x) (deps_at_numbers c.noted.versions.keys (row_of c.versions k))
     depends_here =
-        let deps = deps_of c.noted.versions.keys (row_of c.versions k) in
+        let deps = deps_at_numbers c.noted.versions.keys (row_of c.versions k) in
         same_answer (depends_on lines x y) (list_any (λ d. same_id d x) deps)
         (λ h. from_member x deps (from_line h)) (λ h. to_line (member x deps h))

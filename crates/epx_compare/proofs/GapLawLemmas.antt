@@ -16,7 +16,7 @@ use Rattle.epx_types.proofs.lists.RisingIdLemmas.{AllPairs-from_IsRising}
 use Rattle.epx_types.proofs.graph.WaitingLemmas.{Below-parts}
 use Rattle.epx_compare.specs.Gaps.{Gap, gaps_of, goes_on, widened}
 use Rattle.epx_compare.specs.GapLaws.{AreGaps, HasLackedEnds, IsBetween, IsInGap, IsLacked}
-use Rattle.epx_compare.specs.GapLaws.{first_of, last_of}
+use Rattle.epx_compare.specs.GapLaws.{first_lacked, last_of}
 
 -- of one replica, a lower Id has a lower number
 Below-number : (x y : Id) → Below x y → x.replica ≡ y.replica → x.number < y.number
@@ -55,7 +55,7 @@ module _ (has : Id → Bool) where
       → HasLackedEnds has (x ∷ ids) g
   more_ends x ids g h = record {
     upward = h.upward;
-    first = more_lacked x ids (first_of g) h.first;
+    first = more_lacked x ids (first_lacked g) h.first;
     last = more_lacked x ids (last_of g) h.last;
   }
 
@@ -65,7 +65,7 @@ module _ (has : Id → Bool) where
         → ¬ IsInGap gap x
     not_in_later gaps rest gap among inside =
         let first = (rest.ends gap among).first.among in
-        let less = Below-number x (first_of gap) (above (first_of gap) first) inside.0 in
+        let less = Below-number x (first_lacked gap) (above (first_lacked gap) first) inside.0 in
         omega (arith, less, inside.1)
 
     -- ---- an Id that is not lacked
@@ -202,9 +202,9 @@ module _ (has : Id → Bool) where
         whole = rest.ends g (Contains-head g gaps)
 
         less : x.number < g.from
-        less = Below-number x (first_of g) (above (first_of g) whole.first.among) one
+        less = Below-number x (first_lacked g) (above (first_lacked g) whole.first.among) one
 
-        is_first : x ≡ first_of wider
+        is_first : x ≡ first_lacked wider
         is_first = λ i. record { replica = one i; number = x.number }
 
   -- ---- all Ids
@@ -277,11 +277,11 @@ module _ (has : Id → Bool) where
       → Contains gaps h → AreApart (x ∷ ids)
       (record { replica = x.replica; from = x.number; to = x.number }) h
   run_ends x [] rising lack ends gaps rest h among same =
-      absurd (Contains-nil (first_of h) (rest.ends h among).first.among)
+      absurd (Contains-nil (first_lacked h) (rest.ends h among).first.among)
   run_ends x (y ∷ ids) rising lack ends gaps rest h among same =
       let first = (rest.ends h among).first in
       let below = above_all x (y ∷ ids) rising y (Contains-head y ids) in
-      elim (Contains-cons_cases y ids (first_of h) first.among) [
+      elim (Contains-cons_cases y ids (first_lacked h) first.among) [
         | inl here ↦
             let lacks : has y ≡ false = ap has here ∙ first.lacks in
             let one : y.replica ≡ x.replica = ap (λ (z : Id). z.replica) here ∙ sym same in
@@ -289,9 +289,9 @@ module _ (has : Id → Bool) where
             let on : goes_on has x.replica (y ∷ ids) ≡ true = rw test (rw lacks refl) in
             absurd (cc (on, ends))
         | inr later ↦
-            let next = above_all y ids rising.1 (first_of h) later in
+            let next = above_all y ids rising.1 (first_lacked h) later in
             let one : y.replica ≡ x.replica = elim (Below-parts x y below) [
-              | inl less ↦ elim (Below-parts y (first_of h) next) [
+              | inl less ↦ elim (Below-parts y (first_lacked h) next) [
                 | inl more ↦ absurd (omega (arith, less, more, same))
                 | inr tied ↦ absurd (omega (arith, less, tied.0, same))
               ]
@@ -305,7 +305,7 @@ module _ (has : Id → Bool) where
                   had = is;
                   replica = one;
                   after = Below-number x y below (sym one);
-                  before = Below-number y (first_of h) next (one ∙ same);
+                  before = Below-number y (first_lacked h) next (one ∙ same);
                 },
               )
               | inr lacks ↦

@@ -7,7 +7,7 @@ use Rattle.std.proofs.lemmas.Option.{slice_get-get_or}
 use Rattle.epx_types.specs.declared.id.Id.{Id}
 use Rattle.epx_compare.specs.declared.log_set.LogSet.{LogSet}
 use Rattle.epx_compare.specs.Gaps.{gaps_of, goes_on, widened}
-use Rattle.epx_compare.specs.inner.LogMarks.{IsMarking, is_marked}
+use Rattle.epx_compare.specs.inner.LogMarks.{IsMarking, is_log_marked}
 
 module _ (has : Id → Bool) (ids : List Id) (n : ℕ) (d : Id) (within : n < length ids) where
   from_here : drop n ids ≡ get_or ids n d ∷ drop (n + 1) ids
@@ -55,5 +55,5 @@ module _ (has : Id → Bool) (ids : List Id) (n : ℕ) (d : Id) (within : n < le
 
   -- the mark of an Id
   pub marked_here : (log : ℕ) (marks : List LogSet) → IsMarking has log ids marks
-      → has (get_or ids n d) ≡ is_marked log marks n
+      → has (get_or ids n d) ≡ is_log_marked log marks n
   marked_here log marks marking = marking n (get_or ids n d) (slice_get-get_or ids n d within)

@@ -4,8 +4,8 @@ mod LogTextLemmas
 mod LogCountLemmas
 mod MarkLemmas
 mod DependencyLemmas
-mod UnmetCountLemmas
-mod UnmetLemmas
+mod MissingCountLemmas
+mod MissingDepLemmas
 mod PositionLemmas
 mod DifferenceLemmas
 mod MemberLemmas
@@ -21,5 +21,5 @@ mod MemberLawLemmas
 mod GroupLawLemmas
 mod ComparisonExistenceLemmas
 pub mod ComparisonAnswerLemmas
-mod NotedLogLemmas
+mod ComparisonRefusalLemmas
 pub mod ComparisonResultLemmas

@@ -1,5 +1,5 @@
 -- The answer to logs that are compared: what they say against each other, or the first refusal.
-use Rattle.std.specs.Prelude.{ℕ, ◌<◌, ◌≤◌, List, length, Result, Ok, Err}
+use Rattle.std.specs.Prelude.{◌≡◌, ◌↔◌, ℕ, ◌<◌, ◌≤◌, true, List, length, Result, Ok, Err}
 use Rattle.epx_types.specs.declared.fault.Fault.{Fault}
 use Rattle.epx_types.specs.declared.fault.Fault.TheVariants.{Memory, TooManyLogs, LogTooLong}
 use Rattle.epx_types.specs.declared.fault.Fault.TheVariants.{TooManyInstances}
@@ -7,7 +7,8 @@ use Rattle.epx_types.specs.Limits.{max_logs}
 use Rattle.epx_merge.specs.LogLines.{placed_of}
 use Rattle.epx_committed.specs.InstanceCounts.{FewInstances, ManyInstances}
 use Rattle.epx_merge.specs.Refusals.{FitLimits, IsFirstTooLong}
-use Rattle.epx_compare.specs.Comparisons.{IsComparison}
+use Rattle.epx_compare.specs.declared.comparison.Comparison.{Comparison}
+use Rattle.epx_compare.specs.Comparisons.{HasFindings, IsComparison}
 
 -- the refusals: none is of a bad line, or of lines that differ
 abbrev pub IsComparisonRefusal : List (List ℕ) → Fault → Type 0
@@ -25,3 +26,9 @@ pub record IsComparisonOf (logs : List (List ℕ)) (text : List ℕ) : Type 0 wh
 abbrev pub Compares : List (List ℕ) → Result (List ℕ) Fault → Type 0
 Compares logs (Ok text) = IsComparisonOf logs text
 Compares logs (Err fault) = IsComparisonRefusal logs fault
+
+-- the comparison of logs, which says whether something is wrong with them, or their first refusal
+abbrev pub IsComparisonResult : List (List ℕ) → Result Comparison Fault → Type 0
+IsComparisonResult logs (Ok c) =
+    Compares logs (Ok c.text.items) × ((c.has_findings ≡ true) ↔ HasFindings logs)
+IsComparisonResult logs (Err fault) = Compares logs (Err fault)

@@ -37,6 +37,6 @@ lacks_data log gap = string (codes "lacks") ∷ data_of_number log ∷ data_of_n
     ∷ data_of_number gap.from ∷ data_of_number gap.to ∷ []
 
 -- an instance that no log commits, and how many instances depend on it
-abbrev pub unmet_data : Id → ℕ → List Data
-unmet_data x count = string (codes "missing") ∷ data_of_number x.replica
+abbrev pub missing_count_data : Id → ℕ → List Data
+missing_count_data x count = string (codes "missing") ∷ data_of_number x.replica
     ∷ data_of_number x.number ∷ data_of_number count ∷ []

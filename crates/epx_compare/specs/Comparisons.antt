@@ -6,11 +6,11 @@ use Rattle.epx_merge.specs.LogLines.{BadLineAt, placed_of, bad_lines_of}
 use Rattle.epx_committed.specs.InstanceCounts.{AreNamedBy}
 use Rattle.epx_report.specs.ReportLines.{line_of}
 use Rattle.epx_compare.specs.ComparisonLines.{log_data, bad_data, differs_data, lacks_data}
-use Rattle.epx_compare.specs.ComparisonLines.{unmet_data}
+use Rattle.epx_compare.specs.ComparisonLines.{missing_count_data}
 use Rattle.epx_compare.specs.Differences.{lines_of_id, differing_members, groups_of}
 use Rattle.epx_compare.specs.Gaps.{has_line, gaps_of}
 use Rattle.epx_compare.specs.LogCounts.{lines_in, bad_lines_in}
-use Rattle.epx_compare.specs.Unmet.{dependents_of, AreUnmet}
+use Rattle.epx_compare.specs.MissingDeps.{dependents_of, AreMissingDeps}
 
 -- `text` of each log number from this one on, for as many logs
 abbrev pub for_logs : ℕ → ℕ → (ℕ → List ℕ) → List ℕ
@@ -42,27 +42,28 @@ gaps_text logs lines ids = for_logs 0 logs
     (λ log. flat_map (λ gap. line_of (lacks_data log gap)) (gaps_of (has_line lines log) ids))
 
 -- a line for each dependency that is not committed
-abbrev pub unmet_text : List Placed → List Id → List Id → List ℕ
-unmet_text lines ids unmet =
-    flat_map (λ x. line_of (unmet_data x (dependents_of lines ids x))) unmet
+abbrev pub missing_counts_text : List Placed → List Id → List Id → List ℕ
+missing_counts_text lines ids missing =
+    flat_map (λ x. line_of (missing_count_data x (dependents_of lines ids x))) missing
 
 -- the lines of what is wrong with the logs: bad lines, differences and gaps
 abbrev pub findings_text : ℕ → List Placed → List BadLineAt → List Id → List ℕ
 findings_text logs lines bad ids =
     bad_text bad ++ (flat_map (difference_text lines) ids ++ gaps_text logs lines ids)
 
--- all parts; `ids` are the committed instances, and `unmet` the dependencies that are not
+-- all parts; `ids` are the committed instances, and `missing` the dependencies that are not
 abbrev pub comparison_text : ℕ → List Placed → List BadLineAt → List Id → List Id → List ℕ
-comparison_text logs lines bad ids unmet = counts_text logs lines bad
-    ++ (findings_text logs lines bad ids ++ unmet_text lines ids unmet)
+comparison_text logs lines bad ids missing = counts_text logs lines bad
+    ++ (findings_text logs lines bad ids ++ missing_counts_text lines ids missing)
 
 -- what logs say against each other
 pub record IsComparison (logs : List (List ℕ)) (text : List ℕ) : Type 0 where
   pub ids : List Id
-  pub unmet : List Id
+  pub missing : List Id
   pub named : AreNamedBy (placed_of logs) ids
-  pub open_ends : AreUnmet (placed_of logs) ids unmet
-  pub printed : text ≡ comparison_text (length logs) (placed_of logs) (bad_lines_of logs) ids unmet
+  pub open_ends : AreMissingDeps (placed_of logs) ids missing
+  pub printed : text
+      ≡ comparison_text (length logs) (placed_of logs) (bad_lines_of logs) ids missing
 
 -- something is wrong with the logs
 pub record HasFindings (logs : List (List ℕ)) : Type 0 where

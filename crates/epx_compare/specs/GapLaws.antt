@@ -5,8 +5,8 @@ use Rattle.epx_types.specs.Ids.{IsRising}
 use Rattle.epx_compare.specs.Gaps.{Gap, gaps_of}
 
 -- the first and the last instance of a gap, and all between
-abbrev pub first_of : Gap → Id
-first_of gap = record { replica = gap.replica; number = gap.from }
+abbrev pub first_lacked : Gap → Id
+first_lacked gap = record { replica = gap.replica; number = gap.from }
 
 abbrev pub last_of : Gap → Id
 last_of gap = record { replica = gap.replica; number = gap.to }
@@ -22,7 +22,7 @@ pub record IsLacked (has : Id → Bool) (ids : List Id) (x : Id) : Type 0 where
 -- the gap goes from an Id that is lacked to one that is
 pub record HasLackedEnds (has : Id → Bool) (ids : List Id) (gap : Gap) : Type 0 where
   pub upward : gap.from ≤ gap.to
-  pub first : IsLacked has ids (first_of gap)
+  pub first : IsLacked has ids (first_lacked gap)
   pub last : IsLacked has ids (last_of gap)
 
 -- between two gaps of one replica this Id is not lacked

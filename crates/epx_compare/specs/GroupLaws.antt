@@ -1,5 +1,5 @@
 -- Laws of the members in which lines differ, of the groups of lines that commit the same, and of
--- the dependents of what is unmet.
+-- the dependents of what is missing.
 use Rattle.std.specs.Prelude.{◌≡◌, ◌≢◌, ◌↔◌, true, List, Contains, AllPairs}
 use Rattle.epx_types.specs.declared.id.Id.{Id}
 use Rattle.epx_types.specs.declared.place.Place.{Place}
@@ -7,7 +7,7 @@ use Rattle.epx_types.specs.Instances.{Instance}
 use Rattle.epx_types.specs.PlacedLines.{Placed, HaveDistinctPlaces}
 use Rattle.epx_versions.specs.SameInstances.{same_seq, same_deps, same_ops}
 use Rattle.epx_compare.specs.Differences.{groups_of, some_differ}
-use Rattle.epx_compare.specs.Unmet.{depends_on}
+use Rattle.epx_compare.specs.MissingDeps.{depends_on}
 
 -- each line has its place in one group, groups have places of lines alone and are not empty, and
 -- lines have their places in one group exactly if they commit the same

@@ -3,11 +3,10 @@ pub use Rattle.epx_versions.specs.LineVersions
 pub mod LogCounts
 pub mod Differences
 pub mod Gaps
-pub mod Unmet
+pub mod MissingDeps
 pub mod ComparisonLines
 pub mod Comparisons
 pub mod ComparisonAnswers
-pub mod LaterLogComparisons
 pub mod ComparisonLaws
 pub mod GapLaws
 pub mod GroupLaws

@@ -2,5 +2,5 @@
 pub mod Catalogs
 pub mod LogMarks
 pub mod NotedLogs
-pub mod UnmetCounts
+pub mod MissingCounts
 pub mod NumberedVersions

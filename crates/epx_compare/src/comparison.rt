@@ -1,15 +1,13 @@
 //! What logs say against each other, as text.
-ghost use Rattle.std.specs.Prelude.{◌≡◌, ◌↔◌, ◌<◌, ◌≤◌, ◌∷◌, ◌++◌, [], ℕ, List, true};
+ghost use Rattle.std.specs.Prelude.{◌≡◌, ◌↔◌, ◌≤◌, ◌++◌, ℕ, All, List, true, false};
 ghost use Rattle.std.specs.Prelude.{IfOk, OnOk, MatchResult, Ok, Err};
-ghost use Rattle.std.specs.Thread.{IsSync};
 ghost use Rattle.epx_types.specs.PlacedLines.{Placed};
 ghost use Rattle.epx_types.specs.Limits.{max_logs};
-ghost use Rattle.epx_merge.specs.LogLines.{BadLineAt, bytes_of, meanings_of};
-ghost use Rattle.epx_compare.specs.ComparisonAnswers.{Compares};
+ghost use Rattle.epx_merge.specs.LogLines.{BadLineAt, bytes_of};
+ghost use Rattle.epx_merge.specs.SourceReadings.{EndsMaking};
+ghost use Rattle.epx_compare.specs.ComparisonAnswers.{Compares, IsComparisonResult};
 ghost use Rattle.epx_compare.specs.Comparisons.{HasFindings, findings_text};
-ghost use Rattle.epx_compare.specs.LaterLogComparisons.{IsComparisonResult, IsComparisonWith};
 ghost use Rattle.epx_compare.specs.inner.Catalogs.{IsCatalogOf, IsCatalogComparison};
-ghost use Rattle.epx_versions.specs.NotedLines.{AreNotedLines};
 ghost use Rattle.epx_compare.specs.inner.NotedLogs.{AreNotedLogs};
 
 use crate::bad_lines::append_bad_lines;
@@ -17,15 +15,17 @@ use crate::catalog::Catalog;
 use crate::counts::append_counts;
 use crate::differences::append_differences;
 use crate::gap_lines::append_gaps;
-use crate::unmet::append_all_unmet;
-use epx_merge::{LineWalk, first_too_long, first_too_long_with};
+use crate::missing::append_all_missing;
+use epx_claims::FreeGate;
+use epx_devices::Source;
+use epx_merge::{memory_sources, note_sources};
 use epx_seed::Seed;
-use epx_types::limits::{MAX_INSTANCES, MAX_LOGS};
+use epx_types::limits::MAX_INSTANCES;
 use epx_types::{Fault, Memory, Plan};
-use epx_versions::{Noted, NotedLines, note_lines};
+use epx_versions::{Noted, VersionNotes};
 use std::alloc::Global;
 use std::random::RandomSource;
-use std::thread::{Threads, join_mut};
+use std::thread::Threads;
 
 /// What logs say against each other.
 #[derive(Drop)]
@@ -74,7 +74,7 @@ fn comparison_of(
     let start = text.len();
     append_findings(alloc, &mut text, logs, catalog)?;
     let has_findings = text.len() != start;
-    append_all_unmet(alloc, &mut text, catalog, seed)?;
+    append_all_missing(alloc, &mut text, catalog, seed)?;
     Ok(Comparison { text, has_findings })
 }
 
@@ -120,76 +120,24 @@ pub fn compare<R: Threads + RandomSource + Sync>(
         (λ fault. Compares bytes (Err fault)) }
     ensures found { IfOk result (λ c. (c.has_findings ≡ true) ↔ HasFindings (bytes_of logs.now)) }
 {
-    if logs.len() > MAX_LOGS {
-        return Err(Fault::TooManyLogs);
-    }
-    if let Some(log) = first_too_long(logs) {
-        return Err(Fault::LogTooLong { log });
-    }
-    let seed = Seed::draw(rt);
-    let none = NotedLines::new(alloc, logs.len(), seed)?;
-    let NotedLines { noted, .. } = note_lines(rt, alloc, plan, none, LineWalk::new(logs))?;
-    compare_noted(alloc, logs.len(), noted, seed)
+    let mut sources = memory_sources(alloc, logs)?;
+    compare_sources(rt, alloc, &mut sources, plan)
 }
 
-/// Notes the lines of the first of several logs.
-fn note_first<'a, R: Threads + Sync>(
+/// As `compare`, for the logs of sources, which are read in order. `Fault::Read` can come too.
+pub fn compare_sources<R: Threads + RandomSource + Sync, S: Source>(
     rt: &R,
     alloc: Global,
-    first: &'a [u8],
-    seed: Seed,
-    plan: Plan,
-) -> Result<NotedLines<'a>, Memory>
-    ensures { IfOk result (AreNotedLines (meanings_of (first.now ∷ []))) }
-{
-    // There are at least two logs, so lines may repeat.
-    let none = NotedLines::new(alloc, 2, seed)?;
-    note_lines(rt, alloc, plan, none, LineWalk::of_first(first))
-}
-
-/// The comparison of the first log, whose lines are noted, and the later ones.
-fn compare_later<'a, R: Threads + Sync>(
-    rt: &R,
-    alloc: Global,
-    first: &'a [u8],
-    noted: Result<NotedLines<'a>, Memory>,
-    later: &'a [Vec<u8>],
-    seed: Seed,
+    sources: &mut [S],
     plan: Plan,
 ) -> Result<Comparison, Fault>
-    requires { IfOk noted (AreNotedLines (meanings_of (first.now ∷ []))) }
-    ensures { IsComparisonResult (first.now ∷ bytes_of later.now) result }
-{
-    if later.len() >= MAX_LOGS {
-        return Err(Fault::TooManyLogs);
-    }
-    if let Some(log) = first_too_long_with(first, later) {
-        return Err(Fault::LogTooLong { log });
-    }
-    let walk = LineWalk::after_first(later);
-    let NotedLines { noted, .. } = note_lines(rt, alloc, plan, noted?, walk)?;
-    compare_noted(alloc, later.len() + 1, noted, seed)
-}
-
-/// As `compare`, for logs of which only the first is there. `more` returns the later ones: it is
-/// called once, on this thread, while other threads read the lines of the first. A fault of `more`
-/// is the result.
-pub fn compare_during<R: Threads + RandomSource + Sync, M: FnMut() -> Result<Vec<Vec<u8>>, Fault>>(
-    rt: &R,
-    alloc: Global,
-    first: &[u8],
-    more: &mut M,
-    plan: Plan,
-) -> Result<Comparison, Fault>
-    requires { M.pre more.old }
-    ensures { (given : _) × M.step more.old given more.new
-        × IsComparisonWith first.now given result }
+    requires { All (λ s. S.model.has_failed s ≡ false) sources.old }
+    ensures { EndsMaking S.model IsComparisonResult sources.old sources.new result }
 {
     let seed = Seed::draw(rt);
-    let mut begin = || -> Result<NotedLines, Memory>
-        requires { IsSync R.row }
-        ensures { IfOk result (AreNotedLines (meanings_of (first.entry.now ∷ []))) }
-    { note_first(rt, alloc, first, seed, plan) };
-    let (noted, later) = join_mut(rt, &mut begin, more);
-    compare_later(rt, alloc, first, noted, &later?, seed, plan)
+    let count = sources.len();
+    let none = VersionNotes::new(alloc, seed);
+    let (noted, ()) = note_sources(rt, alloc, sources, none, &mut || (), plan, &FreeGate)?;
+    let notes = noted?;
+    compare_noted(alloc, count, notes.into_noted(), seed)
 }

@@ -3,7 +3,7 @@ ghost use Rattle.std.specs.Prelude.{◌≡◌, ◌++◌, ◌∷◌, [], false, I
 ghost use Rattle.serde_json.specs.View.{view};
 ghost use Rattle.serde_json.specs.Written.{has_float, compact_text};
 ghost use Rattle.epx_report.specs.ReportLines.{array_of, line_feed, line_of};
-ghost use Rattle.epx_compare.specs.ComparisonLines.{log_data, bad_data, lacks_data, unmet_data};
+ghost use Rattle.epx_compare.specs.ComparisonLines.{log_data, bad_data, lacks_data, missing_count_data};
 ghost use Rattle.epx_versions.specs.NotedRows.{bad_line_at};
 
 use crate::gaps::Gap;
@@ -40,8 +40,8 @@ fn lacks_value(alloc: Global, log: u64, gap: Gap) -> Result<Value, AllocError>
     json!(in alloc; ["lacks", log, replica, from, to])
 }
 
-fn unmet_value(alloc: Global, id: Id, count: u64) -> Result<Value, AllocError>
-    ensures data { IfOk result (λ v. view v ≡ array_of (unmet_data id count)) }
+fn missing_value(alloc: Global, id: Id, count: u64) -> Result<Value, AllocError>
+    ensures data { IfOk result (λ v. view v ≡ array_of (missing_count_data id count)) }
     ensures whole { IfOk result (λ v. has_float (view v) ≡ false) }
 {
     let Id { replica, number } = id;
@@ -96,13 +96,14 @@ pub(crate) fn append_lacks(
 }
 
 /// Appends the line of a dependency that no log commits.
-pub(crate) fn append_unmet(
+pub(crate) fn append_missing(
     alloc: Global,
     text: &mut Vec<u8>,
     id: Id,
     count: usize,
 ) -> Result<(), Memory>
-    ensures { OnOk result (text.new.items ≡ text.old.items ++ line_of (unmet_data id count)) }
+    ensures { OnOk result
+        (text.new.items ≡ text.old.items ++ line_of (missing_count_data id count)) }
 {
-    append_line(alloc, text, &unmet_value(alloc, id, count as u64)?)
+    append_line(alloc, text, &missing_value(alloc, id, count as u64)?)
 }

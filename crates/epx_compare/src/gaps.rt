@@ -5,7 +5,7 @@ ghost use Rattle.std.specs.List.{list_any};
 ghost use Rattle.epx_types.specs.declared.id.Id.{Id};
 ghost use Rattle.epx_types.specs.Limits.{max_logs};
 ghost use Rattle.epx_compare.specs.Gaps.{gaps_of, goes_on, widened};
-ghost use Rattle.epx_compare.specs.inner.LogMarks.{is_line_in, is_marked, IsMarking};
+ghost use Rattle.epx_compare.specs.inner.LogMarks.{is_line_in, is_log_marked, IsMarking};
 
 use crate::log_set::LogSet;
 use epx_types::limits::MAX_LOGS;
@@ -44,7 +44,7 @@ pub(crate) fn mark_lines(
     requires positions { All (λ k. k < instances) positions.now }
     ensures len { IfOk result (λ marks. length marks.items ≡ instances) }
     ensures each { IfOk result (λ marks. (k log : ℕ) → log < max_logs
-        → is_marked log marks.items k ≡ list_any (is_line_in positions.now log k) rows.now) }
+        → is_log_marked log marks.items k ≡ list_any (is_line_in positions.now log k) rows.now) }
 {
     let mut marks = vec![in alloc; LogSet::empty(); instances]?;
     for row in rows {

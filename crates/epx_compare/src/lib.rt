@@ -14,6 +14,6 @@ mod gaps;
 pub mod laws;
 mod log_set;
 mod members;
-mod unmet;
+mod missing;
 
-pub use comparison::{Comparison, compare, compare_during};
+pub use comparison::{Comparison, compare, compare_sources};

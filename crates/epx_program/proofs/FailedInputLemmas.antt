@@ -1,5 +1,5 @@
 -- Which source failed, if a run returns that a source cannot be read.
-use Rattle.std.proofs.Common.{◌≡◌, ◌⊎◌, ℕ, zero, suc, List, [], ◌∷◌, Option, Some, None}
+use Rattle.std.proofs.Common.{◌≡◌, ◌⊎◌, ℕ, zero, suc, List, [], ◌∷◌, Some}
 use Rattle.std.proofs.Common.{slice_get, Result, Err}
 use Rattle.std.proofs.Common.{IsErrOf, inl, inr, subst}
 use Rattle.std.specs.Prelude.{IfErr, ◌≢◌}
@@ -12,30 +12,31 @@ use Rattle.epx_devices.proofs.EitherSourceLemmas.{first_then_fails, second_then_
 use Rattle.epx_tool.specs.Delivered.{EndsRefused}
 use Rattle.epx_merge.specs.DeliveredLogs.{StopsAtSource}
 use Rattle.epx_tool.specs.DeliveredWithInput.{EndsWithoutBoth}
-use Rattle.epx_tool.specs.Questions.{AnswersBy}
-use Rattle.epx_tool.specs.declared.question.MapText.{MapText}
+use Rattle.epx_names.specs.declared.task.Task.{Task}
+use Rattle.epx_names.specs.declared.task.Task.TheVariants.{Compare}
+use Rattle.epx_tool.specs.TaskAnswers.{AnswersLogs}
 use Rattle.epx_program.specs.Inputs.{HasFailedRead, OneHasFailedRead}
 
 -- no refusal of logs is a failed read
-not_unread : (answered : Option MapText) (logs : List (List ℕ)) (log : ℕ)
-    → ¬ AnswersBy answered logs (Err (Read log))
-not_unread (Some kind) logs log h = h
-not_unread None logs log h = h
+not_unread : (task : Task) (logs : List (List ℕ)) (log : ℕ)
+    → ¬ AnswersLogs task logs (Err (Read log))
+not_unread Compare logs log h = h
+not_unread task logs log h = h
 
 module _ {S : Type 0} (D : SourceModel S) (before after : List S) where
   at_source : (log : ℕ) → StopsAtSource D before after (Read log) → OneHasFailedRead D before
   at_source log h =
       record { log = h.log; source = h.first; there = h.was; failed = (h.last, h.stopped.1) }
 
-  module _ (answered : Option MapText) where
+  module _ (task : Task) where
     abbrev EndsLogs : Fault → Type 0
     EndsLogs fault =
-        EndsRefused D (λ logs why. AnswersBy answered logs (Err why)) before after fault
+        EndsRefused D (λ logs why. AnswersLogs task logs (Err why)) before after fault
 
     unread_of : (log : ℕ) → EndsLogs (Read log) → OneHasFailedRead D before
     unread_of log (inl (inl none)) = absurd none
     unread_of log (inl (inr source)) = at_source log source
-    unread_of log (inr refused) = absurd (not_unread answered refused.logs log refused.refusal)
+    unread_of log (inr refused) = absurd (not_unread task refused.logs log refused.refusal)
 
     -- a run over logs that ends this way has a source that failed
     pub unread : {A : Type 0} (done : Result A Fault)

@@ -1,5 +1,6 @@
 -- The outcome of a task, by how the run of what it asks ended.
-use Rattle.std.proofs.Common.{◌≡◌, ◌≢◌, ◌⊎◌, ◌↔◌, ℕ, suc, Bool, true, List, [], ◌∷◌, length, map}
+use Rattle.std.proofs.Common.{◌≡◌, ◌≢◌, ◌⊎◌, ◌↔◌, ℕ, suc, Bool, true, List, [], ◌∷◌, drop}
+use Rattle.std.proofs.Common.{length, map}
 use Rattle.std.proofs.Common.{Option, Some, Result, Ok, Err, IsErrOf, inl, inr, refl, sym, ap}
 use Rattle.std.proofs.Common.{◌∙◌, subst}
 use Rattle.std.specs.Io.KnownBytes.{Keeps}
@@ -10,22 +11,18 @@ use Rattle.epx_names.specs.declared.task.Task.{Task}
 use Rattle.epx_devices.specs.Models.{SinkModel, SourceModel}
 use Rattle.epx_merge.specs.DeliveredLogs.{EachDelivers}
 use Rattle.epx_tool.specs.DeliveredWithInput.{DeliversBoth}
-use Rattle.epx_tool.specs.Findings.{AnswersFinding, IsFindingWith}
-use Rattle.epx_tool.specs.Questions.{AnswersQuestion, IsBadInput, IsInputAnswer, IsTextWith}
-use Rattle.epx_tool.specs.Questions.{map_text_of}
+use Rattle.epx_names.specs.Tasks.{HasInput}
+use Rattle.epx_names.specs.declared.task.Task.TheVariants.{Resume, Check, CheckPrefix}
+use Rattle.epx_tool.specs.Findings.{AnswersFinding, IsFindingText}
+use Rattle.epx_tool.specs.TaskAnswers.{AnswersLogs, IsBadInput}
+use Rattle.epx_tool.specs.TaskTexts.{IsTaskText}
 use Rattle.epx_tool.specs.RunEndings.{WritesAnswer, EndsRun, EndsRunWithInput}
 use Rattle.epx_merge.specs.ReadingRefusals.{AreBytesOf}
 use Rattle.epx_tool.specs.RunsWithInput.{IsRunFaultWithInput}
 use Rattle.epx_tool.specs.WithInput.{AnswersWithInput}
-use Rattle.epx_tool.specs.declared.findings.Answer.{Answer}
-use Rattle.epx_tool.specs.declared.question.InputQuestion.{InputQuestion}
-use Rattle.epx_tool.specs.declared.question.Question.{Question}
 use Rattle.epx_merge.proofs.ReturnedFaultLemmas.{ok_is_no_fault}
-use Rattle.epx_program.specs.declared.do_task.Asked.TheVariants as asked
-use Rattle.epx_program.specs.Endings.{AddsAnswer, AddsPart, IsFindingTo, IsTaskResult}
-use Rattle.epx_program.specs.Endings.{IsTaskAnswer}
-use Rattle.epx_program.specs.Endings.{IsTaskFault, IsTaskText, IsAnswerTo, IsFaultOf, asked_of}
-use Rattle.epx_program.specs.Endings.{found_of, on_first_and_logs}
+use Rattle.epx_program.specs.Endings.{AddsAnswer, AddsPart, IsTaskAnswer, IsTaskFault}
+use Rattle.epx_program.specs.Endings.{IsTaskFinding, IsTaskResult, first_of, over_texts}
 use Rattle.epx_program.specs.Inputs.{HasFailedRead, OneHasFailedRead}
 use Rattle.epx_program.specs.inner.Outcomes.{TaskOutcome}
 use Rattle.epx_program.proofs.FailedInputLemmas.{unread, unread_both}
@@ -70,13 +67,23 @@ failed_of_all D sources rest source e h =
       })
     ]
 
--- ---- runs over known texts
+-- what is said of an input and logs, or of logs alone
+module _ (Both : List ℕ → List (List ℕ) → Type 0) (Logs : List (List ℕ) → Type 0)
+    (texts : List (List ℕ)) where
+  over_both : (task : Task) → HasInput task → Both (first_of texts) (drop 1 texts)
+      → over_texts task Both Logs texts
+  over_both Resume has h = h
+  over_both Check has h = h
+  over_both CheckPrefix has h = h
+  over_both task has h = absurd has
 
--- what is said of an answer and what it finds
-pub by_found : {P : Bool → Type 0} {Q : Fault → Type 0} (result : Result Answer Fault)
-    → MatchResult result (λ answer. P answer.has_findings) Q → MatchResult (found_of result) P Q
-by_found (Ok answer) h = h
-by_found (Err fault) h = h
+  over_logs : (task : Task) → ¬ HasInput task → Logs texts → over_texts task Both Logs texts
+  over_logs Resume alone h = absurd (alone tt)
+  over_logs Check alone h = absurd (alone tt)
+  over_logs CheckPrefix alone h = absurd (alone tt)
+  over_logs task alone h = h
+
+-- ---- runs over known texts
 
 -- the result of a run that ended with this fault
 abbrev ended : Fault → Result (Unit {0}) Fault
@@ -95,7 +102,7 @@ task_answered : {Given T : Type 0} {OfKnown : (Given → Type 0) → Type 0}
     → WritesAnswer OfKnown Answer IsFault Delivered Ends W old new (Ok tt)
     → (task : Task) (texts : List (List ℕ)) (given : Given)
     → ((P : Given → Type 0) → OfKnown P → P given)
-    → ((text : List ℕ) → Answer given text → IsTaskText task found texts text)
+    → ((text : List ℕ) → Answer given text → IsTaskFinding task found texts text)
     → IsTaskResult task texts (Ok found) (W.contents old) (W.contents new)
 task_answered found run task texts given known answers =
     let w = known _ run.text in (w.0, answers w.0 w.1, w.2)
@@ -153,14 +160,18 @@ module _ {S T : Type 0} (D : SourceModel S) (W : SinkModel T) (task : Task)
   abbrev ComesTo : List (List ℕ) → Result Bool Fault → Type 0
   ComesTo texts done = IsTaskResult task texts done (W.contents old) (W.contents new)
 
-  module _ (question : Question) (is : asked_of task ≡ asked.Logs question) where
+  module _ (alone : ¬ HasInput task) where
     -- the answer to logs is that of the task, with what it finds
     text_of_logs : (found : Bool) (texts : List (List ℕ)) (text : List ℕ)
-        → AnswersFinding question found texts (Ok text) → IsTaskText task found texts text
-    text_of_logs found texts text h = subst (λ a. IsFindingTo a found texts text) (sym is) h
+        → AnswersFinding task found texts (Ok text) → IsTaskFinding task found texts text
+    text_of_logs found texts text = over_logs _ _ texts task alone
+
+    answer_of_logs : (texts : List (List ℕ)) (text : List ℕ) → AnswersLogs task texts (Ok text)
+        → IsTaskAnswer task texts (Ok text)
+    answer_of_logs texts text = over_logs _ _ texts task alone
 
     logs_answered : (found : Bool)
-        → EndsRun D W (AnswersFinding question found) before after old new (Ok tt)
+        → EndsRun D W (AnswersFinding task found) before after old new (Ok tt)
         → Outcome (Ok found)
     logs_answered found run = record {
       known = λ texts are. task_answered found run.sink task texts texts (λ P h. h texts are)
@@ -178,65 +189,63 @@ module _ {S T : Type 0} (D : SourceModel S) (W : SinkModel T) (task : Task)
     }
 
     logs_refused : (fault : Fault)
-        → EndsRun D W (AnswersQuestion question) before after old new (Err fault)
+        → EndsRun D W (AnswersLogs task) before after old new (Err fault)
         → Outcome (Err fault)
     logs_refused fault run = record {
       known = λ texts are. task_refused fault run.sink task texts texts (λ P h. h texts are)
-          (λ text. subst (λ a. IsAnswerTo a texts (Ok text)) (sym is))
-          (subst (λ a. IsFaultOf a texts fault) (sym is));
+          (answer_of_logs texts) (over_logs _ _ texts task alone);
       answered = tt;
       flushed = tt;
       part = λ bad. let h = run.sink.part (same_error fault Write bad) in (
         h.logs,
         h.delivered,
-        (h.text, subst (λ a. IsAnswerTo a h.logs (Ok h.text)) (sym is) h.answer, h.written),
+        (h.text, answer_of_logs h.logs h.text h.answer, h.written),
       );
       nothing = run.sink.nothing;
-      unread = λ log bad. unread D before after (map_text_of question) (ended fault)
+      unread = λ log bad. unread D before after task (ended fault)
           run.sink.refused log (same_error fault (Read log) bad);
       written = written_badly fault _ run.sink.written;
     }
 
     pub outcome_of_logs : (done : Result Bool Fault)
         → MatchResult done
-        (λ found. EndsRun D W (AnswersFinding question found) before after old new (Ok tt))
-        (λ fault. EndsRun D W (AnswersQuestion question) before after old new (Err fault))
+        (λ found. EndsRun D W (AnswersFinding task found) before after old new (Ok tt))
+        (λ fault. EndsRun D W (AnswersLogs task) before after old new (Err fault))
         → Outcome done
     outcome_of_logs (Ok found) run = logs_answered found run
     outcome_of_logs (Err fault) run = logs_refused fault run
 
-  module _ (question : InputQuestion) (is : asked_of task ≡ asked.First question) where
-    -- the answer to an input and logs, where `texts` are the input and then the logs
-    module _ (texts : List (List ℕ)) (input : List ℕ) (logs : List (List ℕ))
-        (same : (Is : List ℕ → List (List ℕ) → Type 0) → Is input logs → on_first_and_logs Is texts)
-      where
-        answers_first : (text : List ℕ) → IsInputAnswer question input logs (Ok text)
-            → IsTaskAnswer task texts (Ok text)
-        answers_first text h = subst (λ a. IsAnswerTo a texts (Ok text)) (sym is)
-            (same (λ i ls. IsInputAnswer question i ls (Ok text)) h)
+  module _ (has : HasInput task) where
+    -- the answer to the first of these texts, which is the input, and to the logs after it
+    module _ (texts : List (List ℕ)) where
+      abbrev input : List ℕ
+      input = first_of texts
 
-        text_of_first : (found : Bool) (text : List ℕ)
-            → AnswersWithInput (IsBadInput question) (IsFindingWith question found) input logs
-            (Ok text)
-            → IsTaskText task found texts text
-        text_of_first found text h = subst (λ a. IsFindingTo a found texts text) (sym is)
-            (same (λ i ls. AnswersWithInput (IsBadInput question) (IsFindingWith question found) i
-            ls (Ok text)) h)
+      abbrev logs : List (List ℕ)
+      logs = drop 1 texts
 
-        faults_first : (fault : Fault)
-            → IsRunFaultWithInput (IsBadInput question) (IsTextWith question) input logs fault
-            → IsTaskFault task texts fault
-        faults_first fault h = subst (λ a. IsFaultOf a texts fault) (sym is)
-            (same (λ i ls. IsRunFaultWithInput (IsBadInput question) (IsTextWith question) i ls
-            fault) h)
+      answers_first : (text : List ℕ)
+          → AnswersWithInput (IsBadInput task) (IsTaskText task) input logs (Ok text)
+          → IsTaskAnswer task texts (Ok text)
+      answers_first text = over_both _ _ texts task has
+
+      text_of_first : (found : Bool) (text : List ℕ)
+          → AnswersWithInput (IsBadInput task) (IsFindingText task found) input logs (Ok text)
+          → IsTaskFinding task found texts text
+      text_of_first found text = over_both _ _ texts task has
+
+      faults_first : (fault : Fault)
+          → IsRunFaultWithInput (IsBadInput task) (IsTaskText task) input logs fault
+          → IsTaskFault task texts fault
+      faults_first fault = over_both _ _ texts task has
 
     -- the run over a first text and logs ends this way
     abbrev EndsFirst : {I : Type 0} → SourceModel I → I → I → List I → List I
         → Result Bool Fault → Type 0
     EndsFirst E first last logs after done = MatchResult done
-        (λ found. EndsRunWithInput E E W (IsBadInput question) (IsFindingWith question found) first
+        (λ found. EndsRunWithInput E E W (IsBadInput task) (IsFindingText task found) first
         last logs after old new (Ok tt))
-        (λ fault. EndsRunWithInput E E W (IsBadInput question) (IsTextWith question) first last
+        (λ fault. EndsRunWithInput E E W (IsBadInput task) (IsTaskText task) first last
         logs after old new (Err fault))
 
     -- the first source has the first text
@@ -256,13 +265,13 @@ module _ {S T : Type 0} (D : SourceModel S) (W : SinkModel T) (task : Task)
         known = from_first D (λ texts. ComesTo texts (Ok found)) before logs first all
             (λ text texts known are. task_answered found run.sink task (text ∷ texts) (text, texts)
             (λ P h. h text texts known are)
-            (text_of_first (text ∷ texts) text texts (λ Is h. h) found));
+            (text_of_first (text ∷ texts) found));
         answered = let h = run.sink.answered in (
           h.input ∷ h.logs,
           both_deliver h.input h.logs h.delivered,
           (
             h.text,
-            text_of_first (h.input ∷ h.logs) h.input h.logs (λ Is h. h) found h.text h.answer,
+            text_of_first (h.input ∷ h.logs) found h.text h.answer,
             h.written,
           ),
         );
@@ -276,8 +285,7 @@ module _ {S T : Type 0} (D : SourceModel S) (W : SinkModel T) (task : Task)
         known = from_first D (λ texts. ComesTo texts (Err fault)) before logs first all
             (λ text texts known are. task_refused fault run.sink task (text ∷ texts) (text, texts)
             (λ P h. h text texts known are)
-            (answers_first (text ∷ texts) text texts (λ Is h. h))
-            (faults_first (text ∷ texts) text texts (λ Is h. h) fault));
+            (answers_first (text ∷ texts)) (faults_first (text ∷ texts) fault));
         answered = tt;
         flushed = tt;
         part = λ bad. let h = run.sink.part (same_error fault Write bad) in (
@@ -285,13 +293,13 @@ module _ {S T : Type 0} (D : SourceModel S) (W : SinkModel T) (task : Task)
           both_deliver h.input h.logs h.delivered,
           (
             h.text,
-            answers_first (h.input ∷ h.logs) h.input h.logs (λ Is h. h) h.text h.answer,
+            answers_first (h.input ∷ h.logs) h.text h.answer,
             h.written,
           ),
         );
         nothing = run.sink.nothing;
         unread = λ log bad. failed_of_all D before logs first all
-            (unread_both D logs left D (IsBadInput question) first last
+            (unread_both D logs left D (IsBadInput task) first last
             (ended fault) run.sink.refused log (same_error fault (Read log) bad));
         written = written_badly fault _ run.sink.written;
       }
@@ -307,16 +315,16 @@ module _ {S T : Type 0} (D : SourceModel S) (W : SinkModel T) (task : Task)
           → EndsFirst E first last [] now done → ComesTo [] done
       comes_to (Ok found) run =
           task_answered found run.sink task [] ([], []) (λ P h. h [] [] empty refl)
-          (text_of_first [] [] [] (λ Is h. h) found)
+          (text_of_first [] found)
       comes_to (Err fault) run =
           task_refused fault run.sink task [] ([], []) (λ P h. h [] [] empty refl)
-          (answers_first [] [] [] (λ Is h. h)) (faults_first [] [] [] (λ Is h. h) fault)
+          (answers_first []) (faults_first [] fault)
 
       nothing_unread : (done : Result Bool Fault) (log : ℕ)
           → EndsFirst E first last [] now done → ¬ IsErrOf done (Read log)
       nothing_unread (Ok found) log run bad = ok_is_no_fault found (Read log) bad
       nothing_unread (Err fault) log run bad = elim (unread_both E [] now E
-          (IsBadInput question) first last (ended fault) run.sink.refused log
+          (IsBadInput task) first last (ended fault) run.sink.refused log
           (same_error fault (Read log) bad)) [
             | inl bad ↦ never bad
             | inr one ↦ cc one.there

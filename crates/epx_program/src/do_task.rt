@@ -2,55 +2,24 @@
 ghost use Rattle.std.specs.Prelude.{◌≡◌, ◌≢◌, ◌↔◌, true, false, [], ◌∷◌, All, Some, IfErr};
 ghost use Rattle.std.specs.Prelude.{IfOk, IsErrOf, OnOk};
 ghost use Rattle.std.specs.Io.KnownBytes.{Keeps};
+ghost use Rattle.epx_tool.specs.Findings.{found_of};
 ghost use Rattle.epx_program.specs.Calls.{paths_of};
-ghost use Rattle.epx_program.specs.Endings.{AddsAnswer, AddsPart, IsTaskResult, asked_of};
-ghost use Rattle.epx_program.specs.Endings.{found_of};
+ghost use Rattle.epx_program.specs.Endings.{AddsAnswer, AddsPart, IsTaskResult};
 ghost use Rattle.epx_program.specs.Inputs.{AreTextsRead, HasFailedRead, IsInputAlone};
 ghost use Rattle.epx_program.specs.Inputs.{text_relation};
 ghost use Rattle.epx_program.specs.inner.Outcomes.{TaskOutcome};
 
 use crate::inputs::sources_at;
 use epx_devices::{KeptSource, Opener};
-use epx_tool::{
-    Answer, Ask, InputQuestion, MemorySource, Question, Sink, Source, Task, run_question,
-    run_with_input,
-};
+use epx_tool::{Answer, MemorySource, Sink, Source, Task, run_task};
 use epx_types::{Fault, Memory, Plan};
 use std::alloc::Global;
 use std::random::RandomSource;
 use std::rt::Files;
 use std::thread::Threads;
 
-/// What a task asks of the texts at its paths.
-#[derive(Clone, Copy)]
-enum Asked {
-    /// A question about logs.
-    Logs(Question),
-    /// A question about a first text and the logs after it.
-    First(InputQuestion),
-}
-
-fn asked_by(task: Task) -> Asked
-    ensures { result ≡ asked_of task }
-{
-    match task {
-        Task::Run => Asked::Logs(Question::Report),
-        Task::Order => Asked::Logs(Question::View(Ask::Order)),
-        Task::Levels => Asked::Logs(Question::View(Ask::Levels)),
-        Task::Graph => Asked::Logs(Question::View(Ask::Graph)),
-        Task::Audit => Asked::Logs(Question::View(Ask::Audit)),
-        Task::Resume => Asked::First(InputQuestion::Resume),
-        Task::Check => Asked::First(InputQuestion::Check),
-        Task::CheckPrefix => Asked::First(InputQuestion::CheckPrefix),
-        Task::Compare => Asked::Logs(Question::View(Ask::Compare)),
-        Task::Why(id) => Asked::Logs(Question::View(Ask::Why(id))),
-        Task::Path(from, to) => Asked::Logs(Question::View(Ask::Path(from, to))),
-        Task::Trace { key, reads } => Asked::Logs(Question::View(Ask::Trace { key, reads })),
-    }
-}
-
-/// Writes the answer that the task asks for. Of what the task asks about a first text, the first
-/// source has the text and the others are the logs. If there is no source, the text is empty.
+/// Writes the answer to the task. If the task has an input, the first source has it and the others
+/// have the logs. If there is no source, the input is empty.
 fn write_answer<R: Threads + RandomSource + Sync, S: Source, W: Sink>(
     rt: &R,
     alloc: Global,
@@ -64,18 +33,16 @@ fn write_answer<R: Threads + RandomSource + Sync, S: Source, W: Sink>(
     ensures { TaskOutcome S.model W.model task sources.old sources.new (found_of result)
         output.old output.new }
 {
-    let question = match asked_by(task) {
-        Asked::Logs(question) => {
-            return run_question(rt, alloc, question, sources, plan, output);
-        }
-        Asked::First(question) => question,
-    };
+    let mut empty = MemorySource::new(&[]);
+    let asked = &task;
+    if !asked.has_input() {
+        return run_task(rt, alloc, *asked, &mut empty, sources, plan, output);
+    }
     match sources.split_first_mut() {
-        Some((first, logs)) => run_with_input(rt, alloc, question, first, logs, plan, output),
+        Some((first, logs)) => run_task(rt, alloc, *asked, first, logs, plan, output),
         None => {
-            let mut first = MemorySource::new(&[]);
             let mut logs: [MemorySource; 0] = [];
-            run_with_input(rt, alloc, question, &mut first, &mut logs, plan, output)
+            run_task(rt, alloc, *asked, &mut empty, &mut logs, plan, output)
         }
     }
 }
@@ -118,7 +85,8 @@ where
         IsTaskResult task (bytes ∷ []) (found_of result) (W.model.contents output.old)
         (W.model.contents output.new) }
     ensures answered { let Is = text_relation O.model O.Opened.model opener.now I.model input in
-        IfOk (found_of result) (λ found. AddsAnswer task found (AreTextsRead Is (paths_of paths.now))
+        IfOk (found_of result) (λ found.
+        AddsAnswer task found (AreTextsRead Is (paths_of paths.now))
         (W.model.contents output.old) (W.model.contents output.new)) }
     ensures part { let Is = text_relation O.model O.Opened.model opener.now I.model input in
         IsErrOf (found_of result) Fault.Write → AddsPart task (AreTextsRead Is (paths_of paths.now))
@@ -128,7 +96,8 @@ where
     ensures flushed { OnOk (found_of result) (W.model.is_flushed output.new ≡ true) }
     ensures nothing { IfErr (found_of result) (λ fault. fault ≢ Fault.Write
         → Keeps (W.model.contents output.old) (W.model.contents output.new)) }
-    ensures written { IsErrOf (found_of result) Fault.Write ↔ (W.model.has_failed output.new ≡ true) }
+    ensures written { IsErrOf (found_of result) Fault.Write
+        ↔ (W.model.has_failed output.new ≡ true) }
 {
     let Some(paths) = paths else {
         let mut sources = Vec::new(alloc);

@@ -3,7 +3,8 @@ ghost use Rattle.std.specs.Prelude.{◌≡◌, ◌≢◌, true, false};
 ghost use Rattle.std.specs.Io.KnownBytes.{Appends};
 ghost use Rattle.epx_devices.specs.Transfers.{AppendsPrefix};
 ghost use Rattle.epx_types.specs.Faults.{fault_status};
-ghost use Rattle.epx_program.specs.Endings.{found_of, status_of};
+ghost use Rattle.epx_tool.specs.Findings.{found_of};
+ghost use Rattle.epx_program.specs.Endings.{status_of};
 
 use epx_tool::{Answer, Sink, write_out};
 use epx_types::Fault;
@@ -23,15 +24,17 @@ pub(crate) fn report_fault(rt: &impl Eprint, fault: Fault) -> u8
 
 /// The exit status of a task, whose answer may find something. Writes the line of a fault to
 /// standard error.
-pub(crate) fn report_task(
-    rt: &impl Eprint,
-    exit_code: bool,
-    done: &Result<Answer, Fault>,
-) -> u8
+pub(crate) fn report_task(rt: &impl Eprint, exit_code: bool, done: &Result<Answer, Fault>) -> u8
     ensures { result ≡ status_of exit_code (found_of done.now) }
 {
     match done {
-        Ok(answer) => { if exit_code && answer.has_findings { FOUND } else { 0 } }
+        Ok(answer) => {
+            if exit_code && answer.has_findings {
+                FOUND
+            } else {
+                0
+            }
+        }
         Err(fault) => report_fault(rt, *fault),
     }
 }

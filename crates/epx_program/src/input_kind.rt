@@ -16,19 +16,11 @@ const FROM_TERMINAL: &str =
 
 const NOTHING: &str = "epx: no LOG is named, so no log is read; the LOG - is standard input";
 
-/// How many paths of a task are not logs.
-fn other_paths(task: Task) -> usize {
-    match task {
-        Task::Resume | Task::Check | Task::CheckPrefix => 1,
-        _ => 0,
-    }
-}
-
 /// The line about what a task reads, if there is one.
 fn reading_line(kind: InputKind, task: Task, paths: &Option<Vec<String>>) -> Option<&'static str> {
     match (kind, paths) {
         (InputKind::Terminal, None) => Some(FROM_TERMINAL),
-        (_, Some(paths)) if paths.len() <= other_paths(task) => Some(NOTHING),
+        (_, Some(paths)) if paths.len() <= usize::from(task.has_input()) => Some(NOTHING),
         _ => None,
     }
 }

@@ -1,5 +1,5 @@
 -- Every committed map has a report and its views, and every list of logs has an answer.
-use Rattle.std.proofs.Common.{◌≢◌, ℕ, List, Option, Some, None, Result, Ok, Err, refl, inl, inr}
+use Rattle.std.proofs.Common.{◌≢◌, ℕ, List, [], Result, Ok, Err, refl, inl, inr}
 use Rattle.std.specs.FinMap as contents
 use Rattle.epx_types.specs.declared.fault.Fault.{Fault}
 use Rattle.epx_types.specs.declared.fault.Fault.TheVariants.{Memory}
@@ -15,9 +15,11 @@ use Rattle.epx_merge.proofs.ExistenceLemmas.{answered_always}
 use Rattle.epx_audit.proofs.LeastUncoveredLemmas.{covered_or_not}
 use Rattle.epx_picture.proofs.PictureLemmas.{picture_exists}
 use Rattle.epx_compare.proofs.ComparisonAnswerLemmas.{compares_exists}
-use Rattle.epx_tool.specs.declared.question.MapText.{MapText}
-use Rattle.epx_tool.specs.declared.question.MapText.TheVariants.{Report, Order, Levels, Audit}
-use Rattle.epx_tool.specs.declared.question.MapText.TheVariants.{Graph, Why, Path, Trace}
+use Rattle.epx_names.specs.Tasks.{HasInput}
+use Rattle.epx_names.specs.declared.task.Task.{Task}
+use Rattle.epx_names.specs.declared.task.Task.TheVariants.{Run, Order, Levels, Graph, Resume}
+use Rattle.epx_names.specs.declared.task.Task.TheVariants.{Audit, Check, CheckPrefix, Compare}
+use Rattle.epx_names.specs.declared.task.Task.TheVariants.{Why, Path, Trace}
 use Rattle.epx_tool.specs.Report.{IsReport, report_text}
 use Rattle.epx_tool.specs.OrderText.{IsOrderText, order_text}
 use Rattle.epx_tool.specs.LevelText.{IsLevelText, level_text}
@@ -25,8 +27,8 @@ use Rattle.epx_tool.specs.AuditText.{IsAuditText}
 use Rattle.epx_report.specs.ViewLines.{covered_line, uncovered_line}
 use Rattle.epx_why.proofs.TextExistenceLemmas.{why_text_exists, path_text_exists}
 use Rattle.epx_trace.proofs.TraceLemmas.{trace_text_exists}
-use Rattle.epx_tool.specs.MapTexts.{IsMapText}
-use Rattle.epx_tool.specs.Questions.{AnswersBy}
+use Rattle.epx_tool.specs.TaskAnswers.{AnswersLogs}
+use Rattle.epx_tool.specs.TaskTexts.{IsTaskText}
 use Rattle.epx_tool.specs.Answer.{Answers}
 
 module _ (m : List Instance) (rising : IsRising (ids_of m)) where
@@ -81,15 +83,20 @@ module _ (m : List Instance) (rising : IsRising (ids_of m)) where
     | inr pair ↦ (uncovered_line pair.0 pair.1, inr (pair.0, pair.1, pair.2, refl))
   ]
 
-  pub map_text_exists : (kind : MapText) → (text : List ℕ) × IsMapText kind m text
-  map_text_exists Report = report_exists
-  map_text_exists Order = order_text_exists
-  map_text_exists Levels = level_text_exists
-  map_text_exists Audit = audit_text_exists
-  map_text_exists Graph = picture_exists m rising
-  map_text_exists (Why x) = why_text_exists m x rising
-  map_text_exists (Path x y) = path_text_exists m x y
-  map_text_exists (Trace key reads) = trace_text_exists m key.text.bytes reads rising
+  pub map_text_exists : (task : Task) → ¬ HasInput task → task ≢ Compare
+      → (text : List ℕ) × IsTaskText task [] m text
+  map_text_exists Run alone other = report_exists
+  map_text_exists Order alone other = order_text_exists
+  map_text_exists Levels alone other = level_text_exists
+  map_text_exists Graph alone other = picture_exists m rising
+  map_text_exists Audit alone other = audit_text_exists
+  map_text_exists Resume alone other = absurd (alone tt)
+  map_text_exists Check alone other = absurd (alone tt)
+  map_text_exists CheckPrefix alone other = absurd (alone tt)
+  map_text_exists Compare alone other = absurd (other refl)
+  map_text_exists (Why x) alone other = why_text_exists m x rising
+  map_text_exists (Path x y) alone other = path_text_exists m x y
+  map_text_exists (Trace key reads) alone other = trace_text_exists m key.text.bytes reads rising
 
 -- if every committed map has a text, every list of logs has an answer
 pub answer_exists : (Is : List Instance → List ℕ → Type 0)
@@ -102,8 +109,8 @@ answer_exists Is text_of_map logs =
       | inr refused ↦ (Err refused.0, (λ same. refused.1 (cc same)), refused.2)
     ]
 
-pub answer_by_exists : (answered : Option MapText) (logs : List (List ℕ))
-    → (a : Result (List ℕ) Fault) × (a ≢ Err Memory) × AnswersBy answered logs a
-answer_by_exists (Some kind) =
-    answer_exists (IsMapText kind) (λ m rising. map_text_exists m rising kind)
-answer_by_exists None = compares_exists
+pub logs_answer_exists : (task : Task) → ¬ HasInput task → (logs : List (List ℕ))
+    → (a : Result (List ℕ) Fault) × (a ≢ Err Memory) × AnswersLogs task logs a
+logs_answer_exists Compare alone = compares_exists
+logs_answer_exists task alone = answer_exists (IsTaskText task [])
+    (λ m rising. map_text_exists m rising task alone (λ same. cc same))

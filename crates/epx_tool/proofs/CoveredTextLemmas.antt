@@ -10,7 +10,7 @@ use Rattle.epx_report.specs.ViewLines.{covered_line, uncovered_line}
 use Rattle.epx_tool.specs.declared.ask.Ask.TheVariants.{Audit}
 use Rattle.epx_tool.specs.AnswerLaws.{CoveredTextMeansCovered}
 use Rattle.epx_tool.specs.AuditText.{IsAuditText}
-use Rattle.epx_tool.specs.Questions.{AnswersView}
+use Rattle.epx_tool.specs.TaskAnswers.{AnswersView}
 
 covered_line-apart : (x y : Id) → ¬ (covered_line ≡ uncovered_line x y)
 unfolding escape_byte

@@ -14,10 +14,10 @@ use Rattle.epx_report.specs.ViewLines.{lawful_line}
 use Rattle.epx_ranking.specs.OrderFaults.{HasAllReady}
 use Rattle.epx_ranking.proofs.PrefixLemmas.{prefix_from_lawful, lawful_from_prefix}
 use Rattle.epx_ranking.proofs.PrefixLemmas.{order_fault_from, prefix_fault_from}
-use Rattle.epx_tool.specs.declared.question.InputQuestion.TheVariants.{CheckPrefix}
+use Rattle.epx_names.specs.declared.task.Task.TheVariants.{CheckPrefix}
 use Rattle.epx_tool.specs.CheckLaws.{LawfulTextMeansPrefix, LawfulPrefixRepliesAlike}
 use Rattle.epx_tool.specs.CheckLaws.{WholeListsAreAnsweredAlike}
-use Rattle.epx_tool.specs.Questions.{IsInputAnswer}
+use Rattle.epx_tool.specs.TaskAnswers.{AnswersTask}
 use Rattle.epx_tool.specs.Verdicts.{IsVerdict, IsPrefixVerdict}
 use Rattle.epx_tool.proofs.CheckLemmas.{verdict-of_logs}
 use Rattle.epx_tool.proofs.CoveredTextLemmas.{covered_if_reported}
@@ -28,7 +28,7 @@ use Rattle.epx_laws.proofs.PrefixLemmas.{reply-prefix}
 
 pub prefix_if_reported : (list : List ℕ) (logs : List (List ℕ)) (ids : List Id)
     (m : List Instance) → IsList list ids → IsAccepted logs m
-    → IsInputAnswer CheckPrefix list logs (Ok lawful_line) → IsLawfulPrefix m ids
+    → AnswersTask CheckPrefix list logs (Ok lawful_line) → IsLawfulPrefix m ids
 prefix_if_reported list logs ids m is accepted said =
     lawful_prefix-from_verdict m ids
     (verdict-of_logs IsPrefixVerdict list ids is logs m accepted lawful_line said.1)

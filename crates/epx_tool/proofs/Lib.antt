@@ -5,7 +5,7 @@ mod RunEndingLemmas
 mod MergedSourceLemmas
 mod UniqueAnswerWithInputLemmas
 mod AnswerWithInputLemmas
-mod InputReadingLemmas
+mod QuestionLemmas
 mod AnswerLemmas
 mod ReportPartsLemmas
 mod AcceptedLogLemmas
@@ -29,3 +29,4 @@ mod FindingLawLemmas
 mod TraceReportLemmas
 mod TraceLineLemmas
 mod PlainRunLemmas
+mod TaskRunLemmas

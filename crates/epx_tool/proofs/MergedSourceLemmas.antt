@@ -1,36 +1,20 @@
 -- How a run ends, by how reading its sources and merging their logs ended.
-use Rattle.std.proofs.Common.{◌≡◌, ◌↔◌, ℕ, true, false, List, [], ◌∷◌, length}
-use Rattle.std.proofs.Common.{Result, Ok, Err, Vec, Global, inl, inr, sym, subst}
-use Rattle.std.proofs.Common.{arith}
+use Rattle.std.proofs.Common.{◌≡◌, ◌↔◌, ℕ, true, false, List, length, Result, Ok, Err, inl, inr}
+use Rattle.std.proofs.Common.{subst, arith}
 use Rattle.std.specs.Io.KnownBytes.{Appends}
 use Rattle.std.specs.Prelude.{OnOk, IfErr, IsErr}
 use Rattle.epx_types.specs.declared.fault.Fault.{Fault}
 use Rattle.epx_types.specs.declared.fault.Fault.TheVariants.{Write}
 use Rattle.epx_devices.specs.Models.{SinkModel, SourceModel}
 use Rattle.epx_devices.specs.Transfers.{AppendsPrefix}
-use Rattle.epx_merge.specs.LogLines.{bytes_of}
-use Rattle.epx_compare.specs.declared.comparison.Comparison.{Comparison}
-use Rattle.epx_compare.specs.LaterLogComparisons.{IsComparisonResult, IsComparisonWith}
 use Rattle.epx_tool.specs.Runs.{IsFaultOfRun}
 use Rattle.epx_tool.specs.RunEndings.{EndsRun}
-use Rattle.epx_merge.specs.SourceReadings.{EndsReading, EndsMaking}
-use Rattle.epx_tool.specs.inner.ReadSources.{logs_after}
+use Rattle.epx_merge.specs.SourceReadings.{EndsMaking}
 use Rattle.epx_tool.proofs.ReturnedFaultLemmas.{IsLogAnswer, same_error, HasRead-of_lines}
 use Rattle.epx_tool.proofs.ReturnedFaultLemmas.{HasRead-written, of_lines_not_write}
 use Rattle.epx_tool.proofs.ReturnedFaultLemmas.{run_fault_of_lines}
 use Rattle.epx_tool.proofs.RunEndingLemmas.{leaves_again, leaves_after}
 use Rattle.epx_tool.proofs.RunEndingLemmas.{writes_nothing, writes_text}
-
-module _ {S : Type 0} (D : SourceModel S) (old new : List S) where
-  -- the later sources are read while the lines of the first log are compared
-  pub compared_with : (first : List ℕ) (later : Result (Vec (Vec ℕ Global) Global) Fault)
-      (result : Result Comparison Fault)
-      → EndsReading D old new (logs_after (first ∷ []) later) → IsComparisonWith first later result
-      → EndsMaking D IsComparisonResult old new result
-  compared_with first (Ok later) result read compared =
-      made_after IsComparisonResult (first ∷ bytes_of later.items) result read compared
-  compared_with first (Err fault) result read same =
-      subst (EndsMaking D IsComparisonResult old new) (sym same) (inl read)
 
 module _ {S T : Type 0} (D : SourceModel S) (W : SinkModel T)
     (Answer : List (List ℕ) → Result (List ℕ) Fault → Type 0) (old new : List S) (was : T) where

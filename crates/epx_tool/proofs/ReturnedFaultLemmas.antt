@@ -15,13 +15,15 @@ use Rattle.epx_types.specs.Limits.{max_logs}
 use Rattle.epx_compare.specs.ComparisonAnswers.{IsComparisonRefusal}
 use Rattle.epx_merge.specs.Refusals.{FitLimits, IsRefusal}
 use Rattle.epx_devices.specs.Transfers.{IsReadLogFault}
-use Rattle.epx_tool.specs.Questions.{AnswersBy, AnswersQuestion, map_text_of}
+use Rattle.epx_tool.specs.TaskAnswers.{AnswersLogs}
 use Rattle.epx_merge.specs.ReadingRefusals.{IsReadingRefusal}
 use Rattle.epx_tool.specs.Runs.{IsFaultOfRun}
 use Rattle.epx_tool.specs.RunsWithInput.{IsRunFaultWithInput}
 use Rattle.epx_merge.specs.SourceEndings.{StopsAt}
-use Rattle.epx_tool.specs.declared.question.MapText.{MapText}
-use Rattle.epx_tool.specs.declared.question.Question.{Question}
+use Rattle.epx_merge.proofs.ReturnedFaultLemmas.{fault_is, ok_is_no_fault, ok_does_not_stop}
+use Rattle.epx_merge.proofs.ReturnedFaultLemmas.{input_not_too_many, stops_at_input}
+use Rattle.epx_names.specs.declared.task.Task.{Task}
+use Rattle.epx_names.specs.declared.task.Task.TheVariants.{Compare}
 use Rattle.epx_tool.specs.WithInput.{IsShort, IsRefusalWithInput}
 use Rattle.epx_tool.proofs.LogsWithInputLemmas.{no_stop}
 
@@ -188,29 +190,26 @@ comparison_refusal_of_lines logs Memory fits h = tt
 comparison_refusal_of_lines logs TooManyInstances fits h = tt
 comparison_refusal_of_lines logs fault fits h = absurd h
 
-reading_refusal : (answered : Option MapText) (logs : List (List ℕ)) (fault : Fault)
-    → IsReadingRefusal logs fault → IsFaultOfRun (AnswersBy answered) logs fault
-reading_refusal (Some kind) logs Memory h = h
-reading_refusal None logs Memory h = h
-reading_refusal (Some kind) logs TooManyLogs h = h
-reading_refusal None logs TooManyLogs h = h
-reading_refusal (Some kind) logs (LogTooLong log) h = h
-reading_refusal None logs (LogTooLong log) h = h
-reading_refusal answered logs (Read log) h = h
-reading_refusal answered logs fault h = absurd h
+reading_refusal : (task : Task) (logs : List (List ℕ)) (fault : Fault)
+    → IsReadingRefusal logs fault → IsFaultOfRun (AnswersLogs task) logs fault
+reading_refusal Compare logs Memory h = h
+reading_refusal Compare logs TooManyLogs h = h
+reading_refusal Compare logs (LogTooLong log) h = h
+reading_refusal task logs Memory h = h
+reading_refusal task logs TooManyLogs h = h
+reading_refusal task logs (LogTooLong log) h = h
+reading_refusal task logs (Read log) h = h
+reading_refusal task logs fault h = absurd h
 
-answer_by : (answered : Option MapText) → IsLogAnswer (AnswersBy answered)
-answer_by (Some kind) = record {
-  of_reading = reading_refusal (Some kind);
-  of_lines = merge_refusal_of_lines;
-}
-answer_by None = record {
-  of_reading = reading_refusal None;
+pub task_answer : (task : Task) → IsLogAnswer (AnswersLogs task)
+task_answer Compare = record {
+  of_reading = reading_refusal Compare;
   of_lines = comparison_refusal_of_lines;
 }
-
-pub question_answer : (question : Question) → IsLogAnswer (AnswersQuestion question)
-question_answer question = answer_by (map_text_of question)
+task_answer task = record {
+  of_reading = reading_refusal task;
+  of_lines = merge_refusal_of_lines;
+}
 
 pub run_fault_of_lines : (Answer : List (List ℕ) → Result (List ℕ) Fault → Type 0)
     (logs : List (List ℕ)) (fault : Fault) → IsOfLines fault → Answer logs (Err fault)

@@ -1,6 +1,6 @@
 -- Logs have at most one answer.
 use Rattle.std.proofs.Common.{◌≡◌, ◌≢◌, ℕ, List, Result, Ok, Err, inl, inr, sym, ap, ap₂, ◌∙◌}
-use Rattle.std.proofs.Common.{Option, Some, None, subst}
+use Rattle.std.proofs.Common.{[], subst}
 use Rattle.std.specs.FinMap as contents
 use Rattle.epx_types.specs.declared.fault.Fault.{Fault}
 use Rattle.epx_types.specs.declared.fault.Fault.TheVariants.{Memory}
@@ -22,14 +22,19 @@ use Rattle.epx_report.specs.ViewLines.{uncovered_line}
 use Rattle.epx_picture.proofs.UniquePictureLemmas.{picture_is_unique}
 use Rattle.epx_audit.proofs.UniquePairLemmas.{uncovered_not_covered, least_uncovered_is_unique}
 use Rattle.epx_compare.proofs.ComparisonAnswerLemmas.{compares_unique}
-use Rattle.epx_tool.specs.declared.question.MapText.{MapText}
-use Rattle.epx_tool.specs.declared.question.MapText.TheVariants.{Report, Order, Levels, Audit}
-use Rattle.epx_tool.specs.declared.question.MapText.TheVariants.{Graph, Why, Path, Trace}
+use Rattle.epx_names.specs.declared.task.Task.{Task}
+use Rattle.epx_names.specs.declared.task.Task.TheVariants.{Run, Order, Levels, Graph, Resume}
+use Rattle.epx_names.specs.declared.task.Task.TheVariants.{Audit, Check, CheckPrefix, Compare}
+use Rattle.epx_names.specs.declared.task.Task.TheVariants.{Why, Path, Trace}
 use Rattle.epx_why.proofs.UniqueTextLemmas.{why_text_is_unique, path_text_is_unique}
 use Rattle.epx_trace.proofs.TraceLemmas.{trace_text_is_unique}
-use Rattle.epx_tool.specs.MapTexts.{IsMapText}
-use Rattle.epx_tool.specs.Questions.{AnswersBy}
 use Rattle.epx_tool.specs.Answer.{Answers}
+use Rattle.epx_tool.specs.TaskAnswers.{AnswersLogs}
+use Rattle.epx_tool.specs.TaskTexts.{IsTaskText}
+use Rattle.epx_tool.specs.Verdicts.{IsPrefixVerdict, IsVerdict}
+use Rattle.epx_tool.proofs.CheckLemmas.{one_text}
+use Rattle.epx_tool.proofs.ResumptionLemmas.{resumed_one}
+use Rattle.epx_tool.proofs.VerdictLemmas.{prefix_verdict_is_unique, verdict_is_unique}
 
 pub IsReport-unique : (m : List Instance) (text other : List ℕ) → IsReport m text
     → IsReport m other → text ≡ other
@@ -68,16 +73,20 @@ IsAuditText-unique m text other (inr p) (inr q) =
     let same = least_uncovered_is_unique m p.0 p.1 q.0 q.1 p.2 q.2 in
     p.3 ∙ ap₂ uncovered_line same.0 same.1 ∙ sym q.3
 
-IsMapText-unique : (kind : MapText) (m : List Instance) (text other : List ℕ)
-    → IsMapText kind m text → IsMapText kind m other → text ≡ other
-IsMapText-unique Report = IsReport-unique
-IsMapText-unique Order = IsOrderText-unique
-IsMapText-unique Levels = IsLevelText-unique
-IsMapText-unique Audit = IsAuditText-unique
-IsMapText-unique Graph = picture_is_unique
-IsMapText-unique (Why x) = λ m. why_text_is_unique m x
-IsMapText-unique (Path x y) = λ m. path_text_is_unique m x y
-IsMapText-unique (Trace key reads) = λ m. trace_text_is_unique m key.text.bytes reads
+pub IsTaskText-unique : (task : Task) (input : List ℕ) (m : List Instance) (text other : List ℕ)
+    → IsTaskText task input m text → IsTaskText task input m other → text ≡ other
+IsTaskText-unique Run input = IsReport-unique
+IsTaskText-unique Order input = IsOrderText-unique
+IsTaskText-unique Levels input = IsLevelText-unique
+IsTaskText-unique Graph input = picture_is_unique
+IsTaskText-unique Audit input = IsAuditText-unique
+IsTaskText-unique Resume base = resumed_one base
+IsTaskText-unique Check list = one_text IsVerdict list verdict_is_unique
+IsTaskText-unique CheckPrefix list = one_text IsPrefixVerdict list prefix_verdict_is_unique
+IsTaskText-unique Compare input = λ m text other none. absurd none
+IsTaskText-unique (Why x) input = λ m. why_text_is_unique m x
+IsTaskText-unique (Path x y) input = λ m. path_text_is_unique m x y
+IsTaskText-unique (Trace key reads) input = λ m. trace_text_is_unique m key.text.bytes reads
 
 -- if each committed map has at most one text, logs have at most one answer, except for out of
 -- memory
@@ -95,8 +104,8 @@ module _ (Is : List Instance → List ℕ → Type 0)
   Answers-unique logs (Err fault) (Err other) s t p q =
       ap Err (refusal_unique logs fault other (λ e. s (ap Err e)) (λ e. t (ap Err e)) p q)
 
-pub AnswersBy-unique : (answered : Option MapText) (logs : List (List ℕ))
-    (a b : Result (List ℕ) Fault) → a ≢ Err Memory → b ≢ Err Memory → AnswersBy answered logs a
-    → AnswersBy answered logs b → a ≡ b
-AnswersBy-unique (Some kind) = Answers-unique (IsMapText kind) (IsMapText-unique kind)
-AnswersBy-unique None = compares_unique
+pub AnswersLogs-unique : (task : Task) (logs : List (List ℕ))
+    (a b : Result (List ℕ) Fault) → a ≢ Err Memory → b ≢ Err Memory → AnswersLogs task logs a
+    → AnswersLogs task logs b → a ≡ b
+AnswersLogs-unique Compare = compares_unique
+AnswersLogs-unique task = Answers-unique (IsTaskText task []) (IsTaskText-unique task [])

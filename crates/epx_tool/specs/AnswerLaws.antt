@@ -1,5 +1,5 @@
 -- Laws of answers.
-use Rattle.std.specs.Prelude.{◌≡◌, ◌≢◌, ◌↔◌, ℕ, List, Result, Ok, Err}
+use Rattle.std.specs.Prelude.{◌≡◌, ◌≢◌, ◌↔◌, ℕ, List, [], Result, Ok, Err}
 use Rattle.epx_types.specs.declared.fault.Fault.{Fault}
 use Rattle.epx_types.specs.declared.fault.Fault.TheVariants.{Memory}
 use Rattle.epx_types.specs.Ids.{IsRising}
@@ -8,27 +8,30 @@ use Rattle.epx_types.specs.CommittedMap.{ids_of}
 use Rattle.epx_types.specs.Conflicts.{IsCovered}
 use Rattle.epx_merge.specs.Acceptance.{IsAccepted}
 use Rattle.epx_report.specs.ViewLines.{covered_line}
+use Rattle.epx_names.specs.Tasks.{HasInput}
+use Rattle.epx_names.specs.declared.task.Task.{Task}
+use Rattle.epx_names.specs.declared.task.Task.TheVariants.{Compare}
 use Rattle.epx_tool.specs.declared.ask.Ask.{Ask}
 use Rattle.epx_tool.specs.declared.ask.Ask.TheVariants.{Audit}
-use Rattle.epx_tool.specs.declared.question.MapText.{MapText}
 use Rattle.epx_tool.specs.Report.{IsReport}
 use Rattle.epx_tool.specs.OrderText.{IsOrderText}
 use Rattle.epx_tool.specs.LevelText.{IsLevelText}
 use Rattle.epx_tool.specs.AuditText.{IsAuditText}
-use Rattle.epx_tool.specs.MapTexts.{IsMapText}
-use Rattle.epx_tool.specs.Questions.{AnswersView}
+use Rattle.epx_tool.specs.TaskAnswers.{AnswersView}
+use Rattle.epx_tool.specs.TaskTexts.{IsTaskText}
 use Rattle.epx_tool.specs.Answer.{IsAnswer}
 
 -- a committed map has a report
 abbrev pub ReportExists : Type 0
 ReportExists = (m : List Instance) → IsRising (ids_of m) → (text : List ℕ) × IsReport m text
 
--- a committed map has a report, a text of its execution order, a text of its conflict levels, a
+-- a committed map has a text for each task without an input but a comparison: a report, a text of
+-- its execution order, a text of its conflict levels, a
 -- text of its audit, a picture, a text about each instance, a text of a path between each two, and
 -- a text of the trace of each key
 abbrev pub MapTextExists : Type 0
-MapTextExists = (kind : MapText) (m : List Instance) → IsRising (ids_of m) → (text : List ℕ)
-    × IsMapText kind m text
+MapTextExists = (task : Task) → ¬ HasInput task → task ≢ Compare → (m : List Instance)
+    → IsRising (ids_of m) → (text : List ℕ) × IsTaskText task [] m text
 
 -- a committed map has at most one report
 abbrev pub ReportIsUnique : Type 0

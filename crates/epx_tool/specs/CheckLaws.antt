@@ -14,9 +14,9 @@ use Rattle.epx_report.specs.Lists.{IsList}
 use Rattle.epx_report.specs.ViewLines.{covered_line, lawful_line}
 use Rattle.epx_ranking.specs.OrderFaults.{HasAllReady}
 use Rattle.epx_tool.specs.declared.ask.Ask.TheVariants.{Audit}
-use Rattle.epx_tool.specs.declared.question.InputQuestion.TheVariants.{CheckPrefix}
+use Rattle.epx_names.specs.declared.task.Task.TheVariants.{CheckPrefix}
 use Rattle.epx_tool.specs.CheckAnswers.{Checks}
-use Rattle.epx_tool.specs.Questions.{AnswersView, IsInputAnswer}
+use Rattle.epx_tool.specs.TaskAnswers.{AnswersTask, AnswersView}
 use Rattle.epx_tool.specs.SameLineLaws.{HaveLinesOf}
 use Rattle.epx_tool.specs.WithInput.{IsShort}
 
@@ -49,13 +49,13 @@ LawfulListExecutesAlike = (list : List ℕ) (logs : List (List ℕ))
 abbrev pub LawfulTextMeansPrefix : Type 0
 LawfulTextMeansPrefix = (list : List ℕ) (logs : List (List ℕ)) (ids : List Id)
     (m : List Instance) → IsShort list → IsList list ids → IsAccepted logs m →
-    IsInputAnswer CheckPrefix list logs (Ok lawful_line) ↔ IsLawfulPrefix m ids
+    AnswersTask CheckPrefix list logs (Ok lawful_line) ↔ IsLawfulPrefix m ids
 
 -- if it is reported as lawful and the logs as covered, executing it from the empty store gives each
 -- listed instance the reply that the report of the logs has
 abbrev pub LawfulPrefixRepliesAlike : Type 0
 LawfulPrefixRepliesAlike = (list : List ℕ) (logs : List (List ℕ))
-    → IsInputAnswer CheckPrefix list logs (Ok lawful_line)
+    → AnswersTask CheckPrefix list logs (Ok lawful_line)
     → AnswersView Audit logs (Ok covered_line)
     → (ids : List Id) (m : List Instance) → IsList list ids → IsAccepted logs m →
     (order : List Ranked) → IsExecutionOrder m order
@@ -67,12 +67,12 @@ LawfulPrefixRepliesAlike = (list : List ℕ) (logs : List (List ℕ))
 abbrev pub WholeListsAreAnsweredAlike : Type 0
 WholeListsAreAnsweredAlike = (list : List ℕ) (logs : List (List ℕ)) (ids : List Id)
     (m : List Instance) → IsList list ids → IsAccepted logs m → HasAllReady m ids
-    → (a : Result (List ℕ) Fault) → IsInputAnswer CheckPrefix list logs a ↔ Checks list logs a
+    → (a : Result (List ℕ) Fault) → AnswersTask CheckPrefix list logs a ↔ Checks list logs a
 
 -- if logs call it lawful, so do all accepted logs that have their lines: what a replica has
 -- executed stays lawful, whatever is committed later
 abbrev pub LawfulPrefixesStay : Type 0
 LawfulPrefixesStay = (list : List ℕ) (logs more : List (List ℕ)) → HaveLinesOf more logs
     → (m : List Instance) → IsAccepted more m
-    → IsInputAnswer CheckPrefix list logs (Ok lawful_line)
-    → IsInputAnswer CheckPrefix list more (Ok lawful_line)
+    → AnswersTask CheckPrefix list logs (Ok lawful_line)
+    → AnswersTask CheckPrefix list more (Ok lawful_line)

@@ -8,7 +8,6 @@ use Rattle.epx_merge.specs.Refusals.{IsRefusal}
 use Rattle.epx_devices.specs.Models.{SourceModel}
 use Rattle.epx_tool.specs.Answer.{Answers}
 
-
 -- the logs that the sources delivered have an answer, and it was written as `Written` says
 pub record WritesDelivered {S : Type 0} (D : SourceModel S)
     (Answer : List (List ℕ) → Result (List ℕ) Fault → Type 0) (old new : List S)

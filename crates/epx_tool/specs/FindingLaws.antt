@@ -8,24 +8,22 @@ use Rattle.epx_types.specs.LawfulPrefixes.{IsLawfulPrefix}
 use Rattle.epx_types.specs.LawfulOrders.{IsLawful}
 use Rattle.epx_merge.specs.Acceptance.{IsAccepted}
 use Rattle.epx_report.specs.Lists.{IsList}
-use Rattle.epx_tool.specs.declared.ask.Ask.TheVariants.{Audit}
-use Rattle.epx_tool.specs.declared.question.InputQuestion.{InputQuestion}
-use Rattle.epx_tool.specs.declared.question.InputQuestion.TheVariants.{Check, CheckPrefix}
-use Rattle.epx_tool.specs.declared.question.Question.TheVariants.{View}
-use Rattle.epx_tool.specs.Findings.{AnswersFinding, IsFindingWith}
-use Rattle.epx_tool.specs.Questions.{IsBadInput}
+use Rattle.epx_names.specs.declared.task.Task.{Task}
+use Rattle.epx_names.specs.declared.task.Task.TheVariants.{Audit, Check, CheckPrefix}
+use Rattle.epx_tool.specs.Findings.{AnswersFinding, IsFindingText}
+use Rattle.epx_tool.specs.TaskAnswers.{IsBadInput}
 use Rattle.epx_tool.specs.WithInput.{AnswersWithInput}
 
 -- the answer to an input and logs, and whether it finds something
-abbrev pub AnswersFindingWith : InputQuestion → Bool → List ℕ → List (List ℕ)
+abbrev pub AnswersFindingWith : Task → Bool → List ℕ → List (List ℕ)
     → Result (List ℕ) Fault → Type 0
-AnswersFindingWith question found =
-    AnswersWithInput (IsBadInput question) (IsFindingWith question found)
+AnswersFindingWith task found =
+    AnswersWithInput (IsBadInput task) (IsFindingText task found)
 
 -- an audit finds something exactly if the logs are not covered
 abbrev pub AuditFindsNotCovered : Type 0
 AuditFindsNotCovered = (logs : List (List ℕ)) (m : List Instance) → IsAccepted logs m
-    → (found : Bool) (text : List ℕ) → AnswersFinding (View Audit) found logs (Ok text)
+    → (found : Bool) (text : List ℕ) → AnswersFinding Audit found logs (Ok text)
     → (found ≡ true) ↔ (¬ IsCovered m)
 
 -- a check finds something exactly if the list is not a lawful order, or, checked as a prefix,

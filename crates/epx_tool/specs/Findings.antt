@@ -1,6 +1,5 @@
 -- What an answer finds, and answers with whether they find something.
-use Rattle.std.specs.Prelude.{◌≡◌, ◌≢◌, ◌↔◌, ℕ, Bool, true, List, Option, Some, None, Result}
-use Rattle.std.specs.Prelude.{Ok, Err}
+use Rattle.std.specs.Prelude.{◌≡◌, ◌≢◌, ◌↔◌, ℕ, Bool, true, List, [], Result, Ok, Err}
 use Rattle.epx_types.specs.declared.fault.Fault.{Fault}
 use Rattle.epx_types.specs.declared.id.Id.{Id}
 use Rattle.epx_types.specs.Contents.{Contents}
@@ -11,53 +10,48 @@ use Rattle.epx_compare.specs.Comparisons.{HasFindings}
 use Rattle.epx_compare.specs.ComparisonAnswers.{Compares}
 use Rattle.epx_report.specs.Bases.{IsBase}
 use Rattle.epx_report.specs.ViewLines.{covered_line, lawful_line}
-use Rattle.epx_tool.specs.declared.question.InputQuestion.{InputQuestion}
-use Rattle.epx_tool.specs.declared.question.InputQuestion.TheVariants.{Resume, Check}
-use Rattle.epx_tool.specs.declared.question.InputQuestion.TheVariants.{CheckPrefix}
-use Rattle.epx_tool.specs.declared.question.MapText.{MapText}
-use Rattle.epx_tool.specs.declared.question.MapText.TheVariants.{Report, Order, Levels, Audit}
-use Rattle.epx_tool.specs.declared.question.Question.{Question}
+use Rattle.epx_names.specs.declared.task.Task.{Task}
+use Rattle.epx_names.specs.declared.task.Task.TheVariants.{Run, Order, Levels, Audit, Resume}
+use Rattle.epx_names.specs.declared.task.Task.TheVariants.{Check, CheckPrefix, Compare}
+use Rattle.epx_tool.specs.declared.findings.Answer.{Answer}
 use Rattle.epx_tool.specs.Answer.{Answers}
-use Rattle.epx_tool.specs.MapTexts.{IsMapText}
-use Rattle.epx_tool.specs.Questions.{IsTextWith, map_text_of}
+use Rattle.epx_tool.specs.TaskTexts.{IsTaskText}
 
 -- an instance of the map waits for a missing one
 abbrev pub SomeWaits : List Instance → Type 0
 SomeWaits m = (x y : Id) × WaitsFor m x y
 
--- this text of a committed map finds something: an instance that waits, or two that are not covered
-abbrev pub FindsIn : MapText → List Instance → List ℕ → Type 0
-FindsIn Report m text = SomeWaits m
-FindsIn Order m text = SomeWaits m
-FindsIn Levels m text = SomeWaits m
-FindsIn Audit m text = text ≢ covered_line
-FindsIn _ m text = ⊥
-
--- so does this text for an input: an instance that waits after what the base says is done, or a
--- list that is not lawful
-abbrev pub FindsWith : InputQuestion → List ℕ → List Instance → List ℕ → Type 0
-FindsWith Resume base m text = (done : List Id) × (stored : Contents) × IsBase base done stored
+-- the text that answers a task finds something: an instance that waits, after what a base says is
+-- done, two that are not covered, or a list that is not lawful
+abbrev pub FindsIn : Task → List ℕ → List Instance → List ℕ → Type 0
+FindsIn Run input m text = SomeWaits m
+FindsIn Order input m text = SomeWaits m
+FindsIn Levels input m text = SomeWaits m
+FindsIn Audit input m text = text ≢ covered_line
+FindsIn Resume base m text = (done : List Id) × (stored : Contents) × IsBase base done stored
     × SomeWaits (remaining done m)
-FindsWith Check list m text = text ≢ lawful_line
-FindsWith CheckPrefix list m text = text ≢ lawful_line
-
--- the text of a committed map, and whether it finds something
-abbrev pub IsFindingText : MapText → Bool → List Instance → List ℕ → Type 0
-IsFindingText kind found m text = IsMapText kind m text × ((found ≡ true) ↔ FindsIn kind m text)
+FindsIn Check list m text = text ≢ lawful_line
+FindsIn CheckPrefix list m text = text ≢ lawful_line
+FindsIn _ input m text = ⊥
 
 -- the text for an input and a committed map, and whether it finds something
-abbrev pub IsFindingWith : InputQuestion → Bool → List ℕ → List Instance → List ℕ → Type 0
-IsFindingWith question found input m text =
-    IsTextWith question input m text × ((found ≡ true) ↔ FindsWith question input m text)
+abbrev pub IsFindingText : Task → Bool → List ℕ → List Instance → List ℕ → Type 0
+IsFindingText task found input m text =
+    IsTaskText task input m text × ((found ≡ true) ↔ FindsIn task input m text)
 
--- the answer to logs, and whether it finds something; a comparison does if something is wrong with
--- the logs
-abbrev pub AnswersFindingBy : Option MapText → Bool → List (List ℕ) → Result (List ℕ) Fault
-    → Type 0
-AnswersFindingBy (Some kind) found logs answer = Answers (IsFindingText kind found) logs answer
-AnswersFindingBy None found logs (Ok text) =
+-- the comparison of logs, and whether it finds something, which it does if something is wrong with
+-- them
+abbrev pub ComparesFinding : Bool → List (List ℕ) → Result (List ℕ) Fault → Type 0
+ComparesFinding found logs (Ok text) =
     Compares logs (Ok text) × ((found ≡ true) ↔ HasFindings logs)
-AnswersFindingBy None found logs (Err fault) = Compares logs (Err fault)
+ComparesFinding found logs (Err fault) = Compares logs (Err fault)
 
-abbrev pub AnswersFinding : Question → Bool → List (List ℕ) → Result (List ℕ) Fault → Type 0
-AnswersFinding question = AnswersFindingBy (map_text_of question)
+-- the answer to a task without an input, and whether it finds something
+abbrev pub AnswersFinding : Task → Bool → List (List ℕ) → Result (List ℕ) Fault → Type 0
+AnswersFinding Compare found = ComparesFinding found
+AnswersFinding task found = Answers (IsFindingText task found [])
+
+-- whether the answer of a run finds something, or the fault of the run
+abbrev pub found_of : Result Answer Fault → Result Bool Fault
+found_of (Ok answer) = Ok answer.has_findings
+found_of (Err fault) = Err fault

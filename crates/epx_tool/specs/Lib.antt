@@ -4,12 +4,13 @@ pub mod ResumedReport
 pub mod OrderText
 pub mod LevelText
 pub mod AuditText
-pub mod MapTexts
 pub mod Answer
 pub mod WithInput
 pub mod Resumption
 pub mod Verdicts
 pub mod CheckAnswers
+pub mod TaskTexts
+pub mod TaskAnswers
 pub mod AnswerLaws
 pub mod InputAnswerLaws
 pub mod ResumptionLaws
@@ -22,7 +23,6 @@ pub mod RunsWithInput
 pub mod Sources
 pub mod Delivered
 pub mod DeliveredWithInput
-pub mod Questions
 pub mod RunEndings
 pub mod Findings
 pub mod FindingLaws

@@ -1,12 +1,17 @@
 -- How a run ends: what it writes, and how it leaves its sources.
-use Rattle.std.specs.Prelude.{◌≡◌, ◌≢◌, ◌↔◌, ℕ, true, List, length, Some, Result}
-use Rattle.std.specs.Prelude.{Ok, Err, OnOk, IfErr, IsErrOf}
+use Rattle.std.specs.Prelude.{◌≡◌, ◌≢◌, ◌↔◌, ℕ, Bool, true, List, length, Some, Result}
+use Rattle.std.specs.Prelude.{Ok, Err, OnOk, IfErr, IsErrOf, MatchResult}
 use Rattle.std.specs.Io.KnownBytes.{Appends, Keeps}
 use Rattle.epx_types.specs.declared.fault.Fault.{Fault}
 use Rattle.epx_types.specs.declared.fault.Fault.TheVariants.{Write}
 use Rattle.epx_types.specs.Instances.{Instance}
 use Rattle.epx_devices.specs.Models.{SinkModel, SourceModel}
 use Rattle.epx_devices.specs.Transfers.{AppendsPrefix}
+use Rattle.epx_names.specs.Tasks.{HasInput}
+use Rattle.epx_names.specs.declared.task.Task.{Task}
+use Rattle.epx_tool.specs.Findings.{AnswersFinding, IsFindingText}
+use Rattle.epx_tool.specs.TaskAnswers.{AnswersLogs, IsBadInput}
+use Rattle.epx_tool.specs.TaskTexts.{IsTaskText}
 use Rattle.epx_tool.specs.Delivered.{WritesDelivered, EndsRefused}
 use Rattle.epx_tool.specs.DeliveredWithInput.{AnswersBoth, EndsWithoutBoth}
 use Rattle.epx_merge.specs.ReadingRefusals.{AreBytesOf}
@@ -62,3 +67,18 @@ pub record EndsRunWithInput {I S T : Type 0} (E : SourceModel I) (D : SourceMode
       W was now result
   pub sources : LeavesSources D old new result
   pub input : LeavesInput E first last (length old) result
+
+-- a run of a task ends with this result: with whether its answer finds something, or with a fault;
+-- a task without an input leaves its source untouched
+pub record EndsTaskRun {I S T : Type 0} (E : SourceModel I) (D : SourceModel S) (W : SinkModel T)
+    (task : Task) (first last : I) (old new : List S) (was now : T)
+    (done : Result Bool Fault) : Type 0 where
+  pub with_input : HasInput task → MatchResult done
+      (λ found. EndsRunWithInput E D W (IsBadInput task) (IsFindingText task found) first last
+      old new was now (Ok tt))
+      (λ fault. EndsRunWithInput E D W (IsBadInput task) (IsTaskText task) first last old new
+      was now (Err fault))
+  pub alone : ¬ HasInput task → MatchResult done
+      (λ found. EndsRun D W (AnswersFinding task found) old new was now (Ok tt))
+      (λ fault. EndsRun D W (AnswersLogs task) old new was now (Err fault))
+  pub untouched : ¬ HasInput task → last ≡ first

@@ -5,8 +5,8 @@ use Rattle.epx_lines.specs.Lines.{lines_of}
 use Rattle.epx_merge.specs.Acceptance.{IsAccepted}
 use Rattle.epx_merge.specs.Refusals.{FitLimits}
 use Rattle.epx_tool.specs.Answer.{Answers}
-use Rattle.epx_tool.specs.MapTexts.{IsMapText}
-use Rattle.epx_tool.specs.declared.question.MapText.{MapText}
+use Rattle.epx_tool.specs.TaskTexts.{IsTaskText}
+use Rattle.epx_names.specs.declared.task.Task.{Task}
 
 -- one of the logs has the line
 abbrev pub HaveLine : List (List ℕ) → List ℕ → Type 0
@@ -26,5 +26,6 @@ SameLinesAreAcceptedAlike = (logs other : List (List ℕ)) → HaveLinesOf logs 
 -- nor do they change a text of the committed map
 abbrev pub SameLinesAreAnsweredAlike : Type 0
 SameLinesAreAnsweredAlike = (logs other : List (List ℕ)) → HaveLinesOf logs other
-    → HaveLinesOf other logs → FitLimits other → (kind : MapText) (text : List ℕ)
-    → Answers (IsMapText kind) logs (Ok text) → Answers (IsMapText kind) other (Ok text)
+    → HaveLinesOf other logs → FitLimits other → (task : Task) (input text : List ℕ)
+    → Answers (IsTaskText task input) logs (Ok text)
+    → Answers (IsTaskText task input) other (Ok text)

@@ -21,7 +21,7 @@ use Rattle.epx_trace.specs.TraceLaws.{value_left}
 use Rattle.epx_trace.specs.TraceTexts.{IsTraceText, ordered_commands}
 use Rattle.epx_tool.specs.declared.ask.Ask.TheVariants.{Trace}
 use Rattle.epx_tool.specs.Answer.{IsAnswer}
-use Rattle.epx_tool.specs.Questions.{AnswersView}
+use Rattle.epx_tool.specs.TaskAnswers.{AnswersView}
 use Rattle.epx_tool.specs.Report.{IsReport}
 
 -- the store of a report has under a key what the last write of the key's trace leaves, and nothing

@@ -1,4 +1,5 @@
 -- Words of private clauses: no public contract speaks of them.
 pub mod ReportParts
 pub mod ReadSources
-pub mod InputReadings
+pub mod MapQuestions
+pub mod TaskReadings

@@ -1,6 +1,7 @@
 //! The views of logs: the texts other than the report.
+ghost use Rattle.std.specs.Prelude.{◌≡◌};
 
-use epx_names::KeyName;
+use epx_names::{KeyName, Task};
 use epx_types::Id;
 
 /// Which view is asked for.
@@ -24,4 +25,23 @@ pub enum Ask {
     /// What the logs say against each other. Bad lines and disagreements are lines of this view,
     /// and no faults.
     Compare,
+}
+
+impl From<Ask> for Task {
+    ghost use Rattle.epx_tool.specs.TaskAnswers.{task_of};
+
+    ghost from_gives = { λ ask task. task ≡ task_of ask };
+
+    fn from(ask: Ask) -> Task {
+        match ask {
+            Ask::Order => Task::Order,
+            Ask::Levels => Task::Levels,
+            Ask::Audit => Task::Audit,
+            Ask::Graph => Task::Graph,
+            Ask::Why(id) => Task::Why(id),
+            Ask::Path(from, to) => Task::Path(from, to),
+            Ask::Trace { key, reads } => Task::Trace { key, reads },
+            Ask::Compare => Task::Compare,
+        }
+    }
 }

@@ -1,4 +1,4 @@
-//! The texts of a committed map: the report and the views.
+//! The texts of a committed map.
 ghost use Rattle.std.specs.Prelude.{◌≡◌, ◌≢◌, ◌≤◌, ◌↔◌, length, true, IfOk};
 ghost use Rattle.epx_types.specs.Done.{remaining};
 ghost use Rattle.epx_types.specs.Ids.{IsRising};
@@ -11,16 +11,16 @@ ghost use Rattle.epx_tool.specs.AuditText.{IsAuditText};
 ghost use Rattle.epx_types.specs.CommittedMap.{commands_in};
 ghost use Rattle.epx_tool.specs.Report.{IsReport};
 ghost use Rattle.epx_tool.specs.ResumedReport.{IsReportAfter};
-ghost use Rattle.epx_tool.specs.Findings.{FindsIn, SomeWaits};
-ghost use Rattle.epx_tool.specs.MapTexts.{IsMapText};
+ghost use Rattle.epx_tool.specs.Findings.{SomeWaits};
+ghost use Rattle.epx_tool.specs.inner.MapQuestions.{FindsOf, IsTextOf};
 ghost use Rattle.epx_picture.specs.Pictures.{IsPicture};
 ghost use Rattle.epx_why.specs.WhyTexts.{IsWhyText, IsPathText};
 ghost use Rattle.epx_trace.specs.TraceTexts.{IsTraceText};
 
 use crate::findings::{Answer, is_other, some_wait};
-use crate::question::MapText;
+use crate::question::MapQuestion;
 use crate::report::{begin_report, end_report, level_report, order_report};
-use crate::verdict::audit_line;
+use crate::verdict::{audit_line, prefix_verdict_of, verdict_of};
 use epx_apply::{LevelMap, levels};
 use epx_audit::audit;
 use epx_committed::commands_of;
@@ -49,7 +49,7 @@ fn command_levels(alloc: Global, merged: &Merged, ids: &[Id]) -> Result<LevelMap
 
 /// Executes the remaining instances of a committed map from a store, and returns the report.
 /// `done` has the done instances by increasing Id.
-pub(crate) fn report_of<R: Threads + RandomSource + Sync>(
+fn report_of<R: Threads + RandomSource + Sync>(
     rt: &R,
     alloc: Global,
     merged: &Merged,
@@ -74,7 +74,11 @@ pub(crate) fn report_of<R: Threads + RandomSource + Sync>(
     // The lines of the store take the room of the order.
     drop(order);
     let text = end_report(rt, alloc, plan, text, &waiters, store)?;
-    Ok(Answer::new(text, has_findings))
+    Ok(Answer {
+        text,
+        has_findings,
+        merged: None,
+    })
 }
 
 /// The text of the execution order of a committed map.
@@ -93,7 +97,11 @@ fn order_of<R: Threads + Sync>(
     let waiters = waiting(alloc, &graph)?;
     let has_findings = some_wait(&waiters);
     let text = order_report(alloc, &order, &waiters)?;
-    Ok(Answer::new(text, has_findings))
+    Ok(Answer {
+        text,
+        has_findings,
+        merged: None,
+    })
 }
 
 /// The text of the conflict levels of a committed map, in execution order.
@@ -113,7 +121,11 @@ fn levels_of<R: Threads + Sync>(
     let has_findings = some_wait(&waiters);
     let levels = command_levels(alloc, merged, order.ids())?;
     let text = level_report(alloc, &order, &waiters, &levels)?;
-    Ok(Answer::new(text, has_findings))
+    Ok(Answer {
+        text,
+        has_findings,
+        merged: None,
+    })
 }
 
 /// The text of the audit of a committed map.
@@ -132,7 +144,11 @@ fn audit_of<R: Threads + Sync>(
     let found = audit(alloc, merged, &graph, &order)?;
     let text = audit_line(alloc, found)?;
     let has_findings = is_other(alloc, &text, "covered")?;
-    Ok(Answer::new(text, has_findings))
+    Ok(Answer {
+        text,
+        has_findings,
+        merged: None,
+    })
 }
 
 /// The picture of the dependency graph of a committed map.
@@ -196,31 +212,37 @@ fn trace_of<R: Threads + Sync>(
     trace_text(alloc, merged, &order, &key, reads)
 }
 
-/// A text of a committed map, and whether it finds something.
+/// The text that answers a question about a committed map, and whether it finds something.
 pub(crate) fn text_of<R: Threads + RandomSource + Sync>(
     rt: &R,
     alloc: Global,
-    kind: &MapText,
+    question: MapQuestion,
     merged: &Merged,
     plan: Plan,
 ) -> Result<Answer, Memory>
     requires few { length merged.now ≤ max_instances }
-    ensures text { IfOk result (λ answer. IsMapText kind.now merged.now answer.text.items) }
+    ensures text { IfOk result (λ answer. IsTextOf question merged.now answer.text.items) }
     ensures found { IfOk result (λ answer. (answer.has_findings ≡ true)
-        ↔ FindsIn kind.now merged.now answer.text.items) }
+        ↔ FindsOf question merged.now answer.text.items) }
 {
-    match kind {
-        MapText::Report => report_of(rt, alloc, merged, &[], Store::new(alloc), plan),
-        MapText::Order => order_of(rt, alloc, merged, plan),
-        MapText::Levels => levels_of(rt, alloc, merged, plan),
-        MapText::Audit => audit_of(rt, alloc, merged, plan),
-        MapText::Graph => Ok(Answer::new(picture_of(rt, alloc, merged, plan)?, false)),
-        MapText::Why(id) => Ok(Answer::new(why_of(rt, alloc, merged, *id, plan)?, false)),
-        MapText::Path(from, to) => {
-            Ok(Answer::new(path_of(rt, alloc, merged, *from, *to, plan)?, false))
+    match question {
+        MapQuestion::Report => report_of(rt, alloc, merged, &[], Store::new(alloc), plan),
+        MapQuestion::Resume(base) => {
+            let (done, store) = base.into_parts();
+            report_of(rt, alloc, merged, &done, store, plan)
         }
-        MapText::Trace { key, reads } => {
-            Ok(Answer::new(trace_of(rt, alloc, merged, key, *reads, plan)?, false))
+        MapQuestion::Order => order_of(rt, alloc, merged, plan),
+        MapQuestion::Levels => levels_of(rt, alloc, merged, plan),
+        MapQuestion::Audit => audit_of(rt, alloc, merged, plan),
+        MapQuestion::Graph => Ok(Answer::new(picture_of(rt, alloc, merged, plan)?, false)),
+        MapQuestion::Why(id) => Ok(Answer::new(why_of(rt, alloc, merged, id, plan)?, false)),
+        MapQuestion::Path(from, to) => {
+            Ok(Answer::new(path_of(rt, alloc, merged, from, to, plan)?, false))
         }
+        MapQuestion::Trace { key, reads } => {
+            Ok(Answer::new(trace_of(rt, alloc, merged, &key, reads, plan)?, false))
+        }
+        MapQuestion::Check(ids) => verdict_of(rt, alloc, merged, &ids, plan),
+        MapQuestion::CheckPrefix(ids) => prefix_verdict_of(rt, alloc, merged, &ids, plan),
     }
 }

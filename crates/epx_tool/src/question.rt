@@ -1,24 +1,20 @@
-//! The questions that are asked of logs, alone or with an extra input.
-ghost use Rattle.std.specs.Prelude.{◌≡◌};
-ghost use Rattle.epx_tool.specs.Questions.{map_text_of};
+//! What tasks ask of a committed map.
+ghost use Rattle.std.specs.Prelude.{◌≡◌, IfNone, IfSome, MatchResult, []};
+ghost use Rattle.epx_names.specs.Tasks.{HasInput};
+ghost use Rattle.epx_names.specs.declared.task.Task.TheVariants.{Compare};
+ghost use Rattle.epx_tool.specs.inner.MapQuestions.{TaskAsks, IsInputFault};
 
-use crate::ask::Ask;
-use epx_names::KeyName;
+use epx_names::{KeyName, Task};
+use epx_report::{Base, BaseFault, read_base, read_list};
 use epx_types::Id;
+use std::alloc::Global;
 
-/// What is asked of logs.
-#[derive(Clone, Copy)]
-pub enum Question {
-    /// The report.
+/// What is asked of a committed map. Inputs are read.
+#[derive(Drop)]
+pub(crate) enum MapQuestion {
     Report,
-    /// A view.
-    View(Ask),
-}
-
-/// A text of the map that logs commit.
-#[derive(Clone, Copy)]
-pub enum MapText {
-    Report,
+    /// The report that resumes from a base.
+    Resume(Base),
     Order,
     Levels,
     Audit,
@@ -26,34 +22,44 @@ pub enum MapText {
     Why(Id),
     Path(Id, Id),
     Trace { key: KeyName, reads: bool },
+    /// The verdict on a list.
+    Check(Vec<Id>),
+    /// The verdict on a list that may lack ready instances at its end.
+    CheckPrefix(Vec<Id>),
 }
 
-impl Question {
-    /// The text of the committed map that answers the question. A comparison is not one of a map.
-    pub(crate) fn map_text(self) -> Option<MapText>
-        ensures { result ≡ map_text_of self }
-    {
-        match self {
-            Question::Report => Some(MapText::Report),
-            Question::View(Ask::Order) => Some(MapText::Order),
-            Question::View(Ask::Levels) => Some(MapText::Levels),
-            Question::View(Ask::Audit) => Some(MapText::Audit),
-            Question::View(Ask::Graph) => Some(MapText::Graph),
-            Question::View(Ask::Why(id)) => Some(MapText::Why(id)),
-            Question::View(Ask::Path(from, to)) => Some(MapText::Path(from, to)),
-            Question::View(Ask::Trace { key, reads }) => Some(MapText::Trace { key, reads }),
-            Question::View(Ask::Compare) => None,
-        }
+/// What a task without an input asks of the map that the logs commit. A comparison asks nothing of
+/// it.
+pub(crate) fn question_of(task: Task) -> Option<MapQuestion>
+    requires { ¬ HasInput task }
+    ensures some { IfSome result (TaskAsks task []) }
+    ensures none { IfNone result (task ≡ Compare) }
+{
+    match task {
+        Task::Run => Some(MapQuestion::Report),
+        Task::Order => Some(MapQuestion::Order),
+        Task::Levels => Some(MapQuestion::Levels),
+        Task::Audit => Some(MapQuestion::Audit),
+        Task::Graph => Some(MapQuestion::Graph),
+        Task::Why(id) => Some(MapQuestion::Why(id)),
+        Task::Path(from, to) => Some(MapQuestion::Path(from, to)),
+        Task::Trace { key, reads } => Some(MapQuestion::Trace { key, reads }),
+        Task::Compare | Task::Resume | Task::Check | Task::CheckPrefix => None,
     }
 }
 
-/// What is asked of logs and an extra input.
-#[derive(Clone, Copy)]
-pub enum InputQuestion {
-    /// The report that resumes from the input, a base.
-    Resume,
-    /// The verdict on the input, a list.
-    Check,
-    /// The verdict on the input, the list of a replica that is still executing.
-    CheckPrefix,
+/// Reads the lines of the input of a task, and returns what the task asks of the map.
+pub(crate) fn read_question(
+    alloc: Global,
+    task: Task,
+    input: &[u8],
+) -> Result<MapQuestion, BaseFault>
+    requires { HasInput task }
+    ensures { MatchResult result (TaskAsks task input.now) (IsInputFault task input.now) }
+{
+    match task {
+        Task::Resume => Ok(MapQuestion::Resume(read_base(alloc, input)?)),
+        Task::CheckPrefix => Ok(MapQuestion::CheckPrefix(read_list(alloc, input)?)),
+        _ => Ok(MapQuestion::Check(read_list(alloc, input)?)),
+    }
 }

@@ -12,9 +12,9 @@ ghost use Rattle.epx_merge.specs.SourceEndings.{EachConsumesUpTo, StopsAt};
 ghost use Rattle.epx_tool.specs.DeliveredWithInput.{AnswersBoth, EndsWithoutBoth};
 ghost use Rattle.epx_devices.specs.Transfers.{AppendsPrefix, ConsumesUpTo};
 
-use crate::input_runs::write_with_input;
-use crate::question::InputQuestion;
+use crate::task_runs::write_with_input;
 use epx_devices::{Sink, Source};
+use epx_names::Task;
 use epx_types::{Fault, Plan};
 use std::alloc::Global;
 use std::random::RandomSource;
@@ -83,5 +83,5 @@ pub fn run_resume<T: Threads + RandomSource + Sync, B: Source, S: Source, W: Sin
     ensures none_read { IsErrOf result Fault.TooManyLogs → (sources.new ≡ sources.old)
         × (base.new ≡ base.old) }
 {
-    write_with_input(rt, alloc, InputQuestion::Resume, base, sources, plan, sink)
+    write_with_input(rt, alloc, Task::Resume, base, sources, plan, sink)
 }

@@ -1,12 +1,16 @@
 //! The texts of an audit and of the verdict on a checked list. Each is one line.
-ghost use Rattle.std.specs.Prelude.{◌≡◌, ◌≢◌, IfOk, MatchOption, MatchResult};
+ghost use Rattle.std.specs.Prelude.{◌≡◌, ◌≢◌, ◌↔◌, true, IfOk, MatchOption, MatchResult};
 ghost use Rattle.epx_report.specs.ViewLines.{covered_line, uncovered_line, lawful_line};
-ghost use Rattle.epx_tool.specs.Verdicts.{order_fault_text};
+ghost use Rattle.epx_tool.specs.Verdicts.{IsPrefixVerdict, IsVerdict, order_fault_text};
 
-use epx_ranking::OrderFault;
+use crate::findings::{Answer, is_other};
+use epx_graph::build;
+use epx_merge::Merged;
+use epx_ranking::{OrderFault, check_order, check_prefix};
 use epx_report::{missing_line, name_line, position_line, uncovered_line};
-use epx_types::{Id, Memory};
+use epx_types::{Id, Memory, Plan};
 use std::alloc::Global;
+use std::thread::Threads;
 
 /// The line of a fault. Out of memory has no line.
 fn fault_line(alloc: Global, fault: OrderFault) -> Result<Vec<u8>, Memory>
@@ -35,7 +39,7 @@ pub(crate) fn audit_line(alloc: Global, found: Option<(Id, Id)>) -> Result<Vec<u
 }
 
 /// The line of a verdict.
-pub(crate) fn verdict_line(alloc: Global, found: Result<(), OrderFault>) -> Result<Vec<u8>, Memory>
+fn verdict_line(alloc: Global, found: Result<(), OrderFault>) -> Result<Vec<u8>, Memory>
     ensures { IfOk result (λ text. MatchResult found (λ _. text.items ≡ lawful_line)
         (λ fault. (fault ≢ OrderFault.Memory) × (text.items ≡ order_fault_text fault))) }
 {
@@ -43,4 +47,51 @@ pub(crate) fn verdict_line(alloc: Global, found: Result<(), OrderFault>) -> Resu
         Ok(()) => Ok(name_line(alloc, "lawful")?),
         Err(fault) => fault_line(alloc, fault),
     }
+}
+
+/// The verdict on a list of instances, over a committed map.
+pub(crate) fn verdict_of<R: Threads + Sync>(
+    rt: &R,
+    alloc: Global,
+    merged: &Merged,
+    ids: &[Id],
+    plan: Plan,
+) -> Result<Answer, Memory>
+    ensures text { IfOk result (λ answer. IsVerdict merged.now ids.now answer.text.items) }
+    ensures found { IfOk result (λ answer. (answer.has_findings ≡ true)
+        ↔ (answer.text.items ≢ lawful_line)) }
+{
+    let graph = build(rt, alloc, merged, plan)?;
+    let found = check_order(alloc, merged, &graph, ids);
+    let text = verdict_line(alloc, found)?;
+    let has_findings = is_other(alloc, &text, "lawful")?;
+    Ok(Answer {
+        text,
+        has_findings,
+        merged: None,
+    })
+}
+
+/// The verdict on a list of instances as a prefix, over a committed map.
+pub(crate) fn prefix_verdict_of<R: Threads + Sync>(
+    rt: &R,
+    alloc: Global,
+    merged: &Merged,
+    ids: &[Id],
+    plan: Plan,
+) -> Result<Answer, Memory>
+    ensures text { IfOk result
+        (λ answer. IsPrefixVerdict merged.now ids.now answer.text.items) }
+    ensures found { IfOk result (λ answer. (answer.has_findings ≡ true)
+        ↔ (answer.text.items ≢ lawful_line)) }
+{
+    let graph = build(rt, alloc, merged, plan)?;
+    let found = check_prefix(alloc, merged, &graph, ids);
+    let text = verdict_line(alloc, found)?;
+    let has_findings = is_other(alloc, &text, "lawful")?;
+    Ok(Answer {
+        text,
+        has_findings,
+        merged: None,
+    })
 }

@@ -1,8 +1,10 @@
--- Lines that are known, as more versions and lines are added.
-use Rattle.std.proofs.Common.{◌≡◌, ◌∙◌, ◌∷◌, ℕ, List, [], Option, None, Some, Result, Ok}
+-- Lines of a cache and what they commit, as more versions and lines are added.
+use Rattle.std.proofs.Common.{◌≡◌, ◌∙◌, ◌∷◌, ◌++◌, ℕ, List, [], Option, None, Some, Result, Ok}
 use Rattle.std.proofs.Common.{slice_get, refl, sym, ap, option_map, ◌==◌, Bool, true, false, cond}
-use Rattle.std.proofs.Common.{arith}
+use Rattle.std.proofs.Common.{◌<◌, length, map, arith}
 use Rattle.std.proofs.lemmas.Bool.Decides.{nat_tests}
+use Rattle.std.proofs.lemmas.List.{length-map}
+use Rattle.std.proofs.lemmas.Option.{slice_get_within}
 use Rattle.epx_seed.specs.declared.Seed.{Seed}
 use Rattle.epx_types.proofs.lists.ListPositionLemmas.{slice_get-map}
 use Rattle.epx_types.specs.declared.fault.Why.{Why}
@@ -10,12 +12,14 @@ use Rattle.epx_types.specs.Instances.{Instance}
 use Rattle.epx_lines.specs.declared.Line.{Line}
 use Rattle.epx_lines.specs.declared.Line.TheVariants.{Entry}
 use Rattle.epx_versions.specs.declared.hashed_version.HashedVersion.{HashedVersion}
-use Rattle.epx_versions.specs.declared.read_lines.ReadLine.{ReadLine}
-use Rattle.epx_versions.specs.declared.read_lines.ReadLine.TheVariants as read
+use Rattle.epx_versions.specs.declared.read_line.ReadLine.{ReadLine}
+use Rattle.epx_versions.specs.declared.read_line.ReadLine.TheVariants as read
+use Rattle.epx_versions.specs.inner.BatchNotes.{KeepsNumbers}
 use Rattle.epx_versions.specs.inner.HashedVersions.{IsHashed}
 use Rattle.epx_versions.specs.VersionLists.{hash_by}
 use Rattle.epx_versions.specs.KnownLines.{AreKnown, meaning_of_version}
-use Rattle.epx_versions.specs.inner.ReadMeanings.{meaning_in}
+use Rattle.epx_versions.specs.ReadMeanings.{meaning_in}
+use Rattle.epx_versions.proofs.VersionLemmas.{slice_get-grown}
 
 abbrev pub line_of : Instance → Result Line Why
 line_of e = Ok (Entry e)
@@ -42,6 +46,22 @@ known_at versions cache numbers known n v m line number =
     let both : Some (meaning_of_version versions v) ≡ Some (Some m) =
     sym left ∙ (ap (λ xs. slice_get xs n) known ∙ right) in cc both
 
+-- each line of the cache has a number
+pub number_within : (versions : List Instance) (cache : List (Result Line Why)) (numbers : List ℕ)
+    → AreKnown versions cache numbers → (n : ℕ) (m : Result Line Why)
+    → slice_get cache n ≡ Some m → n < length numbers
+number_within versions cache numbers known n m line =
+    let within = slice_get_within cache n m line in
+    let as_many : length (map (meaning_of_version versions) numbers)
+    ≡ length (map (λ (x : Result Line Why). Some x) cache) = ap length known in
+    omega (
+      arith,
+      within,
+      as_many,
+      length-map {B = Option (Result Line Why)} numbers (meaning_of_version versions),
+      length-map {B = Option (Result Line Why)} cache (λ (x : Result Line Why). Some x),
+    )
+
 -- ---- more versions
 
 module _ (old new : List Instance)
@@ -66,15 +86,24 @@ module _ (old new : List Instance)
       let later = known_grown numbers cache rest in
       λ i. first i ∷ later i
 
-  -- a line means the same
-  pub meaning_grown : (seed : Seed) (r : ReadLine) (m : Result Line Why)
-      → meaning_in seed old r ≡ Some m → meaning_in seed new r ≡ Some m
-  meaning_grown seed read.Blank m h = h
-  meaning_grown seed (read.Fresh v bytes) m h = h
-  meaning_grown seed (read.Repeat version) m h = version_grown version m h
-  meaning_grown seed (read.Bad why) m h = h
+-- ---- more lines in the cache
 
--- ---- lines that were not known
+-- the lines of a cache keep their numbers when a line is added, or not
+pub numbers_kept_by : (added : Bool) (old : List (Result Line Why)) (m : Result Line Why)
+    → KeepsNumbers old (cond added (old ++ m ∷ []) old)
+numbers_kept_by true old m n line h = slice_get-grown old (m ∷ []) n line h
+numbers_kept_by false old m n line h = h
+
+-- a line that was read beside the old cache means the same beside the new one
+pub meaning_grown : (seed : Seed) (old new : List (Result Line Why)) → KeepsNumbers old new
+    → (r : ReadLine) (m : Result Line Why) → meaning_in seed old r ≡ Some m
+    → meaning_in seed new r ≡ Some m
+meaning_grown seed old new kept read.Blank m h = h
+meaning_grown seed old new kept (read.Fresh v bytes) m h = h
+meaning_grown seed old new kept (read.Repeat number) m h = kept number m h
+meaning_grown seed old new kept (read.Bad why) m h = h
+
+-- ---- lines that the cache lacks
 
 module _ (hash own : ℕ) (line m : Result Line Why) where
   fresh : (b : Bool) → (hash == own) ≡ b → cond b (Some line) None ≡ Some m
@@ -84,10 +113,10 @@ module _ (hash own : ℕ) (line m : Result Line Why) where
       let means : m ≡ line = cc h in (same, means)
   fresh false test h = absurd (cc h)
 
--- a line that was not known has a version with its own hash
-pub fresh_read : (seed : Seed) (versions : List Instance) (v : HashedVersion) (bytes : ℕ)
-    (m : Result Line Why) → meaning_in seed versions (read.Fresh v bytes) ≡ Some m
+-- a line that the cache lacks has a version with its own hash
+pub fresh_read : (seed : Seed) (cache : List (Result Line Why)) (v : HashedVersion) (bytes : ℕ)
+    (m : Result Line Why) → meaning_in seed cache (read.Fresh v bytes) ≡ Some m
     → IsHashed seed v × (m ≡ Ok (Entry v.version))
-fresh_read seed versions v bytes m h =
+fresh_read seed cache v bytes m h =
     fresh v.hash (hash_by seed v.version) (line_of v.version) m
     (v.hash == hash_by seed v.version) refl h

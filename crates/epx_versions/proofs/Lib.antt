@@ -1,4 +1,6 @@
 mod VersionLemmas
 mod HashedVersionLemmas
 mod KnownLineLemmas
+mod BlankLineLemmas
+mod NotedLineLemmas
 mod NotedBatchLemmas

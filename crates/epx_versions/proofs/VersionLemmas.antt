@@ -67,7 +67,7 @@ versions_of-repeat lines p among =
     (list_any-from_Contains same_instance_equiv p.instance (versions_of lines) among)
 
 -- an element stays where it is when a list grows
-slice_get-grown : {X : Type 0} (xs ys : List X) (i : ℕ) (x : X) → slice_get xs i ≡ Some x
+pub slice_get-grown : {X : Type 0} (xs ys : List X) (i : ℕ) (x : X) → slice_get xs i ≡ Some x
     → slice_get (xs ++ ys) i ≡ Some x
 slice_get-grown [] ys i x h = absurd (cc h)
 slice_get-grown (y ∷ xs) ys zero x h = h

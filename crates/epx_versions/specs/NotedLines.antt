@@ -1,15 +1,21 @@
--- Lines that are noted and known.
-use Rattle.std.specs.Prelude.{List}
+-- Lines that are noted.
+use Rattle.std.specs.Prelude.{◌≡◌, [], List, Result, Vec}
+use Rattle.std.specs.declared.alloc.Global.{Global}
+use Rattle.epx_types.specs.declared.fault.Why.{Why}
+use Rattle.epx_lines.specs.declared.Line.{Line}
 use Rattle.epx_merge.specs.LogLines.{MeaningAt, bad_lines_among, placed_among}
-use Rattle.epx_versions.specs.declared.noted_lines.NotedLines.{NotedLines}
+use Rattle.epx_versions.specs.declared.read_line.ReadLine.{ReadLine}
+use Rattle.epx_versions.specs.declared.version_notes.VersionNotes.{VersionNotes}
 use Rattle.epx_versions.specs.KnownLines.{AreKnown}
 use Rattle.epx_versions.specs.LineVersions.{versions_of}
 use Rattle.epx_versions.specs.NotedRows.{AreNoted}
 use Rattle.epx_versions.specs.VersionLists.{AreHashed}
 
--- these lines are noted, each known line commits the version with its number, and the versions are
--- hashed
-pub record AreNotedLines (lines : List MeaningAt) (n : NotedLines) : Type 0 where
+-- all these lines are noted, and no piece is left to note; each line of the cache commits the
+-- version with its number, and the versions are hashed
+pub record AreNotedLines (lines : List MeaningAt) (n : VersionNotes)
+    (cache : List (Result Line Why)) (pieces : List (Vec ReadLine Global)) : Type 0 where
+  pub none : pieces ≡ []
   pub rows : AreNoted (placed_among lines) (bad_lines_among lines) n.noted
-  pub texts : AreKnown (versions_of (placed_among lines)) n.known.cache n.known.versions.items
+  pub texts : AreKnown (versions_of (placed_among lines)) cache n.numbers.items
   pub hashed : AreHashed n.seed n.noted.versions

@@ -1,5 +1,4 @@
 -- Words of private clauses: no public contract speaks of them.
 pub mod EqualVersions
 pub mod HashedVersions
-pub mod ReadMeanings
-pub mod NextLines
+pub mod BatchNotes

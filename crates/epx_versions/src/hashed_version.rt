@@ -9,7 +9,7 @@ use std::hash::{BuildHasher, Hash, Hasher};
 
 /// A version with the hash of what it commits, so that a table reads only the hash.
 #[derive(Debug, Drop)]
-pub(crate) struct HashedVersion {
+pub struct HashedVersion {
     pub(crate) version: Version,
     pub(crate) hash: u64,
 }

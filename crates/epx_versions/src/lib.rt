@@ -3,16 +3,12 @@
 #![tactic(auto)]
 
 mod hashed_version;
-mod known_lines;
-mod next_batch;
-mod note_batches;
 mod noted;
-mod noted_lines;
-mod read_lines;
+mod read_line;
 mod version;
+mod version_notes;
 mod versions;
 
-pub use note_batches::note_lines;
 pub use noted::{BadLine, Noted, Row};
-pub use noted_lines::NotedLines;
+pub use version_notes::VersionNotes;
 pub use versions::Versions;

@@ -9,7 +9,7 @@ use Rattle.epx_compare.specs.declared.catalog.Catalog.{Catalog}
 use Rattle.epx_compare.specs.declared.comparison.Comparison.{Comparison}
 use Rattle.epx_compare.specs.Comparisons.{comparison_text, findings_text}
 use Rattle.epx_versions.specs.LineVersions.{versions_of}
-use Rattle.epx_compare.specs.Unmet.{AreUnmet}
+use Rattle.epx_compare.specs.MissingDeps.{AreMissingDeps}
 use Rattle.epx_versions.specs.NotedRows.{AreNoted}
 
 -- the Id of each version, in the order of their numbers
@@ -32,7 +32,7 @@ pub record IsCatalogOf (lines : List Placed) (bad : List BadLineAt) (c : Catalog
 -- the comparison of lines and bad lines of logs; `ids` are the instances that the lines commit
 pub record IsCatalogComparison (logs : ℕ) (lines : List Placed) (bad : List BadLineAt)
     (ids : List Id) (c : Comparison) : Type 0 where
-  pub unmet : List Id
-  pub open_ends : AreUnmet lines ids unmet
-  pub printed : c.text.items ≡ comparison_text logs lines bad ids unmet
+  pub missing : List Id
+  pub open_ends : AreMissingDeps lines ids missing
+  pub printed : c.text.items ≡ comparison_text logs lines bad ids missing
   pub found : (c.has_findings ≡ true) ↔ (findings_text logs lines bad ids ≢ [])

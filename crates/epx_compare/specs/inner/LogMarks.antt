@@ -14,10 +14,10 @@ abbrev pub has_log : ℕ → LogSet → Bool
 has_log log set = bit_at set.bits log == 1
 
 -- the log is in the set at this position
-abbrev pub is_marked : ℕ → List LogSet → ℕ → Bool
-is_marked log marks k = has_log log (slice_index_or marks k (record { bits = 0 }))
+abbrev pub is_log_marked : ℕ → List LogSet → ℕ → Bool
+is_log_marked log marks k = has_log log (slice_index_or marks k (record { bits = 0 }))
 
 -- the sets with the log say which of the Ids pass the test
 abbrev pub IsMarking : (Id → Bool) → ℕ → List Id → List LogSet → Type 0
 IsMarking has log ids marks = (k : ℕ) (x : Id) → slice_get ids k ≡ Some x
-    → has x ≡ is_marked log marks k
+    → has x ≡ is_log_marked log marks k

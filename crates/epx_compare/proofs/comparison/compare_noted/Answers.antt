@@ -35,10 +35,10 @@ returns c = λ logs noted.
         few = (catalog.ids, named, few);
         compared = record {
           ids = catalog.ids;
-          unmet = text.unmet;
+          missing = text.missing;
           named = named;
           open_ends = text.open_ends;
-          printed = text.printed ∙ ap (λ n. comparison_text n lines bad catalog.ids text.unmet)
+          printed = text.printed ∙ ap (λ n. comparison_text n lines bad catalog.ids text.missing)
               (sym noted.as_many);
         };
       },

@@ -3,7 +3,7 @@ use Rattle.std.proofs.Common.{ap, append_assoc, inl, inr, arith}
 use Rattle.std.proofs.lemmas.Bool.Decides.{eqb_tells}
 use Rattle.std.proofs.lemmas.List.{length-append}
 use Rattle.std.proofs.Math.Dec.{eqb}
-use Rattle.epx_compare.specs.Comparisons.{counts_text, findings_text, unmet_text}
+use Rattle.epx_compare.specs.Comparisons.{counts_text, findings_text, missing_counts_text}
 use Rattle.epx_compare.proofs.comparison.comparison_of.Goals as goal
 
 -- a part is not empty where the text got longer by it
@@ -22,7 +22,7 @@ pub returns : goal.returns
 returns c lines bad catalog =
     let ids = c.args.catalog.now.ids in
     let logs = c.args.logs in
-    let last = c.in_ok-append_all_unmet.ensures lines bad catalog in
+    let last = c.in_ok-append_all_missing.ensures lines bad catalog in
     let counts : c.append_counts.new.text.items ≡ counts_text logs lines bad =
     c.in_ok-append_counts.ensures lines bad catalog.noted
     ∙ ap (λ t. t ++ counts_text logs lines bad) c.new-text.ensures.items in
@@ -31,11 +31,11 @@ returns c lines bad catalog =
     let now : c.len.result ≡ length c.append_findings.new.text.items = omega arith in
     let start : c.len-start.result ≡ length c.append_counts.new.text.items = omega arith in
     record {
-      unmet = last.0;
+      missing = last.0;
       open_ends = last.1;
-      printed = last.2 ∙ (ap (λ t. t ++ unmet_text lines ids last.0)
+      printed = last.2 ∙ (ap (λ t. t ++ missing_counts_text lines ids last.0)
           (found ∙ ap (λ t. t ++ wrong) counts)
-          ∙ append_assoc (counts_text logs lines bad) wrong (unmet_text lines ids last.0));
+          ∙ append_assoc (counts_text logs lines bad) wrong (missing_counts_text lines ids last.0));
       found = grown c.append_counts.new.text.items wrong _ _
           (now ∙ ap length found) start;
     }

@@ -1,9 +1,9 @@
 use Rattle.std.proofs.Common.{◌≡◌, ◌∙◌, ◌∷◌, [], ap, map, refl, rules, subst}
 use Rattle.std.specs.Prelude.{Some, string_bytes}
+use Rattle.epx_tool.specs.Findings.{found_of}
 use Rattle.epx_program.proofs.FailedInputLemmas.{alone, input_failed}
 use Rattle.epx_program.proofs.SourceListLemmas.{only_source_at}
 use Rattle.epx_program.proofs.TextsReadLemmas.{answer_read, part_read, text_of_input, texts_at}
-use Rattle.epx_program.specs.Endings.{found_of}
 use Rattle.epx_program.specs.Inputs.{OneHasFailedRead}
 use Rattle.epx_program.specs.inner.SourcesAt.{AreSourcesAt}
 use Rattle.epx_program.proofs.do_task.do_task.Goals as goal
@@ -16,7 +16,8 @@ returns-clause-answered g c =
     rw (c.deref_mut-2.ensures.value, ← c.deref.ensures.value) at.1 in
     rw c.in-Some.is (answer_read c.args.task _ _
     (texts_at g.O.Opener.model g.O.Opened.Source.model c.args.opener.now g.I.Source.model
-    c.args.input at.0 _ _ _ are) (found_of c.write_answer-done.result) c.write_answer-done.ensures.answered)
+    c.args.input at.0 _ _ _ are) (found_of c.write_answer-done.result)
+    c.write_answer-done.ensures.answered)
 
 pub returns-clause-part : goal.returns-clause-part
 returns-clause-part g c =

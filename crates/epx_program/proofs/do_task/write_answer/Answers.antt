@@ -1,28 +1,30 @@
-use Rattle.std.proofs.Common.{Some, ap, ◌∙◌, refl, sym}
+use Rattle.std.proofs.Common.{Some, ap, refl}
 use Rattle.epx_devices.specs.MemoryDevices.{memory_source}
-use Rattle.epx_program.proofs.OutcomeLemmas.{by_found, outcome_of_logs, outcome_of_first}
+use Rattle.epx_names.specs.Tasks.{HasInput}
+use Rattle.epx_tool.specs.Findings.{found_of}
+use Rattle.epx_program.proofs.OutcomeLemmas.{outcome_of_first, outcome_of_logs}
 use Rattle.epx_program.proofs.OutcomeLemmas.{outcome_of_nothing}
-use Rattle.epx_program.specs.Endings.{found_of}
 use Rattle.epx_program.proofs.do_task.write_answer.Goals as goal
 
-pub returns-in-Logs : goal.returns-in-Logs
-returns-in-Logs g c =
-    outcome_of_logs g.S.Source.model g.W.Sink.model c.args.task c.args.sources.now _ _ _
-    c.in-Logs.question (sym c.asked_by.ensures ∙ c.in-Logs.is) 
-    (found_of c.run_question.result) (by_found c.run_question.result c.run_question.ensures)
+pub returns-then-not-has_input : goal.returns-then-not-has_input
+returns-then-not-has_input g c =
+    let alone : ¬ HasInput c.args.task = λ has.
+    let yes = c.has_input.ensures.1 has in absurd (cc (yes, c.if-not-has_input.true)) in
+    outcome_of_logs g.S.Source.model g.W.Sink.model c.args.task c.args.sources.now _ _ _ alone
+    (found_of c.run_task.result) (c.run_task.ensures.alone alone)
 
 pub returns-in-Some : goal.returns-in-Some
 returns-in-Some g c =
-    outcome_of_first g.S.Source.model g.W.Sink.model c.args.task c.args.sources.now _ _ _
-    c.in-First.question (sym c.asked_by.ensures ∙ c.in-First.is) _ _ _ _
-    c.in-Some.ensures.cases.0 refl (found_of c.run_with_input.result)
-    (by_found c.run_with_input.result c.run_with_input.ensures)
+    let has = c.has_input.ensures.0 c.if-not-has_input.false in
+    outcome_of_first g.S.Source.model g.W.Sink.model c.args.task c.args.sources.now _ _ _ has
+    _ _ _ _ c.in-Some.ensures.cases.0 refl (found_of c.run_task-in-Some.result)
+    (c.run_task-in-Some.ensures.with_input has)
 
 pub returns-in-None : goal.returns-in-None
 returns-in-None g c =
+    let has = c.has_input.ensures.0 c.if-not-has_input.false in
     let sources = c.args.sources.now in
-    outcome_of_nothing g.S.Source.model g.W.Sink.model c.args.task sources sources _ _
-    c.in-First.question (sym c.asked_by.ensures ∙ c.in-First.is) memory_source _ _ _
-    c.in-None.ensures.cases (ap Some c.new-first.ensures) (λ bad. bad.1.failed)
-    (found_of c.run_with_input-in-None.result)
-    (by_found c.run_with_input-in-None.result c.run_with_input-in-None.ensures)
+    outcome_of_nothing g.S.Source.model g.W.Sink.model c.args.task sources sources _ _ has
+    memory_source _ _ _
+    c.in-None.ensures.cases (ap Some c.new-empty.ensures) (λ bad. bad.1.failed)
+    (found_of c.run_task-in-None.result) (c.run_task-in-None.ensures.with_input has)

@@ -1,6 +1,7 @@
 use Rattle.std.proofs.Common.{◌≡◌, Bool, true, ◌∷◌, [], ap, ◌∙◌}
+use Rattle.epx_tool.specs.Findings.{found_of}
 use Rattle.epx_program.specs.Calls.{paths_of}
-use Rattle.epx_program.specs.Endings.{AddsAnswer, found_of, status_of}
+use Rattle.epx_program.specs.Endings.{AddsAnswer, status_of}
 use Rattle.epx_program.specs.Inputs.{AreTextsRead, text_relation}
 use Rattle.epx_program.proofs.StatusLemmas.{failed_device, ends-as-done, flushed_by_work, is_status}
 use Rattle.epx_program.proofs.StatusLemmas.{of_done, unchanged_by_work}

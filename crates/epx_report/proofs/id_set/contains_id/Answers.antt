@@ -1,3 +1,4 @@
+use Rattle.std.proofs.Common.{◌∙◌}
 use Rattle.epx_report.proofs.IdSetLemmas.{is_some-among}
 use Rattle.epx_report.proofs.id_set.contains_id.Goals as goal
 

@@ -1,7 +1,7 @@
-use Rattle.epx_tool.specs.Questions.{map_text_of}
-use Rattle.epx_tool.specs.declared.question.Question.TheVariants.{View}
-use Rattle.epx_tool.proofs.AnswerLemmas.{answer_by_exists}
+use Rattle.epx_tool.specs.TaskAnswers.{task_of}
+use Rattle.epx_tool.proofs.AnswerLemmas.{logs_answer_exists}
+use Rattle.epx_tool.proofs.QuestionLemmas.{view_has_no_input}
 use Rattle.epx_tool.proofs.laws.view_exists.Goals as goal
 
 pub returns : goal.returns
-returns c = λ ask. answer_by_exists (map_text_of (View ask))
+returns c = λ ask. logs_answer_exists (task_of ask) (view_has_no_input ask)

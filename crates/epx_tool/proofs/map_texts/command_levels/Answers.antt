@@ -6,5 +6,5 @@ use Rattle.epx_tool.proofs.map_texts.command_levels.Goals as goal
 
 pub returns : goal.returns
 returns c =
-    let same = ap (map (λ c. c.ops.now)) c.deref.ensures.value ∙ c.in_ok-commands.ops in
+    let same = ap (map (λ c. c.ops.now)) c.deref.ensures.value ∙ c.in_ok-commands.ensures.ops in
     subst (λ (ops : List (List Op)). IfOk c.levels.result (AreLevels ops)) same c.levels.ensures

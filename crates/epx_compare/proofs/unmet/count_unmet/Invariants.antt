@@ -1,8 +1,0 @@
-use Rattle.std.proofs.Common.{ℕ, take}
-use Rattle.epx_types.specs.declared.id.Id.{Id}
-use Rattle.epx_compare.specs.inner.UnmetCounts.{AreCounts, with_one, is_unmet}
-use Rattle.epx_compare.proofs.unmet.count_unmet.Given as goal
-
-abbrev pub invariant-loop-dep : goal.invariant-loop-dep
-invariant-loop-dep l = (counted : Id → ℕ) → AreCounts counted l.initial.counts.entries
-    → AreCounts (with_one (is_unmet l.ids (take l.dep-index l.deps)) counted) l.counts.entries

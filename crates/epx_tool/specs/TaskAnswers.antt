@@ -1,0 +1,46 @@
+-- The answers to tasks.
+use Rattle.std.specs.Prelude.{ℕ, List, [], Result}
+use Rattle.epx_types.specs.declared.fault.Fault.{Fault}
+use Rattle.epx_report.specs.Bases.{IsBadBase}
+use Rattle.epx_report.specs.Lists.{IsBadList}
+use Rattle.epx_compare.specs.ComparisonAnswers.{Compares}
+use Rattle.epx_names.specs.declared.task.Task.{Task}
+use Rattle.epx_names.specs.declared.task.Task.TheVariants as task
+use Rattle.epx_tool.specs.declared.ask.Ask.{Ask}
+use Rattle.epx_tool.specs.declared.ask.Ask.TheVariants.{Order, Levels, Audit, Graph, Why}
+use Rattle.epx_tool.specs.declared.ask.Ask.TheVariants.{Path, Trace, Compare}
+use Rattle.epx_tool.specs.Answer.{Answers}
+use Rattle.epx_tool.specs.TaskTexts.{IsTaskText}
+use Rattle.epx_tool.specs.WithInput.{AnswersWithInput}
+
+-- the task that shows a view
+abbrev pub task_of : Ask → Task
+task_of Order = task.Order
+task_of Levels = task.Levels
+task_of Audit = task.Audit
+task_of Graph = task.Graph
+task_of (Why x) = task.Why x
+task_of (Path x y) = task.Path x y
+task_of (Trace key reads) = task.Trace key reads
+task_of Compare = task.Compare
+
+-- the answer to a task without an input: a text of the map that logs commit, or what they say
+-- against each other
+abbrev pub AnswersLogs : Task → List (List ℕ) → Result (List ℕ) Fault → Type 0
+AnswersLogs task.Compare = Compares
+AnswersLogs task = Answers (IsTaskText task [])
+
+abbrev pub AnswersView : Ask → List (List ℕ) → Result (List ℕ) Fault → Type 0
+AnswersView ask = AnswersLogs (task_of ask)
+
+-- the input of the task, a base or a list, has a bad line, and this is the first
+abbrev pub IsBadInput : Task → List ℕ → ℕ → Type 0
+IsBadInput task.Resume = IsBadBase
+IsBadInput _ = IsBadList
+
+-- the answer to a task over an input and logs; a task without an input ignores it
+abbrev pub AnswersTask : Task → List ℕ → List (List ℕ) → Result (List ℕ) Fault → Type 0
+AnswersTask task.Resume = AnswersWithInput IsBadBase (IsTaskText task.Resume)
+AnswersTask task.Check = AnswersWithInput IsBadList (IsTaskText task.Check)
+AnswersTask task.CheckPrefix = AnswersWithInput IsBadList (IsTaskText task.CheckPrefix)
+AnswersTask task = λ input. AnswersLogs task

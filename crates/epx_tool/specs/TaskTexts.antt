@@ -1,0 +1,32 @@
+-- The text of a committed map that answers a task.
+use Rattle.std.specs.Prelude.{ℕ, List}
+use Rattle.epx_types.specs.Instances.{Instance}
+use Rattle.epx_names.specs.declared.task.Task.{Task}
+use Rattle.epx_names.specs.declared.task.Task.TheVariants.{Run, Order, Levels, Graph, Resume}
+use Rattle.epx_names.specs.declared.task.Task.TheVariants.{Audit, Check, CheckPrefix, Compare}
+use Rattle.epx_names.specs.declared.task.Task.TheVariants.{Why, Path, Trace}
+use Rattle.epx_tool.specs.Report.{IsReport}
+use Rattle.epx_tool.specs.OrderText.{IsOrderText}
+use Rattle.epx_tool.specs.LevelText.{IsLevelText}
+use Rattle.epx_tool.specs.AuditText.{IsAuditText}
+use Rattle.epx_tool.specs.CheckAnswers.{IsCheckText, IsPrefixCheckText}
+use Rattle.epx_tool.specs.Resumption.{IsResumedText}
+use Rattle.epx_picture.specs.Pictures.{IsPicture}
+use Rattle.epx_why.specs.WhyTexts.{IsWhyText, IsPathText}
+use Rattle.epx_trace.specs.TraceTexts.{IsTraceText}
+
+-- the text that an input and a committed map have for a task; most tasks have no input, and a
+-- comparison has no text of a map
+abbrev pub IsTaskText : Task → List ℕ → List Instance → List ℕ → Type 0
+IsTaskText Run = λ input. IsReport
+IsTaskText Order = λ input. IsOrderText
+IsTaskText Levels = λ input. IsLevelText
+IsTaskText Graph = λ input. IsPicture
+IsTaskText Audit = λ input. IsAuditText
+IsTaskText Resume = IsResumedText
+IsTaskText Check = IsCheckText
+IsTaskText CheckPrefix = IsPrefixCheckText
+IsTaskText Compare = λ input m text. ⊥
+IsTaskText (Why x) = λ input m. IsWhyText m x
+IsTaskText (Path x y) = λ input m. IsPathText m x y
+IsTaskText (Trace key reads) = λ input m. IsTraceText m key.text.bytes reads

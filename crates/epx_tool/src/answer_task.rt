@@ -1,0 +1,141 @@
+//! The answer to a task over sources.
+ghost use Rattle.std.specs.Prelude.{◌≡◌, false, All, Ok, Err, MatchResult};
+ghost use Rattle.epx_compare.specs.ComparisonAnswers.{Compares};
+ghost use Rattle.epx_names.specs.Tasks.{HasInput};
+ghost use Rattle.epx_tool.specs.Answer.{Answers};
+ghost use Rattle.epx_tool.specs.Findings.{AnswersFinding, ComparesFinding, IsFindingText};
+ghost use Rattle.epx_tool.specs.TaskAnswers.{AnswersLogs, IsBadInput};
+ghost use Rattle.epx_tool.specs.TaskTexts.{IsTaskText};
+ghost use Rattle.epx_tool.specs.WithInput.{AnswersWithInput};
+ghost use Rattle.epx_tool.specs.inner.MapQuestions.{IsFindingOf, IsTextOf};
+ghost use Rattle.epx_merge.specs.SourceReadings.{EndsMaking};
+ghost use Rattle.epx_tool.specs.inner.TaskReadings.{EndsAnswering, EndsMakingBoth};
+
+use crate::findings::Answer;
+use crate::input_answers::answer_owned;
+use crate::map_texts::text_of;
+use crate::question::{MapQuestion, question_of};
+use crate::sources::read_with_input;
+use epx_claims::FreeGate;
+use epx_compare::{Comparison, compare_sources};
+use epx_devices::Source;
+use epx_merge::merge_sources;
+use epx_names::Task;
+use epx_types::{Fault, Plan};
+use std::alloc::Global;
+use std::random::RandomSource;
+use std::thread::Threads;
+
+/// The comparison of the logs of all sources.
+fn answer_compared<R: Threads + RandomSource + Sync, S: Source>(
+    rt: &R,
+    alloc: Global,
+    sources: &mut [S],
+    plan: Plan,
+) -> Result<Answer, Fault>
+    requires { All (λ s. S.model.has_failed s ≡ false) sources.old }
+    ensures { MatchResult result
+        (λ a. EndsMaking S.model (ComparesFinding a.has_findings) sources.old sources.new
+        (Ok a.text.items))
+        (λ fault. EndsMaking S.model Compares sources.old sources.new (Err fault)) }
+{
+    match compare_sources(rt, alloc, sources, plan) {
+        Ok(Comparison { text, has_findings }) => Ok(Answer::new(text, has_findings)),
+        Err(fault) => Err(fault),
+    }
+}
+
+/// The answer to a question about the map that the logs of all sources commit.
+fn answer_merged<R: Threads + RandomSource + Sync, S: Source>(
+    rt: &R,
+    alloc: Global,
+    question: MapQuestion,
+    sources: &mut [S],
+    plan: Plan,
+) -> Result<Answer, Fault>
+    requires { All (λ s. S.model.has_failed s ≡ false) sources.old }
+    ensures { MatchResult result
+        (λ a. EndsMaking S.model (Answers (IsFindingOf question a.has_findings)) sources.old
+        sources.new (Ok a.text.items))
+        (λ fault. EndsMaking S.model (Answers (IsTextOf question)) sources.old sources.new
+        (Err fault)) }
+{
+    let merged = match merge_sources(rt, alloc, sources, plan, &FreeGate) {
+        Ok(merged) => merged,
+        Err(fault) => return Err(fault),
+    };
+    let Ok(answer) = text_of(rt, alloc, question, &merged, plan) else {
+        return Err(Fault::Memory);
+    };
+    Ok(answer.about(merged))
+}
+
+/// The answer to a task without an input over the logs of all sources, which are read in order.
+fn answer_sources<R: Threads + RandomSource + Sync, S: Source>(
+    rt: &R,
+    alloc: Global,
+    task: Task,
+    sources: &mut [S],
+    plan: Plan,
+) -> Result<Answer, Fault>
+    requires alone { ¬ HasInput task }
+    requires sources { All (λ s. S.model.has_failed s ≡ false) sources.old }
+    ensures { MatchResult result
+        (λ a. EndsMaking S.model (AnswersFinding task a.has_findings) sources.old
+        sources.new (Ok a.text.items))
+        (λ fault. EndsMaking S.model (AnswersLogs task) sources.old sources.new (Err fault)) }
+{
+    match question_of(task) {
+        Some(question) => answer_merged(rt, alloc, question, sources, plan),
+        None => answer_compared(rt, alloc, sources, plan),
+    }
+}
+
+/// The answer to a task over the logs of all sources, and after them its input.
+fn answer_with_input<R: Threads + RandomSource + Sync, I: Source, S: Source>(
+    rt: &R,
+    alloc: Global,
+    task: Task,
+    input: &mut I,
+    sources: &mut [S],
+    plan: Plan,
+) -> Result<Answer, Fault>
+    requires task { HasInput task }
+    requires input { I.model.has_failed input.old ≡ false }
+    requires sources { All (λ s. S.model.has_failed s ≡ false) sources.old }
+    ensures { MatchResult result
+        (λ a. EndsMakingBoth I.model S.model (AnswersWithInput (IsBadInput task)
+        (IsFindingText task a.has_findings)) input.old input.new sources.old sources.new
+        (Ok a.text.items))
+        (λ fault. EndsMakingBoth I.model S.model (AnswersWithInput (IsBadInput task)
+        (IsTaskText task)) input.old input.new sources.old sources.new (Err fault)) }
+{
+    let (text, logs) = match read_with_input(alloc, input, sources) {
+        Ok(read) => read,
+        Err(fault) => return Err(fault),
+    };
+    answer_owned(rt, alloc, task, text, logs, plan)
+}
+
+/// The answer to a task over the logs of all sources, which are read in order, and after them its
+/// input. A task without an input leaves the source of the input untouched.
+pub(crate) fn answer_task<R: Threads + RandomSource + Sync, I: Source, S: Source>(
+    rt: &R,
+    alloc: Global,
+    task: Task,
+    input: &mut I,
+    sources: &mut [S],
+    plan: Plan,
+) -> Result<Answer, Fault>
+    requires input { I.model.has_failed input.old ≡ false }
+    requires sources { All (λ s. S.model.has_failed s ≡ false) sources.old }
+    ensures { EndsAnswering I.model S.model task input.old input.new sources.old sources.new
+        result }
+{
+    let asked = &task;
+    if asked.has_input() {
+        answer_with_input(rt, alloc, *asked, input, sources, plan)
+    } else {
+        answer_sources(rt, alloc, *asked, sources, plan)
+    }
+}
