@@ -4,7 +4,6 @@
 
 pub mod agreement;
 pub mod algorithm;
-pub mod prefixes;
 pub mod commands;
 pub mod comparisons;
 pub mod conflicts;
@@ -15,6 +14,7 @@ pub mod levels;
 pub mod order;
 pub mod outcomes;
 pub mod pieces;
+pub mod prefixes;
 pub mod reaching;
 pub mod renaming;
 pub mod replicas;
