@@ -1,5 +1,5 @@
 -- Whether instances wait, by their list.
-use Rattle.std.proofs.Common.{◌≡◌, ◌∙◌, ◌↔◌, ◌==◌, ℕ, Bool, true, false, not, List, [], ◌∷◌}
+use Rattle.std.proofs.Common.{◌≡◌, ◌∙◌, ◌↔◌, ◌==◌, Bool, true, false, not, List, [], ◌∷◌}
 use Rattle.std.proofs.Common.{ap, sym, refl, length, arith, eqb-true, true≢false}
 use Rattle.epx_types.specs.Instances.{Instance}
 use Rattle.epx_types.specs.WaitingLists.{Waiting, IsWaitingList}

@@ -18,6 +18,7 @@ mod VerdictLemmas
 mod VerdictLineLemmas
 mod CheckLemmas
 mod InputAnswerLemmas
+mod MemoryTextLemmas
 mod CoveredTextLemmas
 mod SameLineLemmas
 mod LawfulListLemmas

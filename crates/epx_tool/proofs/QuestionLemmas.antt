@@ -1,9 +1,8 @@
 -- What answers a question about a committed map answers the task that asks it.
-use Rattle.std.proofs.Common.{◌≡◌, ◌≢◌, ◌↔◌, ℕ, Bool, true, List, [], Result, Ok, Err, refl}
+use Rattle.std.proofs.Common.{◌≢◌, ℕ, Bool, List, [], Result, Ok, Err, refl}
 use Rattle.std.proofs.Common.{inl, inr, subst}
 use Rattle.std.specs.Prelude.{MatchResult}
 use Rattle.epx_devices.specs.Models.{SourceModel}
-use Rattle.epx_merge.specs.Acceptance.{IsAccepted}
 use Rattle.epx_merge.specs.Refusals.{IsRefusal}
 use Rattle.epx_names.specs.Tasks.{HasInput}
 use Rattle.epx_names.specs.declared.task.Task.{Task}
@@ -116,16 +115,10 @@ module _ {S : Type 0} (D : SourceModel S) (old new : List S) (asked : Task)
 
 -- what is made of an input and logs, once both are read
 module _ {I S : Type 0} (E : SourceModel I) (D : SourceModel S) (first last : I) (old new : List S)
-    (asked : Task) (input : List ℕ) (logs : List (List ℕ))
+    (input : List ℕ) (logs : List (List ℕ))
     (read : EndsReadingBoth E D first last old new (Ok (input, logs))) where
-  pub both_made : (result : Result Answer Fault)
-      → MatchResult result
-      (λ a. AnswersWithInput (IsBadInput asked) (IsFindingText asked a.has_findings) input logs
-      (Ok a.text.items)) (λ fault. IsRefusalWithInput (IsBadInput asked) input logs fault)
-      → MatchResult result
-      (λ a. EndsMakingBoth E D (AnswersWithInput (IsBadInput asked)
-      (IsFindingText asked a.has_findings)) first last old new (Ok a.text.items))
-      (λ fault. EndsMakingBoth E D (AnswersWithInput (IsBadInput asked) (IsTaskText asked)) first
-      last old new (Err fault))
-  both_made (Ok a) h = (input, logs, read, h)
-  both_made (Err fault) h = inr (input, logs, read, h)
+  pub both_made : {T : Type 0} (Made : List ℕ → List (List ℕ) → Result T Fault → Type 0)
+      (result : Result T Fault) → Made input logs result
+      → EndsMakingBoth E D Made first last old new result
+  both_made Made (Ok made) h = (input, logs, read, h)
+  both_made Made (Err fault) h = inr (input, logs, read, h)

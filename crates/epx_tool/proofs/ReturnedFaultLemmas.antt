@@ -1,5 +1,5 @@
 -- Faults that a run returns after its sources were read, or as reading them returned it.
-use Rattle.std.proofs.Common.{◌≡◌, ◌↔◌, ◌+◌, ◌<◌, ◌≤◌, ℕ, Bool, true, false, List, length, drop}
+use Rattle.std.proofs.Common.{◌≡◌, ◌↔◌, ◌+◌, ◌≤◌, ℕ, List, length, drop}
 use Rattle.std.proofs.Common.{Option, Some, None, Result, Ok, Err, IsErrOf, refl, sym, ap, ◌∙◌}
 use Rattle.std.proofs.Common.{subst, inl, inr}
 use Rattle.std.proofs.Common.{arith}
@@ -11,7 +11,6 @@ use Rattle.epx_types.specs.declared.fault.Fault.TheVariants.{Memory, TooManyLogs
 use Rattle.epx_types.specs.declared.fault.Fault.TheVariants.{BadLine, TooManyInstances, Disagree}
 use Rattle.epx_types.specs.declared.fault.Fault.TheVariants.{Read, Write}
 use Rattle.epx_types.specs.Instances.{Instance}
-use Rattle.epx_types.specs.Limits.{max_logs}
 use Rattle.epx_compare.specs.ComparisonAnswers.{IsComparisonRefusal}
 use Rattle.epx_merge.specs.Refusals.{FitLimits, IsRefusal}
 use Rattle.epx_devices.specs.Transfers.{IsReadLogFault}

@@ -1,5 +1,4 @@
 -- Words of private clauses: no public contract speaks of them.
 pub mod ReportParts
-pub mod ReadSources
 pub mod MapQuestions
 pub mod TaskReadings

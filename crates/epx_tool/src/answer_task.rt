@@ -12,10 +12,9 @@ ghost use Rattle.epx_merge.specs.SourceReadings.{EndsMaking};
 ghost use Rattle.epx_tool.specs.inner.TaskReadings.{EndsAnswering, EndsMakingBoth};
 
 use crate::findings::Answer;
-use crate::input_answers::answer_owned;
 use crate::map_texts::text_of;
 use crate::question::{MapQuestion, question_of};
-use crate::sources::read_with_input;
+use crate::read_both::read_both;
 use epx_claims::FreeGate;
 use epx_compare::{Comparison, compare_sources};
 use epx_devices::Source;
@@ -92,7 +91,7 @@ fn answer_sources<R: Threads + RandomSource + Sync, S: Source>(
 }
 
 /// The answer to a task over the logs of all sources, and after them its input.
-fn answer_with_input<R: Threads + RandomSource + Sync, I: Source, S: Source>(
+pub(crate) fn answer_with_input<R: Threads + RandomSource + Sync, I: Source, S: Source>(
     rt: &R,
     alloc: Global,
     task: Task,
@@ -110,11 +109,14 @@ fn answer_with_input<R: Threads + RandomSource + Sync, I: Source, S: Source>(
         (λ fault. EndsMakingBoth I.model S.model (AnswersWithInput (IsBadInput task)
         (IsTaskText task)) input.old input.new sources.old sources.new (Err fault)) }
 {
-    let (text, logs) = match read_with_input(alloc, input, sources) {
+    let (merged, question) = match read_both(rt, alloc, task, input, sources, plan) {
         Ok(read) => read,
         Err(fault) => return Err(fault),
     };
-    answer_owned(rt, alloc, task, text, logs, plan)
+    let Ok(answer) = text_of(rt, alloc, question, &merged, plan) else {
+        return Err(Fault::Memory);
+    };
+    Ok(answer.about(merged))
 }
 
 /// The answer to a task over the logs of all sources, which are read in order, and after them its

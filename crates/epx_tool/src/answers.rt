@@ -7,14 +7,14 @@ ghost use Rattle.epx_tool.specs.CheckAnswers.{Checks};
 ghost use Rattle.epx_tool.specs.Resumption.{Resumes};
 ghost use Rattle.epx_tool.specs.TaskAnswers.{AnswersLogs, AnswersTask, AnswersView};
 
+use crate::answer_task::answer_with_input;
 use crate::ask::Ask;
-use crate::input_answers::answer_reading;
 use crate::map_texts::text_of;
 use crate::question::question_of;
-use crate::read_both::read_both;
 use epx_claims::FreeGate;
 use epx_compare::compare;
-use epx_merge::read_logs;
+use epx_devices::MemorySource;
+use epx_merge::{memory_sources, read_logs};
 use epx_names::Task;
 use epx_types::{Fault, Plan};
 use std::alloc::Global;
@@ -64,8 +64,9 @@ pub fn answer_texts<R: Threads + RandomSource + Sync>(
     if !asked.has_input() {
         return answer_logs(rt, alloc, *asked, logs, plan);
     }
-    let read = read_both(rt, alloc, *asked, input, logs, plan);
-    match answer_reading(rt, alloc, read, plan) {
+    let mut sources = memory_sources(alloc, logs)?;
+    let mut given = MemorySource::new(input);
+    match answer_with_input(rt, alloc, *asked, &mut given, &mut sources, plan) {
         Ok(answer) => Ok(answer.text),
         Err(fault) => Err(fault),
     }

@@ -7,7 +7,6 @@ mod answers;
 mod ask;
 mod checked_runs;
 mod findings;
-mod input_answers;
 pub mod laws;
 mod map_texts;
 mod question;
@@ -15,7 +14,6 @@ mod read_both;
 mod report;
 mod resumed_runs;
 mod runs;
-mod sources;
 mod task_runs;
 mod verdict;
 
