@@ -3,7 +3,8 @@ ghost use Rattle.std.specs.Prelude.{◌≡◌, ◌++◌, ◌∷◌, [], false, I
 ghost use Rattle.serde_json.specs.View.{view};
 ghost use Rattle.serde_json.specs.Written.{has_float, compact_text};
 ghost use Rattle.epx_report.specs.ReportLines.{array_of, line_feed, line_of};
-ghost use Rattle.epx_compare.specs.ComparisonLines.{log_data, bad_data, lacks_data, missing_count_data};
+ghost use Rattle.epx_compare.specs.ComparisonLines.{log_data, bad_data, lacks_data};
+ghost use Rattle.epx_compare.specs.ComparisonLines.{missing_count_data};
 ghost use Rattle.epx_versions.specs.NotedRows.{bad_line_at};
 
 use crate::gaps::Gap;

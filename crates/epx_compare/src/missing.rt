@@ -11,7 +11,8 @@ ghost use Rattle.epx_compare.specs.Comparisons.{missing_counts_text};
 ghost use Rattle.epx_versions.specs.SameInstances.{same_id};
 ghost use Rattle.epx_compare.specs.MissingDeps.{AreMissingDeps};
 ghost use Rattle.epx_compare.specs.inner.Catalogs.{IsCatalogOf};
-ghost use Rattle.epx_compare.specs.inner.MissingCounts.{AreCounts, with_one, is_missing, deps_at_numbers};
+ghost use Rattle.epx_compare.specs.inner.MissingCounts.{AreCounts, with_one, is_missing};
+ghost use Rattle.epx_compare.specs.inner.MissingCounts.{deps_at_numbers};
 ghost use Rattle.epx_compare.specs.inner.MissingCounts.{missing_count};
 
 use crate::catalog::Catalog;

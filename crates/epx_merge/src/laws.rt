@@ -1,5 +1,6 @@
 //! Laws of refusals and accepted logs: each function's contract is a law.
-ghost use Rattle.epx_merge.specs.LogLaws.{AcceptedIsNotRefused, RefusalIsUnique, AcceptedMapIsUnique};
+ghost use Rattle.epx_merge.specs.LogLaws.{AcceptedIsNotRefused, RefusalIsUnique};
+ghost use Rattle.epx_merge.specs.LogLaws.{AcceptedMapIsUnique};
 ghost use Rattle.epx_merge.specs.LogLaws.{LogsHaveAnAnswer, LinesHaveDistinctPlaces};
 ghost use Rattle.epx_merge.specs.LogLaws.{NamedBadLineIsLeast};
 

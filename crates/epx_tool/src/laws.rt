@@ -1,7 +1,8 @@
 //! Laws of answers: these definitions mean what they should. Each function has an empty body, and
 //! its contract is the law.
 ghost use Rattle.epx_tool.specs.AnswerLaws.{ReportExists, MapTextExists, ReportIsUnique};
-ghost use Rattle.epx_tool.specs.AnswerLaws.{OrderTextIsUnique, LevelTextIsUnique, AuditTextIsUnique};
+ghost use Rattle.epx_tool.specs.AnswerLaws.{OrderTextIsUnique, LevelTextIsUnique};
+ghost use Rattle.epx_tool.specs.AnswerLaws.{AuditTextIsUnique};
 ghost use Rattle.epx_tool.specs.AnswerLaws.{AnswerExists, ViewExists, AnswerIsUnique, ViewIsUnique};
 ghost use Rattle.epx_tool.specs.AnswerLaws.{CoveredTextMeansCovered};
 ghost use Rattle.epx_tool.specs.CheckLaws.{LawfulTextMeansLawful, LawfulListExecutesAlike};

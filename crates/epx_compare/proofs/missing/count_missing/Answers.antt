@@ -8,7 +8,8 @@ use Rattle.epx_compare.specs.inner.MissingCounts.{AreCounts, with_one, is_missin
 use Rattle.epx_compare.proofs.MissingCountLemmas.{AreCounts-agree, committed_next, missing_next}
 use Rattle.epx_compare.proofs.MissingCountLemmas.{not_counted}
 use Rattle.epx_compare.proofs.missing.count_missing.Goals as goal
-use Rattle.epx_compare.proofs.missing.count_missing.Goals.{then-is_none+in_ok-count_one, else-is_none}
+use Rattle.epx_compare.proofs.missing.count_missing.Goals.{then-is_none+in_ok-count_one}
+use Rattle.epx_compare.proofs.missing.count_missing.Goals.{else-is_none}
 
 -- what a position says
 module _ (ids : List Id) (d : Id) where
