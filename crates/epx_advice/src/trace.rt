@@ -1,4 +1,6 @@
 //! Explains why a trace has no line.
+ghost use Rattle.std.specs.Prelude.{◌≡◌, ◌≢◌, [], IfOk, IfNone, IfSome};
+
 use crate::key_users::{KeyUsers, count_key_users};
 use epx_committed::Merged;
 use epx_types::{Memory, Plan};
@@ -55,7 +57,10 @@ pub fn explain_trace<R: Files + Threads + Sync>(
     key: &str,
     text: &[u8],
     plan: Plan,
-) -> Result<Option<String>, Memory> {
+) -> Result<Option<String>, Memory>
+    ensures some { IfOk result (λ line. IfSome line (λ _. text.now ≡ [])) }
+    ensures none { IfOk result (λ line. IfNone line (text.now ≢ [])) }
+{
     if !text.is_empty() {
         return Ok(None);
     }

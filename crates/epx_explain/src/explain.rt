@@ -1,4 +1,6 @@
 //! Explains a fault.
+ghost use Rattle.std.specs.Prelude.{◌≡◌, ℕ, IfOk, IfNone};
+
 use crate::base_line::explain_base_line;
 use crate::differences::explain_differences;
 use crate::inputs::Inputs;
@@ -34,7 +36,9 @@ pub fn explain_fault<R: Files>(
     alloc: Global,
     fault: Fault,
     inputs: &Inputs<'_>,
-) -> Result<Option<String>, Memory> {
+) -> Result<Option<String>, Memory>
+    ensures { IfOk result (λ text. IfNone text ((line : ℕ) × (fault ≡ Fault.BadBase line))) }
+{
     let text = match fault {
         Fault::Memory => String::from_str(alloc, MEMORY)?,
         Fault::TooManyInstances => explain_instance_count(alloc)?,
