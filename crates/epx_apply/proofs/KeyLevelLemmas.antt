@@ -10,7 +10,7 @@ use Rattle.epx_types.specs.declared.op.Op.{Op}
 use Rattle.epx_types.proofs.lists.MembershipLemmas.{Contains-nil, Contains-head, Contains-cons}
 use Rattle.epx_types.proofs.lists.MembershipLemmas.{Contains-cons_cases}
 use Rattle.epx_apply.specs.declared.key_table.KeyLevels.{KeyLevels}
-use Rattle.epx_apply.specs.declared.key_table.Access.{Access}
+use Rattle.epx_apply.specs.declared.key_table.TableAccess.{TableAccess}
 use Rattle.epx_apply.specs.inner.KeyTables.{no_levels, key_levels_at, IsLevelAbove, level_for}
 use Rattle.epx_apply.specs.inner.KeyTables.{raise}
 
@@ -65,14 +65,14 @@ module _ (keys_of : List Op → List (List ℕ)) (done : List (List Op × ℕ)) 
 -- ---- the least level that all accesses allow
 
 module _ (key_levels : List KeyLevels) where
-  fold_from : (m : ℕ) (accesses : List Access)
+  fold_from : (m : ℕ) (accesses : List TableAccess)
       → m ≤ fold (λ level a. max level (level_for key_levels a)) m accesses
   fold_from m [] = omega arith
   fold_from m (a ∷ accesses) = let rest = fold_from (max m (level_for key_levels a)) accesses in
       omega arith
 
   -- it is at least the level for each access
-  pub fold_above : (m : ℕ) (accesses : List Access) (a : Access) → Contains accesses a
+  pub fold_above : (m : ℕ) (accesses : List TableAccess) (a : TableAccess) → Contains accesses a
       → level_for key_levels a ≤ fold (λ level a. max level (level_for key_levels a)) m accesses
   fold_above m [] a h = absurd (Contains-nil a h)
   fold_above m (b ∷ accesses) a h =
@@ -86,9 +86,9 @@ module _ (key_levels : List KeyLevels) where
       ]
 
   -- it is the level for one of them, or the initial level
-  pub fold_reached : (m : ℕ) (accesses : List Access)
+  pub fold_reached : (m : ℕ) (accesses : List TableAccess)
       → (fold (λ level a. max level (level_for key_levels a)) m accesses ≡ m)
-      ⊎ ((a : Access) × Contains accesses a
+      ⊎ ((a : TableAccess) × Contains accesses a
       × (fold (λ level a. max level (level_for key_levels a)) m accesses ≡ level_for key_levels a))
   fold_reached m [] = inl refl
   fold_reached m (b ∷ accesses) =
@@ -103,14 +103,14 @@ module _ (key_levels : List KeyLevels) where
 -- ---- raising the levels for one access after another
 
 module _ (n : ℕ) where
-  pub length_raised : (accesses : List Access) (key_levels : List KeyLevels)
+  pub length_raised : (accesses : List TableAccess) (key_levels : List KeyLevels)
       → length (fold (raise n) key_levels accesses) ≡ length key_levels
   length_raised [] key_levels = refl
   length_raised (a ∷ accesses) key_levels =
       length_raised accesses (raise n key_levels a) ∙ length-set key_levels a.key _
 
   -- the new `touchers` of a key
-  pub touchers_raised : (accesses : List Access) (key_levels : List KeyLevels) (x : ℕ)
+  pub touchers_raised : (accesses : List TableAccess) (key_levels : List KeyLevels) (x : ℕ)
       → x < length key_levels →
       (((w : Bool) × Contains accesses (record { key = x; writes = w }))
       × ((key_levels_at (fold (raise n) key_levels accesses) x).touchers
@@ -162,7 +162,7 @@ module _ (n : ℕ) where
               )
               | inr (none, e) ↦ inr (
                 λ w h. elim (Contains-cons_cases a accesses (record { key = x; writes = w }) h) [
-                  | inl here ↦ other (sym (ap (λ (b : Access). b.key) here))
+                  | inl here ↦ other (sym (ap (λ (b : TableAccess). b.key) here))
                   | inr later ↦ none w later
                 ],
                 e ∙ kept,
@@ -171,7 +171,7 @@ module _ (n : ℕ) where
       ]
 
   -- the new `writers` of a key
-  pub writers_raised : (accesses : List Access) (key_levels : List KeyLevels) (x : ℕ)
+  pub writers_raised : (accesses : List TableAccess) (key_levels : List KeyLevels) (x : ℕ)
       → x < length key_levels →
       (Contains accesses (record { key = x; writes = true })
       × ((key_levels_at (fold (raise n) key_levels accesses) x).writers
@@ -231,7 +231,8 @@ module _ (n : ℕ) where
                     | inr (none, e) ↦ inr (
                       λ h. elim (Contains-cons_cases a accesses (record { key = x; writes = true })
                           h) [
-                            | inl at ↦ true≢false (sym (ap (λ (b : Access). b.writes) at) ∙ reads)
+                            | inl at ↦ true≢false
+                                (sym (ap (λ (b : TableAccess). b.writes) at) ∙ reads)
                             | inr later ↦ none later
                           ],
                       e ∙ kept,
@@ -251,7 +252,7 @@ module _ (n : ℕ) where
               )
               | inr (none, e) ↦ inr (
                 λ h. elim (Contains-cons_cases a accesses (record { key = x; writes = true }) h) [
-                  | inl here ↦ other (sym (ap (λ (b : Access). b.key) here))
+                  | inl here ↦ other (sym (ap (λ (b : TableAccess). b.key) here))
                   | inr later ↦ none later
                 ],
                 e ∙ kept,

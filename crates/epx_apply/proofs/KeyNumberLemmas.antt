@@ -11,7 +11,7 @@ use Rattle.std.proofs.lemmas.Slice.Eq.{bytes_eq-Decides}
 use Rattle.epx_types.proofs.lists.MembershipLemmas.{Contains-nil, Contains-cons_cases}
 use Rattle.epx_types.proofs.lists.ListPositionLemmas.{slice_get-map}
 use Rattle.epx_types.specs.declared.op.Op.{Op}
-use Rattle.epx_apply.specs.declared.key_table.Access.{Access}
+use Rattle.epx_apply.specs.declared.key_table.TableAccess.{TableAccess}
 use Rattle.epx_apply.specs.declared.key_table.KeyLevels.{KeyLevels}
 use Rattle.epx_apply.specs.inner.KeyTables.{key_at, no_levels, IsKeyTableOf}
 use Rattle.epx_apply.proofs.KeyTableLemmas.{grow, access_known}
@@ -47,7 +47,7 @@ at_number : {X : Type 0} (xs : List X) (i : ℕ) (x d : X) → slice_get xs i �
 at_number xs i x d e = (slice_get_within xs i x e, get_or_from_slice_get xs i x d e)
 
 module _ (done : List (List Op × ℕ)) (current : List (List ℕ × Bool))
-    (ks ks' : List (Bor (List ℕ))) (key_levels : List KeyLevels) (accesses : List Access)
+    (ks ks' : List (Bor (List ℕ))) (key_levels : List KeyLevels) (accesses : List TableAccess)
     (k : Bor (List ℕ)) (key : List ℕ) (w : Bool) (number : ℕ) (text : k.now ≡ key)
     (is : IsKeyTableOf done current
     (record { keys = texts_of ks; key_levels = key_levels; accesses = accesses }))

@@ -15,7 +15,7 @@ use Rattle.epx_types.proofs.lists.MembershipLemmas.{map-agree}
 use Rattle.epx_types.proofs.keys.KeyListLemmas.{Contains-rising_keys, Contains-from_rising_keys}
 use Rattle.epx_types.specs.CommandKeys.{accesses_of, touched_by, written_by}
 use Rattle.epx_apply.specs.declared.key_table.KeyLevels.{KeyLevels}
-use Rattle.epx_apply.specs.declared.key_table.Access.{Access}
+use Rattle.epx_apply.specs.declared.key_table.TableAccess.{TableAccess}
 use Rattle.epx_apply.specs.inner.KeyTables.{Table, no_levels, key_levels_at, key_at}
 use Rattle.epx_apply.specs.inner.KeyTables.{touched_in, written_in, IsLevelAbove, IsKeyTableOf}
 use Rattle.epx_apply.specs.inner.KeyTables.{AddsAccesses, level_for, raise, IsNextLevel}
@@ -39,7 +39,7 @@ AddsAccesses-append xs ys a b c first second done current is =
     subst P (append_assoc current xs ys) (second done (current ++ xs) (first done current is))
 
 -- the keys of the accesses of a table
-abbrev current_at : List (List ℕ) → Access → List ℕ × Bool
+abbrev current_at : List (List ℕ) → TableAccess → List ℕ × Bool
 current_at keys a = (key_at keys a.key, a.writes)
 
 module _ (done : List (List Op × ℕ)) (current : List (List ℕ × Bool)) (t : Table)
@@ -63,7 +63,7 @@ module _ (done : List (List Op × ℕ)) (current : List (List ℕ × Bool)) (t :
         ∙ ap₂ (λ (l : List (List ℕ × Bool)) (q : List ℕ). l ++ (q, w) ∷ []) is.current_keys at;
     within = λ a h. elim (Contains-push_cases t.accesses (record { key = x; writes = w }) a h) [
       | inl old ↦ is.within a old
-      | inr new ↦ subst (λ (b : Access). b.key < length t.keys) new low
+      | inr new ↦ subst (λ (b : TableAccess). b.key < length t.keys) new low
     ];
   }
 
@@ -182,7 +182,7 @@ module _ (done : List (List Op × ℕ)) (ops : List Op) (t : Table)
   -- the access of a key of the command
   access_of : (k : List ℕ) (w : Bool)
       → Contains {X = List ℕ × Bool} (flat_map accesses_of ops) (k, w)
-      → (a : Access) × Contains t.accesses a × (key_at t.keys a.key ≡ k) × (a.writes ≡ w)
+      → (a : TableAccess) × Contains t.accesses a × (key_at t.keys a.key ≡ k) × (a.writes ≡ w)
   access_of k w h =
       let from = Contains-from_map (current_at t.keys) t.accesses (k, w)
       (subst (λ (l : List (List ℕ × Bool)). Contains {X = List ℕ × Bool} l (k, w))
@@ -193,7 +193,7 @@ module _ (done : List (List Op × ℕ)) (ops : List Op) (t : Table)
         ap (λ (a : List ℕ × Bool). a.1) from.2,
       )
 
-  current_of : (a : Access) → Contains t.accesses a
+  current_of : (a : TableAccess) → Contains t.accesses a
       → Contains {X = List ℕ × Bool} (flat_map accesses_of ops) (key_at t.keys a.key, a.writes)
   current_of a h =
       subst (λ (l : List (List ℕ × Bool)). Contains {X = List ℕ × Bool} l
@@ -212,7 +212,7 @@ module _ (done : List (List Op × ℕ)) (ops : List Op) (t : Table)
 
   -- the level for an access of a key that an earlier command writes, or for a write of a key that
   -- it touches, is above that command
-  above_written : (a : Access) → Contains t.accesses a → (earlier : List Op) (l : ℕ)
+  above_written : (a : TableAccess) → Contains t.accesses a → (earlier : List Op) (l : ℕ)
       → Contains done (earlier, l) → Contains (written_in earlier) (key_at t.keys a.key)
       → l < level_for t.key_levels a
   above_written a c earlier l d h =
@@ -223,7 +223,7 @@ module _ (done : List (List Op × ℕ)) (ops : List Op) (t : Table)
             rw reads low
       ]
 
-  above_touched : (a : Access) → Contains t.accesses a → a.writes ≡ true
+  above_touched : (a : TableAccess) → Contains t.accesses a → a.writes ≡ true
       → (earlier : List Op) (l : ℕ) → Contains done (earlier, l)
       → Contains (touched_in earlier) (key_at t.keys a.key) → l < level_for t.key_levels a
   above_touched a c writes earlier l d h = let low =
@@ -252,7 +252,7 @@ module _ (done : List (List Op × ℕ)) (ops : List Op) (t : Table)
       ]
 
   -- the level for an access is 0 or one above a command that conflicts
-  level_reached : (a : Access) → Contains t.accesses a
+  level_reached : (a : TableAccess) → Contains t.accesses a
       → (level_for t.key_levels a ≡ 0)
       ⊎ ((earlier : List Op) × (l : ℕ) × Contains done (earlier, l) × Conflict earlier ops
       × (level_for t.key_levels a ≡ suc l))

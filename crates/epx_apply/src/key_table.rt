@@ -24,7 +24,7 @@ pub(crate) struct KeyLevels {
 
 /// A key that a command touches, by its number.
 #[derive(Clone, Copy, Debug)]
-pub(crate) struct Access {
+pub(crate) struct TableAccess {
     key: usize,
     writes: bool,
 }
@@ -36,7 +36,7 @@ pub(crate) struct KeyTable<'a> {
     keys: IndexSet<&'a str, Seed>,
     key_levels: Vec<KeyLevels>,
     /// The keys of the current command.
-    accesses: Vec<Access>,
+    accesses: Vec<TableAccess>,
 }
 
 impl<'a> Model for KeyTable<'a> {
@@ -54,7 +54,7 @@ impl<'a> Model for KeyTable<'a> {
 
 /// Returns the least level that is above every earlier command that conflicts over one of these
 /// accesses.
-fn least_level(key_levels: &[KeyLevels], accesses: &[Access]) -> usize
+fn least_level(key_levels: &[KeyLevels], accesses: &[TableAccess]) -> usize
     requires { All (λ a. a.key < length key_levels.now) accesses.now }
     ensures { result ≡ fold (λ level a. max level (level_for key_levels.now a)) 0 accesses.now }
 {
@@ -71,7 +71,7 @@ fn least_level(key_levels: &[KeyLevels], accesses: &[Access]) -> usize
 }
 
 /// Raises the levels of each key of a command to at least `least`.
-fn raise_levels(key_levels: &mut [KeyLevels], accesses: &[Access], least: usize)
+fn raise_levels(key_levels: &mut [KeyLevels], accesses: &[TableAccess], least: usize)
     requires { All (λ a. a.key < length key_levels.old) accesses.now }
     ensures { key_levels.new ≡ fold (raise least) key_levels.old accesses.now }
 {
@@ -111,7 +111,7 @@ impl<'a> KeyTable<'a> {
                 touchers: 0,
             })?;
         }
-        self.accesses.push(Access {
+        self.accesses.push(TableAccess {
             key: number,
             writes,
         })?;

@@ -4,7 +4,7 @@ use Rattle.std.proofs.Common.{arith}
 use Rattle.std.proofs.lemmas.Bool.{cases_Bool, false≢true}
 use Rattle.epx_graph.specs.Graphs.{DependencyGraph, edges_of}
 use Rattle.epx_components.specs.Partitions.{ComponentParts, IsPartitionOf, number_for}
-use Rattle.epx_audit.specs.declared.batch.Batch.{Batch}
+use Rattle.epx_audit.specs.declared.batch.SourceBatch.{SourceBatch}
 use Rattle.epx_audit.specs.declared.doubtful_touches.DoubtfulTouch.{DoubtfulTouch}
 use Rattle.epx_audit.specs.inner.Batches.{IsBatch, IsWhole, IsReadyApart}
 use Rattle.epx_audit.specs.inner.DoubtfulKeys.{IsRelatedOrFree}
@@ -13,7 +13,7 @@ use Rattle.epx_audit.specs.inner.SourceBits.{has_bit, HasAlone}
 
 module _ (g : DependencyGraph) (p : ComponentParts) (touches : List DoubtfulTouch)
     (sources : List ℕ)
-    (words : Batch) (ready : List Bool) (is : IsBatch g p touches sources words) where
+    (words : SourceBatch) (ready : List Bool) (is : IsBatch g p touches sources words) where
   pub batch_whole : IsPartitionOf g p → length ready ≡ length g.ids → IsWhole p ready words
   batch_whole partition same = record {
     counted = partition.is.counted;

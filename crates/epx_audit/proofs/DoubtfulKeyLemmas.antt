@@ -15,7 +15,7 @@ use Rattle.epx_graph.specs.Graphs.{DependencyGraph, edges_of}
 use Rattle.epx_graph.specs.GraphOf.{IsGraphOf}
 use Rattle.epx_graph.proofs.MapPathLemmas.{committed_count, node_reaches}
 use Rattle.epx_audit.specs.declared.doubtful_touches.DoubtfulTouch.{DoubtfulTouch}
-use Rattle.epx_audit.specs.declared.touches.Touch.{Touch}
+use Rattle.epx_audit.specs.declared.touches.KeyUse.{KeyUse}
 use Rattle.epx_audit.specs.inner.RelatedTouches.{AreAllRelated}
 use Rattle.epx_audit.specs.inner.DoubtfulKeys.{doubtful_touch, ShareKey, HoldAllConflicts}
 use Rattle.epx_components.specs.ReadyMarks.{AreReadyMarks}
@@ -55,11 +55,11 @@ module _ (m : List Instance) (g : DependencyGraph) (is : IsGraphOf m g) where
       })
 
   module _ (order : List Ranked) (orders : IsExecutionOrder m order) (nodes : List ℕ)
-      (are : AreOrderNodes m order nodes) (start : DefaultHasher) (touches sure : List Touch)
+      (are : AreOrderNodes m order nodes) (start : DefaultHasher) (touches sure : List KeyUse)
       (hashes : List ℕ) (hold : HoldTouches start m nodes (length nodes) touches)
-      (keeps : (t : Touch) → Contains touches t → ¬ Contains hashes t.hash → Contains sure t)
+      (keeps : (t : KeyUse) → Contains touches t → ¬ Contains hashes t.hash → Contains sure t)
       (linked : AreAllRelated (edges_of g) nodes sure (length sure))
-      (doubtful : List DoubtfulTouch) (found : (t : Touch) (key : ℕ) → Contains touches t
+      (doubtful : List DoubtfulTouch) (found : (t : KeyUse) (key : ℕ) → Contains touches t
       → key < length hashes → get_or hashes key 0 ≡ t.hash
       → Contains doubtful (doubtful_touch nodes key t)) where
     -- commands that touch one key, of which one writes it

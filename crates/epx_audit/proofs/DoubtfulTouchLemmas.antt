@@ -6,16 +6,16 @@ use Rattle.std.proofs.lemmas.List.{get_or_default}
 use Rattle.std.proofs.lemmas.List.Elements.{Contains-get_or, Contains-push, Contains-push_cases}
 use Rattle.std.proofs.lemmas.List.Elements.{Contains-append_left}
 use Rattle.epx_audit.specs.declared.doubtful_touches.DoubtfulTouch.{DoubtfulTouch}
-use Rattle.epx_audit.specs.declared.touches.Touch.{Touch}
+use Rattle.epx_audit.specs.declared.touches.KeyUse.{KeyUse}
 use Rattle.epx_audit.specs.inner.DoubtfulKeys.{doubtful_touch, AreInRange}
 use Rattle.epx_audit.specs.inner.RelatedTouches.{touch_at}
 
 -- each of some touches is one of all touches
-abbrev pub AreSome : List Touch → List Touch → Type 0
-AreSome touches sure = (t : Touch) → Contains sure t → Contains touches t
+abbrev pub AreSome : List KeyUse → List KeyUse → Type 0
+AreSome touches sure = (t : KeyUse) → Contains sure t → Contains touches t
 
 -- they have those of the first n touches that are of none of these hashes
-abbrev pub HoldOthers : List Touch → List ℕ → List Touch → ℕ → Type 0
+abbrev pub HoldOthers : List KeyUse → List ℕ → List KeyUse → ℕ → Type 0
 HoldOthers touches hashes sure n = (i : ℕ) → i < n → ¬ Contains hashes (touch_at touches i).hash
     → Contains sure (touch_at touches i)
 
@@ -25,17 +25,17 @@ AreFound nodes hashes found = (t : DoubtfulTouch) → Contains found t
     → Contains nodes t.node × (t.key < length hashes)
 
 -- they have those of the first n touches that are of one of these hashes
-abbrev pub HoldFound : List ℕ → List Touch → List ℕ → List DoubtfulTouch → ℕ → Type 0
+abbrev pub HoldFound : List ℕ → List KeyUse → List ℕ → List DoubtfulTouch → ℕ → Type 0
 HoldFound nodes touches hashes found n = (i key : ℕ) → i < n → key < length hashes
     → get_or hashes key 0 ≡ (touch_at touches i).hash
     → Contains found (doubtful_touch nodes key (touch_at touches i))
 
-module _ (touches : List Touch) (hashes : List ℕ) where
+module _ (touches : List KeyUse) (hashes : List ℕ) where
   -- a touch of a key by its number
-  pub touch_at_index : (t : Touch) (h : Contains touches t) → touch_at touches h.0 ≡ t
+  pub touch_at_index : (t : KeyUse) (h : Contains touches t) → touch_at touches h.0 ≡ t
   touch_at_index t h = get_or_default touches h.0 _ t h.1 ∙ h.2
 
-  module _ (sure : List Touch) (n : ℕ) where
+  module _ (sure : List KeyUse) (n : ℕ) where
     pub other_touches_more : n < length touches → AreSome touches sure
         → AreSome touches (sure ++ touch_at touches n ∷ [])
     other_touches_more l old t h = elim (Contains-push_cases sure (touch_at touches n) t h) [

@@ -19,7 +19,7 @@ use Rattle.epx_graph.specs.Graphs.{DependencyGraph, edges_of}
 use Rattle.epx_graph.specs.GraphOf.{IsGraphOf}
 use Rattle.epx_graph.specs.NodePaths.{NodeReaches}
 use Rattle.epx_graph.proofs.MapPathLemmas.{committed_count, node_reaches}
-use Rattle.epx_audit.specs.declared.touches.Touch.{Touch}
+use Rattle.epx_audit.specs.declared.touches.KeyUse.{KeyUse}
 use Rattle.epx_audit.specs.inner.RelatedTouches.{touch_at, AreAllRelated}
 use Rattle.epx_audit.specs.inner.Touches.{touch, HoldTouches}
 use Rattle.epx_audit.specs.inner.ReachIndexes.{AreOrderNodes}
@@ -53,10 +53,10 @@ module _ (m : List Instance) (g : DependencyGraph) (is : IsGraphOf m g) (order :
             (omega (arith, slice_get_within m k d at, committed_count m g is));
       }
 
-  module _ (start : DefaultHasher) (touches : List Touch)
+  module _ (start : DefaultHasher) (touches : List KeyUse)
       (linked : AreAllRelated (edges_of g) nodes touches (length touches)) where
     -- the position of a touch
-    index_of : (t : Touch) → Contains touches t
+    index_of : (t : KeyUse) → Contains touches t
         → (i : ℕ) × (i < length touches) × (touch_at touches i ≡ t)
     index_of t found = (found.0, found.1, get_or_default touches found.0 _ t found.1 ∙ found.2)
 
@@ -73,13 +73,13 @@ module _ (m : List Instance) (g : DependencyGraph) (is : IsGraphOf m g) (order :
         let i = index_of (touch start s.position k w) touched in
         let j = index_of (touch start t.position k v) touched' in
         let place_i : (touch_at touches i.0).position ≡ s.position =
-        ap (λ (t : Touch). t.position) i.2 in
+        ap (λ (t : KeyUse). t.position) i.2 in
         let place_j : (touch_at touches j.0).position ≡ t.position =
-        ap (λ (t : Touch). t.position) j.2 in
+        ap (λ (t : KeyUse). t.position) j.2 in
         let alike : (touch_at touches i.0).hash ≡ (touch_at touches j.0).hash =
-        ap (λ (t : Touch). t.hash) i.2 ∙ sym (ap (λ (t : Touch). t.hash) j.2) in
-        let writes_i : (touch_at touches i.0).writes ≡ w = ap (λ (t : Touch). t.writes) i.2 in
-        let writes_j : (touch_at touches j.0).writes ≡ v = ap (λ (t : Touch). t.writes) j.2 in
+        ap (λ (t : KeyUse). t.hash) i.2 ∙ sym (ap (λ (t : KeyUse). t.hash) j.2) in
+        let writes_i : (touch_at touches i.0).writes ≡ w = ap (λ (t : KeyUse). t.writes) i.2 in
+        let writes_j : (touch_at touches j.0).writes ≡ v = ap (λ (t : KeyUse). t.writes) j.2 in
         elim (cases_lt i.0 j.0) [
           | inl below ↦
               let reach = linked i.0 j.0 below j.1 alike

@@ -2,13 +2,13 @@
 use Rattle.std.proofs.Common.{◌≡◌, ◌⊎◌, inl, inr, ℕ, ◌+◌, ◌<◌, ◌≤◌, List, Bool, IsTrue, refl, sym}
 use Rattle.std.proofs.Common.{subst, ap, ◌∙◌, arith}
 use Rattle.std.proofs.lemmas.Bool.{cases_Bool, cases_lt, false≢true}
-use Rattle.epx_audit.specs.declared.touches.Touch.{Touch}
+use Rattle.epx_audit.specs.declared.touches.KeyUse.{KeyUse}
 use Rattle.epx_audit.specs.inner.RelatedTouches.{touch_at, TouchReaches, AreAllRelated}
 use Rattle.epx_audit.specs.inner.RelatedTouches.{IsRelatedBack, IsNextWriter}
 use Rattle.epx_components.proofs.NodePathLemmas.{reaches_on}
 
 -- of the first n touches, last_writer is the last one that writes, or the first one of its hash
-pub record IsRelatedUpTo (edges : ℕ → List ℕ) (nodes : List ℕ) (touches : List Touch)
+pub record IsRelatedUpTo (edges : ℕ → List ℕ) (nodes : List ℕ) (touches : List KeyUse)
     (last_writer n : ℕ) : Type 0 where
   pub linked : AreAllRelated edges nodes touches n
   pub first : n ≡ 0 → last_writer ≡ 0
@@ -22,7 +22,7 @@ pub record IsRelatedUpTo (edges : ℕ → List ℕ) (nodes : List ℕ) (touches 
       × TouchReaches edges nodes touches last_writer j
   pub rises : (j : ℕ) → j < n → (touch_at touches j).hash ≤ (touch_at touches last_writer).hash
 
-module _ (edges : ℕ → List ℕ) (nodes : List ℕ) (touches : List Touch) where
+module _ (edges : ℕ → List ℕ) (nodes : List ℕ) (touches : List KeyUse) where
   abbrev hash : ℕ → ℕ
   hash i = (touch_at touches i).hash
 

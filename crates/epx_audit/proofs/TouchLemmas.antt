@@ -9,11 +9,11 @@ use Rattle.epx_types.proofs.lists.MembershipLemmas.{Contains-map, Contains-from_
 use Rattle.epx_types.proofs.lists.MembershipLemmas.{Contains-from_filter}
 use Rattle.epx_types.proofs.lists.MembershipLemmas.{passes-from_filter, Contains-flat_map}
 use Rattle.epx_types.proofs.lists.MembershipLemmas.{Contains-from_flat_map}
-use Rattle.epx_audit.specs.declared.touches.Touch.{Touch}
+use Rattle.epx_audit.specs.declared.touches.KeyUse.{KeyUse}
 use Rattle.epx_audit.specs.inner.Touches.{touch, touches_by, hashed_touches}
 
 module _ (start : DefaultHasher) (position : ℕ) where
-  abbrev touch_by : List ℕ × Bool → Touch
+  abbrev touch_by : List ℕ × Bool → KeyUse
   touch_by a = touch start position a.0 a.1
 
   by_touched : (op : Op) (q : List ℕ) → Contains (touched_by op) q
@@ -54,13 +54,13 @@ module _ (start : DefaultHasher) (position : ℕ) where
       Contains-flat_map (touches_by start position) ops f.0 (touch start position q true) f.1
       (by_written f.0 q f.2)
 
-  place_by : (op : Op) (t : Touch) → Contains (touches_by start position op) t
+  place_by : (op : Op) (t : KeyUse) → Contains (touches_by start position op) t
       → t.position ≡ position
   place_by op t h = let a = Contains-from_map touch_by (accesses_of op) t h in
       subst (λ t. t.position ≡ position) a.2 refl
 
   -- each touch is at the position of the command
-  pub touch_place : (ops : List Op) (t : Touch) → Contains (hashed_touches start position ops) t
+  pub touch_place : (ops : List Op) (t : KeyUse) → Contains (hashed_touches start position ops) t
       → t.position ≡ position
   touch_place ops t h = let f = Contains-from_flat_map (touches_by start position) ops t h in
       place_by f.0 t f.2

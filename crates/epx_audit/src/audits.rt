@@ -14,7 +14,7 @@ ghost use Rattle.epx_components.specs.ReadyMarks.{is_marked};
 ghost use Rattle.epx_audit.specs.inner.Sources.{AreSources, AreSettled, IsFirstPair, IsLeastPair};
 ghost use Rattle.epx_audit.specs.Uncovered.{IsLeastUncovered};
 
-use crate::batch::Batch;
+use crate::batch::SourceBatch;
 use crate::conflicts::{CommandKeys, all_keys};
 use crate::doubtful_touches::{DoubtfulTouch, DoubtfulTouches, find_doubtful};
 use crate::quick_audit::is_found_covered;
@@ -138,7 +138,7 @@ fn first_pair<'a>(
         (AreSettled m (edges_of graph.now) ready.now sources.now (length sources.now))
         (λ pair. IsFirstPair m (edges_of graph.now) ready.now sources.now pair.0 pair.1)) }
 {
-    let batch = Batch::of(alloc, graph, partition, doubtful, sources)?;
+    let batch = SourceBatch::of(alloc, graph, partition, doubtful, sources)?;
     if batch.has_no_candidate(partition, ready) {
         return Ok(None);
     }
@@ -157,7 +157,7 @@ fn first_partner<'a>(
     partition: &Partition,
     ready: &[bool],
     keys: &[CommandKeys<'a>],
-    batch: &Batch,
+    batch: &SourceBatch,
     bit: usize,
     source: usize,
 ) -> Option<usize>

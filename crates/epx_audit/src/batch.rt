@@ -20,7 +20,7 @@ use std::alloc::Global;
 /// What each node and each component has to do with the sources of a batch. Bit b of each word is
 /// for source b.
 #[derive(Drop)]
-pub(crate) struct Batch {
+pub(crate) struct SourceBatch {
     /// The sources that reach each component.
     pub(crate) reached: Vec<u64>,
     /// The sources that each component reaches.
@@ -29,14 +29,14 @@ pub(crate) struct Batch {
     pub(crate) sharing: Vec<u64>,
 }
 
-impl Batch {
+impl SourceBatch {
     pub(crate) fn of(
         alloc: Global,
         graph: &Graph,
         partition: &Partition,
         doubtful: &DoubtfulTouches,
         sources: &[usize],
-    ) -> Result<Batch, Memory>
+    ) -> Result<SourceBatch, Memory>
         requires partition { IsPartitionOf graph.now (parts partition.now) }
         requires doubtful { AreInRange (length graph.now.ids) doubtful.now.keys
             doubtful.now.touches.items }
@@ -49,7 +49,7 @@ impl Batch {
         let reached = find_reached(alloc, graph, partition, sources)?;
         let reaching = find_reaching(alloc, graph, partition, sources)?;
         let sharing = sharing_marks(alloc, doubtful, sources, &own)?;
-        Ok(Batch {
+        Ok(SourceBatch {
             reached,
             reaching,
             sharing,

@@ -5,7 +5,7 @@ ghost use Rattle.std.specs.List.Sorted.{IsStrictlyIncreasing};
 ghost use Rattle.epx_types.specs.ExecutionOrder.{IsExecutionOrder};
 ghost use Rattle.epx_graph.specs.GraphOf.{IsGraphOf};
 ghost use Rattle.epx_audit.specs.declared.doubtful_touches.DoubtfulTouch.{DoubtfulTouch};
-ghost use Rattle.epx_audit.specs.declared.touches.Touch.{Touch};
+ghost use Rattle.epx_audit.specs.declared.touches.KeyUse.{KeyUse};
 ghost use Rattle.epx_audit.specs.inner.DoubtfulKeys.{doubtful_touch, AreDoubtful, AreInRange};
 ghost use Rattle.epx_audit.specs.inner.Touches.{ArePlaced};
 ghost use Rattle.epx_audit.specs.inner.ReachIndexes.{IsReachIndex};
@@ -13,7 +13,7 @@ ghost use Rattle.epx_audit.specs.inner.ReachIndexes.{IsReachIndex};
 use crate::quick_audit::{are_all_related, is_related_back, next_writer, order_nodes};
 use crate::reach_index::ReachIndex;
 use crate::search::PathSearch;
-use crate::touches::{Touch, find_touches};
+use crate::touches::{KeyUse, find_touches};
 use epx_committed::Merged;
 use epx_components::OrderList;
 use epx_graph::Graph;
@@ -74,7 +74,7 @@ fn doubtful_hashes(
     alloc: Global,
     graph: &Graph,
     reach: &ReachIndex,
-    touches: &[Touch],
+    touches: &[KeyUse],
 ) -> Result<Vec<u64>, Memory>
     requires reach { IsReachIndex graph.now reach.now }
     requires placed { ArePlaced (length reach.now.nodes.items) touches.now }
@@ -120,11 +120,11 @@ fn doubtful_number(hashes: &[u64], hash: u64) -> Option<usize>
 }
 
 /// The touches of the hashes that are not doubtful.
-fn other_touches(alloc: Global, touches: &[Touch], hashes: &[u64]) -> Result<Vec<Touch>, Memory>
+fn other_touches(alloc: Global, touches: &[KeyUse], hashes: &[u64]) -> Result<Vec<KeyUse>, Memory>
     requires { IsStrictlyIncreasing hashes.now }
     ensures some { IfOk result
-        (λ sure. (t : Touch) → Contains sure.items t → Contains touches.now t) }
-    ensures all { IfOk result (λ sure. (t : Touch) → Contains touches.now t →
+        (λ sure. (t : KeyUse) → Contains sure.items t → Contains touches.now t) }
+    ensures all { IfOk result (λ sure. (t : KeyUse) → Contains touches.now t →
         ¬ Contains hashes.now t.hash → Contains sure.items t) }
 {
     let mut sure = Vec::new(alloc);
@@ -140,14 +140,14 @@ fn other_touches(alloc: Global, touches: &[Touch], hashes: &[u64]) -> Result<Vec
 fn doubtful_touches(
     alloc: Global,
     nodes: &[usize],
-    touches: &[Touch],
+    touches: &[KeyUse],
     hashes: &[u64],
 ) -> Result<Vec<DoubtfulTouch>, Memory>
     requires placed { ArePlaced (length nodes.now) touches.now }
     requires hashes { IsStrictlyIncreasing hashes.now }
     ensures in_range { IfOk result (λ found. (t : DoubtfulTouch) → Contains found.items t →
         Contains nodes.now t.node × (t.key < length hashes.now)) }
-    ensures whole { IfOk result (λ found. (t : Touch) (key : ℕ) → Contains touches.now t →
+    ensures whole { IfOk result (λ found. (t : KeyUse) (key : ℕ) → Contains touches.now t →
         key < length hashes.now → slice_index hashes.now key ≡ t.hash →
         Contains found.items (doubtful_touch nodes.now key t)) }
 {

@@ -13,7 +13,7 @@ ghost use Rattle.epx_audit.specs.inner.ReachIndexes.{AreOrderNodes, IsReachIndex
 
 use crate::reach_index::ReachIndex;
 use crate::search::PathSearch;
-use crate::touches::{Touch, find_touches};
+use crate::touches::{KeyUse, find_touches};
 use epx_committed::Merged;
 use epx_components::OrderList;
 use epx_graph::Graph;
@@ -80,7 +80,7 @@ pub(crate) fn are_all_related(
     alloc: Global,
     graph: &Graph,
     reach: &ReachIndex,
-    touches: &[Touch],
+    touches: &[KeyUse],
 ) -> Result<bool, Memory>
     requires reach { IsReachIndex graph.now reach.now }
     requires placed { ArePlaced (length reach.now.nodes.items) touches.now }
@@ -100,7 +100,7 @@ pub(crate) fn are_all_related(
 
 /// The last writer after the touch at `index`: that touch if it writes or is the first of its
 /// hash, else the same one.
-pub(crate) fn next_writer(touches: &[Touch], last_writer: usize, index: usize) -> usize
+pub(crate) fn next_writer(touches: &[KeyUse], last_writer: usize, index: usize) -> usize
     requires last_writer { last_writer ≤ index }
     requires index { index < length touches.now }
     ensures within { result ≤ index }
@@ -119,7 +119,7 @@ pub(crate) fn is_related_back(
     path_search: &mut PathSearch,
     graph: &Graph,
     reach: &ReachIndex,
-    touches: &[Touch],
+    touches: &[KeyUse],
     last_writer: usize,
     index: usize,
 ) -> Result<bool, Memory>

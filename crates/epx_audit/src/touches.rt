@@ -13,7 +13,7 @@ use std::hash::{BuildHasher, DefaultHasher, Hash, Hasher};
 /// A touch of a key by a command. The key is known by its hash alone. Keys that share a hash count
 /// as one key, which can only make the audit ask for more.
 #[derive(Clone, Copy, Debug, PartialEq, Eq, PartialOrd, Ord)]
-pub(crate) struct Touch {
+pub(crate) struct KeyUse {
     pub(crate) hash: u64,
     /// The command's position in the order.
     pub(crate) position: usize,
@@ -30,7 +30,7 @@ fn hash_of(start: DefaultHasher, key: &Key) -> u64
 
 /// Adds one touch of a key by the command at a position.
 fn add_key(
-    touches: &mut Vec<Touch>,
+    touches: &mut Vec<KeyUse>,
     start: DefaultHasher,
     position: usize,
     key: &Key,
@@ -40,7 +40,7 @@ fn add_key(
         ++ touch start position key.now writes ∷ []) }
 {
     let hash = hash_of(start, key);
-    touches.push(Touch {
+    touches.push(KeyUse {
         hash,
         position,
         writes,
@@ -50,7 +50,7 @@ fn add_key(
 
 /// Adds the touches of one operation of the command at a position.
 fn add_operation(
-    touches: &mut Vec<Touch>,
+    touches: &mut Vec<KeyUse>,
     start: DefaultHasher,
     position: usize,
     op: &Op,
@@ -68,7 +68,7 @@ fn add_operation(
 
 /// Adds the touches of the command at a position.
 fn add_command(
-    touches: &mut Vec<Touch>,
+    touches: &mut Vec<KeyUse>,
     start: DefaultHasher,
     position: usize,
     ops: &[Op],
@@ -104,7 +104,7 @@ pub(crate) fn find_touches(
     merged: &Merged,
     nodes: &[usize],
     start: DefaultHasher,
-) -> Result<Vec<Touch>, Memory>
+) -> Result<Vec<KeyUse>, Memory>
     requires { All (λ k. k < length merged.now) nodes.now }
     ensures placed { IfOk result (λ touches. ArePlaced (length nodes.now) touches.items) }
     ensures whole { IfOk result

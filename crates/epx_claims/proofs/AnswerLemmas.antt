@@ -4,7 +4,7 @@ use Rattle.std.proofs.Common.{refl, ap, ◌∙◌, subst, arith}
 use mathlib.Core.List.{map-append}
 use Rattle.std.specs.List.{All}
 use Rattle.std.proofs.lemmas.List.Elements.{All-nil, All-push, All-append}
-use Rattle.epx_claims.specs.declared.work.Answer.{Answer}
+use Rattle.epx_claims.specs.declared.work.PieceValue.{PieceValue}
 use Rattle.epx_claims.specs.Seated.{ClaimsView, SeatView}
 use Rattle.epx_claims.specs.inner.WorkResult.{HasAnswers, IsFresh, piece_of}
 
@@ -32,7 +32,7 @@ both_seats s t = record {
 
 module _ {T : Type 0} (answers : ℕ → T → Type 0) (claims : ClaimsView) where
   -- at the start there are no answers
-  pub answers_none : (share : ℕ) (seat : SeatView) (items : List (Answer T))
+  pub answers_none : (share : ℕ) (seat : SeatView) (items : List (PieceValue T))
       → IsFresh claims share seat → items ≡ [] → HasAnswers answers claims share false seat items
   answers_none share seat items fresh none = record {
     own = fresh.own;
@@ -45,12 +45,12 @@ module _ {T : Type 0} (answers : ℕ → T → Type 0) (claims : ClaimsView) whe
 
   -- one more piece, with its answer
   pub answers_push : (share : ℕ) (ended : Bool) (seat seat' : SeatView)
-      (items items' : List (Answer T)) (a : Answer T)
+      (items items' : List (PieceValue T)) (a : PieceValue T)
       → HasAnswers answers claims share ended seat items
       → seat' ≡ with_piece seat a.piece → items' ≡ items ++ a ∷ [] → answers a.piece a.value
       → HasAnswers answers claims share ended seat' items'
   answers_push share ended seat seat' items items' a has seat_is items_is good =
-      subst (λ (p : SeatView × List (Answer T)). HasAnswers answers claims share ended p.0 p.1)
+      subst (λ (p : SeatView × List (PieceValue T)). HasAnswers answers claims share ended p.0 p.1)
       (λ i. (sym seat_is i, sym items_is i)) (record {
         own = has.own;
         share_is = has.share_is;
@@ -60,7 +60,7 @@ module _ {T : Type 0} (answers : ℕ → T → Type 0) (claims : ClaimsView) whe
       })
 
   -- no piece is left
-  pub answers_ended : (share : ℕ) (seat seat' : SeatView) (items : List (Answer T))
+  pub answers_ended : (share : ℕ) (seat seat' : SeatView) (items : List (PieceValue T))
       → HasAnswers answers claims share false seat items → seat' ≡ at_end seat
       → HasAnswers answers claims share true seat' items
   answers_ended share seat seat' items has seat_is =
@@ -74,12 +74,13 @@ module _ {T : Type 0} (answers : ℕ → T → Type 0) (claims : ClaimsView) whe
       })
 
   -- two seats are joined, and their answers appended
-  pub answers_joined : (share one other : ℕ) (s t seat : SeatView) (xs ys items : List (Answer T))
+  pub answers_joined : (share one other : ℕ) (s t seat : SeatView)
+      (xs ys items : List (PieceValue T))
       → HasAnswers answers claims one true s xs → HasAnswers answers claims other true t ys
       → one + other ≡ share → seat ≡ both_seats s t → items ≡ xs ++ ys
       → HasAnswers answers claims share true seat items
   answers_joined share one other s t seat xs ys items left right whole seat_is items_is =
-      subst (λ (p : SeatView × List (Answer T)). HasAnswers answers claims share true p.0 p.1)
+      subst (λ (p : SeatView × List (PieceValue T)). HasAnswers answers claims share true p.0 p.1)
       (λ i. (sym seat_is i, sym items_is i)) (record {
         own = left.own;
         share_is = (let a = left.share_is in let b = right.share_is in omega arith);

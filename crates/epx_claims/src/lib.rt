@@ -3,6 +3,7 @@
 #![tactic(auto)]
 
 mod claims;
+mod first_call;
 mod gate;
 mod map;
 mod parts;
@@ -10,7 +11,6 @@ mod rule;
 mod seat;
 mod seat_state;
 mod seats;
-mod task;
 mod values_by_number;
 mod work;
 

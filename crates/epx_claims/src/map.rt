@@ -5,10 +5,10 @@ ghost use Rattle.epx_claims.specs.inner.WorkResult.{AreFresh, HasAnswers, shares
 ghost use Rattle.epx_types.specs.declared.memory.Memory.{Memory};
 
 use crate::claims::Claims;
+use crate::first_call::{LentClosure, tie_loan};
 use crate::gate::Gate;
 use crate::seat::ClaimSeat;
 use crate::seats::split_off;
-use crate::task::{Lent, take_back};
 use crate::values_by_number::values_by_number;
 use crate::work::{WorkResult, work};
 use epx_types::{Memory, Plan};
@@ -70,9 +70,9 @@ pub fn claimed_map_after<
     }
     match seats_of(alloc, n, workers) {
         Ok((claims, seat, others)) => {
-            let task = Lent { f: first };
+            let task = LentClosure { f: first };
             let ((first, given), worked) = work(rt, alloc, &claims, seat, others, gate, &f, task);
-            take_back(first);
+            tie_loan(first);
             (given, values_of(alloc, claims, worked, &f))
         }
         Err(memory) => (first(), Err(E::from(memory))),

@@ -7,16 +7,16 @@ ghost use Rattle.epx_claims.specs.inner.WorkResult.{AreFresh, HasAnswers, IsFres
 ghost use Rattle.epx_types.specs.declared.memory.Memory.{Memory};
 
 use crate::claims::Claims;
+use crate::first_call::FirstCall;
 use crate::gate::Gate;
 use crate::seat::ClaimSeat;
-use crate::task::Task;
 use epx_types::Memory;
 use std::alloc::Global;
 use std::thread::{Threads, join};
 
 /// A piece, and the value that the map's function returned for it.
 #[derive(Drop)]
-pub(crate) struct Answer<T> {
+pub(crate) struct PieceValue<T> {
     pub(crate) piece: usize,
     pub(crate) value: T,
 }
@@ -25,7 +25,7 @@ pub(crate) struct Answer<T> {
 #[derive(Drop)]
 pub(crate) struct WorkResult<T> {
     pub(crate) seat: ClaimSeat,
-    pub(crate) answers: Vec<Answer<T>>,
+    pub(crate) answers: Vec<PieceValue<T>>,
 }
 
 // One worker: draws until no piece is left, or until an error.
@@ -51,13 +51,16 @@ fn draw_all<T: Drop, E: From<Memory> + Drop, G: Gate, F: Fn(usize) -> Result<T, 
         let piece = drawn as usize;
         gate.enter(piece);
         let value = f(piece)?;
-        push_answer(&mut answers, Answer { piece, value })?;
+        push_answer(&mut answers, PieceValue { piece, value })?;
     }
     Ok(WorkResult { seat, answers })
 }
 
 // Appends an answer.
-fn push_answer<T: Drop>(answers: &mut Vec<Answer<T>>, answer: Answer<T>) -> Result<(), Memory>
+fn push_answer<T: Drop>(
+    answers: &mut Vec<PieceValue<T>>,
+    answer: PieceValue<T>,
+) -> Result<(), Memory>
     ensures { IfOk result (λ _. answers.new.items ≡ answers.old.items ++ answer ∷ []) }
 {
     answers.push(answer)?;
@@ -94,7 +97,7 @@ fn join_results<T: Drop>(
     Ok(WorkResult { seat, answers })
 }
 
-/// One worker draws with each seat: this thread with the first one, once it has done the task, and
+/// One worker draws with each seat: this thread with the first one, after the first call, and
 /// with each of the others a thread of its own, if one can be started. Joins the seats and the
 /// answers.
 #[cycle(workers)]
@@ -104,7 +107,7 @@ pub(crate) fn work<
     E: From<Memory> + Send + Drop,
     G: Gate + Sync,
     F: Fn(usize) -> Result<T, E> + Sync,
-    K: Task<Output = A> + Drop,
+    K: FirstCall<Output = A> + Drop,
     A,
 >(
     rt: &R,

@@ -7,7 +7,7 @@ use Rattle.std.proofs.lemmas.Option.{slice_get_within}
 use Rattle.epx_types.specs.declared.id.Id.{Id}
 use Rattle.epx_types.specs.Instances.{Instance}
 use Rattle.epx_types.specs.PlacedLines.{Placed}
-use Rattle.epx_versions.specs.declared.noted.Row.{Row}
+use Rattle.epx_versions.specs.declared.noted.NotedLine.{NotedLine}
 use Rattle.epx_versions.specs.NotedRows.{IsRowOf}
 
 module _ (ids : List Id) where
@@ -35,7 +35,7 @@ module _ (ids : List Id) where
       let rest : map (slice_get ids) ks ≡ map Some xs = cc same in ap suc (as_many ks xs rest)
 
 module _ (versions : List Instance) where
-  each_named : (rows : List Row) (lines : List Placed) → AllZip (IsRowOf versions) rows lines
+  each_named : (rows : List NotedLine) (lines : List Placed) → AllZip (IsRowOf versions) rows lines
       → AllByRecursion (λ r. r.version < length versions) rows
   each_named [] lines rel = tt
   each_named (row ∷ rows) [] rel = absurd rel
@@ -45,11 +45,12 @@ module _ (versions : List Instance) where
   )
 
   -- each row names a version
-  pub rows_named : (rows : List Row) (lines : List Placed) → AllZip (IsRowOf versions) rows lines
+  pub rows_named : (rows : List NotedLine) (lines : List Placed)
+      → AllZip (IsRowOf versions) rows lines
       → All (λ r. r.version < length versions) rows
   rows_named rows lines rel = All-from_recursion _ rows (each_named rows lines rel)
 
-  each_row_within : (rows : List Row) (lines : List Placed)
+  each_row_within : (rows : List NotedLine) (lines : List Placed)
       → AllZip (IsRowOf versions) rows lines
       → AllByRecursion (λ j. j < length versions) (map (λ r. r.version) rows)
   each_row_within [] lines rel = tt
@@ -60,6 +61,7 @@ module _ (versions : List Instance) where
   )
 
   -- the versions of rows
-  pub rows_within : (rows : List Row) (lines : List Placed) → AllZip (IsRowOf versions) rows lines
+  pub rows_within : (rows : List NotedLine) (lines : List Placed)
+      → AllZip (IsRowOf versions) rows lines
       → All (λ j. j < length versions) (map (λ r. r.version) rows)
   rows_within rows lines rel = All-from_recursion _ _ (each_row_within rows lines rel)

@@ -13,7 +13,7 @@ use Rattle.epx_types.specs.PlacedLines.{Placed}
 use Rattle.epx_compare.specs.Differences.{lines_of_id, places_of}
 use Rattle.epx_versions.specs.LineVersions.{versions_of}
 use Rattle.epx_versions.specs.SameInstances.{same_id, same_instance}
-use Rattle.epx_versions.specs.declared.noted.Row.{Row}
+use Rattle.epx_versions.specs.declared.noted.NotedLine.{NotedLine}
 use Rattle.epx_versions.specs.inner.EqualVersions.{same_by_test, instances_decide}
 use Rattle.epx_versions.specs.NotedRows.{IsRowOf}
 
@@ -122,7 +122,7 @@ one_number lines i j e at_i at_j =
 
 -- the rows of a version have the places of its lines
 pub places_by_number : (lines : List Placed) (v : ℕ) (e : Instance)
-    → slice_get (versions_of lines) v ≡ Some e → (rows : List Row) (some : List Placed)
+    → slice_get (versions_of lines) v ≡ Some e → (rows : List NotedLine) (some : List Placed)
     → AllZip (IsRowOf (versions_of lines)) rows some
     → map (λ r. r.place) (filter (λ r. r.version == v) rows) ≡ places_of some e
 places_by_number lines v e at [] [] rel = refl
@@ -132,7 +132,7 @@ places_by_number lines v e at (row ∷ rows) (p ∷ some) rel =
     by lines v e at row rows p some rel.0 (places_by_number lines v e at rows some rel.1)
     (row.version == v) (same_instance e p.instance) refl refl where
       by : (lines : List Placed) (v : ℕ) (e : Instance) → slice_get (versions_of lines) v ≡ Some e
-          → (row : Row) (rows : List Row) (p : Placed) (some : List Placed)
+          → (row : NotedLine) (rows : List NotedLine) (p : Placed) (some : List Placed)
           → IsRowOf (versions_of lines) row p
           → map (λ r. r.place) (filter (λ r. r.version == v) rows) ≡ places_of some e
           → (b c : Bool) → (row.version == v) ≡ b → same_instance e p.instance ≡ c

@@ -18,7 +18,7 @@ use Rattle.epx_merge.specs.LogLines.{BadLineAt}
 use Rattle.epx_rows.specs.PositionGroups.{AreGroupsOf}
 use Rattle.epx_rows.specs.Rows.{row_of}
 use Rattle.epx_compare.specs.declared.catalog.Catalog.{Catalog}
-use Rattle.epx_versions.specs.declared.noted.Row.{Row}
+use Rattle.epx_versions.specs.declared.noted.NotedLine.{NotedLine}
 use Rattle.epx_compare.specs.ComparisonLines.{group_data}
 use Rattle.epx_compare.specs.Differences.{lines_of_id, places_of, groups_of}
 use Rattle.epx_versions.specs.LineVersions.{versions_of}
@@ -68,7 +68,7 @@ groups_within numbers groups are j k d within =
 
 -- ---- rows of a version
 
-pub rows_of_version : (rows : List Row) (groups : List (List ℕ))
+pub rows_of_version : (rows : List NotedLine) (groups : List (List ℕ))
     → AreGroupsOf (map (λ r. r.version) rows) groups → (v : ℕ)
     → map (slice_get rows) (row_of groups v) ≡ map Some (filter (λ r. r.version == v) rows)
 rows_of_version rows groups are v =
@@ -91,9 +91,9 @@ pub group_at : (lines : List Placed) (bad : List BadLineAt) (c : Catalog)
     → IsCatalogOf lines bad c → (v : ℕ) (e : Instance) → slice_get (versions_of lines) v ≡ Some e
     → map (place_at c.noted.rows.items) (row_of c.lines v) ≡ places_of lines e
 group_at lines bad c catalog v e at =
-    let rows : List Row = c.noted.rows.items in
-    let own : List Row = filter (λ r. r.version == v) rows in
-    let nothing : Row = record { place = record { log = 0; line = 0 }; version = 0 } in
+    let rows : List NotedLine = c.noted.rows.items in
+    let own : List NotedLine = filter (λ r. r.version == v) rows in
+    let nothing : NotedLine = record { place = record { log = 0; line = 0 }; version = 0 } in
     agree_at rows (place_at rows) (λ r. r.place)
     (λ p r here. ap (λ r. r.place) (get_or_from_slice_get rows p r nothing here))
     (row_of c.lines v) own (rows_of_version rows c.lines catalog.rows v)

@@ -8,8 +8,8 @@ use Rattle.std.proofs.lemmas.List.Sums.{length-filter}
 use Rattle.epx_types.specs.declared.place.Place.{Place}
 use Rattle.epx_types.specs.Instances.{Instance}
 use Rattle.epx_types.specs.PlacedLines.{Placed}
-use Rattle.epx_versions.specs.declared.noted.BadLine.{BadLine}
-use Rattle.epx_versions.specs.declared.noted.Row.{Row}
+use Rattle.epx_versions.specs.declared.noted.NotedBadLine.{NotedBadLine}
+use Rattle.epx_versions.specs.declared.noted.NotedLine.{NotedLine}
 use Rattle.epx_compare.specs.Comparisons.{for_logs}
 use Rattle.epx_compare.specs.LogCounts.{lines_in, bad_lines_in}
 use Rattle.epx_versions.specs.NotedRows.{IsRowOf, bad_line_at}
@@ -38,7 +38,7 @@ same_length false true x y xs ys e rest = absurd (cc e)
 same_length false false x y xs ys e rest = rest
 
 -- as many rows of a log as lines of it
-rows_filtered : (versions : List Instance) (log : ℕ) (rows : List Row) (lines : List Placed)
+rows_filtered : (versions : List Instance) (log : ℕ) (rows : List NotedLine) (lines : List Placed)
     → AllZip (IsRowOf versions) rows lines
     → length (filter (λ r. r.place.log == log) rows) ≡ lines_in lines log
 rows_filtered versions log [] [] rel = refl
@@ -49,20 +49,20 @@ rows_filtered versions log (row ∷ rows) (p ∷ lines) rel =
     (ap (λ (at : Place). at.log == log) rel.0.place)
     (rows_filtered versions log rows lines rel.1)
 
-pub rows_count : (versions : List Instance) (log : ℕ) (rows : List Row) (lines : List Placed)
+pub rows_count : (versions : List Instance) (log : ℕ) (rows : List NotedLine) (lines : List Placed)
     → AllZip (IsRowOf versions) rows lines
     → count_by (λ r. r.place.log == log) rows ≡ lines_in lines log
 rows_count versions log rows lines rel = sym (length-filter (λ r. r.place.log == log) rows)
     ∙ rows_filtered versions log rows lines rel
 
 -- as many bad lines of a log
-bad_filtered : (log : ℕ) (noted : List BadLine)
+bad_filtered : (log : ℕ) (noted : List NotedBadLine)
     → length (filter (λ b. b.place.log == log) noted) ≡ bad_lines_in (map bad_line_at noted) log
 bad_filtered log [] = refl
 bad_filtered log (b ∷ noted) = same_length (b.place.log == log) (b.place.log == log) b
     (bad_line_at b) _ _ refl (bad_filtered log noted)
 
-pub bad_count : (log : ℕ) (noted : List BadLine)
+pub bad_count : (log : ℕ) (noted : List NotedBadLine)
     → count_by (λ b. b.place.log == log) noted ≡ bad_lines_in (map bad_line_at noted) log
 bad_count log noted =
     sym (length-filter (λ b. b.place.log == log) noted) ∙ bad_filtered log noted

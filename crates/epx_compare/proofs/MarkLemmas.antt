@@ -10,7 +10,7 @@ use Rattle.epx_types.specs.Ids.{IsRising}
 use Rattle.epx_types.specs.Instances.{Instance}
 use Rattle.epx_types.specs.PlacedLines.{Placed}
 use Rattle.epx_types.proofs.lists.RisingIdLemmas.{rising_position_is_unique}
-use Rattle.epx_versions.specs.declared.noted.Row.{Row}
+use Rattle.epx_versions.specs.declared.noted.NotedLine.{NotedLine}
 use Rattle.epx_compare.specs.Gaps.{has_line}
 use Rattle.epx_versions.specs.SameInstances.{same_id}
 use Rattle.epx_versions.specs.inner.EqualVersions.{ids_decide}
@@ -53,7 +53,8 @@ module _ (ids : List Id) (rising : IsRising ids) where
               at),
         )
 
-    row_test : (row : Row) (p : Placed) → IsRowOf versions row p → is_line_in positions log k row
+    row_test : (row : NotedLine) (p : Placed) → IsRowOf versions row p
+        → is_line_in positions log k row
         ≡ ((p.place.log == log) && same_id p.instance.id x)
     row_test row p rel =
         let decides = position_decides row.version p.instance rel.version in
@@ -63,7 +64,7 @@ module _ (ids : List Id) (rising : IsRising ids) where
         λ i. first i && second i
 
     -- a row of the log and the instance is there exactly if a line is
-    pub marks_lines : (rows : List Row) (lines : List Placed)
+    pub marks_lines : (rows : List NotedLine) (lines : List Placed)
         → AllZip (IsRowOf versions) rows lines
         → has_line lines log x ≡ list_any (is_line_in positions log k) rows
     marks_lines [] [] rel = refl

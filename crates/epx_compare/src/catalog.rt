@@ -8,7 +8,7 @@ ghost use Rattle.epx_versions.specs.NotedRows.{AreNoted};
 use crate::committed_ids::{CommittedIds, version_ids};
 use epx_rows::Rows;
 use epx_types::Memory;
-use epx_versions::{Noted, Row};
+use epx_versions::{Noted, NotedLine};
 use std::alloc::Global;
 
 /// The committed instances by rising Id, the versions of each, and the lines of each version.
@@ -25,7 +25,7 @@ pub(crate) struct Catalog {
 }
 
 /// The number of the version of each row.
-fn row_versions(alloc: Global, rows: &[Row]) -> Result<Vec<usize>, Memory>
+fn row_versions(alloc: Global, rows: &[NotedLine]) -> Result<Vec<usize>, Memory>
     ensures { IfOk result (λ numbers. numbers.items ≡ map (λ r. r.version) rows.now) }
 {
     let mut numbers = Vec::with_capacity(alloc, rows.len())?;

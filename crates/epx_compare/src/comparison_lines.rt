@@ -9,7 +9,7 @@ ghost use Rattle.epx_versions.specs.NotedRows.{bad_line_at};
 
 use crate::gaps::Gap;
 use epx_types::{Id, Memory};
-use epx_versions::BadLine;
+use epx_versions::NotedBadLine;
 use serde_json::{Value, json};
 use std::alloc::{AllocError, Global};
 
@@ -49,7 +49,7 @@ fn missing_value(alloc: Global, id: Id, count: u64) -> Result<Value, AllocError>
     json!(in alloc; ["missing", replica, number, count])
 }
 
-fn bad_value(alloc: Global, bad: BadLine) -> Result<Value, Memory>
+fn bad_value(alloc: Global, bad: NotedBadLine) -> Result<Value, Memory>
     ensures data { IfOk result (λ v. view v ≡ array_of (bad_data (bad_line_at bad))) }
     ensures whole { IfOk result (λ v. has_float (view v) ≡ false) }
 {
@@ -76,7 +76,7 @@ pub(crate) fn append_log(
 }
 
 /// Appends the line of a bad line.
-pub(crate) fn append_bad(alloc: Global, text: &mut Vec<u8>, bad: BadLine) -> Result<(), Memory>
+pub(crate) fn append_bad(alloc: Global, text: &mut Vec<u8>, bad: NotedBadLine) -> Result<(), Memory>
     ensures { OnOk result (text.new.items
         ≡ text.old.items ++ line_of (bad_data (bad_line_at bad))) }
 {

@@ -8,11 +8,11 @@ ghost use Rattle.epx_versions.specs.NotedRows.{AreNoted};
 
 use crate::comparison_lines::append_log;
 use epx_types::Memory;
-use epx_versions::{BadLine, Noted, Row};
+use epx_versions::{Noted, NotedBadLine, NotedLine};
 use std::alloc::Global;
 
 /// How many of the rows are of each log.
-fn count_rows(alloc: Global, rows: &[Row], logs: usize) -> Result<Vec<usize>, Memory>
+fn count_rows(alloc: Global, rows: &[NotedLine], logs: usize) -> Result<Vec<usize>, Memory>
     ensures len { IfOk result (λ counts. length counts.items ≡ logs) }
     ensures each { IfOk result (λ counts. (log : ℕ) → log < logs
         → slice_index counts.items log ≡ count_by (λ r. r.place.log == log) rows.now) }
@@ -28,7 +28,7 @@ fn count_rows(alloc: Global, rows: &[Row], logs: usize) -> Result<Vec<usize>, Me
 }
 
 /// How many of the bad lines are of each log.
-fn count_bad(alloc: Global, bad: &[BadLine], logs: usize) -> Result<Vec<usize>, Memory>
+fn count_bad(alloc: Global, bad: &[NotedBadLine], logs: usize) -> Result<Vec<usize>, Memory>
     ensures len { IfOk result (λ counts. length counts.items ≡ logs) }
     ensures each { IfOk result (λ counts. (log : ℕ) → log < logs
         → slice_index counts.items log ≡ count_by (λ b. b.place.log == log) bad.now) }

@@ -19,7 +19,7 @@ use crate::comparison_lines::append_line;
 use crate::members::Members;
 use epx_rows::Rows;
 use epx_types::{Id, Memory, Place};
-use epx_versions::Row;
+use epx_versions::NotedLine;
 use serde_json::{Value, json};
 use std::alloc::{AllocError, Global};
 
@@ -31,7 +31,7 @@ fn place_value(alloc: Global, place: Place) -> Result<Value, AllocError>
 }
 
 /// The places of the rows at these indices.
-fn group_value(alloc: Global, rows: &[Row], indices: &[usize]) -> Result<Value, AllocError>
+fn group_value(alloc: Global, rows: &[NotedLine], indices: &[usize]) -> Result<Value, AllocError>
     requires { All (λ index. index < length rows.now) indices.now }
     ensures { IfOk result (λ v. view v ≡ group_data (map (place_at rows.now) indices.now)) }
 {
@@ -45,7 +45,7 @@ fn group_value(alloc: Global, rows: &[Row], indices: &[usize]) -> Result<Value, 
 /// The group of each of these versions. `lines` has the indices of the rows of each version.
 fn group_values(
     alloc: Global,
-    rows: &[Row],
+    rows: &[NotedLine],
     lines: &Rows,
     numbers: &[usize],
 ) -> Result<Vec<Value>, AllocError>

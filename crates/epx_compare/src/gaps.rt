@@ -10,7 +10,7 @@ ghost use Rattle.epx_compare.specs.inner.LogMarks.{is_line_in, is_log_marked, Is
 use crate::log_set::LogSet;
 use epx_types::limits::MAX_LOGS;
 use epx_types::{Id, Memory};
-use epx_versions::Row;
+use epx_versions::NotedLine;
 use std::alloc::Global;
 use std::marker::Model;
 
@@ -36,7 +36,7 @@ impl Model for Gap {
 /// each version.
 pub(crate) fn mark_lines(
     alloc: Global,
-    rows: &[Row],
+    rows: &[NotedLine],
     positions: &[usize],
     instances: usize,
 ) -> Result<Vec<LogSet>, Memory>

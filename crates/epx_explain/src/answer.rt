@@ -6,7 +6,7 @@ use std::alloc::Global;
 
 /// The first bad line of a log.
 #[derive(Clone, Copy)]
-pub(crate) struct BadLine {
+pub(crate) struct FirstBadLine {
     pub line: usize,
     pub why: Why,
 }
@@ -18,7 +18,7 @@ pub(crate) struct LogFindings {
     pub lines: usize,
     /// How many lines are bad.
     pub bad: usize,
-    pub first_bad: Option<BadLine>,
+    pub first_bad: Option<FirstBadLine>,
 }
 
 /// An instance that two lines commit differently.
@@ -34,7 +34,7 @@ pub(crate) struct Difference {
 
 /// What a comparison says of all logs.
 #[derive(Drop)]
-pub(crate) struct Answer {
+pub(crate) struct ComparisonFindings {
     pub logs: Vec<LogFindings>,
     /// The first difference.
     pub difference: Option<Difference>,
@@ -80,7 +80,7 @@ fn read_why(name: &str) -> Option<Why> {
 fn note_bad_line(logs: &mut [LogFindings], log: &Value, line: &Value, why: &Value) -> Option<()> {
     let findings = logs.get_mut(count_of(log)?)?;
     if findings.first_bad.is_none() {
-        findings.first_bad = Some(BadLine {
+        findings.first_bad = Some(FirstBadLine {
             line: count_of(line)?,
             why: read_why(why.as_str()?)?,
         });
@@ -145,7 +145,7 @@ fn read_difference(alloc: Global, parts: &[Value]) -> Result<Option<Difference>,
 
 /// Takes a line of the answer. False if it is the last that is needed: the lines about logs and bad
 /// lines come first, and then the differences.
-fn take_line(alloc: Global, answer: &mut Answer, line: &Value) -> Result<bool, Memory> {
+fn take_line(alloc: Global, answer: &mut ComparisonFindings, line: &Value) -> Result<bool, Memory> {
     let Some(parts) = line.as_array() else {
         return Ok(false);
     };
@@ -165,8 +165,8 @@ fn take_line(alloc: Global, answer: &mut Answer, line: &Value) -> Result<bool, M
 }
 
 /// Reads the answer of a comparison up to its first difference.
-pub(crate) fn read_answer(alloc: Global, text: &[u8]) -> Result<Answer, Memory> {
-    let mut answer = Answer {
+pub(crate) fn read_answer(alloc: Global, text: &[u8]) -> Result<ComparisonFindings, Memory> {
+    let mut answer = ComparisonFindings {
         logs: Vec::new(alloc),
         difference: None,
     };

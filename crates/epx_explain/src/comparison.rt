@@ -1,5 +1,5 @@
 //! Explains the answer of a comparison.
-use crate::answer::{BadLine, Difference, LogFindings, read_answer};
+use crate::answer::{Difference, FirstBadLine, LogFindings, read_answer};
 use crate::contents::{Contents, read_again};
 use crate::inputs::{Input, Inputs};
 use crate::lines::first_line;
@@ -15,7 +15,7 @@ fn explain_first_bad(
     alloc: Global,
     contents: &Contents<'_>,
     findings: LogFindings,
-    bad: BadLine,
+    bad: FirstBadLine,
 ) -> Result<String, Memory> {
     let front = if findings.lines == 0 { NO_INSTANCE } else { "" };
     let line = bad.line;

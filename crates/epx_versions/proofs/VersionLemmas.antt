@@ -13,7 +13,7 @@ use Rattle.epx_versions.specs.LineVersions.{versions_of}
 use Rattle.epx_versions.specs.SameInstances.{same_instance}
 use Rattle.epx_versions.specs.inner.EqualVersions.{same_by_test, same_instance_equiv}
 use Rattle.epx_versions.specs.NotedRows.{IsRowOf}
-use Rattle.epx_versions.specs.declared.noted.Row.{Row}
+use Rattle.epx_versions.specs.declared.noted.NotedLine.{NotedLine}
 
 module _ (a x : Instance) (ks : List Instance) where
   -- x is among the instances other than a if it is among all and is not a
@@ -98,7 +98,7 @@ versions_of-grows lines (p ∷ more) i e h =
 
 rows_kept : (old new : List Instance)
     → ((i : ℕ) (e : Instance) → slice_get old i ≡ Some e → slice_get new i ≡ Some e)
-    → (rows : List Row) (lines : List Placed) → AllZip (IsRowOf old) rows lines
+    → (rows : List NotedLine) (lines : List Placed) → AllZip (IsRowOf old) rows lines
     → AllZip (IsRowOf new) rows lines
 rows_kept old new kept [] [] rel = tt
 rows_kept old new kept [] (p ∷ lines) rel = absurd rel
@@ -109,7 +109,7 @@ rows_kept old new kept (row ∷ rows) (p ∷ lines) rel = (
 )
 
 -- the rows of the lines, and one for a further line, with the number of what it commits
-pub rows-snoc : (rows : List Row) (lines : List Placed) (row : Row) (p : Placed)
+pub rows-snoc : (rows : List NotedLine) (lines : List Placed) (row : NotedLine) (p : Placed)
     → AllZip (IsRowOf (versions_of lines)) rows lines → row.place ≡ p.place
     → slice_get (versions_of (lines ++ p ∷ [])) row.version ≡ Some p.instance
     → AllZip (IsRowOf (versions_of (lines ++ p ∷ []))) (rows ++ row ∷ []) (lines ++ p ∷ [])

@@ -5,17 +5,17 @@ use Rattle.std.specs.List.{AllZip}
 use Rattle.epx_types.specs.Instances.{Instance}
 use Rattle.epx_types.specs.PlacedLines.{Placed}
 use Rattle.epx_merge.specs.LogLines.{BadLineAt}
-use Rattle.epx_versions.specs.declared.noted.BadLine.{BadLine}
+use Rattle.epx_versions.specs.declared.noted.NotedBadLine.{NotedBadLine}
 use Rattle.epx_versions.specs.declared.noted.Noted.{Noted}
-use Rattle.epx_versions.specs.declared.noted.Row.{Row}
+use Rattle.epx_versions.specs.declared.noted.NotedLine.{NotedLine}
 use Rattle.epx_versions.specs.LineVersions.{versions_of}
 
 -- the row has the place of the line, and the number of what it commits
-pub record IsRowOf (versions : List Instance) (row : Row) (line : Placed) : Type 0 where
+pub record IsRowOf (versions : List Instance) (row : NotedLine) (line : Placed) : Type 0 where
   pub place : row.place ≡ line.place
   pub version : slice_get versions row.version ≡ Some line.instance
 
-abbrev pub bad_line_at : BadLine → BadLineAt
+abbrev pub bad_line_at : NotedBadLine → BadLineAt
 bad_line_at b = record { place = b.place; why = b.why }
 
 -- these lines, and these bad ones, are noted

@@ -9,6 +9,6 @@ mod version;
 mod version_notes;
 mod versions;
 
-pub use noted::{BadLine, Noted, Row};
+pub use noted::{Noted, NotedBadLine, NotedLine};
 pub use version_notes::VersionNotes;
 pub use versions::Versions;

@@ -15,14 +15,14 @@ use std::alloc::Global;
 
 /// A line that commits an instance: its place, and the number of what it commits.
 #[derive(Clone, Copy, Debug)]
-pub struct Row {
+pub struct NotedLine {
     pub place: Place,
     pub version: usize,
 }
 
 /// A line with a fault, and its reason.
 #[derive(Clone, Copy, Debug)]
-pub struct BadLine {
+pub struct NotedBadLine {
     pub place: Place,
     pub why: Why,
 }
@@ -31,8 +31,8 @@ pub struct BadLine {
 #[derive(Drop)]
 pub struct Noted {
     pub versions: Versions,
-    pub rows: Vec<Row>,
-    pub bad: Vec<BadLine>,
+    pub rows: Vec<NotedLine>,
+    pub bad: Vec<NotedBadLine>,
 }
 
 impl Noted {
@@ -63,7 +63,7 @@ impl Noted {
             (λ number. slice_get self.new.versions.keys number ≡ Some version.version) }
     {
         let number = self.versions.insert(version)?;
-        self.rows.push(Row {
+        self.rows.push(NotedLine {
             place,
             version: number,
         })?;
@@ -79,7 +79,7 @@ impl Noted {
             self.new) }
         ensures versions { OnOk result (self.new.versions ≡ self.old.versions) }
     {
-        self.rows.push(Row { place, version })?;
+        self.rows.push(NotedLine { place, version })?;
         Ok(())
     }
 
@@ -90,7 +90,7 @@ impl Noted {
             → AreNoted lines (bad ++ record { place = place; why = why } ∷ []) self.new) }
         ensures versions { OnOk result (self.new.versions ≡ self.old.versions) }
     {
-        self.bad.push(BadLine { place, why })?;
+        self.bad.push(NotedBadLine { place, why })?;
         Ok(())
     }
 }

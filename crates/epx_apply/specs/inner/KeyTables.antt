@@ -6,13 +6,13 @@ use Rattle.epx_types.specs.declared.op.Op.{Op}
 use Rattle.epx_types.specs.CommandKeys.{touched_by, written_by}
 use Rattle.epx_types.specs.Conflicts.{Conflict}
 use Rattle.epx_apply.specs.declared.key_table.KeyLevels.{KeyLevels}
-use Rattle.epx_apply.specs.declared.key_table.Access.{Access}
+use Rattle.epx_apply.specs.declared.key_table.TableAccess.{TableAccess}
 
 -- the keys by their numbers, the levels of each key, and the accesses of the current command
 pub record Table : Type 0 where
   pub keys : List (List ℕ)
   pub key_levels : List KeyLevels
-  pub accesses : List Access
+  pub accesses : List TableAccess
 
 abbrev pub no_levels : KeyLevels
 no_levels = record { writers = 0; touchers = 0 }
@@ -51,7 +51,7 @@ pub record IsKeyTableOf (done : List (List Op × ℕ)) (current : List (List ℕ
   pub writers : (x : ℕ) → x < length t.keys
       → IsLevelAbove written_in done (key_at t.keys x) (key_levels_at t.key_levels x).writers
   pub current_keys : map (λ a. (key_at t.keys a.key, a.writes)) t.accesses ≡ current
-  pub within : (a : Access) → Contains t.accesses a → a.key < length t.keys
+  pub within : (a : TableAccess) → Contains t.accesses a → a.key < length t.keys
 
 -- the new table has these further accesses of the current command
 abbrev pub AddsAccesses : List (List ℕ × Bool) → Table → Table → Type 0
@@ -59,12 +59,12 @@ AddsAccesses more old new = (done : List (List Op × ℕ)) (current : List (List
     → IsKeyTableOf done current old → IsKeyTableOf done (current ++ more) new
 
 -- the least level that one access allows
-abbrev pub level_for : List KeyLevels → Access → ℕ
+abbrev pub level_for : List KeyLevels → TableAccess → ℕ
 level_for key_levels a = if a.writes then (key_levels_at key_levels a.key).touchers else
     (key_levels_at key_levels a.key).writers
 
 -- the levels of the key of an access, raised to at least n
-abbrev pub raise : ℕ → List KeyLevels → Access → List KeyLevels
+abbrev pub raise : ℕ → List KeyLevels → TableAccess → List KeyLevels
 raise n key_levels a = slice_set key_levels a.key (record {
   writers = if a.writes then max (key_levels_at key_levels a.key).writers n else
       (key_levels_at key_levels a.key).writers;

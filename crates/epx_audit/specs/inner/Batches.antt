@@ -4,7 +4,7 @@ use Rattle.std.specs.Prelude.{◌≡◌, ◌↔◌, ℕ, ◌<◌, ◌≤◌, Lis
 use Rattle.epx_graph.specs.Graphs.{DependencyGraph, edges_of}
 use Rattle.epx_graph.specs.NodePaths.{NodeReaches}
 use Rattle.epx_components.specs.Partitions.{ComponentParts, number_for}
-use Rattle.epx_audit.specs.declared.batch.Batch.{Batch}
+use Rattle.epx_audit.specs.declared.batch.SourceBatch.{SourceBatch}
 use Rattle.epx_audit.specs.declared.doubtful_touches.DoubtfulTouch.{DoubtfulTouch}
 use Rattle.epx_audit.specs.inner.DoubtfulKeys.{ShareKey}
 use Rattle.epx_components.specs.ReadyMarks.{is_marked}
@@ -29,14 +29,14 @@ AreSharing touches sources words =
     IsTrue (has_bit b (slice_index words j))
 
 -- the batch has one word for each component and one for each node
-pub record IsWhole (p : ComponentParts) (ready : List Bool) (batch : Batch) : Type 0 where
+pub record IsWhole (p : ComponentParts) (ready : List Bool) (batch : SourceBatch) : Type 0 where
   pub counted : All (λ c. c < p.count) p.component
   pub components : (length batch.reached.items ≡ p.count) × (length batch.reaching.items ≡ p.count)
   pub nodes : (length batch.sharing.items ≡ length p.component)
       × (length ready ≡ length p.component)
 
 pub record IsBatch (g : DependencyGraph) (p : ComponentParts) (touches : List DoubtfulTouch)
-    (sources : List ℕ) (batch : Batch) : Type 0 where
+    (sources : List ℕ) (batch : SourceBatch) : Type 0 where
   pub few : length sources ≤ 64
   pub nodes : length p.component ≡ length g.ids
   pub whole : (length batch.reached.items ≡ p.count) × (length batch.reaching.items ≡ p.count)

@@ -4,10 +4,10 @@ use Rattle.std.specs.Prelude.{slice_index_or}
 use Rattle.std.specs.Int.{bit_at}
 use Rattle.epx_types.specs.declared.id.Id.{Id}
 use Rattle.epx_compare.specs.declared.log_set.LogSet.{LogSet}
-use Rattle.epx_versions.specs.declared.noted.Row.{Row}
+use Rattle.epx_versions.specs.declared.noted.NotedLine.{NotedLine}
 
 -- the row is of this log, and of the instance at this position
-abbrev pub is_line_in : List ℕ → ℕ → ℕ → Row → Bool
+abbrev pub is_line_in : List ℕ → ℕ → ℕ → NotedLine → Bool
 is_line_in positions log k row = (row.place.log == log) && (slice_index positions row.version == k)
 
 abbrev pub has_log : ℕ → LogSet → Bool

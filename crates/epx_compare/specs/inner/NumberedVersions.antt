@@ -4,7 +4,7 @@ use Rattle.std.specs.List.{list_any}
 use Rattle.epx_types.specs.declared.place.Place.{Place}
 use Rattle.epx_types.specs.Instances.{Instance}
 use Rattle.epx_compare.specs.declared.members.Members.{Members}
-use Rattle.epx_versions.specs.declared.noted.Row.{Row}
+use Rattle.epx_versions.specs.declared.noted.NotedLine.{NotedLine}
 use Rattle.epx_compare.specs.Differences.{named_if}
 use Rattle.epx_versions.specs.SameInstances.{same_seq, same_deps, same_ops}
 
@@ -19,7 +19,7 @@ differs_from same e versions numbers =
     list_any (λ v. not (same e (version_at versions v))) numbers
 
 -- past the last row, any place
-abbrev pub place_at : List Row → ℕ → Place
+abbrev pub place_at : List NotedLine → ℕ → Place
 place_at rows index = (slice_index_or rows index
     (record { place = record { log = 0; line = 0 }; version = 0 })).place
 

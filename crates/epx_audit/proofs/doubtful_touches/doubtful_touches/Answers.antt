@@ -1,7 +1,7 @@
 use Rattle.std.proofs.Common.{◌≡◌, ◌+◌, ◌++◌, ◌∷◌, [], get_or, Contains, sym, subst, ap, ◌∙◌}
 use Rattle.std.proofs.Common.{arith}
 use Rattle.std.proofs.lemmas.List.Elements.{Contains-get_or}
-use Rattle.epx_audit.specs.declared.touches.Touch.{Touch}
+use Rattle.epx_audit.specs.declared.touches.KeyUse.{KeyUse}
 use Rattle.epx_audit.specs.inner.DoubtfulKeys.{doubtful_touch}
 use Rattle.epx_audit.specs.inner.RelatedTouches.{touch_at}
 use Rattle.epx_audit.proofs.DoubtfulTouchLemmas.{AreFound, HoldFound, touch_at_index, found_more}
@@ -66,6 +66,6 @@ returns-clause-whole c t key h l is =
     let nodes = c.args.nodes.now in
     let at = touch_at_index touches hashes t h in
     let here : get_or hashes key 0 ≡ (touch_at touches h.0).hash =
-    is ∙ sym (ap (λ (t : Touch). t.hash) at) in
-    subst (λ (t : Touch). Contains c.loop-touch.found.items (doubtful_touch nodes key t)) at
+    is ∙ sym (ap (λ (t : KeyUse). t.hash) at) in
+    subst (λ (t : KeyUse). Contains c.loop-touch.found.items (doubtful_touch nodes key t)) at
     (c.loop-touch.invariant.all h.0 key (omega (arith, h.1, c.loop-touch-test.false)) l here)

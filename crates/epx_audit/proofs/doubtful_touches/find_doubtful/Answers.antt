@@ -1,7 +1,7 @@
 use Rattle.std.proofs.Common.{◌≡◌, ℕ, ◌<◌, All, Contains, length, get_or, sym, subst, ap, arith}
 use Rattle.std.proofs.lemmas.List.Elements.{All-contains}
 use Rattle.epx_graph.specs.Graphs.{edges_of}
-use Rattle.epx_audit.specs.declared.touches.Touch.{Touch}
+use Rattle.epx_audit.specs.declared.touches.KeyUse.{KeyUse}
 use Rattle.epx_audit.specs.inner.DoubtfulKeys.{doubtful_touch, AreInRange}
 use Rattle.epx_audit.specs.inner.RelatedTouches.{AreAllRelated}
 use Rattle.epx_audit.specs.inner.Touches.{HoldTouches}
@@ -78,11 +78,11 @@ returns c =
     let on = subst (λ ts. AreAllRelated (edges_of g) reach ts (length ts)) c.deref-5.ensures.value
     (c.in_ok-are_all_related.ensures c.if-not-branch.false) in
     let linked = subst (λ ns. AreAllRelated (edges_of g) ns sure (length sure)) same on in
-    let keeps : (t : Touch) → Contains touches t → ¬ Contains hashes t.hash
+    let keeps : (t : KeyUse) → Contains touches t → ¬ Contains hashes t.hash
     → Contains sure t = λ t h none. c.in_ok-sure.ensures.all t
     (subst (λ ts. Contains ts t) (sym c.deref-3.ensures.value) h)
     (subst (λ ds. ¬ Contains ds t.hash) (sym c.deref-4.ensures.value) none) in
-    let found : (t : Touch) (key : ℕ) → Contains touches t → key < length hashes
+    let found : (t : KeyUse) (key : ℕ) → Contains touches t → key < length hashes
     → get_or hashes key 0 ≡ t.hash → Contains doubtful (doubtful_touch nodes key t) =
     rw (c.deref-6.ensures.value, c.deref-7.ensures.value, c.deref-8.ensures.value, same) at
     c.in_ok-touches-2.ensures.whole in

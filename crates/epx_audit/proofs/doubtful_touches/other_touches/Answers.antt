@@ -1,5 +1,5 @@
 use Rattle.std.proofs.Common.{◌≡◌, ◌+◌, ◌++◌, ◌∷◌, [], not, Contains, sym, subst, ap, ◌∙◌, arith}
-use Rattle.epx_audit.specs.declared.touches.Touch.{Touch}
+use Rattle.epx_audit.specs.declared.touches.KeyUse.{KeyUse}
 use Rattle.epx_audit.specs.inner.RelatedTouches.{touch_at}
 use Rattle.epx_audit.proofs.DoubtfulTouchLemmas.{AreSome, HoldOthers, touch_at_index}
 use Rattle.epx_audit.proofs.DoubtfulTouchLemmas.{other_touches_more, hold_more, hold_same}
@@ -44,6 +44,6 @@ returns-clause-all c t h none =
     let sure = c.loop-touch.sure.items in
     let at = touch_at_index touches hashes t h in
     let apart : ¬ Contains hashes (touch_at touches h.0).hash =
-    subst (λ (t : Touch). ¬ Contains hashes t.hash) (sym at) none in
-    subst (λ (t : Touch). Contains sure t) at
+    subst (λ (t : KeyUse). ¬ Contains hashes t.hash) (sym at) none in
+    subst (λ (t : KeyUse). Contains sure t) at
     (c.loop-touch.invariant.all h.0 (omega (arith, h.1, c.loop-touch-test.false)) apart)

@@ -4,7 +4,7 @@ use Rattle.std.proofs.lemmas.List.{length-map}
 use Rattle.std.proofs.lemmas.Result.{IfOk-weaker}
 use Rattle.std.specs.List.{list_any}
 use Rattle.epx_types.specs.declared.id.Id.{Id}
-use Rattle.epx_versions.specs.declared.noted.Row.{Row}
+use Rattle.epx_versions.specs.declared.noted.NotedLine.{NotedLine}
 use Rattle.epx_versions.specs.LineVersions.{versions_of}
 use Rattle.epx_compare.specs.inner.Catalogs.{version_ids}
 use Rattle.epx_compare.specs.inner.LogMarks.{is_line_in}
@@ -21,7 +21,7 @@ mark_lines-requires-clause-versions c =
     let count : length c.deref-2.result.now ≡ length (versions_of lines) =
     ap length c.deref-2.ensures.value ∙ (as_many c.args.catalog.now.ids _
     (version_ids lines) catalog.positions ∙ length-map (versions_of lines) (λ e. e.id)) in
-    let P : List Row → ℕ → Type 0 = λ rows n. All (λ r. r.version < n) rows in
+    let P : List NotedLine → ℕ → Type 0 = λ rows n. All (λ r. r.version < n) rows in
     subst (λ rows. P rows (length c.deref-2.result.now)) (sym c.deref.ensures.value)
     (subst (P c.args.catalog.now.noted.rows.items) (sym count) named)
 

@@ -1,6 +1,6 @@
 use Rattle.std.proofs.Common.{◌∙◌, ◌+◌, max, List, map, fold, sym, ap₂, subst, flat_map, arith}
 use Rattle.std.proofs.lemmas.List.{with_items_is}
-use Rattle.epx_apply.specs.declared.key_table.Access.{Access}
+use Rattle.epx_apply.specs.declared.key_table.TableAccess.{TableAccess}
 use Rattle.epx_apply.specs.declared.key_table.KeyLevels.{KeyLevels}
 use Rattle.epx_types.specs.CommandKeys.{accesses_of}
 use Rattle.epx_apply.specs.inner.KeyTables.{Table, IsKeyTableOf, level_for, raise}
@@ -41,7 +41,7 @@ overflow_add-level c =
     (sym c.self.view_is) (adds_all_accesses c.args.ops.now c.loop-op.op-index c.args.self.now
     c.loop-op.self c.loop-op-test.false c.loop-op.invariant c.requires.0 c.requires.1) in
     let level = c.least_level-level.ensures ∙ ap₂
-    (λ (key_levels : List KeyLevels) (accesses : List Access).
+    (λ (key_levels : List KeyLevels) (accesses : List TableAccess).
     fold (λ level a. max level (level_for key_levels a)) 0 accesses) c.deref.ensures.value
     c.deref-2.ensures.value in
     omega (arith, level, level_small c.requires.0 c.args.ops.now t is, c.requires.2)
@@ -70,11 +70,11 @@ returns c done before =
     (adds_all_accesses c.args.ops.now c.loop-op.op-index c.args.self.now c.loop-op.self
     c.loop-op-test.false c.loop-op.invariant done before) in
     let level = c.least_level-level.ensures ∙ ap₂
-    (λ (key_levels : List KeyLevels) (accesses : List Access).
+    (λ (key_levels : List KeyLevels) (accesses : List TableAccess).
     fold (λ level a. max level (level_for key_levels a)) 0 accesses) c.deref.ensures.value
     c.deref-2.ensures.value in
     let key_levels = c.raise_levels.ensures ∙ ap₂
-    (λ (key_levels : List KeyLevels) (accesses : List Access).
+    (λ (key_levels : List KeyLevels) (accesses : List TableAccess).
     fold (raise (c.least_level-level.result + 1)) key_levels accesses)
     c.deref_mut.ensures.value c.deref-3.ensures.value in
     let written = with_items_is c.self.inside.key_levels c.raise_levels.new.key_levels

@@ -2,7 +2,7 @@ use Rattle.std.proofs.Common.{◌≡◌, ◌∙◌, ◌∷◌, ◌++◌, [], Som
 use Rattle.std.specs.List.{AllZip}
 use Rattle.indexmap.specs.IndexSet.{insert_key}
 use Rattle.epx_types.specs.PlacedLines.{Placed}
-use Rattle.epx_versions.specs.declared.noted.Row.{Row}
+use Rattle.epx_versions.specs.declared.noted.NotedLine.{NotedLine}
 use Rattle.epx_versions.specs.LineVersions.{versions_of}
 use Rattle.epx_versions.specs.SameInstances.{same_instance}
 use Rattle.epx_versions.specs.NotedRows.{IsRowOf}
@@ -19,7 +19,7 @@ returns-clause-noted c lines bad seed noted hashed own =
     ∙ sym (versions_of-snoc lines p)) in
     let version : slice_get (versions_of (lines ++ p ∷ [])) n ≡ Some p.instance =
     ap (λ ks. slice_get ks n) (sym keys) ∙ c.in_ok-number.ensures.number in
-    let row : Row = record { place = c.args.place; version = n } in (
+    let row : NotedLine = record { place = c.args.place; version = n } in (
       record {
         versions = keys;
         rows = subst (λ rs. AllZip (IsRowOf (versions_of (lines ++ p ∷ []))) rs (lines ++ p ∷ []))

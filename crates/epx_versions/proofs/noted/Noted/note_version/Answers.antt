@@ -2,7 +2,7 @@ use Rattle.std.proofs.Common.{◌≡◌, ◌∙◌, ◌∷◌, ◌++◌, [], Som
 use Rattle.std.specs.List.{AllZip}
 use Rattle.epx_types.proofs.lists.ListPositionLemmas.{Contains-slice_get}
 use Rattle.epx_types.specs.PlacedLines.{Placed}
-use Rattle.epx_versions.specs.declared.noted.Row.{Row}
+use Rattle.epx_versions.specs.declared.noted.NotedLine.{NotedLine}
 use Rattle.epx_versions.specs.NotedRows.{IsRowOf}
 use Rattle.epx_versions.specs.LineVersions.{versions_of}
 use Rattle.epx_versions.proofs.VersionLemmas.{versions_of-repeat, rows-snoc}
@@ -15,7 +15,7 @@ returns-clause-noted c lines bad instance found noted =
     ap (λ ks. slice_get ks c.args.version) (sym noted.versions) ∙ found in
     let same = versions_of-repeat lines p
     (Contains-slice_get (versions_of lines) c.args.version instance at) in
-    let row : Row = record { place = c.args.place; version = c.args.version } in
+    let row : NotedLine = record { place = c.args.place; version = c.args.version } in
     record {
       versions = noted.versions ∙ sym same;
       rows = subst (λ rs. AllZip (IsRowOf (versions_of (lines ++ p ∷ []))) rs (lines ++ p ∷ []))

@@ -2,13 +2,13 @@ use Rattle.std.proofs.Common.{◌≡◌, ℕ, ◌<◌, List, Bool, length, get_o
 use Rattle.std.proofs.lemmas.List.{get_or_read}
 use Rattle.std.proofs.lemmas.List.Elements.{All-get_or}
 use Rattle.epx_components.specs.Partitions.{ComponentParts, parts, component_of, number_for}
-use Rattle.epx_audit.specs.declared.batch.Batch.{Batch}
+use Rattle.epx_audit.specs.declared.batch.SourceBatch.{SourceBatch}
 use Rattle.epx_audit.specs.inner.Batches.{IsWhole}
 use Rattle.epx_audit.proofs.BatchLemmas.{apart_by_bits, related_or_free_by_bits}
-use Rattle.epx_audit.proofs.batch.Batch.candidates.Goals as goal
+use Rattle.epx_audit.proofs.batch.SourceBatch.candidates.Goals as goal
 
 -- the words of a node and of its component
-read_words : (p : ComponentParts) {ready : List Bool} (words : Batch)
+read_words : (p : ComponentParts) {ready : List Bool} (words : SourceBatch)
     (node own sharing reached reaching : ℕ) → IsWhole p ready words → node < length p.component
     → own ≡ get_or p.component node own → sharing ≡ get_or words.sharing.items node sharing
     → reached ≡ get_or words.reached.items own reached

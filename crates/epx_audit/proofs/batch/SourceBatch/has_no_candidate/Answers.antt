@@ -4,7 +4,7 @@ use Rattle.epx_graph.specs.Graphs.{edges_of}
 use Rattle.epx_audit.specs.inner.DoubtfulKeys.{IsRelatedOrFree}
 use Rattle.epx_audit.specs.inner.SourceBits.{has_bit}
 use Rattle.epx_audit.proofs.BitLemmas.{no_bit}
-use Rattle.epx_audit.proofs.batch.Batch.has_no_candidate.Goals as goal
+use Rattle.epx_audit.proofs.batch.SourceBatch.has_no_candidate.Goals as goal
 
 pub loop-node-preserved : goal.loop-node-preserved
 loop-node-preserved c g touches sources b j batch within below =

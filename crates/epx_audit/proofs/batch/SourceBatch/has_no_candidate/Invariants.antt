@@ -4,7 +4,7 @@ use Rattle.epx_components.specs.Partitions.{parts}
 use Rattle.epx_audit.specs.declared.doubtful_touches.DoubtfulTouch.{DoubtfulTouch}
 use Rattle.epx_audit.specs.inner.Batches.{IsBatch}
 use Rattle.epx_audit.specs.inner.DoubtfulKeys.{IsRelatedOrFree}
-use Rattle.epx_audit.proofs.batch.Batch.has_no_candidate.Given as goal
+use Rattle.epx_audit.proofs.batch.SourceBatch.has_no_candidate.Given as goal
 
 abbrev pub invariant-loop-node : goal.invariant-loop-node
 invariant-loop-node l = (g : DependencyGraph) (touches : List DoubtfulTouch) (sources : List ℕ)

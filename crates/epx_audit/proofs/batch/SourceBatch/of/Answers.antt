@@ -1,5 +1,5 @@
 use Rattle.std.proofs.Common.{length, ap, arith}
-use Rattle.epx_audit.proofs.batch.Batch.of.Goals as goal
+use Rattle.epx_audit.proofs.batch.SourceBatch.of.Goals as goal
 
 pub sharing_marks-requires-clause-doubtful : goal.sharing_marks-requires-clause-doubtful
 sharing_marks-requires-clause-doubtful c t h =
