@@ -5,6 +5,7 @@
 
 mod base_waiters;
 mod early;
+mod explain;
 mod key_users;
 mod left_out;
 mod list_nodes;
@@ -19,6 +20,7 @@ mod trace;
 mod verdict;
 mod verdict_line;
 
+pub use explain::explain_answer;
 pub use resume::explain_resume;
 pub use trace::explain_trace;
 pub use verdict::explain_verdict;

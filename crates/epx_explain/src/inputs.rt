@@ -1,12 +1,13 @@
 //! The inputs that a command line names.
 use crate::shown::show_text;
+use epx_names::Task;
 use epx_types::Memory;
 use std::alloc::Global;
 use std::fmt;
 
 /// What the first path of a command line names. It is read after the logs.
 #[derive(Clone, Copy, Debug)]
-pub enum FirstInput {
+pub(crate) enum FirstInput {
     /// A log, as all other paths.
     None,
     /// The report from which a run resumes.
@@ -71,13 +72,9 @@ impl<'a> Input<'a> {
 /// The inputs of a command.
 #[derive(Clone, Copy)]
 pub struct Inputs<'a> {
-    /// The paths of the command line. If there are none, log 0 is standard input.
-    pub paths: Option<&'a [String]>,
-    /// What the first path names.
-    pub first: FirstInput,
-    /// By the index of a path, the bytes that were kept while it was read. None for a file that
-    /// can be read again. The slice may end before the paths do: nothing was kept of the others.
-    pub kept: &'a [Option<Vec<u8>>],
+    paths: Option<&'a [String]>,
+    first: FirstInput,
+    kept: &'a [Option<Vec<u8>>],
 }
 
 fn origin_at<'a>(paths: Option<&'a [String]>, index: usize) -> Origin<'a> {
@@ -91,7 +88,34 @@ fn origin_at<'a>(paths: Option<&'a [String]>, index: usize) -> Origin<'a> {
     }
 }
 
+/// What the first path of a task names.
+fn first_of(task: Task) -> FirstInput {
+    match task {
+        Task::Resume => FirstInput::Base,
+        Task::Check | Task::CheckPrefix => FirstInput::List,
+        _ => FirstInput::None,
+    }
+}
+
 impl<'a> Inputs<'a> {
+    /// The inputs of a task. If there are no paths, log 0 is standard input.
+    ///
+    /// `kept` has, by the index of a path, the bytes that were kept while it was read. It has None
+    /// for a file that can be read again. The slice may end before the paths do: nothing was kept
+    /// of the others.
+    pub fn of_task(
+        task: Task,
+        paths: &'a Option<Vec<String>>,
+        kept: &'a [Option<Vec<u8>>],
+    ) -> Inputs<'a> {
+        let paths = match paths {
+            Some(paths) => Some(paths.as_slice()),
+            None => None,
+        };
+        let first = first_of(task);
+        Inputs { paths, first, kept }
+    }
+
     fn at(&self, role: Role, index: usize) -> Input<'a> {
         let kept = match self.kept.get(index) {
             Some(Some(bytes)) => Some(bytes.as_slice()),

@@ -25,4 +25,4 @@ mod shown;
 pub use comparison::explain_comparison;
 pub use contents::{Contents, read_first_again};
 pub use explain::explain_fault;
-pub use inputs::{FirstInput, Inputs};
+pub use inputs::Inputs;

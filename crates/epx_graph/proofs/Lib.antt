@@ -12,4 +12,6 @@ mod GatherRowLemmas
 mod BuildLemmas
 pub mod GraphExistenceLemmas
 mod SearchLemmas
+pub mod NodeStepLemmas
+mod LeastMissingLemmas
 mod WaiterLemmas

@@ -1,325 +1,27 @@
--- The search backwards from the missing nodes finds the least one that each committed node
--- reaches.
-use Rattle.std.proofs.Common.{◌≡◌, ◌⊎◌, inl, inr, ℕ, ◌+◌, ◌<◌, ◌≤◌, true, false, not, cond, List}
-use Rattle.std.proofs.Common.{[], ◌∷◌, ◌++◌, length, take, get_or, set, replicate, Option, Some}
-use Rattle.std.proofs.Common.{None, is_some, Contains, All, refl, sym, ap, subst, ◌∙◌, arith}
-use Rattle.std.proofs.lemmas.Bool.{cases_lt}
+-- The search level by level marks each node for the first start that leads to it.
+use Rattle.std.proofs.Common.{◌≡◌, ◌⊎◌, inl, inr, ℕ, zero, suc, ◌+◌, ◌<◌, ◌≤◌, true, false, not}
+use Rattle.std.proofs.Common.{cond, List, [], ◌∷◌, ◌++◌, length, take, drop, get_or, set, replicate}
+use Rattle.std.proofs.Common.{Option, Some, None, is_some, Contains, flat_map, refl, sym, ap}
+use Rattle.std.proofs.Common.{subst, ◌∙◌, arith}
+use Rattle.std.proofs.lemmas.Bool.{cases_lt, cases_eq}
 use Rattle.std.proofs.lemmas.List.{take_more, length-set, length_push, length-replicate}
 use Rattle.std.proofs.lemmas.List.{get_or-set_same, get_or-set_other, get_or-replicate}
-use Rattle.std.proofs.lemmas.List.{get_or_past}
-use Rattle.std.proofs.lemmas.List.Elements.{All-nil, All-cons, All-get_or, All-contains}
-use Rattle.std.proofs.lemmas.List.Elements.{All-from_get_or, All-weaker, All-contains_itself}
-use Rattle.std.proofs.lemmas.List.Elements.{Contains-append_left, Contains-push}
-use Rattle.std.proofs.lemmas.List.Elements.{Contains-push_cases}
-use Rattle.std.proofs.lemmas.List.Sums.{sum_by-set}
+use Rattle.std.proofs.lemmas.Grind.{flat_map-append}
+use Rattle.std.proofs.lemmas.List.{get_or_past, append-nil, length-drop, nil_from_length, take_all}
+use Rattle.std.proofs.lemmas.List.Elements.{Contains-append_left, Contains-append_right}
+use Rattle.std.proofs.lemmas.List.Elements.{Contains-append_cases}
+use Rattle.std.proofs.lemmas.List.Elements.{Contains-push, Contains-push_cases}
+use Rattle.std.proofs.lemmas.List.Sums.{sum_by-set, count_by-le-length}
 use Rattle.epx_types.proofs.lists.MembershipLemmas.{Contains-nil, Contains-head}
-use Rattle.epx_types.proofs.lists.MembershipLemmas.{Contains-cons_cases}
+use Rattle.epx_types.proofs.lists.MembershipLemmas.{Contains-cons_cases, Contains-flat_map}
+use Rattle.epx_types.proofs.lists.MembershipLemmas.{Contains-from_flat_map}
 use Rattle.epx_types.proofs.lists.SearchLemmas.{value_of_some, none_from_test}
-use Rattle.epx_graph.specs.Graphs.{DependencyGraph, edges_of, IsGraph}
-use Rattle.epx_graph.specs.NodePaths.{IsNodePath, NodeReaches}
-use Rattle.epx_graph.specs.inner.LeastMissing.{IsLeastMissing, node_mark, AreMarksOf}
-use Rattle.epx_rows.specs.Rows.{row_of, AreTransposed}
-use Rattle.epx_graph.specs.inner.Searches.{SearchView, IsMarked, steps_left, IsVisit}
-use Rattle.epx_graph.specs.inner.Searches.{IsMissingSearch, IsSpreadFrom, BeginsFrom}
-use Rattle.epx_graph.proofs.GraphNodeLemmas.{edge_from_committed}
-use Rattle.std.proofs.lemmas.Bool.{cases_eq}
+use Rattle.epx_rows.specs.Rows.{row_of}
+use Rattle.epx_graph.specs.inner.Searches.{LeadsIn, node_mark, IsMarked, SearchView, left_to_do}
+use Rattle.epx_graph.specs.inner.Searches.{IsVisit, IsNewMark, IsLevelSearch, AreClosed}
+use Rattle.epx_graph.specs.inner.Searches.{IsSearchFrom, AreFirstMarks}
 
--- ---- marks of nodes
-
-module _ (nodes : List ℕ) (root : ℕ) (old new : SearchView) (x : ℕ)
-    (is : IsVisit nodes root old new) where
-  -- a node that has a mark
-  pub visits_skip : IsMarked new.marks x → IsVisit (nodes ++ x ∷ []) root old new
-  visits_skip has = record {
-    len = is.len;
-    kept = is.kept;
-    marked = λ k z h. elim (is.marked k z h) [
-      | inl was ↦ inl was
-      | inr (none, among, at, on) ↦ inr (none, Contains-append_left nodes (x ∷ []) k among, at, on)
-    ];
-    all = λ k h. elim (Contains-push_cases nodes x k h) [
-      | inl among ↦ is.all k among
-      | inr last ↦ subst (IsMarked new.marks) last has
-    ];
-    stacked = is.stacked;
-    from = λ k h. elim (is.from k h) [
-      | inl was ↦ inl was
-      | inr among ↦ inr (Contains-append_left nodes (x ∷ []) k among)
-    ];
-    same_work = is.same_work;
-  }
-
-  -- a node that has no mark
-  pub visits_mark : node_mark new.marks x ≡ None → x < length new.marks
-      → IsVisit (nodes ++ x ∷ []) root old
-      (record { marks = set new.marks x (Some root); stack = new.stack ++ x ∷ [] })
-  visits_mark none l = record {
-    len = length-set new.marks x (Some root) ∙ is.len;
-    kept = kept;
-    marked = marked;
-    all = λ k h. elim (Contains-push_cases nodes x k h) [
-      | inl among ↦ let was = is.all k among in still k was.0 was.1
-      | inr last ↦ (root, ap (node_mark (set new.marks x (Some root))) (sym last) ∙ now)
-    ];
-    stacked = λ k h. Contains-append_left new.stack (x ∷ []) k (is.stacked k h);
-    from = λ k h. elim (Contains-push_cases new.stack x k h) [
-      | inl on ↦ elim (is.from k on) [
-        | inl was ↦ inl was
-        | inr among ↦ inr (Contains-append_left nodes (x ∷ []) k among)
-      ]
-      | inr last ↦ inr (subst (Contains (nodes ++ x ∷ [])) last (Contains-push nodes x))
-    ];
-    same_work = same_work;
-  } where
-    now : node_mark (set new.marks x (Some root)) x ≡ Some root
-    now = get_or-set_same new.marks x (Some root) None l
-
-    still : (k z : ℕ) → node_mark new.marks k ≡ Some z → IsMarked (set new.marks x (Some root)) k
-    still k z h =
-        elim (cases_eq k x) [
-          | inl same ↦ (root, ap (node_mark (set new.marks x (Some root))) same ∙ now)
-          | inr other ↦ (z, get_or-set_other new.marks x k (Some root) None other ∙ h)
-        ]
-
-    kept : (k z : ℕ) → node_mark old.marks k ≡ Some z
-        → node_mark (set new.marks x (Some root)) k ≡ Some z
-    kept k z h =
-        let had = is.kept k z h in
-        elim (cases_eq k x) [
-          | inl same ↦
-              let at : node_mark new.marks k ≡ None = ap (node_mark new.marks) same ∙ none in
-              absurd (cc (had, at))
-          | inr other ↦ get_or-set_other new.marks x k (Some root) None other ∙ had
-        ]
-
-    unmarked_before : node_mark old.marks x ≡ None
-    unmarked_before = by (node_mark old.marks x) refl where
-      by : (o : Option ℕ) → node_mark old.marks x ≡ o → node_mark old.marks x ≡ None
-      by None e = e
-      by (Some z) e = let had = is.kept x z e in absurd (cc (had, none))
-
-    marked : (k z : ℕ) → node_mark (set new.marks x (Some root)) k ≡ Some z
-        → (node_mark old.marks k ≡ Some z)
-        ⊎ ((node_mark old.marks k ≡ None) × Contains (nodes ++ x ∷ []) k × (z ≡ root)
-        × Contains (new.stack ++ x ∷ []) k)
-    marked k z h =
-        elim (cases_eq k x) [
-          | inl same ↦
-              let one : Some root ≡ Some z =
-              sym now ∙ ap (node_mark (set new.marks x (Some root))) (sym same) ∙ h in
-              let at : root ≡ z = cc one in
-              inr (
-                ap (node_mark old.marks) same ∙ unmarked_before,
-                subst (Contains (nodes ++ x ∷ [])) (sym same) (Contains-push nodes x),
-                sym at,
-                subst (Contains (new.stack ++ x ∷ [])) (sym same) (Contains-push new.stack x),
-              )
-          | inr other ↦ elim (is.marked k z
-              (sym (get_or-set_other new.marks x k (Some root) None other) ∙ h)) [
-                | inl was ↦ inl was
-                | inr (none, among, at, on) ↦ inr (
-                  none,
-                  Contains-append_left nodes (x ∷ []) k among,
-                  at,
-                  Contains-append_left new.stack (x ∷ []) k on,
-                )
-              ]
-        ]
-
-    same_work : steps_left
-        (record { marks = set new.marks x (Some root); stack = new.stack ++ x ∷ [] })
-        ≡ steps_left old
-    same_work =
-        let f = λ (mark : Option ℕ). cond (not (is_some mark)) 1 0 in
-        let counted = sum_by-set f new.marks x (Some root) None l in
-        let had : f (get_or new.marks x None) ≡ 1 = ap f none in
-        omega (arith, counted, had, length_push new.stack x, is.same_work)
-
--- ---- one more node to mark
-
-pub visit_skip : (nodes : List ℕ) (i root : ℕ) (old new : SearchView) (mark : Option ℕ)
-    → i < length nodes → mark ≡ node_mark new.marks (get_or nodes i 0) → is_some mark ≡ true
-    → IsVisit (take i nodes) root old new → IsVisit (take (i + 1) nodes) root old new
-visit_skip nodes i root old new mark l at some is =
-    let has = value_of_some mark some in
-    subst (λ (xs : List ℕ). IsVisit xs root old new) (sym (take_more nodes i 0 l))
-    (visits_skip (take i nodes) root old new (get_or nodes i 0) is (has.0, sym at ∙ has.1))
-
-pub visit_mark : (nodes : List ℕ) (i root : ℕ) (old new : SearchView) (mark : Option ℕ)
-    → i < length nodes → mark ≡ node_mark new.marks (get_or nodes i 0) → is_some mark ≡ false
-    → get_or nodes i 0 < length new.marks → IsVisit (take i nodes) root old new
-    → IsVisit (take (i + 1) nodes) root old
-    (record {
-      marks = set new.marks (get_or nodes i 0) (Some root);
-      stack = new.stack ++ get_or nodes i 0 ∷ [];
-    })
-visit_mark nodes i root old new mark l at none within is =
-    let after : SearchView = record {
-      marks = set new.marks (get_or nodes i 0) (Some root);
-      stack = new.stack ++ get_or nodes i 0 ∷ [];
-    } in
-    subst (λ (xs : List ℕ). IsVisit xs root old after) (sym (take_more nodes i 0 l))
-    (visits_mark (take i nodes) root old new (get_or nodes i 0) is
-    (sym at ∙ none_from_test mark none) within)
-
--- ---- one node visited
-
-module _ (g : DependencyGraph) (graph : IsGraph g) (root : ℕ) (sources : List (List ℕ))
-    (transpose : AreTransposed g.edges sources) where
-  module _ (old : SearchView) (rest : List ℕ) (node : ℕ) (new : SearchView)
-      (top : old.stack ≡ rest ++ node ∷ []) (is : IsMissingSearch g root old)
-      (visits : IsVisit (row_of sources node) root (record { marks = old.marks; stack = rest })
-      new) where
-    node_leads : NodeReaches (edges_of g) node root
-    node_leads =
-        is.leads node (subst (λ (l : List ℕ). Contains l node) (sym top) (Contains-push rest node))
-
-    source_leads : (k : ℕ) → Contains (row_of sources node) k → NodeReaches (edges_of g) k root
-    source_leads k h = (node ∷ node_leads.0, ((transpose k node).1 h, node_leads.1))
-
-    new_mark : (k : ℕ) → node_mark old.marks k ≡ None → Contains (row_of sources node) k
-        → g.committed ≤ root → IsLeastMissing g k root
-    new_mark k none h missing = record {
-      missing = missing;
-      reached = source_leads k h;
-      least = λ z from there. elim (cases_lt z root) [
-        | inl lower ↦ absurd
-            (is.clear k z (edge_from_committed g graph k node ((transpose k node).1 h)) none from
-            lower there)
-        | inr not_lower ↦ not_lower
-      ];
-    }
-
-    none_before : (k : ℕ) → node_mark new.marks k ≡ None → node_mark old.marks k ≡ None
-    none_before k none = by (node_mark old.marks k) refl where
-      by : (o : Option ℕ) → node_mark old.marks k ≡ o → node_mark old.marks k ≡ None
-      by None e = e
-      by (Some z) e = let had = visits.kept k z e in absurd (cc (had, none))
-
-    -- a node on the stack is still there, or its sources are marked
-    followed : (k j : ℕ) → Contains (edges_of g k) j → Contains old.stack j
-        → Contains new.stack j ⊎ IsMarked new.marks k
-    followed k j edge on =
-        elim (Contains-push_cases rest node j (subst (λ (l : List ℕ). Contains l j) top on)) [
-          | inl below ↦ inl (visits.stacked j below)
-          | inr last ↦ inr
-              (visits.all k
-              ((transpose k node).0 (subst (Contains (edges_of g k)) (sym last) edge)))
-        ]
-
-    stays : (k j : ℕ) → Contains (edges_of g k) j → Contains old.stack j ⊎ IsMarked old.marks k
-        → Contains new.stack j ⊎ IsMarked new.marks k
-    stays k j edge (inl on) = followed k j edge on
-    stays k j edge (inr had) = inr (had.0, visits.kept k had.0 had.1)
-
-    pub search_step : g.committed ≤ root → IsMissingSearch g root new
-    search_step missing = record {
-      len = visits.len ∙ is.len;
-      sound = λ k z h. elim (visits.marked k z h) [
-        | inl was ↦ is.sound k z was
-        | inr (none, among, at, on) ↦ subst (IsLeastMissing g k) (sym at)
-            (new_mark k none among missing)
-      ];
-      clear = λ k z l none from lower. is.clear k z l (none_before k none) from lower;
-      leads = λ k h. elim (visits.from k h) [
-        | inl below ↦ is.leads k
-            (subst (λ (l : List ℕ). Contains l k) (sym top)
-            (Contains-append_left rest (node ∷ []) k below))
-        | inr among ↦ source_leads k among
-      ];
-      closed = λ k j edge reached. elim reached [
-        | inl at ↦ stays k j edge (is.closed k j edge (inl at))
-        | inr has ↦ elim (visits.marked j has.0 has.1) [
-          | inl was ↦ stays k j edge (is.closed k j edge (inr (has.0, was)))
-          | inr (none, among, at, on) ↦ inl on
-        ]
-      ];
-    }
-
--- ---- a root
-
-pub spreading_first : (sources : List (List ℕ)) (root : ℕ) (marks : List (Option ℕ))
-    (stack : List ℕ) → stack ≡ root ∷ [] → root < length sources
-    → IsSpreadFrom sources root marks (record { marks = marks; stack = stack })
-spreading_first sources root marks stack is l = record {
-  within = subst (All (λ k. k < length sources)) (sym is)
-      (All-cons (λ k. k < length sources) root [] l (All-nil (λ k. k < length sources)));
-  len = refl;
-  search = λ g graph transpose missing begins.
-      subst (λ (st : List ℕ). IsMissingSearch g root (record { marks = marks; stack = st }))
-      (sym is) begins;
-}
-
-pub spreading_step : (sources : List (List ℕ)) (root : ℕ) (marks : List (Option ℕ))
-    (old new : SearchView) (rest : List ℕ) (node : ℕ)
-    → All (λ row. All (λ k. k < length marks) row) sources → length marks ≤ length sources
-    → old.stack ≡ rest ++ node ∷ [] → node < length sources
-    → IsVisit (row_of sources node) root (record { marks = old.marks; stack = rest }) new
-    → IsSpreadFrom sources root marks old → IsSpreadFrom sources root marks new
-spreading_step sources root marks old new rest node rows nodes top l visits is = record {
-  within = All-weaker (Contains new.stack) (λ k. k < length sources) within new.stack
-      (All-contains_itself new.stack);
-  len = visits.len ∙ is.len;
-  search = λ g graph transpose missing begins. search_step g graph root sources transpose old rest
-      node new top (is.search g graph transpose missing begins) visits missing;
-} where
-  within : (k : ℕ) → Contains new.stack k → k < length sources
-  within k h =
-      elim (visits.from k h) [
-        | inl below ↦ All-contains (λ i. i < length sources) old.stack k is.within
-            (subst (λ (st : List ℕ). Contains st k) (sym top)
-            (Contains-append_left rest (node ∷ []) k below))
-        | inr among ↦
-            let row = All-get_or (λ (r : List ℕ). All (λ i. i < length marks) r) sources node [] l
-            rows in
-            let small = All-contains (λ i. i < length marks) (row_of sources node) k row among in
-            omega arith
-      ]
-
--- ---- from root to root
-
-module _ (g : DependencyGraph) (root : ℕ) (marks : List (Option ℕ))
-    (is : IsMissingSearch g root (record { marks = marks; stack = [] })) where
-  -- a node that reaches the root is marked
-  reached_marked : (k : ℕ) (cs : List ℕ) → IsNodePath (edges_of g) k cs root
-      → (k ≡ root) ⊎ IsMarked marks k
-  reached_marked k [] path = inl path
-  reached_marked k (c ∷ cs) path =
-      elim (is.closed k c path.0 (reached_marked c cs path.1)) [
-        | inl on ↦ absurd (Contains-nil c on)
-        | inr has ↦ inr has
-      ]
-
-  pub search_next : g.committed ≤ root → BeginsFrom g (root + 1) marks
-  search_next missing = record {
-    len = is.len;
-    sound = is.sound;
-    clear = clear;
-    leads = λ k h. elim (Contains-cons_cases (root + 1) [] k h) [
-      | inl at ↦ ([], sym at)
-      | inr none ↦ absurd (Contains-nil k none)
-    ];
-    closed = λ k j edge reached. elim reached [
-      | inl at ↦ inl (subst (Contains ((root + 1) ∷ [])) (sym at) (Contains-head (root + 1) []))
-      | inr has ↦ elim (is.closed k j edge (inr has)) [
-        | inl on ↦ absurd (Contains-nil j on)
-        | inr too ↦ inr too
-      ]
-    ];
-  } where
-    clear : (k z : ℕ) → k < g.committed → node_mark marks k ≡ None → g.committed ≤ z → z < root + 1
-        → ¬ NodeReaches (edges_of g) k z
-    clear k z l none from lower there =
-        elim (cases_lt z root) [
-          | inl before ↦ is.clear k z l none from before there
-          | inr not_before ↦
-              let at : z ≡ root = omega arith in
-              elim (reached_marked k there.0
-              (subst (IsNodePath (edges_of g) k there.0) at there.1)) [
-                | inl same ↦ absurd (omega arith)
-                | inr has ↦ let had = has.1 in absurd (cc (had, none))
-              ]
-        ]
+-- ---- marks
 
 no_mark : (n k : ℕ) → node_mark (replicate n None) k ≡ None
 no_mark n k =
@@ -329,36 +31,380 @@ no_mark n k =
           (omega (arith, length-replicate {A = Option ℕ} n None))
     ]
 
--- before the first root
-pub search_first : (g : DependencyGraph) → BeginsFrom g g.committed (replicate g.committed None)
-search_first g = record {
-  len = length-replicate g.committed None;
-  sound = λ k z h. let none = no_mark g.committed k in absurd (cc (h, none));
-  clear = λ k z l none from lower. absurd (omega arith);
-  leads = λ k h. elim (Contains-cons_cases g.committed [] k h) [
-    | inl at ↦ ([], sym at)
-    | inr none ↦ absurd (Contains-nil k none)
+-- a node that has no mark had none, if marks are kept
+none_before : (old new : List (Option ℕ))
+    → ((k m : ℕ) → node_mark old k ≡ Some m → node_mark new k ≡ Some m) → (k : ℕ)
+    → node_mark new k ≡ None → node_mark old k ≡ None
+none_before old new kept k none = by (node_mark old k) refl where
+  by : (o : Option ℕ) → node_mark old k ≡ o → node_mark old k ≡ None
+  by None e = e
+  by (Some m) e = let had = kept k m e in absurd (cc (had, none))
+
+-- a node is marked, if it cannot be without a mark
+pub marked_if_not_none : (marks : List (Option ℕ)) (k : ℕ) → ¬ (node_mark marks k ≡ None)
+    → IsMarked marks k
+marked_if_not_none marks k some = by (node_mark marks k) refl where
+  by : (o : Option ℕ) → node_mark marks k ≡ o → IsMarked marks k
+  by None e = absurd (some e)
+  by (Some m) e = (m, e)
+
+-- ---- one more target
+
+module _ (targets : List ℕ) (mark : ℕ) (old new : SearchView) (x : ℕ)
+    (is : IsVisit targets mark old new) where
+  -- a target that has a mark
+  visits_skip : IsMarked new.marks x → IsVisit (targets ++ x ∷ []) mark old new
+  visits_skip has = record {
+    len = is.len;
+    kept = is.kept;
+    marked = λ k m h. elim (is.marked k m h) [
+      | inl was ↦ inl was
+      | inr (none, among, at, on) ↦ inr
+          (none, Contains-append_left targets (x ∷ []) k among, at, on)
+    ];
+    all = λ k h. elim (Contains-push_cases targets x k h) [
+      | inl among ↦ is.all k among
+      | inr last ↦ subst (IsMarked new.marks) last has
+    ];
+    stays = is.stays;
+    from = λ k h. elim (is.from k h) [
+      | inl was ↦ inl was
+      | inr among ↦ inr (Contains-append_left targets (x ∷ []) k among)
+    ];
+    same_work = is.same_work;
+  }
+
+  -- a target that has none
+  visits_mark : node_mark new.marks x ≡ None → x < length new.marks
+      → IsVisit (targets ++ x ∷ []) mark old
+      (record { marks = set new.marks x (Some mark); level = new.level ++ x ∷ [] })
+  visits_mark none l = record {
+    len = length-set new.marks x (Some mark) ∙ is.len;
+    kept = λ k m h. still k m (is.kept k m h);
+    marked = marked;
+    all = λ k h. elim (Contains-push_cases targets x k h) [
+      | inl among ↦ let was = is.all k among in (was.0, still k was.0 was.1)
+      | inr last ↦ (mark, ap (node_mark (set new.marks x (Some mark))) (sym last) ∙ now)
+    ];
+    stays = λ k h. Contains-append_left new.level (x ∷ []) k (is.stays k h);
+    from = λ k h. elim (Contains-push_cases new.level x k h) [
+      | inl on ↦ elim (is.from k on) [
+        | inl was ↦ inl was
+        | inr among ↦ inr (Contains-append_left targets (x ∷ []) k among)
+      ]
+      | inr last ↦ inr (subst (Contains (targets ++ x ∷ [])) last (Contains-push targets x))
+    ];
+    same_work = same_work;
+  } where
+    now : node_mark (set new.marks x (Some mark)) x ≡ Some mark
+    now = get_or-set_same new.marks x (Some mark) None l
+
+    still : (k m : ℕ) → node_mark new.marks k ≡ Some m
+        → node_mark (set new.marks x (Some mark)) k ≡ Some m
+    still k m h =
+        elim (cases_eq k x) [
+          | inl same ↦
+              let at : node_mark new.marks k ≡ None = ap (node_mark new.marks) same ∙ none in
+              absurd (cc (h, at))
+          | inr other ↦ get_or-set_other new.marks x k (Some mark) None other ∙ h
+        ]
+
+    marked : (k m : ℕ) → node_mark (set new.marks x (Some mark)) k ≡ Some m
+        → (node_mark old.marks k ≡ Some m)
+        ⊎ ((node_mark old.marks k ≡ None) × Contains (targets ++ x ∷ []) k × (m ≡ mark)
+        × Contains (new.level ++ x ∷ []) k)
+    marked k m h =
+        elim (cases_eq k x) [
+          | inl same ↦
+              let one : Some mark ≡ Some m =
+              sym now ∙ ap (node_mark (set new.marks x (Some mark))) (sym same) ∙ h in
+              let at : m ≡ mark = cc one in
+              inr (
+                none_before old.marks new.marks is.kept k (ap (node_mark new.marks) same ∙ none),
+                subst (Contains (targets ++ x ∷ [])) (sym same) (Contains-push targets x),
+                at,
+                subst (Contains (new.level ++ x ∷ [])) (sym same) (Contains-push new.level x),
+              )
+          | inr other ↦ elim (is.marked k m
+              (sym (get_or-set_other new.marks x k (Some mark) None other) ∙ h)) [
+                | inl was ↦ inl was
+                | inr (none, among, at, on) ↦ inr (
+                  none,
+                  Contains-append_left targets (x ∷ []) k among,
+                  at,
+                  Contains-append_left new.level (x ∷ []) k on,
+                )
+              ]
+        ]
+
+    same_work : left_to_do
+        (record { marks = set new.marks x (Some mark); level = new.level ++ x ∷ [] })
+        ≡ left_to_do old
+    same_work =
+        let f = λ (m : Option ℕ). cond (not (is_some m)) 1 0 in
+        let counted = sum_by-set f new.marks x (Some mark) None l in
+        let had : f (get_or new.marks x None) ≡ 1 = ap f none in
+        omega (arith, counted, had, length_push new.level x, is.same_work)
+
+module _ (targets : List ℕ) (i mark : ℕ) (old new : SearchView) (l : i < length targets)
+    (is : IsVisit (take i targets) mark old new) where
+  pub visit_skip : is_some (node_mark new.marks (get_or targets i 0)) ≡ true
+      → IsVisit (take (i + 1) targets) mark old new
+  visit_skip some =
+      subst (λ (xs : List ℕ). IsVisit xs mark old new) (sym (take_more targets i 0 l))
+      (visits_skip (take i targets) mark old new (get_or targets i 0) is
+      (value_of_some (node_mark new.marks (get_or targets i 0)) some))
+
+  pub visit_mark : is_some (node_mark new.marks (get_or targets i 0)) ≡ false
+      → get_or targets i 0 < length new.marks → IsVisit (take (i + 1) targets) mark old
+      (record {
+        marks = set new.marks (get_or targets i 0) (Some mark);
+        level = new.level ++ get_or targets i 0 ∷ [];
+      })
+  visit_mark none within =
+      let after : SearchView = record {
+        marks = set new.marks (get_or targets i 0) (Some mark);
+        level = new.level ++ get_or targets i 0 ∷ [];
+      } in
+      subst (λ (xs : List ℕ). IsVisit xs mark old after) (sym (take_more targets i 0 l))
+      (visits_mark (take i targets) mark old new (get_or targets i 0) is
+      (none_from_test (node_mark new.marks (get_or targets i 0)) none) within)
+
+-- ---- the targets of one more node
+
+pub flat_map_next : {X Y : Type 0} (f : X → List Y) (xs : List X) (n : ℕ) (d : X)
+    → n < length xs → flat_map f (take (n + 1) xs) ≡ flat_map f (take n xs) ++ f (get_or xs n d)
+flat_map_next {X} f xs n d l =
+    ap (flat_map f) (take_more xs n d l) ∙ flat_map-append f (take n xs) (get_or xs n d ∷ [])
+    ∙ ap (λ zs. flat_map f (take n xs) ++ zs) (append-nil (f (get_or xs n d)))
+
+pub visits_append : (xs ys : List ℕ) (mark : ℕ) (a b c : SearchView) → IsVisit xs mark a b
+    → IsVisit ys mark b c → IsVisit (xs ++ ys) mark a c
+visits_append xs ys mark a b c p q = record {
+  len = q.len ∙ p.len;
+  kept = λ k m h. q.kept k m (p.kept k m h);
+  marked = λ k m h. elim (q.marked k m h) [
+    | inl was ↦ elim (p.marked k m was) [
+      | inl before ↦ inl before
+      | inr (none, among, at, on) ↦ inr
+          (none, Contains-append_left xs ys k among, at, q.stays k on)
+    ]
+    | inr (none, among, at, on) ↦ inr (
+      none_before a.marks b.marks p.kept k none,
+      Contains-append_right xs ys k among,
+      at,
+      on,
+    )
   ];
-  closed = λ k j edge reached. elim reached [
-    | inl at ↦ inl (subst (Contains (g.committed ∷ [])) (sym at) (Contains-head g.committed []))
-    | inr has ↦ let none = no_mark g.committed j in let had = has.1 in absurd (cc (had, none))
+  all = λ k h. elim (Contains-append_cases xs ys k h) [
+    | inl first ↦ let was = p.all k first in (was.0, q.kept k was.0 was.1)
+    | inr second ↦ q.all k second
   ];
+  stays = λ k h. q.stays k (p.stays k h);
+  from = λ k h. elim (q.from k h) [
+    | inl was ↦ elim (p.from k was) [
+      | inl before ↦ inl before
+      | inr among ↦ inr (Contains-append_left xs ys k among)
+    ]
+    | inr among ↦ inr (Contains-append_right xs ys k among)
+  ];
+  same_work = q.same_work ∙ p.same_work;
 }
 
--- after the last one
-pub search_last : (g : DependencyGraph) (n : ℕ) (marks : List (Option ℕ)) → length g.ids ≤ n
-    → BeginsFrom g n marks → AreMarksOf g marks
-search_last g n marks l is = record {
-  nodes = is.len;
-  marked = is.sound;
-  unmarked = λ k z m none from within. is.clear k z m none from (omega arith);
-}
+pub visits_next : (rows : List (List ℕ)) (level : List ℕ) (i mark : ℕ) (a b c : SearchView)
+    → i < length level → IsVisit (flat_map (row_of rows) (take i level)) mark a b
+    → IsVisit (row_of rows (get_or level i 0)) mark b c
+    → IsVisit (flat_map (row_of rows) (take (i + 1) level)) mark a c
+visits_next rows level i mark a b c l p q =
+    subst (λ (xs : List ℕ). IsVisit xs mark a c) (sym (flat_map_next (row_of rows) level i 0 l))
+    (visits_append (flat_map (row_of rows) (take i level)) (row_of rows (get_or level i 0)) mark a b
+    c p q)
 
--- edges come from committed nodes
-pub sources_committed : (g : DependencyGraph) (sources : List (List ℕ)) → IsGraph g
-    → AreTransposed g.edges sources → All (λ row. All (λ k. k < g.committed) row) sources
-sources_committed g sources graph transpose =
-    All-from_get_or (λ (row : List ℕ). All (λ k. k < g.committed) row) sources [] (λ j l.
-    All-weaker (Contains (row_of sources j)) (λ k. k < g.committed)
-    (λ k h. edge_from_committed g graph k j ((transpose k j).1 h)) (row_of sources j)
-    (All-contains_itself (row_of sources j)))
+-- ---- from level to level
+
+module _ (rows : List (List ℕ)) (start : ℕ) (mark : ℕ → ℕ) (before : List (Option ℕ))
+    (are : AreClosed rows before) where
+  -- the start is the first level
+  pub search_first : (s : SearchView)
+      → IsVisit (start ∷ []) (mark 0) (record { marks = before; level = [] }) s
+      → IsLevelSearch rows start mark before 0 s
+  search_first s visits = record {
+    len = visits.len;
+    kept = visits.kept;
+    new = λ k m h. elim (visits.marked k m h) [
+      | inl was ↦ inl was
+      | inr (none, among, at, on) ↦ inr (record {
+        steps = 0;
+        none = none;
+        leads = here k among;
+        is = at;
+        fewest = λ i there. omega arith;
+      })
+    ];
+    found = found;
+    level = λ k h. elim (visits.from k h) [
+      | inl none ↦ absurd (Contains-nil k none)
+      | inr among ↦ here k among
+    ];
+    closed = λ k j has edge. elim (visits.marked k has.0 has.1) [
+      | inl was ↦ let too = are k j (has.0, was) edge in inr (too.0, visits.kept j too.0 too.1)
+      | inr (none, among, at, on) ↦ inl on
+    ];
+    few = omega
+        (arith, visits.same_work, count_by-le-length (λ (m : Option ℕ). not (is_some m)) before);
+  } where
+    here : (k : ℕ) → Contains (start ∷ []) k → start ≡ k
+    here k among =
+        elim (Contains-cons_cases start [] k among) [
+          | inl same ↦ same
+          | inr none ↦ absurd (Contains-nil k none)
+        ]
+
+    found : (k i : ℕ) → i ≤ 0 → LeadsIn (row_of rows) start i k → IsMarked s.marks k
+    found k zero l there =
+        subst (IsMarked s.marks) there (visits.all start (Contains-head start []))
+    found k (suc i) l there = absurd (omega arith)
+
+  module _ (n : ℕ) (old new : SearchView) (is : IsLevelSearch rows start mark before n old)
+      (some : 0 < length old.level)
+      (visits : IsVisit (flat_map (row_of rows) old.level) (mark (n + 1))
+      (record { marks = old.marks; level = [] }) new) where
+    -- one edge on from the level
+    leads_next : (k : ℕ) → Contains (flat_map (row_of rows) old.level) k
+        → LeadsIn (row_of rows) start (n + 1) k
+    leads_next k among =
+        let p = Contains-from_flat_map (row_of rows) old.level k among in
+        let more : LeadsIn (row_of rows) start (suc n) k = (p.0, is.level p.0 p.1, p.2) in
+        let long : suc n ≡ n + 1 = omega arith in
+        subst (λ (i : ℕ). LeadsIn (row_of rows) start i k) long more
+
+    kept_marked : (k : ℕ) → IsMarked old.marks k → IsMarked new.marks k
+    kept_marked k had = (had.0, visits.kept k had.0 had.1)
+
+    target_marked : (k j : ℕ) → IsMarked old.marks k → Contains (row_of rows k) j
+        → IsMarked new.marks j
+    target_marked k j has edge =
+        elim (is.closed k j has edge) [
+          | inl on ↦ visits.all j (Contains-flat_map (row_of rows) old.level k j on edge)
+          | inr too ↦ kept_marked j too
+        ]
+
+    found_next : (k i : ℕ) → i ≤ n + 1 → LeadsIn (row_of rows) start i k → IsMarked new.marks k
+    found_next k zero l there = kept_marked k (is.found k zero (omega arith) there)
+    found_next k (suc i) l there =
+        target_marked there.0 k (is.found there.0 i (omega arith) there.1) there.2
+
+    new_mark : (k m : ℕ) → node_mark old.marks k ≡ None
+        → Contains (flat_map (row_of rows) old.level) k → m ≡ mark (n + 1)
+        → IsNewMark rows start mark before k m
+    new_mark k m none among at = record {
+      steps = n + 1;
+      none = none_before before old.marks is.kept k none;
+      leads = leads_next k among;
+      is = at;
+      fewest = λ i there. elim (cases_lt i (n + 1)) [
+        | inl less ↦
+            let had = is.found k i (omega arith) there in let has = had.1 in absurd (cc (has, none))
+        | inr not_less ↦ not_less
+      ];
+    }
+
+    pub search_next : IsLevelSearch rows start mark before (n + 1) new
+    search_next = record {
+      len = visits.len ∙ is.len;
+      kept = λ k m h. visits.kept k m (is.kept k m h);
+      new = λ k m h. elim (visits.marked k m h) [
+        | inl was ↦ is.new k m was
+        | inr (none, among, at, on) ↦ inr (new_mark k m none among at)
+      ];
+      found = found_next;
+      level = λ k h. elim (visits.from k h) [
+        | inl none ↦ absurd (Contains-nil k none)
+        | inr among ↦ leads_next k among
+      ];
+      closed = λ k j has edge. elim (visits.marked k has.0 has.1) [
+        | inl was ↦ inr (target_marked k j (has.0, was) edge)
+        | inr (none, among, at, on) ↦ inl on
+      ];
+      few = omega (arith, is.few, visits.same_work, some);
+    }
+
+  -- after the last level
+  pub search_end : (n : ℕ) (s : SearchView) → IsLevelSearch rows start mark before n s
+      → s.level ≡ [] → IsSearchFrom rows start mark before s.marks
+  search_end n s is none = record { len = is.len; kept = is.kept; new = is.new; all = all } where
+    all : (k i : ℕ) → LeadsIn (row_of rows) start i k → IsMarked s.marks k
+    all k zero there = is.found k zero (omega arith) there
+    all k (suc i) there =
+        elim (is.closed there.0 k (all there.0 i there.1) there.2) [
+          | inl on ↦ absurd (Contains-nil there.0
+              (subst (λ (l : List ℕ). Contains l there.0) none on))
+          | inr has ↦ has
+        ]
+
+-- ---- from start to start
+
+module _ (rows : List (List ℕ)) (mark : ℕ → ℕ → ℕ) (first count : ℕ) where
+  pub marks_none : AreFirstMarks rows mark first first count (replicate count None)
+  marks_none = record {
+    nodes = length-replicate count None;
+    marked = λ k m h. let none = no_mark count k in absurd (cc (h, none));
+    unmarked = λ k s i none after before. absurd (omega arith);
+  }
+
+  module _ (start : ℕ) (old : List (Option ℕ))
+      (are : AreFirstMarks rows mark first start count old) where
+    pub marks_closed : AreClosed rows old
+    marks_closed k j has edge =
+        marked_if_not_none old j
+        (λ none.
+        let by = are.marked k has.0 has.1 in
+        are.unmarked j by.start (suc by.steps) none by.after by.before (k, by.leads, edge))
+
+    pub marks_more : first ≤ start → (new : List (Option ℕ))
+        → IsSearchFrom rows start (mark start) old new
+        → AreFirstMarks rows mark first (start + 1) count new
+    marks_more l new is = record {
+      nodes = is.len ∙ are.nodes;
+      marked = λ k m h. elim (is.new k m h) [
+        | inl was ↦
+            let by = are.marked k m was in
+            record {
+              start = by.start;
+              steps = by.steps;
+              after = by.after;
+              before = omega (arith, by.before);
+              leads = by.leads;
+              is = by.is;
+              earliest = by.earliest;
+              fewest = by.fewest;
+            }
+        | inr by ↦ record {
+          start = start;
+          steps = by.steps;
+          after = l;
+          before = omega arith;
+          leads = by.leads;
+          is = by.is;
+          earliest = λ s i after before. are.unmarked k s i by.none after before;
+          fewest = by.fewest;
+        }
+      ];
+      unmarked = λ k s i none after before there. elim (cases_lt s start) [
+        | inl earlier ↦ are.unmarked k s i (none_before old new is.kept k none) after earlier there
+        | inr not_earlier ↦
+            let same : s ≡ start = omega arith in
+            let has = is.all k i (subst (λ (t : ℕ). LeadsIn (row_of rows) t i k) same there) in
+            let had = has.1 in
+            absurd (cc (had, none))
+      ];
+    }
+
+-- what a slice of a whole vector was changed to is what the vector has
+pub written_back : (xs ys : List (Option ℕ)) (n : ℕ) → length xs ≡ length ys → n ≡ length ys
+    → take n (xs ++ drop (length xs) ys) ≡ xs
+written_back xs ys n same all =
+    let none : drop (length xs) ys ≡ [] =
+    nil_from_length (drop (length xs) ys) (omega (arith, length-drop (length xs) ys)) in
+    ap (λ zs. take n (xs ++ zs)) none ∙ ap (take n) (append-nil xs)
+    ∙ take_all n xs (omega arith)

@@ -19,7 +19,8 @@ use Rattle.epx_types.proofs.graph.ReachingLemmas.{UpTo-antisymm}
 use Rattle.epx_graph.specs.Graphs.{DependencyGraph, edges_of, IsGraph}
 use Rattle.epx_graph.specs.GraphOf.{IsGraphOf}
 use Rattle.epx_graph.specs.NodePaths.{NodeReaches}
-use Rattle.epx_graph.specs.inner.LeastMissing.{node_mark, AreMarksOf}
+use Rattle.epx_graph.specs.inner.LeastMissing.{AreMarksOf}
+use Rattle.epx_graph.specs.inner.Searches.{node_mark}
 use Rattle.epx_graph.specs.inner.Waiters.{IsWaiter, AreWaiters}
 use Rattle.epx_graph.proofs.GraphNodeLemmas.{committed_order, missing_order, node_id}
 use Rattle.epx_graph.proofs.GraphNodeLemmas.{reached_within}

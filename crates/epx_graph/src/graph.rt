@@ -1,8 +1,8 @@
 //! The dependency graph.
-ghost use Rattle.std.specs.Prelude.{◌≡◌, ◌==◌, ◌↔◌, ◌<◌, length, Contains, IfOk, IsTrue};
+ghost use Rattle.std.specs.Prelude.{◌≡◌, ◌==◌, ◌↔◌, ℕ, ◌<◌, length, All, Contains, IfOk, IsTrue};
 ghost use Rattle.std.specs.Prelude.{MatchOption, Some, slice_get};
 ghost use Rattle.epx_graph.specs.Graphs.{edges_of, graph_over, missing_ids, IsGraph};
-ghost use Rattle.epx_rows.specs.Rows.{AreTransposed};
+ghost use Rattle.epx_rows.specs.Rows.{row_of, AreTransposed};
 
 use epx_rows::Rows;
 use epx_types::id_list::find_id;
@@ -109,6 +109,14 @@ impl Graph {
             return self.rows.row(node);
         }
         &[]
+    }
+
+    /// The edges of the committed nodes.
+    pub(crate) fn rows(&self) -> &Rows
+        ensures edges { (k : ℕ) → row_of result.now k ≡ edges_of self.now k }
+        ensures within { All (All (λ j. j < length self.now.ids)) result.now }
+    {
+        &self.rows
     }
 
     /// For each node, the nodes with an edge to it. Takes time linear in nodes and edges. No other

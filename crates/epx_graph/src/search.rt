@@ -1,96 +1,135 @@
-//! Finds the least missing node that each committed node reaches.
-ghost use Rattle.std.specs.Prelude.{◌≡◌, ◌+◌, ◌<◌, ◌≤◌, [], None, length, replicate, All, IfOk};
-ghost use Rattle.std.specs.Prelude.{OnOk};
-ghost use Rattle.epx_graph.specs.Graphs.{DependencyGraph, IsGraph};
-ghost use Rattle.epx_graph.specs.inner.LeastMissing.{AreMarksOf};
-ghost use Rattle.epx_rows.specs.Rows.{AreTransposed};
-ghost use Rattle.epx_graph.specs.inner.Searches.{IsVisit, BeginsFrom};
+//! The search of a graph level by level: first the nodes one edge away from a start, then those two
+//! edges away, and so on.
+ghost use Rattle.std.specs.Prelude.{◌≡◌, ◌<◌, ◌≤◌, [], length, flat_map, All, IfOk, OnOk};
+ghost use Rattle.epx_rows.specs.Rows.{row_of};
+ghost use Rattle.epx_graph.specs.inner.Searches.{AreClosed, AreFirstMarks, IsSearchFrom, IsVisit};
+ghost use Rattle.epx_graph.specs.inner.Searches.{mark_by};
 
-use crate::graph::Graph;
 use epx_rows::Rows;
 use epx_types::Memory;
 use std::alloc::Global;
-use std::marker::Model;
+use std::mem;
 
-/// A search backwards along the edges, from the missing nodes in rising order.
-#[derive(Drop)]
-struct MissingSearch {
-    /// The least missing node that each committed node is known to reach.
-    marks: Vec<Option<usize>>,
-    /// Marked nodes whose sources have not been visited yet.
-    stack: Vec<usize>,
+/// What a search marks a node with.
+#[derive(Clone, Copy, Debug)]
+pub(crate) enum MarkKind {
+    /// The first start that leads to it.
+    Start,
+    /// The number of edges of a shortest path from that start.
+    Steps,
 }
 
-impl Model for MissingSearch {
-    ghost use Rattle.epx_graph.specs.inner.Searches.{SearchView};
-
-    ghost Value = { SearchView };
-
-    ghost view = { λ s. record { marks = s.marks.items; stack = s.stack.items } };
-}
-
-impl MissingSearch {
-    fn new(alloc: Global, committed: usize) -> Result<MissingSearch, Memory>
-        ensures { IfOk result
-            (λ search. search ≡ record { marks = replicate committed None; stack = [] }) }
-    {
-        Ok(MissingSearch {
-            marks: vec![in alloc; None; committed]?,
-            stack: Vec::new(alloc),
-        })
-    }
-
-    /// Marks the nodes that have no mark with the root, and pushes them onto the stack.
-    fn visit(&mut self, nodes: &[usize], root: usize) -> Result<(), Memory>
-        requires { All (λ k. k < length self.old.marks) nodes.now }
-        ensures { OnOk result (IsVisit nodes.now root self.old self.new) }
-    {
-        for node in nodes {
-            if self.marks[*node].is_some() {
-                continue;
-            }
-            self.marks[*node] = Some(root);
-            self.stack.push(*node)?;
-        }
-        Ok(())
-    }
-
-    /// Marks all nodes that reach the root and have no mark yet.
-    fn spread(&mut self, sources: &Rows, root: usize) -> Result<(), Memory>
-        requires root { root < length sources.now }
-        requires sources { All (λ row. All (λ k. k < length self.old.marks) row) sources.now }
-        requires nodes { length self.old.marks ≤ length sources.now }
-        requires empty { self.old.stack ≡ [] }
-        ensures len { OnOk result (length self.new.marks ≡ length self.old.marks) }
-        ensures empty { OnOk result (self.new.stack ≡ []) }
-        ensures search { OnOk result ((g : DependencyGraph) → IsGraph g
-            → AreTransposed g.edges sources.now → g.committed ≤ root
-            → BeginsFrom g root self.old.marks → BeginsFrom g (root + 1) self.new.marks) }
-    {
-        self.stack.push(root)?;
-        while let Some(node) = self.stack.pop() {
-            self.visit(sources.row(node), root)?;
-        }
-        Ok(())
-    }
-}
-
-/// For each committed node, the least missing node that it reaches, if it reaches one. Takes time
-/// linear in nodes and edges.
-pub(crate) fn least_missing(alloc: Global, graph: &Graph) -> Result<Vec<Option<usize>>, Memory>
-    ensures marks { IfOk result (λ marks. AreMarksOf graph.now marks.items) }
-    ensures fits { OnOk result (IsGraph graph.now) }
+fn mark_after(kind: MarkKind, start: usize, steps: usize) -> usize
+    ensures { result ≡ mark_by kind start steps }
 {
-    let mut search = MissingSearch::new(alloc, graph.committed_len())?;
-    // If no node is missing, no edge needs to be transposed.
-    if graph.committed_len() == graph.len() {
-        let MissingSearch { marks, stack: _ } = search;
-        return Ok(marks);
+    match kind {
+        MarkKind::Start => start,
+        MarkKind::Steps => steps,
     }
-    let sources = graph.sources(alloc)?;
-    for root in graph.committed_len()..graph.len() {
-        search.spread(&sources, root)?;
+}
+
+/// The row of a node. After the last row, rows are empty.
+fn targets_of(rows: &Rows, node: usize) -> &[usize]
+    ensures { result.now ≡ row_of rows.now node }
+{
+    if node < rows.len() {
+        return rows.row(node);
     }
-    let MissingSearch { marks, stack: _ } = search;
+    &[]
+}
+
+/// Marks the targets that have no mark, and appends them to the next level.
+fn visit(
+    targets: &[usize],
+    mark: usize,
+    marks: &mut [Option<usize>],
+    next: &mut Vec<usize>,
+) -> Result<(), Memory>
+    requires { All (λ k. k < length marks.old) targets.now }
+    ensures { OnOk result (IsVisit targets.now mark
+        (record { marks = marks.old; level = next.old.items })
+        (record { marks = marks.new; level = next.new.items })) }
+{
+    for target in targets {
+        if marks[*target].is_some() {
+            continue;
+        }
+        marks[*target] = Some(mark);
+        next.push(*target)?;
+    }
+    Ok(())
+}
+
+/// Visits the targets of all nodes of a level.
+fn visit_level(
+    rows: &Rows,
+    level: &[usize],
+    mark: usize,
+    marks: &mut [Option<usize>],
+    next: &mut Vec<usize>,
+) -> Result<(), Memory>
+    requires { All (All (λ k. k < length marks.old)) rows.now }
+    ensures { OnOk result (IsVisit (flat_map (row_of rows.now) level.now) mark
+        (record { marks = marks.old; level = next.old.items })
+        (record { marks = marks.new; level = next.new.items })) }
+{
+    for node in level {
+        visit(targets_of(rows, *node), mark, marks, next)?;
+    }
+    Ok(())
+}
+
+/// Marks all nodes without a mark that paths from `start` lead to. Both lists are room for levels.
+fn search_from(
+    rows: &Rows,
+    start: usize,
+    kind: MarkKind,
+    marks: &mut [Option<usize>],
+    level: &mut Vec<usize>,
+    next: &mut Vec<usize>,
+) -> Result<(), Memory>
+    requires start { start < length marks.old }
+    requires rows { All (All (λ k. k < length marks.old)) rows.now }
+    requires level { level.old.items ≡ [] }
+    requires next { next.old.items ≡ [] }
+    requires closed { AreClosed rows.now marks.old }
+    ensures level { OnOk result (level.new.items ≡ []) }
+    ensures next { OnOk result (next.new.items ≡ []) }
+    ensures marks { OnOk result
+        (IsSearchFrom rows.now start (mark_by kind start) marks.old marks.new) }
+{
+    visit(&[start], mark_after(kind, start, 0), marks, level)?;
+    let mut steps = 0;
+    while !level.is_empty() {
+        steps += 1;
+        visit_level(rows, level, mark_after(kind, start, steps), marks, next)?;
+        level.clear();
+        mem::swap(level, next);
+    }
+    Ok(())
+}
+
+/// Searches from each node from `first` to `end` in turn, and marks each node that is found for the
+/// first time. Takes time linear in nodes and edges. A row has the targets of a node's edges.
+pub(crate) fn search(
+    alloc: Global,
+    rows: &Rows,
+    nodes: usize,
+    first: usize,
+    end: usize,
+    kind: MarkKind,
+) -> Result<Vec<Option<usize>>, Memory>
+    requires rows { All (All (λ k. k < nodes)) rows.now }
+    requires first { first ≤ end }
+    requires end { end ≤ nodes }
+    ensures { IfOk result (λ marks.
+        AreFirstMarks rows.now (mark_by kind) first end nodes marks.items) }
+{
+    let mut marks = vec![in alloc; None; nodes]?;
+    let mut level = Vec::new(alloc);
+    let mut next = Vec::new(alloc);
+    for start in first..end {
+        search_from(rows, start, kind, &mut marks, &mut level, &mut next)?;
+    }
     Ok(marks)
 }

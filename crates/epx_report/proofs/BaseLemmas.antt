@@ -89,7 +89,7 @@ put_pairs-all : (ps : List (List ℕ × ℤ)) (m : Contents)
 put_pairs-all [] m = refl
 put_pairs-all (p ∷ ps) m = put_pairs-all ps (contents.insert m p.0 p.1)
 
-entries_put : (ps : List (List ℕ × ℤ)) → T (is_sorted key_cmp ps)
+pub entries_put : (ps : List (List ℕ × ℤ)) → T (is_sorted key_cmp ps)
     → contents.entries (put_pairs ps contents.empty) ≡ ps
 entries_put ps rises =
     ap contents.entries (put_pairs-all ps contents.empty ∙ insert_all-from_entries ps rises)

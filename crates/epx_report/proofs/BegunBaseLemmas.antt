@@ -36,7 +36,7 @@ use Rattle.epx_report.proofs.WholeBaseLemmas.{state}
 
 -- ---- tests
 
-allowed : {S : Type 0} (b : Bool) (x t : S) → (if b then Some x else None) ≡ Some t
+pub allowed : {S : Type 0} (b : Bool) (x t : S) → (if b then Some x else None) ≡ Some t
     → (b ≡ true) × (x ≡ t)
 allowed true x t e = (refl, cc e)
 allowed false x t e = absurd (cc e)

@@ -1,5 +1,5 @@
 -- The rising and the late Ids of a set.
-use Rattle.std.proofs.Common.{◌≡◌, ◌⊎◌, inl, inr, ℕ, ◌+◌, true, false, cond, nat_lt, not}
+use Rattle.std.proofs.Common.{◌≡◌, ◌⊎◌, inl, inr, ℕ, true, false, cond, nat_lt, not}
 use Rattle.std.proofs.Common.{◌==◌, ◌&&◌, Bool, Ordering, Less, Equal, Greater, is_lt, List, []}
 use Rattle.std.proofs.Common.{◌∷◌, ◌++◌, Contains, Some, refl, sym, ap, ap₂, ◌∙◌}
 use Rattle.std.proofs.Common.{Option, None, MatchOption, is_some, slice_get}

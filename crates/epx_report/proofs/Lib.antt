@@ -11,6 +11,8 @@ pub mod BaseReadingLemmas
 pub mod BaseLemmas
 pub mod ListLemmas
 pub mod LineFeedLemmas
+mod LinePieceLemmas
+mod LinesByKindLemmas
 pub mod WrittenDataLemmas
 pub mod ReportFormLemmas
 pub mod ReportReadingLemmas

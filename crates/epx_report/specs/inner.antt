@@ -4,3 +4,4 @@ pub mod LineTokens
 pub mod Seen
 pub mod BaseReadings
 pub mod ListReadings
+pub mod LinesByKind

@@ -22,7 +22,7 @@ pub(crate) fn is_after_last<T: Ord>(last: Option<&T>, item: &T) -> bool
 }
 
 /// Whether the Id is among rising ones, by binary search.
-fn contains_id(rising: &[Id], id: Id) -> bool
+pub(crate) fn contains_id(rising: &[Id], id: Id) -> bool
     requires { IsRising rising.now }
     ensures { result ≡ is_among rising.now id }
 {

@@ -7,12 +7,16 @@ mod direct;
 mod form;
 mod id_set;
 mod laws;
+mod line_parts;
+mod line_pieces;
 mod list;
+mod parts;
 mod progress;
 mod read;
 mod report_lines;
 mod value_lines;
 mod view_lines;
+mod whole_base;
 
 pub use base::{Base, BaseFault, read_base};
 pub use laws::{
@@ -28,3 +32,4 @@ pub use value_lines::append_line;
 pub use view_lines::{
     append_level, append_ranked, missing_line, name_line, position_line, uncovered_line,
 };
+pub use whole_base::read_base_by;

@@ -15,7 +15,7 @@ use std::alloc::Global;
 use std::marker::Model;
 
 /// Puts the values into a new store, one after another.
-fn store_of(alloc: Global, pairs: Vec<(Key, i64)>) -> Result<Store, Memory>
+pub(crate) fn store_of(alloc: Global, pairs: Vec<(Key, i64)>) -> Result<Store, Memory>
     ensures { IfOk result (λ s. s ≡ put_pairs pairs.items contents.empty) }
 {
     let mut store = Store::new(alloc);

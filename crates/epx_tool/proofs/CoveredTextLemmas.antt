@@ -1,5 +1,5 @@
 -- The text of an audit says that logs are covered exactly if they are.
-use Rattle.std.proofs.Common.{◌≡◌, ℕ, List, Ok, refl, subst, inl, inr}
+use Rattle.std.proofs.Common.{◌≡◌, ℕ, List, Ok, subst, inl, inr}
 use Rattle.json.specs.Print.{escape_byte}
 use Rattle.epx_types.specs.declared.id.Id.{Id}
 use Rattle.epx_types.specs.Instances.{Instance}
@@ -8,7 +8,6 @@ use Rattle.epx_merge.specs.Acceptance.{IsAccepted}
 use Rattle.epx_merge.proofs.UniquenessLemmas.{accepted_unique}
 use Rattle.epx_report.specs.ViewLines.{covered_line, uncovered_line}
 use Rattle.epx_tool.specs.declared.ask.Ask.TheVariants.{Audit}
-use Rattle.epx_tool.specs.AnswerLaws.{CoveredTextMeansCovered}
 use Rattle.epx_tool.specs.AuditText.{IsAuditText}
 use Rattle.epx_tool.specs.TaskAnswers.{AnswersView}
 
@@ -26,9 +25,3 @@ pub covered_if_reported : (logs : List (List ℕ)) (m : List Instance) → IsAcc
 covered_if_reported logs m accepted said =
     let same : said.0 ≡ m = accepted_unique logs said.0 m said.1 accepted in
     subst IsCovered same (covered-from_text said.0 said.2)
-
-pub covered_text_means_covered : CoveredTextMeansCovered
-covered_text_means_covered logs m accepted = (
-  covered_if_reported logs m accepted,
-  λ covered. (m, accepted, inl (covered, refl)),
-)

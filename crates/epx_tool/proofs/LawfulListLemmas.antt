@@ -1,6 +1,6 @@
 -- A list that is reported as lawful is lawful. If the logs are reported as covered, it executes as
 -- the report says.
-use Rattle.std.proofs.Common.{ℕ, List, Ok, refl, inl}
+use Rattle.std.proofs.Common.{ℕ, List, Ok}
 use Rattle.std.specs.FinMap as contents
 use Rattle.epx_types.specs.declared.id.Id.{Id}
 use Rattle.epx_types.specs.Instances.{Instance}
@@ -12,23 +12,17 @@ use Rattle.epx_merge.specs.Acceptance.{IsAccepted}
 use Rattle.epx_report.specs.Lists.{IsList}
 use Rattle.epx_report.specs.ViewLines.{lawful_line}
 use Rattle.epx_tool.specs.CheckAnswers.{Checks}
-use Rattle.epx_tool.specs.CheckLaws.{LawfulTextMeansLawful, LawfulListExecutesAlike}
+use Rattle.epx_tool.specs.LawfulLists.{LawfulListExecutesAlike}
 use Rattle.epx_tool.specs.Verdicts.{IsVerdict}
 use Rattle.epx_tool.proofs.CheckLemmas.{verdict-of_logs}
 use Rattle.epx_tool.proofs.CoveredTextLemmas.{covered_if_reported}
 use Rattle.epx_tool.proofs.VerdictLemmas.{lawful-from_verdict}
 
-lawful_if_reported : (list : List ℕ) (logs : List (List ℕ)) (ids : List Id) (m : List Instance)
+pub lawful_if_reported : (list : List ℕ) (logs : List (List ℕ)) (ids : List Id) (m : List Instance)
     → IsList list ids → IsAccepted logs m → Checks list logs (Ok lawful_line) → IsLawful m ids
 lawful_if_reported list logs ids m is accepted said =
     lawful-from_verdict m ids
     (verdict-of_logs IsVerdict list ids is logs m accepted lawful_line said.1)
-
-pub lawful_text_means_lawful : LawfulTextMeansLawful
-lawful_text_means_lawful list logs ids m short is accepted = (
-  lawful_if_reported list logs ids m is accepted,
-  λ lawful. (short, (m, accepted, (ids, is, inl (lawful, refl)))),
-)
 
 pub lawful_list_executes_alike : LawfulListExecutesAlike
 lawful_list_executes_alike list logs said audited ids m is accepted order ordered =

@@ -1,33 +1,20 @@
-mod UniqueAnswerLemmas
-mod LogsWithInputLemmas
+pub mod LogsWithInputLemmas
 pub mod ReturnedFaultLemmas
 mod RunEndingLemmas
 mod MergedSourceLemmas
-mod UniqueAnswerWithInputLemmas
-mod AnswerWithInputLemmas
-mod QuestionLemmas
-mod AnswerLemmas
+pub mod QuestionLemmas
 mod ReportPartsLemmas
 mod AcceptedLogLemmas
-mod OrderCommandLemmas
-mod ReportLemmas
-mod ResumptionLemmas
-mod ReportBaseLemmas
-mod OrderTextLemmas
-mod VerdictLemmas
+pub mod ReportLemmas
+pub mod ReportBaseLemmas
+pub mod VerdictLemmas
 mod VerdictLineLemmas
-mod CheckLemmas
-mod InputAnswerLemmas
+pub mod CheckLemmas
 mod MemoryTextLemmas
-mod CoveredTextLemmas
-mod SameLineLemmas
-mod LawfulListLemmas
-mod LawfulPrefixLemmas
-mod ReportRangeLemmas
-mod ResumableAnswersLemmas
+pub mod CoveredTextLemmas
+pub mod LawfulListLemmas
+pub mod ReportRangeLemmas
+pub mod ResumableAnswersLemmas
 mod FindingLemmas
-mod FindingLawLemmas
-mod TraceReportLemmas
-mod TraceLineLemmas
 mod PlainRunLemmas
 mod TaskRunLemmas

@@ -21,12 +21,12 @@ use Rattle.epx_report.specs.Bases.{IsBase}
 use Rattle.epx_report.specs.ReportLines.{header_line, done_line, reply_line, waiting_line}
 use Rattle.epx_report.specs.ReportLines.{store_line}
 use Rattle.epx_report.specs.ReportBases.{AreLinesInOrder, AreDoneAfter}
-use Rattle.epx_report.specs.ReportReadings.{ReportData, replied_ids, text_of_report}
+use Rattle.epx_report.specs.ReportReadings.{ReportData, FitsReportData, replied_ids, text_of_report}
 use Rattle.epx_report.proofs.ReportBaseLemmas.{report_is_a_base}
 use Rattle.epx_tool.specs.Report.{IsReport, report_text}
 use Rattle.epx_tool.specs.ResumedReport.{IsReportAfter}
-use Rattle.epx_tool.specs.ResumptionLaws.{ReportIsAfterNothing, ReportIsBase, reported_of, run_in}
-use Rattle.epx_tool.proofs.ReportLemmas.{executed_is_left, IsReport-after_nothing}
+use Rattle.epx_tool.specs.ReportedRuns.{reported_of, run_in}
+use Rattle.epx_tool.proofs.ReportLemmas.{executed_is_left}
 
 pub after_nothing : (m : List Instance) (text : List ℕ) → IsReport m text
     → IsReportAfter [] contents.empty m text
@@ -40,9 +40,6 @@ after_nothing m text p =
           p.printed ∙ ap (λ (l : List Instance). report_text p.order p.waiting
           (execute (commands_in l (ranked_ids p.order)) contents.empty)) whole;
     }
-
-pub report_is_after_nothing : ReportIsAfterNothing
-report_is_after_nothing m text = (after_nothing m text, IsReport-after_nothing m text)
 
 -- there are as many replies as instances
 replied_ids-zip : (ids : List Id) (replies : List Reply) → length replies ≡ length ids
@@ -117,7 +114,12 @@ module _ (done : List Id) (stored : Contents) (m : List Instance) (text : List �
         (sym replied) (each x);
   }
 
-pub report_is_base : ReportIsBase
+-- a report whose numbers and texts fit their types is a base
+pub report_is_base : (done : List Id) (stored : Contents) (m : List Instance) (text : List ℕ)
+    (p : IsReportAfter done stored m text) → IsRising done
+    → FitsReportData (written done stored m text p) → (now : List Id) → IsRising now
+    → ((x : Id) → Contains now x ↔ Contains done x ⊎ Contains (ranked_ids p.order) x)
+    → IsBase text now (run done stored m text p).final
 report_is_base done stored m text p rising fits now nows each =
     subst (λ (bytes : List ℕ). IsBase bytes now (run_in done stored m text p).final)
     (sym (text_is done stored m text p))

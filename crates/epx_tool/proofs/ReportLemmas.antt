@@ -1,4 +1,4 @@
--- The report, the order and the levels of a committed map, from the results of the lower layers.
+-- The report and the audit of a committed map, from the results of the lower layers.
 use Rattle.std.proofs.Common.{◌≡◌, ◌≤◌, ◌^◌, ℕ, List, [], Option, Some, None, MatchOption, inl}
 use Rattle.std.proofs.Common.{inr, length, sym, ap, ap₂, ◌∙◌, subst, arith, Contains}
 use Rattle.std.specs.FinMap as contents
@@ -12,12 +12,10 @@ use Rattle.epx_types.specs.Done.{remaining}
 use Rattle.epx_types.specs.Execution.{execute}
 use Rattle.epx_types.specs.ExecutionOrder.{Ranked, IsExecutionOrder, ranked_ids}
 use Rattle.epx_types.specs.WaitingLists.{Waiting, IsWaitingList}
-use Rattle.epx_types.specs.Levels.{AreLevels}
 use Rattle.epx_types.specs.Limits.{max_instances}
 use Rattle.epx_types.specs.CommittedMap.{commands_in}
 use Rattle.epx_tool.specs.Report.{IsReport, report_text}
 use Rattle.epx_tool.specs.ResumedReport.{IsReportAfter, resumed_text}
-use Rattle.epx_tool.specs.LevelText.{IsLevelText, level_text}
 use Rattle.epx_tool.specs.AuditText.{IsAuditText}
 use Rattle.epx_report.specs.ViewLines.{covered_line, uncovered_line}
 use Rattle.epx_audit.specs.Uncovered.{IsLeastUncovered}
@@ -25,7 +23,6 @@ use Rattle.epx_types.specs.Conflicts.{IsCovered}
 use Rattle.epx_types.proofs.remaining.RemainingLemmas.{Contains-remaining_iff, remaining-nil}
 use Rattle.epx_types.proofs.orders.ExecutionOrderLemmas.{IsExecutionOrder-IsLawful}
 use Rattle.epx_types.proofs.orders.OrderLengthLemmas.{ordered_are_few}
-use Rattle.epx_tool.proofs.OrderCommandLemmas.{commands_are}
 use Rattle.epx_types.proofs.remaining.RemainingCommandLemmas.{commands-left, length-remaining}
 
 module _ (done : List Id) (m : List Instance) (order : List Ranked)
@@ -71,8 +68,8 @@ module _ (done : List Id) (m : List Instance) (order : List Ranked)
             (e_final ∙ ap (λ cs. (execute cs stored).final) all);
       } where
         all : commands ≡ commands_in (remaining done m) (ranked_ids order)
-        all = commands_are (remaining done m) order ids commands are
-            (e_commands ∙ sym (commands-left done m ids executed_is_left))
+        all = e_commands ∙ sym (commands-left done m ids executed_is_left)
+            ∙ ap (commands_in (remaining done m)) are
 
 -- a report after nothing is done, from the empty store, is the report of the map
 pub IsReport-after_nothing : (m : List Instance) (text : List ℕ)
@@ -86,24 +83,6 @@ IsReport-after_nothing m text p =
       printed =
           p.printed ∙ ap (λ (l : List Instance). report_text p.order p.waiting
           (execute (commands_in l (ranked_ids p.order)) contents.empty)) whole;
-    }
-
-pub IsLevelText-printed : (m : List Instance) (order : List Ranked) (waiting : List Waiting)
-    (commands : List (List Op)) (ids : List Id) (levels : List ℕ) (text : List ℕ)
-    → IsExecutionOrder m order → IsWaitingList m waiting → ids ≡ ranked_ids order
-    → commands ≡ commands_in m ids → AreLevels commands levels
-    → text ≡ level_text order levels waiting → IsLevelText m text
-IsLevelText-printed m order waiting commands ids levels text ordered listed e_ids e_commands
-    levelled printed = record {
-      order = order;
-      levels = levels;
-      waiting = waiting;
-      ordered = ordered;
-      levelled = subst (λ cs. AreLevels cs levels)
-          (commands_are m order ids commands e_ids e_commands)
-          levelled;
-      listed = listed;
-      printed = printed;
     }
 
 pub IsAuditText-printed : (m : List Instance) (found : Option (Id × Id)) (text : List ℕ)

@@ -49,7 +49,7 @@ use Rattle.epx_report.proofs.LineRangeLemmas.{line_fits, of_all}
 use Rattle.epx_report.proofs.BaseRangeLemmas.{FitsBase}
 use Rattle.epx_report.proofs.ExecutionRangeLemmas.{execute_fits}
 use Rattle.epx_tool.specs.ResumedReport.{IsReportAfter}
-use Rattle.epx_tool.specs.ResumptionLaws.{reported_of, run_in}
+use Rattle.epx_tool.specs.ReportedRuns.{reported_of, run_in}
 use Rattle.epx_types.proofs.remaining.RemainingCommandLemmas.{length-remaining}
 use Rattle.epx_types.proofs.orders.OrderLengthLemmas.{fewer, ordered_are_few}
 use Rattle.epx_tool.proofs.ReportBaseLemmas.{count}

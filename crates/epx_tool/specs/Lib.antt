@@ -1,8 +1,9 @@
 pub use Rattle.epx_report.specs.ReportLines
 pub mod Report
 pub mod ResumedReport
-pub mod OrderText
-pub mod LevelText
+pub mod ReportedRuns
+pub use Rattle.epx_views.specs.OrderText
+pub use Rattle.epx_views.specs.LevelText
 pub mod AuditText
 pub mod Answer
 pub mod WithInput
@@ -11,13 +12,8 @@ pub mod Verdicts
 pub mod CheckAnswers
 pub mod TaskTexts
 pub mod TaskAnswers
-pub mod AnswerLaws
-pub mod InputAnswerLaws
-pub mod ResumptionLaws
+pub mod LawfulLists
 pub mod ResumableAnswers
-pub mod SameLineLaws
-pub mod CheckLaws
-pub mod TraceReportLaws
 pub mod Runs
 pub mod RunsWithInput
 pub mod Sources
@@ -25,7 +21,6 @@ pub mod Delivered
 pub mod DeliveredWithInput
 pub mod RunEndings
 pub mod Findings
-pub mod FindingLaws
 pub use Rattle.epx_devices.specs.Devices
 pub use Rattle.epx_devices.specs.Reads
 pub use Rattle.epx_devices.specs.Models

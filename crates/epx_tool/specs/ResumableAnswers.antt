@@ -19,7 +19,7 @@ use Rattle.epx_tool.specs.Answer.{IsAnswer}
 use Rattle.epx_tool.specs.Report.{IsReport}
 use Rattle.epx_tool.specs.ResumedReport.{IsReportAfter}
 use Rattle.epx_tool.specs.Resumption.{Resumes}
-use Rattle.epx_tool.specs.ResumptionLaws.{run_in}
+use Rattle.epx_tool.specs.ReportedRuns.{run_in}
 
 -- ---- each answer is a base
 

@@ -6,8 +6,8 @@ use Rattle.epx_names.specs.declared.task.Task.TheVariants.{Run, Order, Levels, G
 use Rattle.epx_names.specs.declared.task.Task.TheVariants.{Audit, Check, CheckPrefix, Compare}
 use Rattle.epx_names.specs.declared.task.Task.TheVariants.{Why, Path, Trace}
 use Rattle.epx_tool.specs.Report.{IsReport}
-use Rattle.epx_tool.specs.OrderText.{IsOrderText}
-use Rattle.epx_tool.specs.LevelText.{IsLevelText}
+use Rattle.epx_views.specs.OrderText.{IsOrderText}
+use Rattle.epx_views.specs.LevelText.{IsLevelText}
 use Rattle.epx_tool.specs.AuditText.{IsAuditText}
 use Rattle.epx_tool.specs.CheckAnswers.{IsCheckText, IsPrefixCheckText}
 use Rattle.epx_tool.specs.Resumption.{IsResumedText}

@@ -1,4 +1,3 @@
 -- Words of private clauses: no public contract speaks of them.
-pub mod ReportParts
 pub mod MapQuestions
 pub mod TaskReadings

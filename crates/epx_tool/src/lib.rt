@@ -11,7 +11,6 @@ pub mod laws;
 mod map_texts;
 mod question;
 mod read_both;
-mod report;
 mod resumed_runs;
 mod runs;
 mod task_runs;

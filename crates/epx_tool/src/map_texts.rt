@@ -2,50 +2,36 @@
 ghost use Rattle.std.specs.Prelude.{◌≡◌, ◌≢◌, ◌≤◌, ◌↔◌, length, true, IfOk};
 ghost use Rattle.epx_types.specs.Done.{remaining};
 ghost use Rattle.epx_types.specs.Ids.{IsRising};
-ghost use Rattle.epx_types.specs.Levels.{AreLevels};
 ghost use Rattle.epx_types.specs.Limits.{max_instances};
 ghost use Rattle.epx_report.specs.ViewLines.{covered_line};
-ghost use Rattle.epx_tool.specs.OrderText.{IsOrderText};
-ghost use Rattle.epx_tool.specs.LevelText.{IsLevelText};
+ghost use Rattle.epx_views.specs.OrderText.{IsOrderText};
+ghost use Rattle.epx_views.specs.LevelText.{IsLevelText};
 ghost use Rattle.epx_tool.specs.AuditText.{IsAuditText};
-ghost use Rattle.epx_types.specs.CommittedMap.{commands_in};
 ghost use Rattle.epx_tool.specs.Report.{IsReport};
 ghost use Rattle.epx_tool.specs.ResumedReport.{IsReportAfter};
 ghost use Rattle.epx_tool.specs.Findings.{SomeWaits};
 ghost use Rattle.epx_tool.specs.inner.MapQuestions.{FindsOf, IsTextOf};
-ghost use Rattle.epx_picture.specs.Pictures.{IsPicture};
-ghost use Rattle.epx_why.specs.WhyTexts.{IsWhyText, IsPathText};
+ghost use Rattle.epx_why.specs.WhyTexts.{IsWhyText};
 ghost use Rattle.epx_trace.specs.TraceTexts.{IsTraceText};
 
 use crate::findings::{Answer, is_other, some_wait};
 use crate::question::MapQuestion;
-use crate::report::{begin_report, end_report, level_report, order_report};
-use crate::verdict::{audit_line, prefix_verdict_of, verdict_of};
-use epx_apply::{LevelMap, levels};
+use crate::verdict::{prefix_verdict_of, verdict_of};
 use epx_audit::audit;
-use epx_committed::commands_of;
 use epx_graph::{build, build_after, waiting};
 use epx_merge::Merged;
 use epx_names::KeyName;
 use epx_picture::picture;
 use epx_ranking::order;
-use epx_replay::replay;
+use epx_replay::{append_store_lines, replay};
 use epx_trace::trace_text;
 use epx_txn::Store;
 use epx_types::{Id, Memory, Plan};
+use epx_views::{append_waiting, audit_line, begin_report, level_report, order_report};
 use epx_why::{path_text, why_text};
 use std::alloc::Global;
 use std::random::RandomSource;
 use std::thread::Threads;
-
-/// The conflict levels of the commands of some instances.
-fn command_levels(alloc: Global, merged: &Merged, ids: &[Id]) -> Result<LevelMap, Memory>
-    ensures { IfOk result
-        (AreLevels (commands_in merged.now ids.now)) }
-{
-    let commands = commands_of(alloc, merged, ids)?;
-    levels(alloc, &commands)
-}
 
 /// Executes the remaining instances of a committed map from a store, and returns the report.
 /// `done` has the done instances by increasing Id.
@@ -70,15 +56,12 @@ fn report_of<R: Threads + RandomSource + Sync>(
     let has_findings = some_wait(&waiters);
     drop(graph);
     let text = begin_report(alloc, done, &order, &waiters)?;
-    let (store, text) = replay(rt, alloc, text, store, merged, order.ids(), plan)?;
+    let (store, mut text) = replay(rt, alloc, text, store, merged, order.ids(), plan)?;
     // The lines of the store take the room of the order.
     drop(order);
-    let text = end_report(rt, alloc, plan, text, &waiters, store)?;
-    Ok(Answer {
-        text,
-        has_findings,
-        merged: None,
-    })
+    append_waiting(alloc, &mut text, &waiters)?;
+    let text = append_store_lines(rt, alloc, text, store, plan)?;
+    Ok(Answer::new(text, has_findings))
 }
 
 /// The text of the execution order of a committed map.
@@ -97,11 +80,7 @@ fn order_of<R: Threads + Sync>(
     let waiters = waiting(alloc, &graph)?;
     let has_findings = some_wait(&waiters);
     let text = order_report(alloc, &order, &waiters)?;
-    Ok(Answer {
-        text,
-        has_findings,
-        merged: None,
-    })
+    Ok(Answer::new(text, has_findings))
 }
 
 /// The text of the conflict levels of a committed map, in execution order.
@@ -119,13 +98,8 @@ fn levels_of<R: Threads + Sync>(
     let order = order(rt, alloc, merged, &graph)?;
     let waiters = waiting(alloc, &graph)?;
     let has_findings = some_wait(&waiters);
-    let levels = command_levels(alloc, merged, order.ids())?;
-    let text = level_report(alloc, &order, &waiters, &levels)?;
-    Ok(Answer {
-        text,
-        has_findings,
-        merged: None,
-    })
+    let text = level_report(alloc, merged, &order, &waiters)?;
+    Ok(Answer::new(text, has_findings))
 }
 
 /// The text of the audit of a committed map.
@@ -144,24 +118,7 @@ fn audit_of<R: Threads + Sync>(
     let found = audit(alloc, merged, &graph, &order)?;
     let text = audit_line(alloc, found)?;
     let has_findings = is_other(alloc, &text, "covered")?;
-    Ok(Answer {
-        text,
-        has_findings,
-        merged: None,
-    })
-}
-
-/// The picture of the dependency graph of a committed map.
-fn picture_of<R: Threads + Sync>(
-    rt: &R,
-    alloc: Global,
-    merged: &Merged,
-    plan: Plan,
-) -> Result<Vec<u8>, Memory>
-    ensures { IfOk result (λ text. IsPicture merged.now text.items) }
-{
-    let graph = build(rt, alloc, merged, plan)?;
-    picture(alloc, merged, &graph)
+    Ok(Answer::new(text, has_findings))
 }
 
 /// The text that says why an instance is executed where it is, or what it waits for.
@@ -177,21 +134,6 @@ fn why_of<R: Threads + Sync>(
     let graph = build(rt, alloc, merged, plan)?;
     let order = order(rt, alloc, merged, &graph)?;
     why_text(alloc, &graph, &order, id)
-}
-
-/// The text of a path from one instance to another.
-fn path_of<R: Threads + Sync>(
-    rt: &R,
-    alloc: Global,
-    merged: &Merged,
-    from: Id,
-    to: Id,
-    plan: Plan,
-) -> Result<Vec<u8>, Memory>
-    ensures { IfOk result (λ text. IsPathText merged.now from to text.items) }
-{
-    let graph = build(rt, alloc, merged, plan)?;
-    path_text(alloc, &graph, from, to)
 }
 
 /// The text of the trace of a key.
@@ -234,10 +176,14 @@ pub(crate) fn text_of<R: Threads + RandomSource + Sync>(
         MapQuestion::Order => order_of(rt, alloc, merged, plan),
         MapQuestion::Levels => levels_of(rt, alloc, merged, plan),
         MapQuestion::Audit => audit_of(rt, alloc, merged, plan),
-        MapQuestion::Graph => Ok(Answer::new(picture_of(rt, alloc, merged, plan)?, false)),
+        MapQuestion::Graph => {
+            let graph = build(rt, alloc, merged, plan)?;
+            Ok(Answer::new(picture(alloc, merged, &graph)?, false))
+        }
         MapQuestion::Why(id) => Ok(Answer::new(why_of(rt, alloc, merged, id, plan)?, false)),
         MapQuestion::Path(from, to) => {
-            Ok(Answer::new(path_of(rt, alloc, merged, from, to, plan)?, false))
+            let graph = build(rt, alloc, merged, plan)?;
+            Ok(Answer::new(path_text(alloc, &graph, from, to)?, false))
         }
         MapQuestion::Trace { key, reads } => {
             Ok(Answer::new(trace_of(rt, alloc, merged, &key, reads, plan)?, false))

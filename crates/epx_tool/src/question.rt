@@ -5,9 +5,10 @@ ghost use Rattle.epx_names.specs.declared.task.Task.TheVariants.{Compare};
 ghost use Rattle.epx_tool.specs.inner.MapQuestions.{TaskAsks, IsInputFault};
 
 use epx_names::{KeyName, Task};
-use epx_report::{Base, BaseFault, read_base, read_list};
-use epx_types::Id;
+use epx_report::{Base, BaseFault, read_base_by, read_list};
+use epx_types::{Id, Plan};
 use std::alloc::Global;
+use std::thread::Threads;
 
 /// What is asked of a committed map. Inputs are read.
 #[derive(Drop)]
@@ -48,17 +49,20 @@ pub(crate) fn question_of(task: Task) -> Option<MapQuestion>
     }
 }
 
-/// Reads the lines of the input of a task, and returns what the task asks of the map.
-pub(crate) fn read_question(
+/// Reads the lines of the input of a task, and returns what the task asks of the map. The plan's
+/// workers read a base.
+pub(crate) fn read_question<R: Threads + Sync>(
+    rt: &R,
     alloc: Global,
     task: Task,
     input: &[u8],
+    plan: Plan,
 ) -> Result<MapQuestion, BaseFault>
     requires { HasInput task }
     ensures { MatchResult result (TaskAsks task input.now) (IsInputFault task input.now) }
 {
     match task {
-        Task::Resume => Ok(MapQuestion::Resume(read_base(alloc, input)?)),
+        Task::Resume => Ok(MapQuestion::Resume(read_base_by(rt, alloc, input, plan)?)),
         Task::CheckPrefix => Ok(MapQuestion::CheckPrefix(read_list(alloc, input)?)),
         _ => Ok(MapQuestion::Check(read_list(alloc, input)?)),
     }

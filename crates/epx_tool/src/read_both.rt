@@ -1,5 +1,6 @@
 //! Reads the logs of sources and an extra input.
 ghost use Rattle.std.specs.Prelude.{◌≡◌, ℕ, true, false, All, List, MatchResult};
+ghost use Rattle.std.specs.Thread.{IsSync};
 ghost use Rattle.epx_merge.specs.Acceptance.{IsAccepted};
 ghost use Rattle.epx_merge.specs.LedgerNotes.{AreReadUpTo};
 ghost use Rattle.epx_merge.specs.LogLines.{meanings_of};
@@ -23,8 +24,8 @@ use std::random::RandomSource;
 use std::thread::{Threads, join};
 
 /// The committed map of logs whose lines are noted, and what the task asks by its input, each by
-/// itself. With several workers one more thread reads the input, while this one makes the map.
-fn read_each<R: Threads>(
+/// itself. With several workers one more thread makes the map, while they read the input.
+fn read_each<R: Threads + Sync>(
     rt: &R,
     alloc: Global,
     task: Task,
@@ -41,27 +42,27 @@ fn read_each<R: Threads>(
 {
     if plan.workers() == 1 {
         let merged = merge_noted(noted);
-        return (merged, read_question(alloc, task, input));
+        return (merged, read_question(rt, alloc, task, input, plan));
     }
-    let (question, merged) = join(
+    join(
         rt,
-        || -> Result<MapQuestion, BaseFault>
-            requires { HasInput task }
-            ensures { MatchResult result (TaskAsks task input.entry.now)
-                (IsInputFault task input.entry.now) }
-        { read_question(alloc, task, input) },
         move || -> Result<Merged, Fault>
             ensures { (logs : List (List ℕ)) → FitLimits logs
                 → IsNoting AreReadUpTo true (meanings_of logs) noted
                 → MatchResult result (IsAccepted logs) (IsRefusal logs) }
         { merge_noted(noted) },
-    );
-    (merged, question)
+        || -> Result<MapQuestion, BaseFault>
+            requires sync { IsSync R.row }
+            requires task { HasInput task }
+            ensures { MatchResult result (TaskAsks task input.entry.now)
+                (IsInputFault task input.entry.now) }
+        { read_question(rt, alloc, task, input, plan) },
+    )
 }
 
 /// The committed map of logs whose lines are noted, and what the task asks of it by its input, or
 /// the first refusal.
-fn read_noted<R: Threads>(
+fn read_noted<R: Threads + Sync>(
     rt: &R,
     alloc: Global,
     task: Task,

@@ -1,13 +1,13 @@
-//! The texts of an audit and of the verdict on a checked list. Each is one line.
-ghost use Rattle.std.specs.Prelude.{◌≡◌, ◌≢◌, ◌↔◌, true, IfOk, MatchOption, MatchResult};
-ghost use Rattle.epx_report.specs.ViewLines.{covered_line, uncovered_line, lawful_line};
+//! The text of the verdict on a checked list. It is one line.
+ghost use Rattle.std.specs.Prelude.{◌≡◌, ◌≢◌, ◌↔◌, true, IfOk, MatchResult};
+ghost use Rattle.epx_report.specs.ViewLines.{lawful_line};
 ghost use Rattle.epx_tool.specs.Verdicts.{IsPrefixVerdict, IsVerdict, order_fault_text};
 
 use crate::findings::{Answer, is_other};
 use epx_graph::build;
 use epx_merge::Merged;
 use epx_ranking::{OrderFault, check_order, check_prefix};
-use epx_report::{missing_line, name_line, position_line, uncovered_line};
+use epx_report::{missing_line, name_line, position_line};
 use epx_types::{Id, Memory, Plan};
 use std::alloc::Global;
 use std::thread::Threads;
@@ -24,17 +24,6 @@ fn fault_line(alloc: Global, fault: OrderFault) -> Result<Vec<u8>, Memory>
         OrderFault::Missing { id } => Ok(missing_line(alloc, id)?),
         OrderFault::Early { place } => Ok(position_line(alloc, "early", place)?),
         OrderFault::Sequence { place } => Ok(position_line(alloc, "sequence", place)?),
-    }
-}
-
-/// The line of an audit: covered, or the least two instances that are not.
-pub(crate) fn audit_line(alloc: Global, found: Option<(Id, Id)>) -> Result<Vec<u8>, Memory>
-    ensures { IfOk result (λ text. MatchOption found (text.items ≡ covered_line)
-        (λ pair. text.items ≡ uncovered_line pair.0 pair.1)) }
-{
-    match found {
-        None => Ok(name_line(alloc, "covered")?),
-        Some(pair) => Ok(uncovered_line(alloc, pair)?),
     }
 }
 
@@ -65,11 +54,7 @@ pub(crate) fn verdict_of<R: Threads + Sync>(
     let found = check_order(alloc, merged, &graph, ids);
     let text = verdict_line(alloc, found)?;
     let has_findings = is_other(alloc, &text, "lawful")?;
-    Ok(Answer {
-        text,
-        has_findings,
-        merged: None,
-    })
+    Ok(Answer::new(text, has_findings))
 }
 
 /// The verdict on a list of instances as a prefix, over a committed map.
@@ -89,9 +74,5 @@ pub(crate) fn prefix_verdict_of<R: Threads + Sync>(
     let found = check_prefix(alloc, merged, &graph, ids);
     let text = verdict_line(alloc, found)?;
     let has_findings = is_other(alloc, &text, "lawful")?;
-    Ok(Answer {
-        text,
-        has_findings,
-        merged: None,
-    })
+    Ok(Answer::new(text, has_findings))
 }

@@ -1,5 +1,3 @@
-pub mod LevelLemmas
-pub mod NodeStepLemmas
 pub mod MapStepLemmas
 pub mod NodeNeedLemmas
 pub mod TargetLemmas

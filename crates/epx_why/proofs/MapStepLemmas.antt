@@ -14,9 +14,9 @@ use Rattle.epx_graph.specs.NodePaths.{IsNodePath}
 use Rattle.epx_graph.proofs.GraphNodeLemmas.{edge_within}
 use Rattle.epx_graph.proofs.MapPathLemmas.{node_of_dependency}
 use Rattle.epx_why.specs.Distances.{IsDistance}
-use Rattle.epx_why.specs.inner.NodeSteps.{LeadsTo, AreLeast, distance_at}
+use Rattle.epx_graph.specs.NodeSteps.{LeadsTo, AreLeast, distance_at}
 use Rattle.epx_why.specs.inner.NodeWalks.{id_at}
-use Rattle.epx_why.proofs.NodeStepLemmas.{LeadsTo-node_path}
+use Rattle.epx_graph.proofs.NodeStepLemmas.{LeadsTo-node_path}
 
 pub id_at-is : (g : DependencyGraph) (k : ℕ) (x : Id) → slice_get g.ids k ≡ Some x → id_at g k ≡ x
 id_at-is g k x at = get_or_from_slice_get g.ids k x (record { replica = 0; number = 0 }) at

@@ -22,8 +22,8 @@ use Rattle.epx_graph.proofs.MapPathLemmas.{missing_number, missing_id}
 use Rattle.epx_why.specs.declared.need.Need.{Need}
 use Rattle.epx_why.specs.Distances.{IsDistance}
 use Rattle.epx_why.specs.Needs.{AreNeedsOf, AreNeeding}
-use Rattle.epx_why.specs.inner.NodeSteps.{LeadsTo, AreDistancesFrom, AreDistancesTo}
-use Rattle.epx_why.specs.inner.NodeSteps.{distance_at}
+use Rattle.epx_graph.specs.NodeSteps.{LeadsTo, AreDistancesFrom, AreDistancesTo}
+use Rattle.epx_graph.specs.NodeSteps.{distance_at}
 use Rattle.epx_why.specs.inner.NodeNeeds.{IsNeedAt, AreNeedsIn}
 use Rattle.epx_why.proofs.MapStepLemmas.{distance_is, distance_leads, AreLeast-fewest}
 use Rattle.epx_why.proofs.MapStepLemmas.{AreLeast-known, IsPath-start_committed}

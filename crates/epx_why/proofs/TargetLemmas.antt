@@ -10,7 +10,7 @@ use Rattle.epx_types.specs.Ids.{Below, UpTo}
 use Rattle.epx_types.proofs.lists.ComparisonLemmas.{id_cmp_total, id_cmp-IsAntisymmetric}
 use Rattle.epx_types.proofs.lists.TotalOrderLemmas.{below_cases, below_trans}
 use Rattle.epx_graph.specs.Graphs.{DependencyGraph}
-use Rattle.epx_why.specs.inner.NodeSteps.{distance_at}
+use Rattle.epx_graph.specs.NodeSteps.{distance_at}
 use Rattle.epx_why.specs.inner.NodeWalks.{id_at, AreFewest, AreNext}
 
 module _ (distances : List (Option ℕ)) (targets : List ℕ) (x : ℕ) where

@@ -15,10 +15,10 @@ use Rattle.epx_graph.proofs.GraphNodeLemmas.{edge_within, node_is_unique}
 use Rattle.epx_graph.proofs.MapPathLemmas.{node_of_committed, reached_node}
 use Rattle.epx_types.proofs.lists.ListPositionLemmas.{Contains-slice_get}
 use Rattle.epx_why.specs.FirstPaths.{ComesUpTo, path_ids, IsFirstPath, HasNoPath}
-use Rattle.epx_why.specs.inner.NodeSteps.{LeadsTo, AreDistancesTo, distance_at}
+use Rattle.epx_graph.specs.NodeSteps.{LeadsTo, AreDistancesTo, distance_at}
 use Rattle.epx_why.specs.inner.NodeWalks.{id_at, IsFewest, IsNext, IsFirstWalk}
 use Rattle.epx_why.specs.inner.NodeWalks.{IsFirstNodePath, IsWalkBegun}
-use Rattle.epx_why.proofs.NodeStepLemmas.{LeadsTo-node_path}
+use Rattle.epx_graph.proofs.NodeStepLemmas.{LeadsTo-node_path}
 use Rattle.epx_why.proofs.MapStepLemmas.{slice_get-id_at, map_path, node_path}
 use Rattle.epx_why.proofs.MapStepLemmas.{steps_over_nodes, AreLeast-fewest}
 use Rattle.epx_why.proofs.MapStepLemmas.{IsPath-start_committed}

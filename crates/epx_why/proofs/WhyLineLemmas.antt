@@ -1,8 +1,7 @@
 -- The line of a path, and lines that are appended one after another.
-use Rattle.std.proofs.Common.{◌≡◌, ◌<◌, ◌+◌, ℕ, false, List, [], ◌∷◌, ◌++◌, map, take, flat_map}
+use Rattle.std.proofs.Common.{◌≡◌, ◌<◌, ◌+◌, ℕ, false, List, [], ◌∷◌, ◌++◌, map, take}
 use Rattle.std.proofs.Common.{length, get_or, codes, refl, sym, ap, ap₂, ◌∙◌}
-use Rattle.std.proofs.lemmas.Grind.{flat_map-append}
-use Rattle.std.proofs.lemmas.List.{append-nil, take_more, map_push}
+use Rattle.std.proofs.lemmas.List.{take_more, map_push}
 use Rattle.serde_json.specs.Data.{Data, string}
 use Rattle.serde_json.specs.Written.{has_float}
 use Rattle.epx_lines.proofs.FloatLemmas.{no_float-items}
@@ -14,12 +13,6 @@ use Rattle.epx_why.specs.WhyLines.{id_data, path_data}
 
 pub no_float-path : (ids : List Id) → has_float (array_of (path_data ids)) ≡ false
 no_float-path ids = rw (no_float-items id_data (λ x. refl) ids) refl
-
-pub flat_map_next : {X Y : Type 0} (f : X → List Y) (xs : List X) (n : ℕ) (d : X)
-    → n < length xs → flat_map f (take (n + 1) xs) ≡ flat_map f (take n xs) ++ f (get_or xs n d)
-flat_map_next {X} f xs n d l =
-    ap (flat_map f) (take_more xs n d l) ∙ flat_map-append f (take n xs) (get_or xs n d ∷ [])
-    ∙ ap (λ zs. flat_map f (take n xs) ++ zs) (append-nil (f (get_or xs n d)))
 
 -- one more node of a path
 pub path_more : (g : DependencyGraph) (start : Id) (nodes : List ℕ) (i : ℕ) (parts : List Data)

@@ -2,9 +2,7 @@
 //! dependencies one instance reaches another.
 #![tactic(auto)]
 
-mod distances;
 pub mod laws;
-mod levels;
 mod need;
 mod node_needs;
 mod path;

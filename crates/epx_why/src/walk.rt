@@ -3,11 +3,10 @@ ghost use Rattle.std.specs.Prelude.{◌≡◌, ◌<◌, ◌↔◌, ℕ, suc, min
 ghost use Rattle.std.specs.Prelude.{length, IsTrue, MatchOption};
 ghost use Rattle.epx_types.specs.Ids.{Below};
 ghost use Rattle.epx_graph.specs.Graphs.{edges_of, IsGraph};
-ghost use Rattle.epx_why.specs.inner.NodeSteps.{LeadsTo, distance_at};
+ghost use Rattle.epx_graph.specs.NodeSteps.{LeadsTo, distance_at};
 ghost use Rattle.epx_why.specs.inner.NodeWalks.{id_at, AreFewest, IsFirstNodePath, IsNext};
 
-use crate::distances::distances_to;
-use epx_graph::Graph;
+use epx_graph::{Graph, distances_to};
 use epx_types::Memory;
 use std::alloc::Global;
 

@@ -13,12 +13,11 @@ ghost use Rattle.epx_why.specs.Needs.{AreNeedsOf, AreNeeding};
 ghost use Rattle.epx_why.specs.WhyLines.{need_line};
 ghost use Rattle.epx_why.specs.WhyTexts.{IsWhyText};
 
-use crate::distances::{distances_from, distances_to};
 use crate::need::Need;
 use crate::node_needs::needs_in;
 use crate::why_lines::{append_needs, ready_line};
 use epx_components::OrderList;
-use epx_graph::Graph;
+use epx_graph::{Graph, distances_from, distances_to};
 use epx_report::{append_waiter, missing_line};
 use epx_types::{Id, Memory};
 use std::alloc::Global;

@@ -1,7 +1,8 @@
 -- The least missing node that a node reaches.
-use Rattle.std.specs.Prelude.{◌≡◌, ℕ, ◌<◌, ◌≤◌, List, length, Option, Some, None, slice_index_or}
+use Rattle.std.specs.Prelude.{◌≡◌, ℕ, ◌<◌, ◌≤◌, List, length, Option, Some, None}
 use Rattle.epx_graph.specs.Graphs.{DependencyGraph, edges_of}
 use Rattle.epx_graph.specs.NodePaths.{NodeReaches}
+use Rattle.epx_graph.specs.inner.Searches.{node_mark}
 
 -- s is the least of the missing nodes that k reaches
 pub record IsLeastMissing (g : DependencyGraph) (k s : ℕ) : Type 0 where
@@ -9,14 +10,10 @@ pub record IsLeastMissing (g : DependencyGraph) (k s : ℕ) : Type 0 where
   pub reached : NodeReaches (edges_of g) k s
   pub least : (z : ℕ) → g.committed ≤ z → NodeReaches (edges_of g) k z → s ≤ z
 
--- the mark of a node, if it has one
-abbrev pub node_mark : List (Option ℕ) → ℕ → Option ℕ
-node_mark marks k = slice_index_or marks k None
-
--- the mark of each committed node is the least missing node that it reaches; a node without a mark
--- reaches none
+-- the mark of each node is the least missing node that it reaches; a node without a mark reaches
+-- none
 pub record AreMarksOf (g : DependencyGraph) (marks : List (Option ℕ)) : Type 0 where
-  pub nodes : length marks ≡ g.committed
+  pub nodes : length marks ≡ length g.ids
   pub marked : (k s : ℕ) → node_mark marks k ≡ Some s → IsLeastMissing g k s
   pub unmarked : (k s : ℕ) → k < g.committed → node_mark marks k ≡ None → g.committed ≤ s
       → s < length g.ids → ¬ NodeReaches (edges_of g) k s

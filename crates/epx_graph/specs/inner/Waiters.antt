@@ -3,7 +3,7 @@ use Rattle.std.specs.Prelude.{◌≡◌, ℕ, ◌<◌, List, Contains, Option, S
 use Rattle.epx_types.specs.Ids.{IsRising}
 use Rattle.epx_types.specs.WaitingLists.{Waiting, waiting_ids}
 use Rattle.epx_graph.specs.Graphs.{DependencyGraph}
-use Rattle.epx_graph.specs.inner.LeastMissing.{node_mark}
+use Rattle.epx_graph.specs.inner.Searches.{node_mark}
 
 -- what a marked node waits for
 pub record IsWaiter (g : DependencyGraph) (marks : List (Option ℕ)) (k : ℕ) (w : Waiting) : Type

@@ -19,8 +19,8 @@ use Rattle.epx_tool.specs.declared.question.MapQuestion.TheVariants.{Audit, Grap
 use Rattle.epx_tool.specs.declared.question.MapQuestion.TheVariants.{Check, CheckPrefix}
 use Rattle.epx_tool.specs.AuditText.{IsAuditText}
 use Rattle.epx_tool.specs.Findings.{FindsIn, SomeWaits}
-use Rattle.epx_tool.specs.LevelText.{IsLevelText}
-use Rattle.epx_tool.specs.OrderText.{IsOrderText}
+use Rattle.epx_views.specs.LevelText.{IsLevelText}
+use Rattle.epx_views.specs.OrderText.{IsOrderText}
 use Rattle.epx_tool.specs.Report.{IsReport}
 use Rattle.epx_tool.specs.ResumedReport.{IsReportAfter}
 use Rattle.epx_tool.specs.TaskAnswers.{IsBadInput}

@@ -6,7 +6,7 @@ use Rattle.epx_types.specs.Ids.{UpTo}
 use Rattle.epx_graph.specs.Graphs.{DependencyGraph, edges_of}
 use Rattle.epx_graph.specs.NodePaths.{IsNodePath}
 use Rattle.epx_why.specs.FirstPaths.{ComesUpTo}
-use Rattle.epx_why.specs.inner.NodeSteps.{LeadsTo, distance_at}
+use Rattle.epx_graph.specs.NodeSteps.{LeadsTo, distance_at}
 
 -- the Id of a node
 abbrev pub id_at : DependencyGraph → ℕ → Id

@@ -1,75 +1,84 @@
-use Rattle.std.proofs.Common.{◌≡◌, ◌<◌, sym, subst, arith}
+use Rattle.std.proofs.Common.{◌≡◌, ◌<◌, ℕ, List, Option, None, get_or, sym, subst, ◌∙◌, arith}
+use Rattle.std.proofs.lemmas.List.{get_or_read}
 use Rattle.epx_types.specs.WaitingLists.{Waiting}
+use Rattle.epx_graph.specs.Graphs.{DependencyGraph, IsGraph}
 use Rattle.epx_graph.specs.inner.LeastMissing.{AreMarksOf}
+use Rattle.epx_graph.specs.inner.Searches.{node_mark}
 use Rattle.epx_graph.specs.inner.Waiters.{IsWaiter, AreWaiters}
 use Rattle.epx_graph.proofs.GraphNodeLemmas.{reached_within}
 use Rattle.epx_graph.proofs.WaiterLemmas.{waiters_none, waiters_skip, waiters_more, waiting_list}
 use Rattle.epx_graph.proofs.waiters.waiting.Goals as goal
 
+mark_read : (g : DependencyGraph) (marks : List (Option ℕ)) (k n : ℕ) (mark : Option ℕ)
+    → IsGraph g → AreMarksOf g marks → n ≡ g.committed → k < n → mark ≡ get_or marks k mark
+    → node_mark marks k ≡ mark
+mark_read g marks k n mark graph are all l read =
+    sym (get_or_read marks k mark (omega (arith, are.nodes, graph.committed_nodes)) read None)
+
 pub loop-node-init : goal.loop-node-init
 loop-node-init c = rw c.new-waiters.ensures.items
-    (waiters_none c.args.graph.now c.deref-mark-items.result.now)
-
-pub id-requires : goal.id-requires
-id-requires c =
-    omega (
-      arith,
-      c.loop-node-test.true,
-      c.deref-mark-items.ensures.len,
-      c.in_ok-marks.marks.ok.0,
-      c.in_ok-marks.ensures.marks.nodes,
-      c.in_ok-marks.ensures.fits.committed_nodes,
-    )
+    (waiters_none c.args.graph.now c.in_ok-marks.marks.items)
 
 pub id-requires-in-loop-node : goal.id-requires-in-loop-node
 id-requires-in-loop-node c =
     let g = c.args.graph.now in
-    let are = subst (AreMarksOf g) (sym c.deref-mark-items.ensures.value)
-    c.in_ok-marks.ensures.marks in
-    let found = are.marked c.loop-node.node c.in-Some.missing c.in-Some.is in
-    reached_within g c.in_ok-marks.ensures.fits c.loop-node.node found.reached.0 c.in-Some.missing
+    let k = c.loop-node.node in
+    let graph = c.in_ok-marks.ensures.fits in
+    let are = c.in_ok-marks.ensures.marks in
+    let mark = mark_read g c.in_ok-marks.marks.items k c.committed_len-node-end.result
+    c.index.result.now graph are c.committed_len-node-end.ensures c.loop-node-test.true
+    c.index.ensures in
+    let found = are.marked k c.in-Some.missing (mark ∙ c.in-Some.is) in
+    reached_within g graph k found.reached.0 c.in-Some.missing
     (omega (
       arith,
       c.loop-node-test.true,
-      are.nodes,
-      c.in_ok-marks.ensures.fits.committed_nodes,
+      c.committed_len-node-end.ensures,
+      graph.committed_nodes,
     )) found.reached.1
 
 pub loop-node-preserved-in_default : goal.loop-node-preserved-in_default
-loop-node-preserved-in_default c = waiters_skip c.args.graph.now c.deref-mark-items.result.now
-    c.loop-node.node c.loop-node.waiters.items c.in_default.is c.loop-node.invariant
+loop-node-preserved-in_default c =
+    let marks = c.in_ok-marks.marks.items in
+    let k = c.loop-node.node in
+    let mark = mark_read c.args.graph.now marks k c.committed_len-node-end.result
+    c.index.result.now c.in_ok-marks.ensures.fits c.in_ok-marks.ensures.marks
+    c.committed_len-node-end.ensures c.loop-node-test.true c.index.ensures in
+    waiters_skip c.args.graph.now marks k c.loop-node.waiters.items (mark ∙ c.in_default.is)
+    c.loop-node.invariant
 
 pub loop-node-preserved : goal.loop-node-preserved
 loop-node-preserved c =
     let g = c.args.graph.now in
-    let marks = c.deref-mark-items.result.now in
-    let within : c.loop-node.node < g.committed =
-    omega (
-      arith,
-      c.loop-node-test.true,
-      c.deref-mark-items.ensures.len,
-      c.in_ok-marks.marks.ok.0,
-      c.in_ok-marks.ensures.marks.nodes,
-    ) in
+    let marks = c.in_ok-marks.marks.items in
+    let k = c.loop-node.node in
+    let graph = c.in_ok-marks.ensures.fits in
+    let mark = mark_read g marks k c.committed_len-node-end.result c.index.result.now graph
+    c.in_ok-marks.ensures.marks c.committed_len-node-end.ensures c.loop-node-test.true
+    c.index.ensures in
     let w : Waiting = record { id = c.id.result; missing = c.id-in-loop-node.result } in
-    let waits : IsWaiter g marks c.loop-node.node w =
+    let waits : IsWaiter g marks k w =
     record {
       mark = c.in-Some.missing;
-      marked = c.in-Some.is;
+      marked = mark ∙ c.in-Some.is;
       id = c.id.ensures;
       missing = c.id-in-loop-node.ensures;
     } in
     rw c.in_ok-push.ensures.items
-    (waiters_more g c.in_ok-marks.ensures.fits marks c.loop-node.node c.loop-node.waiters.items
-    w within waits c.loop-node.invariant)
+    (waiters_more g graph marks k c.loop-node.waiters.items w
+    (omega (arith, c.loop-node-test.true, c.committed_len-node-end.ensures)) waits
+    c.loop-node.invariant)
 
 pub returns : goal.returns
 returns c m is =
     let g = c.args.graph.now in
-    let marks = c.deref-mark-items.result.now in
-    let are = subst (AreMarksOf g) (sym c.deref-mark-items.ensures.value)
-    c.in_ok-marks.ensures.marks in
+    let marks = c.in_ok-marks.marks.items in
     let all : c.loop-node.node ≡ g.committed =
-    omega (arith, are.nodes, c.loop-node-test.false, c.loop-node.auto.node-end) in
-    waiting_list m g is marks are c.loop-node.waiters.items
+    omega (
+      arith,
+      c.committed_len-node-end.ensures,
+      c.loop-node-test.false,
+      c.loop-node.auto.node-end,
+    ) in
+    waiting_list m g is marks c.in_ok-marks.ensures.marks c.loop-node.waiters.items
     (subst (λ n. AreWaiters g marks n c.loop-node.waiters.items) all c.loop-node.invariant)

@@ -3,7 +3,7 @@ use Rattle.epx_types.specs.Done.{remaining}
 use Rattle.epx_types.specs.Execution.{execute}
 use Rattle.epx_types.specs.WaitingLists.{IsWaitingList}
 use Rattle.epx_types.specs.CommittedMap.{commands_in}
-use Rattle.epx_tool.specs.inner.ReportParts.{opening_text}
+use Rattle.epx_views.specs.OpeningText.{opening_text}
 use Rattle.epx_tool.proofs.ReportLemmas.{few_ids, IsReportAfter-printed}
 use Rattle.epx_tool.proofs.ReportPartsLemmas.{resumed_text-parts}
 use Rattle.epx_tool.proofs.map_texts.report_of.Goals as goal
@@ -28,14 +28,17 @@ returns-clause-text g c =
     let listed = c.in_ok-waiters.ensures (remaining done m) c.in_ok-graph.ensures in
     let ran = c.in_ok-store.ensures in
     let text = c.in_ok-text-2.text.items in
-    IsReportAfter-printed done m order (c.in_ok-order.ensures.order done c.in_ok-graph.ensures) ids
-    c.ids.ensures c.args.store waiting commands replies c.in_ok-store.store text
+    rw c.new.ensures.text (IsReportAfter-printed done m order
+    (c.in_ok-order.ensures.order done c.in_ok-graph.ensures) ids c.ids.ensures c.args.store
+    waiting commands replies c.in_ok-store.store text
     (subst (IsWaitingList (remaining done m)) (sym c.deref-3.ensures.value) listed) refl refl ran.0
     (resumed_text-parts done order waiting ids replies c.in_ok-store.store
-    c.in_ok-text.text.items _ text c.ids.ensures opening ran.1 c.in_ok-text-2.ensures)
+    c.in_ok-text.text.items _ c.append_waiting.new.text.items text c.ids.ensures opening ran.1
+    c.in_ok-append_waiting.ensures c.in_ok-text-2.ensures))
 
 pub returns-clause-found : goal.returns-clause-found
 returns-clause-found g c =
     let left = remaining c.args.done.now c.args.merged.now in
-    c.some_wait-has_findings.ensures left (subst (IsWaitingList left) (sym c.deref.ensures.value)
-    (c.in_ok-waiters.ensures left c.in_ok-graph.ensures))
+    rw c.new.ensures.found (c.some_wait-has_findings.ensures left
+    (subst (IsWaitingList left) (sym c.deref.ensures.value)
+    (c.in_ok-waiters.ensures left c.in_ok-graph.ensures)))

@@ -7,6 +7,7 @@ use Rattle.epx_types.specs.Instances.{Instance}
 use Rattle.epx_types.proofs.remaining.RemainingLemmas.{remaining-nil}
 use Rattle.epx_picture.specs.Pictures.{IsPicture}
 use Rattle.epx_trace.specs.TraceTexts.{IsTraceText}
+use Rattle.epx_why.specs.WhyTexts.{IsPathText}
 use Rattle.epx_tool.specs.Findings.{SomeWaits}
 use Rattle.epx_tool.specs.inner.MapQuestions.{FindsOf, IsTextOf}
 use Rattle.epx_tool.specs.ResumedReport.{IsReportAfter}
@@ -59,12 +60,22 @@ returns-in-Audit-clause-found g c = subst
     (λ a. (a.has_findings ≡ true) ↔ FindsOf question c.args.merged.now a.text.items))
     (sym c.in-Audit.is) c.audit_of.ensures.found
 
-pub returns-in_ok-picture_of-in-Graph-clause-text : goal.returns-in_ok-picture_of-in-Graph-clause-text
-returns-in_ok-picture_of-in-Graph-clause-text g c =
+pub returns-in_ok-picture-in-Graph-clause-text : goal.returns-in_ok-picture-in-Graph-clause-text
+returns-in_ok-picture-in-Graph-clause-text g c =
     let m = c.args.merged.now in
     subst (λ question. IsTextOf question m c.new-in-Graph.result.text.items) (sym c.in-Graph.is)
     (subst (λ t. IsPicture m t.items) (sym c.new-in-Graph.ensures.text)
-    c.in_ok-picture_of-in-Graph.ensures)
+    c.in_ok-picture-in-Graph.ensures)
+
+pub path_text-requires : goal.path_text-requires
+path_text-requires g c = (c.args.merged.now, c.in_ok-graph-in-Path.ensures.graph)
+
+pub returns-in_ok-path_text-in-Path-clause-text : goal.returns-in_ok-path_text-in-Path-clause-text
+returns-in_ok-path_text-in-Path-clause-text g c =
+    let m = c.args.merged.now in
+    subst (λ question. IsTextOf question m c.new-in-Path.result.text.items) (sym c.in-Path.is)
+    (subst (λ t. IsPathText m c.in-Path.from c.in-Path.to t.items) (sym c.new-in-Path.ensures.text)
+    (c.in_ok-path_text-in-Path.ensures m c.in_ok-graph-in-Path.ensures.graph))
 
 pub returns-in_ok-trace_of-in-Trace-clause-text : goal.returns-in_ok-trace_of-in-Trace-clause-text
 returns-in_ok-trace_of-in-Trace-clause-text g c =

@@ -5,8 +5,8 @@ use Rattle.epx_tool.specs.inner.MapQuestions.{TaskAsks}
 use Rattle.epx_tool.proofs.QuestionLemmas.{asks_resume}
 use Rattle.epx_tool.proofs.question.read_question.Goals as goal
 
-pub returns-in_ok-read_base-in-Resume : goal.returns-in_ok-read_base-in-Resume
-returns-in_ok-read_base-in-Resume c =
-    let base = c.in_ok-read_base-in-Resume.field-0 in
+pub returns-in_ok-read_base_by-in-Resume : goal.returns-in_ok-read_base_by-in-Resume
+returns-in_ok-read_base_by-in-Resume g c =
+    let base = c.in_ok-read_base_by-in-Resume.field-0 in
     subst (λ (task : Task). TaskAsks task c.args.input.now (Resume base)) (sym c.in-Resume.is)
-    (asks_resume c.args.input.now base c.in_ok-read_base-in-Resume.ensures.base)
+    (asks_resume c.args.input.now base c.in_ok-read_base_by-in-Resume.ensures.base)

@@ -5,7 +5,7 @@ use Rattle.epx_graph.specs.Graphs.{edges_of}
 use Rattle.epx_graph.specs.GraphOf.{IsGraphOf}
 use Rattle.epx_why.specs.WhyLines.{path_line, none_line}
 use Rattle.epx_why.specs.WhyTexts.{IsPathText}
-use Rattle.epx_why.specs.inner.NodeSteps.{LeadsTo}
+use Rattle.epx_graph.specs.NodeSteps.{LeadsTo}
 use Rattle.epx_why.specs.inner.NodeWalks.{id_at, IsFirstNodePath}
 use Rattle.epx_why.proofs.WalkLemmas.{no_start, no_end, no_path, first_path, first_walk_within}
 use Rattle.epx_why.proofs.path.path_text.Goals as goal

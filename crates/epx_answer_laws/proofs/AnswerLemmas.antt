@@ -1,0 +1,116 @@
+-- Every committed map has a report and its views, and every list of logs has an answer.
+use Rattle.std.proofs.Common.{◌≢◌, ℕ, List, [], Result, Ok, Err, refl, inl, inr}
+use Rattle.std.specs.FinMap as contents
+use Rattle.epx_types.specs.declared.fault.Fault.{Fault}
+use Rattle.epx_types.specs.declared.fault.Fault.TheVariants.{Memory}
+use Rattle.epx_types.specs.Ids.{IsRising}
+use Rattle.epx_types.specs.Instances.{Instance}
+use Rattle.epx_types.specs.CommittedMap.{ids_of, commands_in}
+use Rattle.epx_types.specs.Execution.{execute}
+use Rattle.epx_types.specs.ExecutionOrder.{ranked_ids}
+use Rattle.epx_types.proofs.orders.OrderExistenceLemmas.{execution_order_exists}
+use Rattle.epx_types.proofs.orders.OrderExistenceLemmas.{waiting_list_exists}
+use Rattle.epx_types.proofs.levels.LevelExistenceLemmas.{levels_exist}
+use Rattle.epx_merge.proofs.ExistenceLemmas.{answered_always}
+use Rattle.epx_audit.proofs.LeastUncoveredLemmas.{covered_or_not}
+use Rattle.epx_picture.proofs.PictureLemmas.{picture_exists}
+use Rattle.epx_compare.proofs.ComparisonAnswerLemmas.{compares_exists}
+use Rattle.epx_names.specs.Tasks.{HasInput}
+use Rattle.epx_names.specs.declared.task.Task.{Task}
+use Rattle.epx_names.specs.declared.task.Task.TheVariants.{Run, Order, Levels, Graph, Resume}
+use Rattle.epx_names.specs.declared.task.Task.TheVariants.{Audit, Check, CheckPrefix, Compare}
+use Rattle.epx_names.specs.declared.task.Task.TheVariants.{Why, Path, Trace}
+use Rattle.epx_tool.specs.Report.{IsReport, report_text}
+use Rattle.epx_views.specs.OrderText.{IsOrderText, order_text}
+use Rattle.epx_views.specs.LevelText.{IsLevelText, level_text}
+use Rattle.epx_tool.specs.AuditText.{IsAuditText}
+use Rattle.epx_report.specs.ViewLines.{covered_line, uncovered_line}
+use Rattle.epx_why.proofs.TextExistenceLemmas.{why_text_exists, path_text_exists}
+use Rattle.epx_trace.proofs.TraceLemmas.{trace_text_exists}
+use Rattle.epx_tool.specs.TaskAnswers.{AnswersLogs}
+use Rattle.epx_tool.specs.TaskTexts.{IsTaskText}
+use Rattle.epx_tool.specs.Answer.{Answers}
+
+module _ (m : List Instance) (rising : IsRising (ids_of m)) where
+  pub report_exists : (text : List ℕ) × IsReport m text
+  report_exists =
+      let order = execution_order_exists m rising in
+      let waiting = waiting_list_exists m rising in (
+        report_text order.0 waiting.0 (execute (commands_in m (ranked_ids order.0)) contents.empty),
+        record {
+          order = order.0;
+          waiting = waiting.0;
+          ordered = order.1;
+          listed = waiting.1;
+          printed = refl;
+        },
+      )
+
+  pub order_text_exists : (text : List ℕ) × IsOrderText m text
+  order_text_exists =
+      let order = execution_order_exists m rising in
+      let waiting = waiting_list_exists m rising in (
+        order_text order.0 waiting.0,
+        record {
+          order = order.0;
+          waiting = waiting.0;
+          ordered = order.1;
+          listed = waiting.1;
+          printed = refl;
+        },
+      )
+
+  pub level_text_exists : (text : List ℕ) × IsLevelText m text
+  level_text_exists =
+      let order = execution_order_exists m rising in
+      let waiting = waiting_list_exists m rising in
+      let levels = levels_exist (commands_in m (ranked_ids order.0)) in (
+        level_text order.0 levels.0 waiting.0,
+        record {
+          order = order.0;
+          levels = levels.0;
+          waiting = waiting.0;
+          ordered = order.1;
+          levelled = levels.1;
+          listed = waiting.1;
+          printed = refl;
+        },
+      )
+
+  pub audit_text_exists : (text : List ℕ) × IsAuditText m text
+  audit_text_exists = elim (covered_or_not m) [
+    | inl covered ↦ (covered_line, inl (covered, refl))
+    | inr pair ↦ (uncovered_line pair.0 pair.1, inr (pair.0, pair.1, pair.2, refl))
+  ]
+
+  pub map_text_exists : (task : Task) → ¬ HasInput task → task ≢ Compare
+      → (text : List ℕ) × IsTaskText task [] m text
+  map_text_exists Run alone other = report_exists
+  map_text_exists Order alone other = order_text_exists
+  map_text_exists Levels alone other = level_text_exists
+  map_text_exists Graph alone other = picture_exists m rising
+  map_text_exists Audit alone other = audit_text_exists
+  map_text_exists Resume alone other = absurd (alone tt)
+  map_text_exists Check alone other = absurd (alone tt)
+  map_text_exists CheckPrefix alone other = absurd (alone tt)
+  map_text_exists Compare alone other = absurd (other refl)
+  map_text_exists (Why x) alone other = why_text_exists m x rising
+  map_text_exists (Path x y) alone other = path_text_exists m x y
+  map_text_exists (Trace key reads) alone other = trace_text_exists m key.text.bytes reads rising
+
+-- if every committed map has a text, every list of logs has an answer
+pub answer_exists : (Is : List Instance → List ℕ → Type 0)
+    → ((m : List Instance) → IsRising (ids_of m) → (text : List ℕ) × Is m text)
+    → (logs : List (List ℕ)) → (a : Result (List ℕ) Fault) × (a ≢ Err Memory) × Answers Is logs a
+answer_exists Is text_of_map logs =
+    elim (answered_always logs) [
+      | inl accepted ↦ let text = text_of_map accepted.0 accepted.1.committed.rising in
+          (Ok text.0, (λ same. cc same), (accepted.0, accepted.1, text.1))
+      | inr refused ↦ (Err refused.0, (λ same. refused.1 (cc same)), refused.2)
+    ]
+
+pub logs_answer_exists : (task : Task) → ¬ HasInput task → (logs : List (List ℕ))
+    → (a : Result (List ℕ) Fault) × (a ≢ Err Memory) × AnswersLogs task logs a
+logs_answer_exists Compare alone = compares_exists
+logs_answer_exists task alone = answer_exists (IsTaskText task [])
+    (λ m rising. map_text_exists m rising task alone (λ same. cc same))

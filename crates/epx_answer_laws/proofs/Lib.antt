@@ -1,0 +1,11 @@
+mod AnswerLemmas
+mod AnswerWithInputLemmas
+mod FindingLawLemmas
+mod InputAnswerLemmas
+mod LawfulPrefixLemmas
+mod ResumptionLemmas
+mod SameLineLemmas
+mod TraceLineLemmas
+mod TraceReportLemmas
+mod UniqueAnswerLemmas
+mod UniqueAnswerWithInputLemmas

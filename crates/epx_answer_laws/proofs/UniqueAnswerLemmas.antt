@@ -1,0 +1,111 @@
+-- Logs have at most one answer.
+use Rattle.std.proofs.Common.{◌≡◌, ◌≢◌, ℕ, List, Result, Ok, Err, inl, inr, sym, ap, ap₂, ◌∙◌}
+use Rattle.std.proofs.Common.{[], subst}
+use Rattle.std.specs.FinMap as contents
+use Rattle.epx_types.specs.declared.fault.Fault.{Fault}
+use Rattle.epx_types.specs.declared.fault.Fault.TheVariants.{Memory}
+use Rattle.epx_types.specs.Instances.{Instance}
+use Rattle.epx_types.specs.Execution.{execute}
+use Rattle.epx_types.proofs.orders.ExecutionOrderLemmas.{IsExecutionOrder-unique}
+use Rattle.epx_types.specs.Levels.{AreLevels}
+use Rattle.epx_types.specs.ExecutionOrder.{ranked_ids}
+use Rattle.epx_types.specs.CommittedMap.{commands_in}
+use Rattle.epx_types.proofs.levels.LevelLemmas.{AreLevels-unique}
+use Rattle.epx_types.proofs.graph.WaitingListLemmas.{IsWaitingList-unique}
+use Rattle.epx_merge.proofs.UniquenessLemmas.{accepted_unique, accepted_not_refused}
+use Rattle.epx_merge.proofs.UniquenessLemmas.{refusal_unique}
+use Rattle.epx_tool.specs.Report.{IsReport, report_text}
+use Rattle.epx_views.specs.OrderText.{IsOrderText, order_text}
+use Rattle.epx_views.specs.LevelText.{IsLevelText, level_text}
+use Rattle.epx_tool.specs.AuditText.{IsAuditText}
+use Rattle.epx_report.specs.ViewLines.{uncovered_line}
+use Rattle.epx_picture.proofs.UniquePictureLemmas.{picture_is_unique}
+use Rattle.epx_audit.proofs.UniquePairLemmas.{uncovered_not_covered, least_uncovered_is_unique}
+use Rattle.epx_compare.proofs.ComparisonAnswerLemmas.{compares_unique}
+use Rattle.epx_names.specs.declared.task.Task.{Task}
+use Rattle.epx_names.specs.declared.task.Task.TheVariants.{Run, Order, Levels, Graph, Resume}
+use Rattle.epx_names.specs.declared.task.Task.TheVariants.{Audit, Check, CheckPrefix, Compare}
+use Rattle.epx_names.specs.declared.task.Task.TheVariants.{Why, Path, Trace}
+use Rattle.epx_why.proofs.UniqueTextLemmas.{why_text_is_unique, path_text_is_unique}
+use Rattle.epx_trace.proofs.TraceLemmas.{trace_text_is_unique}
+use Rattle.epx_tool.specs.Answer.{Answers}
+use Rattle.epx_tool.specs.TaskAnswers.{AnswersLogs}
+use Rattle.epx_tool.specs.TaskTexts.{IsTaskText}
+use Rattle.epx_tool.specs.Verdicts.{IsPrefixVerdict, IsVerdict}
+use Rattle.epx_tool.proofs.CheckLemmas.{one_text}
+use Rattle.epx_answer_laws.proofs.ResumptionLemmas.{resumed_one}
+use Rattle.epx_tool.proofs.VerdictLemmas.{prefix_verdict_is_unique, verdict_is_unique}
+
+pub IsReport-unique : (m : List Instance) (text other : List ℕ) → IsReport m text
+    → IsReport m other → text ≡ other
+IsReport-unique m text other p q =
+    let order = IsExecutionOrder-unique m p.order q.order p.ordered q.ordered in
+    let waiting = IsWaitingList-unique m p.waiting q.waiting p.listed q.listed in
+    p.printed
+    ∙ ap₂ (λ o w. report_text o w (execute (commands_in m (ranked_ids o)) contents.empty)) order
+    waiting ∙ sym q.printed
+
+pub IsOrderText-unique : (m : List Instance) (text other : List ℕ) → IsOrderText m text
+    → IsOrderText m other → text ≡ other
+IsOrderText-unique m text other p q =
+    let order = IsExecutionOrder-unique m p.order q.order p.ordered q.ordered in
+    let waiting = IsWaitingList-unique m p.waiting q.waiting p.listed q.listed in
+    p.printed ∙ ap₂ order_text order waiting ∙ sym q.printed
+
+pub IsLevelText-unique : (m : List Instance) (text other : List ℕ) → IsLevelText m text
+    → IsLevelText m other → text ≡ other
+IsLevelText-unique m text other p q =
+    let order = IsExecutionOrder-unique m p.order q.order p.ordered q.ordered in
+    let waiting = IsWaitingList-unique m p.waiting q.waiting p.listed q.listed in
+    let levels = AreLevels-unique (commands_in m (ranked_ids q.order)) p.levels q.levels
+    (subst (λ o. AreLevels (commands_in m (ranked_ids o)) p.levels) order p.levelled) q.levelled in
+    p.printed ∙ ap₂ (λ o w. level_text o p.levels w) order waiting
+    ∙ ap (λ ls. level_text q.order ls q.waiting) levels ∙ sym q.printed
+
+pub IsAuditText-unique : (m : List Instance) (text other : List ℕ) → IsAuditText m text
+    → IsAuditText m other → text ≡ other
+IsAuditText-unique m text other (inl p) (inl q) = p.1 ∙ sym q.1
+IsAuditText-unique m text other (inl p) (inr q) =
+    absurd (uncovered_not_covered m q.0 q.1 q.2.uncovered p.0)
+IsAuditText-unique m text other (inr p) (inl q) =
+    absurd (uncovered_not_covered m p.0 p.1 p.2.uncovered q.0)
+IsAuditText-unique m text other (inr p) (inr q) =
+    let same = least_uncovered_is_unique m p.0 p.1 q.0 q.1 p.2 q.2 in
+    p.3 ∙ ap₂ uncovered_line same.0 same.1 ∙ sym q.3
+
+pub IsTaskText-unique : (task : Task) (input : List ℕ) (m : List Instance) (text other : List ℕ)
+    → IsTaskText task input m text → IsTaskText task input m other → text ≡ other
+IsTaskText-unique Run input = IsReport-unique
+IsTaskText-unique Order input = IsOrderText-unique
+IsTaskText-unique Levels input = IsLevelText-unique
+IsTaskText-unique Graph input = picture_is_unique
+IsTaskText-unique Audit input = IsAuditText-unique
+IsTaskText-unique Resume base = resumed_one base
+IsTaskText-unique Check list = one_text IsVerdict list verdict_is_unique
+IsTaskText-unique CheckPrefix list = one_text IsPrefixVerdict list prefix_verdict_is_unique
+IsTaskText-unique Compare input = λ m text other none. absurd none
+IsTaskText-unique (Why x) input = λ m. why_text_is_unique m x
+IsTaskText-unique (Path x y) input = λ m. path_text_is_unique m x y
+IsTaskText-unique (Trace key reads) input = λ m. trace_text_is_unique m key.text.bytes reads
+
+-- if each committed map has at most one text, logs have at most one answer, except for out of
+-- memory
+module _ (Is : List Instance → List ℕ → Type 0)
+    (one : (m : List Instance) (text other : List ℕ) → Is m text → Is m other → text ≡ other) where
+  pub Answers-unique : (logs : List (List ℕ)) (a b : Result (List ℕ) Fault) → a ≢ Err Memory
+      → b ≢ Err Memory → Answers Is logs a → Answers Is logs b → a ≡ b
+  Answers-unique logs (Ok text) (Ok other) s t p q =
+      let same = accepted_unique logs p.0 q.0 p.1 q.1 in
+      ap Ok (one q.0 text other (subst (λ m. Is m text) same p.2) q.2)
+  Answers-unique logs (Ok text) (Err fault) s t p q =
+      absurd (t (ap Err (accepted_not_refused logs p.0 fault p.1 q)))
+  Answers-unique logs (Err fault) (Ok text) s t p q =
+      absurd (s (ap Err (accepted_not_refused logs q.0 fault q.1 p)))
+  Answers-unique logs (Err fault) (Err other) s t p q =
+      ap Err (refusal_unique logs fault other (λ e. s (ap Err e)) (λ e. t (ap Err e)) p q)
+
+pub AnswersLogs-unique : (task : Task) (logs : List (List ℕ))
+    (a b : Result (List ℕ) Fault) → a ≢ Err Memory → b ≢ Err Memory → AnswersLogs task logs a
+    → AnswersLogs task logs b → a ≡ b
+AnswersLogs-unique Compare = compares_unique
+AnswersLogs-unique task = Answers-unique (IsTaskText task []) (IsTaskText-unique task [])

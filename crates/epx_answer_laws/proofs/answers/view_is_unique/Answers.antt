@@ -1,0 +1,6 @@
+use Rattle.epx_tool.specs.TaskAnswers.{task_of}
+use Rattle.epx_answer_laws.proofs.UniqueAnswerLemmas.{AnswersLogs-unique}
+use Rattle.epx_answer_laws.proofs.answers.view_is_unique.Goals as goal
+
+pub returns : goal.returns
+returns c = λ ask. AnswersLogs-unique (task_of ask)

@@ -1,0 +1,61 @@
+-- Laws of checking a list.
+use Rattle.std.specs.Prelude.{◌≡◌, ◌↔◌, ℕ, List, slice_get, Some, Result, Ok}
+use Rattle.std.specs.FinMap as contents
+use Rattle.epx_types.specs.declared.id.Id.{Id}
+use Rattle.epx_types.specs.declared.fault.Fault.{Fault}
+use Rattle.epx_types.specs.Instances.{Instance}
+use Rattle.epx_types.specs.Execution.{execute}
+use Rattle.epx_types.specs.ExecutionOrder.{Ranked, IsExecutionOrder, ranked_ids}
+use Rattle.epx_types.specs.CommittedMap.{commands_in}
+use Rattle.epx_types.specs.LawfulPrefixes.{IsLawfulPrefix}
+use Rattle.epx_types.specs.LawfulOrders.{IsLawful}
+use Rattle.epx_merge.specs.Acceptance.{IsAccepted}
+use Rattle.epx_report.specs.Lists.{IsList}
+use Rattle.epx_report.specs.ViewLines.{covered_line, lawful_line}
+use Rattle.epx_ranking.specs.OrderFaults.{HasAllReady}
+use Rattle.epx_tool.specs.declared.ask.Ask.TheVariants.{Audit}
+use Rattle.epx_names.specs.declared.task.Task.TheVariants.{CheckPrefix}
+use Rattle.epx_tool.specs.CheckAnswers.{Checks}
+use Rattle.epx_tool.specs.TaskAnswers.{AnswersTask, AnswersView}
+use Rattle.epx_answer_laws.specs.SameLineLaws.{HaveLinesOf}
+use Rattle.epx_tool.specs.WithInput.{IsShort}
+
+-- a list is reported as lawful exactly if it is a lawful order of what the logs commit
+abbrev pub LawfulTextMeansLawful : Type 0
+LawfulTextMeansLawful = (list : List ℕ) (logs : List (List ℕ)) (ids : List Id) (m : List Instance)
+    → IsShort list → IsList list ids → IsAccepted logs m →
+    Checks list logs (Ok lawful_line) ↔ IsLawful m ids
+
+-- ---- a list that is checked as a prefix
+
+-- it is reported as lawful exactly if a lawful order of what the logs commit begins with it
+abbrev pub LawfulTextMeansPrefix : Type 0
+LawfulTextMeansPrefix = (list : List ℕ) (logs : List (List ℕ)) (ids : List Id)
+    (m : List Instance) → IsShort list → IsList list ids → IsAccepted logs m →
+    AnswersTask CheckPrefix list logs (Ok lawful_line) ↔ IsLawfulPrefix m ids
+
+-- if it is reported as lawful and the logs as covered, executing it from the empty store gives each
+-- listed instance the reply that the report of the logs has
+abbrev pub LawfulPrefixRepliesAlike : Type 0
+LawfulPrefixRepliesAlike = (list : List ℕ) (logs : List (List ℕ))
+    → AnswersTask CheckPrefix list logs (Ok lawful_line)
+    → AnswersView Audit logs (Ok covered_line)
+    → (ids : List Id) (m : List Instance) → IsList list ids → IsAccepted logs m →
+    (order : List Ranked) → IsExecutionOrder m order
+    → (i j : ℕ) (x : Id) → slice_get ids i ≡ Some x → slice_get (ranked_ids order) j ≡ Some x
+    → slice_get (execute (commands_in m ids) contents.empty).replies i
+    ≡ slice_get (execute (commands_in m (ranked_ids order)) contents.empty).replies j
+
+-- a list of all ready instances has the same answer as a prefix and as an order
+abbrev pub WholeListsAreAnsweredAlike : Type 0
+WholeListsAreAnsweredAlike = (list : List ℕ) (logs : List (List ℕ)) (ids : List Id)
+    (m : List Instance) → IsList list ids → IsAccepted logs m → HasAllReady m ids
+    → (a : Result (List ℕ) Fault) → AnswersTask CheckPrefix list logs a ↔ Checks list logs a
+
+-- if logs call it lawful, so do all accepted logs that have their lines: what a replica has
+-- executed stays lawful, whatever is committed later
+abbrev pub LawfulPrefixesStay : Type 0
+LawfulPrefixesStay = (list : List ℕ) (logs more : List (List ℕ)) → HaveLinesOf more logs
+    → (m : List Instance) → IsAccepted more m
+    → AnswersTask CheckPrefix list logs (Ok lawful_line)
+    → AnswersTask CheckPrefix list more (Ok lawful_line)

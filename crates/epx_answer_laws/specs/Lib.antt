@@ -1,0 +1,7 @@
+pub mod AnswerLaws
+pub mod InputAnswerLaws
+pub mod SameLineLaws
+pub mod FindingLaws
+pub mod TraceReportLaws
+pub mod CheckLaws
+pub mod ResumptionLaws

@@ -1,0 +1,28 @@
+-- Laws of resuming from a base.
+use Rattle.std.specs.Prelude.{◌⊎◌, ◌↔◌, ℕ, List, [], Contains}
+use Rattle.std.specs.FinMap as contents
+use Rattle.epx_types.specs.declared.id.Id.{Id}
+use Rattle.epx_types.specs.Ids.{IsRising}
+use Rattle.epx_types.specs.Contents.{Contents}
+use Rattle.epx_types.specs.Instances.{Instance}
+use Rattle.epx_types.specs.ExecutionOrder.{ranked_ids}
+use Rattle.epx_report.specs.Bases.{IsBase}
+use Rattle.epx_report.specs.ReportReadings.{FitsReportData}
+use Rattle.epx_tool.specs.Report.{IsReport}
+use Rattle.epx_tool.specs.ReportedRuns.{reported_of, run_in}
+use Rattle.epx_tool.specs.ResumedReport.{IsReportAfter}
+
+-- the report of a map is its report after nothing is done, from the empty store
+abbrev pub ReportIsAfterNothing : Type 0
+ReportIsAfterNothing = (m : List Instance) (text : List ℕ) → IsReport m text
+    ↔ IsReportAfter [] contents.empty m text
+
+-- a report whose numbers and texts fit their types is a base. Its done instances were done before
+-- or are executed in the report, and its store is the final store of the report.
+abbrev pub ReportIsBase : Type 0
+ReportIsBase = (done : List Id) (stored : Contents) (m : List Instance) (text : List ℕ)
+    (p : IsReportAfter done stored m text) → IsRising done →
+    FitsReportData (reported_of done p.order p.waiting (run_in done stored m text p)) →
+    (now : List Id) → IsRising now
+    → ((x : Id) → Contains now x ↔ Contains done x ⊎ Contains (ranked_ids p.order) x)
+    → IsBase text now (run_in done stored m text p).final

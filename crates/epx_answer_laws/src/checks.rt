@@ -1,0 +1,54 @@
+//! Laws of what `lawful` and `covered` say in an answer, and of what answers find.
+ghost use Rattle.epx_answer_laws.specs.AnswerLaws.{CoveredTextMeansCovered};
+ghost use Rattle.epx_answer_laws.specs.CheckLaws.{LawfulTextMeansLawful, LawfulTextMeansPrefix};
+ghost use Rattle.epx_answer_laws.specs.CheckLaws.{LawfulPrefixRepliesAlike};
+ghost use Rattle.epx_answer_laws.specs.CheckLaws.{WholeListsAreAnsweredAlike, LawfulPrefixesStay};
+ghost use Rattle.epx_answer_laws.specs.FindingLaws.{AuditFindsNotCovered, CheckFindsNotLawful};
+
+use epx_laws::replicas::prefixes_stay;
+
+/// The audit of logs says that they are covered exactly if they are.
+pub fn covered_text_means_covered()
+    ensures { CoveredTextMeansCovered }
+{}
+
+/// A list is reported as lawful exactly if it is a lawful order of what the logs commit.
+pub fn lawful_text_means_lawful()
+    ensures { LawfulTextMeansLawful }
+{}
+
+/// A list that is checked as a prefix is reported as lawful exactly if a lawful order of what
+/// the logs commit begins with it.
+pub fn lawful_text_means_prefix()
+    ensures { LawfulTextMeansPrefix }
+{}
+
+/// If logs are reported as covered, a list that is reported as lawful as a prefix replies as
+/// their report says.
+pub fn lawful_prefix_replies_alike()
+    ensures { LawfulPrefixRepliesAlike }
+{}
+
+/// A list of all ready instances has the same answer as a prefix and as an order.
+pub fn whole_lists_are_answered_alike()
+    ensures { WholeListsAreAnsweredAlike }
+{}
+
+/// A list that logs call a lawful prefix is called so by all accepted logs that have their
+/// lines.
+pub fn lawful_prefixes_stay()
+    ensures { LawfulPrefixesStay }
+{
+    prefixes_stay();
+}
+
+/// An audit finds something exactly if the logs are not covered.
+pub fn audit_finds_not_covered()
+    ensures { AuditFindsNotCovered }
+{}
+
+/// A check finds something exactly if the list is not a lawful order, or, checked as a prefix,
+/// not a prefix of one.
+pub fn check_finds_not_lawful()
+    ensures { CheckFindsNotLawful }
+{}

@@ -1,0 +1,142 @@
+-- Bytes that are cut after line feeds, and what the lines of the pieces say.
+use Rattle.std.proofs.Common.{Bor, ◌≡◌, ℕ, zero, suc, ◌+◌, ◌<◌, Bool, true, false, eqb, List, []}
+use Rattle.std.proofs.Common.{◌∷◌, ◌++◌, length, map, flat_map, take, drop, slice_get, Option, Some}
+use Rattle.std.proofs.Common.{refl, sym, ap, ap₂, ◌∙◌, subst, arith, append_assoc, append-nil}
+use Rattle.std.proofs.lemmas.Grind.{flat_map-append}
+use Rattle.std.proofs.lemmas.List.{map-append, get_or-drop}
+use Rattle.memchr.specs.Find.{Passes, is_byte}
+use Rattle.epx_lines.specs.Lines.{prepend_to_first, lines_of}
+use Rattle.epx_lines.proofs.FirstLineLemmas.{lines_of-feed, lines_of-go_on}
+use Rattle.epx_report.specs.declared.form.BaseLine.{BaseLine}
+use Rattle.epx_report.specs.Bases.{Say}
+use Rattle.epx_report.specs.Forms.{base_line_of}
+
+-- ---- the lines of both parts
+
+prepend-append : (b : ℕ) (ls more : List (List ℕ)) → 0 < length ls
+    → prepend_to_first b (ls ++ more) ≡ prepend_to_first b ls ++ more
+prepend-append b [] more some = absurd (omega (arith, some))
+prepend-append b (l ∷ ls) more some = refl
+
+some_first : (b : ℕ) (ls : List (List ℕ)) → 0 < length (prepend_to_first b ls)
+some_first b [] = omega arith
+some_first b (l ∷ ls) = omega arith
+
+some_line : (b : ℕ) (bs : List ℕ) → 0 < length (lines_of (b ∷ bs))
+some_line b bs = at (eqb b 10) refl
+  where
+    at : (t : Bool) → eqb b 10 ≡ t → 0 < length (lines_of (b ∷ bs))
+    at true e = subst (λ ls. 0 < length ls) (sym (lines_of-feed b bs e)) (omega arith)
+    at false e = subst (λ ls. 0 < length ls) (sym (lines_of-go_on b bs e))
+        (some_first b (lines_of bs))
+
+some_line_at : (bs : List ℕ) (n : ℕ) → n < length bs → 0 < length (lines_of (take (suc n) bs))
+some_line_at [] n l = absurd (omega arith)
+some_line_at (b ∷ bs) n l = some_line b (take n bs)
+
+-- with one more byte in front
+longer : (b : ℕ) (bs : List ℕ) (n : ℕ) → n < length bs
+    → lines_of bs ≡ lines_of (take (suc n) bs) ++ lines_of (drop (suc n) bs)
+    → (t : Bool) → eqb b 10 ≡ t
+    → lines_of (b ∷ bs) ≡ lines_of (b ∷ take (suc n) bs) ++ lines_of (drop (suc n) bs)
+longer b bs n l rest true e =
+    lines_of-feed b bs e ∙ ap (λ ls. [] ∷ ls) rest
+    ∙ sym (ap (λ ls. ls ++ lines_of (drop (suc n) bs)) (lines_of-feed b (take (suc n) bs) e))
+longer b bs n l rest false e =
+    lines_of-go_on b bs e ∙ ap (prepend_to_first b) rest
+    ∙ prepend-append b (lines_of (take (suc n) bs)) (lines_of (drop (suc n) bs))
+    (some_line_at bs n l)
+    ∙ sym (ap (λ ls. ls ++ lines_of (drop (suc n) bs)) (lines_of-go_on b (take (suc n) bs) e))
+
+-- a line feed is at n
+lines_of-at : (bs : List ℕ) (n : ℕ) → n < length bs → Passes (is_byte 10) bs n
+    → lines_of bs ≡ lines_of (take (suc n) bs) ++ lines_of (drop (suc n) bs)
+lines_of-at [] n l here = absurd (omega arith)
+lines_of-at (b ∷ bs) zero l here =
+    lines_of-feed b bs here ∙ sym (ap (λ ls. ls ++ lines_of bs) (lines_of-feed b [] here))
+lines_of-at (b ∷ bs) (suc n) l here =
+    longer b bs n (omega arith) (lines_of-at bs n (omega arith) here) (eqb b 10) refl
+
+-- a line feed is `feed` bytes after the first `size`
+pub lines_of-split : (bs tail front back : List ℕ) (size feed n : ℕ) → tail ≡ drop size bs
+    → size + feed < length bs → Passes (is_byte 10) tail feed → n ≡ size + feed + 1
+    → front ≡ take n bs → back ≡ drop n bs → lines_of bs ≡ lines_of front ++ lines_of back
+lines_of-split bs tail front back size feed n is_tail l here is_n is_front is_back =
+    let there : Passes (is_byte 10) bs (size + feed) =
+    ap (is_byte 10) (sym (get_or-drop size bs feed 0))
+    ∙ subst (λ xs. Passes (is_byte 10) xs feed) is_tail here in
+    let next : n ≡ suc (size + feed) = omega (arith, is_n) in
+    lines_of-at bs (size + feed) l there
+    ∙ ap₂ (λ xs ys. lines_of xs ++ lines_of ys) (sym (is_front ∙ ap (λ k. take k bs) next))
+    (sym (is_back ∙ ap (λ k. drop k bs) next))
+
+-- ---- the loop that cuts
+
+abbrev piece_lines : Bor (List ℕ) → List (List ℕ)
+piece_lines piece = lines_of piece.now
+
+-- one more piece is cut
+pub pieces_more : (pieces after : List (Bor (List ℕ))) (piece : Bor (List ℕ))
+    (rest more : List ℕ) (all : List (List ℕ))
+    → lines_of rest ≡ lines_of piece.now ++ lines_of more
+    → flat_map piece_lines pieces ++ lines_of rest ≡ all → after ≡ pieces ++ piece ∷ []
+    → flat_map piece_lines after ++ lines_of more ≡ all
+pieces_more pieces after piece rest more all first so_far pushed =
+    ap (λ ps. flat_map piece_lines ps ++ lines_of more) pushed
+    ∙ ap (λ ls. ls ++ lines_of more) (flat_map-append piece_lines pieces (piece ∷ [])
+    ∙ ap (λ ls. flat_map piece_lines pieces ++ ls) (append-nil (lines_of piece.now)))
+    ∙ append_assoc (flat_map piece_lines pieces) (lines_of piece.now) (lines_of more)
+    ∙ ap (λ ls. flat_map piece_lines pieces ++ ls) (sym first)
+    ∙ so_far
+
+-- no bytes are left
+pub pieces_none : (pieces : List (Bor (List ℕ))) (rest : List ℕ) (all : List (List ℕ))
+    → length rest ≡ 0 → flat_map piece_lines pieces ++ lines_of rest ≡ all
+    → flat_map piece_lines pieces ≡ all
+pieces_none pieces [] all none so_far = sym (append-nil (flat_map piece_lines pieces)) ∙ so_far
+pieces_none pieces (b ∷ rest) all none so_far = absurd (omega (arith, none))
+
+-- ---- the loop that reads
+
+-- one more line is read
+pub said_more : (said after : List BaseLine) (l : BaseLine) (line rest more : List ℕ)
+    (all : List (Option BaseLine)) → lines_of rest ≡ line ∷ lines_of more
+    → base_line_of line ≡ Some l → map Some said ++ map base_line_of (lines_of rest) ≡ all
+    → after ≡ said ++ l ∷ [] → map Some after ++ map base_line_of (lines_of more) ≡ all
+said_more said after l line rest more all first is so_far pushed =
+    let back = map base_line_of (lines_of more) in
+    let here : map base_line_of (lines_of rest) ≡ Some l ∷ back =
+    ap (map base_line_of) first ∙ ap (λ o. o ∷ back) is in
+    ap (λ ls. map Some ls ++ back) pushed ∙ ap (λ os. os ++ back) (map-append Some said (l ∷ []))
+    ∙ append_assoc (map Some said) (Some l ∷ []) back ∙ ap (λ os. map Some said ++ os) (sym here)
+    ∙ so_far
+
+-- no bytes are left
+pub said_none : (said : List BaseLine) (rest : List ℕ) (all : List (Option BaseLine))
+    → length rest ≡ 0 → map Some said ++ map base_line_of (lines_of rest) ≡ all
+    → all ≡ map Some said
+said_none said [] all none so_far = sym so_far ∙ append-nil (map Some said)
+said_none said (b ∷ rest) all none so_far = absurd (omega (arith, none))
+
+-- ---- what the lines of all pieces say
+
+Say-append : (ls more : List (List ℕ)) (said further : List BaseLine) → Say ls said
+    → Say more further → Say (ls ++ more) (said ++ further)
+Say-append ls more said further p q =
+    map-append base_line_of ls more ∙ ap₂ (λ xs ys. xs ++ ys) p q
+    ∙ sym (map-append Some said further)
+
+module _ {P V : Type 0} (lines : P → List (List ℕ)) (said : V → List BaseLine) where
+  pub say_joined : (pieces : List P) (parts : List V) → length parts ≡ length pieces
+      → ((i : ℕ) → i < length pieces → (part : V) × (slice_get parts i ≡ Some part)
+      × ((piece : P) → slice_get pieces i ≡ Some piece → Say (lines piece) (said part)))
+      → Say (flat_map lines pieces) (flat_map said parts)
+  say_joined [] [] len each = refl
+  say_joined [] (part ∷ parts) len each = absurd (omega (arith, len))
+  say_joined (piece ∷ pieces) [] len each = absurd (omega (arith, len))
+  say_joined (piece ∷ pieces) (part ∷ parts) len each =
+      let first = each 0 (omega arith) in
+      let same : first.0 ≡ part = cc (first.1) in
+      Say-append (lines piece) (flat_map lines pieces) (said part) (flat_map said parts)
+      (subst (λ v. Say (lines piece) (said v)) same (first.2 piece refl))
+      (say_joined pieces parts (omega (arith, len)) (λ i l. each (suc i) (omega arith)))

@@ -1,6 +1,0 @@
-use Rattle.epx_tool.specs.Report.{IsReport}
-use Rattle.epx_tool.proofs.UniqueAnswerLemmas.{IsReport-unique, Answers-unique}
-use Rattle.epx_tool.proofs.laws.answer_is_unique.Goals as goal
-
-pub returns : goal.returns
-returns c = Answers-unique IsReport IsReport-unique

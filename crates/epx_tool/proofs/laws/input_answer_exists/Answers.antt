@@ -1,5 +1,0 @@
-use Rattle.epx_tool.proofs.InputAnswerLemmas.{input_answer_exists}
-use Rattle.epx_tool.proofs.laws.input_answer_exists.Goals as goal
-
-pub returns : goal.returns
-returns c = input_answer_exists

@@ -1,6 +1,0 @@
-use Rattle.epx_tool.specs.TaskAnswers.{task_of}
-use Rattle.epx_tool.proofs.UniqueAnswerLemmas.{AnswersLogs-unique}
-use Rattle.epx_tool.proofs.laws.view_is_unique.Goals as goal
-
-pub returns : goal.returns
-returns c = λ ask. AnswersLogs-unique (task_of ask)

@@ -1,5 +1,0 @@
-use Rattle.epx_tool.proofs.LawfulPrefixLemmas.{whole_lists_are_answered_alike}
-use Rattle.epx_tool.proofs.laws.whole_lists_are_answered_alike.Goals as goal
-
-pub returns : goal.returns
-returns c = whole_lists_are_answered_alike

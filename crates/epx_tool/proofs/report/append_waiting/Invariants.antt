@@ -1,7 +1,0 @@
-use Rattle.std.proofs.Common.{◌≡◌, ◌++◌, flat_map, drop}
-use Rattle.epx_report.specs.ReportLines.{waiting_line}
-use Rattle.epx_tool.proofs.report.append_waiting.Given as goal
-
-abbrev pub invariant-loop-waiter : goal.invariant-loop-waiter
-invariant-loop-waiter l = l.text.items ++ flat_map waiting_line (drop l.waiter-index l.waiters)
-    ≡ l.fn.text.items ++ flat_map waiting_line l.fn.waiters

@@ -1,0 +1,2 @@
+mod OrderTextLemmas
+mod LevelTextLemmas
